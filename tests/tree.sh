@@ -13,6 +13,9 @@ for program in "$TREE" "$UNIFDEF"; do
 done
 passed=0 failed=0
 
+# shellcheck source=tests/tree/safety.sh
+. "$here/tree/safety.sh"
+
 # check WHAT COMMAND..: the command must succeed.
 check() {
   local what=$1
@@ -130,7 +133,7 @@ keeps() {
   local before_same before_one
   before_same=$(stat -c '%i %y' src/same.c)
   before_one=$(number src/one.c)
-  tree -n -DA -- src src/one.c ./src/mode.c
+  tree -n -w -DA -- src src/one.c ./src/mode.c
   check 'keeps: -n: each file once' has_line "$work/err" 'unifdef-tree: 3 would change, 1 unchanged, 0 faulty'
   tree -DA -- src/one.c src/three.c
   check 'keeps: links: status' same "$status" 2
@@ -470,6 +473,11 @@ kills() {
     [ "$status" -ne 137 ] || killed=$((killed + 1))
     each_old_or_new "kill at $call $i"
     tree -DA src
+    if [ -n "$(find src -name '.unifdef-tree.*')" ]; then
+      check "kill at $call $i: what is left over is named" grep -q 'Another run is at it' "$work/err"
+      find src -name '.unifdef-tree.*' -delete
+      tree -DA src
+    fi
     check "kill at $call $i: the rest later" holds src/a.c 'yes\n'
     check "kill at $call $i: the rest later" holds src/folder/b.c 'yes\n'
     check "kill at $call $i: the count" grep -q ', 1 faulty$' "$work/err"
@@ -484,44 +492,26 @@ kills() {
   done
 }
 
-# Runs a command while a run over the small tree waits between its read of src/a.c and its last look
-# at it. strace announces that.
-run_meanwhile() {
-  local pid line tracer
-  small_tree
-  rm -f "$work/trace"
-  mkfifo "$work/trace"
-  strace -f -o "$work/trace" -e trace=fchmod -e inject=fchmod:signal=STOP:when=1 \
-    "$TREE" -DA src > "$work/out" 2> "$work/err" &
-  tracer=$!
-  exec 6< "$work/trace"
-  while read -r pid line <&6; do
-    [[ $line != *'stopped by SIGSTOP'* ]] || break
-  done
-  "$@"
-  kill -s CONT "$pid"
-  cat <&6 > /dev/null
-  exec 6<&-
-  status=0
-  wait "$tracer" || status=$?
-}
-
-other_run() { "$TREE" -q -UA src 2> /dev/null; }
+other_run() { "$TREE" -q -UA src 2> "$work/other"; }
 
 # Tests a file that changes between read and rename, and two runs at once.
 meanwhile() {
-  run_meanwhile put src/a.c 'mine\n'
+  options=(-DA)
+  small_tree
+  run_paused fchmod 1 put src/a.c 'mine\n'
   check 'meanwhile: status' same "$status" 2
   check 'meanwhile: message' has_line "$work/err" 'unifdef-tree: src/a.c: Changed meanwhile'
   check 'meanwhile: the file' holds src/a.c 'mine\n'
   check 'meanwhile: another file' holds src/folder/b.c 'yes\n'
   check 'meanwhile: nothing left over' no_rest
-  run_meanwhile rm src/a.c
+  small_tree
+  run_paused fchmod 1 rm src/a.c
   check 'meanwhile: a file that went' same "$status $(ls src)" $'2 bad.c\nfolder\nsame.c'
-  run_meanwhile other_run
-  check 'two runs: status' same "$status" 2
-  check 'two runs: one is reported' has_line "$work/err" 'unifdef-tree: src/a.c: Changed meanwhile'
-  check 'two runs: no update is lost' holds src/a.c 'no\n'
+  small_tree
+  run_paused fchmod 1 other_run
+  check 'two runs: the second one' has_line "$work/other" \
+    'unifdef-tree: src/a.c: Another run is at it; if none is, remove src/.unifdef-tree.a.c'
+  check 'two runs: the first one' holds src/a.c 'yes\n'
   check 'two runs: nothing left over' no_rest
 }
 
@@ -557,6 +547,7 @@ in_folder() {
   full_disk
   paths_from_input
   counts
+  safety
   if can_trace; then
     kills
     meanwhile

@@ -5,6 +5,19 @@ ghost use Rattle.std.specs.Prelude.{◌≡◌, ◌≤◌, length, IfSome};
 use std::alloc::Global;
 use ud_replace::{CreateError, FileStat, FileTime, FileVersion, Folder, FolderCall, History};
 
+/// What another program changes of the file after it was read.
+#[derive(Clone, Copy)]
+pub(crate) enum Change {
+    /// Nothing.
+    Nothing,
+    /// Its bytes, before it is read again.
+    Text,
+    /// Its mode, before it is read again.
+    Mode,
+    /// Its bytes, after it was read again.
+    Version,
+}
+
 /// How the folder fails.
 #[derive(Clone, Copy)]
 pub(crate) struct Failures {
@@ -14,8 +27,10 @@ pub(crate) struct Failures {
     pub and_after: bool,
     /// True if the folder can't be written.
     pub denied: bool,
-    /// True if another program changes the file after it was read.
-    pub changed: bool,
+    /// True if the fresh name isn't free.
+    pub taken: bool,
+    /// What another program changes.
+    pub change: Change,
 }
 
 /// A folder in which the file is the one that is replaced.
@@ -25,10 +40,11 @@ pub(crate) struct FakeFolder {
     pub file: Vec<u8>,
     /// The bytes of the fresh file, while it is there.
     pub fresh: Option<Vec<u8>>,
-    /// A letter for each call: `r`ead, `m`ay_write, `c`reate, `a`ppend, `g`ive a mode, `l`ook,
-    /// re`n`ame, `o`verwrite, remove (`x`).
+    /// A letter for each call: `r`ead, `m`ay_write, `c`reate, `a`ppend, `g`ive a mode, `s`ync,
+    /// `l`ook, re`n`ame, `o`verwrite, remove (`x`).
     pub calls: Vec<u8>,
     links: u64,
+    reads: usize,
     failures: Failures,
     alloc: Global,
     history: History,
@@ -42,6 +58,7 @@ impl FakeFolder {
             fresh: None,
             calls: Vec::new(alloc),
             links,
+            reads: 0,
             failures,
             alloc,
             history: History::new(),
@@ -59,8 +76,8 @@ impl FakeFolder {
         counted && !fails
     }
 
-    /// Returns what is known of the file. Its size tells whether another program changed it.
-    fn stat(&self, size: u64) -> FileStat {
+    /// Returns what is known of the file.
+    fn stat(&self, size: u64, mode: u32) -> FileStat {
         let time = FileTime {
             seconds: -1,
             nanoseconds: 5,
@@ -74,7 +91,7 @@ impl FakeFolder {
                 changed: time,
             },
             links: self.links,
-            mode: 0o754,
+            mode,
             owner: 3,
             group: 4,
         }
@@ -102,7 +119,20 @@ impl Folder for FakeFolder {
 
     fn read(&mut self, name: &[u8], text: &mut Vec<u8>) -> Option<FileStat> {
         let works = self.works(b'r') && text.extend_from_slice(self.file.as_slice()).is_ok();
-        let answer = if works { Some(self.stat(0)) } else { None };
+        self.reads = self.reads.saturating_add(1);
+        let mut mode = 0o754;
+        if self.reads == 2 {
+            match self.failures.change {
+                Change::Nothing | Change::Version => {}
+                Change::Text => text.clear(),
+                Change::Mode => mode = 0o755,
+            }
+        }
+        let answer = if works {
+            Some(self.stat(0, mode))
+        } else {
+            None
+        };
         let text = text.as_slice();
         self.history = self.history.with(&FolderCall::Read { name, text, answer });
         answer
@@ -118,6 +148,8 @@ impl Folder for FakeFolder {
         let works = self.works(b'c');
         let answer = if self.failures.denied {
             Err(CreateError::Denied)
+        } else if self.failures.taken {
+            Err(CreateError::Taken)
         } else if works {
             Ok(())
         } else {
@@ -153,9 +185,19 @@ impl Folder for FakeFolder {
         answer
     }
 
+    fn sync(&mut self, name: &[u8]) -> bool {
+        let answer = self.works(b's');
+        self.history = self.history.with(&FolderCall::Sync { name, answer });
+        answer
+    }
+
     fn look(&mut self, name: &[u8]) -> Option<FileStat> {
+        let size = match self.failures.change {
+            Change::Version => 1,
+            Change::Nothing | Change::Text | Change::Mode => 0,
+        };
         let answer = if self.works(b'l') {
-            Some(self.stat(u64::from(self.failures.changed)))
+            Some(self.stat(size, 0o754))
         } else {
             None
         };

@@ -1,11 +1,11 @@
 //! What `replace` returns, which calls it makes, and what it leaves, with the arguments `-DA`.
 
-use crate::fake::{Failures, FakeFolder};
+use crate::fake::{Change, Failures, FakeFolder};
 use std::process::Abort;
 use std::test::Fail;
 use ud_args::plan;
 use ud_faults::{RunFault, SectionFault};
-use ud_replace::{ReplaceError, Target, Update, replace};
+use ud_replace::{FileId, ReplaceError, Target, Update, replace};
 
 /// A text for which the output is `OUTPUT`.
 const TEXT: &[u8] = b"#ifdef A\nx\n#endif\n";
@@ -18,23 +18,14 @@ const WORKS: Failures = Failures {
     call: 0,
     and_after: false,
     denied: false,
-    changed: false,
+    taken: false,
+    change: Change::Nothing,
 };
 
-/// A folder that can't be written.
-const DENIED: Failures = Failures {
-    call: 0,
-    and_after: false,
-    denied: true,
-    changed: false,
-};
-
-/// A folder whose file another program changes.
-const CHANGED: Failures = Failures {
-    call: 0,
-    and_after: false,
-    denied: false,
-    changed: true,
+/// The identity of the file.
+const FILE: FileId = FileId {
+    device: 1,
+    inode: 2,
 };
 
 /// The state that `replace` leaves.
@@ -65,8 +56,20 @@ fn fails(call: usize, and_after: bool) -> Failures {
     Failures {
         call,
         and_after,
-        denied: false,
-        changed: false,
+        ..WORKS
+    }
+}
+
+/// Returns a folder whose file another program changes.
+fn changes(change: Change) -> Failures {
+    Failures { change, ..WORKS }
+}
+
+/// Returns a folder that can't be written.
+fn denies() -> Failures {
+    Failures {
+        denied: true,
+        ..WORKS
     }
 }
 
@@ -85,6 +88,7 @@ fn check(
     let mut folder = FakeFolder::new(alloc, text.to_vec(alloc)?, links, failures);
     let target = Target {
         name: b"file",
+        id: FILE,
         fresh: b"fresh",
         write_into,
     };
@@ -107,7 +111,7 @@ fn only_a_text_with_another_output_is_replaced(rt: HostRuntime) -> Result<(), Fa
     check(&rt, OUTPUT, 1, false, WORKS, unchanged)?;
     let replaced = Left {
         result: Ok(Update::Replaced),
-        calls: b"rmcaagln",
+        calls: b"rmcaagsrln",
         file: OUTPUT,
         fresh: false,
     };
@@ -124,57 +128,81 @@ fn only_a_text_with_another_output_is_replaced(rt: HostRuntime) -> Result<(), Fa
 
 #[test]
 fn a_failed_call_leaves_the_file(rt: HostRuntime) -> Result<(), Fail> {
-    let cases: [(usize, ReplaceError, &'static [u8]); 8] = [
+    let cases: [(usize, ReplaceError, &'static [u8]); 10] = [
         (1, ReplaceError::Read, b"r"),
         (2, ReplaceError::ReadOnly, b"rm"),
         (3, ReplaceError::Write, b"rmc"),
         (4, ReplaceError::Write, b"rmcax"),
         (5, ReplaceError::Write, b"rmcaax"),
         (6, ReplaceError::Write, b"rmcaagx"),
-        (7, ReplaceError::ChangedMeanwhile, b"rmcaaglx"),
-        (8, ReplaceError::Write, b"rmcaaglnx"),
+        (7, ReplaceError::Write, b"rmcaagsx"),
+        (8, ReplaceError::Read, b"rmcaagsrx"),
+        (9, ReplaceError::ChangedMeanwhile, b"rmcaagsrlx"),
+        (10, ReplaceError::NotRenamed, b"rmcaagsrlnx"),
     ];
     for &(call, error, calls) in &cases {
-        check(&rt, TEXT, 1, true, fails(call, false), stays(error, calls))?;
+        check(&rt, TEXT, 1, false, fails(call, false), stays(error, calls))?;
     }
-    let changed = stays(ReplaceError::ChangedMeanwhile, b"rmcaaglx");
-    check(&rt, TEXT, 1, true, CHANGED, changed)?;
     let fresh_stays = Left {
         fresh: true,
         ..stays(ReplaceError::Write, b"rmcaax")
     };
-    check(&rt, TEXT, 1, true, fails(5, true), fresh_stays)
+    check(&rt, TEXT, 1, false, fails(5, true), fresh_stays)
+}
+
+#[test]
+fn a_file_that_another_program_has_stays(rt: HostRuntime) -> Result<(), Fail> {
+    let cases: [(Change, &'static [u8]); 3] = [
+        (Change::Text, b"rmcaagsrx"),
+        (Change::Mode, b"rmcaagsrx"),
+        (Change::Version, b"rmcaagsrlx"),
+    ];
+    for &(change, calls) in &cases {
+        let changed = stays(ReplaceError::ChangedMeanwhile, calls);
+        check(&rt, TEXT, 1, true, changes(change), changed)?;
+    }
+    let taken = Failures {
+        taken: true,
+        ..WORKS
+    };
+    let locked = stays(ReplaceError::Locked, b"rmc");
+    check(&rt, TEXT, 1, true, taken, locked)
 }
 
 #[test]
 fn only_an_option_writes_into_a_file(rt: HostRuntime) -> Result<(), Fail> {
     let denied = stays(ReplaceError::FolderDenied, b"rmc");
-    check(&rt, TEXT, 1, false, DENIED, denied)?;
-    let linked = stays(ReplaceError::SeveralLinks, b"rm");
+    check(&rt, TEXT, 1, false, denies(), denied)?;
+    let linked = stays(ReplaceError::SeveralLinks, b"r");
     check(&rt, TEXT, 2, false, WORKS, linked)?;
     let written = Left {
         result: Ok(Update::WrittenInto),
-        calls: b"rmclo",
+        calls: b"rmcrlo",
         file: OUTPUT,
         fresh: false,
     };
-    check(&rt, TEXT, 1, true, DENIED, written)?;
-    let written = Left {
-        calls: b"rmlo",
+    check(&rt, TEXT, 1, true, denies(), written)?;
+    let linked = Left {
+        calls: b"rmrlo",
         ..written
     };
-    check(&rt, TEXT, 2, true, WORKS, written)
+    check(&rt, TEXT, 2, true, WORKS, linked)?;
+    let unrenamed = Left {
+        calls: b"rmcaagsrlnxrlo",
+        ..written
+    };
+    check(&rt, TEXT, 1, true, fails(10, false), unrenamed)
 }
 
 #[test]
 fn old_bytes_are_written_back(rt: HostRuntime) -> Result<(), Fail> {
-    let changed = stays(ReplaceError::ChangedMeanwhile, b"rml");
-    check(&rt, TEXT, 2, true, CHANGED, changed)?;
-    let restored = stays(ReplaceError::Write, b"rmloo");
-    check(&rt, TEXT, 2, true, fails(4, false), restored)?;
+    let changed = stays(ReplaceError::ChangedMeanwhile, b"rmr");
+    check(&rt, TEXT, 2, true, changes(Change::Text), changed)?;
+    let restored = stays(ReplaceError::Write, b"rmrloo");
+    check(&rt, TEXT, 2, true, fails(5, false), restored)?;
     let half_written = Left {
         file: b"#",
-        ..stays(ReplaceError::HalfWritten, b"rmloo")
+        ..stays(ReplaceError::HalfWritten, b"rmrloo")
     };
-    check(&rt, TEXT, 2, true, fails(4, true), half_written)
+    check(&rt, TEXT, 2, true, fails(5, true), half_written)
 }

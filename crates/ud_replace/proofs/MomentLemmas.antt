@@ -5,12 +5,15 @@ use Rattle.ud_model.specs.sections.Items.{Options}
 use Rattle.ud_model.specs.answer.Outcomes.{Outcome, HasOutcome}
 use Rattle.ud_replace.specs.declared.error.Update.{Update}
 use Rattle.ud_replace.specs.declared.error.ReplaceError.{ReplaceError}
+use Rattle.ud_replace.specs.declared.node.FileId.{FileId}
 use Rattle.ud_replace.specs.declared.stat.FileStat.{FileStat}
 use Rattle.ud_replace.specs.Calls.{Call, was_read, asked, made, appended, given, synced, looked, renamed, removed}
-use Rattle.ud_replace.specs.Filling.{Takes, nothing, part, AppendsAll, all, stopped, LooksAgain, seen_same, seen_other, Confirms, as_before, same_bytes, other_bytes, not_read, Fills, filled, not_taken, not_given, not_synced, changed, not_renamed}
-use Rattle.ud_replace.specs.Replacing.{Renames, renames, removes, not_made, denied, denied_writes}
-use Rattle.ud_replace.specs.Replacing.{PutsConfirmed, one_link, several, several_writes, Puts, read_only, other_text, confirmed}
-use Rattle.ud_replace.specs.Replacing.{Judges, no_memory, faulty, same, differs, Replaces, unread, judged}
+use Rattle.ud_replace.specs.Filling.{Takes, nothing, part, AppendsAll, all, stopped, LooksAgain, seen_same, seen_other}
+use Rattle.ud_replace.specs.Filling.{Confirms, confirmed, not_read, other_text, other_facts, other_version}
+use Rattle.ud_replace.specs.Filling.{Fills, filled, not_taken, not_given, not_synced, not_confirmed, not_renamed}
+use Rattle.ud_replace.specs.Replacing.{Renames, renames, removes, unrenamed, unrenamed_writes, not_made, locked, denied, denied_writes}
+use Rattle.ud_replace.specs.Replacing.{Puts, several, read_only, one_link, several_writes}
+use Rattle.ud_replace.specs.Replacing.{Judges, no_memory, faulty, same, differs, Replaces, unread, other_file, judged}
 use Rattle.ud_replace.specs.Moments.{Files, content, AreTrue, EachCall, no_call, then_call, HasOutput, OldOrNew, touches}
 use Rattle.ud_replace.proofs.CallLemmas.{if_false, if_true, same_name, name_of_test, untouched, extended}
 
@@ -55,31 +58,36 @@ quiet_looks : {o : Options} {name : List ℕ} {stat : FileStat} {first : Files} 
 quiet_looks {name = name} q (seen_same seen version e) = quiet_at e (quiet_next (looked name seen) q (λ n bytes h. refl))
 quiet_looks {name = name} q (seen_other seen version e) = quiet_at e (quiet_next (looked name seen) q (λ n bytes h. refl))
 
--- the fresh file is filled, up to the last look
-quiet_filled : {o : Options} {name fresh text : List ℕ} {stat : FileStat} {first : Files} {old base new : List Call} {found : Bool} (taken : List Call) →
-    Apart first old fresh → Quiet o name first old base → AppendsAll fresh text base taken true → LooksAgain name stat (synced fresh true ∷ given fresh stat true ∷ taken) new found → Quiet o name first old new
-quiet_filled {fresh = fresh} {stat = stat} taken a q h l = quiet_looks (quiet_next (synced fresh true) (quiet_next (given fresh stat true) (quiet_appends a q h) a) (λ n bytes h. refl)) l
+-- the file is read and looked at once more
+quiet_confirms : {o : Options} {name text : List ℕ} {stat : FileStat} {first : Files} {old base new : List Call} {r : Result Unit ReplaceError} →
+    Quiet o name first old base → Confirms name text stat base new r → Quiet o name first old new
+quiet_confirms {name = name} {text = text} q (confirmed seen kept l) = quiet_looks (quiet_next (was_read name text (Some seen)) q (λ n bytes h. refl)) l
+quiet_confirms {name = name} q (not_read again is) = quiet_at is (quiet_next (was_read name again None) q (λ n bytes h. refl))
+quiet_confirms {name = name} q (other_text again seen other is) = quiet_at is (quiet_next (was_read name again (Some seen)) q (λ n bytes h. refl))
+quiet_confirms {name = name} {text = text} q (other_facts seen other is) = quiet_at is (quiet_next (was_read name text (Some seen)) q (λ n bytes h. refl))
+quiet_confirms {name = name} {text = text} q (other_version seen kept l) = quiet_looks (quiet_next (was_read name text (Some seen)) q (λ n bytes h. refl)) l
 
--- the file is looked at or read once more
-quiet_confirms : {o : Options} {name text : List ℕ} {stat : FileStat} {first : Files} {old base new : List Call} {s : Option FileStat} →
-    Quiet o name first old base → Confirms name text stat base new s → Quiet o name first old new
-quiet_confirms q (as_before l) = quiet_looks q l
-quiet_confirms {name = name} {text = text} q (same_bytes calls seen l is) = quiet_at is (quiet_next (was_read name text (Some seen)) (quiet_looks q l) (λ n bytes h. refl))
-quiet_confirms {name = name} q (other_bytes calls again seen l other is) = quiet_at is (quiet_next (was_read name again (Some seen)) (quiet_looks q l) (λ n bytes h. refl))
-quiet_confirms {name = name} q (not_read calls again l is) = quiet_at is (quiet_next (was_read name again None) (quiet_looks q l) (λ n bytes h. refl))
+-- the fresh file is filled, up to the last look
+quiet_filled : {o : Options} {name fresh before text : List ℕ} {stat : FileStat} {first : Files} {old base new : List Call} {r : Result Unit ReplaceError} (taken : List Call) →
+    Apart first old fresh → Quiet o name first old base → AppendsAll fresh text base taken true → Confirms name before stat (synced fresh true ∷ given fresh stat true ∷ taken) new r → Quiet o name first old new
+quiet_filled {fresh = fresh} {stat = stat} taken a q h l = quiet_confirms (quiet_next (synced fresh true) (quiet_next (given fresh stat true) (quiet_appends a q h) a) (λ n bytes h. refl)) l
 
 -- a rename that failed
 quiet_not_renamed : {o : Options} {name fresh : List ℕ} {first : Files} {old calls : List Call} → Quiet o name first old calls → Quiet o name first old (renamed fresh name false ∷ calls)
 quiet_not_renamed q = record { each = then_call q.each (λ n bytes h. inl (q.kept n bytes h)); kept = q.kept }
 
 -- after a failure no file but the fresh one was touched
-quiet_fills : {o : Options} {name fresh text : List ℕ} {stat : FileStat} {first : Files} {old base new : List Call} (e : ReplaceError) →
-    Apart first old fresh → Quiet o name first old base → Fills name fresh text stat base new (Err e) → Quiet o name first old new
+quiet_fills : {o : Options} {name fresh before text : List ℕ} {stat : FileStat} {first : Files} {old base new : List Call} (e : ReplaceError) →
+    Apart first old fresh → Quiet o name first old base → Fills name fresh before text stat base new (Err e) → Quiet o name first old new
 quiet_fills e a q (not_taken h) = quiet_appends a q h
 quiet_fills {fresh = fresh} {stat = stat} e a q (not_given taken h is) = quiet_at is (quiet_next (given fresh stat false) (quiet_appends a q h) a)
 quiet_fills {fresh = fresh} {stat = stat} e a q (not_synced taken h is) = quiet_at is (quiet_next (synced fresh false) (quiet_next (given fresh stat true) (quiet_appends a q h) a) (λ n bytes h. refl))
-quiet_fills e a q (changed taken h l) = quiet_filled taken a q h l
-quiet_fills e a q (not_renamed taken seen h l is) = quiet_at is (quiet_not_renamed (quiet_filled taken a q h l))
+quiet_fills e a q (not_confirmed _ taken h l) = quiet_filled taken a q h l
+
+-- nor was one if the rename failed
+quiet_unrenamed : {o : Options} {name fresh before text : List ℕ} {stat : FileStat} {first : Files} {old base new : List Call} →
+    Apart first old fresh → Quiet o name first old base → Fills name fresh before text stat base new (Ok false) → Quiet o name first old new
+quiet_unrenamed a q (not_renamed taken seen h l is) = quiet_at is (quiet_not_renamed (quiet_filled taken a q h l))
 
 -- the bytes of the fresh file
 bytes_of_takes : (fresh : List ℕ) (first : Files) {base : List Call} (bytes : List ℕ) (calls : List Call) →
@@ -92,6 +100,10 @@ bytes_of_looks : (fresh : List ℕ) (first : Files) {name text : List ℕ} {stat
     content first base fresh ≡ Some text → LooksAgain name stat base new found → content first new fresh ≡ Some text
 bytes_of_looks fresh first {text = text} h (seen_same seen version e) = subst (λ (l : List Call). content first l fresh ≡ Some text) (sym e) h
 bytes_of_looks fresh first {text = text} h (seen_other seen version e) = subst (λ (l : List Call). content first l fresh ≡ Some text) (sym e) h
+
+bytes_of_confirms : (fresh : List ℕ) (first : Files) {name before text : List ℕ} {stat : FileStat} {base new : List Call} →
+    content first base fresh ≡ Some text → Confirms name before stat base new (Ok tt) → content first new fresh ≡ Some text
+bytes_of_confirms fresh first h (confirmed seen kept l) = bytes_of_looks fresh first h l
 
 bytes_of_appends : (fresh : List ℕ) (first : Files) {text : List ℕ} {base new : List Call} →
     content first base fresh ≡ Some [] → AppendsAll fresh text base new true → content first new fresh ≡ Some text
@@ -110,17 +122,25 @@ true_looks : (first : Files) {name : List ℕ} {stat : FileStat} {base new : Lis
 true_looks first (seen_same seen version e) t = (true_at first e t).1
 true_looks first (seen_other seen version e) t = (true_at first e t).1
 
-true_filled : (first : Files) {name fresh text : List ℕ} {stat : FileStat} {base new : List Call} {found : Bool} (taken : List Call) →
-    AppendsAll fresh text base taken true → LooksAgain name stat (synced fresh true ∷ given fresh stat true ∷ taken) new found → AreTrue first new → AreTrue first base
-true_filled first taken h l t = true_appends first h (true_looks first l t).1.1
+true_confirms : (first : Files) {name text : List ℕ} {stat : FileStat} {base new : List Call} {r : Result Unit ReplaceError} →
+    Confirms name text stat base new r → AreTrue first new → AreTrue first base
+true_confirms first (confirmed seen kept l) t = (true_looks first l t).1
+true_confirms first (not_read again is) t = (true_at first is t).1
+true_confirms first (other_text again seen other is) t = (true_at first is t).1
+true_confirms first (other_facts seen other is) t = (true_at first is t).1
+true_confirms first (other_version seen kept l) t = (true_looks first l t).1
 
-true_fills : (first : Files) {name fresh text : List ℕ} {stat : FileStat} {base new : List Call} {r : Result Unit ReplaceError} →
-    Fills name fresh text stat base new r → AreTrue first new → AreTrue first base
+true_filled : (first : Files) {name fresh before text : List ℕ} {stat : FileStat} {base new : List Call} {r : Result Unit ReplaceError} (taken : List Call) →
+    AppendsAll fresh text base taken true → Confirms name before stat (synced fresh true ∷ given fresh stat true ∷ taken) new r → AreTrue first new → AreTrue first base
+true_filled first taken h l t = true_appends first h (true_confirms first l t).1.1
+
+true_fills : (first : Files) {name fresh before text : List ℕ} {stat : FileStat} {base new : List Call} {r : Result Bool ReplaceError} →
+    Fills name fresh before text stat base new r → AreTrue first new → AreTrue first base
 true_fills first (filled taken seen h l is) t = true_filled first taken h l (true_at first is t).1
 true_fills first (not_taken h) t = true_appends first h t
 true_fills first (not_given taken h is) t = true_appends first h (true_at first is t).1
 true_fills first (not_synced taken h is) t = true_appends first h (true_at first is t).1.1
-true_fills first (changed taken h l) t = true_filled first taken h l t
+true_fills first (not_confirmed e taken h l) t = true_filled first taken h l t
 true_fills first (not_renamed taken seen h l is) t = true_filled first taken h l (true_at first is t).1
 
 some_is : (a b : List ℕ) → Some a ≡ Some b → a ≡ b
@@ -175,13 +195,13 @@ quiet_made {fresh = fresh} a q = quiet_next (made fresh (Ok tt)) q a
 
 moments_filled : {o : Options} {name fresh text : List ℕ} {stat : FileStat} {first : Files} {old base new : List Call} (a : Outcome) →
     HasOutcome o text a → a.fault ≡ None → content first old name ≡ Some text → Quiet o name first old base → AreTrue first new →
-    Fills name fresh a.output stat (made fresh (Ok tt) ∷ base) new (Ok tt) → Moments o name first old new
+    Fills name fresh text a.output stat (made fresh (Ok tt) ∷ base) new (Ok true) → Moments o name first old new
 moments_filled {fresh = fresh} {first = first} {base = base} a has sound read q t (filled taken seen h l is) =
     let free = (true_fills first (filled taken seen h l is) t).0 in
     let away = apart fresh q free in
     let quiet = quiet_filled taken away (quiet_made away q) h l in
     let empty = if_true (bytes_eq fresh fresh) (Some []) (content first base fresh) (same_name fresh) in
-    let full = bytes_of_looks fresh first (bytes_of_appends fresh first empty h) l in
+    let full = bytes_of_confirms fresh first (bytes_of_appends fresh first empty h) l in
     moments_at is (then_call quiet.each (renamed_moment fresh first a has sound read away quiet full))
 
 moments_renames : {o : Options} {name fresh text : List ℕ} {stat : FileStat} {first : Files} {old base new : List Call} {r : Result Update ReplaceError} (a : Outcome) →
@@ -191,50 +211,40 @@ moments_renames a has sound read q t (renames h) = moments_filled a has sound re
 moments_renames {fresh = fresh} {first = first} a has sound read q t (removes e calls gone h is) =
     let away = apart fresh q (true_fills first h (true_at first is t).1).0 in
     (quiet_at is (quiet_next (removed fresh gone) (quiet_fills e away (quiet_made away q) h) away)).each
+moments_renames {fresh = fresh} {first = first} a has sound read q t (unrenamed calls gone not_into h is) =
+    let away = apart fresh q (true_fills first h (true_at first is t).1).0 in
+    (quiet_at is (quiet_next (removed fresh gone) (quiet_unrenamed away (quiet_made away q) h) away)).each
+moments_renames a has sound read q t (unrenamed_writes calls gone into h l) = absurd (true≢false (sym into))
 moments_renames {fresh = fresh} a has sound read q t (not_made is) = moments_at is (then_call q.each (λ n bytes h. inl (q.kept n bytes h)))
+moments_renames {fresh = fresh} a has sound read q t (locked is) = moments_at is (then_call q.each (λ n bytes h. inl (q.kept n bytes h)))
 moments_renames {fresh = fresh} a has sound read q t (denied not_into is) = moments_at is (then_call q.each (λ n bytes h. inl (q.kept n bytes h)))
 moments_renames a has sound read q t (denied_writes into h) = absurd (true≢false (sym into))
-
-moments_confirmed : {o : Options} {name fresh text : List ℕ} {stat : FileStat} {first : Files} {old base new : List Call} {r : Result Update ReplaceError} (a : Outcome) →
-    HasOutcome o text a → a.fault ≡ None → content first old name ≡ Some text → Quiet o name first old base → AreTrue first new →
-    PutsConfirmed false name fresh text a.output stat base new r → Moments o name first old new
-moments_confirmed a has sound read q t (one_link few h) = moments_renames a has sound read q t h
-moments_confirmed a has sound read q t (several many not_into is) = (quiet_at is q).each
-moments_confirmed a has sound read q t (several_writes many into h) = absurd (true≢false (sym into))
 
 moments_puts : {o : Options} {name fresh text : List ℕ} {stat : FileStat} {first : Files} {old base new : List Call} {r : Result Update ReplaceError} (a : Outcome) →
     HasOutcome o text a → a.fault ≡ None → content first old name ≡ Some text → Quiet o name first old base → AreTrue first new →
     Puts false name fresh text a.output stat base new r → Moments o name first old new
-moments_puts {name = name} a has sound read q t (read_only is) = (quiet_at is (quiet_next (asked name false) q (λ n bytes h. refl))).each
-moments_puts {name = name} a has sound read q t (other_text l) = (quiet_confirms (quiet_next (asked name true) q (λ n bytes h. refl)) l).each
-moments_puts {name = name} a has sound read q t (confirmed mid seen l h) = moments_confirmed a has sound read (quiet_confirms (quiet_next (asked name true) q (λ n bytes h. refl)) l) t h
+moments_puts a has sound read q t (several many not_into is) = (quiet_at is q).each
+moments_puts {name = name} a has sound read q t (read_only may is) = (quiet_at is (quiet_next (asked name false) q (λ n bytes h. refl))).each
+moments_puts {name = name} a has sound read q t (one_link few h) = moments_renames a has sound read (quiet_next (asked name true) q (λ n bytes h. refl)) t h
+moments_puts a has sound read q t (several_writes many into h) = absurd (true≢false (sym into))
 
 true_renames : (first : Files) {name fresh before text : List ℕ} {stat : FileStat} {base new : List Call} {r : Result Update ReplaceError} →
     Renames false name fresh before text stat base new r → AreTrue first new → AreTrue first base
 true_renames first (renames h) t = (true_fills first h t).1
 true_renames first (removes e calls gone h is) t = (true_fills first h (true_at first is t).1).1
+true_renames first (unrenamed calls gone not_into h is) t = (true_fills first h (true_at first is t).1).1
+true_renames first (unrenamed_writes calls gone into h l) t = absurd (true≢false (sym into))
 true_renames first (not_made is) t = (true_at first is t).1
+true_renames first (locked is) t = (true_at first is t).1
 true_renames first (denied not_into is) t = (true_at first is t).1
 true_renames first (denied_writes into h) t = absurd (true≢false (sym into))
 
-true_confirms : (first : Files) {name text : List ℕ} {stat : FileStat} {base new : List Call} {s : Option FileStat} →
-    Confirms name text stat base new s → AreTrue first new → AreTrue first base
-true_confirms first (as_before l) t = true_looks first l t
-true_confirms first (same_bytes calls seen l is) t = true_looks first l (true_at first is t).1
-true_confirms first (other_bytes calls again seen l other is) t = true_looks first l (true_at first is t).1
-true_confirms first (not_read calls again l is) t = true_looks first l (true_at first is t).1
-
-true_confirmed : (first : Files) {name fresh before text : List ℕ} {stat : FileStat} {base new : List Call} {r : Result Update ReplaceError} →
-    PutsConfirmed false name fresh before text stat base new r → AreTrue first new → AreTrue first base
-true_confirmed first (one_link few h) t = true_renames first h t
-true_confirmed first (several many not_into is) t = true_at first is t
-true_confirmed first (several_writes many into h) t = absurd (true≢false (sym into))
-
 true_puts : (first : Files) {name fresh before text : List ℕ} {stat : FileStat} {base new : List Call} {r : Result Update ReplaceError} →
     Puts false name fresh before text stat base new r → AreTrue first new → AreTrue first base
-true_puts first (read_only is) t = (true_at first is t).1
-true_puts first (other_text l) t = (true_confirms first l t).1
-true_puts first (confirmed mid seen l h) t = (true_confirms first l (true_confirmed first h t)).1
+true_puts first (several many not_into is) t = true_at first is t
+true_puts first (read_only may is) t = (true_at first is t).1
+true_puts first (one_link few h) t = (true_renames first h t).1
+true_puts first (several_writes many into h) t = absurd (true≢false (sym into))
 
 -- nothing was asked but to read the file
 quiet_read : (o : Options) (name : List ℕ) (first : Files) (old : List Call) (text : List ℕ) (seen : Option FileStat) → Quiet o name first old (was_read name text seen ∷ old)
@@ -250,7 +260,8 @@ moments_judges o name fresh text stat first old new _ t (same a has sound none i
 moments_judges o name fresh text stat first old new _ t (differs a has sound some h) =
     moments_puts a has sound (true_puts first h t).0 (quiet_read o name first old text (Some stat)) t h
 
-pub old_or_new : (o : Options) (first : Files) (name fresh : List ℕ) (old new : List Call) (r : Result Update ReplaceError) → Replaces o false name fresh old new r →
+pub old_or_new : (o : Options) (first : Files) (id : FileId) (name fresh : List ℕ) (old new : List Call) (r : Result Update ReplaceError) → Replaces o false id name fresh old new r →
     AreTrue first new → EachCall (λ (c : Call) (earlier : List Call). OldOrNew o name first old (c ∷ earlier)) old new
-old_or_new o first name fresh old new _ (unread text is) t = (quiet_at is (quiet_read o name first old text None)).each
-old_or_new o first name fresh old new r (judged text stat h) t = moments_judges o name fresh text stat first old new r t h
+old_or_new o first id name fresh old new _ (unread text is) t = (quiet_at is (quiet_read o name first old text None)).each
+old_or_new o first id name fresh old new _ (other_file text stat other is) t = (quiet_at is (quiet_read o name first old text (Some stat))).each
+old_or_new o first id name fresh old new r (judged text stat its h) t = moments_judges o name fresh text stat first old new r t h

@@ -4,12 +4,15 @@ use Rattle.ud_model.specs.sections.Items.{Options}
 use Rattle.ud_model.specs.answer.Outcomes.{Outcome, HasOutcome}
 use Rattle.ud_replace.specs.declared.error.Update.{Update}
 use Rattle.ud_replace.specs.declared.error.ReplaceError.{ReplaceError}
+use Rattle.ud_replace.specs.declared.node.FileId.{FileId}
 use Rattle.ud_replace.specs.declared.stat.FileStat.{FileStat}
 use Rattle.ud_replace.specs.Calls.{Call, was_read, asked, made, given, synced, looked}
-use Rattle.ud_replace.specs.Filling.{Takes, nothing, part, AppendsAll, all, stopped, LooksAgain, seen_same, seen_other, Confirms, as_before, same_bytes, other_bytes, not_read, Fills, filled, not_taken, not_given, not_synced, changed, not_renamed}
-use Rattle.ud_replace.specs.Replacing.{Renames, renames, removes, not_made, denied, denied_writes}
-use Rattle.ud_replace.specs.Replacing.{PutsConfirmed, one_link, several, several_writes, Puts, read_only, other_text, confirmed}
-use Rattle.ud_replace.specs.Replacing.{Judges, no_memory, faulty, same, differs, Replaces, unread, judged}
+use Rattle.ud_replace.specs.Filling.{Takes, nothing, part, AppendsAll, all, stopped, LooksAgain, seen_same, seen_other}
+use Rattle.ud_replace.specs.Filling.{Confirms, confirmed, not_read, other_text, other_facts, other_version}
+use Rattle.ud_replace.specs.Filling.{Fills, filled, not_taken, not_given, not_synced, not_confirmed, not_renamed}
+use Rattle.ud_replace.specs.Replacing.{Renames, renames, removes, unrenamed, unrenamed_writes, not_made, locked, denied, denied_writes}
+use Rattle.ud_replace.specs.Replacing.{Puts, several, read_only, one_link, several_writes}
+use Rattle.ud_replace.specs.Replacing.{Judges, no_memory, faulty, same, differs, Replaces, unread, other_file, judged}
 use Rattle.ud_replace.specs.Moments.{EachCall, no_call, then_call, touches, TookOutput, TouchesFreshOnly}
 use Rattle.ud_replace.proofs.CallLemmas.{name_of_test}
 
@@ -40,81 +43,76 @@ looks_careful : {o : Options} {name fresh : List ℕ} {stat : FileStat} {old bas
 looks_careful {name = name} q (seen_same seen version e) = careful_at e (touches_none (looked name seen) q (λ n. refl))
 looks_careful {name = name} q (seen_other seen version e) = careful_at e (touches_none (looked name seen) q (λ n. refl))
 
-filled_careful : {o : Options} {name fresh text : List ℕ} {stat : FileStat} {old base new : List Call} {found : Bool} (taken : List Call) →
-    Careful o name fresh old base → AppendsAll fresh text base taken true → LooksAgain name stat (synced fresh true ∷ given fresh stat true ∷ taken) new found → Careful o name fresh old new
-filled_careful {fresh = fresh} taken q h l = looks_careful (touches_none (synced fresh true) (then_call (appends_careful q h) (inl (λ m. name_of_test m fresh))) (λ n. refl)) l
+-- the file is read and looked at once more
+confirms_careful : {o : Options} {name fresh text : List ℕ} {stat : FileStat} {old base new : List Call} {r : Result Unit ReplaceError} →
+    Careful o name fresh old base → Confirms name text stat base new r → Careful o name fresh old new
+confirms_careful {name = name} {text = text} q (confirmed seen kept l) = looks_careful (touches_none (was_read name text (Some seen)) q (λ n. refl)) l
+confirms_careful {name = name} q (not_read again is) = careful_at is (touches_none (was_read name again None) q (λ n. refl))
+confirms_careful {name = name} q (other_text again seen other is) = careful_at is (touches_none (was_read name again (Some seen)) q (λ n. refl))
+confirms_careful {name = name} {text = text} q (other_facts seen other is) = careful_at is (touches_none (was_read name text (Some seen)) q (λ n. refl))
+confirms_careful {name = name} {text = text} q (other_version seen kept l) = looks_careful (touches_none (was_read name text (Some seen)) q (λ n. refl)) l
 
-confirms_careful : {o : Options} {name fresh text : List ℕ} {stat : FileStat} {old base new : List Call} {s : Option FileStat} →
-    Careful o name fresh old base → Confirms name text stat base new s → Careful o name fresh old new
-confirms_careful q (as_before l) = looks_careful q l
-confirms_careful {name = name} {text = text} q (same_bytes calls seen l is) = careful_at is (touches_none (was_read name text (Some seen)) (looks_careful q l) (λ n. refl))
-confirms_careful {name = name} q (other_bytes calls again seen l other is) = careful_at is (touches_none (was_read name again (Some seen)) (looks_careful q l) (λ n. refl))
-confirms_careful {name = name} q (not_read calls again l is) = careful_at is (touches_none (was_read name again None) (looks_careful q l) (λ n. refl))
+-- the fresh file is filled, up to the last look
+filled_careful : {o : Options} {name fresh before text : List ℕ} {stat : FileStat} {old base new : List Call} {r : Result Unit ReplaceError} (taken : List Call) →
+    Careful o name fresh old base → AppendsAll fresh text base taken true → Confirms name before stat (synced fresh true ∷ given fresh stat true ∷ taken) new r → Careful o name fresh old new
+filled_careful {fresh = fresh} taken q h l = confirms_careful (touches_none (synced fresh true) (then_call (appends_careful q h) (inl (λ m. name_of_test m fresh))) (λ n. refl)) l
 
 took_all : {fresh text : List ℕ} {base new : List Call} → AppendsAll fresh text base new true → Takes fresh base text new
 took_all (all taken) = taken
 
--- the user may write into the file, which still has the text that was read
-record Confirmed (name text : List ℕ) (old mid : List Call) (stat : FileStat) : Type 0 where
-  first : FileStat
-  confirms : Confirms name text first (asked name true ∷ was_read name text (Some first) ∷ old) mid (Some stat)
+-- the calls up to the one that makes the fresh file
+abbrev up_to_made : List ℕ → List ℕ → List ℕ → FileStat → List Call → List Call
+up_to_made name fresh text stat old = made fresh (Ok tt) ∷ asked name true ∷ was_read name text (Some stat) ∷ old
 
 -- before the rename, the fresh file took the whole output
-took_output : {o : Options} {name fresh text : List ℕ} {stat : FileStat} {old mid new : List Call} (a : Outcome) (taken : List Call) → HasOutcome o text a → a.fault ≡ None →
-    Confirmed name text old mid stat → AppendsAll fresh a.output (made fresh (Ok tt) ∷ mid) taken true →
-    LooksAgain name stat (synced fresh true ∷ given fresh stat true ∷ taken) new true → TookOutput o name fresh old new
-took_output a taken has sound c h (seen_same None version is) = absurd version
-took_output {text = text} {stat = stat} {mid = mid} a taken has sound c h (seen_same (Some seen) version is) = record {
+took_output : {o : Options} {name fresh text : List ℕ} {stat : FileStat} {old new : List Call} (a : Outcome) (taken : List Call) → HasOutcome o text a → a.fault ≡ None →
+    AppendsAll fresh a.output (up_to_made name fresh text stat old) taken true →
+    Confirms name text stat (synced fresh true ∷ given fresh stat true ∷ taken) new (Ok tt) → TookOutput o name fresh old new
+took_output {text = text} {stat = stat} a taken has sound h confirms = record {
   text = text;
-  first = c.first;
   stat = stat;
-  mid = mid;
-  confirms = c.confirms;
   outcome = a;
   has = has;
   no_fault = sound;
   taken = taken;
   took = took_all h;
-  seen = seen;
-  calls_are = is;
-  version = version;
+  confirms = confirms;
 }
 
-fills_careful : {o : Options} {name fresh text : List ℕ} {stat : FileStat} {old mid new : List Call} {r : Result Unit ReplaceError} (a : Outcome) → HasOutcome o text a → a.fault ≡ None →
-    Confirmed name text old mid stat → Careful o name fresh old (made fresh (Ok tt) ∷ mid) →
-    Fills name fresh a.output stat (made fresh (Ok tt) ∷ mid) new r → Careful o name fresh old new
-fills_careful a has sound c q (filled taken seen h l is) =
-    careful_at is (then_call (filled_careful taken q h l) (inr (true, refl, took_output a taken has sound c h l)))
-fills_careful a has sound c q (not_taken h) = appends_careful q h
-fills_careful {fresh = fresh} {stat = stat} a has sound c q (not_given taken h is) = careful_at is (then_call (appends_careful q h) (inl (λ m. name_of_test m fresh)))
-fills_careful {fresh = fresh} {stat = stat} a has sound c q (not_synced taken h is) =
+fills_careful : {o : Options} {name fresh text : List ℕ} {stat : FileStat} {old new : List Call} {r : Result Bool ReplaceError} (a : Outcome) → HasOutcome o text a → a.fault ≡ None →
+    Careful o name fresh old (up_to_made name fresh text stat old) →
+    Fills name fresh text a.output stat (up_to_made name fresh text stat old) new r → Careful o name fresh old new
+fills_careful a has sound q (filled taken seen h l is) =
+    careful_at is (then_call (filled_careful taken q h l) (inr (true, refl, took_output a taken has sound h l)))
+fills_careful a has sound q (not_taken h) = appends_careful q h
+fills_careful {fresh = fresh} {stat = stat} a has sound q (not_given taken h is) = careful_at is (then_call (appends_careful q h) (inl (λ m. name_of_test m fresh)))
+fills_careful {fresh = fresh} {stat = stat} a has sound q (not_synced taken h is) =
     careful_at is (touches_none (synced fresh false) (then_call (appends_careful q h) (inl (λ m. name_of_test m fresh))) (λ n. refl))
-fills_careful a has sound c q (changed taken h l) = filled_careful taken q h l
-fills_careful a has sound c q (not_renamed taken seen h l is) =
-    careful_at is (then_call (filled_careful taken q h l) (inr (false, refl, took_output a taken has sound c h l)))
+fills_careful a has sound q (not_confirmed e taken h l) = filled_careful taken q h l
+fills_careful a has sound q (not_renamed taken seen h l is) =
+    careful_at is (then_call (filled_careful taken q h l) (inr (false, refl, took_output a taken has sound h l)))
 
-renames_careful : {o : Options} {name fresh text : List ℕ} {stat : FileStat} {old mid new : List Call} {r : Result Update ReplaceError} (a : Outcome) → HasOutcome o text a → a.fault ≡ None →
-    Confirmed name text old mid stat → Careful o name fresh old mid → Renames false name fresh text a.output stat mid new r → Careful o name fresh old new
-renames_careful {fresh = fresh} a has sound c q (renames h) = fills_careful a has sound c (then_call q (inl (λ m. name_of_test m fresh))) h
-renames_careful {fresh = fresh} a has sound c q (removes e calls gone h is) =
-    careful_at is (then_call (fills_careful a has sound c (then_call q (inl (λ m. name_of_test m fresh))) h) (inl (λ m. name_of_test m fresh)))
-renames_careful {fresh = fresh} a has sound c q (not_made is) = careful_at is (then_call q (inl (λ m. name_of_test m fresh)))
-renames_careful {fresh = fresh} a has sound c q (denied not_into is) = careful_at is (then_call q (inl (λ m. name_of_test m fresh)))
-renames_careful a has sound c q (denied_writes into h) = absurd (true≢false (sym into))
-
-confirmed_careful : {o : Options} {name fresh text : List ℕ} {stat : FileStat} {old mid new : List Call} {r : Result Update ReplaceError} (a : Outcome) → HasOutcome o text a → a.fault ≡ None →
-    Confirmed name text old mid stat → Careful o name fresh old mid → PutsConfirmed false name fresh text a.output stat mid new r → Careful o name fresh old new
-confirmed_careful a has sound c q (one_link few h) = renames_careful a has sound c q h
-confirmed_careful a has sound c q (several many not_into is) = careful_at is q
-confirmed_careful a has sound c q (several_writes many into h) = absurd (true≢false (sym into))
+renames_careful : {o : Options} {name fresh text : List ℕ} {stat : FileStat} {old new : List Call} {r : Result Update ReplaceError} (a : Outcome) → HasOutcome o text a → a.fault ≡ None →
+    Careful o name fresh old (asked name true ∷ was_read name text (Some stat) ∷ old) →
+    Renames false name fresh text a.output stat (asked name true ∷ was_read name text (Some stat) ∷ old) new r → Careful o name fresh old new
+renames_careful {fresh = fresh} a has sound q (renames h) = fills_careful a has sound (then_call q (inl (λ m. name_of_test m fresh))) h
+renames_careful {fresh = fresh} a has sound q (removes e calls gone h is) =
+    careful_at is (then_call (fills_careful a has sound (then_call q (inl (λ m. name_of_test m fresh))) h) (inl (λ m. name_of_test m fresh)))
+renames_careful {fresh = fresh} a has sound q (unrenamed calls gone not_into h is) =
+    careful_at is (then_call (fills_careful a has sound (then_call q (inl (λ m. name_of_test m fresh))) h) (inl (λ m. name_of_test m fresh)))
+renames_careful a has sound q (unrenamed_writes calls gone into h l) = absurd (true≢false (sym into))
+renames_careful {fresh = fresh} a has sound q (not_made is) = careful_at is (then_call q (inl (λ m. name_of_test m fresh)))
+renames_careful {fresh = fresh} a has sound q (locked is) = careful_at is (then_call q (inl (λ m. name_of_test m fresh)))
+renames_careful {fresh = fresh} a has sound q (denied not_into is) = careful_at is (then_call q (inl (λ m. name_of_test m fresh)))
+renames_careful a has sound q (denied_writes into h) = absurd (true≢false (sym into))
 
 puts_careful : {o : Options} {name fresh text : List ℕ} {stat : FileStat} {old new : List Call} {r : Result Update ReplaceError} (a : Outcome) → HasOutcome o text a → a.fault ≡ None →
     Careful o name fresh old (was_read name text (Some stat) ∷ old) →
     Puts false name fresh text a.output stat (was_read name text (Some stat) ∷ old) new r → Careful o name fresh old new
-puts_careful {name = name} a has sound q (read_only is) = careful_at is (touches_none (asked name false) q (λ n. refl))
-puts_careful {name = name} a has sound q (other_text l) = confirms_careful (touches_none (asked name true) q (λ n. refl)) l
-puts_careful {name = name} {stat = stat} a has sound q (confirmed mid seen l h) =
-    confirmed_careful a has sound (record { first = stat; confirms = l }) (confirms_careful (touches_none (asked name true) q (λ n. refl)) l) h
+puts_careful a has sound q (several many not_into is) = careful_at is q
+puts_careful {name = name} a has sound q (read_only may is) = careful_at is (touches_none (asked name false) q (λ n. refl))
+puts_careful {name = name} a has sound q (one_link few h) = renames_careful a has sound (touches_none (asked name true) q (λ n. refl)) h
+puts_careful a has sound q (several_writes many into h) = absurd (true≢false (sym into))
 
 reads_careful : (o : Options) (name fresh : List ℕ) (old : List Call) (text : List ℕ) (seen : Option FileStat) → Careful o name fresh old (was_read name text seen ∷ old)
 reads_careful o name fresh old text seen =
@@ -127,7 +125,8 @@ judges_careful o name fresh text stat old new _ (faulty a f has told sound is) =
 judges_careful o name fresh text stat old new _ (same a has sound none is) = careful_at is (reads_careful o name fresh old text (Some stat))
 judges_careful o name fresh text stat old new _ (differs a has sound some h) = puts_careful a has sound (reads_careful o name fresh old text (Some stat)) h
 
-pub one_rename : (o : Options) (name fresh : List ℕ) (old new : List Call) (r : Result Update ReplaceError) → Replaces o false name fresh old new r →
+pub one_rename : (o : Options) (id : FileId) (name fresh : List ℕ) (old new : List Call) (r : Result Update ReplaceError) → Replaces o false id name fresh old new r →
     EachCall (TouchesFreshOnly o name fresh old) old new
-one_rename o name fresh old new _ (unread text is) = careful_at is (reads_careful o name fresh old text None)
-one_rename o name fresh old new r (judged text stat h) = judges_careful o name fresh text stat old new r h
+one_rename o id name fresh old new _ (unread text is) = careful_at is (reads_careful o name fresh old text None)
+one_rename o id name fresh old new _ (other_file text stat other is) = careful_at is (reads_careful o name fresh old text (Some stat))
+one_rename o id name fresh old new r (judged text stat its h) = judges_careful o name fresh text stat old new r h

@@ -4,14 +4,15 @@
 --   AppendsAll name bytes old new all          `name` took all of `bytes`, or the last call failed
 --   IsVersionOf stat seen                      `seen` and `stat` are of the same version of a file
 --   LooksAgain name stat old new same          a file was looked at again
---   Confirms name text stat old new seen       a file still has the text that was read
---   Fills name fresh text stat old new r       `fresh` got `text`, and the name `name`
+--   Confirms name text stat old new r          a file still has the text that was read
+--   Fills name fresh before text stat old new r   `fresh` got `text`, and the name `name`
 --
 -- `old` and `new` are the calls before and after, the newest first.
 use Rattle.std.specs.Prelude.{◌≡◌, ℕ, ◌≤◌, List, [], ◌∷◌, ◌++◌, length, take, Bool, true, false}
 use Rattle.std.specs.Prelude.{Option, Some, None, Result, Ok, Err}
 use Rattle.ud_replace.specs.declared.error.ReplaceError.{ReplaceError}
-use Rattle.ud_replace.specs.declared.error.ReplaceError.TheVariants.{ChangedMeanwhile, Write}
+use Rattle.ud_replace.specs.declared.error.ReplaceError.TheVariants.{Read, ChangedMeanwhile, Write}
+use Rattle.ud_replace.specs.Stats.{has_facts_of}
 use Rattle.ud_replace.specs.declared.stat.FileStat.{FileStat}
 use Rattle.ud_replace.specs.Calls.{Call, was_read, appended, given, synced, looked, renamed}
 
@@ -49,38 +50,45 @@ pub data LooksAgain (name : List ℕ) (stat : FileStat) (old new : List Call) : 
   seen_other : (seen : Option FileStat) → ¬ IsVersionOf stat seen → new ≡ looked name seen ∷ old →
       LooksAgain name stat old new false
 
--- `Confirms name text stat old new seen`: the file was looked at again. If its version is not that
--- of `stat`, it was read once more. It still has the bytes `text`, and `seen` is what is known of it
--- now; or it has others, or couldn't be read.
+-- `Confirms name text stat old new r`: the file was read again. It still had the bytes `text`, and
+-- the mode, the owner and the links of `stat`. Then it was looked at, and it was the version that
+-- was read again. Or one of these calls failed or found something else, and `r` is the error.
 pub data Confirms (name text : List ℕ) (stat : FileStat) (old new : List Call) :
-    Option FileStat → Type 0 where
-  as_before : LooksAgain name stat old new true → Confirms name text stat old new (Some stat)
-  same_bytes : (calls : List Call) (seen : FileStat) → LooksAgain name stat old calls false →
-      new ≡ was_read name text (Some seen) ∷ calls → Confirms name text stat old new (Some seen)
-  other_bytes : (calls : List Call) (again : List ℕ) (seen : FileStat) →
-      LooksAgain name stat old calls false → ¬ (again ≡ text) →
-      new ≡ was_read name again (Some seen) ∷ calls → Confirms name text stat old new None
-  not_read : (calls : List Call) (again : List ℕ) → LooksAgain name stat old calls false →
-      new ≡ was_read name again None ∷ calls → Confirms name text stat old new None
-
--- `Fills name fresh text stat old new r`: `fresh` took all of `text` and got the mode and owner of
--- `stat`, and its bytes reached the disk. Then `name` was looked at again, and its version was that
--- of `stat`. At last `fresh` was renamed to `name`. Or one of these calls failed and was the last
--- one, and `r` is the error.
-pub data Fills (name fresh text : List ℕ) (stat : FileStat) (old new : List Call) :
     Result Unit ReplaceError → Type 0 where
+  confirmed : (seen : FileStat) → has_facts_of stat seen ≡ true →
+      LooksAgain name seen (was_read name text (Some seen) ∷ old) new true →
+      Confirms name text stat old new (Ok tt)
+  not_read : (again : List ℕ) → new ≡ was_read name again None ∷ old →
+      Confirms name text stat old new (Err Read)
+  other_text : (again : List ℕ) (seen : FileStat) → ¬ (again ≡ text) →
+      new ≡ was_read name again (Some seen) ∷ old →
+      Confirms name text stat old new (Err ChangedMeanwhile)
+  other_facts : (seen : FileStat) → has_facts_of stat seen ≡ false →
+      new ≡ was_read name text (Some seen) ∷ old →
+      Confirms name text stat old new (Err ChangedMeanwhile)
+  other_version : (seen : FileStat) → has_facts_of stat seen ≡ true →
+      LooksAgain name seen (was_read name text (Some seen) ∷ old) new false →
+      Confirms name text stat old new (Err ChangedMeanwhile)
+
+-- `Fills name fresh before text stat old new r`: `fresh` took all of `text`, got the mode and owner
+-- of `stat`, and its bytes reached the disk. Then `name` was confirmed to have the bytes `before`
+-- still, and `fresh` was renamed to `name`, or the rename failed. Or one of the calls before failed
+-- and was the last one, and `r` is the error.
+pub data Fills (name fresh before text : List ℕ) (stat : FileStat) (old new : List Call) :
+    Result Bool ReplaceError → Type 0 where
   filled : (taken seen : List Call) → AppendsAll fresh text old taken true →
-      LooksAgain name stat (synced fresh true ∷ given fresh stat true ∷ taken) seen true →
-      new ≡ renamed fresh name true ∷ seen → Fills name fresh text stat old new (Ok tt)
-  not_taken : AppendsAll fresh text old new false → Fills name fresh text stat old new (Err Write)
+      Confirms name before stat (synced fresh true ∷ given fresh stat true ∷ taken) seen (Ok tt) →
+      new ≡ renamed fresh name true ∷ seen → Fills name fresh before text stat old new (Ok true)
+  not_taken : AppendsAll fresh text old new false →
+      Fills name fresh before text stat old new (Err Write)
   not_given : (taken : List Call) → AppendsAll fresh text old taken true →
-      new ≡ given fresh stat false ∷ taken → Fills name fresh text stat old new (Err Write)
+      new ≡ given fresh stat false ∷ taken → Fills name fresh before text stat old new (Err Write)
   not_synced : (taken : List Call) → AppendsAll fresh text old taken true →
       new ≡ synced fresh false ∷ given fresh stat true ∷ taken →
-      Fills name fresh text stat old new (Err Write)
-  changed : (taken : List Call) → AppendsAll fresh text old taken true →
-      LooksAgain name stat (synced fresh true ∷ given fresh stat true ∷ taken) new false →
-      Fills name fresh text stat old new (Err ChangedMeanwhile)
+      Fills name fresh before text stat old new (Err Write)
+  not_confirmed : (e : ReplaceError) (taken : List Call) → AppendsAll fresh text old taken true →
+      Confirms name before stat (synced fresh true ∷ given fresh stat true ∷ taken) new (Err e) →
+      Fills name fresh before text stat old new (Err e)
   not_renamed : (taken seen : List Call) → AppendsAll fresh text old taken true →
-      LooksAgain name stat (synced fresh true ∷ given fresh stat true ∷ taken) seen true →
-      new ≡ renamed fresh name false ∷ seen → Fills name fresh text stat old new (Err Write)
+      Confirms name before stat (synced fresh true ∷ given fresh stat true ∷ taken) seen (Ok tt) →
+      new ≡ renamed fresh name false ∷ seen → Fills name fresh before text stat old new (Ok false)

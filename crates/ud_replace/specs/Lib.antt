@@ -1,4 +1,5 @@
 pub mod Calls
+pub mod Stats
 pub mod Filling
 pub mod Replacing
 pub mod Moments

@@ -114,26 +114,21 @@ touches (overwrote m text ok) n = bytes_eq n m
 touches (removed m gone) n = bytes_eq n m
 touches (walked w) n = false
 
--- `TookOutput o name fresh old calls`: after `old`, `name` was read, and it still had these bytes
--- once the user was found to be allowed to write into it. Then `fresh` was made, and took all of the
--- output for these bytes. It got the mode of `name`, and its bytes reached the disk. At last `name`
--- was looked at again.
+-- `TookOutput o name fresh old calls`: after `old`, `name` was read, and the user was found to be
+-- allowed to write into it. Then `fresh` was made, and took all of the output for the bytes that
+-- were read. It got the mode and owner of `name`, and its bytes reached the disk. At last `name` was
+-- read again, and it still had the same bytes.
 pub record TookOutput (o : Options) (name fresh : List ℕ) (old calls : List Call) : Type 0 where
   pub text : List ℕ
-  pub first : FileStat
   pub stat : FileStat
-  pub mid : List Call
-  pub confirms : Confirms name text first
-      (asked name true ∷ was_read name text (Some first) ∷ old) mid (Some stat)
   pub outcome : Outcome
   pub has : HasOutcome o text outcome
   pub no_fault : outcome.fault ≡ None
   pub taken : List Call
-  pub took : Takes fresh (made fresh (Ok tt) ∷ mid) outcome.output taken
-  pub seen : FileStat
-  pub calls_are : calls ≡
-      looked name (Some seen) ∷ synced fresh true ∷ given fresh stat true ∷ taken
-  pub version : seen.version ≡ stat.version
+  pub took : Takes fresh (made fresh (Ok tt) ∷ asked name true ∷ was_read name text (Some stat) ∷
+      old) outcome.output taken
+  pub confirms : Confirms name text stat (synced fresh true ∷ given fresh stat true ∷ taken) calls
+      (Ok tt)
 
 -- `TouchesFreshOnly o name fresh old c earlier`: after `earlier`, the call `c` touches no file but
 -- `fresh`. Or it is the rename of `fresh` to `name`, and `fresh` took the whole output.

@@ -2,16 +2,15 @@
 --
 --   Overwrites name before text stat old new r           the output is written into the file
 --   Renames into name fresh before text stat old new r   a file with the output is renamed over it
---   PutsConfirmed into name fresh before text stat old new r   one of the two
---   Puts into name fresh before text stat old new r      the same, if the file is still as it was
+--   Puts into name fresh before text stat old new r      one of the two
 --   Judges o into name fresh text stat old new r         what follows once the file is read
---   Replaces o into name fresh old new r                 all calls of `replace`, which returned `r`
---   PutsConfirmedAt, PutsAt, JudgesAt, ReplacesAt, KeepsAt                the same of a `Target`
+--   Replaces o into id name fresh old new r              all calls of `replace`, which returned `r`
 --   IsOutputOf o text output                             the output of the outcome of a text
---   Keeps o into name fresh old new r output             the same calls, and the output of the text
+--   Keeps o into id name fresh old new r text output     the same calls, the text and the output
+--   RenamesAt, PutsAt, JudgesAt, ReplacesAt, KeepsAt     the same of a `Target`
 --
 -- `old` and `new` are the calls before and after, the newest first.
-use Rattle.std.specs.Prelude.{◌≡◌, ℕ, ◌<◌, ◌≤◌, List, ◌∷◌, Bool, true, false}
+use Rattle.std.specs.Prelude.{◌≡◌, ◌⊎◌, ℕ, ◌<◌, ◌≤◌, List, ◌∷◌, Bool, true, false}
 use Rattle.std.specs.Prelude.{Some, None, Result, Ok, Err}
 use Rattle.ud_model.specs.sections.Items.{Options}
 use Rattle.ud_model.specs.answer.Outcomes.{Outcome, HasOutcome}
@@ -23,72 +22,74 @@ use Rattle.ud_replace.specs.declared.error.ReplaceError.{ReplaceError}
 use Rattle.ud_replace.specs.declared.error.ReplaceError.TheVariants.{Text, Read, OutOfMemory}
 use Rattle.ud_replace.specs.declared.error.ReplaceError.TheVariants.{ReadOnly, SeveralLinks}
 use Rattle.ud_replace.specs.declared.error.ReplaceError.TheVariants.{FolderDenied, HalfWritten}
-use Rattle.ud_replace.specs.declared.error.ReplaceError.TheVariants.{ChangedMeanwhile, Write}
-use Rattle.ud_replace.specs.declared.folder.CreateError.TheVariants.{Denied, Failed}
+use Rattle.ud_replace.specs.declared.error.ReplaceError.TheVariants.{ChangedMeanwhile, Locked}
+use Rattle.ud_replace.specs.declared.error.ReplaceError.TheVariants.{Write, NotRenamed}
+use Rattle.ud_replace.specs.declared.folder.CreateError.TheVariants.{Denied, Taken, Failed}
+use Rattle.ud_replace.specs.declared.node.FileId.{FileId}
 use Rattle.ud_replace.specs.declared.stat.FileStat.{FileStat}
 use Rattle.ud_replace.specs.declared.replacement.Target.{Target}
 use Rattle.ud_replace.specs.Calls.{Call, was_read, asked, made, overwrote, removed}
-use Rattle.ud_replace.specs.Filling.{LooksAgain, Confirms, Fills}
+use Rattle.ud_replace.specs.Stats.{is_of}
+use Rattle.ud_replace.specs.Filling.{Confirms, Fills}
 
--- `Overwrites name before text stat old new r`: the file was looked at again, and its version was
--- that of `stat`. Then `text` was written into it. If that failed, its old bytes `before` were.
+-- `Overwrites name before text stat old new r`: the file was confirmed to have the bytes `before`
+-- still. Then `text` was written into it. If that failed, its old bytes were.
 pub data Overwrites (name before text : List ℕ) (stat : FileStat) (old new : List Call) :
     Result Update ReplaceError → Type 0 where
-  changed_before : LooksAgain name stat old new false →
-      Overwrites name before text stat old new (Err ChangedMeanwhile)
-  written : (seen : List Call) → LooksAgain name stat old seen true →
+  unconfirmed : (e : ReplaceError) → Confirms name before stat old new (Err e) →
+      Overwrites name before text stat old new (Err e)
+  written : (seen : List Call) → Confirms name before stat old seen (Ok tt) →
       new ≡ overwrote name text true ∷ seen →
       Overwrites name before text stat old new (Ok WrittenInto)
-  restored : (seen : List Call) → LooksAgain name stat old seen true →
+  restored : (seen : List Call) → Confirms name before stat old seen (Ok tt) →
       new ≡ overwrote name before true ∷ overwrote name text false ∷ seen →
       Overwrites name before text stat old new (Err Write)
-  spoiled : (seen : List Call) → LooksAgain name stat old seen true →
+  spoiled : (seen : List Call) → Confirms name before stat old seen (Ok tt) →
       new ≡ overwrote name before false ∷ overwrote name text false ∷ seen →
       Overwrites name before text stat old new (Err HalfWritten)
 
 -- `Renames into name fresh before text stat old new r`: the file `fresh` was made, was filled with
 -- `text`, and was renamed to `name`. If that failed, `fresh` was removed. If the folder can't be
--- written, the file is written into, but only if `into`.
+-- written, or the rename failed, the file is written into, but only if `into`.
 pub data Renames (into : Bool) (name fresh before text : List ℕ) (stat : FileStat)
     (old new : List Call) : Result Update ReplaceError → Type 0 where
-  renames : Fills name fresh text stat (made fresh (Ok tt) ∷ old) new (Ok tt) →
+  renames : Fills name fresh before text stat (made fresh (Ok tt) ∷ old) new (Ok true) →
       Renames into name fresh before text stat old new (Ok Replaced)
   removes : (e : ReplaceError) (calls : List Call) (gone : Bool) →
-      Fills name fresh text stat (made fresh (Ok tt) ∷ old) calls (Err e) →
+      Fills name fresh before text stat (made fresh (Ok tt) ∷ old) calls (Err e) →
       new ≡ removed fresh gone ∷ calls → Renames into name fresh before text stat old new (Err e)
+  unrenamed : (calls : List Call) (gone : Bool) → into ≡ false →
+      Fills name fresh before text stat (made fresh (Ok tt) ∷ old) calls (Ok false) →
+      new ≡ removed fresh gone ∷ calls →
+      Renames into name fresh before text stat old new (Err NotRenamed)
+  unrenamed_writes : {r : Result Update ReplaceError} (calls : List Call) (gone : Bool) →
+      into ≡ true → Fills name fresh before text stat (made fresh (Ok tt) ∷ old) calls (Ok false) →
+      Overwrites name before text stat (removed fresh gone ∷ calls) new r →
+      Renames into name fresh before text stat old new r
   not_made : new ≡ made fresh (Err Failed) ∷ old →
       Renames into name fresh before text stat old new (Err Write)
+  locked : new ≡ made fresh (Err Taken) ∷ old →
+      Renames into name fresh before text stat old new (Err Locked)
   denied : into ≡ false → new ≡ made fresh (Err Denied) ∷ old →
       Renames into name fresh before text stat old new (Err FolderDenied)
   denied_writes : {r : Result Update ReplaceError} → into ≡ true →
       Overwrites name before text stat (made fresh (Err Denied) ∷ old) new r →
       Renames into name fresh before text stat old new r
 
--- `PutsConfirmed into name fresh before text stat old new r`: a file with one link is replaced by
--- another one. One with several links is written into, but only if `into`.
-pub data PutsConfirmed (into : Bool) (name fresh before text : List ℕ) (stat : FileStat)
-    (old new : List Call) : Result Update ReplaceError → Type 0 where
-  one_link : {r : Result Update ReplaceError} → stat.links ≤ 1 →
-      Renames into name fresh before text stat old new r →
-      PutsConfirmed into name fresh before text stat old new r
-  several : 1 < stat.links → into ≡ false → new ≡ old →
-      PutsConfirmed into name fresh before text stat old new (Err SeveralLinks)
-  several_writes : {r : Result Update ReplaceError} → 1 < stat.links → into ≡ true →
-      Overwrites name before text stat old new r →
-      PutsConfirmed into name fresh before text stat old new r
-
--- `Puts into name fresh before text stat old new r`: the output was put in the file's place, if the
--- user may write into the file and it then still has the bytes `before`. From here on, what is known
--- of it then counts: the question may give the file another version, as in an overlay file system.
+-- `Puts into name fresh before text stat old new r`: a file with several links is left alone,
+-- unless `into`. Else, if the user may write into the file, one with one link is replaced by another
+-- file, and one with several is written into.
 pub data Puts (into : Bool) (name fresh before text : List ℕ) (stat : FileStat)
     (old new : List Call) : Result Update ReplaceError → Type 0 where
-  read_only : new ≡ asked name false ∷ old →
+  several : 1 < stat.links → into ≡ false → new ≡ old →
+      Puts into name fresh before text stat old new (Err SeveralLinks)
+  read_only : (stat.links ≤ 1) ⊎ (into ≡ true) → new ≡ asked name false ∷ old →
       Puts into name fresh before text stat old new (Err ReadOnly)
-  other_text : Confirms name before stat (asked name true ∷ old) new None →
-      Puts into name fresh before text stat old new (Err ChangedMeanwhile)
-  confirmed : {r : Result Update ReplaceError} (mid : List Call) (seen : FileStat) →
-      Confirms name before stat (asked name true ∷ old) mid (Some seen) →
-      PutsConfirmed into name fresh before text seen mid new r →
+  one_link : {r : Result Update ReplaceError} → stat.links ≤ 1 →
+      Renames into name fresh before text stat (asked name true ∷ old) new r →
+      Puts into name fresh before text stat old new r
+  several_writes : {r : Result Update ReplaceError} → 1 < stat.links → into ≡ true →
+      Overwrites name before text stat (asked name true ∷ old) new r →
       Puts into name fresh before text stat old new r
 
 -- `Judges o into name fresh text stat old new r`: no call was made, unless the outcome of `text`
@@ -104,36 +105,36 @@ pub data Judges (o : Options) (into : Bool) (name fresh text : List ℕ) (stat :
       a.fault ≡ None → a.differs ≡ true → Puts into name fresh text a.output stat old new r →
       Judges o into name fresh text stat old new r
 
--- `Replaces o into name fresh old new r`: the file was read once, and the rest goes by its text.
-pub data Replaces (o : Options) (into : Bool) (name fresh : List ℕ) (old new : List Call) :
-    Result Update ReplaceError → Type 0 where
+-- `Replaces o into id name fresh old new r`: the file was read once, and it was the file `id`. The
+-- rest goes by its text.
+pub data Replaces (o : Options) (into : Bool) (id : FileId) (name fresh : List ℕ)
+    (old new : List Call) : Result Update ReplaceError → Type 0 where
   unread : (text : List ℕ) → new ≡ was_read name text None ∷ old →
-      Replaces o into name fresh old new (Err Read)
+      Replaces o into id name fresh old new (Err Read)
+  other_file : (text : List ℕ) (stat : FileStat) → is_of id stat ≡ false →
+      new ≡ was_read name text (Some stat) ∷ old →
+      Replaces o into id name fresh old new (Err ChangedMeanwhile)
   judged : {r : Result Update ReplaceError} (text : List ℕ) (stat : FileStat) →
+      is_of id stat ≡ true →
       Judges o into name fresh text stat (was_read name text (Some stat) ∷ old) new r →
-      Replaces o into name fresh old new r
+      Replaces o into id name fresh old new r
 
 -- `IsOutputOf o text output`: `output` is that of the outcome of `text`.
 pub data IsOutputOf (o : Options) (text output : List ℕ) : Type 0 where
   output_of : (a : Outcome) → HasOutcome o text a → output ≡ a.output → IsOutputOf o text output
 
--- `Keeps o into name fresh old new r output`: the file was read once, and the rest went by its
--- text. `output` is that of the outcome of this text.
-pub data Keeps (o : Options) (into : Bool) (name fresh : List ℕ) (old new : List Call)
-    (r : Result Update ReplaceError) (output : List ℕ) : Type 0 where
-  keeps : (text : List ℕ) (stat : FileStat) →
+-- `Keeps o into id name fresh old new r text output`: the file `id` was read once, and the rest went
+-- by its `text`. `output` is that of the outcome of this text.
+pub data Keeps (o : Options) (into : Bool) (id : FileId) (name fresh : List ℕ)
+    (old new : List Call) (r : Result Update ReplaceError) (text output : List ℕ) : Type 0 where
+  keeps : (stat : FileStat) → is_of id stat ≡ true →
       Judges o into name fresh text stat (was_read name text (Some stat) ∷ old) new r →
-      IsOutputOf o text output → Keeps o into name fresh old new r output
+      IsOutputOf o text output → Keeps o into id name fresh old new r text output
 
 -- `RenamesAt target before text stat old new r`: the calls of `Renames` for this target.
 abbrev pub RenamesAt : Target → List ℕ → List ℕ → FileStat → List Call → List Call →
     Result Update ReplaceError → Type 0
 RenamesAt t before text = Renames t.write_into t.name.now t.fresh.now before text
-
--- `PutsConfirmedAt target before text stat old new r`: the calls of `PutsConfirmed` for this target.
-abbrev pub PutsConfirmedAt : Target → List ℕ → List ℕ → FileStat → List Call → List Call →
-    Result Update ReplaceError → Type 0
-PutsConfirmedAt t before text = PutsConfirmed t.write_into t.name.now t.fresh.now before text
 
 -- `PutsAt target before text stat old new r`: the calls of `Puts` for this target.
 abbrev pub PutsAt : Target → List ℕ → List ℕ → FileStat → List Call → List Call →
@@ -148,9 +149,9 @@ JudgesAt o t text = Judges o t.write_into t.name.now t.fresh.now text
 -- `ReplacesAt o target old new r`: the calls of `Replaces` for this target.
 abbrev pub ReplacesAt : Options → Target → List Call → List Call →
     Result Update ReplaceError → Type 0
-ReplacesAt o t = Replaces o t.write_into t.name.now t.fresh.now
+ReplacesAt o t = Replaces o t.write_into t.id t.name.now t.fresh.now
 
--- `KeepsAt o target old new r output`: the calls of `Keeps` for this target.
+-- `KeepsAt o target old new r text output`: the calls of `Keeps` for this target.
 abbrev pub KeepsAt : Options → Target → List Call → List Call → Result Update ReplaceError →
-    List ℕ → Type 0
-KeepsAt o t = Keeps o t.write_into t.name.now t.fresh.now
+    List ℕ → List ℕ → Type 0
+KeepsAt o t = Keeps o t.write_into t.id t.name.now t.fresh.now

@@ -37,12 +37,19 @@ pub enum ReplaceError {
     /// The folder can't be written, and writing into the file wasn't allowed.
     #[error("the folder can't be written")]
     FolderDenied,
-    /// The file isn't any more the one that was read.
+    /// The file isn't the one that was found, or has other bytes, another mode, another owner or
+    /// other links than when it was read.
     #[error("the file was changed meanwhile")]
     ChangedMeanwhile,
-    /// The output couldn't be written, or the file couldn't be renamed.
+    /// There is a file of the name for the new one: another run is at this file, or was killed.
+    #[error("another run is at the file")]
+    Locked,
+    /// The output couldn't be written.
     #[error("the file can't be written")]
     Write,
+    /// The new file couldn't be renamed over the file, and writing into it wasn't allowed.
+    #[error("the file can't be replaced")]
+    NotRenamed,
     /// Neither the output nor then the old bytes could be written into the file, which may have a
     /// part of either.
     #[error("the file is half written")]

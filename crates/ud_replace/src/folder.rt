@@ -11,7 +11,9 @@ use crate::stat::FileStat;
 pub enum CreateError {
     /// The user may make no file in the folder, or the file system is read-only.
     Denied,
-    /// There is another reason, such as a file of that name.
+    /// There is a file of that name.
+    Taken,
+    /// There is another reason.
     Failed,
 }
 
@@ -44,7 +46,8 @@ pub trait Folder {
     /// Makes an empty file, which only the user may read and write. Its name must be free.
     ///
     /// # Errors
-    /// `Denied` if the folder can't be written, and else `Failed`. No file was made.
+    /// `Denied` if the folder can't be written, `Taken` if the name isn't free, and else `Failed`. No
+    /// file was made.
     fn create(&mut self, name: &[u8]) -> Result<(), CreateError>
         ensures { history self.new ≡ made name.now result ∷ history self.old };
 

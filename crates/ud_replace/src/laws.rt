@@ -4,24 +4,26 @@ ghost use Rattle.std.specs.Prelude.{◌≡◌, ◌∷◌, List, Result, Option, 
 ghost use Rattle.ud_model.specs.sections.Items.{Options};
 ghost use Rattle.ud_replace.specs.declared.error.Update.{Update};
 ghost use Rattle.ud_replace.specs.declared.error.ReplaceError.{ReplaceError};
+ghost use Rattle.ud_replace.specs.declared.node.FileId.{FileId};
 ghost use Rattle.ud_replace.specs.Calls.{Call};
 ghost use Rattle.ud_replace.specs.Replacing.{Replaces};
 ghost use Rattle.ud_replace.specs.Moments.{Files, AreTrue, EachCall, StaysOldOrNew};
 ghost use Rattle.ud_replace.specs.Moments.{TouchesFreshOnly};
 
 /// Whatever a folder answers, no call but the rename touches a file other than `fresh`. The rename
-/// comes after `fresh` took the whole output. Writing into files isn't allowed here.
+/// comes after `fresh` took the whole output and its bytes reached the disk, and after the file was
+/// read again with the same bytes. Writing into files isn't allowed here.
 pub fn law_one_rename()
-    ensures { (o : Options) (name fresh : List ℕ) (old new : List Call)
-        (r : Result Update ReplaceError) → Replaces o false name fresh old new r →
+    ensures { (o : Options) (id : FileId) (name fresh : List ℕ) (old new : List Call)
+        (r : Result Update ReplaceError) → Replaces o false id name fresh old new r →
         EachCall (TouchesFreshOnly o name fresh old) old new }
 {}
 
 /// If all answers are true, each file has its old bytes or the whole output for them after each
-/// call. A machine that stops between two calls leaves such a state. Writing into files isn't
+/// call. A process that is killed between two calls leaves such a state. Writing into files isn't
 /// allowed here.
 pub fn law_old_or_new()
-    ensures { (o : Options) (f : Files) (name fresh : List ℕ) (old new : List Call)
-        (r : Result Update ReplaceError) → Replaces o false name fresh old new r →
+    ensures { (o : Options) (f : Files) (id : FileId) (name fresh : List ℕ) (old new : List Call)
+        (r : Result Update ReplaceError) → Replaces o false id name fresh old new r →
         AreTrue f new → StaysOldOrNew o name f old new }
 {}

@@ -1,15 +1,16 @@
 //! Replacing one file by the output for it.
 
-ghost use Rattle.std.specs.Prelude.{◌≡◌, List, [], true, false, is_ok};
+ghost use Rattle.std.specs.Prelude.{◌≡◌, ◌<◌, List, [], true, false, is_ok};
 ghost use Rattle.ud_args.specs.Plans.{ForOptionsOf};
 ghost use Rattle.ud_replace.specs.Calls.{Call};
 ghost use Rattle.ud_replace.specs.Filling.{LooksAgain, Confirms, Fills};
-ghost use Rattle.ud_replace.specs.Replacing.{Overwrites, RenamesAt, PutsConfirmedAt, PutsAt, JudgesAt, ReplacesAt};
+ghost use Rattle.ud_replace.specs.Replacing.{Overwrites, RenamesAt, PutsAt, JudgesAt, ReplacesAt};
 ghost use Rattle.ud_replace.specs.Replacing.{IsOutputOf, KeepsAt};
 
 use crate::append::append_all;
 use crate::error::{ReplaceError, Update};
 use crate::folder::{CreateError, Folder};
+use crate::node::FileId;
 use crate::stat::FileStat;
 use std::alloc::Global;
 use ud_args::Plan;
@@ -20,10 +21,13 @@ use ud_engine::{RunFault, Watched, run};
 pub struct Target<'a> {
     /// The file's name.
     pub name: &'a [u8],
-    /// A free name in the same folder, for the file that is made.
+    /// Which file it is.
+    pub id: FileId,
+    /// The name of the file that is made in the same folder. While it is taken, no other run that
+    /// uses the same name replaces the file.
     pub fresh: &'a [u8],
-    /// True if the output may be written into a file that has several links, or whose folder can't
-    /// be written.
+    /// True if the output may be written into a file that has several links, whose folder can't be
+    /// written, or over which no file can be renamed.
     pub write_into: bool,
 }
 
@@ -38,16 +42,17 @@ struct Before<'a> {
 /// Replaces a file by the output for it, as the plan asks.
 ///
 /// The file is read once. If its text has no fault and the output differs, the file `fresh` is
-/// made in the same folder. It takes the output, and the mode and the owner of the file. Then the
-/// file is looked at again, and `fresh` is renamed over it.
+/// made in the same folder. It takes the output, and the mode and the owner of the file, and its
+/// bytes are brought to the disk. Then the file is read again. If it still has the same bytes,
+/// `fresh` is renamed over it.
 ///
-/// So the only call that touches the file is the rename, after every byte of the output was taken
-/// (`law_one_rename`). After each call the file has its old bytes or all of the new ones, if the
-/// answers are true (`law_old_or_new`). Bytes that another program writes into the file between the
-/// last look and the rename are lost.
+/// So the only call that touches the file is the rename, after every byte of the output reached the
+/// disk (`law_one_rename`). After each call the file has its old bytes or all of the new ones, if
+/// the answers are true (`law_old_or_new`). Bytes that another program writes into the file between
+/// the last look and the rename are lost.
 ///
-/// If `write_into` is set, a file that has several links, or whose folder can't be written, is
-/// written into. These two laws don't hold for it.
+/// If `write_into` is set, a file that can't be replaced is written into. These two laws don't hold
+/// for it.
 ///
 /// If the plan lists names, nothing is replaced.
 ///
@@ -55,13 +60,14 @@ struct Before<'a> {
 /// No file is changed, and `fresh` is removed again. Only after `HalfWritten` the file may have any
 /// bytes.
 ///
-/// - `Read` if the file can't be read, and `OutOfMemory` if memory for the output can't be
-///   allocated.
+/// - `Read` if the file can't be read, the first time or again, and `OutOfMemory` if memory for the
+///   output can't be allocated.
 /// - `Text` if the text has a fault.
+/// - `SeveralLinks`, `FolderDenied` and `NotRenamed` if the file could only be written into, and
+///   `write_into` isn't set.
 /// - `ReadOnly` if the user may not write into the file.
-/// - `SeveralLinks` and `FolderDenied` if the file could only be written into, and `write_into`
-///   isn't set.
-/// - `ChangedMeanwhile` if the last look finds no file, or another version than was read.
+/// - `Locked` if there is a file of the name `fresh`.
+/// - `ChangedMeanwhile` if the file isn't `id`, or if it isn't any more as it was read.
 /// - `Write` if another call fails.
 /// - `HalfWritten` if the file was to be written into, and neither the output nor then the old
 ///   bytes could be.
@@ -74,33 +80,39 @@ pub fn replace<F: Folder>(
     ensures calls { ForOptionsOf plan.now (λ o. ReplacesAt o target.now (F.history folder.old)
         (F.history folder.new) result) }
 {
+    let mut text = Vec::new(alloc);
     let mut out = Watched::new(Vec::<u8>::new(alloc));
-    replace_keeping(alloc, plan, folder, target, &mut out)
+    replace_keeping(alloc, plan, folder, target, &mut text, &mut out)
 }
 
-/// Replaces a file as `replace` does, and leaves the output for it in `out`, which is empty before.
-/// The output is that of the text that was read, also if the file is unchanged.
+/// Replaces a file as `replace` does. Leaves its text in `text` and the output for it in `out`, which
+/// are empty before. The output is that of the text that was read, also if the file is unchanged.
 ///
 /// # Errors
-/// As `replace`. Then `out` may have any bytes.
+/// As `replace`. Then `text` and `out` may have any bytes.
 pub fn replace_keeping<F: Folder>(
     alloc: Global,
     plan: &Plan,
     folder: &mut F,
     target: &Target<'_>,
+    text: &mut Vec<u8>,
     out: &mut Watched<Vec<u8>>,
 ) -> Result<Update, ReplaceError>
+    requires unread { text.old.items ≡ [] }
     requires empty { out.old.inner.items ≡ [] }
     requires not_failed { out.old.failed ≡ false }
     ensures calls { ForOptionsOf plan.now (λ o. ReplacesAt o target.now (F.history folder.old)
         (F.history folder.new) result) }
     ensures output { ForOptionsOf plan.now (λ o. is_ok result ≡ true → KeepsAt o target.now
-        (F.history folder.old) (F.history folder.new) result out.new.inner.items) }
+        (F.history folder.old) (F.history folder.new) result text.new.items
+        out.new.inner.items) }
 {
-    let mut text = Vec::new(alloc);
-    match folder.read(target.name, &mut text) {
+    match folder.read(target.name, text) {
         None => Err(ReplaceError::Read),
         Some(stat) => {
+            if !stat.is_of(target.id) {
+                return Err(ReplaceError::ChangedMeanwhile);
+            }
             let text = text.as_slice();
             replace_text(plan, folder, target, &Before { alloc, text, stat }, out)
         }
@@ -142,64 +154,33 @@ fn put<F: Folder>(
     ensures { PutsAt target.now before.now.text.now output.now before.now.stat
         (F.history folder.old) (F.history folder.new) result }
 {
+    if before.stat.links > 1 {
+        return put_into(folder, target, before, output);
+    }
     if !folder.may_write(target.name) {
         return Err(ReplaceError::ReadOnly);
     }
-    match confirm(folder, target.name, before) {
-        None => Err(ReplaceError::ChangedMeanwhile),
-        Some(stat) => {
-            let before = Before { stat, ..*before };
-            put_confirmed(folder, target, &before, output)
-        }
-    }
+    rename_over(folder, target, before, output)
 }
 
-/// Puts the output in the place of a file that was looked at again, or into the file.
-fn put_confirmed<F: Folder>(
+/// Puts the output into a file that has several links.
+fn put_into<F: Folder>(
     folder: &mut F,
     target: &Target<'_>,
     before: &Before<'_>,
     output: &[u8],
 ) -> Result<Update, ReplaceError>
-    ensures { PutsConfirmedAt target.now before.now.text.now output.now before.now.stat
+    requires several { 1 < before.now.stat.links }
+    ensures { PutsAt target.now before.now.text.now output.now before.now.stat
         (F.history folder.old) (F.history folder.new) result }
 {
-    if before.stat.links <= 1 {
-        return rename_over(folder, target, before, output);
-    }
     if !target.write_into {
         return Err(ReplaceError::SeveralLinks);
     }
+    if !folder.may_write(target.name) {
+        return Err(ReplaceError::ReadOnly);
+    }
     overwrite(folder, target.name, before, output)
-}
-
-/// Looks at a file again, and reads it again if its version is another one. Returns what is known of
-/// it now, if it has the same bytes.
-///
-/// To ask whether the user may write into a file may give it another version: an overlay file system
-/// copies it then.
-fn confirm<F: Folder>(
-    folder: &mut F,
-    name: &[u8],
-    before: &Before<'_>,
-) -> Option<FileStat>
-    ensures { Confirms name.now before.now.text.now before.now.stat
-        (F.history folder.old) (F.history folder.new) result }
-{
-    if is_unchanged(folder, name, &before.stat) {
-        return Some(before.stat);
-    }
-    let mut again = Vec::new(before.alloc);
-    match folder.read(name, &mut again) {
-        None => None,
-        Some(seen) => {
-            if again.as_slice() == before.text {
-                Some(seen)
-            } else {
-                None
-            }
-        }
-    }
 }
 
 /// Makes a file with the output, and renames it over the file.
@@ -213,14 +194,23 @@ fn rename_over<F: Folder>(
         (F.history folder.old) (F.history folder.new) result }
 {
     match folder.create(target.fresh) {
-        Ok(()) => match fill(folder, target, &before.stat, output) {
-            Ok(()) => Ok(Update::Replaced),
+        Ok(()) => match fill(folder, target, before, output) {
+            Ok(true) => Ok(Update::Replaced),
+            Ok(false) => {
+                let _gone = folder.remove(target.fresh);
+                if target.write_into {
+                    overwrite(folder, target.name, before, output)
+                } else {
+                    Err(ReplaceError::NotRenamed)
+                }
+            }
             Err(error) => {
                 let _gone = folder.remove(target.fresh);
                 Err(error)
             }
         },
         Err(CreateError::Failed) => Err(ReplaceError::Write),
+        Err(CreateError::Taken) => Err(ReplaceError::Locked),
         Err(CreateError::Denied) => {
             if target.write_into {
                 overwrite(folder, target.name, before, output)
@@ -231,32 +221,33 @@ fn rename_over<F: Folder>(
     }
 }
 
-/// Fills the file that was made with the output, and renames it over the file.
+/// Fills the file that was made with the output, and renames it over the file. Returns whether the
+/// rename was done.
+///
+/// # Errors
+/// As `confirm`. `Write` if the file that was made can't be filled.
 fn fill<F: Folder>(
     folder: &mut F,
     target: &Target<'_>,
-    stat: &FileStat,
+    before: &Before<'_>,
     output: &[u8],
-) -> Result<(), ReplaceError>
-    ensures { Fills target.now.name.now target.now.fresh.now output.now stat.now
-        (F.history folder.old) (F.history folder.new) result }
+) -> Result<bool, ReplaceError>
+    ensures { Fills target.now.name.now target.now.fresh.now before.now.text.now output.now
+        before.now.stat (F.history folder.old) (F.history folder.new) result }
 {
     if !append_all(folder, target.fresh, output) {
         return Err(ReplaceError::Write);
     }
-    if !folder.set_mode_and_owner(target.fresh, stat) {
+    if !folder.set_mode_and_owner(target.fresh, &before.stat) {
         return Err(ReplaceError::Write);
     }
     if !folder.sync(target.fresh) {
         return Err(ReplaceError::Write);
     }
-    if !is_unchanged(folder, target.name, stat) {
-        return Err(ReplaceError::ChangedMeanwhile);
+    match confirm(folder, target.name, before) {
+        Err(error) => Err(error),
+        Ok(()) => Ok(folder.rename(target.fresh, target.name)),
     }
-    if !folder.rename(target.fresh, target.name) {
-        return Err(ReplaceError::Write);
-    }
-    Ok(())
 }
 
 /// Writes the output into the file. If that fails, writes the old bytes into it.
@@ -269,8 +260,8 @@ fn overwrite<F: Folder>(
     ensures { Overwrites name.now before.now.text.now output.now before.now.stat
         (F.history folder.old) (F.history folder.new) result }
 {
-    if !is_unchanged(folder, name, &before.stat) {
-        return Err(ReplaceError::ChangedMeanwhile);
+    if let Err(error) = confirm(folder, name, before) {
+        return Err(error);
     }
     if folder.overwrite(name, output) {
         return Ok(Update::WrittenInto);
@@ -279,6 +270,38 @@ fn overwrite<F: Folder>(
         return Err(ReplaceError::Write);
     }
     Err(ReplaceError::HalfWritten)
+}
+
+/// Reads a file again, and checks that it is as it was: its bytes are compared, since its times may
+/// be those of an older version, and since an overlay file system copies it when it is opened for
+/// writing.
+///
+/// # Errors
+/// `Read` if the file can't be read, and `ChangedMeanwhile` if it isn't as it was.
+fn confirm<F: Folder>(
+    folder: &mut F,
+    name: &[u8],
+    before: &Before<'_>,
+) -> Result<(), ReplaceError>
+    ensures { Confirms name.now before.now.text.now before.now.stat (F.history folder.old)
+        (F.history folder.new) result }
+{
+    let mut again = Vec::new(before.alloc);
+    match folder.read(name, &mut again) {
+        None => Err(ReplaceError::Read),
+        Some(seen) => {
+            if again.as_slice() != before.text {
+                return Err(ReplaceError::ChangedMeanwhile);
+            }
+            if !before.stat.has_facts_of(&seen) {
+                return Err(ReplaceError::ChangedMeanwhile);
+            }
+            if !is_unchanged(folder, name, &seen) {
+                return Err(ReplaceError::ChangedMeanwhile);
+            }
+            Ok(())
+        }
+    }
 }
 
 /// Looks at a file again. Returns whether its version is that of `stat`.

@@ -1,5 +1,10 @@
 //! The facts about a file, without its bytes.
 
+ghost use Rattle.std.specs.Prelude.{◌≡◌};
+ghost use Rattle.ud_replace.specs.Stats.{is_of, has_facts_of};
+
+use crate::node::FileId;
+
 /// A point of time.
 #[derive(Clone, Copy, Debug, PartialEq, Eq)]
 pub struct FileTime {
@@ -37,4 +42,24 @@ pub struct FileStat {
     pub owner: u32,
     /// The number of the group to which the file belongs.
     pub group: u32,
+}
+
+impl FileStat {
+    /// Returns whether these are the facts about the file `id`.
+    pub fn is_of(&self, id: FileId) -> bool
+        ensures { result ≡ is_of id self.now }
+    {
+        self.version.device == id.device && self.version.inode == id.inode
+    }
+
+    /// Returns whether the file that was seen has the mode, the owner, the group and the number of
+    /// links of this one.
+    pub fn has_facts_of(&self, seen: &FileStat) -> bool
+        ensures { result ≡ has_facts_of self.now seen.now }
+    {
+        seen.mode == self.mode
+            && seen.owner == self.owner
+            && seen.group == self.group
+            && seen.links == self.links
+    }
 }

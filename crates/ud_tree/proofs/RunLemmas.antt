@@ -130,10 +130,10 @@ pub writes_unshown : {P : List ℕ → List Call → List Call → Result Update
 writes_unshown out h = record { shown = []; does = λ told. record { does = h; nothing = refl }; sent = sends_none out }
 
 -- The task of the arguments does what they ask for.
-pub done_by : (t : Task) (args : Arguments) (tag : List ℕ) {name : List ℕ} {calls calls' : List Call} {out out' : Stream} {update : Result Update ReplaceError} →
-    args.task ≡ t → WritesOne (DoesBy t args tag) name calls calls' out out' update → WritesOne (DoesOne args tag) name calls calls' out out' update
-done_by t args tag {name = name} {calls = calls} {calls' = calls'} {out = out} {out' = out'} {update = update} is h =
-    subst (λ (u : Task). WritesOne (DoesBy u args tag) name calls calls' out out' update) (sym is) h
+pub done_by : (t : Task) (args : Arguments) {name : List ℕ} {calls calls' : List Call} {out out' : Stream} {update : Result Update ReplaceError} →
+    args.task ≡ t → WritesOne (DoesBy t args) name calls calls' out out' update → WritesOne (DoesOne args) name calls calls' out out' update
+done_by t args {name = name} {calls = calls} {calls' = calls'} {out = out} {out' = out'} {update = update} is h =
+    subst (λ (u : Task). WritesOne (DoesBy u args) name calls calls' out out' update) (sym is) h
 
 -- A list was written, if it is wanted.
 pub writes_list : (args : Arguments) {a b c : Stream} (names rest : List ℕ) → (¬ (args.task ≡ Names) → names ≡ []) → Sends a b names →
@@ -163,7 +163,7 @@ ends job files {old = old} {new = new} {counts = counts} lost unwritten in_walk 
       last = last;
       ends = record {
         results = h.results;
-        each = subst (λ (calls : List Call). EachFile (DoesOne args job.tag.now) old.calls (names_of files) calls h.results) (sym same) h.each;
+        each = subst (λ (calls : List Call). EachFile (DoesOne args) old.calls (names_of files) calls h.results) (sym same) h.each;
         listed = l.listed;
         is_wanted = l.is_wanted;
         shown_is = ap (λ (x : List ℕ). x ++ l.listed) h.shown_is;
@@ -199,8 +199,8 @@ no_files job {old = old} {new = new} plain h same = record {
 }
 
 -- The faults of the walk have another number, which is the same unless it is too large.
-ends_counted : {args : Arguments} {tag : List ℕ} {failed : Bool} {old new : List Call} {names : List (List ℕ)} {shown told last : List ℕ} {status : ℕ} (n m : ℕ) → (m < 2 ^ 64 → n ≡ m) →
-    Ends args tag n failed old names new shown told last status → Ends args tag m failed old names new shown told last status
+ends_counted : {args : Arguments} {failed : Bool} {old new : List Call} {names : List (List ℕ)} {shown told last : List ℕ} {status : ℕ} (n m : ℕ) → (m < 2 ^ 64 → n ≡ m) →
+    Ends args n failed old names new shown told last status → Ends args m failed old names new shown told last status
 ends_counted {failed = failed} n m same h = record {
   results = h.results;
   each = h.each;

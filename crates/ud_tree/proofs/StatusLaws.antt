@@ -35,7 +35,7 @@ none_of (m ∷ ms) is = absurd (omega (arith, is))
 
 -- A run whose status isn't 2 found files, and nothing failed.
 pub run_clean : (run : Run) (shown told last : List ℕ) (status : ℕ) → ¬ (status ≡ 2) → length run.messages + 2 < 2 ^ 64 →
-    IsRun run.args run.tag run.old run.new run.messages run.failed shown told last status → IsClean run
+    IsRun run.args run.old run.new run.messages run.failed shown told last status → IsClean run
 run_clean run _ _ _ _ other few (no_run h stops) = absurd (other refl)
 run_clean run shown told last status other few (ran mid files w t some h) =
     let none : h.faults ≡ 0 = none_by_status run.args.task run.args.plan.settings.exit_mode h.faults (changed_in h.results) status h.status_is other in

@@ -58,50 +58,50 @@ reads_touch : {P : List ℕ → List Call → List Call → FileResult → Type 
 reads_touch w no_file = no_call
 reads_touch w (then_file {mid = mid} {next = next} {name = name} {result = result} h k t) = each_then (reads_touch w h) (read_touches (w name mid next result k))
 
-shows_touch : {plan : PlanState} {old : List Call} {names : List (List ℕ)} {new : List Call} {results : List FileResult} → EachFile (ShowsOne plan) old names new results → EachCall TouchesNothing old new
+shows_touch : {plan : PlanState} {into : Bool} {old : List Call} {names : List (List ℕ)} {new : List Call} {results : List FileResult} → EachFile (ShowsOne plan into) old names new results → EachCall TouchesNothing old new
 shows_touch h = reads_touch (λ name old new result k. k.reads) h
 
 lists_touch : {plan : PlanState} {old : List Call} {names : List (List ℕ)} {new : List Call} {results : List FileResult} → EachFile (Unshown (ListsOne plan)) old names new results → EachCall TouchesNothing old new
 lists_touch h = reads_touch (λ name old new result k. k.does.reads) h
 
-reads_by : (args : Arguments) (tag : List ℕ) (t : Task) → args.task ≡ t → ¬ (t ≡ Replace) → {old : List Call} {names : List (List ℕ)} {new : List Call} {results : List FileResult} →
-    EachFile (DoesBy t args tag) old names new results → EachCall TouchesNothing old new
-reads_by args tag Replace is other h = absurd (other refl)
-reads_by args tag Diff is other h = shows_touch h
-reads_by args tag Names is other h = lists_touch h
+reads_by : (args : Arguments) (t : Task) → args.task ≡ t → ¬ (t ≡ Replace) → {old : List Call} {names : List (List ℕ)} {new : List Call} {results : List FileResult} →
+    EachFile (DoesBy t args) old names new results → EachCall TouchesNothing old new
+reads_by args Replace is other h = absurd (other refl)
+reads_by args Diff is other h = shows_touch h
+reads_by args Names is other h = lists_touch h
 
-pub run_reads : (args : Arguments) (tag : List ℕ) (old new : List Call) (messages : List (List ℕ)) (failed : Bool) (shown told last : List ℕ) (status : ℕ) → ¬ (args.task ≡ Replace) → IsRun args tag old new messages failed shown told last status → EachCall TouchesNothing old new
-run_reads args tag old new messages failed _ _ _ _ other (no_run h stops) = each_at h.are (walk_touches h.calls old)
-run_reads args tag old new messages failed shown told last status other (ran mid files w t some h) = each_then (each_at w.are (walk_touches w.calls old)) (reads_by args tag args.task refl other h.each)
+pub run_reads : (args : Arguments) (old new : List Call) (messages : List (List ℕ)) (failed : Bool) (shown told last : List ℕ) (status : ℕ) → ¬ (args.task ≡ Replace) → IsRun args old new messages failed shown told last status → EachCall TouchesNothing old new
+run_reads args old new messages failed _ _ _ _ other (no_run h stops) = each_at h.are (walk_touches h.calls old)
+run_reads args old new messages failed shown told last status other (ran mid files w t some h) = each_then (each_at w.are (walk_touches w.calls old)) (reads_by args args.task refl other h.each)
 
 -- Replacing a file touches no file but the new one, up to the rename.
-replace_touches : {o : Options} {plan : PlanState} {tag name : List ℕ} {old new : List Call} {update : Result Update ReplaceError} → IsPlanned plan o →
-    ReplacesOne plan false tag name old new update → EachCall (TouchesFreshOrNone o tag) old new
-replace_touches {o = o} {tag = tag} {name = name} {old = old} {new = new} p (replaces r fresh is h) =
+replace_touches : {o : Options} {plan : PlanState} {name : List ℕ} {old new : List Call} {update : Result Update ReplaceError} → IsPlanned plan o →
+    ReplacesOne plan false name old new update → EachCall (TouchesFreshOrNone o) old new
+replace_touches {o = o} {name = name} {old = old} {new = new} p (replaces r id fresh is h) =
     each_weaker (λ c earlier t. inr (name, old, subst (λ (f : List ℕ). TouchesFreshOnly o name f old c earlier) is t))
-    (one_rename o name fresh old new r (h o p))
+    (one_rename o id name fresh old new r (h o p))
 replace_touches p (no_name is) = each_at is no_call
 
-replaces_touch : {o : Options} {plan : PlanState} {tag : List ℕ} {old : List Call} {names : List (List ℕ)} {new : List Call} {results : List FileResult} → IsPlanned plan o →
-    EachFile (Unshown (ReplacesOne plan false tag)) old names new results → EachCall (TouchesFreshOrNone o tag) old new
+replaces_touch : {o : Options} {plan : PlanState} {old : List Call} {names : List (List ℕ)} {new : List Call} {results : List FileResult} → IsPlanned plan o →
+    EachFile (Unshown (ReplacesOne plan false)) old names new results → EachCall (TouchesFreshOrNone o) old new
 replaces_touch p no_file = no_call
 replaces_touch p (then_file h k t) = each_then (replaces_touch p h) (replace_touches p k.does)
 
-nothing_touched : {o : Options} {tag : List ℕ} {old new : List Call} → EachCall TouchesNothing old new → EachCall (TouchesFreshOrNone o tag) old new
+nothing_touched : {o : Options} {old new : List Call} → EachCall TouchesNothing old new → EachCall (TouchesFreshOrNone o) old new
 nothing_touched h = each_weaker (λ c earlier t. inl t) h
 
-replaces_by : {o : Options} (args : Arguments) (tag : List ℕ) (t : Task) → IsPlanned args.plan o → args.write_into ≡ false → {old : List Call} {names : List (List ℕ)} {new : List Call}
-    {results : List FileResult} → EachFile (DoesBy t args tag) old names new results → EachCall (TouchesFreshOrNone o tag) old new
-replaces_by args tag Replace p into {old = old} {names = names} {new = new} {results = results} h =
-    replaces_touch p (subst (λ (b : Bool). EachFile (Unshown (ReplacesOne args.plan b tag)) old names new results) into h)
-replaces_by args tag Diff p into h = nothing_touched (shows_touch h)
-replaces_by args tag Names p into h = nothing_touched (lists_touch h)
+replaces_by : {o : Options} (args : Arguments) (t : Task) → IsPlanned args.plan o → args.write_into ≡ false → {old : List Call} {names : List (List ℕ)} {new : List Call}
+    {results : List FileResult} → EachFile (DoesBy t args) old names new results → EachCall (TouchesFreshOrNone o) old new
+replaces_by args Replace p into {old = old} {names = names} {new = new} {results = results} h =
+    replaces_touch p (subst (λ (b : Bool). EachFile (Unshown (ReplacesOne args.plan b)) old names new results) into h)
+replaces_by args Diff p into h = nothing_touched (shows_touch h)
+replaces_by args Names p into h = nothing_touched (lists_touch h)
 
-pub run_renames : (o : Options) (args : Arguments) (tag : List ℕ) (old new : List Call) (messages : List (List ℕ)) (failed : Bool) (shown told last : List ℕ) (status : ℕ) → IsPlanned args.plan o → args.write_into ≡ false →
-    IsRun args tag old new messages failed shown told last status → EachCall (TouchesFreshOrNone o tag) old new
-run_renames o args tag old new messages failed _ _ _ _ p into (no_run h stops) = nothing_touched (each_at h.are (walk_touches h.calls old))
-run_renames o args tag old new messages failed shown told last status p into (ran mid files w m some h) =
-    each_then (nothing_touched (each_at w.are (walk_touches w.calls old))) (replaces_by args tag args.task p into h.each)
+pub run_renames : (o : Options) (args : Arguments) (old new : List Call) (messages : List (List ℕ)) (failed : Bool) (shown told last : List ℕ) (status : ℕ) → IsPlanned args.plan o → args.write_into ≡ false →
+    IsRun args old new messages failed shown told last status → EachCall (TouchesFreshOrNone o) old new
+run_renames o args old new messages failed _ _ _ _ p into (no_run h stops) = nothing_touched (each_at h.are (walk_touches h.calls old))
+run_renames o args old new messages failed shown told last status p into (ran mid files w m some h) =
+    each_then (nothing_touched (each_at w.are (walk_touches w.calls old))) (replaces_by args args.task p into h.each)
 
 -- Calls that touch nothing leave each file as it is.
 same_after : (c : Call) (f : Files) (n : List ℕ) → ¬ (touches c n ≡ true) → after c f n ≡ f n
@@ -205,17 +205,17 @@ last_is_new names name h inside =
     both (at_k ∙ sym at_end)
 
 -- One file more of a run.
-moments_one : {o : Options} {plan : PlanState} {tag : List ℕ} {first : Files} {old : List Call} {names : List (List ℕ)} {mid next : List Call} {name : List ℕ} {update : Result Update ReplaceError} → IsPlanned plan o →
-    IsNew names name → ReplacesOne plan false tag name mid next update → AreTrue first next → (AreTrue first mid → Moments o first old names mid) → Moments o first old (names ++ name ∷ []) next
-moments_one {o = o} {first = first} {mid = mid} {next = next} {name = name} p fresh_name (replaces r fresh is k) t m =
-    let moments = old_or_new o first name fresh mid next r (k o p) t in
+moments_one : {o : Options} {plan : PlanState} {first : Files} {old : List Call} {names : List (List ℕ)} {mid next : List Call} {name : List ℕ} {update : Result Update ReplaceError} → IsPlanned plan o →
+    IsNew names name → ReplacesOne plan false name mid next update → AreTrue first next → (AreTrue first mid → Moments o first old names mid) → Moments o first old (names ++ name ∷ []) next
+moments_one {o = o} {first = first} {mid = mid} {next = next} {name = name} p fresh_name (replaces r id fresh is k) t m =
+    let moments = old_or_new o first id name fresh mid next r (k o p) t in
     moments_more name fresh_name (m (true_before first moments t)) moments
 moments_one {first = first} {name = name} p fresh_name (no_name is) t m =
     moments_more name fresh_name (m (subst (λ (l : List Call). AreTrue first l) is t)) (each_at is no_call)
 
 -- All files of a run.
-moments_all : {o : Options} {plan : PlanState} {tag : List ℕ} {first : Files} {old start : List Call} {names : List (List ℕ)} {new : List Call} {results : List FileResult} → IsPlanned plan o →
-    EachFile (Unshown (ReplacesOne plan false tag)) start names new results → AllPairs Apart names → AreTrue first new → Moments o first old [] start → Moments o first old names new
+moments_all : {o : Options} {plan : PlanState} {first : Files} {old start : List Call} {names : List (List ℕ)} {new : List Call} {results : List FileResult} → IsPlanned plan o →
+    EachFile (Unshown (ReplacesOne plan false)) start names new results → AllPairs Apart names → AreTrue first new → Moments o first old [] start → Moments o first old names new
 moments_all p no_file apart t m = m
 moments_all p (then_file {names = names} {name = name} h k told) apart t m =
     moments_one p (last_is_new names name apart) k.does t (λ u. moments_all p h (pairs_before names name apart) u m)
@@ -238,33 +238,33 @@ apart_names (f ∷ files) h i j d below within =
     get_or-map (λ (g : Found). string_bytes g.path) (f ∷ files) j f d in_files in
     λ e. not_before_itself (get_or (f ∷ files) i f) (get_or (f ∷ files) j f) (h i j f below in_files) (sym at_i ∙ e ∙ at_j)
 
-moments_by : {o : Options} (args : Arguments) (tag : List ℕ) (t : Task) → IsPlanned args.plan o → args.write_into ≡ false → {first : Files} {old start : List Call} {names : List (List ℕ)} {new : List Call}
-    {results : List FileResult} → AllPairs Apart names → AreTrue first new → Moments o first old [] start → EachFile (DoesBy t args tag) start names new results →
+moments_by : {o : Options} (args : Arguments) (t : Task) → IsPlanned args.plan o → args.write_into ≡ false → {first : Files} {old start : List Call} {names : List (List ℕ)} {new : List Call}
+    {results : List FileResult} → AllPairs Apart names → AreTrue first new → Moments o first old [] start → EachFile (DoesBy t args) start names new results →
     EachCall (λ (c : Call) (earlier : List Call). OldOrOutput o first old (c ∷ earlier)) old new
-moments_by args tag Replace p into {start = start} {names = names} {new = new} {results = results} apart t m h =
-    (moments_all p (subst (λ (b : Bool). EachFile (Unshown (ReplacesOne args.plan b tag)) start names new results) into h) apart t m).each
-moments_by args tag Diff p into apart t m h = (moments_still m (shows_touch h)).each
-moments_by args tag Names p into apart t m h = (moments_still m (lists_touch h)).each
+moments_by args Replace p into {start = start} {names = names} {new = new} {results = results} apart t m h =
+    (moments_all p (subst (λ (b : Bool). EachFile (Unshown (ReplacesOne args.plan b)) start names new results) into h) apart t m).each
+moments_by args Diff p into apart t m h = (moments_still m (shows_touch h)).each
+moments_by args Names p into apart t m h = (moments_still m (lists_touch h)).each
 
-pub run_old_or_new : (o : Options) (args : Arguments) (tag : List ℕ) (first : Files) (old new : List Call) (messages : List (List ℕ)) (failed : Bool) (shown told last : List ℕ) (status : ℕ) → IsPlanned args.plan o → args.write_into ≡ false →
-    IsRun args tag old new messages failed shown told last status → AreTrue first new → EachCall (λ (c : Call) (earlier : List Call). OldOrOutput o first old (c ∷ earlier)) old new
-run_old_or_new o args tag first old new messages failed _ _ _ _ p into (no_run h stops) t =
+pub run_old_or_new : (o : Options) (args : Arguments) (first : Files) (old new : List Call) (messages : List (List ℕ)) (failed : Bool) (shown told last : List ℕ) (status : ℕ) → IsPlanned args.plan o → args.write_into ≡ false →
+    IsRun args old new messages failed shown told last status → AreTrue first new → EachCall (λ (c : Call) (earlier : List Call). OldOrOutput o first old (c ∷ earlier)) old new
+run_old_or_new o args first old new messages failed _ _ _ _ p into (no_run h stops) t =
     (moments_still (moments_none o first old) (each_at h.are (walk_touches h.calls old))).each
-run_old_or_new o args tag first old new messages failed shown told last status p into (ran mid files w m some h) t =
-    moments_by args tag args.task p into (apart_names files w.ascend) t
+run_old_or_new o args first old new messages failed shown told last status p into (ran mid files w m some h) t =
+    moments_by args args.task p into (apart_names files w.ascend) t
     (moments_still (moments_none o first old) (each_at w.are (walk_touches w.calls old))) h.each
 
 -- The diffs of the files of a run, for one choice of options.
-each_shows : {o : Options} {plan : PlanState} {old : List Call} {names : List (List ℕ)} {new : List Call} {results : List FileResult} → IsPlanned plan o →
-    EachFile (ShowsOne plan) old names new results → EachFile (ShowsAs o) old names new results
+each_shows : {o : Options} {plan : PlanState} {into : Bool} {old : List Call} {names : List (List ℕ)} {new : List Call} {results : List FileResult} → IsPlanned plan o →
+    EachFile (ShowsOne plan into) old names new results → EachFile (ShowsAs o into) old names new results
 each_shows p no_file = no_file
 each_shows {o = o} p (then_file h k t) = then_file (each_shows p h) (k.shows o p) t
 
 -- A run that only shows what would change shows the diffs.
 pub run_shows : (o : Options) (run : Run) → IsPlanned run.args.plan o → run.args.task ≡ Diff → (shown told last : List ℕ) (status : ℕ) → run.shown ≡ shown →
-    IsRun run.args run.tag run.old run.new run.messages run.failed shown told last status → ShowsDiffs o run
+    IsRun run.args run.old run.new run.messages run.failed shown told last status → ShowsDiffs o run
 run_shows o run p diff _ _ _ _ e (no_run h stops) = no_diff (record { calls = h.calls; are = h.are }) e
 run_shows o run p diff shown told last status e (ran mid files w m some h) =
     diffs mid files h.results h.listed w
-    (each_shows p (subst (λ (t : Task). EachFile (DoesBy t run.args run.tag) mid (names_of files) run.new h.results) diff h.each))
+    (each_shows p (subst (λ (t : Task). EachFile (DoesBy t run.args) mid (names_of files) run.new h.results) diff h.each))
     (e ∙ h.shown_is) (h.is_wanted (λ names. absurd cc))

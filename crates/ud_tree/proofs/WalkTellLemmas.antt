@@ -1,5 +1,5 @@
 -- The messages of parts of a walk, one after another.
-use Rattle.std.proofs.Common.{◌≡◌, ◌⊎◌, inl, inr, ⊎_elim, ◌==◌, true≢false, ℕ, ◌+◌, ◌<◌, ◌≤◌, ◌-◌, ◌^◌, min, List, [], ◌∷◌, ◌++◌, length, map, Bool, true, false, None, Some, refl, sym, ap, ◌∙◌, subst, arith, append_assoc, append-nil, codes, length-append}
+use Rattle.std.proofs.Common.{◌≡◌, ◌⊎◌, inl, inr, ⊎_elim, ◌==◌, true≢false, ℕ, ◌+◌, ◌<◌, ◌≤◌, ◌-◌, ◌^◌, min, List, [], ◌∷◌, ◌++◌, length, take, map, Bool, true, false, None, Some, refl, sym, ap, ◌∙◌, subst, arith, append_assoc, append-nil, codes, length-append}
 use Rattle.std.proofs.lemmas.Bool.{cases_lt}
 use Rattle.std.proofs.lemmas.List.{map-append}
 use Rattle.std.proofs.lemmas.Grind.{flat_map-append}
@@ -9,7 +9,8 @@ use Rattle.ud_replace.specs.declared.node.NodeKind.TheVariants.{File, Link, Othe
 use Rattle.ud_replace.specs.declared.node.Node.{Node}
 use Rattle.ud_replace.specs.Calls.{Call, walked, WalkCall, met, followed, listed}
 use Rattle.ud_tree.specs.declared.report.Report.{Report}
-use Rattle.ud_tree.specs.Messages.{fault_line, IsFailureOf, no_reason, with_reason, Tells, ReportsOne, ReportsFailure}
+use Rattle.ud_tree.specs.Paths.{folder_len, fresh_end, fresh_name}
+use Rattle.ud_tree.specs.Messages.{locked_line, fault_line, IsFailureOf, no_reason, with_reason, Tells, ReportsOne, ReportsFailure}
 use Rattle.ud_tree.specs.Streams.{Stream}
 use Rattle.ud_tree.specs.Summaries.{line_of}
 use Rattle.ud_tree.specs.WalkMessages.{is_refused, is_missing, is_unknown, is_unread, IsRemark, is_link, is_other, is_no_text, no_input, AreTold, none_told, then_answered, then_refused, then_remark, joined, ReportsRefusal, ReportsWalk, no_memory, bad_path, no_match, StopsWalk}
@@ -47,6 +48,18 @@ fault_in_reported folder name text same hidden more faults h = line_reported (fo
   where
     joins : folder ++ (name ++ (codes ": " ++ (text ++ []))) ≡ ((folder ++ name) ++ codes ": ") ++ text
     joins = simp (append_assoc, append-nil)
+
+-- The line of a file that another run replaces was written, from its parts.
+pub locked_reported : {a b c : Report} {s t : Stream} (name : List ℕ) (folder end : List ℕ) → b.is_terminal ≡ a.is_terminal → b.is_shown ≡ a.is_shown →
+    b.faulty ≡ min (a.faulty + 1) (2 ^ 64 - 1) → c.faulty ≡ b.faulty → folder ≡ take (folder_len name) name → end ≡ fresh_end name →
+    Tells b c s t (line_of (name ++ (codes ": " ++ (codes "Another run is at it; if none is, remove " ++ (folder ++ (codes ".unifdef-tree." ++ (end ++ []))))))) →
+    Tells a c s t (locked_line name)
+locked_reported name folder end same hidden more faults is ends h =
+    (line_reported name (codes "Another run is at it; if none is, remove " ++ fresh_name name) joins same hidden more faults h).tells
+  where
+    joins : name ++ (codes ": " ++ (codes "Another run is at it; if none is, remove " ++ (folder ++ (codes ".unifdef-tree." ++ (end ++ []))))) ≡
+        (name ++ codes ": ") ++ (codes "Another run is at it; if none is, remove " ++ fresh_name name)
+    joins = rw (is, ends) (simp (append_assoc, append-nil))
 
 -- The line of a fault with a reason was written, from its parts.
 pub failure_reported : {a b c : Report} {s t : Stream} (name text why : List ℕ) → b.is_terminal ≡ a.is_terminal → b.is_shown ≡ a.is_shown → b.faulty ≡ min (a.faulty + 1) (2 ^ 64 - 1) →

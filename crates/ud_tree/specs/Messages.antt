@@ -2,6 +2,7 @@
 --
 --   fault_line name text             the line with the fault `text` of a path
 --   IsFailureOf name text message    that line, or the same with a reason
+--   locked_line name                 the line of a file that another run replaces
 --   IsMessageOf name e message       the message of the error of a file
 --   IsTold name update told          that message if the file has an error, and else nothing
 --   list_message, write_message      the messages of the faults of the output
@@ -23,8 +24,10 @@ use Rattle.ud_replace.specs.declared.error.ReplaceError.{ReplaceError}
 use Rattle.ud_replace.specs.declared.error.ReplaceError.TheVariants.{Text, Read, OutOfMemory}
 use Rattle.ud_replace.specs.declared.error.ReplaceError.TheVariants.{ReadOnly, SeveralLinks}
 use Rattle.ud_replace.specs.declared.error.ReplaceError.TheVariants.{FolderDenied, HalfWritten}
-use Rattle.ud_replace.specs.declared.error.ReplaceError.TheVariants.{ChangedMeanwhile, Write}
+use Rattle.ud_replace.specs.declared.error.ReplaceError.TheVariants.{ChangedMeanwhile, Locked}
+use Rattle.ud_replace.specs.declared.error.ReplaceError.TheVariants.{Write, NotRenamed}
 use Rattle.ud_tree.specs.declared.report.Report.{Report}
+use Rattle.ud_tree.specs.Paths.{fresh_name}
 use Rattle.ud_tree.specs.Streams.{Stream, Sends}
 use Rattle.ud_tree.specs.Summaries.{line_of}
 
@@ -39,6 +42,11 @@ pub data IsFailureOf (name text message : List ℕ) : Type 0 where
   with_reason : (reason : List ℕ) → message ≡ fault_line name (text ++ codes ": " ++ reason) →
       IsFailureOf name text message
 
+-- `locked_line name`: the line of a file beside which there is one of another run. It names that one.
+abbrev pub locked_line : List ℕ → List ℕ
+locked_line name = fault_line name (codes "Another run is at it; if none is, remove " ++
+    fresh_name name)
+
 -- `IsMessageOf name e message`: `message` is that of the error `e` of the file `name`. A fault of
 -- its text has the message of unifdef.
 abbrev pub IsMessageOf : List ℕ → ReplaceError → List ℕ → Type 0
@@ -51,7 +59,10 @@ IsMessageOf name SeveralLinks message =
 IsMessageOf name FolderDenied message =
     message ≡ fault_line name (codes "Its folder can't be written; -w writes into the file")
 IsMessageOf name ChangedMeanwhile message = message ≡ fault_line name (codes "Changed meanwhile")
+IsMessageOf name Locked message = message ≡ locked_line name
 IsMessageOf name Write message = IsFailureOf name (codes "Cannot be written") message
+IsMessageOf name NotRenamed message =
+    IsFailureOf name (codes "Cannot be replaced; -w writes into it") message
 IsMessageOf name HalfWritten message = IsFailureOf name (codes "Half written") message
 
 -- `IsTold name update told`: `told` is the message of the error of the file `name`, and empty if it

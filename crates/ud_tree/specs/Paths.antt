@@ -2,11 +2,12 @@
 --
 --   folder_len path       the index after the last slash of a path
 --   last_name path        the bytes after its last slash
---   fresh_name tag path   the name of a new file in the same folder
+--   fresh_end path        what the name of a new file ends in
+--   fresh_name path       the name of a new file in the same folder
 --
--- Example: beside `src/a.c` the run with the tag `7.5` makes the file `src/.unifdef-tree.7.5`.
+-- Example: beside `src/a.c` a run makes the file `src/.unifdef-tree.a.c`.
 use Rattle.std.specs.Prelude.{ℕ, suc, List, [], ◌∷◌, ◌++◌, take, drop, ◌==◌, ◌||◌, codes}
-use Rattle.std.specs.Prelude.{if◌then◌else◌, nat_lt}
+use Rattle.std.specs.Prelude.{if◌then◌else◌, length, nat_lt}
 
 -- `slash`: the byte between the names of a path.
 abbrev pub slash : ℕ
@@ -23,6 +24,11 @@ folder_len (b ∷ rest) = if b == slash || nat_lt 0 (folder_len rest) then suc (
 abbrev pub last_name : List ℕ → List ℕ
 last_name path = drop (folder_len path) path
 
--- `fresh_name tag path`: the folder of `path`, and in it a name that ends in `tag`.
-abbrev pub fresh_name : List ℕ → List ℕ → List ℕ
-fresh_name tag path = take (folder_len path) path ++ codes ".unifdef-tree." ++ tag
+-- `fresh_end path`: the last name of `path`, or `long` if no name could hold more bytes before it.
+abbrev pub fresh_end : List ℕ → List ℕ
+fresh_end path = if nat_lt 240 (length (last_name path)) then codes "long" else last_name path
+
+-- `fresh_name path`: the folder of `path`, and in it a name that ends in that of `path`.
+abbrev pub fresh_name : List ℕ → List ℕ
+fresh_name path = take (folder_len path) path ++ codes ".unifdef-tree." ++
+    fresh_end path

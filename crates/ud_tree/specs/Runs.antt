@@ -3,7 +3,7 @@
 --   ReadsOne name old new   a file was read, and nothing else was asked
 --   fate_of r               what became of a file, by the result of replacing it
 --   IsPlanned plan o        `o` has the settings and the symbols of a plan
---   ReplacesOne plan into tag name old new update   a file was replaced, or its name took no memory
+--   ReplacesOne plan into name old new update   a file was replaced, or its name took no memory
 --   FileResult              the result of a file, and what is written of it
 --   Unshown P name old new result   `P` holds of a file, of which nothing is written to the output
 --   EachFile P old names new results   `P` holds of each file in turn, and nothing else was asked
@@ -25,6 +25,7 @@ use Rattle.ud_replace.specs.declared.error.Update.{Update}
 use Rattle.ud_replace.specs.declared.error.Update.TheVariants.{Unchanged, Replaced, WrittenInto}
 use Rattle.ud_replace.specs.declared.error.ReplaceError.{ReplaceError}
 use Rattle.ud_replace.specs.declared.error.ReplaceError.TheVariants.{OutOfMemory}
+use Rattle.ud_replace.specs.declared.node.FileId.{FileId}
 use Rattle.ud_replace.specs.declared.stat.FileStat.{FileStat}
 use Rattle.ud_replace.specs.Calls.{Call, was_read}
 use Rattle.ud_replace.specs.Replacing.{Replaces}
@@ -53,15 +54,16 @@ pub record IsPlanned (plan : PlanState) (o : Options) : Type 0 where
   pub settings : o.settings ≡ plan.settings
   pub table : TableRepresents plan.symbols o.table
 
--- `ReplacesOne plan into tag name old new update`: the calls are those that replace the file
--- `name`, by the help of one whose name ends in `tag`, and `update` is their result. Or memory for
--- that name couldn't be allocated, and nothing was asked.
-pub data ReplacesOne (plan : PlanState) (into : Bool) (tag name : List ℕ) (old new : List Call) :
+-- `ReplacesOne plan into name old new update`: the calls are those that replace the file
+-- `name`, by the help of a new one, and `update` is their result. It is some file that the walk met.
+-- Or memory for the new name couldn't be allocated, and nothing was asked.
+pub data ReplacesOne (plan : PlanState) (into : Bool) (name : List ℕ) (old new : List Call) :
     Result Update ReplaceError → Type 0 where
-  replaces : (r : Result Update ReplaceError) (fresh : List ℕ) → fresh ≡ fresh_name tag name →
-      ((o : Options) → IsPlanned plan o → Replaces o into name fresh old new r) →
-      ReplacesOne plan into tag name old new r
-  no_name : new ≡ old → ReplacesOne plan into tag name old new (Err OutOfMemory)
+  replaces : (r : Result Update ReplaceError) (id : FileId) (fresh : List ℕ) →
+      fresh ≡ fresh_name name →
+      ((o : Options) → IsPlanned plan o → Replaces o into id name fresh old new r) →
+      ReplacesOne plan into name old new r
+  no_name : new ≡ old → ReplacesOne plan into name old new (Err OutOfMemory)
 
 -- `FileResult`: the result of a file, and the bytes that are written of it to the output and to the
 -- error stream.

@@ -1,8 +1,8 @@
 -- TreeDiffs: what a run writes that only shows what would change.
 --
---   ShowsAs o name old new result   a file was read, and its diff is shown
---   ShowsDiffs o run                the diffs of the files of a run, in order
-use Rattle.std.specs.Prelude.{◌≡◌, ℕ, List, [], ◌++◌, false}
+--   ShowsAs o into name old new result   a file was read, and its diff is shown
+--   ShowsDiffs o run                     the diffs of the files of a run, in order
+use Rattle.std.specs.Prelude.{◌≡◌, ℕ, List, [], ◌++◌, Bool, false}
 use Rattle.ud_model.specs.sections.Items.{Options}
 use Rattle.ud_replace.specs.Calls.{Call}
 use Rattle.ud_tree.specs.declared.walk.Found.{Found}
@@ -11,16 +11,17 @@ use Rattle.ud_tree.specs.Shown.{ShowsFile}
 use Rattle.ud_tree.specs.TreeRuns.{Run}
 use Rattle.ud_tree.specs.Walks.{WalksOnly, IsWalk}
 
--- `ShowsAs o name old new result`: the file `name` was read, and what is shown of it is its diff if
--- its output differs.
-abbrev pub ShowsAs : Options → List ℕ → List Call → List Call → FileResult → Type 0
-ShowsAs o name old new result = ShowsFile o name old new result.update result.shown
+-- `ShowsAs o into name old new result`: the file `name` was read, and what is shown of it is its diff
+-- if a run would change it.
+abbrev pub ShowsAs : Options → Bool → List ℕ → List Call → List Call → FileResult → Type 0
+ShowsAs o into name old new result = ShowsFile o into name old new result.update result.shown
 
 -- `ShowsDiffs o run`: no file was read, and nothing is shown. Or a walk found some files, each was
 -- read once, and their diffs are shown in the same order. A list follows, if one is wanted.
 pub data ShowsDiffs (o : Options) (run : Run) : Type 0 where
   no_diff : WalksOnly run.old run.new → run.shown ≡ [] → ShowsDiffs o run
   diffs : (mid : List Call) (files : List Found) (results : List FileResult) (listed : List ℕ) →
-      IsWalk run.old mid files → EachFile (ShowsAs o) mid (names_of files) run.new results →
+      IsWalk run.old mid files →
+      EachFile (ShowsAs o run.args.write_into) mid (names_of files) run.new results →
       run.shown ≡ shown_of results ++ listed →
       (run.args.list_remaining ≡ false → listed ≡ []) → ShowsDiffs o run

@@ -1,7 +1,7 @@
 -- TreeMoments: what the calls of a whole run do to the files.
 --
 --   TouchesNothing c earlier            a call touches no file
---   TouchesFreshOrNone o tag c earlier  a call touches no file, but for that of a replacement
+--   TouchesFreshOrNone o c earlier  a call touches no file, but for that of a replacement
 --   OldOrOutput o first old calls       each file has its old bytes, or the output for them
 --   LeavesOldOrOutput o first old c earlier   each file has them after the call `c`
 use Rattle.std.specs.Prelude.{◌≡◌, ◌⊎◌, ℕ, List, ◌∷◌, true, Some}
@@ -14,13 +14,13 @@ use Rattle.ud_tree.specs.Paths.{fresh_name}
 abbrev pub TouchesNothing : Call → List Call → Type 0
 TouchesNothing c earlier = (n : List ℕ) → ¬ (touches c n ≡ true)
 
--- `TouchesFreshOrNone o tag c earlier`: the call `c` touches no file. Or it is one that replaces
+-- `TouchesFreshOrNone o c earlier`: the call `c` touches no file. Or it is one that replaces
 -- some file: it touches the new file beside that one alone, or it is the rename.
-abbrev pub TouchesFreshOrNone : Options → List ℕ → Call → List Call → Type 0
-TouchesFreshOrNone o tag c earlier =
+abbrev pub TouchesFreshOrNone : Options → Call → List Call → Type 0
+TouchesFreshOrNone o c earlier =
     TouchesNothing c earlier
     ⊎ ((name : List ℕ) × (start : List Call) ×
-    TouchesFreshOnly o name (fresh_name tag name) start c earlier)
+    TouchesFreshOnly o name (fresh_name name) start c earlier)
 
 -- `OldOrOutput o first old calls`: each file that there was after `old` has the same bytes after
 -- `calls`, or the output for them.

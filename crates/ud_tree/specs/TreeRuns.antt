@@ -1,11 +1,11 @@
 -- TreeRuns: what a run over a tree asks for, and its status.
 --
---   DoesBy task args tag name old new result   what a task does with a file
---   DoesOne args tag name old new result       what the arguments ask for is done with a file
---   Ends args tag in_walk failed old names new shown told last status   all files are processed
+--   DoesBy task args name old new result   what a task does with a file
+--   DoesOne args name old new result       what the arguments ask for is done with a file
+--   Ends args in_walk failed old names new shown told last status   all files are processed
 --   DoesJob job files before report after report' counts   the same for all files
 --   EndsWriting job in_walk before files after status   the same, and all was written
---   IsRun args tag old new messages failed shown told last status   a whole run
+--   IsRun args old new messages failed shown told last status   a whole run
 --   Run, IsRunOf run                           its arguments, calls, output and status
 --   IsClean run                                a run in which nothing failed
 --   RunsTree job before after status           a whole run, and all of that was written
@@ -35,36 +35,35 @@ use Rattle.ud_tree.specs.Walks.{IsWalk}
 use Rattle.ud_tree.specs.WalkMessages.{WalkTells, joined, Stops}
 use Rattle.ud_tree.specs.Statuses.{tree_status}
 
--- `DoesBy task args tag name old new result`: the file `name` is replaced, shown or listed, by the
+-- `DoesBy task args name old new result`: the file `name` is replaced, shown or listed, by the
 -- task.
-abbrev pub DoesBy : Task → Arguments → List ℕ → List ℕ → List Call → List Call → FileResult →
-    Type 0
-DoesBy Replace args tag = Unshown (ReplacesOne args.plan args.write_into tag)
-DoesBy Diff args tag = ShowsOne args.plan
-DoesBy Names args tag = Unshown (ListsOne args.plan)
+abbrev pub DoesBy : Task → Arguments → List ℕ → List Call → List Call → FileResult → Type 0
+DoesBy Replace args = Unshown (ReplacesOne args.plan args.write_into)
+DoesBy Diff args = ShowsOne args.plan args.write_into
+DoesBy Names args = Unshown (ListsOne args.plan)
 
--- `DoesOne args tag name old new result`: what the arguments ask for is done with the file `name`.
-abbrev pub DoesOne : Arguments → List ℕ → List ℕ → List Call → List Call → FileResult → Type 0
-DoesOne args tag = DoesBy args.task args tag
+-- `DoesOne args name old new result`: what the arguments ask for is done with the file `name`.
+abbrev pub DoesOne : Arguments → List ℕ → List Call → List Call → FileResult → Type 0
+DoesOne args = DoesBy args.task args
 
 -- `DoesJob job files before report after report' counts`: what the arguments ask for is done with
 -- each file in turn, and what is shown and told of them was written.
 abbrev pub DoesJob : Job → List Found → Moment → Report → Moment → Report → Counts → Type 0
 DoesJob job files before report after report' counts =
-    WritesAll (DoesOne job.arguments.now job.tag.now) before (names_of files) report after report'
+    WritesAll (DoesOne job.arguments.now) before (names_of files) report after report'
     counts
 
--- `Ends args tag in_walk failed old names new shown told last status`: it is done with each file in
+-- `Ends args in_walk failed old names new shown told last status`: it is done with each file in
 -- turn. What is shown of them comes first, and then a list, if one is wanted. The status is that of
 -- some number of faults, at least one for each faulty file, and of the number of changed files. The
 -- last lines have the same numbers. The messages of the faulty files come first, then those about
 -- the output, which has one if it has failed, and then the last lines. There is one fault for each
 -- message, and for each of the walk.
-pub record Ends (args : Arguments) (tag : List ℕ) (in_walk : ℕ) (failed : Bool)
+pub record Ends (args : Arguments) (in_walk : ℕ) (failed : Bool)
     (old : List Call) (names : List (List ℕ)) (new : List Call) (shown told last : List ℕ)
     (status : ℕ) : Type 0 where
   pub results : List FileResult
-  pub each : EachFile (DoesOne args tag) old names new results
+  pub each : EachFile (DoesOne args) old names new results
   pub listed : List ℕ
   pub is_wanted : ¬ (args.task ≡ Names) → args.list_remaining ≡ false → listed ≡ []
   pub shown_is : shown ≡ shown_of results ++ listed
@@ -88,32 +87,31 @@ pub record EndsWriting (job : Job) (in_walk : ℕ) (before : Moment) (files : Li
   pub shown : List ℕ
   pub told : List ℕ
   pub last : List ℕ
-  pub ends : Ends job.arguments.now job.tag.now in_walk after.out.failed before.calls
+  pub ends : Ends job.arguments.now in_walk after.out.failed before.calls
       (names_of files) after.calls shown told last status
   pub sent : Sends before.out after.out shown
   pub ended : EndsWith after.err last
   pub tells : job.is_terminal ≡ false → Sends before.err after.err told
 
--- `IsRun args tag old new messages failed shown told last status`: only calls of a walk were made,
+-- `IsRun args old new messages failed shown told last status`: only calls of a walk were made,
 -- which have these messages. There is a reason why no file follows, nothing is shown, and the
 -- status is 2. Or the walk found some files, at least one if paths are those of the command line,
 -- and the run ends after them.
-pub data IsRun (args : Arguments) (tag : List ℕ) (old new : List Call)
+pub data IsRun (args : Arguments) (old new : List Call)
     (messages : List (List ℕ)) (failed : Bool) : List ℕ → List ℕ → List ℕ → ℕ → Type 0 where
   no_run : {told : List ℕ} → WalkTells old new messages → Stops args.from_input messages told →
-      IsRun args tag old new messages failed [] told [] 2
+      IsRun args old new messages failed [] told [] 2
   ran : {shown told last : List ℕ} {status : ℕ} (mid : List Call) (files : List Found) →
       IsWalk old mid files → WalkTells old mid messages →
       (args.from_input ≡ false → 0 < length files) →
-      Ends args tag (length messages) failed mid (names_of files) new shown told last status →
-      IsRun args tag old new messages failed shown told last status
+      Ends args (length messages) failed mid (names_of files) new shown told last status →
+      IsRun args old new messages failed shown told last status
 
 -- `Run`: the arguments of a run, the end of the names of its new files, the calls before and after
 -- it, the messages of the walk, whether the output has failed, what is to be written to it, to the
 -- error stream after the walk, and last, and the status.
 pub record Run : Type 0 where
   pub args : Arguments
-  pub tag : List ℕ
   pub old : List Call
   pub new : List Call
   pub messages : List (List ℕ)
@@ -125,7 +123,7 @@ pub record Run : Type 0 where
 
 -- `IsRunOf run`: `run` is a whole run.
 abbrev pub IsRunOf : Run → Type 0
-IsRunOf run = IsRun run.args run.tag run.old run.new run.messages run.failed run.shown run.told
+IsRunOf run = IsRun run.args run.old run.new run.messages run.failed run.shown run.told
     run.last run.status
 
 -- `IsClean run`: a whole walk has no message, none of its files has an error, and the output hasn't
@@ -136,7 +134,7 @@ pub record IsClean (run : Run) : Type 0 where
   pub results : List FileResult
   pub is_walk : IsWalk run.old mid files
   pub untold : WalkTells run.old mid []
-  pub each : EachFile (DoesOne run.args run.tag) mid (names_of files) run.new results
+  pub each : EachFile (DoesOne run.args) mid (names_of files) run.new results
   pub faultless : faulty_in results ≡ 0
   pub unfailed : run.failed ≡ false
 
@@ -148,7 +146,7 @@ pub record RunsTree (job : Job) (before after : Moment) (status : ℕ) : Type 0 
   pub shown : List ℕ
   pub told : List ℕ
   pub last : List ℕ
-  pub is_run : IsRun job.arguments.now job.tag.now before.calls after.calls messages
+  pub is_run : IsRun job.arguments.now before.calls after.calls messages
       after.out.failed shown told last status
   pub sent : Sends before.out after.out shown
   pub ended : EndsWith after.err last

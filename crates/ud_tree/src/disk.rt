@@ -112,17 +112,45 @@ fn look_at<R: Files>(files: &R, name: &[u8]) -> io::Result<FileStat> {
     stat_of(&files.symlink_metadata(text_of(name)?)?)
 }
 
-/// Reads a regular file, and returns what was known of it before.
+/// Returns the error of a file that isn't the one that was expected under its name.
+fn other_file() -> io::Error {
+    io::Error::from(ErrorKind::ResourceBusy)
+}
+
+/// Returns whether both are of the same file.
+fn same_file(one: &Metadata, other: &Metadata) -> bool {
+    one.dev() == other.dev() && one.ino() == other.ino()
+}
+
+/// Reads a regular file, and returns what was known of it before. The file that was opened is the
+/// one that was looked at, also if its name is that of another file meanwhile.
 fn read_file<R: Files>(files: &R, name: &[u8], text: &mut Vec<u8>) -> io::Result<FileStat> {
-    let stat = look_at(files, name)?;
-    let mut file = fs::open(files, text_of(name)?)?;
+    let path = text_of(name)?;
+    let found = files.symlink_metadata(path)?;
+    let stat = stat_of(&found)?;
+    let mut file = fs::open(files, path)?;
+    if !same_file(&file.metadata()?, &found) {
+        return Err(other_file());
+    }
     file.read_to_end(text)?;
     Ok(stat)
 }
 
-/// Opens a file for writing, and leaves its bytes as they are.
+/// Opens a regular file for writing, and leaves its bytes as they are. To open a pipe for writing
+/// alone would wait for a reader, so the file is opened for both.
 fn open_to_write<R: Files>(files: &R, name: &[u8]) -> io::Result<R::File> {
-    OpenOptions::new().write(true).open(files, text_of(name)?)
+    let path = text_of(name)?;
+    let found = files.symlink_metadata(path)?;
+    let _ = stat_of(&found)?;
+    let file = OpenOptions::new().read(true).write(true).open(files, path)?;
+    if !same_file(&file.metadata()?, &found) {
+        // An overlay file system copies a file when it is opened for writing.
+        let now = files.symlink_metadata(path)?;
+        if !same_file(&file.metadata()?, &now) {
+            return Err(other_file());
+        }
+    }
+    Ok(file)
 }
 
 /// Makes an empty file, which only the user may read and write.
@@ -184,6 +212,7 @@ fn sync_file<F: OpenFile>(file: &Option<F>) -> io::Result<()> {
 fn create_error(error: &io::Error) -> CreateError {
     match error.kind() {
         ErrorKind::PermissionDenied | ErrorKind::ReadOnlyFilesystem => CreateError::Denied,
+        ErrorKind::AlreadyExists => CreateError::Taken,
         _ => CreateError::Failed,
     }
 }
@@ -263,9 +292,11 @@ where
     }
 
     fn rename(&mut self, from: &[u8], to: &[u8]) -> bool {
-        self.fresh = None;
-        let renamed = rename_file(self.files, from, to);
+        let renamed = rename_file(self.files, &self.fresh, from, to);
         let answer = self.kept(renamed).is_some();
+        if answer {
+            self.fresh = None;
+        }
         self.history = self.history.with(&FolderCall::Rename { from, to, answer });
         answer
     }
@@ -280,21 +311,45 @@ where
     }
 
     fn remove(&mut self, name: &[u8]) -> bool {
+        let answer = remove_file(self.files, &self.fresh, name).is_ok();
         self.fresh = None;
-        let answer = remove_file(self.files, name).is_ok();
         self.history = self.history.with(&FolderCall::Remove { name, answer });
         answer
     }
 }
 
-/// Gives a file another name.
-fn rename_file<R: Files>(files: &R, from: &[u8], to: &[u8]) -> io::Result<()> {
-    files.rename(text_of(from)?, text_of(to)?)
+/// Checks that a path is that of an open file. Another program may have put another file there.
+///
+/// # Errors
+/// Fails if it isn't, or if that can't be known.
+fn check_path<R: Files>(files: &R, open: &Option<R::File>, path: &str) -> io::Result<()> {
+    let Some(file) = open else {
+        return Err(io::Error::from(ErrorKind::NotFound));
+    };
+    if same_file(&file.metadata()?, &files.symlink_metadata(path)?) {
+        Ok(())
+    } else {
+        Err(other_file())
+    }
 }
 
-/// Removes a file.
-fn remove_file<R: Files>(files: &R, name: &[u8]) -> io::Result<()> {
-    files.remove_file(text_of(name)?)
+/// Gives the open file another name.
+fn rename_file<R: Files>(
+    files: &R,
+    open: &Option<R::File>,
+    from: &[u8],
+    to: &[u8],
+) -> io::Result<()> {
+    let from = text_of(from)?;
+    check_path(files, open, from)?;
+    files.rename(from, text_of(to)?)
+}
+
+/// Removes the open file.
+fn remove_file<R: Files>(files: &R, open: &Option<R::File>, name: &[u8]) -> io::Result<()> {
+    let path = text_of(name)?;
+    check_path(files, open, path)?;
+    files.remove_file(path)
 }
 
 /// Returns what has a path, by the facts about it.

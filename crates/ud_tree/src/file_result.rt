@@ -72,6 +72,13 @@ impl Report {
                 b"Its folder can't be written; -w writes into the file",
             ),
             ReplaceError::ChangedMeanwhile => self.fault(err, path, b"Changed meanwhile"),
+            ReplaceError::Locked => self.locked(err, path),
+            ReplaceError::NotRenamed => self.failure(
+                err,
+                path,
+                b"Cannot be replaced; -w writes into it",
+                tree.reason(),
+            ),
             ReplaceError::HalfWritten => self.failure(err, path, b"Half written", tree.reason()),
         }
     }

@@ -4,15 +4,13 @@ use crate::arguments::Arguments;
 use std::alloc::Global;
 use ud_model::Mode;
 
-/// The arguments of a run, and what names its new files.
+/// The arguments of a run, and what it may use.
 #[derive(Clone, Copy)]
 pub struct Job<'a> {
     /// The allocator of all that the run keeps.
     pub alloc: Global,
     /// The arguments of the run.
     pub arguments: &'a Arguments,
-    /// The end of the names of the files that are made. It differs from run to run.
-    pub tag: &'a [u8],
     /// True if the error stream is a terminal, which shows how many files are done.
     pub is_terminal: bool,
 }

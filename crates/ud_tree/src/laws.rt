@@ -36,7 +36,7 @@ pub fn law_run_shows()
 /// isn't allowed here.
 pub fn law_run_renames()
     ensures { (o : Options) (run : Run) → IsRunOf run → IsPlanned run.args.plan o →
-        run.args.write_into ≡ false → EachCall (TouchesFreshOrNone o run.tag) run.old run.new }
+        run.args.write_into ≡ false → EachCall (TouchesFreshOrNone o) run.old run.new }
 {}
 
 /// If all answers are true, each file has its old bytes or the whole output for them after each

@@ -6,6 +6,7 @@ use crate::job::Job;
 use crate::names::Names;
 use crate::run_file::run_file;
 use crate::tree::Tree;
+use crate::walk::FileAt;
 use ud_engine::Watched;
 use ud_replace::{ReplaceError, Update};
 
@@ -18,20 +19,20 @@ use ud_replace::{ReplaceError, Update};
 pub(crate) fn list_file<T: Tree>(
     job: &Job<'_>,
     tree: &mut T,
-    name: &[u8],
+    file: FileAt<'_>,
     names: &mut Names,
 ) -> Result<Update, ReplaceError>
-    ensures { ListsOne job.now.arguments.now.plan name.now (T.history tree.old)
-        (T.history tree.new) result }
+    ensures { ListsOne job.now.arguments.now.plan file.entry.name.now
+        (T.history tree.old) (T.history tree.new) result }
 {
     let mut listed = Watched::new(Vec::<u8>::new(job.alloc));
-    let ran = run_file(job, tree, name, &mut listed);
+    let ran = run_file(job, tree, file, &mut listed);
     let added = names.add(listed.inner().as_slice());
-    let (text, _) = match ran {
+    let ran = match ran {
         Ok(ran) => ran,
         Err(error) => return Err(error),
     };
-    if added.is_err() || names.add_hidden(text.as_slice(), job.mode()).is_err() {
+    if added.is_err() || names.add_hidden(ran.text.as_slice(), job.mode()).is_err() {
         return Err(ReplaceError::OutOfMemory);
     }
     Ok(Update::Unchanged)

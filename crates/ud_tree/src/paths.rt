@@ -1,9 +1,15 @@
 //! Paths: their last names, and names for new files.
 
-ghost use Rattle.std.specs.Prelude.{◌≡◌, ◌≤◌, length, IfOk};
-ghost use Rattle.ud_tree.specs.Paths.{folder_len, last_name, fresh_name};
+ghost use Rattle.std.specs.Prelude.{◌≡◌, ◌≤◌, length, take, IfOk};
+ghost use Rattle.ud_tree.specs.Paths.{folder_len, fresh_end, fresh_name, last_name};
 
 use std::alloc::{AllocError, Global};
+
+/// The beginning of the name of each new file.
+pub(crate) const FRESH: &[u8] = b".unifdef-tree.";
+
+/// The longest name, in bytes, before which a name of at most 255 bytes has room for `FRESH`.
+const LONGEST_END: usize = 240;
 
 /// Returns the number of bytes of a path up to its last slash, which is included; 0 if there is
 /// none.
@@ -30,20 +36,41 @@ pub(crate) fn last_name(path: &[u8]) -> &[u8]
 
 /// Returns whether a name is one of those that `fresh_name` gives.
 pub(crate) fn is_fresh(name: &[u8]) -> bool {
-    name.starts_with(b".unifdef-tree.")
+    name.starts_with(FRESH)
 }
 
-/// Returns the name of a new file in the same folder, which ends in `tag`.
+/// Returns what the name of a new file in the same folder ends in: the last name of a path, or
+/// `long` if no name could hold more bytes before it.
+pub(crate) fn fresh_end(path: &[u8]) -> &[u8]
+    ensures { result.now ≡ fresh_end path.now }
+{
+    let name = last_name(path);
+    if name.len() > LONGEST_END {
+        b"long"
+    } else {
+        name
+    }
+}
+
+/// Returns a path's folder, with its slash; nothing if it has none.
+pub(crate) fn folder(path: &[u8]) -> &[u8]
+    ensures { result.now ≡ take (folder_len path.now) path.now }
+{
+    &path[..folder_len(path)]
+}
+
+/// Returns the name of a new file in the same folder. It is always the same one, so that two runs
+/// can't replace one file at once.
 ///
 /// # Errors
 /// Fails if memory runs out.
-pub(crate) fn fresh_name(alloc: Global, path: &[u8], tag: &[u8]) -> Result<Vec<u8>, AllocError>
-    ensures { IfOk result (λ v. v.items ≡ fresh_name tag.now path.now) }
+pub(crate) fn fresh_name(alloc: Global, path: &[u8]) -> Result<Vec<u8>, AllocError>
+    ensures { IfOk result (λ v. v.items ≡ fresh_name path.now) }
 {
     let mut fresh = Vec::new(alloc);
-    fresh.extend_from_slice(&path[..folder_len(path)])?;
-    fresh.extend_from_slice(b".unifdef-tree.")?;
-    fresh.extend_from_slice(tag)?;
+    fresh.extend_from_slice(folder(path))?;
+    fresh.extend_from_slice(FRESH)?;
+    fresh.extend_from_slice(fresh_end(path))?;
     Ok(fresh)
 }
 

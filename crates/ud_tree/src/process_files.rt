@@ -15,7 +15,7 @@ use crate::replace_file::replace_file;
 use crate::report::Report;
 use crate::show_file::show_file;
 use crate::tree::Tree;
-use crate::walk::Found;
+use crate::walk::{FileAt, Found};
 use std::io::Write;
 use ud_engine::Watched;
 use ud_replace::{ReplaceError, Update};
@@ -36,10 +36,11 @@ pub(crate) fn process_files<T: Tree, W: Write, E: Write>(
         (moment T.history W.contents E.contents tree.new out.new err.new) report.new result }
 {
     let mut counts = Counts::new();
-    for (done, file) in files.iter().enumerate() {
+    for (done, found) in files.iter().enumerate() {
         report.progress(err, done, files.len());
-        let name = file.path.as_bytes();
-        let update = process_file(job, tree, name, out, names, report);
+        let name = found.path.as_bytes();
+        let file = FileAt { name, id: found.id };
+        let update = process_file(job, tree, file, out, names, report);
         report.file_result(err, job, tree, name, update);
         counts.add(fate_of(update));
     }
@@ -53,20 +54,20 @@ pub(crate) fn process_files<T: Tree, W: Write, E: Write>(
 fn process_file<T: Tree, W: Write>(
     job: &Job<'_>,
     tree: &mut T,
-    name: &[u8],
+    file: FileAt<'_>,
     out: &mut Watched<W>,
     names: &mut Names,
     report: &mut Report,
 ) -> Result<Update, ReplaceError>
-    ensures writes { WritesOne (DoesOne job.now.arguments.now job.now.tag.now) name.now
+    ensures writes { WritesOne (DoesOne job.now.arguments.now) file.entry.name.now
         (T.history tree.old) (T.history tree.new) (stream_of W.contents out.old)
         (stream_of W.contents out.new) result }
     ensures terminal { report.new.is_terminal ≡ report.old.is_terminal }
     ensures shown { report.new.is_shown ≡ report.old.is_shown }
 {
     match job.arguments.task {
-        Task::Replace => replace_file(job, tree, name, report),
-        Task::Diff => show_file(job, tree, name, out, report),
-        Task::Names => list_file(job, tree, name, names),
+        Task::Replace => replace_file(job, tree, file, report),
+        Task::Diff => show_file(job, tree, file, out, report),
+        Task::Names => list_file(job, tree, file, names),
     }
 }

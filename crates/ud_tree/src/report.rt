@@ -9,12 +9,14 @@ ghost use Rattle.std.specs.List.{flat_map};
 ghost use Rattle.ud_diagnostics.specs.RunMessages.{fault_message};
 ghost use Rattle.ud_replace.specs.Calls.{met};
 ghost use Rattle.ud_tree.specs.Messages.{IsPlain, Tells, ReportsFailure, ReportsOne, fault_line};
+ghost use Rattle.ud_tree.specs.Messages.{locked_line};
 ghost use Rattle.ud_tree.specs.Streams.{Sends, stream_of};
 ghost use Rattle.ud_tree.specs.Summaries.{Says, line_of};
 ghost use Rattle.ud_tree.specs.WalkMessages.{ReportsRefusal};
 
 use crate::arguments::ArgumentFault;
 use crate::job::Job;
+use crate::paths::{FRESH, folder, fresh_end};
 use crate::remaining::Remaining;
 use crate::send::{send, send_parts};
 use itoa::Buffer;
@@ -27,6 +29,9 @@ use ud_model::Settings;
 
 /// The number of files after which the line on the terminal is shown again.
 const STEP: usize = 64;
+
+/// The fault of a file beside which there is one of another run, whose path follows.
+const LOCKED: &[u8] = b"Another run is at it; if none is, remove ";
 
 /// Writes a message that is no fault: the program's name, the parts, and a newline.
 pub fn report_line<E: Write>(err: &mut Watched<E>, parts: &[&[u8]])
@@ -187,6 +192,18 @@ impl Report {
     {
         self.faulty = self.faulty.saturating_add(1);
         self.line(err, &[folder, name, b": ", text]);
+    }
+
+    /// Writes the fault of a file beside which there is one of another run.
+    pub(crate) fn locked<E: Write>(&mut self, err: &mut Watched<E>, path: &[u8])
+        ensures { Tells self.old self.new (stream_of E.contents err.old)
+            (stream_of E.contents err.new) (locked_line path.now) }
+    {
+        self.faulty = self.faulty.saturating_add(1);
+        self.line(
+            err,
+            &[path, b": ", LOCKED, folder(path), FRESH, fresh_end(path)],
+        );
     }
 
     /// Writes a fault of a path, and why a call failed.

@@ -7,39 +7,59 @@ ghost use Rattle.ud_tree.specs.Shown.{WasRead, RunsOver, FailsOver, Fails, error
 
 use crate::job::Job;
 use crate::tree::Tree;
+use crate::walk::FileAt;
 use ud_args::Plan;
 use ud_engine::{RunFault, Watched, run};
-use ud_replace::ReplaceError;
+use ud_replace::{FileStat, ReplaceError};
 
-/// Reads a file, and runs over its text. Appends the output to `output`. Returns the text, and
-/// whether the output differs.
+/// A file that was read, and the result of the run over its text.
+#[derive(Drop)]
+pub(crate) struct Ran {
+    /// The file's text.
+    pub text: Vec<u8>,
+    /// What was known of the file before it was read.
+    pub stat: FileStat,
+    /// True if the output differs.
+    pub differs: bool,
+}
+
+/// Reads a file, and runs over its text. Appends the output to `output`.
 ///
 /// Nothing is asked but that the file is read.
 ///
 /// # Errors
 /// - `Read` if the file can't be read.
+/// - `ChangedMeanwhile` if it isn't the file that the walk met.
 /// - `Text` if the text has a fault. The output up to it was appended.
 /// - `OutOfMemory` if memory for the output can't be allocated.
 pub(crate) fn run_file<T: Tree>(
     job: &Job<'_>,
     tree: &mut T,
-    name: &[u8],
+    file: FileAt<'_>,
     output: &mut Watched<Vec<u8>>,
-) -> Result<(Vec<u8>, bool), ReplaceError>
+) -> Result<Ran, ReplaceError>
     requires not_failed { output.old.failed ≡ false }
-    ensures reads { ReadsOne name.now (T.history tree.old) (T.history tree.new) }
-    ensures text { IfOk result (λ ran.
-        WasRead name.now ran.0.items (T.history tree.old) (T.history tree.new)) }
+    ensures reads { ReadsOne file.entry.name.now (T.history tree.old)
+        (T.history tree.new) }
+    ensures text { IfOk result (λ ran. WasRead file.entry.name.now ran.text.items ran.stat
+        (T.history tree.old) (T.history tree.new)) }
     ensures ran { (o : Options) → IsPlanned job.now.arguments.now.plan o → MatchResult result
-        (λ ran. RunsOver o ran.0.items output.old.inner.items output.new.inner.items ran.1)
-        (λ e. Fails o name.now (T.history tree.old) (T.history tree.new) e) }
+        (λ ran. RunsOver o ran.text.items output.old.inner.items output.new.inner.items ran.differs)
+        (λ e. Fails o file.entry.name.now (T.history tree.old) (T.history tree.new) e) }
 {
     let mut text = Vec::new(job.alloc);
-    match tree.read(name, &mut text) {
+    match tree.read(file.name, &mut text) {
         None => Err(ReplaceError::Read),
-        Some(_) => {
+        Some(stat) => {
+            if !stat.is_of(file.id) {
+                return Err(ReplaceError::ChangedMeanwhile);
+            }
             let differs = run_text(&job.arguments.plan, text.as_slice(), output)?;
-            Ok((text, differs))
+            Ok(Ran {
+                text,
+                stat,
+                differs,
+            })
         }
     }
 }

@@ -1,6 +1,6 @@
 //! Showing what would change of one file.
 
-ghost use Rattle.std.specs.Prelude.{◌≡◌};
+ghost use Rattle.std.specs.Prelude.{◌≡◌, ◌⊎◌, ◌<◌, ◌≤◌, true, false};
 ghost use Rattle.ud_tree.specs.Shown.{ShowsOne};
 ghost use Rattle.ud_tree.specs.Streams.{stream_of};
 ghost use Rattle.ud_tree.specs.Writing.{WritesOne};
@@ -11,9 +11,10 @@ use crate::report::Report;
 use crate::run_file::run_file;
 use crate::send::send;
 use crate::tree::Tree;
+use crate::walk::FileAt;
 use std::io::Write;
 use ud_io::Watched;
-use ud_replace::{ReplaceError, Update};
+use ud_replace::{FileStat, ReplaceError, Update};
 
 /// Writes the diff of a file, and adds the conditions of its output that still name a symbol to the
 /// report. Returns `Replaced` if the file would change.
@@ -21,32 +22,50 @@ use ud_replace::{ReplaceError, Update};
 /// Nothing is asked but that the file is read once.
 ///
 /// # Errors
-/// As `run_file`. `OutOfMemory` also if memory for the diff can't be allocated.
+/// As `run_file`. `OutOfMemory` also if memory for the diff can't be allocated. `SeveralLinks` if the
+/// file would change, and a run would only write into it, which isn't allowed.
 pub(crate) fn show_file<T: Tree, W: Write>(
     job: &Job<'_>,
     tree: &mut T,
-    name: &[u8],
+    file: FileAt<'_>,
     out: &mut Watched<W>,
     report: &mut Report,
 ) -> Result<Update, ReplaceError>
-    ensures writes { WritesOne (ShowsOne job.now.arguments.now.plan) name.now
-        (T.history tree.old) (T.history tree.new) (stream_of W.contents out.old)
-        (stream_of W.contents out.new) result }
+    ensures writes { WritesOne
+        (ShowsOne job.now.arguments.now.plan job.now.arguments.now.write_into)
+        file.entry.name.now (T.history tree.old) (T.history tree.new)
+        (stream_of W.contents out.old) (stream_of W.contents out.new) result }
     ensures terminal { report.new.is_terminal ≡ report.old.is_terminal }
     ensures shown { report.new.is_shown ≡ report.old.is_shown }
 {
     let mut output = Watched::new(Vec::<u8>::new(job.alloc));
-    let (text, differs) = match run_file(job, tree, name, &mut output) {
+    let ran = match run_file(job, tree, file, &mut output) {
         Ok(ran) => ran,
         Err(error) => return Err(error),
     };
-    report.search(job, name, output.inner().as_slice());
-    if !differs {
+    let name = file.name;
+    if !ran.differs {
+        report.search(job, name, output.inner().as_slice());
         return Ok(Update::Unchanged);
     }
-    let Some(diff) = diff_of(job, name, text.as_slice(), output.inner().as_slice()) else {
+    if is_left_alone(&ran.stat, job.arguments.write_into) {
+        return Err(ReplaceError::SeveralLinks);
+    }
+    report.search(job, name, output.inner().as_slice());
+    let Some(diff) = diff_of(job, name, ran.text.as_slice(), output.inner().as_slice()) else {
         return Err(ReplaceError::OutOfMemory);
     };
     send(out, diff.as_slice());
     Ok(Update::Replaced)
+}
+
+/// Returns whether a run leaves a file alone since it has several links.
+fn is_left_alone(stat: &FileStat, write_into: bool) -> bool
+    ensures left { result ≡ true → (1 < stat.now.links) × (write_into ≡ false) }
+    ensures replaced { result ≡ false → (stat.now.links ≤ 1) ⊎ (write_into ≡ true) }
+{
+    if stat.links <= 1 {
+        return false;
+    }
+    !write_into
 }

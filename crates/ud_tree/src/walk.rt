@@ -25,7 +25,16 @@ pub(crate) struct Found {
     /// The file's path.
     pub path: String,
     /// Which file it is.
-    id: FileId,
+    pub id: FileId,
+}
+
+/// A file of the run.
+#[derive(Clone, Copy)]
+pub(crate) struct FileAt<'a> {
+    /// Its path.
+    pub name: &'a [u8],
+    /// Which file the walk met there.
+    pub id: FileId,
 }
 
 /// A walk: the files that were found, and the folders that weren't listed yet.

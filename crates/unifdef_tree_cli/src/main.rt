@@ -4,10 +4,9 @@
 //! system and the standard streams.
 #![tactic(auto)]
 
-use std::alloc::{AllocError, Global};
+use std::alloc::AllocError;
 use std::io::IsTerminal;
-use std::process::{self, ExitCode};
-use std::time::{SystemTime, UNIX_EPOCH};
+use std::process::ExitCode;
 use std::{env, io};
 use ud_io::Watched;
 use ud_tree::{
@@ -42,35 +41,16 @@ fn main(rt: HostRuntime) -> ExitCode {
 
 /// Runs over the files of the system.
 fn run(rt: &HostRuntime, arguments: &Arguments) -> ExitCode {
-    let Ok(tag) = tag(rt, rt.alloc()) else {
-        let mut err = Watched::new(rt.stderr());
-        report_line(&mut err, &[b"Out of memory"]);
-        return ExitCode::from(EXIT_TROUBLE);
-    };
     let stderr = rt.stderr();
     let job = Job {
         alloc: rt.alloc(),
         arguments,
-        tag: tag.as_bytes(),
         is_terminal: stderr.is_terminal(),
     };
     let mut disk = Disk::new(rt, rt.alloc());
     let mut out = Watched::new(rt.stdout());
     let mut err = Watched::new(stderr);
     ExitCode::from(run_tree(&job, &mut disk, rt.stdin(), &mut out, &mut err))
-}
-
-/// Returns a text that differs from run to run: the number of the process, and the time.
-fn tag(rt: &HostRuntime, alloc: Global) -> Result<String, AllocError> {
-    let pid = process::id(rt.process());
-    let nanos = match SystemTime::now(rt) {
-        Ok(now) => match now.duration_since(UNIX_EPOCH) {
-            Ok(since) => since.subsec_nanos(),
-            Err(_) => 0,
-        },
-        Err(_) => 0,
-    };
-    format!(in alloc; "{pid}.{nanos}")
 }
 
 /// Returns the arguments after the program's name.

@@ -1,7 +1,7 @@
-use Rattle.ud_replace.specs.Filling.{filled, not_taken, not_given, not_synced, changed, not_renamed}
 use Rattle.std.proofs.Common.{◌∷◌, false, true, ap, ◌∙◌}
 use Rattle.ud_replace.specs.Calls.{synced}
-use Rattle.ud_replace.proofs.StepLemmas.{looks_from}
+use Rattle.ud_replace.specs.Filling.{not_taken, not_given, not_synced, not_confirmed}
+use Rattle.ud_replace.proofs.StepLemmas.{confirms_from, fills_by}
 use Rattle.ud_replace.proofs.replacement.fill.Goals as goal
 
 pub returns-then-not-append_all : goal.returns-then-not-append_all
@@ -14,12 +14,12 @@ pub returns-then-not-sync : goal.returns-then-not-sync
 returns-then-not-sync g c =
     not_synced _ c.if-not-append_all.ensures (c.if-not-sync.ensures ∙ ap (λ h. synced c.args.target.now.fresh.now false ∷ h) c.if-not-set_mode_and_owner.ensures)
 
-pub returns-then-not-is_unchanged : goal.returns-then-not-is_unchanged
-returns-then-not-is_unchanged g c = changed _ c.if-not-append_all.ensures (looks_from (c.if-not-sync.ensures ∙ ap (λ h. synced c.args.target.now.fresh.now true ∷ h) c.if-not-set_mode_and_owner.ensures) c.if-not-is_unchanged.ensures)
+pub returns-in-Err : goal.returns-in-Err
+returns-in-Err g c =
+    not_confirmed _ _ c.if-not-append_all.ensures
+    (confirms_from (c.if-not-sync.ensures ∙ ap (λ h. synced c.args.target.now.fresh.now true ∷ h) c.if-not-set_mode_and_owner.ensures) c.in-Err.ensures)
 
-pub returns-then-not-rename : goal.returns-then-not-rename
-returns-then-not-rename g c =
-    not_renamed _ _ c.if-not-append_all.ensures (looks_from (c.if-not-sync.ensures ∙ ap (λ h. synced c.args.target.now.fresh.now true ∷ h) c.if-not-set_mode_and_owner.ensures) c.if-not-is_unchanged.ensures) c.if-not-rename.ensures
-
-pub returns : goal.returns
-returns g c = filled _ _ c.if-not-append_all.ensures (looks_from (c.if-not-sync.ensures ∙ ap (λ h. synced c.args.target.now.fresh.now true ∷ h) c.if-not-set_mode_and_owner.ensures) c.if-not-is_unchanged.ensures) c.if-not-rename.ensures
+pub returns-in-Ok : goal.returns-in-Ok
+returns-in-Ok g c =
+    fills_by c.rename.result _ _ c.if-not-append_all.ensures
+    (confirms_from (c.if-not-sync.ensures ∙ ap (λ h. synced c.args.target.now.fresh.now true ∷ h) c.if-not-set_mode_and_owner.ensures) c.in-Ok.ensures) c.rename.ensures

@@ -1,12 +1,10 @@
-use Rattle.ud_replace.specs.Replacing.{read_only, other_text, confirmed}
-use Rattle.ud_replace.proofs.StepLemmas.{confirms_from}
+use Rattle.std.proofs.Common.{inl}
+use Rattle.ud_replace.specs.Replacing.{read_only, one_link}
+use Rattle.ud_replace.proofs.StepLemmas.{renames_from}
 use Rattle.ud_replace.proofs.replacement.put.Goals as goal
 
 pub returns-then-not-may_write : goal.returns-then-not-may_write
-returns-then-not-may_write g c = read_only c.if-not-may_write.ensures
+returns-then-not-may_write g c = read_only (inl c.if-before-gt1.false) c.if-not-may_write.ensures
 
-pub returns-in-None : goal.returns-in-None
-returns-in-None g c = other_text (confirms_from c.if-not-may_write.ensures c.in-None.ensures)
-
-pub returns-in-Some : goal.returns-in-Some
-returns-in-Some g c = confirmed _ _ (confirms_from c.if-not-may_write.ensures c.in-Some.ensures) c.put_confirmed.ensures
+pub returns : goal.returns
+returns g c = one_link c.if-before-gt1.false (renames_from c.if-not-may_write.ensures c.rename_over.ensures)

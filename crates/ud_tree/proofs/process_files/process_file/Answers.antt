@@ -5,13 +5,13 @@ use Rattle.ud_tree.proofs.process_files.process_file.Goals as goal
 
 pub returns-in-Replace-clause-writes : goal.returns-in-Replace-clause-writes
 returns-in-Replace-clause-writes g c =
-    done_by Replace c.args.job.now.arguments.now c.args.job.now.tag.now c.in-Replace.is
+    done_by Replace c.args.job.now.arguments.now c.in-Replace.is
     (writes_unshown (stream_of g.W.Write.contents c.args.out.now) c.replace_file.ensures.replaces)
 
 pub returns-in-Diff-clause-writes : goal.returns-in-Diff-clause-writes
-returns-in-Diff-clause-writes g c = done_by Diff c.args.job.now.arguments.now c.args.job.now.tag.now c.in-Diff.is c.show_file.ensures.writes
+returns-in-Diff-clause-writes g c = done_by Diff c.args.job.now.arguments.now c.in-Diff.is c.show_file.ensures.writes
 
 pub returns-in-Names-clause-writes : goal.returns-in-Names-clause-writes
 returns-in-Names-clause-writes g c =
-    done_by Names c.args.job.now.arguments.now c.args.job.now.tag.now c.in-Names.is
+    done_by Names c.args.job.now.arguments.now c.in-Names.is
     (writes_unshown (stream_of g.W.Write.contents c.args.out.now) c.list_file.ensures)

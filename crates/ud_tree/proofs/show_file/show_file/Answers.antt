@@ -2,7 +2,7 @@
 use Rattle.std.proofs.Common.{ap, ◌∙◌}
 use Rattle.ud_tree.specs.Shown.{faulty}
 use Rattle.ud_tree.specs.Streams.{stream_of}
-use Rattle.ud_tree.proofs.ShownLemmas.{no_memory, shows_none, shows_same, shows_changed}
+use Rattle.ud_tree.proofs.ShownLemmas.{no_memory, shows_none, shows_same, shows_several, shows_changed}
 use Rattle.ud_tree.proofs.StreamLemmas.{sends_same}
 use Rattle.ud_tree.proofs.show_file.show_file.Goals as goal
 
@@ -14,21 +14,28 @@ pub returns-in_default-clause-writes : goal.returns-in_default-clause-writes
 returns-in_default-clause-writes g c =
     shows_none (stream_of g.W.Write.contents c.args.out.now) c.run_file.ensures.reads (λ o p. faulty (no_memory o c.in-Ok.ensures.text))
 
-pub returns-then-not-differs-clause-writes : goal.returns-then-not-differs-clause-writes
-returns-then-not-differs-clause-writes g c =
+pub returns-then-not-ran-clause-writes : goal.returns-then-not-ran-clause-writes
+returns-then-not-ran-clause-writes g c =
     shows_none (stream_of g.W.Write.contents c.args.out.now) c.run_file.ensures.reads
     (λ o p.
-    shows_same o _ _ _ _ _ _ _ (ap (λ v. v.items) c.new-output.ensures.inner ∙ c.new.ensures.items) c.if-not-differs.true c.in-Ok.ensures.text
+    shows_same o _ _ _ _ _ _ _ _ _ (ap (λ v. v.items) c.new-output.ensures.inner ∙ c.new.ensures.items) c.if-not-ran.true c.in-Ok.ensures.text
     (c.in-Ok.ensures.ran o p))
+
+pub returns-then-is_left_alone-clause-writes : goal.returns-then-is_left_alone-clause-writes
+returns-then-is_left_alone-clause-writes g c =
+    shows_none (stream_of g.W.Write.contents c.args.out.now) c.run_file.ensures.reads
+    (λ o p.
+    shows_several o _ _ _ _ _ _ _ _ _ (ap (λ v. v.items) c.new-output.ensures.inner ∙ c.new.ensures.items) c.if-not-ran.false c.in-Ok.ensures.text
+    (c.in-Ok.ensures.ran o p) (c.is_left_alone.ensures.left c.if-is_left_alone.true))
 
 pub returns-clause-writes : goal.returns-clause-writes
 returns-clause-writes g c = record {
   shown = c.in-Some.diff.items;
   does = λ told. record {
     reads = c.run_file.ensures.reads;
-    shows = λ o p. shows_changed o _ _ _ _ _ _ _ _ _ _ (ap (λ v. v.items) c.new-output.ensures.inner ∙ c.new.ensures.items) c.if-not-differs.false
-        c.in-Ok.ensures.text (c.in-Ok.ensures.ran o p) c.as_slice-2.ensures.value (c.as_slice-3.ensures.value ∙ ap (λ v. v.items) c.inner-2.ensures)
-        c.in-Some.ensures;
+    shows = λ o p. shows_changed o _ _ _ _ _ _ _ _ _ _ _ _ (ap (λ v. v.items) c.new-output.ensures.inner ∙ c.new.ensures.items) c.if-not-ran.false
+        c.in-Ok.ensures.text (c.in-Ok.ensures.ran o p) (c.is_left_alone.ensures.replaced c.if-is_left_alone.false) c.as_slice-3.ensures.value
+        (c.as_slice-4.ensures.value ∙ ap (λ v. v.items) c.inner-3.ensures) c.in-Some.ensures;
   };
-  sent = sends_same c.as_slice-4.ensures.value c.send.ensures;
+  sent = sends_same c.as_slice-5.ensures.value c.send.ensures;
 }

@@ -1,5 +1,5 @@
 -- By the kind of the error.
-use Rattle.ud_replace.specs.declared.error.ReplaceError.TheVariants.{Read, HalfWritten}
+use Rattle.ud_replace.specs.declared.error.ReplaceError.TheVariants.{Read, NotRenamed, HalfWritten}
 use Rattle.ud_tree.proofs.MessageLemmas.{failure_is, unwritten_is}
 use Rattle.ud_tree.proofs.report.Report.file_error.Goals as goal
 
@@ -11,3 +11,6 @@ returns-in-ReadOnly g c = unwritten_is c.args.path.now c.in-ReadOnly.is c.failur
 
 pub returns-in-HalfWritten : goal.returns-in-HalfWritten
 returns-in-HalfWritten g c = failure_is c.args.path.now HalfWritten c.in-HalfWritten.is (λ m h. h) c.failure-in-HalfWritten.ensures
+
+pub returns-in-NotRenamed : goal.returns-in-NotRenamed
+returns-in-NotRenamed g c = failure_is c.args.path.now NotRenamed c.in-NotRenamed.is (λ m h. h) c.failure-in-NotRenamed.ensures

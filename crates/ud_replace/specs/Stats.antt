@@ -1,0 +1,17 @@
+-- Stats: what the facts about a file say of it.
+--
+--   is_of id s               the facts are those of the file `id`
+--   has_facts_of stat seen   a file still has the mode, the owner and the links of `stat`
+use Rattle.std.specs.Prelude.{Bool, ◌&&◌, ◌==◌}
+use Rattle.ud_replace.specs.declared.node.FileId.{FileId}
+use Rattle.ud_replace.specs.declared.stat.FileStat.{FileStat}
+
+-- `is_of id s`: `s` are the facts about the file `id`.
+abbrev pub is_of : FileId → FileStat → Bool
+is_of id s = s.version.device == id.device && s.version.inode == id.inode
+
+-- `has_facts_of stat seen`: the file that was seen has the mode, the owner, the group and the number
+-- of links of `stat`.
+abbrev pub has_facts_of : FileStat → FileStat → Bool
+has_facts_of stat seen = seen.mode == stat.mode && seen.owner == stat.owner &&
+    seen.group == stat.group && seen.links == stat.links

@@ -1,0 +1,290 @@
+#!/usr/bin/env bash
+# What a run does to files of other users, to files that another program changes, and on file systems
+# that fail late. tests/tree.sh reads this file, and has the functions that it uses.
+
+# run_paused CALL N COMMAND..: runs a command while a run over the small tree waits in its Nth call
+# of CALL, after the call. strace announces that. The options are in ${options[@]}.
+run_paused() {
+  local call=$1 when=$2 pid line tracer
+  shift 2
+  rm -f "$work/trace"
+  mkfifo "$work/trace"
+  strace -f -o "$work/trace" -e trace="$call" -e inject="$call:signal=STOP:when=$when" \
+    "$TREE" "${options[@]}" src > "$work/out" 2> "$work/err" &
+  tracer=$!
+  exec 6< "$work/trace"
+  while read -r pid line <&6; do
+    [[ $line != *'stopped by SIGSTOP'* ]] || break
+  done
+  "$@"
+  kill -s CONT "$pid"
+  cat <&6 > /dev/null
+  exec 6<&-
+  status=0
+  wait "$tracer" || status=$?
+}
+
+# number_of CALL PATTERN: which of the calls of this name over the small tree is the first one whose
+# line has the pattern.
+number_of() {
+  small_tree
+  strace -f -o "$work/calls" -e trace="$1" "$TREE" "${options[@]}" src > /dev/null 2>&1
+  grep "$1(" "$work/calls" | grep -n -m 1 -e "$2" | cut -d : -f 1
+}
+
+# Tests that mode and owner are given to the open file, so that no link in its place is followed.
+gives_to_open_file() {
+  options=(-DA)
+  small_tree
+  chmod 754 src/a.c
+  strace -f -o "$work/calls" -e trace=chown,lchown,fchownat,chmod,fchmodat,fchmod \
+    "$TREE" -DA src > /dev/null 2>&1
+  check 'open file: no call by name' same "$(grep -cE 'chown\(|chmod\(|at\(' "$work/calls")" \
+    "$(grep -c 'fchmod(' "$work/calls")"
+  check 'open file: mode' same "$(stat -c %a src/a.c)" 754
+  put "$work/victim" 'mine\n'
+  chmod 600 "$work/victim"
+  small_tree
+  run_paused fchmod 1 put_link
+  check 'a link in the place of the new file: status' same "$status" 2
+  check 'a link in its place: message' grep -q '^unifdef-tree: src/a.c: Cannot be replaced' "$work/err"
+  check 'a link in its place: the file' holds src/a.c "$text"
+  check 'a link in its place: what it leads to' same \
+    "$(stat -c %a "$work/victim") $(cat "$work/victim")" '600 mine'
+  check 'a link in its place: it stays' same "$(readlink src/.unifdef-tree.a.c)" "$work/victim"
+}
+
+put_link() {
+  mv src/.unifdef-tree.a.c "$work/moved"
+  ln -s "$work/victim" src/.unifdef-tree.a.c
+}
+
+# Tests that the new file is the file that was found, with what is read of it.
+finds_same_file() {
+  local number
+  options=(-DA)
+  number=$(number_of openat 'src/a.c"')
+  small_tree
+  mkdir outside
+  put outside/b.c "$text"
+  run_paused openat "$number" move_folder
+  check 'a folder that becomes a link: status' same "$status" 2
+  check 'a folder that becomes a link: message' has_line "$work/err" \
+    'unifdef-tree: src/folder/b.c: Changed meanwhile'
+  check 'a folder that becomes a link: the file outside' holds outside/b.c "$text"
+  small_tree
+  run_paused openat "$number" put_pipe src/folder/b.c
+  check 'a pipe in the place of a file: status' same "$status" 2
+  check 'a pipe in the place of a file: message' grep -q '^unifdef-tree: src/folder/b.c: Cannot be read' "$work/err"
+  options=(-n -DA)
+  small_tree
+  mkdir outside
+  put outside/b.c "$text"
+  run_paused openat "$number" move_folder
+  check '-n: a folder that becomes a link' has_line "$work/err" \
+    'unifdef-tree: src/folder/b.c: Changed meanwhile'
+}
+
+move_folder() {
+  mv src/folder was
+  ln -s ../outside src/folder
+}
+
+put_pipe() {
+  rm "$1"
+  mkfifo "$1"
+}
+
+# Tests that a file that changed is left alone even if its size and its times are the old ones, and
+# that new times alone are no change.
+compares_bytes() {
+  options=(-DA)
+  small_tree
+  run_paused fsync 1 edit_in_secret
+  check 'an edit with the old size and time: message' has_line "$work/err" \
+    'unifdef-tree: src/a.c: Changed meanwhile'
+  check 'an edit with the old size and time: the file' holds src/a.c '#ifdef B\nyes\n#else\nno\n#endif\n'
+  small_tree
+  run_paused fsync 1 touch src/a.c
+  check 'a new time alone: status' same "$status" 2
+  check 'a new time alone: the file' holds src/a.c 'yes\n'
+  small_tree
+  run_paused fsync 1 chmod 600 src/a.c
+  check 'another mode: message' has_line "$work/err" 'unifdef-tree: src/a.c: Changed meanwhile'
+  check 'another mode: the file' same "$(stat -c %a src/a.c)" 600
+}
+
+edit_in_secret() {
+  touch -r src/a.c "$work/time"
+  printf '#ifdef B' | dd of=src/a.c conv=notrunc status=none
+  touch -r "$work/time" src/a.c
+}
+
+# Tests that the bytes of the new file are on the disk before it takes the place of the old one.
+syncs() {
+  small_tree
+  strace -f -o "$work/calls" -e trace=fsync,rename "$TREE" -DA src > /dev/null 2>&1
+  check 'sync: before each rename' same \
+    "$(sed -n 's/^[0-9]* *\([a-z]*\)(.*/\1/p' "$work/calls" | tr '\n' ' ')" 'fsync rename fsync rename '
+  small_tree
+  strace -f -o /dev/null -e trace=fsync -e inject=fsync:error=EIO:when=1 "$TREE" -DA src \
+    > "$work/out" 2> "$work/err"
+  check 'sync: fails: status' same "$?" 2
+  check 'sync: fails: message' has_line "$work/err" \
+    'unifdef-tree: src/a.c: Cannot be written: Input/output error'
+  check 'sync: fails: the file' holds src/a.c "$text"
+  check 'sync: fails: the next file' holds src/folder/b.c 'yes\n'
+  check 'sync: fails: nothing left over' no_rest
+  small_tree
+  ln src/a.c linked.c
+  strace -f -o /dev/null -e trace=fsync -e inject=fsync:error=EIO:when=1 "$TREE" -w -DA src \
+    > "$work/out" 2> "$work/err"
+  check 'sync: -w fails: status' same "$?" 2
+  check 'sync: -w fails: the old bytes' holds src/a.c "$text"
+}
+
+# Tests each call that a run makes on a file, failing in turn: the status is 2, and each file is old
+# or new.
+fails_in_turn() {
+  local call error i
+  while read -r call error; do
+    for i in 1 2; do
+      small_tree
+      strace -f -o /dev/null -e trace="$call" -e inject="$call:error=$error:when=$i" "$TREE" -DA src \
+        > "$work/out" 2> "$work/err"
+      check "$call $i fails by $error: status" same "$?" 2
+      each_old_or_new "$call $i fails by $error"
+    done
+  done << 'EOT'
+fchmod EPERM
+fchmod EIO
+fsync EIO
+fsync ENOSPC
+fsync EDQUOT
+rename EPERM
+rename EBUSY
+rename EXDEV
+rename EIO
+EOT
+}
+
+# Tests the name that locks a second run out.
+locks() {
+  local long
+  fresh_tree
+  put src/a.c "$text"
+  put src/.unifdef-tree.a.c 'left\n'
+  tree -DA src
+  check 'lock: status' same "$status" 2
+  check 'lock: message' has_line "$work/err" \
+    'unifdef-tree: src/a.c: Another run is at it; if none is, remove src/.unifdef-tree.a.c'
+  check 'lock: the file' holds src/a.c "$text"
+  check 'lock: the other one' holds src/.unifdef-tree.a.c 'left\n'
+  rm src/.unifdef-tree.a.c
+  long=$(printf '%0253d' 0).c
+  put "src/$long" "$text"
+  tree -DA src
+  check 'lock: gone' holds src/a.c 'yes\n'
+  check 'a long name' holds "src/$long" 'yes\n'
+  check 'lock: nothing left over' no_rest
+}
+
+# Tests files over which no other one can be renamed: where a file is mounted, and those of others in
+# a folder with the sticky bit.
+unrenamed() {
+  [ "$(id -u)" -eq 0 ] || return 0
+  fresh_tree
+  put src/a.c "$text"
+  put "$work/mounted" "$text"
+  if mount --bind "$work/mounted" src/a.c 2> /dev/null; then
+    tree -DA src
+    check 'a mounted file: message' has_line "$work/err" \
+      'unifdef-tree: src/a.c: Cannot be replaced; -w writes into it: Device or resource busy'
+    check 'a mounted file: nothing left over' no_rest
+    tree -w -DA src
+    check 'a mounted file: -w' holds "$work/mounted" 'yes\n'
+    umount src/a.c
+  else
+    echo 'tree-test: files cannot be mounted here, so that is left out'
+  fi
+  has setpriv || return 0
+  cp "$TREE" "$work/program"
+  fresh_tree
+  put src/a.c "$text"
+  chmod 666 src/a.c
+  chmod 1777 src
+  as_nobody -DA src
+  check 'a sticky folder: message' has_line "$work/err" \
+    'unifdef-tree: src/a.c: Cannot be replaced; -w writes into it: Operation not permitted'
+  check 'a sticky folder: the file' holds src/a.c "$text"
+  as_nobody -w -DA src
+  check 'a sticky folder: -w' holds src/a.c 'yes\n'
+}
+
+# as_nobody ARGUMENT..: runs the program as a user who owns nothing.
+as_nobody() {
+  status=0
+  (cd "$work/run" && setpriv --reuid 65534 --regid 65534 --clear-groups "$work/program" "$@" \
+    > "$work/out" 2> "$work/err" < /dev/null) || status=$?
+}
+
+# Tests the files of a lower layer, which are copied when they are opened for writing.
+overlay() {
+  local name
+  [ "$(id -u)" -eq 0 ] || return 0
+  rm -rf "$work/layers"
+  mkdir -p "$work/layers"
+  if ! mount -t tmpfs none "$work/layers" 2> /dev/null; then
+    echo 'tree-test: nothing can be mounted here, so overlays are left out'
+    return
+  fi
+  mkdir "$work/layers/lower" "$work/layers/upper" "$work/layers/work"
+  for name in a b c; do
+    put "$work/layers/lower/$name.c" "$text"
+  done
+  fresh_tree
+  if mount -t overlay overlay \
+    -o "lowerdir=$work/layers/lower,upperdir=$work/layers/upper,workdir=$work/layers/work" src 2> /dev/null; then
+    tree -DA src
+    check 'overlay: status' same "$status" 1
+    check 'overlay: count' has_line "$work/err" 'unifdef-tree: 3 changed, 0 unchanged, 0 faulty'
+    check 'overlay: the lower layer' holds "$work/layers/lower/a.c" "$text"
+    umount src
+  else
+    echo 'tree-test: overlays cannot be mounted here, so they are left out'
+  fi
+  umount "$work/layers"
+}
+
+# Tests that -n reports the links that a run reports.
+promises() {
+  fresh_tree
+  put src/a.c "$text"
+  put src/same.c 'int a;\n'
+  ln src/a.c src/b.c
+  ln src/same.c src/same2.c
+  tree -n -DA src
+  check '-n: links: status' same "$status" 2
+  check '-n: links: message' has_line "$work/err" \
+    'unifdef-tree: src/a.c: Has several links; -w writes into it'
+  check '-n: links: no diff' same "$(cat "$work/out")" ''
+  cp "$work/err" "$work/shown"
+  tree -DA src
+  check '-n: links: as in a run' same "$(sed 's/would change/changed/' "$work/shown")" "$(cat "$work/err")"
+  tree -n -w -DA src
+  check '-n -w: links' same "$status $(grep -c '^-#ifdef' "$work/out")" '1 1'
+}
+
+safety() {
+  locks
+  promises
+  overlay
+  unrenamed
+  if can_trace; then
+    gives_to_open_file
+    finds_same_file
+    compares_bytes
+    syncs
+    fails_in_turn
+  fi
+}
