@@ -21,6 +21,7 @@ use Rattle.ud_tree.specs.declared.arguments.Task.{Task}
 use Rattle.ud_tree.specs.declared.arguments.Task.TheVariants.{Replace, Diff, Names}
 use Rattle.ud_tree.specs.declared.walk.Found.{Found}
 use Rattle.ud_args.specs.Plans.{PlanState}
+use Rattle.ud_tree.specs.Changes.{ReplacesShowing}
 use Rattle.ud_tree.specs.Runs.{ReadsOne, reads, FileResult, Unshown, IsPlanned, ReplacesOne, replaces, no_name, EachFile, no_file, then_file, names_of}
 use Rattle.ud_tree.specs.Shown.{ShowsOne, ListsOne}
 use Rattle.ud_tree.specs.TreeRuns.{DoesBy, IsRun, no_run, ran, Run}
@@ -82,8 +83,8 @@ replace_touches {o = o} {name = name} {old = old} {new = new} p (replaces r id f
     (one_rename o id name fresh old new r (h o p))
 replace_touches p (no_name is) = each_at is no_call
 
-replaces_touch : {o : Options} {plan : PlanState} {old : List Call} {names : List (List ℕ)} {new : List Call} {results : List FileResult} → IsPlanned plan o →
-    EachFile (Unshown (ReplacesOne plan false)) old names new results → EachCall (TouchesFreshOrNone o) old new
+replaces_touch : {o : Options} {plan : PlanState} {shows : Bool} {old : List Call} {names : List (List ℕ)} {new : List Call} {results : List FileResult} → IsPlanned plan o →
+    EachFile (ReplacesShowing plan false shows) old names new results → EachCall (TouchesFreshOrNone o) old new
 replaces_touch p no_file = no_call
 replaces_touch p (then_file h k t) = each_then (replaces_touch p h) (replace_touches p k.does)
 
@@ -93,7 +94,7 @@ nothing_touched h = each_weaker (λ c earlier t. inl t) h
 replaces_by : {o : Options} (args : Arguments) (t : Task) → IsPlanned args.plan o → args.write_into ≡ false → {old : List Call} {names : List (List ℕ)} {new : List Call}
     {results : List FileResult} → EachFile (DoesBy t args) old names new results → EachCall (TouchesFreshOrNone o) old new
 replaces_by args Replace p into {old = old} {names = names} {new = new} {results = results} h =
-    replaces_touch p (subst (λ (b : Bool). EachFile (Unshown (ReplacesOne args.plan b)) old names new results) into h)
+    replaces_touch p (subst (λ (b : Bool). EachFile (ReplacesShowing args.plan b args.show_changes) old names new results) into h)
 replaces_by args Diff p into h = nothing_touched (shows_touch h)
 replaces_by args Names p into h = nothing_touched (lists_touch h)
 
@@ -214,8 +215,8 @@ moments_one {first = first} {name = name} p fresh_name (no_name is) t m =
     moments_more name fresh_name (m (subst (λ (l : List Call). AreTrue first l) is t)) (each_at is no_call)
 
 -- All files of a run.
-moments_all : {o : Options} {plan : PlanState} {first : Files} {old start : List Call} {names : List (List ℕ)} {new : List Call} {results : List FileResult} → IsPlanned plan o →
-    EachFile (Unshown (ReplacesOne plan false)) start names new results → AllPairs Apart names → AreTrue first new → Moments o first old [] start → Moments o first old names new
+moments_all : {o : Options} {plan : PlanState} {shows : Bool} {first : Files} {old start : List Call} {names : List (List ℕ)} {new : List Call} {results : List FileResult} → IsPlanned plan o →
+    EachFile (ReplacesShowing plan false shows) start names new results → AllPairs Apart names → AreTrue first new → Moments o first old [] start → Moments o first old names new
 moments_all p no_file apart t m = m
 moments_all p (then_file {names = names} {name = name} h k told) apart t m =
     moments_one p (last_is_new names name apart) k.does t (λ u. moments_all p h (pairs_before names name apart) u m)
@@ -242,7 +243,7 @@ moments_by : {o : Options} (args : Arguments) (t : Task) → IsPlanned args.plan
     {results : List FileResult} → AllPairs Apart names → AreTrue first new → Moments o first old [] start → EachFile (DoesBy t args) start names new results →
     EachCall (λ (c : Call) (earlier : List Call). OldOrOutput o first old (c ∷ earlier)) old new
 moments_by args Replace p into {start = start} {names = names} {new = new} {results = results} apart t m h =
-    (moments_all p (subst (λ (b : Bool). EachFile (Unshown (ReplacesOne args.plan b)) start names new results) into h) apart t m).each
+    (moments_all p (subst (λ (b : Bool). EachFile (ReplacesShowing args.plan b args.show_changes) start names new results) into h) apart t m).each
 moments_by args Diff p into apart t m h = (moments_still m (shows_touch h)).each
 moments_by args Names p into apart t m h = (moments_still m (lists_touch h)).each
 

@@ -24,7 +24,8 @@ use Rattle.ud_tree.specs.declared.counts.Counts.{Counts}
 use Rattle.ud_tree.specs.declared.job.Job.{Job}
 use Rattle.ud_tree.specs.declared.report.Report.{Report}
 use Rattle.ud_tree.specs.declared.walk.Found.{Found}
-use Rattle.ud_tree.specs.Runs.{FileResult, Unshown, ReplacesOne, EachFile, shown_of, told_of}
+use Rattle.ud_tree.specs.Changes.{ReplacesShowing}
+use Rattle.ud_tree.specs.Runs.{FileResult, Unshown, EachFile, shown_of, told_of}
 use Rattle.ud_tree.specs.Runs.{changed_in, same_in, faulty_in, names_of}
 use Rattle.ud_tree.specs.Shown.{ShowsOne, ListsOne}
 use Rattle.ud_tree.specs.Messages.{output_messages}
@@ -38,7 +39,7 @@ use Rattle.ud_tree.specs.Statuses.{tree_status}
 -- `DoesBy task args name old new result`: the file `name` is replaced, shown or listed, by the
 -- task.
 abbrev pub DoesBy : Task → Arguments → List ℕ → List Call → List Call → FileResult → Type 0
-DoesBy Replace args = Unshown (ReplacesOne args.plan args.write_into)
+DoesBy Replace args = ReplacesShowing args.plan args.write_into args.show_changes
 DoesBy Diff args = ShowsOne args.plan args.write_into
 DoesBy Names args = Unshown (ListsOne args.plan)
 

@@ -33,6 +33,8 @@ pub struct Arguments {
     pub quiet: bool,
     /// True if the conditions are listed that still name a symbol.
     pub list_remaining: bool,
+    /// True if the diff of each file that is changed is printed.
+    pub show_changes: bool,
     /// True if some option names a symbol.
     pub has_symbols: bool,
 }
@@ -71,6 +73,8 @@ pub enum ArgumentFault {
     DiffAndNames,
     /// `-r` and `-s` together.
     RemainingAndNames,
+    /// `-d` and `-s` together.
+    ChangesAndNames,
     /// An option after the first path.
     OptionAfterPath(String),
     /// Paths beside `-0`.
@@ -109,6 +113,7 @@ struct Given {
     from_input: bool,
     quiet: bool,
     list_remaining: bool,
+    show_changes: bool,
     has_symbols: bool,
     version: bool,
 }
@@ -148,6 +153,7 @@ impl Given {
             from_input: false,
             quiet: false,
             list_remaining: false,
+            show_changes: false,
             has_symbols: false,
             version: false,
         }
@@ -215,6 +221,7 @@ impl Given {
             '0' => self.from_input = true,
             'q' => self.quiet = true,
             'r' => self.list_remaining = true,
+            'd' => self.show_changes = true,
             'V' => self.version = true,
             'b' | 'c' | 'K' | 'k' | 'l' | 't' => self.pass_on(letter, "")?,
             _ => return Err(ArgumentFault::UnknownOption(letter)),
@@ -271,6 +278,9 @@ impl Given {
         if given.list_remaining && given.names {
             return Err(ArgumentFault::RemainingAndNames);
         }
+        if given.show_changes && given.names {
+            return Err(ArgumentFault::ChangesAndNames);
+        }
         if given.names {
             given.pass_on('s', "")?;
         }
@@ -303,6 +313,7 @@ impl Given {
             from_input: self.from_input,
             quiet: self.quiet,
             list_remaining: self.list_remaining,
+            show_changes: self.show_changes,
             has_symbols: self.has_symbols,
         }
     }

@@ -66,7 +66,7 @@ fn process_file<T: Tree, W: Write>(
     ensures shown { report.new.is_shown ≡ report.old.is_shown }
 {
     match job.arguments.task {
-        Task::Replace => replace_file(job, tree, file, report),
+        Task::Replace => replace_file(job, tree, file, out, report),
         Task::Diff => show_file(job, tree, file, out, report),
         Task::Names => list_file(job, tree, file, names),
     }

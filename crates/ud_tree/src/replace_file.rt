@@ -1,36 +1,95 @@
 //! Replacing one file.
 
-ghost use Rattle.std.specs.Prelude.{◌≡◌, [], false};
-ghost use Rattle.ud_tree.specs.Runs.{ReplacesOne};
+ghost use Rattle.std.specs.Prelude.{◌≡◌, [], true, false, Ok, is_ok};
+ghost use Rattle.ud_model.specs.sections.Items.{Options};
+ghost use Rattle.ud_tree.specs.Changes.{KeepsOne, ReplacesShowing, ShowsChange};
+ghost use Rattle.ud_tree.specs.Fates.{is_changed};
+ghost use Rattle.ud_tree.specs.Runs.{IsPlanned, ReplacesOne, fate_of};
+ghost use Rattle.ud_tree.specs.Streams.{stream_of};
+ghost use Rattle.ud_tree.specs.Writing.{WritesOne};
 
+use crate::file_diff::diff_of;
 use crate::job::Job;
 use crate::paths::fresh_name;
 use crate::report::Report;
+use crate::send::send;
 use crate::tree::Tree;
 use crate::walk::FileAt;
+use std::io::Write;
 use ud_engine::Watched;
 use ud_replace::{ReplaceError, Target, Update, replace_keeping};
 
 /// Replaces a file, and adds the conditions of its output that still name a symbol to the report.
+/// Writes the diff of a file that was changed, if the arguments ask for it.
 ///
 /// # Errors
-/// As `replace_keeping`. `OutOfMemory` also if memory for the new file's name can't be allocated.
-pub(crate) fn replace_file<T: Tree>(
+/// As `replace_keeping`. `OutOfMemory` also if memory for the new file's name can't be allocated. If
+/// memory for the diff can't be, the file is changed, and the report has it.
+pub(crate) fn replace_file<T: Tree, W: Write>(
     job: &Job<'_>,
     tree: &mut T,
     file: FileAt<'_>,
+    out: &mut Watched<W>,
     report: &mut Report,
 ) -> Result<Update, ReplaceError>
-    ensures replaces { ReplacesOne job.now.arguments.now.plan job.now.arguments.now.write_into
-        file.entry.name.now (T.history tree.old) (T.history tree.new) result }
+    ensures writes { WritesOne
+        (ReplacesShowing job.now.arguments.now.plan job.now.arguments.now.write_into
+        job.now.arguments.now.show_changes) file.entry.name.now (T.history tree.old)
+        (T.history tree.new) (stream_of W.contents out.old) (stream_of W.contents out.new) result }
     ensures terminal { report.new.is_terminal ≡ report.old.is_terminal }
     ensures shown { report.new.is_shown ≡ report.old.is_shown }
 {
     let mut text = Vec::new(job.alloc);
     let mut output = Watched::new(Vec::<u8>::new(job.alloc));
-    let update = replace_named(job, tree, file, &mut text, &mut output)?;
+    let update = match replace_named(job, tree, file, &mut text, &mut output) {
+        Ok(update) => update,
+        Err(error) => return Err(error),
+    };
     report.search(job, file.name, output.inner().as_slice());
+    let diff = change_of(job, file.name, update, text.as_slice(), output.inner().as_slice(), report);
+    send(out, diff.as_slice());
     Ok(update)
+}
+
+/// Returns the diff of a file that was changed, if the arguments ask for it; else nothing. If memory
+/// runs out, the report has it.
+fn change_of(
+    job: &Job<'_>,
+    name: &[u8],
+    update: Update,
+    text: &[u8],
+    output: &[u8],
+    report: &mut Report,
+) -> Vec<u8>
+    ensures change { ShowsChange job.now.arguments.now.show_changes name.now update text.now
+        output.now result.items }
+    ensures terminal { report.new.is_terminal ≡ report.old.is_terminal }
+    ensures shown { report.new.is_shown ≡ report.old.is_shown }
+{
+    let nothing = Vec::new(job.alloc);
+    if !job.arguments.show_changes {
+        return nothing;
+    }
+    if !is_change(update) {
+        return nothing;
+    }
+    match diff_of(job, name, text, output) {
+        Some(diff) => diff,
+        None => {
+            report.lose();
+            nothing
+        }
+    }
+}
+
+/// Returns whether a file was changed.
+fn is_change(update: Update) -> bool
+    ensures { result ≡ is_changed (fate_of (Ok update)) }
+{
+    match update {
+        Update::Unchanged => false,
+        Update::Replaced | Update::WrittenInto => true,
+    }
 }
 
 /// Replaces a file by one with a name of its own. Its text is left in `text` and the output for it in
@@ -45,8 +104,11 @@ fn replace_named<T: Tree>(
     requires unread { text.old.items ≡ [] }
     requires empty { output.old.inner.items ≡ [] }
     requires not_failed { output.old.failed ≡ false }
-    ensures { ReplacesOne job.now.arguments.now.plan job.now.arguments.now.write_into
+    ensures replaces { ReplacesOne job.now.arguments.now.plan job.now.arguments.now.write_into
         file.entry.name.now (T.history tree.old) (T.history tree.new) result }
+    ensures keeps { (o : Options) → IsPlanned job.now.arguments.now.plan o → is_ok result ≡ true →
+        KeepsOne o job.now.arguments.now.write_into file.entry.name.now (T.history tree.old)
+        (T.history tree.new) result text.new.items output.new.inner.items }
 {
     let name = file.name;
     match fresh_name(job.alloc, name) {

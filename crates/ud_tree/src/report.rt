@@ -63,7 +63,7 @@ pub(crate) struct Report {
     faulty: usize,
     /// The conditions that still name a symbol.
     remaining: Remaining,
-    /// True if memory ran out for some of these conditions.
+    /// True if memory ran out for some of these conditions, or for a diff.
     has_lost: bool,
 }
 
@@ -108,7 +108,7 @@ impl Report {
         send(out, self.remaining.list());
     }
 
-    /// Returns whether memory ran out for some of the conditions that still name a symbol.
+    /// Returns whether memory ran out for some of what was to be printed.
     pub(crate) fn has_lost(&self) -> bool {
         self.has_lost
     }
@@ -123,6 +123,14 @@ impl Report {
             let added = self.remaining.add(name, output, job.mode(), symbols);
             self.has_lost |= added.is_err();
         }
+    }
+
+    /// Records that memory ran out for some of what was to be printed.
+    pub(crate) fn lose(&mut self)
+        ensures terminal { self.new.is_terminal ≡ self.old.is_terminal }
+        ensures shown { self.new.is_shown ≡ self.old.is_shown }
+    {
+        self.has_lost = true;
     }
 
     /// Removes the number of files from the terminal.
@@ -293,6 +301,7 @@ pub fn report_argument_fault<E: Write>(err: &mut Watched<E>, fault: &ArgumentFau
         }
         ArgumentFault::DiffAndNames => report_line(err, &[b"-n and -s don't go together"]),
         ArgumentFault::RemainingAndNames => report_line(err, &[b"-r and -s don't go together"]),
+        ArgumentFault::ChangesAndNames => report_line(err, &[b"-d and -s don't go together"]),
         ArgumentFault::OptionAfterPath(word) => {
             report_line(err, &[b"Option after a path: ", word.as_bytes()]);
         }

@@ -5,8 +5,7 @@ use Rattle.ud_tree.proofs.process_files.process_file.Goals as goal
 
 pub returns-in-Replace-clause-writes : goal.returns-in-Replace-clause-writes
 returns-in-Replace-clause-writes g c =
-    done_by Replace c.args.job.now.arguments.now c.in-Replace.is
-    (writes_unshown (stream_of g.W.Write.contents c.args.out.now) c.replace_file.ensures.replaces)
+    done_by Replace c.args.job.now.arguments.now c.in-Replace.is c.replace_file.ensures.writes
 
 pub returns-in-Diff-clause-writes : goal.returns-in-Diff-clause-writes
 returns-in-Diff-clause-writes g c = done_by Diff c.args.job.now.arguments.now c.in-Diff.is c.show_file.ensures.writes

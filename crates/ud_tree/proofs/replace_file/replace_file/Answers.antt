@@ -1,7 +1,20 @@
-use Rattle.std.proofs.lemmas.Result.{err_from_is_err_and}
+use Rattle.std.proofs.Common.{[], refl, ap, ◌∙◌}
+use Rattle.ud_tree.specs.Changes.{after_error, after_update}
+use Rattle.ud_tree.specs.Streams.{stream_of}
+use Rattle.ud_tree.proofs.StreamLemmas.{sends_none, sends_same}
 use Rattle.ud_tree.proofs.replace_file.replace_file.Goals as goal
 
-pub returns-in_err-update-clause-replaces : goal.returns-in_err-update-clause-replaces
-returns-in_err-update-clause-replaces g c =
-    let e = err_from_is_err_and c.from_residual.result c.from_residual.ensures.1 in
-    rw (e.1, e.2) c.in_err-update.ensures
+pub returns-in-Err-clause-writes : goal.returns-in-Err-clause-writes
+returns-in-Err-clause-writes g c = record {
+  shown = [];
+  does = λ told. record { does = c.in-Err.ensures.replaces; change = after_error };
+  sent = sends_none (stream_of g.W.Write.contents c.args.out.now);
+}
+
+pub returns-clause-writes : goal.returns-clause-writes
+returns-clause-writes g c = record {
+  shown = c.change_of-diff.result.items;
+  does = λ told. record { does = c.in-Ok.ensures.replaces; change = after_update _ _ (λ o p. c.in-Ok.ensures.keeps o p refl)
+      (rw (c.as_slice-2.ensures.value, c.as_slice-3.ensures.value ∙ ap (λ v. v.items) c.inner-2.ensures) at c.change_of-diff.ensures.change) };
+  sent = sends_same c.as_slice-4.ensures.value c.send.ensures;
+}
