@@ -275,8 +275,36 @@ promises() {
   check '-n -w: links' same "$status $(grep -c '^-#ifdef' "$work/out")" '1 1'
 }
 
+# Tests that -d prints the diff of what a run changes, and that patch -R undoes the run with it.
+undoes() {
+  small_tree
+  put src/linked.c "$text"
+  ln src/linked.c src/other.c
+  cp -r src "$work/was"
+  tree -d -DA src
+  check '-d: status' same "$status" 2
+  check '-d: the files' holds src/a.c 'yes\n'
+  check '-d: a file that was left alone' same "$(grep -c 'linked.c' "$work/out")" 0
+  cp "$work/out" "$work/diff"
+  if has patch; then
+    check '-d: a diff for each changed file' same "$(grep -c '^--- ' "$work/diff")" 2
+    patch -s -R -p0 -i "$work/diff"
+    check '-d: patch -R' diff -r "$work/was" src
+  fi
+  tree -n -DA src
+  check '-d: as -n' cmp "$work/out" "$work/diff"
+  tree -n -d -DA src
+  check '-n -d: as -n' cmp "$work/out" "$work/diff"
+  tree -w -d -q -DA src/linked.c
+  check '-w -d: a file that is written into' same "$(head -n 1 "$work/out" | cut -f 1)" '--- src/linked.c'
+  tree -d -s src
+  check '-d -s' same "$status $(cat "$work/err")" "2 unifdef-tree: -d and -s don't go together"
+  rm -rf "$work/was"
+}
+
 safety() {
   locks
+  undoes
   promises
   overlay
   unrenamed
