@@ -350,6 +350,42 @@ applies() {
   rm -rf src
 }
 
+# Tests the paths in diffs: none begins with ./, and one that begins or ends with a space is quoted.
+diff_paths() {
+  has patch || return 0
+  local path
+  fresh_tree
+  put ' first.c' "$text"
+  put 'last.c ' "$text"
+  put src/x.c "$text"
+  for path in . ./ ././ .//; do
+    tree -n -q -DA -g '*' -- "$path"
+    check "diff of $path: paths" same "$(grep '^[-+][-+][-+] ' "$work/out")" '--- " first.c"
++++ " first.c"
+--- "last.c "
++++ "last.c "
+--- src/x.c
++++ src/x.c'
+  done
+  cp "$work/out" "$work/diff"
+  cp -r "$work/run" "$work/old"
+  tree -q -x2 -DA -g '*' -- .
+  mv "$work/run" "$work/new"
+  applies_below patch -s -p0 -F0
+  applies_below git apply -p0
+  rm -rf "$work/old" "$work/new"
+}
+
+# applies_below COMMAND..: the command must take the diff of `diff_paths`.
+applies_below() {
+  has "$1" || return 0
+  rm -rf "$work/run"
+  cp -r "$work/old" "$work/run"
+  cd "$work/run" || exit 1
+  "$@" < "$work/diff" > /dev/null 2>&1
+  check "diff of .: $1" diff -r "$work/run" "$work/new"
+}
+
 # Tests a full disk: a small file system, or else a limit on the size of files.
 full_disk() {
   fresh_tree
@@ -554,6 +590,7 @@ in_folder() {
   lists
   remaining
   diffs
+  diff_paths
   full_disk
   paths_from_input
   counts
