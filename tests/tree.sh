@@ -430,17 +430,25 @@ paths_from_input() {
   put src/a.txt "$text"
   put src/b.c "$text"
   ln -s a.txt src/link
-  # shellcheck disable=SC2012
-  printf 'src/a.txt\0src/link\0src/none\0src/\x81\0' > "$work/paths"
+  mkdir src/folder
+  put src/folder/c.c "$text"
+  mkfifo src/pipe
+  printf 'src/a.txt\0src/link\0src/folder\0src/pipe\0src/none\0src/\x81\0' > "$work/paths"
   status=0
   (cd "$work/run" && "$TREE" -0 -DA < "$work/paths" > "$work/out" 2> "$work/err") || status=$?
   check 'input: status' same "$status" 2
   check 'input: a file' holds src/a.txt 'yes\n'
   check 'input: another file' holds src/b.c "$text"
-  check 'input: a link' has_line "$work/err" 'unifdef-tree: src/link: Is no regular file'
+  check 'input: a file below a folder' holds src/folder/c.c "$text"
+  check 'input: a pipe' has_line "$work/err" 'unifdef-tree: src/pipe: Is no regular file'
   check 'input: a missing file' has_line "$work/err" 'unifdef-tree: src/none: No such file or folder'
   check 'input: not UTF-8' has_line "$work/err" "unifdef-tree: src/\\x81: Its name isn't UTF-8"
   check 'input: count' has_line "$work/err" 'unifdef-tree: 1 changed, 0 unchanged, 3 faulty'
+  rm src/pipe
+  find src -print0 > "$work/paths"
+  status=0
+  (cd "$work/run" && "$TREE" -0 -DA < "$work/paths" > "$work/out" 2> "$work/err") || status=$?
+  check 'input: find -print0' same "$status $(cat "$work/err")" '1 unifdef-tree: 2 changed, 1 unchanged, 0 faulty'
   tree -0 src
   check 'input: with a path' same "$status" 2
   tree -0 -DA
@@ -542,6 +550,41 @@ run_meanwhile() {
   wait "$tracer" || status=$?
 }
 
+# failing_look ERROR PATH ARGUMENT..: as `tree`, but the first look at the path fails.
+failing_look() {
+  local error=$1 path=$2
+  shift 2
+  status=0
+  (cd "$work/run" && strace -f -o /dev/null -P "$path" \
+    -e inject='?lstat,?newfstatat,statx':error="$error":when=1 "$TREE" "$@" \
+    > "$work/out" 2> "$work/err" < "${input:-/dev/null}") || status=$?
+}
+
+# Tests a name that vanishes between the listing of its folder and the look at it, and one that
+# vanishes before the run looks at it though it was named.
+vanishing() {
+  small_tree
+  rm src/bad.c
+  failing_look ENOENT src/a.c -DA src
+  check 'vanished: no fault' has_line "$work/err" 'unifdef-tree: 1 changed, 1 unchanged, 0 faulty'
+  check 'vanished: status' same "$status" 1
+  small_tree
+  failing_look EIO src/a.c -DA src
+  check 'not known: status' same "$status" 2
+  check 'not known: message' has_line "$work/err" 'unifdef-tree: src/a.c: Cannot be found: Input/output error'
+  check 'not known: other files' holds src/folder/b.c 'yes\n'
+  small_tree
+  failing_look ENOENT src/a.c -DA src/folder src/a.c
+  check 'vanished and named: status' same "$status" 2
+  check 'vanished and named: message' has_line "$work/err" 'unifdef-tree: src/a.c: No such file or folder'
+  check 'vanished and named: nothing is done' holds src/folder/b.c "$text"
+  printf 'src/a.c\0src/folder/b.c\0' > "$work/paths"
+  input=$work/paths failing_look ENOENT src/a.c -0 -DA
+  check 'vanished on the input: status' same "$status" 2
+  check 'vanished on the input: message' has_line "$work/err" 'unifdef-tree: src/a.c: No such file or folder'
+  check 'vanished on the input: other files' holds src/folder/b.c 'yes\n'
+}
+
 other_run() { "$TREE" -q -UA src 2> /dev/null; }
 
 # Tests a file that changes between read and rename, and two runs at once.
@@ -597,6 +640,7 @@ in_folder() {
   if can_trace; then
     kills
     meanwhile
+    vanishing
   else
     echo 'tree-test: strace is not there or not allowed, so kills and changes meanwhile are left out'
   fi

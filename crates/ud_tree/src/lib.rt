@@ -36,4 +36,4 @@ pub use laws::{law_run_old_or_new, law_run_reads, law_run_renames, law_run_shows
 pub use report::{report_argument_fault, report_line};
 pub use run::run_tree;
 pub use tree::Tree;
-pub use ud_replace::{FileId, Node, NodeKind};
+pub use ud_replace::{FileId, Lookup, Node, NodeKind};

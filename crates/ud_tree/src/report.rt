@@ -4,7 +4,7 @@
 //! `Report` is a fault, and faults are counted. On a terminal, a line with the number of files is
 //! shown during the run, and removed before each message.
 
-ghost use Rattle.std.specs.Prelude.{◌≡◌, ◌+◌, ◌<◌, ◌^◌, [], ◌++◌, false, if◌then◌else◌, None};
+ghost use Rattle.std.specs.Prelude.{◌≡◌, ◌+◌, ◌<◌, ◌^◌, [], ◌++◌, false, if◌then◌else◌};
 ghost use Rattle.std.specs.List.{flat_map};
 ghost use Rattle.ud_diagnostics.specs.RunMessages.{fault_message};
 ghost use Rattle.ud_replace.specs.Calls.{met};
@@ -19,11 +19,12 @@ use crate::remaining::Remaining;
 use crate::send::{send, send_parts};
 use itoa::Buffer;
 use std::alloc::Global;
-use std::io::{self, ErrorKind, Write};
+use std::io::{self, Write};
 use ud_diagnostics::report_result;
 use ud_faults::RunFault;
 use ud_io::Watched;
 use ud_model::Settings;
+use ud_replace::Lookup;
 
 /// The number of files after which the line on the terminal is shown again.
 const STEP: usize = 64;
@@ -213,22 +214,25 @@ impl Report {
         }
     }
 
-    /// Writes that there is nothing at a path, or why that isn't known.
-    pub(crate) fn missing<E: Write>(
+    /// Writes that nothing has a path.
+    pub(crate) fn missing<E: Write>(&mut self, err: &mut Watched<E>, path: &[u8])
+        ensures { ReportsRefusal (met path.now Lookup.Absent) self.old self.new
+            (stream_of E.contents err.old) (stream_of E.contents err.new) }
+    {
+        self.fault(err, path, b"No such file or folder");
+    }
+
+    /// Writes why it isn't known what has a path.
+    pub(crate) fn unknown<E: Write>(
         &mut self,
         err: &mut Watched<E>,
         path: &[u8],
         reason: Option<io::Error>,
     )
-        ensures { ReportsRefusal (met path.now None) self.old self.new
+        ensures { ReportsRefusal (met path.now Lookup.Unknown) self.old self.new
             (stream_of E.contents err.old) (stream_of E.contents err.new) }
     {
-        match reason {
-            Some(error) if error.kind() != ErrorKind::NotFound => {
-                self.failure(err, path, b"Cannot be found", Some(error));
-            }
-            _ => self.fault(err, path, b"No such file or folder"),
-        }
+        self.failure(err, path, b"Cannot be found", reason);
     }
 
     /// Writes the fault of a file's text, as unifdef does.
