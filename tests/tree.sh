@@ -468,6 +468,10 @@ counts() {
   script -qec "'$TREE' -DA src" /dev/null < /dev/null > "$work/out"
   check 'counter: on a terminal' grep -q 'unifdef-tree: 64 of 100 files' "$work/out"
   check 'counter: goes away' grep -q $'\r\x1b\\[Kunifdef-tree: 100 changed, 0 unchanged, 0 faulty' "$work/out"
+  for i in -q -n -r -s; do
+    script -qec "'$TREE' $i -DB src" /dev/null < /dev/null > "$work/out"
+    check "counter: none under $i" same "$(grep -c -e 'of 100 files' -e $'\x1b' "$work/out")" 0
+  done
   tree -DA src
   check 'counter: nowhere else' same "$(cat "$work/err")" 'unifdef-tree: 0 changed, 100 unchanged, 0 faulty'
   tree -q -DA src

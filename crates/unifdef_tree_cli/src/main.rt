@@ -11,7 +11,8 @@ use std::time::{SystemTime, UNIX_EPOCH};
 use std::{env, io};
 use ud_io::Watched;
 use ud_tree::{
-    Arguments, Disk, Job, Request, parse_arguments, report_argument_fault, report_line, run_tree,
+    Arguments, Disk, Job, Request, Task, parse_arguments, report_argument_fault, report_line,
+    run_tree,
 };
 
 /// The version that `-V` prints.
@@ -52,12 +53,22 @@ fn run(rt: &HostRuntime, arguments: &Arguments) -> ExitCode {
         alloc: rt.alloc(),
         arguments,
         tag: tag.as_bytes(),
-        is_terminal: stderr.is_terminal(),
+        is_terminal: stderr.is_terminal() && allows_counter(arguments),
     };
     let mut disk = Disk::new(rt, rt.alloc());
     let mut out = Watched::new(rt.stdout());
     let mut err = Watched::new(stderr);
     ExitCode::from(run_tree(&job, &mut disk, rt.stdin(), &mut out, &mut err))
+}
+
+/// Returns whether a terminal may show how many files are done. The last lines remove that, so
+/// there must be some. Nothing else may be written, since the output may go to the same terminal.
+fn allows_counter(arguments: &Arguments) -> bool {
+    let replaces = match arguments.task {
+        Task::Replace => true,
+        Task::Diff | Task::Names => false,
+    };
+    replaces && !arguments.quiet && !arguments.list_remaining
 }
 
 /// Returns a text that differs from run to run: the number of the process, and the time.
