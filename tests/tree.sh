@@ -109,6 +109,28 @@ names() {
   check 'names: a pipe that is named: nothing is done' holds src/x.cc "$text"
 }
 
+# Tests that messages show control bytes of names, and that each message is one write.
+messages() {
+  fresh_tree
+  put src/$'bell\a.c' '#endif\n'
+  put src/$'del\177 and\nline.c' "$text"
+  chmod 0 src/$'del\177 and\nline.c'
+  mkfifo src/$'tab\t.c'
+  tree src/$'tab\t.c'
+  check 'messages: a named pipe' same "$status $(cat "$work/err")" '2 unifdef-tree: src/tab\x09.c: Is no regular file'
+  tree -DA src/$'\e[31mred.c'
+  check 'messages: a missing path' same "$status $(cat "$work/err")" '2 unifdef-tree: src/\x1b[31mred.c: No such file or folder'
+  tree -D$'A\n1' src
+  check 'messages: a word' same "$status $(cat "$work/err")" '2 unifdef-tree: Bad symbol: -DA\x0a1'
+  tree -DA src
+  check 'messages: a fault of a text' has_line "$work/err" 'unifdef: src/bell\x07.c: 1: Inappropriate #endif'
+  [ "$(id -u)" -eq 0 ] ||
+    check 'messages: an unreadable file' has_line "$work/err" 'unifdef-tree: src/del\x7f and\x0aline.c: Cannot be read: Permission denied'
+  can_trace || return 0
+  (cd "$work/run" && strace -f -s 200 -o "$work/calls" -e trace=write "$TREE" -DA src 2> /dev/null)
+  check 'messages: one write each' same "$(grep -c 'write(2, "unifdef.*\\n"' "$work/calls")" "$(grep -c 'write(2' "$work/calls")"
+}
+
 # Tests modes, times and links.
 keeps() {
   fresh_tree
@@ -209,6 +231,9 @@ bad.c' 'x\n#else\n'
     tree $words src
     [ "$words" = -DA ] || check "refused: $words" same "$status" 2
   done
+  tree
+  check 'no path: the reason comes first' same "$status $(head -n 1 "$work/err")" '2 unifdef-tree: No path'
+  check 'no path: the usage follows' grep -q '^usage: unifdef-tree ' "$work/err"
   tree -D
   check 'refused: no argument' has_line "$work/err" 'unifdef-tree: Option -D needs an argument'
   tree -DA
@@ -267,7 +292,10 @@ lists() {
   check '-s: status' same "$status" 2
   check '-s: names' same "$(tr -s ' ' < "$work/out")" $' 3 A\n 1 B\n 1 C'
   check '-s: what is not listed' has_line "$work/err" 'unifdef-tree: 2 files listed, 1 faulty; 3 conditions could not be listed'
-  rm src/c.h
+  rm src/*.h
+  put src/b.h '#ifdef X Y\n#endif\n'
+  tree -s src
+  check '-s: of one file' has_line "$work/err" 'unifdef-tree: 1 file listed, 0 faulty; 1 condition could not be listed'
   tree -s -j 5 src
   check '-s: status 0' same "$status" 0
 }
@@ -631,6 +659,7 @@ in_folder() {
   work=$(mktemp -d "$1/tree-test.XXXXXX")
   chmod 755 "$work"
   names
+  messages
   keeps
   faults
   refusals

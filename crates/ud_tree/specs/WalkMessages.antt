@@ -40,8 +40,8 @@ is_refused (met path (Present node)) = false
 is_refused (followed path answer) = false
 is_refused (listed folder names answer) = not answer
 
--- `IsRefusal w message`: `w` found nothing or failed, and `message` is a line with its path and what
--- failed.
+-- `IsRefusal w message`: `w` found nothing or failed, and `message` is a line with its path and
+-- what failed.
 pub data IsRefusal (w : WalkCall) (message : List ℕ) : Type 0 where
   is_missing : (path : List ℕ) → w ≡ met path Absent →
       message ≡ fault_line path (codes "No such file or folder") → IsRefusal w message
@@ -118,8 +118,8 @@ pub record ReportsWalk (calls calls' : List Call) (old new : Report) (err err' :
   pub counted : old.faulty + length messages < 2 ^ 64 →
       new.faulty ≡ old.faulty + length messages
 
--- `ReportsNames folder names calls calls' old new err err'`: the same, and one of these calls listed
--- `names` in `folder`.
+-- `ReportsNames folder names calls calls' old new err err'`: the same, and one of these calls
+-- listed `names` in `folder`.
 pub record ReportsNames (folder : List ℕ) (names : List (List ℕ)) (calls calls' : List Call)
     (old new : Report) (err err' : Stream) : Type 0 where
   pub answer : Bool

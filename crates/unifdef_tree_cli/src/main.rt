@@ -24,13 +24,13 @@ const EXIT_TROUBLE: u8 = 2;
 fn main(rt: HostRuntime) -> ExitCode {
     let Ok(args) = args(&rt) else {
         let mut err = Watched::new(rt.stderr());
-        report_line(&mut err, &[b"Cannot take arguments"]);
+        report_line(rt.alloc(), &mut err, &[b"Cannot take arguments"]);
         return ExitCode::from(EXIT_TROUBLE);
     };
     match parse_arguments(rt.alloc(), args.as_slice()) {
         Err(fault) => {
             let mut err = Watched::new(rt.stderr());
-            report_argument_fault(&mut err, &fault);
+            report_argument_fault(rt.alloc(), &mut err, &fault);
             ExitCode::from(EXIT_TROUBLE)
         }
         Ok(Request::Version) => match rt.println(VERSION) {
@@ -45,7 +45,7 @@ fn main(rt: HostRuntime) -> ExitCode {
 fn run(rt: &HostRuntime, arguments: &Arguments) -> ExitCode {
     let Ok(tag) = tag(rt, rt.alloc()) else {
         let mut err = Watched::new(rt.stderr());
-        report_line(&mut err, &[b"Out of memory"]);
+        report_line(rt.alloc(), &mut err, &[b"Out of memory"]);
         return ExitCode::from(EXIT_TROUBLE);
     };
     let stderr = rt.stderr();
