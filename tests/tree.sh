@@ -234,6 +234,15 @@ bad.c' 'x\n#else\n'
   tree
   check 'no path: the reason comes first' same "$status $(head -n 1 "$work/err")" '2 unifdef-tree: No path'
   check 'no path: the usage follows' grep -q '^usage: unifdef-tree ' "$work/err"
+  for words in -h --help '-DA -h src'; do
+    # shellcheck disable=SC2086
+    tree $words
+    check "$words: status" same "$status $(cat "$work/err")" '0 '
+    check "$words: usage" grep -q '^usage: unifdef-tree ' "$work/out"
+    check "$words: a line for each option" same "$(sed -n 's/^  -\(.\).*/\1/p' "$work/out" | sort -u | tr -d '\n')" '-0DKUVbcghijklnqrstwx'
+  done
+  (cd "$work/run" && "$TREE" -h > /dev/full 2> /dev/null)
+  check '-h: the output can not be written' same "$?" 2
   tree -D
   check 'refused: no argument' has_line "$work/err" 'unifdef-tree: Option -D needs an argument'
   tree -DA

@@ -48,6 +48,8 @@ impl Arguments {
 /// The request of a command line.
 #[derive(Drop)]
 pub enum Request {
+    /// The usage and a line for each option.
+    Help,
     /// The version.
     Version,
     /// A run.
@@ -111,6 +113,7 @@ struct Given {
     list_remaining: bool,
     has_symbols: bool,
     version: bool,
+    help: bool,
 }
 
 /// Returns what the arguments ask for. They are without the program's name.
@@ -150,6 +153,7 @@ impl Given {
             list_remaining: false,
             has_symbols: false,
             version: false,
+            help: false,
         }
     }
 
@@ -162,6 +166,10 @@ impl Given {
         }
         if word == "--" {
             self.only_paths = true;
+            return Ok(1);
+        }
+        if word == "--help" {
+            self.help = true;
             return Ok(1);
         }
         let mut letters = word.chars();
@@ -216,6 +224,7 @@ impl Given {
             'q' => self.quiet = true,
             'r' => self.list_remaining = true,
             'V' => self.version = true,
+            'h' => self.help = true,
             'b' | 'c' | 'K' | 'k' | 'l' | 't' => self.pass_on(letter, "")?,
             _ => return Err(ArgumentFault::UnknownOption(letter)),
         }
@@ -262,6 +271,9 @@ impl Given {
     /// Returns what all arguments ask for.
     fn finish(self) -> Result<Request, ArgumentFault> {
         let mut given = self;
+        if given.help {
+            return Ok(Request::Help);
+        }
         if given.version {
             return Ok(Request::Version);
         }

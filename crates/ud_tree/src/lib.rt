@@ -10,6 +10,7 @@ mod counts;
 mod disk;
 mod file_diff;
 mod file_result;
+mod help;
 mod job;
 mod laws;
 mod list_file;
@@ -31,6 +32,7 @@ mod walk;
 
 pub use arguments::{ArgumentFault, Arguments, Request, Task, parse_arguments};
 pub use disk::Disk;
+pub use help::print_help;
 pub use job::Job;
 pub use laws::{law_run_old_or_new, law_run_reads, law_run_renames, law_run_shows};
 pub use report::{report_argument_fault, report_line};

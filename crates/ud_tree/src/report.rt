@@ -300,8 +300,8 @@ impl Report {
 }
 
 /// How the program is called.
-const USAGE: &[u8] =
-    b"usage: unifdef-tree [-nqrw0] [-g pattern]... [-bcKklt] [-Dsym[=val]]... [-Usym]...\n                    [-iDsym[=val]]... [-iUsym]... [-xmode] [--] path...\n       unifdef-tree -s [-q0] [-g pattern]... [-t] [--] path...\n       unifdef-tree -V\n";
+pub(crate) const USAGE: &[u8] =
+    b"usage: unifdef-tree [-nqrw0] [-g pattern]... [-bcKklt] [-Dsym[=val]]... [-Usym]...\n                    [-iDsym[=val]]... [-iUsym]... [-xmode] [--] path...\n       unifdef-tree -s [-q0] [-g pattern]... [-t] [--] path...\n       unifdef-tree -h | -V\n";
 
 /// Writes the message of a fault of the arguments.
 pub fn report_argument_fault<E: Write>(alloc: Global, err: &mut Watched<E>, fault: &ArgumentFault) {

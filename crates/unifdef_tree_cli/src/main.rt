@@ -11,8 +11,8 @@ use std::time::{SystemTime, UNIX_EPOCH};
 use std::{env, io};
 use ud_io::Watched;
 use ud_tree::{
-    Arguments, Disk, Job, Request, Task, parse_arguments, report_argument_fault, report_line,
-    run_tree,
+    Arguments, Disk, Job, Request, Task, parse_arguments, print_help, report_argument_fault,
+    report_line, run_tree,
 };
 
 /// The version that `-V` prints.
@@ -32,6 +32,14 @@ fn main(rt: HostRuntime) -> ExitCode {
             let mut err = Watched::new(rt.stderr());
             report_argument_fault(rt.alloc(), &mut err, &fault);
             ExitCode::from(EXIT_TROUBLE)
+        }
+        Ok(Request::Help) => {
+            let mut out = Watched::new(rt.stdout());
+            ExitCode::from(if print_help(&mut out) {
+                0
+            } else {
+                EXIT_TROUBLE
+            })
         }
         Ok(Request::Version) => match rt.println(VERSION) {
             Ok(()) => ExitCode::from(0),
