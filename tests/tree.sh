@@ -112,6 +112,28 @@ names() {
   check 'names: a pipe that is named: nothing is done' holds src/x.cc "$text"
 }
 
+# Tests that messages show control bytes of names, and that each message is one write.
+messages() {
+  fresh_tree
+  put src/$'bell\a.c' '#endif\n'
+  put src/$'del\177 and\nline.c' "$text"
+  chmod 0 src/$'del\177 and\nline.c'
+  mkfifo src/$'tab\t.c'
+  tree src/$'tab\t.c'
+  check 'messages: a named pipe' same "$status $(cat "$work/err")" '2 unifdef-tree: src/tab\x09.c: Is no regular file'
+  tree -DA src/$'\e[31mred.c'
+  check 'messages: a missing path' same "$status $(cat "$work/err")" '2 unifdef-tree: src/\x1b[31mred.c: No such file or folder'
+  tree -D$'A\n1' src
+  check 'messages: a word' same "$status $(cat "$work/err")" '2 unifdef-tree: Bad symbol: -DA\x0a1'
+  tree -DA src
+  check 'messages: a fault of a text' has_line "$work/err" 'unifdef: src/bell\x07.c: 1: Inappropriate #endif'
+  [ "$(id -u)" -eq 0 ] ||
+    check 'messages: an unreadable file' has_line "$work/err" 'unifdef-tree: src/del\x7f and\x0aline.c: Cannot be read: Permission denied'
+  can_trace || return 0
+  (cd "$work/run" && strace -f -s 200 -o "$work/calls" -e trace=write "$TREE" -DA src 2> /dev/null)
+  check 'messages: one write each' same "$(grep -c 'write(2, "unifdef.*\\n"' "$work/calls")" "$(grep -c 'write(2' "$work/calls")"
+}
+
 # Tests modes, times and links.
 keeps() {
   fresh_tree
@@ -212,6 +234,18 @@ bad.c' 'x\n#else\n'
     tree $words src
     [ "$words" = -DA ] || check "refused: $words" same "$status" 2
   done
+  tree
+  check 'no path: the reason comes first' same "$status $(head -n 1 "$work/err")" '2 unifdef-tree: No path'
+  check 'no path: the usage follows' grep -q '^usage: unifdef-tree ' "$work/err"
+  for words in -h --help '-DA -h src'; do
+    # shellcheck disable=SC2086
+    tree $words
+    check "$words: status" same "$status $(cat "$work/err")" '0 '
+    check "$words: usage" grep -q '^usage: unifdef-tree ' "$work/out"
+    check "$words: a line for each option" same "$(sed -n 's/^  -\(.\).*/\1/p' "$work/out" | sort -u | tr -d '\n')" '-0DKUVbcghijklnqrstwx'
+  done
+  (cd "$work/run" && "$TREE" -h > /dev/full 2> /dev/null)
+  check '-h: the output can not be written' same "$?" 2
   tree -D
   check 'refused: no argument' has_line "$work/err" 'unifdef-tree: Option -D needs an argument'
   tree -DA
@@ -270,7 +304,10 @@ lists() {
   check '-s: status' same "$status" 2
   check '-s: names' same "$(tr -s ' ' < "$work/out")" $' 3 A\n 1 B\n 1 C'
   check '-s: what is not listed' has_line "$work/err" 'unifdef-tree: 2 files listed, 1 faulty; 3 conditions could not be listed'
-  rm src/c.h
+  rm src/*.h
+  put src/b.h '#ifdef X Y\n#endif\n'
+  tree -s src
+  check '-s: of one file' has_line "$work/err" 'unifdef-tree: 1 file listed, 0 faulty; 1 condition could not be listed'
   tree -s -j 5 src
   check '-s: status 0' same "$status" 0
 }
@@ -353,6 +390,42 @@ applies() {
   rm -rf src
 }
 
+# Tests the paths in diffs: none begins with ./, and one that begins or ends with a space is quoted.
+diff_paths() {
+  has patch || return 0
+  local path
+  fresh_tree
+  put ' first.c' "$text"
+  put 'last.c ' "$text"
+  put src/x.c "$text"
+  for path in . ./ ././ .//; do
+    tree -n -q -DA -g '*' -- "$path"
+    check "diff of $path: paths" same "$(grep '^[-+][-+][-+] ' "$work/out")" '--- " first.c"
++++ " first.c"
+--- "last.c "
++++ "last.c "
+--- src/x.c
++++ src/x.c'
+  done
+  cp "$work/out" "$work/diff"
+  cp -r "$work/run" "$work/old"
+  tree -q -x2 -DA -g '*' -- .
+  mv "$work/run" "$work/new"
+  applies_below patch -s -p0 -F0
+  applies_below git apply -p0
+  rm -rf "$work/old" "$work/new"
+}
+
+# applies_below COMMAND..: the command must take the diff of `diff_paths`.
+applies_below() {
+  has "$1" || return 0
+  rm -rf "$work/run"
+  cp -r "$work/old" "$work/run"
+  cd "$work/run" || exit 1
+  "$@" < "$work/diff" > /dev/null 2>&1
+  check "diff of .: $1" diff -r "$work/run" "$work/new"
+}
+
 # Tests a full disk: a small file system, or else a limit on the size of files.
 full_disk() {
   fresh_tree
@@ -397,17 +470,25 @@ paths_from_input() {
   put src/a.txt "$text"
   put src/b.c "$text"
   ln -s a.txt src/link
-  # shellcheck disable=SC2012
-  printf 'src/a.txt\0src/link\0src/none\0src/\x81\0' > "$work/paths"
+  mkdir src/folder
+  put src/folder/c.c "$text"
+  mkfifo src/pipe
+  printf 'src/a.txt\0src/link\0src/folder\0src/pipe\0src/none\0src/\x81\0' > "$work/paths"
   status=0
   (cd "$work/run" && "$TREE" -0 -DA < "$work/paths" > "$work/out" 2> "$work/err") || status=$?
   check 'input: status' same "$status" 2
   check 'input: a file' holds src/a.txt 'yes\n'
   check 'input: another file' holds src/b.c "$text"
-  check 'input: a link' has_line "$work/err" 'unifdef-tree: src/link: Is no regular file'
+  check 'input: a file below a folder' holds src/folder/c.c "$text"
+  check 'input: a pipe' has_line "$work/err" 'unifdef-tree: src/pipe: Is no regular file'
   check 'input: a missing file' has_line "$work/err" 'unifdef-tree: src/none: No such file or folder'
   check 'input: not UTF-8' has_line "$work/err" "unifdef-tree: src/\\x81: Its name isn't UTF-8"
   check 'input: count' has_line "$work/err" 'unifdef-tree: 1 changed, 0 unchanged, 3 faulty'
+  rm src/pipe
+  find src -print0 > "$work/paths"
+  status=0
+  (cd "$work/run" && "$TREE" -0 -DA < "$work/paths" > "$work/out" 2> "$work/err") || status=$?
+  check 'input: find -print0' same "$status $(cat "$work/err")" '1 unifdef-tree: 2 changed, 1 unchanged, 0 faulty'
   tree -0 src
   check 'input: with a path' same "$status" 2
   tree -0 -DA
@@ -427,6 +508,10 @@ counts() {
   script -qec "'$TREE' -DA src" /dev/null < /dev/null > "$work/out"
   check 'counter: on a terminal' grep -q 'unifdef-tree: 64 of 100 files' "$work/out"
   check 'counter: goes away' grep -q $'\r\x1b\\[Kunifdef-tree: 100 changed, 0 unchanged, 0 faulty' "$work/out"
+  for i in -q -n -r -s; do
+    script -qec "'$TREE' $i -DB src" /dev/null < /dev/null > "$work/out"
+    check "counter: none under $i" same "$(grep -c -e 'of 100 files' -e $'\x1b' "$work/out")" 0
+  done
   tree -DA src
   check 'counter: nowhere else' same "$(cat "$work/err")" 'unifdef-tree: 0 changed, 100 unchanged, 0 faulty'
   tree -q -DA src
@@ -492,6 +577,41 @@ kills() {
   done
 }
 
+# failing_look ERROR PATH ARGUMENT..: as `tree`, but the first look at the path fails.
+failing_look() {
+  local error=$1 path=$2
+  shift 2
+  status=0
+  (cd "$work/run" && strace -f -o /dev/null -P "$path" \
+    -e inject='?lstat,?newfstatat,statx':error="$error":when=1 "$TREE" "$@" \
+    > "$work/out" 2> "$work/err" < "${input:-/dev/null}") || status=$?
+}
+
+# Tests a name that vanishes between the listing of its folder and the look at it, and one that
+# vanishes before the run looks at it though it was named.
+vanishing() {
+  small_tree
+  rm src/bad.c
+  failing_look ENOENT src/a.c -DA src
+  check 'vanished: no fault' has_line "$work/err" 'unifdef-tree: 1 changed, 1 unchanged, 0 faulty'
+  check 'vanished: status' same "$status" 1
+  small_tree
+  failing_look EIO src/a.c -DA src
+  check 'not known: status' same "$status" 2
+  check 'not known: message' has_line "$work/err" 'unifdef-tree: src/a.c: Cannot be found: Input/output error'
+  check 'not known: other files' holds src/folder/b.c 'yes\n'
+  small_tree
+  failing_look ENOENT src/a.c -DA src/folder src/a.c
+  check 'vanished and named: status' same "$status" 2
+  check 'vanished and named: message' has_line "$work/err" 'unifdef-tree: src/a.c: No such file or folder'
+  check 'vanished and named: nothing is done' holds src/folder/b.c "$text"
+  printf 'src/a.c\0src/folder/b.c\0' > "$work/paths"
+  input=$work/paths failing_look ENOENT src/a.c -0 -DA
+  check 'vanished on the input: status' same "$status" 2
+  check 'vanished on the input: message' has_line "$work/err" 'unifdef-tree: src/a.c: No such file or folder'
+  check 'vanished on the input: other files' holds src/folder/b.c 'yes\n'
+}
+
 other_run() { "$TREE" -q -UA src 2> "$work/other"; }
 
 # Tests a file that changes between read and rename, and two runs at once.
@@ -538,12 +658,14 @@ in_folder() {
   work=$(mktemp -d "$1/tree-test.XXXXXX")
   chmod 755 "$work"
   names
+  messages
   keeps
   faults
   refusals
   lists
   remaining
   diffs
+  diff_paths
   full_disk
   paths_from_input
   counts
@@ -551,6 +673,7 @@ in_folder() {
   if can_trace; then
     kills
     meanwhile
+    vanishing
   else
     echo 'tree-test: strace is not there or not allowed, so kills and changes meanwhile are left out'
   fi

@@ -3,14 +3,16 @@
 --   range_text before count   where so many lines begin, and their number
 --   signed_text l             a line after its sign
 --   hunk_text h               a hunk: its ranges and its lines
+--   without_dots path         a path without `./` before it
 --   path_text path            the name of a file, in quotes if it needs them
 --   diff_text path hunks      the names of the file, and the hunks
 --
 -- Example: the range of two lines after one other is `2,2`, that of one line after it `2`, and that
--- of no line after it `1,0`. The name `a"b` is printed as `"a\042b"`, as patch and git read it.
+-- of no line after it `1,0`. The name `a"b` is printed as `"a\042b"`, as patch and git read it, and
+-- the path `.//./a.c` as `a.c`.
 use Rattle.std.specs.Prelude.{ℕ, ◌+◌, ◌==◌, nat_eq, List, [], ◌∷◌, ◌++◌, length, codes, decimal}
-use Rattle.std.specs.Prelude.{if◌then◌else◌, Bool, ◌||◌, ◌/◌, ◌%◌, nat_lt}
-use Rattle.std.specs.List.{ends_with, flat_map, list_any}
+use Rattle.std.specs.Prelude.{if◌then◌else◌, Bool, ◌&&◌, ◌||◌, ◌/◌, ◌%◌, nat_lt}
+use Rattle.std.specs.List.{starts_with, ends_with, flat_map, list_any}
 use Rattle.ud_model.specs.text.Bytes.{newline}
 use Rattle.ud_diff.specs.declared.line.Sign.{Sign}
 use Rattle.ud_diff.specs.declared.line.Sign.TheVariants.{Kept, Removed, Added}
@@ -51,7 +53,21 @@ abbrev pub hunk_text : Hunk → List ℕ
 hunk_text h = ranges_text h.old_before (length (old_lines h.lines)) h.new_before
     (length (new_lines h.lines)) ++ flat_map signed_text h.lines
 
--- `is_special b`: `b` is a control byte, a quote or a backslash. A name with one is quoted.
+-- `is_dropped b rest`: the byte `b` before `rest` is a slash, or a dot before a slash.
+abbrev pub is_dropped : ℕ → List ℕ → Bool
+is_dropped b rest = b == 47 || (b == 46 && starts_with nat_eq rest (47 ∷ []))
+
+-- `after_dots path`: the path without the slashes at its beginning, and the dots before them.
+unfoldable pub after_dots : List ℕ → List ℕ
+after_dots [] = []
+after_dots (b ∷ rest) = if is_dropped b rest then after_dots rest else b ∷ rest
+
+-- `without_dots path`: the path without each `./` at its beginning, and the slashes after those. An
+-- absolute path stays.
+abbrev pub without_dots : List ℕ → List ℕ
+without_dots path = if starts_with nat_eq path (46 ∷ 47 ∷ []) then after_dots path else path
+
+-- `is_special b`: `b` is a control byte, a quote or a backslash.
 abbrev pub is_special : ℕ → Bool
 is_special b = nat_lt b 32 || b == 34 || b == 92 || b == 127
 
@@ -68,9 +84,15 @@ tab_after path = if list_any (λ b. b == 32) path then 9 ∷ [] else []
 abbrev pub quoted_text : List ℕ → List ℕ
 quoted_text path = 34 ∷ (flat_map escaped path ++ 34 ∷ [])
 
--- `path_text path`: the name of a file, in quotes if it has a special byte.
+-- `is_quoted path`: a name with a special byte is quoted, and so is one that begins or ends with a
+-- space.
+abbrev pub is_quoted : List ℕ → Bool
+is_quoted path = list_any is_special path || starts_with nat_eq path (32 ∷ []) ||
+    ends_with nat_eq path (32 ∷ [])
+
+-- `path_text path`: the name of a file, in quotes if it needs them.
 unfoldable pub path_text : List ℕ → List ℕ
-path_text path = if list_any is_special path then quoted_text path else path ++ tab_after path
+path_text path = if is_quoted path then quoted_text path else path ++ tab_after path
 
 -- `name_text sign path`: the line that names a file, after its sign.
 unfoldable pub name_text : List ℕ → List ℕ → List ℕ
@@ -78,7 +100,8 @@ name_text sign path = sign ++ (path_text path ++ newline ∷ [])
 
 -- `names_text path`: the lines that name the old file and the new one.
 abbrev pub names_text : List ℕ → List ℕ
-names_text path = name_text (codes "--- ") path ++ name_text (codes "+++ ") path
+names_text path = name_text (codes "--- ") (without_dots path) ++
+    name_text (codes "+++ ") (without_dots path)
 
 -- `diff_text path hunks`: the names of the file, and the hunks.
 abbrev pub diff_text : List ℕ → List Hunk → List ℕ

@@ -3,8 +3,8 @@
 ghost use Rattle.std.specs.Prelude.{◌≡◌, ◌+◌, ◌<◌, ◌^◌, ◌++◌, OnOk, decimal};
 ghost use Rattle.ud_diff.specs.DiffTexts.{range_text, ranges_text, sign_byte, ended_text};
 ghost use Rattle.ud_diff.specs.DiffTexts.{signed_text, is_special, escaped, path_text, quoted_text};
-ghost use Rattle.ud_diff.specs.DiffTexts.{tab_after};
-ghost use Rattle.ud_diff.specs.DiffTexts.{name_text, names_text};
+ghost use Rattle.ud_diff.specs.DiffTexts.{is_quoted, tab_after, is_dropped, after_dots};
+ghost use Rattle.ud_diff.specs.DiffTexts.{without_dots, name_text, names_text};
 ghost use Rattle.std.specs.List.{flat_map, list_any};
 ghost use Rattle.ud_diff.specs.Scripts.{signed};
 
@@ -89,6 +89,39 @@ pub(crate) fn append_line(out: &mut Vec<u8>, line: &DiffLine<'_>) -> Result<(), 
     Ok(())
 }
 
+/// Returns whether a byte before `rest` is a slash, or a dot before a slash.
+fn is_dropped(byte: u8, rest: &[u8]) -> bool
+    ensures { result ≡ is_dropped byte rest.now }
+{
+    byte == b'/' || (byte == b'.' && rest.starts_with(b"/"))
+}
+
+/// Returns a path without the slashes at its beginning, and the dots before them.
+#[tactic(auto, unfolding(crate::specs::DiffTexts::after_dots))]
+fn after_dots(path: &[u8]) -> &[u8]
+    ensures { result.now ≡ after_dots path.now }
+{
+    let mut rest = path;
+    while let Some((first, after)) = rest.split_first() {
+        if !is_dropped(*first, after) {
+            return rest;
+        }
+        rest = after;
+    }
+    rest
+}
+
+/// Returns a path without each `./` at its beginning, and the slashes after those.
+fn without_dots(path: &[u8]) -> &[u8]
+    ensures { result.now ≡ without_dots path.now }
+{
+    if path.starts_with(b"./") {
+        after_dots(path)
+    } else {
+        path
+    }
+}
+
 /// Returns whether a name with this byte is quoted.
 fn is_special(byte: u8) -> bool
     ensures { result ≡ is_special byte }
@@ -96,11 +129,18 @@ fn is_special(byte: u8) -> bool
     byte < b' ' || byte == b'"' || byte == b'\\' || byte == 127
 }
 
-/// Returns whether a name is quoted.
-fn is_quoted(path: &[u8]) -> bool
+/// Returns whether a name has a byte for which it is quoted.
+fn has_special(path: &[u8]) -> bool
     ensures { result ≡ list_any is_special path.now }
 {
     path.iter().any(|byte| is_special(*byte))
+}
+
+/// Returns whether a name is quoted.
+fn is_quoted(path: &[u8]) -> bool
+    ensures { result ≡ is_quoted path.now }
+{
+    has_special(path) || path.starts_with(b" ") || path.ends_with(b" ")
 }
 
 /// Appends a byte of a quoted name.
@@ -152,7 +192,7 @@ fn append_plain(out: &mut Vec<u8>, path: &[u8]) -> Result<(), AllocError>
     Ok(())
 }
 
-/// Appends the name of a file. One with a special byte is quoted.
+/// Appends the name of a file, in quotes if it needs them.
 #[tactic(auto, unfolding(crate::specs::DiffTexts::path_text))]
 fn append_path(out: &mut Vec<u8>, path: &[u8]) -> Result<(), AllocError>
     ensures { OnOk result (out.new.items ≡ out.old.items ++ path_text path.now) }
@@ -179,7 +219,8 @@ fn append_name(out: &mut Vec<u8>, sign: &[u8], path: &[u8]) -> Result<(), AllocE
 pub(crate) fn append_names(out: &mut Vec<u8>, path: &[u8]) -> Result<(), AllocError>
     ensures { OnOk result (out.new.items ≡ out.old.items ++ names_text path.now) }
 {
-    append_name(out, b"--- ", path)?;
-    append_name(out, b"+++ ", path)?;
+    let name = without_dots(path);
+    append_name(out, b"--- ", name)?;
+    append_name(out, b"+++ ", name)?;
     Ok(())
 }

@@ -4,13 +4,13 @@
 --   Call       a call of a folder with its answer
 use Rattle.std.specs.Prelude.{ℕ, List, Bool, Option, Result}
 use Rattle.ud_replace.specs.declared.folder.CreateError.{CreateError}
-use Rattle.ud_replace.specs.declared.node.Node.{Node}
+use Rattle.ud_replace.specs.declared.node.Lookup.{Lookup}
 use Rattle.ud_replace.specs.declared.stat.FileStat.{FileStat}
 
 -- `WalkCall`: a call that a walk over folders makes, with its answer. Paths are bytes.
 pub data WalkCall : Type 0 where
   -- `met path answer`: what has the path
-  met : List ℕ → Option Node → WalkCall
+  met : List ℕ → Lookup → WalkCall
   -- `followed path answer`: whether the path is that of a folder, or of a link to one
   followed : List ℕ → Bool → WalkCall
   -- `listed folder names answer`: these are all the names in the folder, or some of them

@@ -1,16 +1,16 @@
 //! A call of a folder, as `History` takes it.
 
 use crate::folder::CreateError;
-use crate::node::Node;
+use crate::node::Lookup;
 use crate::stat::FileStat;
 
 /// A call that a walk over folders makes, with its answer.
 #[derive(Clone, Copy, Drop)]
 pub enum FolderWalk<'a> {
-    /// The path was found to be that of a node, or of nothing.
+    /// The path was looked at.
     Met {
         path: &'a [u8],
-        answer: Option<Node>,
+        answer: Lookup,
     },
     /// The path was found to be that of a folder, or of a link to one, or not.
     Followed {

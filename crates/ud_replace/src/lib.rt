@@ -23,6 +23,6 @@ pub use error::{ReplaceError, Update};
 pub use folder::{CreateError, Folder};
 pub use history::History;
 pub use laws::{law_old_or_new, law_one_rename};
-pub use node::{FileId, Node, NodeKind};
+pub use node::{FileId, Lookup, Node, NodeKind};
 pub use replacement::{Target, replace, replace_keeping};
 pub use stat::{FileStat, FileTime, FileVersion};

@@ -30,3 +30,14 @@ pub struct Node {
     /// Which file it is.
     pub id: FileId,
 }
+
+/// The answer to a look at a path.
+#[derive(Clone, Copy, Debug, PartialEq, Eq)]
+pub enum Lookup {
+    /// This has the path.
+    Present(Node),
+    /// Nothing has the path.
+    Absent,
+    /// The look failed, so it isn't known what has the path.
+    Unknown,
+}

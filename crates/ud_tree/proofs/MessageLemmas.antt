@@ -1,11 +1,12 @@
 -- Messages that are written one after another.
 use Rattle.std.proofs.Common.{◌≡◌, ◌⊎◌, inl, inr, ℕ, ◌+◌, List, [], ◌++◌, length, Bool, true, false, cond, refl, sym, ap, ◌∙◌, subst, true≢false, append-nil, codes}
 use Rattle.std.specs.List.{flat_map}
+use Rattle.ud_faults.specs.declared.run.RunFault.{RunFault}
 use Rattle.ud_replace.specs.declared.error.ReplaceError.{ReplaceError}
-use Rattle.ud_replace.specs.declared.error.ReplaceError.TheVariants.{ReadOnly, Write}
+use Rattle.ud_replace.specs.declared.error.ReplaceError.TheVariants.{Text, ReadOnly, Write}
 use Rattle.ud_tree.specs.declared.report.Report.{Report}
 use Rattle.ud_tree.specs.Streams.{Stream, Sends}
-use Rattle.ud_tree.specs.Messages.{IsFailureOf, IsMessageOf, list_message, write_message, output_messages, Tells, ReportsFailure, TellsError}
+use Rattle.ud_tree.specs.Messages.{IsFailureOf, IsMessageOf, list_message, write_message, output_messages, Tells, TellsText, ReportsFailure, TellsError}
 use Rattle.ud_tree.proofs.StreamLemmas.{sends_none, sends_then}
 
 -- The report changed in nothing that the error stream shows, and nothing was written.
@@ -36,6 +37,10 @@ pub error_is : {a b : Report} {s t : Stream} {e : ReplaceError} {message : List 
     Tells a b s t message → TellsError name e a b s t
 error_is {a = a} {b = b} {s = s} {t = t} {message = message} name kind is of h =
     subst (λ (k : ReplaceError). TellsError name k a b s t) (sym is) (record { message = message; is_of = of; tells = h })
+
+-- The message of a fault of a text was written, which is this error.
+pub text_is : {a b : Report} {s t : Stream} {e : ReplaceError} (name : List ℕ) (f : RunFault) → e ≡ Text f → TellsText name f a b s t → TellsError name e a b s t
+text_is name f is h = error_is name (Text f) is h.is_of h.tells
 
 -- The message of a failed call was written, which is an error of this kind.
 pub failure_is : {a b : Report} {s t : Stream} {e : ReplaceError} {text : List ℕ} (name : List ℕ) (kind : ReplaceError) → e ≡ kind →

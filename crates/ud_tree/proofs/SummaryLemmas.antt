@@ -5,12 +5,13 @@ use Rattle.ud_tree.specs.declared.arguments.Arguments.{Arguments}
 use Rattle.ud_tree.specs.declared.counts.Counts.{Counts}
 use Rattle.ud_tree.specs.declared.arguments.Task.TheVariants.{Names}
 use Rattle.ud_tree.specs.Streams.{Stream, Sends}
-use Rattle.ud_tree.specs.Summaries.{line_of, changes_line, summary, remaining_text, remaining_line, last_lines, TellsEnd, Says}
+use Rattle.ud_tree.specs.Summaries.{line_of, changes_line, files_text, hidden_text, summary, remaining_text, remaining_line, last_lines, TellsEnd, Says}
+use Rattle.ud_tree.specs.Visible.{visible}
 use Rattle.ud_tree.proofs.StreamLemmas.{sends_none, sends_then, sends_same}
 
 -- A line was written in three parts.
-pub line_sent : {a b c d : Stream} {text : List ℕ} → Sends a b (codes "unifdef-tree: ") → Sends b c text → Sends c d (codes "\n") → Sends a d (line_of text)
-line_sent {text = text} h k l = sends_then (sends_then h k) l
+pub line_sent : {a b c d : Stream} (text : List ℕ) → Sends a b (codes "unifdef-tree: ") → Sends b c (visible text) → Sends c d (codes "\n") → Sends a d (line_of text)
+line_sent text h k l = sends_then (sends_then h k) l
 
 -- An equal line was written.
 pub says_same : {old new : Report} {err err' : Stream} {x y : List ℕ} → x ≡ y → Says old new err err' x → Says old new err err' y
@@ -25,14 +26,19 @@ changes_joined changed unchanged faults word c u f p q r =
     ∙ ap (λ x. line_of (decimal changed ++ (word ++ (decimal unchanged ++ (codes " unchanged, " ++ (x ++ (codes " faulty" ++ []))))))) r
     ∙ simp (append_assoc, append-nil)
 
+listed_parts : (a b c d e f : List ℕ) → a ++ (b ++ (c ++ (d ++ (e ++ (f ++ []))))) ≡ ((((a ++ b) ++ c) ++ d) ++ e) ++ f
+listed_parts a b c d e f = simp (append_assoc, append-nil)
+
 -- The summary of a run that lists names.
-pub listed_joined : (changed unchanged faults hidden : ℕ) (u f h : List ℕ) → u ≡ decimal unchanged → f ≡ decimal faults → h ≡ decimal hidden →
-    line_of (u ++ (codes " files listed, " ++ (f ++ (codes " faulty; " ++ (h ++ (codes " conditions could not be listed" ++ [])))))) ≡ summary Names changed unchanged faults hidden
-listed_joined changed unchanged faults hidden u f h p q r =
-    ap (λ x. line_of (x ++ (codes " files listed, " ++ (f ++ (codes " faulty; " ++ (h ++ (codes " conditions could not be listed" ++ []))))))) p
-    ∙ ap (λ x. line_of (decimal unchanged ++ (codes " files listed, " ++ (x ++ (codes " faulty; " ++ (h ++ (codes " conditions could not be listed" ++ []))))))) q
-    ∙ ap (λ x. line_of (decimal unchanged ++ (codes " files listed, " ++ (decimal faults ++ (codes " faulty; " ++ (x ++ (codes " conditions could not be listed" ++ []))))))) r
-    ∙ simp (append_assoc, append-nil)
+pub listed_joined : (changed unchanged faults hidden : ℕ) (u f h v w : List ℕ) → u ≡ decimal unchanged → f ≡ decimal faults → h ≡ decimal hidden → v ≡ files_text unchanged → w ≡ hidden_text hidden →
+    line_of (u ++ (v ++ (f ++ (codes " faulty; " ++ (h ++ (w ++ [])))))) ≡ summary Names changed unchanged faults hidden
+listed_joined changed unchanged faults hidden u f h v w p q r m n =
+    ap (λ x. line_of (x ++ (v ++ (f ++ (codes " faulty; " ++ (h ++ (w ++ []))))))) p
+    ∙ ap (λ x. line_of (decimal unchanged ++ (v ++ (x ++ (codes " faulty; " ++ (h ++ (w ++ []))))))) q
+    ∙ ap (λ x. line_of (decimal unchanged ++ (v ++ (decimal faults ++ (codes " faulty; " ++ (x ++ (w ++ []))))))) r
+    ∙ ap (λ x. line_of (decimal unchanged ++ (x ++ (decimal faults ++ (codes " faulty; " ++ (decimal hidden ++ (w ++ []))))))) m
+    ∙ ap (λ x. line_of (decimal unchanged ++ (files_text unchanged ++ (decimal faults ++ (codes " faulty; " ++ (decimal hidden ++ (x ++ []))))))) n
+    ∙ ap line_of (listed_parts (decimal unchanged) (files_text unchanged) (decimal faults) (codes " faulty; ") (decimal hidden) (hidden_text hidden))
 
 and_false : (b : Bool) → (b && false) ≡ false
 and_false true = refl

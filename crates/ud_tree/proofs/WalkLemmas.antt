@@ -1,5 +1,5 @@
 -- Parts of a walk, one after another.
-use Rattle.std.proofs.Common.{◌≡◌, ◌⊎◌, inl, inr, ℕ, List, [], ◌∷◌, ◌++◌, map, Bool, true, false, cond, Some, refl, sym, ap, ◌∙◌, subst, arith, append_assoc}
+use Rattle.std.proofs.Common.{◌≡◌, ◌⊎◌, inl, inr, ℕ, List, [], ◌∷◌, ◌++◌, map, Bool, true, false, cond, refl, sym, ap, ◌∙◌, subst, arith, append_assoc}
 use Rattle.std.proofs.lemmas.List.{map-append}
 use Rattle.std.proofs.lemmas.List.Elements.{All-weaker, All-contains, All-contains_itself, All-push, Contains-append_left, Contains-append_right}
 use Rattle.std.specs.List.{All, Contains}
@@ -7,6 +7,7 @@ use Rattle.std.specs.Prelude.{string_bytes}
 use Rattle.ud_replace.specs.declared.node.Node.{Node}
 use Rattle.ud_replace.specs.declared.node.NodeKind.TheVariants.{File}
 use Rattle.ud_replace.specs.declared.node.FileId.{FileId}
+use Rattle.ud_replace.specs.declared.node.Lookup.TheVariants.{Present}
 use Rattle.ud_replace.specs.Calls.{Call, walked, WalkCall, met}
 use Rattle.ud_tree.specs.declared.walk.Found.{Found}
 use Rattle.ud_tree.specs.Walks.{WasMet, Finds, Adds, adds_none, adds_one, AddsNode, no_node, file_node, IsFileList, IsWalk}
@@ -18,7 +19,7 @@ Origin calls before f = Contains before f ⊎ WasMet calls f
 met_left : (xs ys : List WalkCall) (f : Found) → WasMet xs f → WasMet (xs ++ ys) f
 met_left xs ys f h = record {
   node = h.node;
-  seen = Contains-append_left xs ys (met (string_bytes f.path) (Some h.node)) h.seen;
+  seen = Contains-append_left xs ys (met (string_bytes f.path) (Present h.node)) h.seen;
   is_file = h.is_file;
   same_id = h.same_id;
 }
@@ -26,7 +27,7 @@ met_left xs ys f h = record {
 met_right : (xs ys : List WalkCall) (f : Found) → WasMet ys f → WasMet (xs ++ ys) f
 met_right xs ys f h = record {
   node = h.node;
-  seen = Contains-append_right xs ys (met (string_bytes f.path) (Some h.node)) h.seen;
+  seen = Contains-append_right xs ys (met (string_bytes f.path) (Present h.node)) h.seen;
   is_file = h.is_file;
   same_id = h.same_id;
 }
@@ -66,32 +67,32 @@ finds_then {old = old} {a = a} {b = b} {c = c} h k = record {
 
 -- The call that found a file met it.
 met_now : (node : Node) (f : Found) (path : List ℕ) → node.kind ≡ File → string_bytes f.path ≡ path → f.id ≡ node.id →
-    WasMet (met path (Some node) ∷ []) f
+    WasMet (met path (Present node) ∷ []) f
 met_now node f path file named same = record {
   node = node;
-  seen = (0, omega arith, ap (λ (n : List ℕ). met n (Some node)) (sym named));
+  seen = (0, omega arith, ap (λ (n : List ℕ). met n (Present node)) (sym named));
   is_file = file;
   same_id = sym same;
 }
 
 -- A file was found and added.
-pub finds_file : {old new : List Call} {before after : List Found} (path : List ℕ) (node : Node) → new ≡ walked (met path (Some node)) ∷ old →
+pub finds_file : {old new : List Call} {before after : List Found} (path : List ℕ) (node : Node) → new ≡ walked (met path (Present node)) ∷ old →
     node.kind ≡ File → Adds before path node.id after → Finds old new before after
-finds_file {before = before} path node is file (adds_none same) = finds_same same (finds_call (met path (Some node)) before is)
+finds_file {before = before} path node is file (adds_none same) = finds_same same (finds_call (met path (Present node)) before is)
 finds_file {before = before} {after = after} path node is file (adds_one f named id added) = record {
-  calls = met path (Some node) ∷ [];
+  calls = met path (Present node) ∷ [];
   are = is;
   each = subst (All here) (sym added) (All-push here before f
-      (same_origin (met path (Some node) ∷ []) before) (inr (met_now node f path file named id)));
+      (same_origin (met path (Present node) ∷ []) before) (inr (met_now node f path file named id)));
 }
   where
     here : Found → Type 0
-    here = Origin (met path (Some node) ∷ []) before
+    here = Origin (met path (Present node) ∷ []) before
 
 -- A node was found, and added if it is a file.
-pub finds_node : {old new : List Call} {before after : List Found} (path : List ℕ) (node : Node) → new ≡ walked (met path (Some node)) ∷ old →
+pub finds_node : {old new : List Call} {before after : List Found} (path : List ℕ) (node : Node) → new ≡ walked (met path (Present node)) ∷ old →
     AddsNode before path node after → Finds old new before after
-finds_node {before = before} path node is (no_node same) = finds_same same (finds_call (met path (Some node)) before is)
+finds_node {before = before} path node is (no_node same) = finds_same same (finds_call (met path (Present node)) before is)
 finds_node path node is (file_node file added) = finds_file path node is file added
 
 -- A walk from no files has met all that it found.

@@ -1,11 +1,14 @@
 -- The messages of parts of a walk, one after another.
-use Rattle.std.proofs.Common.{◌≡◌, ◌⊎◌, inl, inr, ⊎_elim, ◌==◌, true≢false, ℕ, ◌+◌, ◌<◌, ◌≤◌, ◌-◌, ◌^◌, min, List, [], ◌∷◌, ◌++◌, length, take, map, Bool, true, false, None, Some, refl, sym, ap, ◌∙◌, subst, arith, append_assoc, append-nil, codes, length-append}
+use Rattle.std.proofs.Common.{◌≡◌, ◌⊎◌, inl, inr, ⊎_elim, ◌==◌, true≢false, ℕ, ◌+◌, ◌<◌, ◌≤◌, ◌-◌, ◌^◌, min, List, [], ◌∷◌, ◌++◌, length, take, map, get_or, Bool, true, false, refl, sym, ap, ◌∙◌, subst, arith, append_assoc, append-nil, codes, length-append}
 use Rattle.std.proofs.lemmas.Bool.{cases_lt}
-use Rattle.std.proofs.lemmas.List.{map-append}
+use Rattle.std.proofs.lemmas.List.{map-append, get_or-map, length-map}
 use Rattle.std.proofs.lemmas.Grind.{flat_map-append}
-use Rattle.std.proofs.lemmas.List.Elements.{Contains-append_left}
+use Rattle.std.proofs.lemmas.List.Elements.{Contains-append_left, Contains-append_right, Contains-get_or}
+use Rattle.std.specs.List.{Contains}
 use Rattle.ud_replace.specs.declared.node.NodeKind.{NodeKind}
 use Rattle.ud_replace.specs.declared.node.NodeKind.TheVariants.{File, Link, Other}
+use Rattle.ud_replace.specs.declared.node.Lookup.{Lookup}
+use Rattle.ud_replace.specs.declared.node.Lookup.TheVariants.{Present, Absent, Unknown}
 use Rattle.ud_replace.specs.declared.node.Node.{Node}
 use Rattle.ud_replace.specs.Calls.{Call, walked, WalkCall, met, followed, listed}
 use Rattle.ud_tree.specs.declared.report.Report.{Report}
@@ -13,7 +16,7 @@ use Rattle.ud_tree.specs.Paths.{folder_len, fresh_end, fresh_name}
 use Rattle.ud_tree.specs.Messages.{locked_line, fault_line, IsFailureOf, no_reason, with_reason, Tells, ReportsOne, ReportsFailure}
 use Rattle.ud_tree.specs.Streams.{Stream}
 use Rattle.ud_tree.specs.Summaries.{line_of}
-use Rattle.ud_tree.specs.WalkMessages.{is_refused, is_missing, is_unknown, is_unread, IsRemark, is_link, is_other, is_no_text, no_input, AreTold, none_told, then_answered, then_refused, then_remark, joined, ReportsRefusal, ReportsWalk, no_memory, bad_path, no_match, StopsWalk}
+use Rattle.ud_tree.specs.WalkMessages.{is_refused, is_missing, is_unknown, is_unread, IsRemark, is_link, is_other, is_no_text, no_input, AreTold, none_told, then_answered, then_refused, then_vanished, then_remark, joined, WasListed, ReportsRefusal, ReportsWalk, ReportsNames, VisitTells, is_gone, is_told, TellsGiven, is_quiet, is_irregular, no_memory, bad_path, no_match, StopsWalk}
 use Rattle.ud_tree.proofs.MessageLemmas.{tells_kept, tells_then}
 
 -- One fault more is counted, unless the number is too large.
@@ -78,11 +81,11 @@ pub failure_alone : {r r' : Report} {s s' : Stream} (name text : List ℕ) → R
 failure_alone name text h = record { message = fault_line name text; is_of = no_reason refl; reports = h }
 
 -- Nothing has a path, and a line says so.
-pub refused_missing : {r r' : Report} {s s' : Stream} (path : List ℕ) → ReportsOne (fault_line path (codes "No such file or folder")) r r' s s' → ReportsRefusal (met path None) r r' s s'
+pub refused_missing : {r r' : Report} {s s' : Stream} (path : List ℕ) → ReportsOne (fault_line path (codes "No such file or folder")) r r' s s' → ReportsRefusal (met path Absent) r r' s s'
 refused_missing path h = record { message = fault_line path (codes "No such file or folder"); is_of = is_missing path refl refl; reports = h }
 
 -- It isn't known what has a path, and a line says so.
-pub refused_unknown : {r r' : Report} {s s' : Stream} (path : List ℕ) → ReportsFailure path (codes "Cannot be found") r r' s s' → ReportsRefusal (met path None) r r' s s'
+pub refused_unknown : {r r' : Report} {s s' : Stream} (path : List ℕ) → ReportsFailure path (codes "Cannot be found") r r' s s' → ReportsRefusal (met path Unknown) r r' s s'
 refused_unknown path h = record { message = h.message; is_of = is_unknown path refl h.is_of; reports = h.reports }
 
 -- Nothing was asked or written.
@@ -122,11 +125,11 @@ walk_remark message calls {r = r} {r' = r'} {s = s} {s' = s'} is h = record {
 }
 
 -- Something was met that is no regular file, and a line says so.
-pub walk_other : (path name : List ℕ) (node : Node) {calls calls' : List Call} {r r' : Report} {s s' : Stream} → name ≡ path → calls' ≡ walked (met path (Some node)) ∷ calls →
+pub walk_other : (path name : List ℕ) (node : Node) {calls calls' : List Call} {r r' : Report} {s s' : Stream} → name ≡ path → calls' ≡ walked (met path (Present node)) ∷ calls →
     ¬ (node.kind ≡ File) → ReportsOne (fault_line name (codes "Is no regular file")) r r' s s' → ReportsWalk calls calls' r r' s s'
 walk_other path name node {r = r} {r' = r'} {s = s} {s' = s'} same is other h = record {
   messages = message ∷ [];
-  walk = record { calls = met path (Some node) ∷ []; are = is; told = then_remark message (then_answered (met path (Some node)) none_told refl) remark };
+  walk = record { calls = met path (Present node) ∷ []; are = is; told = then_remark message (then_answered (met path (Present node)) none_told refl) remark };
   tells = subst (λ (x : List ℕ). Tells r r' s s' x) (sym (append-nil message)) h.tells;
   counted = h.counted;
 }
@@ -134,18 +137,35 @@ walk_other path name node {r = r} {r' = r'} {s = s} {s' = s'} same is other h = 
     message : List ℕ
     message = fault_line name (codes "Is no regular file")
 
-    remark : IsRemark (met path (Some node) ∷ []) message
+    remark : IsRemark (met path (Present node) ∷ []) message
     remark = is_other path node (0, omega arith, refl) other (ap (λ (n : List ℕ). fault_line n (codes "Is no regular file")) same)
 
+-- A node of another kind is no regular file.
+pub other_kind : (kind : NodeKind) → kind ≡ Other → ¬ (kind ≡ File)
+other_kind kind is e = absurd cc
+
+-- A node of another kind was left out, and a line says that it is no regular file.
+pub given_other : (path name : List ℕ) (node : Node) {r r' : Report} {s s' : Stream} → name ≡ path → node.kind ≡ Other → ReportsOne (fault_line name (codes "Is no regular file")) r r' s s' →
+    TellsGiven path node r r' s s'
+given_other path name node {r = r} {r' = r'} {s = s} {s' = s'} same is h = is_irregular is (subst (λ (n : List ℕ). ReportsOne (fault_line n (codes "Is no regular file")) r r' s s') same h)
+
+-- A node of the input was met, and added or left out.
+pub walk_given : (path : List ℕ) (node : Node) {calls calls' : List Call} {r r' : Report} {s s' : Stream} → calls' ≡ walked (met path (Present node)) ∷ calls → TellsGiven path node r r' s s' →
+    ReportsWalk calls calls' r r' s s'
+walk_given path node {calls = calls} {calls' = calls'} {r = r} {r' = r'} {s = s} {s' = s'} is (is_quiet same_report same_stream) =
+    subst (λ (q : Report). ReportsWalk calls calls' r q s s') (sym same_report)
+    (subst (λ (z : Stream). ReportsWalk calls calls' r r s z) (sym same_stream) (walk_call (met path (Present node)) r s refl is))
+walk_given path node is (is_irregular other h) = walk_other path path node refl is (other_kind node.kind other) h
+
 -- A link was met that doesn't lead to a folder, and a line says so.
-pub walk_link : (path name : List ℕ) (node : Node) {calls mid calls' : List Call} {r r' : Report} {s s' : Stream} → name ≡ path → mid ≡ walked (met path (Some node)) ∷ calls →
+pub walk_link : (path name : List ℕ) (node : Node) {calls mid calls' : List Call} {r r' : Report} {s s' : Stream} → name ≡ path → mid ≡ walked (met path (Present node)) ∷ calls →
     calls' ≡ walked (followed path false) ∷ mid → node.kind ≡ Link → ReportsOne (fault_line name (codes "Is a symbolic link")) r r' s s' → ReportsWalk calls calls' r r' s s'
 walk_link path name node {r = r} {r' = r'} {s = s} {s' = s'} same is then_is link h = record {
   messages = message ∷ [];
   walk = record {
-    calls = followed path false ∷ met path (Some node) ∷ [];
+    calls = followed path false ∷ met path (Present node) ∷ [];
     are = then_is ∙ ap (λ (l : List Call). walked (followed path false) ∷ l) is;
-    told = then_remark message (then_answered (followed path false) (then_answered (met path (Some node)) none_told refl) refl) remark;
+    told = then_remark message (then_answered (followed path false) (then_answered (met path (Present node)) none_told refl) refl) remark;
   };
   tells = subst (λ (x : List ℕ). Tells r r' s s' x) (sym (append-nil message)) h.tells;
   counted = h.counted;
@@ -154,31 +174,45 @@ walk_link path name node {r = r} {r' = r'} {s = s} {s' = s'} same is then_is lin
     message : List ℕ
     message = fault_line name (codes "Is a symbolic link")
 
-    remark : IsRemark (followed path false ∷ met path (Some node) ∷ []) message
+    remark : IsRemark (followed path false ∷ met path (Present node) ∷ []) message
     remark = is_link path node (1, omega arith, refl) link (0, omega arith, refl) (ap (λ (n : List ℕ). fault_line n (codes "Is a symbolic link")) same)
-
--- A node of another kind is no regular file.
-pub other_kind : (kind : NodeKind) → kind ≡ Other → ¬ (kind ≡ File)
-other_kind kind is e = absurd cc
 
 -- A folder couldn't be listed, and a line says so.
 pub walk_unread : (folder name : List ℕ) (names : List (List ℕ)) {calls calls' : List Call} {r r' : Report} {s s' : Stream} → name ≡ folder →
-    calls' ≡ walked (listed folder names false) ∷ calls → ReportsFailure name (codes "Cannot be read") r r' s s' → ReportsWalk calls calls' r r' s s'
-walk_unread folder name names same is h =
-    walk_refused (listed folder names false) is
-    (record {
+    calls' ≡ walked (listed folder names false) ∷ calls → ReportsFailure name (codes "Cannot be read") r r' s s' → ReportsNames folder names calls calls' r r' s s'
+unfolding walk_refused
+walk_unread folder name names {r = r} {r' = r'} {s = s} {s' = s'} same is h = record {
+  answer = false;
+  reports = walk_refused (listed folder names false) is refusal;
+  listing = (0, omega arith, refl);
+}
+  where
+    refusal : ReportsRefusal (listed folder names false) r r' s s'
+    refusal = record {
       message = h.message;
       is_of = is_unread folder names refl (subst (λ (n : List ℕ). IsFailureOf n (codes "Cannot be read") h.message) same h.is_of);
       reports = h.reports;
-    })
+    }
 
 -- A remark of some calls stays one after earlier calls.
 remark_after : {message : List ℕ} (xs ys : List WalkCall) → IsRemark ys message → IsRemark (ys ++ xs) message
 remark_after xs ys (is_link path node seen link led is) =
-    is_link path node (Contains-append_left ys xs (met path (Some node)) seen) link (Contains-append_left ys xs (followed path false) led) is
-remark_after xs ys (is_other path node seen other is) = is_other path node (Contains-append_left ys xs (met path (Some node)) seen) other is
+    is_link path node (Contains-append_left ys xs (met path (Present node)) seen) link (Contains-append_left ys xs (followed path false) led) is
+remark_after xs ys (is_other path node seen other is) = is_other path node (Contains-append_left ys xs (met path (Present node)) seen) other is
 remark_after xs ys (is_no_text path is) = is_no_text path is
 remark_after xs ys (no_input is) = no_input is
+
+-- A path that was listed by some calls stays one after earlier calls.
+listed_after : {path : List ℕ} (xs ys : List WalkCall) → WasListed ys path → WasListed (ys ++ xs) path
+listed_after xs ys h = record {
+  folder = h.folder;
+  name = h.name;
+  names = h.names;
+  answer = h.answer;
+  listing = Contains-append_left ys xs (listed h.folder h.names h.answer) h.listing;
+  has = h.has;
+  path_is = h.path_is;
+}
 
 -- The messages of some calls, and those of later ones.
 told_both : {xs ys : List WalkCall} {ms ns : List (List ℕ)} → AreTold xs ms → AreTold ys ns → AreTold (ys ++ xs) (ms ++ ns)
@@ -186,6 +220,7 @@ told_both {xs = xs} {ms = ms} h none_told = subst (λ (l : List (List ℕ)). Are
 told_both h (then_answered w k fine) = then_answered w (told_both h k) fine
 told_both {xs = xs} {ms = ms} h (then_refused {calls = calls} {messages = messages} w message k is) =
     subst (λ (l : List (List ℕ)). AreTold (w ∷ calls ++ xs) l) (append_assoc ms messages (message ∷ [])) (then_refused w message (told_both h k) is)
+told_both {xs = xs} h (then_vanished {calls = calls} path k was) = then_vanished path (told_both h k) (listed_after xs calls was)
 told_both {xs = xs} {ms = ms} h (then_remark {calls = calls} {messages = messages} message k is) =
     subst (λ (l : List (List ℕ)). AreTold (calls ++ xs) l) (append_assoc ms messages (message ∷ [])) (then_remark message (told_both h k) (remark_after xs calls is))
 
@@ -247,8 +282,8 @@ pub stops_full : {from_input : Bool} {calls calls' : List Call} {a b c : Report}
 stops_full {line = line} is h k = record { messages = h.messages; told = line; walk = h.walk; stops = no_memory is; tells = tells_then h.tells k }
 
 -- Something has a path, and nothing was written.
-pub walk_met : (path : List ℕ) (node : Node) {calls calls' : List Call} (r : Report) (s : Stream) → calls' ≡ walked (met path (Some node)) ∷ calls → ReportsWalk calls calls' r r s s
-walk_met path node r s is = walk_call (met path (Some node)) r s refl is
+pub walk_met : (path : List ℕ) (node : Node) {calls calls' : List Call} (r : Report) (s : Stream) → calls' ≡ walked (met path (Present node)) ∷ calls → ReportsWalk calls calls' r r s s
+walk_met path node r s is = walk_call (met path (Present node)) r s refl is
 
 -- A link was followed, and nothing was written.
 pub walk_followed : (path : List ℕ) (answer : Bool) {calls calls' : List Call} (r : Report) (s : Stream) → calls' ≡ walked (followed path answer) ∷ calls → ReportsWalk calls calls' r r s s
@@ -256,13 +291,64 @@ walk_followed path answer r s is = walk_call (followed path answer) r s refl is
 
 -- All names of a folder were listed, and nothing was written.
 pub walk_listed : (folder : List ℕ) (names : List (List ℕ)) {calls calls' : List Call} (r : Report) (s : Stream) → calls' ≡ walked (listed folder names true) ∷ calls →
-    ReportsWalk calls calls' r r s s
-walk_listed folder names r s is = walk_call (listed folder names true) r s refl is
+    ReportsNames folder names calls calls' r r s s
+unfolding walk_call
+walk_listed folder names r s is = record {
+  answer = true;
+  reports = walk_call (listed folder names true) r s refl is;
+  listing = (0, omega arith, refl);
+}
+
+-- Nothing has a path, which is this one.
+pub met_at : (path wanted : List ℕ) {calls calls' : List Call} → path ≡ wanted → calls' ≡ walked (met path Absent) ∷ calls → calls' ≡ walked (met wanted Absent) ∷ calls
+met_at path wanted {calls = calls} same is = is ∙ ap (λ (p : List ℕ). walked (met p Absent) ∷ calls) same
+
+-- A name of a list is among the names.
+pub name_listed : {X : Type 0} (f : X → List ℕ) (xs : List X) (i : ℕ) (x : X) (name : List ℕ) → i < length xs → x ≡ get_or xs i x → name ≡ f x → Contains (map f xs) name
+name_listed f xs i x name within is named =
+    subst (λ (y : List ℕ). Contains (map f xs) y) (get_or-map f xs i x (f x) within ∙ ap f (sym is) ∙ sym named)
+    (Contains-get_or (map f xs) i (f x) (subst (λ (n : ℕ). i < n) (sym (length-map xs f)) within))
+
+-- The names of an equal list were listed.
+pub names_same : {X : Type 0} (f : X → List ℕ) (xs ys : List X) {folder : List ℕ} {calls calls' : List Call} {r r' : Report} {s s' : Stream} → ys ≡ xs → ReportsNames folder (map f xs) calls calls' r r' s s' →
+    ReportsNames folder (map f ys) calls calls' r r' s s'
+names_same {X = X} f xs ys {folder = folder} {calls = calls} {calls' = calls'} {r = r} {r' = r'} {s = s} {s' = s'} is h =
+    subst (λ (ls : List X). ReportsNames folder (map f ls) calls calls' r r' s s') (sym is) h
+
+-- A name of a folder that was listed vanished, and nothing was written.
+walk_gone : {folder name : List ℕ} {names : List (List ℕ)} {calls mid calls' : List Call} {a b c : Report} {s t u : Stream} → ReportsNames folder names calls mid a b s t → Contains names name →
+    calls' ≡ walked (met (folder ++ name) Absent) ∷ mid → c ≡ b → u ≡ t → ReportsNames folder names calls calls' a c s u
+walk_gone {folder = folder} {name = name} {names = names} {a = a} {b = b} {s = s} {u = u} h has is same_report same_stream = record {
+  answer = h.answer;
+  reports = record {
+    messages = h.reports.messages;
+    walk = record {
+      calls = met (folder ++ name) Absent ∷ h.reports.walk.calls;
+      are = is ∙ ap (λ (l : List Call). walked (met (folder ++ name) Absent) ∷ l) h.reports.walk.are;
+      told = then_vanished (folder ++ name) h.reports.walk.told (record { folder = folder; name = name; names = names; answer = h.answer; listing = h.listing; has = has; path_is = refl });
+    };
+    tells = subst (λ (r : Report). Tells a r s u (joined h.reports.messages)) (sym same_report)
+        (subst (λ (z : Stream). Tells a b s z (joined h.reports.messages)) (sym same_stream) h.reports.tells);
+    counted = λ small. ap (λ (r : Report). r.faulty) same_report ∙ h.reports.counted small;
+  };
+  listing = Contains-append_right (met (folder ++ name) Absent ∷ []) h.reports.walk.calls (listed folder names h.answer) h.listing;
+}
+
+-- A name of a folder that was listed was visited.
+pub walk_visited : {folder name : List ℕ} {names : List (List ℕ)} {calls mid calls' : List Call} {a b c : Report} {s t u : Stream} → ReportsNames folder names calls mid a b s t → Contains names name →
+    VisitTells (folder ++ name) mid calls' b c t u → ReportsNames folder names calls calls' a c s u
+unfolding walk_then
+walk_visited h has (is_gone is same_report same_stream) = walk_gone h has is same_report same_stream
+walk_visited {folder = folder} {names = names} h has (is_told k) = record {
+  answer = h.answer;
+  reports = walk_then h.reports k;
+  listing = Contains-append_right k.walk.calls h.reports.walk.calls (listed folder names h.answer) h.listing;
+}
 
 -- Nothing has a path, or that isn't known, and a line says so.
-pub walk_missing : (path name : List ℕ) {calls calls' : List Call} {r r' : Report} {s s' : Stream} → name ≡ path → calls' ≡ walked (met path None) ∷ calls → ReportsRefusal (met name None) r r' s s' →
-    ReportsWalk calls calls' r r' s s'
-walk_missing path name {r = r} {r' = r'} {s = s} {s' = s'} same is h = walk_refused (met path None) is (subst (λ (n : List ℕ). ReportsRefusal (met n None) r r' s s') same h)
+pub walk_unmet : (answer : Lookup) (path name : List ℕ) {calls calls' : List Call} {r r' : Report} {s s' : Stream} → name ≡ path → calls' ≡ walked (met path answer) ∷ calls →
+    ReportsRefusal (met name answer) r r' s s' → ReportsWalk calls calls' r r' s s'
+walk_unmet answer path name {r = r} {r' = r'} {s = s} {s' = s'} same is h = walk_refused (met path answer) is (subst (λ (n : List ℕ). ReportsRefusal (met n answer) r r' s s') same h)
 
 -- A list that isn't empty has some files.
 pub some_files : (from_input b : Bool) (n len : ℕ) → n ≡ len → b ≡ (len == 0) → b ≡ false → from_input ≡ false → 0 < n

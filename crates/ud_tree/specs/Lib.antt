@@ -14,3 +14,4 @@ pub mod Shown
 pub mod WalkMessages
 pub mod Streams
 pub mod Writing
+pub mod Visible

@@ -3,6 +3,7 @@
 --   fault_line name text             the line with the fault `text` of a path
 --   IsFailureOf name text message    that line, or the same with a reason
 --   locked_line name                 the line of a file that another run replaces
+--   IsTextMessage name f message     the message of a fault of a file's text
 --   IsMessageOf name e message       the message of the error of a file
 --   IsTold name update told          that message if the file has an error, and else nothing
 --   list_message, write_message      the messages of the faults of the output
@@ -11,6 +12,7 @@
 --   Tells old new err err' bytes     `bytes` were written to such a stream
 --   ReportsOne message old new err err'   a message was written, and is counted
 --   ReportsFailure name text old new err err'   so was the message of a failed call
+--   TellsText name f old new err err'   the message of a fault of a file's text was written
 --   TellsError name e old new err err'   the message of the error of a file was written
 --   TellsResult name update old new err err'   the same, or nothing if the file has no error
 --   TellsIf message faulty old new err err'   a message was written, or nothing
@@ -19,6 +21,7 @@
 use Rattle.std.specs.Prelude.{◌≡◌, ℕ, ◌+◌, ◌<◌, ◌^◌, List, [], ◌∷◌, ◌++◌, Bool, false, Result}
 use Rattle.std.specs.Prelude.{Ok, Err, codes, if◌then◌else◌}
 use Rattle.ud_diagnostics.specs.RunMessages.{fault_message}
+use Rattle.ud_faults.specs.declared.run.RunFault.{RunFault}
 use Rattle.ud_replace.specs.declared.error.Update.{Update}
 use Rattle.ud_replace.specs.declared.error.ReplaceError.{ReplaceError}
 use Rattle.ud_replace.specs.declared.error.ReplaceError.TheVariants.{Text, Read, OutOfMemory}
@@ -30,6 +33,7 @@ use Rattle.ud_tree.specs.declared.report.Report.{Report}
 use Rattle.ud_tree.specs.Paths.{fresh_name}
 use Rattle.ud_tree.specs.Streams.{Stream, Sends}
 use Rattle.ud_tree.specs.Summaries.{line_of}
+use Rattle.ud_tree.specs.Visible.{visible}
 
 -- `fault_line name text`: the line of the program with the fault `text` of the path `name`.
 abbrev pub fault_line : List ℕ → List ℕ → List ℕ
@@ -47,10 +51,17 @@ abbrev pub locked_line : List ℕ → List ℕ
 locked_line name = fault_line name (codes "Another run is at it; if none is, remove " ++
     fresh_name name)
 
+-- `IsTextMessage name f message`: `message` is the one of unifdef for the fault `f` of the file
+-- `name`, with the control bytes of the name made visible. If memory ran out for that, they are as
+-- they are.
+pub data IsTextMessage (name : List ℕ) (f : RunFault) (message : List ℕ) : Type 0 where
+  is_visible : message ≡ fault_message (visible name) f → IsTextMessage name f message
+  is_raw : message ≡ fault_message name f → IsTextMessage name f message
+
 -- `IsMessageOf name e message`: `message` is that of the error `e` of the file `name`. A fault of
 -- its text has the message of unifdef.
 abbrev pub IsMessageOf : List ℕ → ReplaceError → List ℕ → Type 0
-IsMessageOf name (Text f) message = message ≡ fault_message name f
+IsMessageOf name (Text f) message = IsTextMessage name f message
 IsMessageOf name Read message = IsFailureOf name (codes "Cannot be read") message
 IsMessageOf name OutOfMemory message = message ≡ fault_line name (codes "Out of memory")
 IsMessageOf name ReadOnly message = IsFailureOf name (codes "Cannot be written") message
@@ -107,6 +118,14 @@ pub record ReportsFailure (name text : List ℕ) (old new : Report) (err err' : 
   pub message : List ℕ
   pub is_of : IsFailureOf name text message
   pub reports : ReportsOne message old new err err'
+
+-- `TellsText name f old new err err'`: the message of the fault `f` of the text of the file `name`
+-- was written.
+pub record TellsText (name : List ℕ) (f : RunFault) (old new : Report) (err err' : Stream) :
+    Type 0 where
+  pub message : List ℕ
+  pub is_of : IsTextMessage name f message
+  pub tells : Tells old new err err' message
 
 -- `TellsError name e old new err err'`: the message of the error `e` of the file `name` was
 -- written.

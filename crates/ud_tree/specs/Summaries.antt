@@ -1,6 +1,8 @@
 -- Summaries: the lines that end a run.
 --
 --   line_of text              a line of the program with this text
+--   files_text count          what follows the number of files whose names were listed
+--   hidden_text count         what follows the number of conditions that could not be listed
 --   changes_line word changed unchanged faults   how many files changed, or would
 --   summary task changed unchanged faults hidden   how many files there were of each kind
 --   remaining_line listed count   how many conditions still name a symbol
@@ -16,16 +18,26 @@ use Rattle.ud_tree.specs.declared.arguments.Arguments.{Arguments}
 use Rattle.ud_tree.specs.declared.counts.Counts.{Counts}
 use Rattle.ud_tree.specs.declared.report.Report.{Report}
 use Rattle.ud_tree.specs.Streams.{Stream, Sends}
+use Rattle.ud_tree.specs.Visible.{visible}
 
--- `line_of text`: the program's name, `text` and a newline.
+-- `line_of text`: the program's name, `text` with its control bytes made visible, and a newline.
 abbrev pub line_of : List ℕ → List ℕ
-line_of text = codes "unifdef-tree: " ++ text ++ codes "\n"
+line_of text = codes "unifdef-tree: " ++ visible text ++ codes "\n"
 
 -- `changes_line word changed unchanged faults`: the line with the numbers of files that changed, or
 -- would, as `word` says, of those that didn't, and of faults.
 abbrev pub changes_line : List ℕ → ℕ → ℕ → ℕ → List ℕ
 changes_line word changed unchanged faults = line_of (decimal changed ++ word ++
     decimal unchanged ++ codes " unchanged, " ++ decimal faults ++ codes " faulty")
+
+-- `files_text count`: what follows the number of files whose names were listed.
+abbrev pub files_text : ℕ → List ℕ
+files_text count = if count == 1 then codes " file listed, " else codes " files listed, "
+
+-- `hidden_text count`: what follows the number of conditions that could not be listed.
+abbrev pub hidden_text : ℕ → List ℕ
+hidden_text count = if count == 1 then codes " condition could not be listed"
+    else codes " conditions could not be listed"
 
 -- `summary task changed unchanged faults hidden`: the line with the numbers of files that changed,
 -- or would, of those that didn't, and of faults. If names are listed: of files without a fault, of
@@ -36,8 +48,8 @@ summary Replace changed unchanged faults hidden =
 summary Diff changed unchanged faults hidden =
     changes_line (codes " would change, ") changed unchanged faults
 summary Names changed unchanged faults hidden = line_of (decimal unchanged ++
-    codes " files listed, " ++ decimal faults ++ codes " faulty; " ++ decimal hidden ++
-    codes " conditions could not be listed")
+    files_text unchanged ++ decimal faults ++ codes " faulty; " ++ decimal hidden ++
+    hidden_text hidden)
 
 -- `remaining_text count`: what follows the number of conditions.
 abbrev pub remaining_text : ℕ → List ℕ

@@ -1,13 +1,17 @@
 -- WalkMessages: what a walk writes to the error stream.
 --
---   is_refused w                 a call of a walk failed
+--   is_refused w                 a look found nothing, or a call failed
 --   IsRefusal w message          the message of a call that failed
 --   IsRemark calls message       the message of something else that can't be taken
+--   WasListed calls path         a path is that of a name in a folder that was listed
 --   AreTold calls messages       each call that failed has its message
 --   WalkTells old new messages   only calls of a walk were made, and these are their messages
 --   joined messages              all messages, one after another
 --   ReportsRefusal w old new err err'   the message of a call that failed was written and counted
 --   ReportsWalk calls calls' old new err err'   so were all messages of a part of a walk
+--   ReportsNames folder names calls calls' old new err err'   a folder was listed first
+--   VisitTells path calls calls' old new err err'   a name of a folder was visited
+--   TellsGiven path node old new err err'   a node of the input was added or left out
 --   Stops from_input messages told   why no file follows a walk, and what is written of that
 --   StopsWalk from_input calls calls' old new err err'   a walk that no file follows
 --   FindsFiles from_input calls calls' files old new err err'   a walk that found files
@@ -15,10 +19,11 @@
 -- `old` and `new` are the report before and after, or the calls, the newest first. `err` and `err'`
 -- are the error stream.
 use Rattle.std.specs.Prelude.{◌≡◌, ℕ, ◌+◌, ◌<◌, ◌^◌, List, [], ◌∷◌, ◌++◌, length, map, Bool, true}
-use Rattle.std.specs.Prelude.{false, not, Some, None, codes}
+use Rattle.std.specs.Prelude.{false, not, codes}
 use Rattle.std.specs.List.{flat_map, Contains}
+use Rattle.ud_replace.specs.declared.node.Lookup.TheVariants.{Present, Absent, Unknown}
 use Rattle.ud_replace.specs.declared.node.Node.{Node}
-use Rattle.ud_replace.specs.declared.node.NodeKind.TheVariants.{File, Link}
+use Rattle.ud_replace.specs.declared.node.NodeKind.TheVariants.{File, Link, Other}
 use Rattle.ud_replace.specs.Calls.{Call, walked, WalkCall, met, followed, listed}
 use Rattle.ud_tree.specs.declared.report.Report.{Report}
 use Rattle.ud_tree.specs.declared.walk.Found.{Found}
@@ -27,18 +32,20 @@ use Rattle.ud_tree.specs.Streams.{Stream}
 use Rattle.ud_tree.specs.Summaries.{line_of}
 use Rattle.ud_tree.specs.Walks.{IsWalk}
 
--- `is_refused w`: nothing has the path that was asked for, or a call failed.
+-- `is_refused w`: nothing has the path that was looked at, or a call failed.
 abbrev pub is_refused : WalkCall → Bool
-is_refused (met path None) = true
-is_refused (met path (Some node)) = false
+is_refused (met path Absent) = true
+is_refused (met path Unknown) = true
+is_refused (met path (Present node)) = false
 is_refused (followed path answer) = false
 is_refused (listed folder names answer) = not answer
 
--- `IsRefusal w message`: `w` failed, and `message` is a line with its path and what failed.
+-- `IsRefusal w message`: `w` found nothing or failed, and `message` is a line with its path and
+-- what failed.
 pub data IsRefusal (w : WalkCall) (message : List ℕ) : Type 0 where
-  is_missing : (path : List ℕ) → w ≡ met path None →
+  is_missing : (path : List ℕ) → w ≡ met path Absent →
       message ≡ fault_line path (codes "No such file or folder") → IsRefusal w message
-  is_unknown : (path : List ℕ) → w ≡ met path None →
+  is_unknown : (path : List ℕ) → w ≡ met path Unknown →
       IsFailureOf path (codes "Cannot be found") message → IsRefusal w message
   is_unread : (folder : List ℕ) (names : List (List ℕ)) → w ≡ listed folder names false →
       IsFailureOf folder (codes "Cannot be read") message → IsRefusal w message
@@ -47,10 +54,10 @@ pub data IsRefusal (w : WalkCall) (message : List ℕ) : Type 0 where
 -- call failed. `calls` met a link there that doesn't lead to a folder, or something else that is no
 -- regular file. Or the line says that a name isn't UTF-8, or that the input couldn't be read.
 pub data IsRemark (calls : List WalkCall) (message : List ℕ) : Type 0 where
-  is_link : (path : List ℕ) (node : Node) → Contains calls (met path (Some node)) →
+  is_link : (path : List ℕ) (node : Node) → Contains calls (met path (Present node)) →
       node.kind ≡ Link → Contains calls (followed path false) →
       message ≡ fault_line path (codes "Is a symbolic link") → IsRemark calls message
-  is_other : (path : List ℕ) (node : Node) → Contains calls (met path (Some node)) →
+  is_other : (path : List ℕ) (node : Node) → Contains calls (met path (Present node)) →
       ¬ (node.kind ≡ File) → message ≡ fault_line path (codes "Is no regular file") →
       IsRemark calls message
   is_no_text : (path : List ℕ) → message ≡ fault_line path (codes "Its name isn't UTF-8") →
@@ -58,8 +65,19 @@ pub data IsRemark (calls : List WalkCall) (message : List ℕ) : Type 0 where
   no_input : message ≡ fault_line (codes "stdin") (codes "Cannot be read") →
       IsRemark calls message
 
+-- `WasListed calls path`: one of `calls` listed a folder, and `path` is that of one of the names.
+pub record WasListed (calls : List WalkCall) (path : List ℕ) : Type 0 where
+  pub folder : List ℕ
+  pub name : List ℕ
+  pub names : List (List ℕ)
+  pub answer : Bool
+  pub listing : Contains calls (listed folder names answer)
+  pub has : Contains names name
+  pub path_is : path ≡ folder ++ name
+
 -- `AreTold calls messages`: `messages` are those of a walk with these calls, the newest first. Each
--- call that failed has its message, in the order of the calls. Remarks may come between.
+-- call that failed, or that found nothing, has its message, in the order of the calls. A name may
+-- vanish after its folder was listed, and then needs none. Remarks may come between.
 pub data AreTold : List WalkCall → List (List ℕ) → Type 0 where
   none_told : AreTold [] []
   then_answered : {calls : List WalkCall} {messages : List (List ℕ)} (w : WalkCall) →
@@ -67,6 +85,8 @@ pub data AreTold : List WalkCall → List (List ℕ) → Type 0 where
   then_refused : {calls : List WalkCall} {messages : List (List ℕ)} (w : WalkCall)
       (message : List ℕ) → AreTold calls messages → IsRefusal w message →
       AreTold (w ∷ calls) (messages ++ message ∷ [])
+  then_vanished : {calls : List WalkCall} {messages : List (List ℕ)} (path : List ℕ) →
+      AreTold calls messages → WasListed calls path → AreTold (met path Absent ∷ calls) messages
   then_remark : {calls : List WalkCall} {messages : List (List ℕ)} (message : List ℕ) →
       AreTold calls messages → IsRemark calls message → AreTold calls (messages ++ message ∷ [])
 
@@ -97,6 +117,34 @@ pub record ReportsWalk (calls calls' : List Call) (old new : Report) (err err' :
   pub tells : Tells old new err err' (joined messages)
   pub counted : old.faulty + length messages < 2 ^ 64 →
       new.faulty ≡ old.faulty + length messages
+
+-- `ReportsNames folder names calls calls' old new err err'`: the same, and one of these calls
+-- listed `names` in `folder`.
+pub record ReportsNames (folder : List ℕ) (names : List (List ℕ)) (calls calls' : List Call)
+    (old new : Report) (err err' : Stream) : Type 0 where
+  pub answer : Bool
+  pub reports : ReportsWalk calls calls' old new err err'
+  pub listing : Contains reports.walk.calls (listed folder names answer)
+
+-- `VisitTells path calls calls' old new err err'`: nothing has `path`, which was looked at, and
+-- nothing was written. Or only calls of a walk were made, and their messages were written and
+-- counted.
+pub data VisitTells (path : List ℕ) (calls calls' : List Call) (old new : Report)
+    (err err' : Stream) : Type 0 where
+  is_gone : calls' ≡ walked (met path Absent) ∷ calls → new ≡ old → err' ≡ err →
+      VisitTells path calls calls' old new err err'
+  is_told : ReportsWalk calls calls' old new err err' →
+      VisitTells path calls calls' old new err err'
+
+-- `TellsGiven path node old new err err'`: nothing was written. Or `node` has `path` and is of
+-- another kind than a file, a folder and a link, and the message that it is no regular file was
+-- written and counted.
+pub data TellsGiven (path : List ℕ) (node : Node) (old new : Report) (err err' : Stream) :
+    Type 0 where
+  is_quiet : new ≡ old → err' ≡ err → TellsGiven path node old new err err'
+  is_irregular : node.kind ≡ Other →
+      ReportsOne (fault_line path (codes "Is no regular file")) old new err err' →
+      TellsGiven path node old new err err'
 
 -- `Stops from_input messages told`: no file follows a walk with these messages. Memory ran out, and
 -- a line says so. Or the paths are those of the command line, and one has a fault, of which the

@@ -14,7 +14,7 @@
 --   IsWalk old new files         a whole walk, and its files
 --
 -- `old` and `new` are the calls before and after, the newest first.
-use Rattle.std.specs.Prelude.{◌≡◌, ◌⊎◌, ℕ, List, ◌∷◌, [], ◌++◌, Some, map, string_bytes}
+use Rattle.std.specs.Prelude.{◌≡◌, ◌⊎◌, ℕ, List, ◌∷◌, [], ◌++◌, map, string_bytes}
 use Rattle.std.specs.Prelude.{true}
 use Rattle.std.specs.List.{All, AllPairs, Contains}
 use Rattle.std.specs.Cmp.Lexicographic.{slice_cmp}
@@ -25,13 +25,14 @@ use Rattle.std.specs.declared.cmp.Ordering.TheVariants.{Less}
 use Rattle.ud_replace.specs.declared.node.Node.{Node}
 use Rattle.ud_replace.specs.declared.node.NodeKind.TheVariants.{File}
 use Rattle.ud_replace.specs.declared.node.FileId.{FileId}
+use Rattle.ud_replace.specs.declared.node.Lookup.TheVariants.{Present}
 use Rattle.ud_replace.specs.Calls.{Call, walked, WalkCall, met}
 use Rattle.ud_tree.specs.declared.walk.Found.{Found}
 
 -- `WasMet calls f`: one of these calls found a regular file at the path of `f`, with its identity.
 pub record WasMet (calls : List WalkCall) (f : Found) : Type 0 where
   pub node : Node
-  pub seen : Contains calls (met (string_bytes f.path) (Some node))
+  pub seen : Contains calls (met (string_bytes f.path) (Present node))
   pub is_file : node.kind ≡ File
   pub same_id : node.id ≡ f.id
 

@@ -50,6 +50,8 @@ impl Arguments {
 /// The request of a command line.
 #[derive(Drop)]
 pub enum Request {
+    /// The usage and a line for each option.
+    Help,
     /// The version.
     Version,
     /// A run.
@@ -116,6 +118,7 @@ struct Given {
     show_changes: bool,
     has_symbols: bool,
     version: bool,
+    help: bool,
 }
 
 /// Returns what the arguments ask for. They are without the program's name.
@@ -156,6 +159,7 @@ impl Given {
             show_changes: false,
             has_symbols: false,
             version: false,
+            help: false,
         }
     }
 
@@ -168,6 +172,10 @@ impl Given {
         }
         if word == "--" {
             self.only_paths = true;
+            return Ok(1);
+        }
+        if word == "--help" {
+            self.help = true;
             return Ok(1);
         }
         let mut letters = word.chars();
@@ -223,6 +231,7 @@ impl Given {
             'r' => self.list_remaining = true,
             'd' => self.show_changes = true,
             'V' => self.version = true,
+            'h' => self.help = true,
             'b' | 'c' | 'K' | 'k' | 'l' | 't' => self.pass_on(letter, "")?,
             _ => return Err(ArgumentFault::UnknownOption(letter)),
         }
@@ -269,6 +278,9 @@ impl Given {
     /// Returns what all arguments ask for.
     fn finish(self) -> Result<Request, ArgumentFault> {
         let mut given = self;
+        if given.help {
+            return Ok(Request::Help);
+        }
         if given.version {
             return Ok(Request::Version);
         }

@@ -17,7 +17,7 @@ use std::os::unix::fs::{MetadataExt, OpenOptionsExt, PermissionsExt, fchown};
 use std::rt::Files;
 use ud_replace::{
     CreateError, FileId, FileStat, FileTime, FileVersion, Folder, FolderCall, FolderWalk, History,
-    Node, NodeKind,
+    Lookup, Node, NodeKind,
 };
 
 /// The bits of a mode that say who may read, write and run a file.
@@ -410,9 +410,15 @@ impl<R: Files> Tree for Disk<'_, R>
 where
     R::File: AsFd,
 {
-    fn node(&mut self, path: &str) -> Option<Node> {
-        let found = node_at(self.files, path);
-        let answer = self.kept(found);
+    fn node(&mut self, path: &str) -> Lookup {
+        let answer = match node_at(self.files, path) {
+            Ok(node) => Lookup::Present(node),
+            Err(error) if error.kind() == ErrorKind::NotFound => Lookup::Absent,
+            Err(error) => {
+                self.reason = Some(error);
+                Lookup::Unknown
+            }
+        };
         let path = path.as_bytes();
         self.note(FolderWalk::Met { path, answer });
         answer

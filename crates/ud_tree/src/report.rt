@@ -4,12 +4,12 @@
 //! `Report` is a fault, and faults are counted. On a terminal, a line with the number of files is
 //! shown during the run, and removed before each message.
 
-ghost use Rattle.std.specs.Prelude.{◌≡◌, ◌+◌, ◌<◌, ◌^◌, [], ◌++◌, false, if◌then◌else◌, None};
+ghost use Rattle.std.specs.Prelude.{◌≡◌, ◌+◌, ◌<◌, ◌^◌, [], ◌++◌, false, if◌then◌else◌};
 ghost use Rattle.std.specs.List.{flat_map};
 ghost use Rattle.ud_diagnostics.specs.RunMessages.{fault_message};
 ghost use Rattle.ud_replace.specs.Calls.{met};
-ghost use Rattle.ud_tree.specs.Messages.{IsPlain, Tells, ReportsFailure, ReportsOne, fault_line};
-ghost use Rattle.ud_tree.specs.Messages.{locked_line};
+ghost use Rattle.ud_tree.specs.Messages.{IsPlain, Tells, TellsText, fault_line, locked_line};
+ghost use Rattle.ud_tree.specs.Messages.{ReportsFailure, ReportsOne};
 ghost use Rattle.ud_tree.specs.Streams.{Sends, stream_of};
 ghost use Rattle.ud_tree.specs.Summaries.{Says, line_of};
 ghost use Rattle.ud_tree.specs.WalkMessages.{ReportsRefusal};
@@ -18,14 +18,15 @@ use crate::arguments::ArgumentFault;
 use crate::job::Job;
 use crate::paths::{FRESH, folder, fresh_end};
 use crate::remaining::Remaining;
-use crate::send::{send, send_parts};
+use crate::send::{send, send_parts, send_visible, send_visible_parts};
 use itoa::Buffer;
 use std::alloc::Global;
-use std::io::{self, ErrorKind, Write};
+use std::io::{self, Write};
 use ud_diagnostics::report_result;
 use ud_faults::RunFault;
 use ud_io::Watched;
 use ud_model::Settings;
+use ud_replace::Lookup;
 
 /// The number of files after which the line on the terminal is shown again.
 const STEP: usize = 64;
@@ -33,14 +34,53 @@ const STEP: usize = 64;
 /// The fault of a file beside which there is one of another run, whose path follows.
 const LOCKED: &[u8] = b"Another run is at it; if none is, remove ";
 
-/// Writes a message that is no fault: the program's name, the parts, and a newline.
-pub fn report_line<E: Write>(err: &mut Watched<E>, parts: &[&[u8]])
+/// Writes a message that is no fault: the program's name, the parts, and a newline. Control bytes
+/// are shown as `\x` and two hexadecimal digits.
+///
+/// It is one write, so that messages of runs side by side tear none, unless memory runs out.
+pub fn report_line<E: Write>(alloc: Global, err: &mut Watched<E>, parts: &[&[u8]])
     ensures { Sends (stream_of E.contents err.old) (stream_of E.contents err.new)
         (line_of (flat_map (λ p. p.now) parts.now)) }
 {
-    send(err, b"unifdef-tree: ");
-    send_parts(err, parts);
-    send(err, b"\n");
+    let mut line = Watched::new(Vec::<u8>::new(alloc));
+    send_line(&mut line, parts);
+    if line.failed() {
+        send_line(err, parts);
+        return;
+    }
+    send(err, line.inner().as_slice());
+}
+
+/// Writes the program's name, the parts, and a newline.
+fn send_line<W: Write>(out: &mut Watched<W>, parts: &[&[u8]])
+    ensures { Sends (stream_of W.contents out.old) (stream_of W.contents out.new)
+        (line_of (flat_map (λ p. p.now) parts.now)) }
+{
+    send(out, b"unifdef-tree: ");
+    send_visible_parts(out, parts);
+    send(out, b"\n");
+}
+
+/// Writes the message of unifdef for the fault of a text, in one write unless memory runs out.
+fn report_text<E: Write>(
+    alloc: Global,
+    err: &mut Watched<E>,
+    name: &[u8],
+    settings: Settings,
+    fault: RunFault,
+)
+    ensures { Sends (stream_of E.contents err.old) (stream_of E.contents err.new)
+        (fault_message name.now fault) }
+{
+    let mut message = Watched::new(Vec::<u8>::new(alloc));
+    report_result(&mut message, name, settings, Err(fault));
+    if !message.failed() {
+        send(err, message.inner().as_slice());
+        return;
+    }
+    if !err.failed() {
+        report_result(err, name, settings, Err(fault));
+    }
 }
 
 /// Returns the text of an error of the system without its number.
@@ -173,7 +213,7 @@ impl Report {
         ensures faults { self.new.faulty ≡ self.old.faulty }
     {
         self.clear(err);
-        report_line(err, parts);
+        report_line(self.alloc, err, parts);
     }
 
     /// Writes a fault of a path.
@@ -238,25 +278,29 @@ impl Report {
         }
     }
 
-    /// Writes that there is nothing at a path, or why that isn't known.
-    pub(crate) fn missing<E: Write>(
+    /// Writes that nothing has a path.
+    pub(crate) fn missing<E: Write>(&mut self, err: &mut Watched<E>, path: &[u8])
+        ensures { ReportsRefusal (met path.now Lookup.Absent) self.old self.new
+            (stream_of E.contents err.old) (stream_of E.contents err.new) }
+    {
+        self.fault(err, path, b"No such file or folder");
+    }
+
+    /// Writes why it isn't known what has a path.
+    pub(crate) fn unknown<E: Write>(
         &mut self,
         err: &mut Watched<E>,
         path: &[u8],
         reason: Option<io::Error>,
     )
-        ensures { ReportsRefusal (met path.now None) self.old self.new
+        ensures { ReportsRefusal (met path.now Lookup.Unknown) self.old self.new
             (stream_of E.contents err.old) (stream_of E.contents err.new) }
     {
-        match reason {
-            Some(error) if error.kind() != ErrorKind::NotFound => {
-                self.failure(err, path, b"Cannot be found", Some(error));
-            }
-            _ => self.fault(err, path, b"No such file or folder"),
-        }
+        self.failure(err, path, b"Cannot be found", reason);
     }
 
-    /// Writes the fault of a file's text, as unifdef does.
+    /// Writes the fault of a file's text, as unifdef does. Unless memory runs out, control bytes of
+    /// the path are shown as `\x` and two hexadecimal digits.
     pub(crate) fn text_fault<E: Write>(
         &mut self,
         err: &mut Watched<E>,
@@ -264,56 +308,74 @@ impl Report {
         settings: Settings,
         fault: RunFault,
     )
-        ensures { Tells self.old self.new (stream_of E.contents err.old)
-            (stream_of E.contents err.new) (fault_message path.now fault) }
+        ensures { TellsText path.now fault self.old self.new (stream_of E.contents err.old)
+            (stream_of E.contents err.new) }
     {
         self.faulty = self.faulty.saturating_add(1);
         self.clear(err);
-        if err.failed() {
+        let mut name = Watched::new(Vec::<u8>::new(self.alloc));
+        send_visible(&mut name, path);
+        if name.failed() {
+            report_text(self.alloc, err, path, settings, fault);
             return;
         }
-        report_result(err, path, settings, Err(fault));
+        report_text(self.alloc, err, name.inner().as_slice(), settings, fault);
     }
 }
 
 /// How the program is called.
-const USAGE: &[u8] =
-    b"usage: unifdef-tree [-nqrw0] [-g pattern]... [-bcKklt] [-Dsym[=val]]... [-Usym]...\n                    [-iDsym[=val]]... [-iUsym]... [-xmode] [--] path...\n       unifdef-tree -s [-q0] [-g pattern]... [-t] [--] path...\n       unifdef-tree -V\n";
+pub(crate) const USAGE: &[u8] =
+    b"usage: unifdef-tree [-dnqrw0] [-g pattern]... [-bcKklt] [-Dsym[=val]]... [-Usym]...\n                    [-iDsym[=val]]... [-iUsym]... [-xmode] [--] path...\n       unifdef-tree -s [-q0] [-g pattern]... [-t] [--] path...\n       unifdef-tree -h | -V\n";
 
 /// Writes the message of a fault of the arguments.
-pub fn report_argument_fault<E: Write>(err: &mut Watched<E>, fault: &ArgumentFault) {
+pub fn report_argument_fault<E: Write>(alloc: Global, err: &mut Watched<E>, fault: &ArgumentFault) {
     match fault {
         ArgumentFault::UnknownOption(letter) => {
-            report_letter(err, b"Unknown option -", *letter, b"");
+            report_letter(alloc, err, b"Unknown option -", *letter, b"");
             send_parts(err, &[USAGE]);
         }
         ArgumentFault::MissingArgument(letter) => {
-            report_letter(err, b"Option -", *letter, b" needs an argument");
+            report_letter(alloc, err, b"Option -", *letter, b" needs an argument");
         }
-        ArgumentFault::BadSymbol(word) => report_line(err, &[b"Bad symbol: ", word.as_bytes()]),
+        ArgumentFault::BadSymbol(word) => {
+            report_line(alloc, err, &[b"Bad symbol: ", word.as_bytes()]);
+        }
         ArgumentFault::BadMode(word) => {
             let word = word.as_bytes();
             let mode = word.strip_prefix(b"-x".as_slice()).unwrap_or(word);
-            report_line(err, &[b"Bad exit mode: ", mode]);
+            report_line(alloc, err, &[b"Bad exit mode: ", mode]);
         }
         ArgumentFault::BadJobs(word) => {
-            report_line(err, &[b"Bad number of jobs: ", word.as_bytes()]);
+            report_line(alloc, err, &[b"Bad number of jobs: ", word.as_bytes()]);
         }
-        ArgumentFault::DiffAndNames => report_line(err, &[b"-n and -s don't go together"]),
-        ArgumentFault::RemainingAndNames => report_line(err, &[b"-r and -s don't go together"]),
-        ArgumentFault::ChangesAndNames => report_line(err, &[b"-d and -s don't go together"]),
+        ArgumentFault::DiffAndNames => report_line(alloc, err, &[b"-n and -s don't go together"]),
+        ArgumentFault::RemainingAndNames => {
+            report_line(alloc, err, &[b"-r and -s don't go together"]);
+        }
+        ArgumentFault::ChangesAndNames => {
+            report_line(alloc, err, &[b"-d and -s don't go together"]);
+        }
         ArgumentFault::OptionAfterPath(word) => {
-            report_line(err, &[b"Option after a path: ", word.as_bytes()]);
+            report_line(alloc, err, &[b"Option after a path: ", word.as_bytes()]);
         }
-        ArgumentFault::PathsAndInput => report_line(err, &[b"-0 takes no paths"]),
-        ArgumentFault::NoPath => send_parts(err, &[USAGE]),
-        ArgumentFault::OutOfMemory => report_line(err, &[b"Out of memory"]),
+        ArgumentFault::PathsAndInput => report_line(alloc, err, &[b"-0 takes no paths"]),
+        ArgumentFault::NoPath => {
+            report_line(alloc, err, &[b"No path"]);
+            send_parts(err, &[USAGE]);
+        }
+        ArgumentFault::OutOfMemory => report_line(alloc, err, &[b"Out of memory"]),
     }
 }
 
 /// Writes a message with a letter between two texts.
-fn report_letter<E: Write>(err: &mut Watched<E>, before: &[u8], letter: char, after: &[u8]) {
+fn report_letter<E: Write>(
+    alloc: Global,
+    err: &mut Watched<E>,
+    before: &[u8],
+    letter: char,
+    after: &[u8],
+) {
     let mut buffer = [0; 4];
     let bytes = letter.encode_utf8(&mut buffer).as_bytes();
-    report_line(err, &[before, bytes, after]);
+    report_line(alloc, err, &[before, bytes, after]);
 }

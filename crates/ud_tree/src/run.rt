@@ -7,6 +7,7 @@ ghost use Rattle.ud_tree.specs.Messages.{TellsIf, list_message, write_message};
 ghost use Rattle.ud_tree.specs.Statuses.{tree_status};
 ghost use Rattle.ud_tree.specs.Streams.{Sends, stream_of};
 ghost use Rattle.ud_tree.specs.Summaries.{Says, TellsEnd, changes_line, summary};
+ghost use Rattle.ud_tree.specs.Summaries.{files_text, hidden_text};
 ghost use Rattle.ud_tree.specs.Summaries.{remaining_line, remaining_text};
 ghost use Rattle.ud_tree.specs.TreeRuns.{EndsWriting, RunsTree};
 ghost use Rattle.ud_tree.specs.WalkMessages.{FindsFiles, ReportsWalk, StopsWalk};
@@ -355,13 +356,35 @@ fn report_listed<E: Write>(
         err,
         &[
             listed,
-            b" files listed, ",
+            files_text(counts.unchanged),
             faulty,
             b" faulty; ",
             unlisted,
-            b" conditions could not be listed",
+            hidden_text(hidden),
         ],
     );
+}
+
+/// Returns what follows the number of files whose names were listed.
+fn files_text(count: usize) -> &'static [u8]
+    ensures { result.now ≡ files_text count }
+{
+    if count == 1 {
+        b" file listed, "
+    } else {
+        b" files listed, "
+    }
+}
+
+/// Returns what follows the number of conditions that couldn't be listed.
+fn hidden_text(count: usize) -> &'static [u8]
+    ensures { result.now ≡ hidden_text count }
+{
+    if count == 1 {
+        b" condition could not be listed"
+    } else {
+        b" conditions could not be listed"
+    }
 }
 
 /// Writes how many conditions still name a symbol, if they were listed or if there are some.

@@ -4,7 +4,7 @@ ghost use Rattle.std.specs.Prelude.{◌≡◌, [], ◌∷◌, map};
 ghost use Rattle.ud_replace.specs.Calls.{walked, met, followed, listed};
 
 use std::io;
-use ud_replace::{Folder, Node};
+use ud_replace::{Folder, Lookup};
 
 /// A tree of files and folders, each of which has a path.
 ///
@@ -13,8 +13,8 @@ pub trait Tree: Folder {
     /// Returns what has a path, without following a link at its end.
     ///
     /// # Errors
-    /// `None` if nothing has the path, or if the call fails.
-    fn node(&mut self, path: &str) -> Option<Node>
+    /// `Unknown` if the call fails.
+    fn node(&mut self, path: &str) -> Lookup
         ensures { Self.history self.new ≡ walked (met path.now result) ∷ Self.history self.old };
 
     /// Returns whether a path is that of a folder, or of a link to one.

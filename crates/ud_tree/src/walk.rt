@@ -1,9 +1,9 @@
 //! The walk over a tree: the files below some paths, each once, in the order of the paths' bytes.
 
-ghost use Rattle.std.specs.Prelude.{◌≡◌, ◌⊎◌, [], IfOk, OnOk, true, false};
+ghost use Rattle.std.specs.Prelude.{◌≡◌, ◌⊎◌, ◌++◌, [], IfOk, OnOk, map, true};
 ghost use Rattle.std.specs.List.{All, AllPairs, Contains};
 ghost use Rattle.ud_tree.specs.Streams.{stream_of};
-ghost use Rattle.ud_tree.specs.WalkMessages.{ReportsWalk};
+ghost use Rattle.ud_tree.specs.WalkMessages.{ReportsNames, ReportsWalk, TellsGiven, VisitTells};
 ghost use Rattle.ud_tree.specs.Walks.{Adds, AddsNode, ArePicked, Finds, IsBefore, IsFileList};
 
 use crate::paths::{escaped, last_name};
@@ -14,7 +14,7 @@ use std::alloc::{AllocError, Global};
 use std::collections::BTreeSet;
 use std::io::Write;
 use ud_io::Watched;
-use ud_replace::{FileId, Node, NodeKind};
+use ud_replace::{FileId, Lookup, Node, NodeKind};
 
 /// The fault of a file that can't be opened.
 const NOT_UTF8: &[u8] = b"Its name isn't UTF-8";
@@ -76,9 +76,16 @@ impl<'w> Walk<'w> {
         ensures told { ReportsWalk (T.history tree.old) (T.history tree.new) report.old report.new
             (stream_of E.contents err.old) (stream_of E.contents err.new) }
     {
-        let Some(node) = tree.node(path) else {
-            report.missing(err, path.as_bytes(), tree.reason());
-            return Ok(());
+        let node = match tree.node(path) {
+            Lookup::Present(node) => node,
+            Lookup::Absent => {
+                report.missing(err, path.as_bytes());
+                return Ok(());
+            }
+            Lookup::Unknown => {
+                report.unknown(err, path.as_bytes(), tree.reason());
+                return Ok(());
+            }
         };
         match node.kind {
             NodeKind::Folder => self.add_folder(path),
@@ -95,7 +102,7 @@ impl<'w> Walk<'w> {
         }
     }
 
-    /// Adds a file of the input as it is, whatever its name.
+    /// Adds a file of the input, whatever its name. Folders and links are left out.
     ///
     /// # Errors
     /// Fails if memory runs out.
@@ -116,13 +123,35 @@ impl<'w> Walk<'w> {
             return Ok(());
         };
         match tree.node(path) {
-            None => {
-                report.missing(err, name, tree.reason());
+            Lookup::Present(node) => self.add_given(report, err, path, node),
+            Lookup::Absent => {
+                report.missing(err, name);
                 Ok(())
             }
-            Some(node) if is_file(&node) => self.push_file(path, node.id),
-            Some(_) => {
-                report.fault(err, name, b"Is no regular file");
+            Lookup::Unknown => {
+                report.unknown(err, name, tree.reason());
+                Ok(())
+            }
+        }
+    }
+
+    /// Adds a node of the input, if it is a file.
+    fn add_given<E: Write>(
+        &mut self,
+        report: &mut Report,
+        err: &mut Watched<E>,
+        path: &str,
+        node: Node,
+    ) -> Result<(), AllocError>
+        ensures adds { AddsNode self.old.found.items path.now node self.new.found.items }
+        ensures told { TellsGiven path.now node report.old report.new
+            (stream_of E.contents err.old) (stream_of E.contents err.new) }
+    {
+        match node.kind {
+            NodeKind::File => self.push_file(path, node.id),
+            NodeKind::Folder | NodeKind::Link => Ok(()),
+            NodeKind::Other => {
+                report.fault(err, path.as_bytes(), b"Is no regular file");
                 Ok(())
             }
         }
@@ -160,7 +189,8 @@ impl<'w> Walk<'w> {
             .map_err(AllocError::from)
     }
 
-    /// Adds what has a name in a folder.
+    /// Adds what has a name in a folder. A name that vanished since the folder was listed is left
+    /// out.
     fn visit<T: Tree, E: Write>(
         &mut self,
         tree: &mut T,
@@ -171,8 +201,8 @@ impl<'w> Walk<'w> {
     ) -> Result<(), AllocError>
         ensures finds { Finds (T.history tree.old) (T.history tree.new) self.old.found.items
             self.new.found.items }
-        ensures told { ReportsWalk (T.history tree.old) (T.history tree.new) report.old report.new
-            (stream_of E.contents err.old) (stream_of E.contents err.new) }
+        ensures told { VisitTells (folder.now ++ name.now) (T.history tree.old) (T.history tree.new)
+            report.old report.new (stream_of E.contents err.old) (stream_of E.contents err.new) }
     {
         let mut path = String::from_str(self.alloc, folder)?;
         let Ok(text) = std::str::from_utf8(name) else {
@@ -182,11 +212,14 @@ impl<'w> Walk<'w> {
         };
         path.push_str(text)?;
         let whole = path.as_str();
-        let Some(node) = tree.node(whole) else {
-            report.missing(err, whole.as_bytes(), tree.reason());
-            return Ok(());
-        };
-        self.add_node(whole, name, node)
+        match tree.node(whole) {
+            Lookup::Present(node) => self.add_node(whole, name, node),
+            Lookup::Absent => Ok(()),
+            Lookup::Unknown => {
+                report.unknown(err, whole.as_bytes(), tree.reason());
+                Ok(())
+            }
+        }
     }
 
     /// Adds a file or a folder. Others are left out.
@@ -230,7 +263,8 @@ impl<'w> Walk<'w> {
     ) -> Vec<Vec<u8>>
         ensures finds { Finds (T.history tree.old) (T.history tree.new) self.now.found.items
             self.now.found.items }
-        ensures told { ReportsWalk (T.history tree.old) (T.history tree.new) report.old report.new
+        ensures told { ReportsNames folder.now (map (λ n. n.items) result.items)
+            (T.history tree.old) (T.history tree.new) report.old report.new
             (stream_of E.contents err.old) (stream_of E.contents err.new) }
     {
         let mut names = Vec::new(self.alloc);
@@ -281,17 +315,6 @@ impl<'w> Walk<'w> {
             pick(&mut files, &mut seen, found)?;
         }
         Ok(files)
-    }
-}
-
-/// Returns whether a node is a regular file.
-fn is_file(node: &Node) -> bool
-    ensures file { result ≡ true → node.now.kind ≡ NodeKind.File }
-    ensures other { result ≡ false → ¬ (node.now.kind ≡ NodeKind.File) }
-{
-    match node.kind {
-        NodeKind::File => true,
-        NodeKind::Folder | NodeKind::Link | NodeKind::Other => false,
     }
 }
 

@@ -10,7 +10,8 @@ use std::process::ExitCode;
 use std::{env, io};
 use ud_io::Watched;
 use ud_tree::{
-    Arguments, Disk, Job, Request, parse_arguments, report_argument_fault, report_line, run_tree,
+    Arguments, Disk, Job, Request, Task, parse_arguments, print_help, report_argument_fault,
+    report_line, run_tree,
 };
 
 /// The version that `-V` prints.
@@ -22,14 +23,22 @@ const EXIT_TROUBLE: u8 = 2;
 fn main(rt: HostRuntime) -> ExitCode {
     let Ok(args) = args(&rt) else {
         let mut err = Watched::new(rt.stderr());
-        report_line(&mut err, &[b"Cannot take arguments"]);
+        report_line(rt.alloc(), &mut err, &[b"Cannot take arguments"]);
         return ExitCode::from(EXIT_TROUBLE);
     };
     match parse_arguments(rt.alloc(), args.as_slice()) {
         Err(fault) => {
             let mut err = Watched::new(rt.stderr());
-            report_argument_fault(&mut err, &fault);
+            report_argument_fault(rt.alloc(), &mut err, &fault);
             ExitCode::from(EXIT_TROUBLE)
+        }
+        Ok(Request::Help) => {
+            let mut out = Watched::new(rt.stdout());
+            ExitCode::from(if print_help(&mut out) {
+                0
+            } else {
+                EXIT_TROUBLE
+            })
         }
         Ok(Request::Version) => match rt.println(VERSION) {
             Ok(()) => ExitCode::from(0),
@@ -45,12 +54,22 @@ fn run(rt: &HostRuntime, arguments: &Arguments) -> ExitCode {
     let job = Job {
         alloc: rt.alloc(),
         arguments,
-        is_terminal: stderr.is_terminal(),
+        is_terminal: stderr.is_terminal() && allows_counter(arguments),
     };
     let mut disk = Disk::new(rt, rt.alloc());
     let mut out = Watched::new(rt.stdout());
     let mut err = Watched::new(stderr);
     ExitCode::from(run_tree(&job, &mut disk, rt.stdin(), &mut out, &mut err))
+}
+
+/// Returns whether a terminal may show how many files are done. The last lines remove that, so
+/// there must be some. Nothing else may be written, since the output may go to the same terminal.
+fn allows_counter(arguments: &Arguments) -> bool {
+    let replaces = match arguments.task {
+        Task::Replace => true,
+        Task::Diff | Task::Names => false,
+    };
+    replaces && !arguments.quiet && !arguments.list_remaining && !arguments.show_changes
 }
 
 /// Returns the arguments after the program's name.

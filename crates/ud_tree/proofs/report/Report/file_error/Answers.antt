@@ -1,7 +1,10 @@
 -- By the kind of the error.
 use Rattle.ud_replace.specs.declared.error.ReplaceError.TheVariants.{Read, NotRenamed, HalfWritten}
-use Rattle.ud_tree.proofs.MessageLemmas.{failure_is, unwritten_is}
+use Rattle.ud_tree.proofs.MessageLemmas.{failure_is, text_is, unwritten_is}
 use Rattle.ud_tree.proofs.report.Report.file_error.Goals as goal
+
+pub returns-in-Text : goal.returns-in-Text
+returns-in-Text g c = text_is c.args.path.now c.in-Text.fault c.in-Text.is c.text_fault.ensures
 
 pub returns-in-Read : goal.returns-in-Read
 returns-in-Read g c = failure_is c.args.path.now Read c.in-Read.is (λ m h. h) c.failure.ensures

@@ -1,16 +1,18 @@
-use Rattle.std.proofs.Common.{sym, ap, ◌∙◌}
-use Rattle.ud_diagnostics.specs.RunMessages.{fault_message}
+use Rattle.std.proofs.Common.{◌∙◌, ℕ, List, Some, sym, ap}
 use Rattle.ud_tree.specs.Streams.{stream_of}
 use Rattle.ud_tree.proofs.MessageLemmas.{cleared_tells}
-use Rattle.ud_tree.proofs.StreamLemmas.{sends_failed, sends_written}
+use Rattle.ud_tree.proofs.VisibleLemmas.{text_raw, text_visible, written_all}
 use Rattle.ud_tree.proofs.report.Report.text_fault.Goals as goal
 
 pub returns-then-failed : goal.returns-then-failed
 returns-then-failed g c =
-    cleared_tells {a = c.args.self.now} c.clear.ensures.terminal c.clear.ensures.hidden (λ e. ap (λ w. stream_of g.E.Write.contents w) (c.clear.ensures.unshown e))
-    (sends_failed (stream_of g.E.Write.contents c.clear.new.err) (fault_message c.args.path.now c.args.fault) (sym c.failed.ensures ∙ c.if-failed.true))
+    text_raw c.args.path.now c.args.fault
+    (cleared_tells {a = c.args.self.now} c.clear.ensures.terminal c.clear.ensures.hidden (λ e. ap (λ w. stream_of g.E.Write.contents w) (c.clear.ensures.unshown e)) c.report_text.ensures)
 
 pub returns : goal.returns
 returns g c =
-    cleared_tells {a = c.args.self.now} c.clear.ensures.terminal c.clear.ensures.hidden (λ e. ap (λ w. stream_of g.E.Write.contents w) (c.clear.ensures.unshown e))
-    (sends_written (sym c.failed.ensures ∙ c.if-failed.false) c.report_result.ensures.message)
+    text_visible c.args.path.now c.as_slice.result.now c.args.fault
+    (written_all c.send_visible.ensures c.new-name.ensures.failed (sym c.failed.ensures ∙ c.if-failed.false)
+    (ap (λ v. Some v.items) c.new-name.ensures.inner ∙ ap (λ (x : List ℕ). Some x) c.new.ensures.items)
+    (ap (λ (x : List ℕ). Some x) (sym (c.as_slice.ensures.value ∙ ap (λ v. v.items) c.inner.ensures))))
+    (cleared_tells {a = c.args.self.now} c.clear.ensures.terminal c.clear.ensures.hidden (λ e. ap (λ w. stream_of g.E.Write.contents w) (c.clear.ensures.unshown e)) c.report_text-2.ensures)

@@ -1,8 +1,9 @@
 use Rattle.std.proofs.Common.{refl, sym}
-use Rattle.ud_tree.proofs.WalkLemmas.{finds_none, finds_call, finds_file}
+use Rattle.ud_tree.proofs.WalkLemmas.{finds_none, finds_call, finds_node}
 use Rattle.ud_tree.specs.Streams.{stream_of}
 use Rattle.ud_tree.specs.WalkMessages.{is_no_text}
-use Rattle.ud_tree.proofs.WalkTellLemmas.{walk_none, walk_met, walk_missing, walk_other, walk_remark, reported}
+use Rattle.ud_tree.proofs.WalkTellLemmas.{walk_none, walk_given, walk_unmet, walk_remark, reported}
+use Rattle.ud_replace.specs.declared.node.Lookup.TheVariants.{Absent, Unknown}
 use Rattle.ud_tree.proofs.walk.Walk.add.Goals as goal
 
 pub returns-in_err-escaped-clause-finds : goal.returns-in_err-escaped-clause-finds
@@ -11,14 +12,14 @@ returns-in_err-escaped-clause-finds g c = finds_none (g.T.Folder.history c.args.
 pub returns-in_default-clause-finds : goal.returns-in_default-clause-finds
 returns-in_default-clause-finds g c = finds_none (g.T.Folder.history c.args.tree.now) c.args.self.now.found.items
 
-pub returns-in-None-clause-finds : goal.returns-in-None-clause-finds
-returns-in-None-clause-finds g c = finds_call _ c.args.self.now.found.items c.node.ensures
+pub returns-in-Present-clause-finds : goal.returns-in-Present-clause-finds
+returns-in-Present-clause-finds g c = finds_node _ c.in-Present.node c.in-Present.ensures c.add_given.ensures.adds
 
-pub returns-in-Some-clause-finds : goal.returns-in-Some-clause-finds
-returns-in-Some-clause-finds g c = finds_file _ c.in-Some.node c.in-Some.ensures (c.if-is_file.ensures.file refl) c.push_file.ensures
+pub returns-in-Absent-clause-finds : goal.returns-in-Absent-clause-finds
+returns-in-Absent-clause-finds g c = finds_call _ c.args.self.now.found.items c.node.ensures
 
-pub returns-in-Some-2-clause-finds : goal.returns-in-Some-2-clause-finds
-returns-in-Some-2-clause-finds g c = finds_call _ c.args.self.now.found.items c.node.ensures
+pub returns-in-Unknown-clause-finds : goal.returns-in-Unknown-clause-finds
+returns-in-Unknown-clause-finds g c = finds_call _ c.args.self.now.found.items c.node.ensures
 
 pub returns-in_err-escaped-clause-told : goal.returns-in_err-escaped-clause-told
 returns-in_err-escaped-clause-told g c = walk_none (g.T.Folder.history c.args.tree.now) c.args.report.now (stream_of g.E.Write.contents c.args.err.now)
@@ -26,12 +27,11 @@ returns-in_err-escaped-clause-told g c = walk_none (g.T.Folder.history c.args.tr
 pub returns-in_default-clause-told : goal.returns-in_default-clause-told
 returns-in_default-clause-told g c = walk_remark _ (g.T.Folder.history c.args.tree.now) (is_no_text _ refl) (reported c.fault.ensures.says c.fault.ensures.counted)
 
-pub returns-in-None-clause-told : goal.returns-in-None-clause-told
-returns-in-None-clause-told g c = walk_missing _ c.args.name.now (sym c.in-Ok.ensures.cases.0) c.in-None.ensures c.missing.ensures
+pub returns-in-Present-clause-told : goal.returns-in-Present-clause-told
+returns-in-Present-clause-told g c = walk_given _ c.in-Present.node c.in-Present.ensures c.add_given.ensures.told
 
-pub returns-in-Some-clause-told : goal.returns-in-Some-clause-told
-returns-in-Some-clause-told g c = walk_met _ c.in-Some.node c.args.report.now (stream_of g.E.Write.contents c.args.err.now) c.in-Some.ensures
+pub returns-in-Absent-clause-told : goal.returns-in-Absent-clause-told
+returns-in-Absent-clause-told g c = walk_unmet Absent _ c.args.name.now (sym c.in-Ok.ensures.cases.0) c.in-Absent.ensures c.missing.ensures
 
-pub returns-in-Some-2-clause-told : goal.returns-in-Some-2-clause-told
-returns-in-Some-2-clause-told g c =
-    walk_other _ c.args.name.now c.in-Some.node (sym c.in-Ok.ensures.cases.0) c.in-Some.ensures (c.if-is_file.ensures.other refl) (reported c.fault-in-Some-2.ensures.says c.fault-in-Some-2.ensures.counted)
+pub returns-in-Unknown-clause-told : goal.returns-in-Unknown-clause-told
+returns-in-Unknown-clause-told g c = walk_unmet Unknown _ c.args.name.now (sym c.in-Ok.ensures.cases.0) c.in-Unknown.ensures c.unknown.ensures

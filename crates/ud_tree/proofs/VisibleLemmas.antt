@@ -1,0 +1,47 @@
+-- Messages with visible control bytes, and messages that are written at once.
+use Rattle.std.proofs.Common.{◌≡◌, ℕ, List, [], ◌∷◌, ◌++◌, Bool, false, Option, Some, sym, ap, ◌∙◌, subst, refl}
+use Rattle.std.specs.Io.KnownBytes.{Appends}
+use Rattle.std.specs.List.{flat_map}
+use Rattle.std.proofs.lemmas.Grind.{flat_map-append}
+use Rattle.ud_io.specs.Watched.{AppendsAllOrPrefix}
+use Rattle.ud_diagnostics.specs.RunMessages.{fault_message}
+use Rattle.ud_faults.specs.declared.run.RunFault.{RunFault}
+use Rattle.ud_tree.specs.declared.report.Report.{Report}
+use Rattle.ud_tree.specs.Messages.{is_visible, is_raw, Tells, TellsText}
+use Rattle.ud_tree.specs.Streams.{Stream, Sends}
+use Rattle.ud_tree.specs.Visible.{visible, visible_byte}
+use Rattle.ud_tree.proofs.StreamLemmas.{sends_same}
+
+-- Visible parts are the visible bytes of all parts.
+pub visible_parts : {X : Type 0} (f : X → List ℕ) (ps : List X) → flat_map (λ p. visible (f p)) ps ≡ visible (flat_map f ps)
+unfolding visible
+visible_parts f [] = refl
+visible_parts f (p ∷ ps) = ap (λ (x : List ℕ). visible (f p) ++ x) (visible_parts f ps) ∙ sym (flat_map-append visible_byte (f p) (flat_map f ps))
+
+-- The bytes of a text were written one after another.
+pub visible_sent : {a b : Stream} (text : List ℕ) → Sends a b (flat_map visible_byte text) → Sends a b (visible text)
+unfolding visible
+visible_sent text h = h
+
+-- What was appended to an empty buffer without a failure is all of it.
+appended_all : (failed : Bool) (o p : Option (List ℕ)) {x y : List ℕ} → AppendsAllOrPrefix failed o p x → failed ≡ false → o ≡ Some [] → p ≡ Some y → y ≡ x
+appended_all failed o p {x = x} h works first now =
+    subst (λ (q : Option (List ℕ)). Appends (Some []) q x) now
+    (subst (λ (q : Option (List ℕ)). Appends q p x) first
+    (subst (λ (b : Bool). AppendsAllOrPrefix b o p x) works h))
+
+-- What was appended to an empty buffer was written at once.
+pub appended_whole : (failed : Bool) (o p : Option (List ℕ)) {a b : Stream} {x y : List ℕ} → AppendsAllOrPrefix failed o p x → failed ≡ false → o ≡ Some [] → p ≡ Some y → Sends a b y → Sends a b x
+appended_whole failed o p h works first now k = sends_same (appended_all failed o p h works first now) k
+
+-- What was written to an empty buffer is its contents.
+pub written_all : {s t : Stream} {x y : List ℕ} → Sends s t x → s.failed ≡ false → t.failed ≡ false → s.contents ≡ Some [] → t.contents ≡ Some y → y ≡ x
+written_all {s = s} {t = t} h was works first now = appended_all t.failed s.contents t.contents (h.appended was) works first now
+
+-- The message of a fault of a text was written, with the visible name.
+pub text_visible : {a b : Report} {s t : Stream} (name shown : List ℕ) (f : RunFault) → shown ≡ visible name → Tells a b s t (fault_message shown f) → TellsText name f a b s t
+text_visible name shown f is h = record { message = fault_message shown f; is_of = is_visible (ap (λ (n : List ℕ). fault_message n f) is); tells = h }
+
+-- The message of a fault of a text was written, with the name as it is.
+pub text_raw : {a b : Report} {s t : Stream} (name : List ℕ) (f : RunFault) → Tells a b s t (fault_message name f) → TellsText name f a b s t
+text_raw name f h = record { message = fault_message name f; is_of = is_raw refl; tells = h }
