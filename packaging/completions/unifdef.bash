@@ -38,7 +38,7 @@ _unifdef() {
     -D* | -U*) _unifdef_after "${typed:0:2}" "$(_unifdef_names)" ;;
     -*)
       if [ "$command" = unifdef-tree ]; then
-        _unifdef_after '' '-0 -b -c -D -g -h -iD -iU -j -K -k -l -n -q -r -s -t -U -V -w -x0 -x1 -x2 -- --help'
+        _unifdef_after '' '-0 -b -c -D -d -g -h -iD -iU -j -K -k -l -n -q -r -s -t -U -V -w -x0 -x1 -x2 -- --help'
       else
         _unifdef_after '' '-b -c -D -iD -iU -K -k -l -n -S -s -t -U -x0 -x1 -x2 --'
       fi
