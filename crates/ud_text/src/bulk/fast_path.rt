@@ -1,11 +1,14 @@
-//! Skips many whole text lines with one bit mask for all that is looked for.
+//! Skips many whole text lines with one search, that for the next significant byte.
 //!
-//! A block comment's end is found among the same significant bytes, as a slash after a star. What a
-//! comment hides isn't asked there: whether its logical line is white, and where the last line
-//! begins. A stop on a line on which a comment ends may need both. The result is then `None`, and
-//! the lines are read again with what was left out.
+//! The end of a block comment is found by the same search, as a slash after a star. So a comment
+//! costs no search of its own, and no look back for its white space and its line. Only a stop on a
+//! line on which a comment ends needs what is left out. The result is then `None`, and `skip_again`
+//! of bulk.rt reads the bytes anew.
+//!
+//! A new kind of lexeme is a step here and one in bulk.rt.
 
-ghost use Rattle.std.specs.Prelude.{◌≡◌, ◌≤◌, ◌<◌, ◌+◌, ◌-◌, Bool, ℕ, [], ◌∷◌, length, take, drop, slice_index, true};
+ghost use Rattle.std.specs.Prelude.{◌≡◌, ◌≤◌, ◌<◌, ◌+◌, ◌-◌, Bool, ℕ, [], ◌∷◌, length, take, drop};
+ghost use Rattle.std.specs.Prelude.{slice_index, true};
 ghost use Rattle.std.specs.Prelude.{false, IfSome};
 ghost use Rattle.ud_model.specs.text.Bytes.{slash, star, number_sign};
 ghost use Rattle.ud_text.specs.bulk.BulkStates.{BulkState, can_start};
@@ -22,21 +25,21 @@ use crate::bulk::lexeme_lengths::{lexeme_len, line_comment_len, splice_len};
 use crate::scan::lexer::{LexState, Lexer};
 use crate::searching::{is_star_pair, last_line_start};
 
-/// How far a skip has come. The bytes before `at` are read, and `at` lies outside comments and
-/// literals.
+/// A position that a skip has reached. The bytes before `at` are read, and `at` lies outside
+/// comments and literals.
 #[derive(Clone, Copy)]
 struct Reach {
     /// A position from which on no comment begins.
     base: usize,
-    /// `base` is the beginning of a line. Otherwise a block comment ends there.
-    known: bool,
-    /// The logical line is white at `base`, if that is known.
+    /// A line begins at `base`. Otherwise a block comment ends there.
+    at_line_start: bool,
+    /// The logical line is white at `base`, if a line begins there.
     begins: bool,
     /// The position up to which the bytes are read.
     at: usize,
 }
 
-/// Returns the last line that begins at or before `p.at`. `None` if a comment ends on it.
+/// Returns the last line that begins at or before `p.at`; `None` if a block comment ends on it.
 fn last_line(lines: &[u8], p: Reach) -> Option<LineStart>
     requires order { InReach p lines.now }
     ensures bound { IfSome result (λ line. line.at ≤ length lines.now) }
@@ -54,7 +57,7 @@ fn last_line(lines: &[u8], p: Reach) -> Option<LineStart>
             lexer,
         });
     }
-    if p.known {
+    if p.at_line_start {
         let lexer = Lexer {
             state: LexState::Text,
             white: p.begins,
@@ -81,9 +84,11 @@ fn ends_pair(lines: &[u8], at: usize, end: usize) -> bool
     is_star_pair(lines[end - 1], lines[end])
 }
 
-/// Returns the end of the block comment in which `at` lies, and its block. `None` if `lines` doesn't
-/// close the comment, or if a splice may stand between its star and its slash. `row` is the block
-/// found before.
+/// Returns the end of the block comment in which `at` lies, and its block. `row` is the block found
+/// before.
+///
+/// There is no end if `lines` doesn't close the comment, or if a splice may stand between its star
+/// and its slash.
 #[inline(always)]
 fn block_end(lines: &[u8], row: Block, at: usize) -> (Option<usize>, Block)
     requires within { at ≤ length lines.now }
@@ -106,7 +111,8 @@ fn block_end(lines: &[u8], row: Block, at: usize) -> (Option<usize>, Block)
     (None, row)
 }
 
-/// Returns whether the logical line may be white before `p.at`.
+/// Returns whether the logical line may be white before `p.at`. It isn't known of a line on which a
+/// comment ends.
 #[inline(always)]
 fn may_be_white(lines: &[u8], p: Reach) -> bool
     requires order { InReach p lines.now }
@@ -114,7 +120,7 @@ fn may_be_white(lines: &[u8], p: Reach) -> bool
         r.read.now_white ≡ false }
 {
     let before = &lines[p.base..p.at];
-    if p.known {
+    if p.at_line_start {
         return is_line_white_after(before, p.begins);
     }
     is_line_white_after(before, true)
@@ -135,13 +141,13 @@ fn comment_step(lines: &[u8], p: Reach) -> Option<Reach>
     let at = p.at + count;
     Some(Reach {
         base: at,
-        known: true,
+        at_line_start: true,
         begins: true,
         at,
     })
 }
 
-/// Skips a `#` that belongs to no directive.
+/// Skips a `#` that belongs to no directive, as `hash_step` of bulk.rt does.
 #[inline(always)]
 fn hash_step(lines: &[u8], p: Reach) -> Option<Reach>
     requires order { InReach p lines.now }
@@ -176,7 +182,7 @@ fn splice_step(lines: &[u8], p: Reach, count: usize) -> Option<Reach>
     let at = p.at + count;
     Some(Reach {
         base: at,
-        known: true,
+        at_line_start: true,
         begins: false,
         at,
     })
@@ -236,7 +242,7 @@ fn block_step(lines: &[u8], row: Block, p: Reach) -> (Option<Reach>, Block)
     };
     let next = Reach {
         base: end,
-        known: false,
+        at_line_start: false,
         begins: false,
         at: end,
     };
@@ -285,7 +291,7 @@ fn skip_text_from(lines: &[u8], row: Block, begun: Reach) -> Option<LineStart>
 }
 
 /// Skips text lines, the first of which begins where `lexer` is. Returns the beginning of the first
-/// line that isn't skipped; `None` if it isn't known.
+/// line that isn't skipped; `None` if that isn't known.
 pub(crate) fn skip_text_lines(lexer: Lexer, lines: &[u8]) -> Option<LineStart>
     requires starts { can_start (lex_state_of lexer.state) ≡ true }
     ensures bound { IfSome result (λ line. line.at ≤ length lines.now) }
@@ -295,7 +301,7 @@ pub(crate) fn skip_text_lines(lexer: Lexer, lines: &[u8]) -> Option<LineStart>
         LexState::Text => {
             let begun = Reach {
                 base: 0,
-                known: true,
+                at_line_start: true,
                 begins: lexer.white,
                 at: 0,
             };
@@ -308,7 +314,7 @@ pub(crate) fn skip_text_lines(lexer: Lexer, lines: &[u8]) -> Option<LineStart>
             };
             let begun = Reach {
                 base: end,
-                known: false,
+                at_line_start: false,
                 begins: false,
                 at: end,
             };

@@ -3,7 +3,7 @@ use Rattle.std.proofs.Common.{◌-◌, length}
 use Rattle.ud_text.specs.bulk.Reaching.{InReach, Reached}
 use Rattle.ud_text.specs.bulk.Blocks.{IsBlock}
 use Rattle.ud_text.specs.bulk.BulkStates.{BulkState}
-use Rattle.ud_text.proofs.bulk.quick.skip_text_from.Given as goal
+use Rattle.ud_text.proofs.bulk.fast_path.skip_text_from.Given as goal
 
 abbrev pub invariant-loop-p : goal.invariant-loop-p
 invariant-loop-p l = record {

@@ -1,8 +1,8 @@
 -- By the invariant.
 use Rattle.std.proofs.Common.{subst, arith, IfSome, ◌<◌}
-use Rattle.ud_text.specs.bulk.Reaching.{InReach, Reached, GoesOn}
+use Rattle.ud_text.specs.bulk.Reaching.{InReach, Reached}
 use Rattle.ud_text.proofs.lemmas.bulk.ReachLemmas.{reach_plain}
-use Rattle.ud_text.proofs.bulk.quick.skip_text_from.Goals as goal
+use Rattle.ud_text.proofs.bulk.fast_path.skip_text_from.Goals as goal
 
 pub loop-p-init : goal.loop-p-init
 loop-p-init c = record {
@@ -14,7 +14,7 @@ loop-p-init c = record {
 pub loop-p-preserved : goal.loop-p-preserved
 loop-p-preserved c =
     let there : InReach c.in-Some.next c.args.lines.now × (c.loop-p.p.at < c.in-Some.next.at) =
-        subst (λ o. IfSome o (λ q. InReach q c.args.lines.now × (c.loop-p.p.at < q.at))) c.in-Some.is c.step-next.ensures.further in
+    subst (λ o. IfSome o (λ q. InReach q c.args.lines.now × (c.loop-p.p.at < q.at))) c.in-Some.is c.step-next.ensures.further in
     record {
       row = c.next_significant-at-in-loop-p.ensures.row;
       order = (omega (arith, c.next_significant-at-in-loop-p.ensures.value, there.0.0), c.next_significant-at-in-loop-p.ensures.bound);

@@ -4,7 +4,7 @@ use Rattle.ud_text.specs.bulk.Reaching.{ClosesAt}
 use Rattle.ud_text.specs.scan.LexerViews.{lex_state_of}
 use Rattle.ud_text.proofs.lemmas.bulk.StepLemmas.{start_block}
 use Rattle.ud_text.proofs.lemmas.bulk.ReachLemmas.{reach_start, reach_close}
-use Rattle.ud_text.proofs.bulk.quick.skip_text_lines.Goals as goal
+use Rattle.ud_text.proofs.bulk.fast_path.skip_text_lines.Goals as goal
 
 pub returns-in-Text-clause-skipped : goal.returns-in-Text-clause-skipped
 returns-in-Text-clause-skipped c = c.skip_text_from.ensures.skipped _ (reach_start c.args.lines.now (lex_state_of c.args.lexer.state) c.args.lexer.white (ap lex_state_of c.in-Text.is))

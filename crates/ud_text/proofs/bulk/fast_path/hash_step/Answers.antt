@@ -4,7 +4,7 @@ use Rattle.std.proofs.lemmas.List.{take_rest}
 use Rattle.ud_text.specs.bulk.BulkStates.{is_other_word}
 use Rattle.ud_text.specs.bulk.BulkLexemes.{NoSignificant}
 use Rattle.ud_text.proofs.lemmas.bulk.ReachLemmas.{reach_sign, reach_sign_alone}
-use Rattle.ud_text.proofs.bulk.quick.hash_step.Goals as goal
+use Rattle.ud_text.proofs.bulk.fast_path.hash_step.Goals as goal
 
 pub returns-in-Some-clause-read : goal.returns-in-Some-clause-read
 returns-in-Some-clause-read c = λ start r.

@@ -1,7 +1,7 @@
 -- By the pairs.
 use Rattle.std.proofs.Common.{arith, refl, ◌+◌}
-use Rattle.ud_text.proofs.lemmas.bulk.ReachLemmas.{none_on, none_past, closes}
-use Rattle.ud_text.proofs.bulk.quick.block_end.Goals as goal
+use Rattle.ud_text.proofs.lemmas.bulk.ReachLemmas.{none_on, none_past}
+use Rattle.ud_text.proofs.bulk.fast_path.block_end.Goals as goal
 
 pub loop-end-init : goal.loop-end-init
 loop-end-init c = record {

@@ -2,7 +2,7 @@
 use Rattle.std.proofs.Common.{subst, IfSome, ◌+◌}
 use Rattle.ud_text.specs.bulk.Reaching.{ClosesAt}
 use Rattle.ud_text.proofs.lemmas.bulk.ReachLemmas.{reach_block}
-use Rattle.ud_text.proofs.bulk.quick.block_step.Goals as goal
+use Rattle.ud_text.proofs.bulk.fast_path.block_step.Goals as goal
 
 pub returns-clause-read : goal.returns-clause-read
 returns-clause-read c = λ start r.
