@@ -57,14 +57,14 @@ fn last_line(lines: &[u8], p: Reach) -> Option<LineStart>
             lexer,
         });
     }
-    if p.at_line_start {
-        let lexer = Lexer {
-            state: LexState::Text,
-            white: p.begins,
-        };
-        return Some(LineStart { at: p.base, lexer });
+    if !p.at_line_start {
+        return None;
     }
-    None
+    let lexer = Lexer {
+        state: LexState::Text,
+        white: p.begins,
+    };
+    Some(LineStart { at: p.base, lexer })
 }
 
 /// Returns whether a star pair that begins at or after `at` ends with the byte at `end`.
