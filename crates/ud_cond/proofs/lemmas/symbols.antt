@@ -3,3 +3,4 @@ pub mod TableLemmas
 pub mod SortedLemmas
 pub mod FilterLemmas
 pub mod KeyLemmas
+pub mod PathLemmas

@@ -6,6 +6,7 @@ use Rattle.ud_cond.specs.CondViews.{argument_for}
 use Rattle.ud_cond.proofs.lemmas.symbols.TableLemmas.{changes-set, changes-insert}
 use Rattle.ud_cond.proofs.lemmas.symbols.SortedLemmas.{last-row, none-gap, sorted-set}
 use Rattle.ud_cond.proofs.lemmas.symbols.FilterLemmas.{noted-set}
+use Rattle.ud_cond.proofs.lemmas.symbols.PathLemmas.{none_lead}
 use Rattle.ud_cond.proofs.symbols.Symbols.insert_or_replace.Goals as goal
 
 pub invariant_of-self : goal.invariant_of-self
@@ -16,6 +17,7 @@ invariant_of-self c =
     let named : c.set_entry.new.self.name ≡ c.args.name.now = ap (λ a. a.name) c.set_entry.ensures ∙ ap (λ a. a.name) row ∙ at.named in (
       sorted-set c.self.inside.rows.items c.in-Ok.i _ c.self.invariant.0 (subst (λ n. IsRowOf c.self.inside.rows.items c.in-Ok.i n) (sym named) at),
       noted-set c.self.inside.filter.words c.self.inside.rows.items c.in-Ok.i _ c.self.invariant.1 at.within (at.named ∙ sym named),
+      none_lead _ _ c.clear.new.self.items c.clear.ensures.items,
     )
 
 pub returns-in-Ok-clause-ok : goal.returns-in-Ok-clause-ok
