@@ -10,7 +10,7 @@
 
 ghost use Rattle.std.specs.Prelude.{◌≡◌, ◌++◌, ◌∷◌, [], List, option_map, OnOk, OnErr, IfOk, IfErr};
 ghost use Rattle.std.specs.Prelude.{IsErrOf, Some, None, ◌↔◌, false, true, IsTrue, length};
-ghost use Rattle.std.specs.Prelude.{bytes_eq, ◌<◌, ◌+◌, IfSome, IfNone};
+ghost use Rattle.std.specs.Prelude.{bytes_eq, ◌<◌, ◌+◌, IfSome, IfNone, set};
 ghost use Rattle.std.specs.List.{insert};
 ghost use Rattle.ud_model.specs.conditions.Table.{Argument, entry_in};
 ghost use Rattle.ud_model.specs.answer.SymbolArguments as names;
@@ -31,12 +31,14 @@ use std::marker::Model;
 use std::mem;
 use ud_model::bytes::{is_identifier, is_name};
 
+mod calls;
 mod fault;
 mod keys;
 mod name_filter;
 mod paths;
 mod slot_cache;
 
+pub use calls::SymbolCalls;
 pub use fault::SymbolFault;
 
 /// The entry of a name: how it is defined, and whether its sections are plain text.
@@ -83,22 +85,21 @@ impl Model for Row {
 }
 
 impl Row {
-    /// Returns the row of a name, whose key is `key`.
+    /// Returns the row of `name`, which is defined as `value`, or undefined if `value` is `None`.
     ///
     /// # Errors
     /// `OutOfMemory` if an allocation fails.
-    fn new(
+    fn of(
         alloc: Global,
-        key: u64,
         name: &[u8],
-        text: Option<Vec<u8>>,
+        value: Option<&[u8]>,
         ignores: bool,
     ) -> Result<Row, SymbolFault>
-        requires { key ≡ spec.key_of name.now }
         ensures row { IfOk result (λ r. r ≡ argument_for name.now
-            (option_map (λ v. v.items) text) ignores) }
+            (option_map (λ v. v.now) value.entry) ignores) }
         ensures fault { OnErr result (IsErrOf result SymbolFault.OutOfMemory) }
     {
+        let text = try_clone(alloc, value)?;
         let symbol = Vec::from_slice(alloc, name)?;
         let named = Named {
             symbol,
@@ -106,17 +107,12 @@ impl Row {
             ignores,
         };
         match Box::new(alloc, named) {
-            Ok(named) => Ok(Row { number: key, named }),
+            Ok(named) => Ok(Row {
+                number: key_of(name),
+                named,
+            }),
             Err(_) => Err(SymbolFault::OutOfMemory),
         }
-    }
-
-    /// Replaces the entry of the row's name.
-    fn set_entry(&mut self, text: Option<Vec<u8>>, ignores: bool)
-        ensures { self.new ≡ argument_for self.old.name (option_map (λ v. v.items) text) ignores }
-    {
-        self.named.text = text;
-        self.named.ignores = ignores;
     }
 
     /// Returns the key of the row's name.
@@ -124,6 +120,13 @@ impl Row {
         ensures { result ≡ spec.key_of self.now.name }
     {
         self.number
+    }
+
+    /// Returns the row's name.
+    fn name(&self) -> &[u8]
+        ensures { result.now ≡ self.now.name }
+    {
+        self.named.symbol.as_slice()
     }
 
     /// Returns whether the row is that of `name`, whose key is `key`.
@@ -151,6 +154,13 @@ impl Row {
             Ordering::Equal => self.compare_same_key(name),
             other => other,
         }
+    }
+
+    /// Compares the row's name with that of another row.
+    fn compare_row(&self, other: &Row) -> Ordering
+        ensures { result ≡ name_cmp self.now.name other.now.name }
+    {
+        self.compare(other.number, other.named.symbol.as_slice())
     }
 
     /// Compares the row's name with a name that has the same key.
@@ -503,9 +513,8 @@ impl Symbols {
         if !is_name(name) {
             return Err(SymbolFault::BadName);
         }
-        self.cache.reserve(self.alloc)?;
-        self.reserve_paths(value)?;
-        self.insert_or_replace(name, value, ignoring)
+        let row = Row::of(self.alloc, name, value, ignoring)?;
+        self.add(row)
     }
 
     /// Takes memory for the paths of all rows and of one more, once a value is an identifier. So
@@ -526,33 +535,31 @@ impl Symbols {
         Ok(())
     }
 
-    /// Changes the row of `name`, or inserts one.
-    fn insert_or_replace(
-        &mut self,
-        name: &[u8],
-        value: Option<&[u8]>,
-        ignoring: bool,
-    ) -> Result<(), SymbolFault>
-        ensures ok { OnOk result
-            (SetsEntry self.old self.new
-            (argument_for name.now (option_map (λ v. v.now) value.entry) ignoring)) }
+    /// Replaces the row of the same name, or inserts the row.
+    fn add(&mut self, row: Row) -> Result<(), SymbolFault>
+        ensures ok { OnOk result (SetsEntry self.old self.new row) }
         ensures err { OnErr result (self.new ≡ self.old) }
         ensures fault { OnErr result (IsErrOf result SymbolFault.OutOfMemory) }
     {
-        let text = try_clone(self.alloc, value)?;
-        let key = key_of(name);
-        match self.binary_search(key, name) {
+        self.cache.reserve(self.alloc)?;
+        self.reserve_paths(row.entry().value)?;
+        let key = row.key();
+        match self.binary_search(key, row.name()) {
             Ok(i) => {
-                self.paths.clear();
-                let row = &mut self.rows[i];
-                row.set_entry(text, ignoring);
+                self.replace_at(i, row);
                 Ok(())
             }
-            Err(i) => {
-                let row = Row::new(self.alloc, key, name, text, ignoring)?;
-                self.insert_at(i, key, row)
-            }
+            Err(i) => self.insert_at(i, key, row),
         }
+    }
+
+    /// Replaces the row of a name.
+    fn replace_at(&mut self, i: usize, row: Row)
+        requires row { IsRowOf self.old i row.name }
+        ensures { self.new ≡ set self.old i row }
+    {
+        self.paths.clear();
+        self.rows[i] = row;
     }
 
     /// Inserts a row at the position of its name.

@@ -4,3 +4,4 @@ pub mod SortedLemmas
 pub mod FilterLemmas
 pub mod KeyLemmas
 pub mod PathLemmas
+pub mod StableLemmas

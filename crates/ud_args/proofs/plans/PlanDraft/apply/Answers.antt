@@ -7,7 +7,7 @@ use Rattle.ud_args.specs.ParsedSettings.{IsUsageOf}
 use Rattle.ud_args.specs.declared.usage.Usage.TheVariants.{OutOfMemory}
 use Rattle.ud_args.proofs.ParsedArgLemmas.{operand_in-none}
 use Rattle.ud_args.proofs.PlanLemmas.{is_some-operand_in, IsUsageOf-fault, IsUsageOf-memory}
-use Rattle.ud_args.proofs.plans.Plan.apply.Goals as goal
+use Rattle.ud_args.proofs.plans.PlanDraft.apply.Goals as goal
 
 pub returns-in-Err-clause-err : goal.returns-in-Err-clause-err
 returns-in-Err-clause-err c = λ gs p more.
