@@ -2,7 +2,7 @@
 
 use std::process::Abort;
 use std::test::Fail;
-use ud_cond::{Entry, SymbolFault, Symbols};
+use ud_cond::{Entry, SymbolCalls, SymbolFault, Symbols};
 
 /// Compares the table's entry for a name: its value, and whether it is ignoring.
 fn check(rt: &impl Abort, symbols: &Symbols, name: &[u8], value: Option<&[u8]>, ignoring: bool) {
@@ -60,6 +60,23 @@ fn three_hundred_names_are_kept_apart(rt: HostRuntime) -> Result<(), Fail> {
         }
     }
     assert!(rt; symbols.find(&numbered(300)).is_none());
+    Ok(())
+}
+
+#[test]
+fn calls_in_falling_order_make_a_table(rt: HostRuntime) -> Result<(), Fail> {
+    let mut calls = SymbolCalls::new(rt.alloc());
+    for number in (0..300).rev() {
+        let name = numbered(number);
+        calls.push(&name, Some(&name[1..]), false)?;
+    }
+    calls.push(b"N007", None, true)?;
+    assert!(rt; calls.push(b"7N", None, false) == Err(SymbolFault::BadName));
+    let symbols = calls.into_symbols()?;
+    check(&rt, &symbols, b"N299", Some(b"299"), false);
+    check(&rt, &symbols, b"N007", None, true);
+    check(&rt, &symbols, b"N000", Some(b"000"), false);
+    assert!(rt; symbols.find(b"N300").is_none());
     Ok(())
 }
 

@@ -131,3 +131,15 @@ settings_in-last gs g m h e = λ i. record {
   listing = listing_by (has_flag-last (codes "S") gs g h i) (has_flag-last (codes "s") gs g h i);
   exit_mode = (mode_from-append Zero gs (g ∷ []) ∙ e) i;
 }
+
+-- options and operands without a fault have none among the first of them
+pub first_fault-prefix : (gs more : List ParsedArg) → first_fault (gs ++ more) ≡ None → first_fault gs ≡ None
+first_fault-prefix [] more h = refl
+first_fault-prefix (flag c ∷ gs) more h = first_fault-prefix gs more h
+first_fault-prefix (option c n a ∷ gs) more h =
+    let both = or_none (argument_fault c n a) (first_fault (gs ++ more)) h in
+    rw (both.0) (first_fault-prefix gs more both.1)
+first_fault-prefix (operand n w ∷ []) more h = refl
+first_fault-prefix (operand n w ∷ (g ∷ gs)) more h = cc
+first_fault-prefix (unknown c ∷ gs) more h = cc
+first_fault-prefix (lacking c ∷ gs) more h = cc

@@ -1,9 +1,10 @@
 -- Plans with more options and operands.
-use Rattle.std.proofs.Common.{◌≡◌, ◌∙◌, ap, sym, refl, ℕ, List, [], ◌∷◌, ◌++◌, Bool, Option, Some, None, is_some, append-nil, option_map, IsSome}
+use Rattle.std.proofs.Common.{◌≡◌, ◌∙◌, ap, sym, subst, refl, ℕ, List, [], ◌∷◌, ◌++◌, Bool, true, false, if◌then◌else◌, Option, Some, None, is_some, append-nil, append_assoc, bytes_eq, option_map, IsSome}
 use Rattle.std.proofs.lemmas.List.Elements.{filter_map-append}
 use Rattle.std.specs.List.{filter_map}
 use Rattle.ud_cond.specs.symbols.SymbolTable.{TableRepresents}
-use Rattle.ud_model.specs.conditions.Table.{Argument}
+use Rattle.std.proofs.lemmas.Slice.Eq.{bytes_eq-Decides}
+use Rattle.ud_model.specs.conditions.Table.{Argument, Entry, entry_from}
 use Rattle.ud_model.specs.declared.settings.Settings.{Settings}
 use Rattle.ud_model.specs.declared.settings.ExitMode.{ExitMode}
 use Rattle.ud_model.specs.declared.settings.ExitMode.TheVariants.{Zero}
@@ -15,7 +16,7 @@ use Rattle.ud_args.specs.declared.options.Setting.TheVariants as said
 use Rattle.ud_args.specs.declared.usage.Usage.{Usage}
 use Rattle.ud_args.specs.declared.usage.Usage.TheVariants.{UnknownOption, MissingArgument, BadSymbol, BadMode, TooManyFiles, OutOfMemory}
 use Rattle.ud_args.specs.Plans.{PlanState, PlanRepresents}
-use Rattle.ud_args.proofs.ParsedArgLemmas.{first_fault-append, operand_in-append, settings_in-flag_last, settings_in-last}
+use Rattle.ud_args.proofs.ParsedArgLemmas.{first_fault-append, first_fault-prefix, operand_in-append, settings_in-flag_last, settings_in-last}
 
 place_none : (o : Option Operand) → operand_index o ≡ None → o ≡ None
 place_none None h = refl
@@ -127,3 +128,53 @@ IsUsageOf-memory gs more g s u right none is h =
 pub is_some-turned : {A B : Type 0} (f : A → B) (o : Option A) → is_some (option_map f o) ≡ is_some o
 is_some-turned f None = refl
 is_some-turned f (Some a) = refl
+
+-- an option with a symbol, between those before it and those after it
+record SymbolIn (gs : List ParsedArg) : Type 0 where
+  before : List ParsedArg
+  symbol : ParsedArg
+  more : List ParsedArg
+  is : gs ≡ before ++ symbol ∷ more
+  sets : IsSome (argument_in symbol)
+
+symbol_by : (g : ParsedArg) (gs : List ParsedArg) (o : Option Argument) → argument_in g ≡ o → ((filter_map argument_in gs ≡ [] → ⊥) → SymbolIn gs)
+    → (filter_map argument_in (g ∷ gs) ≡ [] → ⊥) → SymbolIn (g ∷ gs)
+symbol_by g gs (Some a) e further some = record { before = []; symbol = g; more = gs; is = refl; sets = subst IsSome (sym e) refl }
+symbol_by g gs None e further some =
+    let later : SymbolIn gs = further (λ none. some (rw e none)) in
+    record { before = g ∷ later.before; symbol = later.symbol; more = later.more; is = ap (λ (hs : List ParsedArg). g ∷ hs) later.is; sets = later.sets }
+
+-- options that give symbols have one that does
+symbol_in : (gs : List ParsedArg) → (filter_map argument_in gs ≡ [] → ⊥) → SymbolIn gs
+symbol_in [] some = absurd (some refl)
+symbol_in (g ∷ gs) some = symbol_by g gs (argument_in g) refl (λ later. symbol_in gs later) some
+
+-- a table with a row has an entry
+entry_by : (e f : Entry) (rows : List Argument) (n : List ℕ) → ((d : Entry) → entry_from (Some d) rows n ≡ None → ⊥) → (b : Bool) → entry_from (if b then Some e else Some f) rows n ≡ None → ⊥
+entry_by e f rows n further true h = further e h
+entry_by e f rows n further false h = further f h
+
+some_entry : (e : Entry) (rows : List Argument) (n : List ℕ) → entry_from (Some e) rows n ≡ None → ⊥
+some_entry e [] n h = cc
+some_entry e (a ∷ rows) n h = entry_by a.entry e rows n (λ d k. some_entry d rows n k) (bytes_eq a.name n) h
+
+represents_none : (rows : List Argument) → TableRepresents rows [] → (rows ≡ [] → ⊥) → ⊥
+represents_none [] h some = some refl
+represents_none (a ∷ rows) h some =
+    let same : bytes_eq a.name a.name ≡ true = (bytes_eq-Decides a.name a.name).1 refl in
+    some_entry a.entry rows a.name (ap (λ (b : Bool). entry_from (if b then Some a.entry else None) rows a.name) (sym same) ∙ h a.name)
+
+-- a failed allocation for the table, which has a symbol then, is one that `plan` may return
+pub IsUsageOf-table : (plan : PlanState) (gs : List ParsedArg) (u : Usage) → PlanRepresents plan gs → u ≡ OutOfMemory → (plan.symbols ≡ [] → ⊥) → IsUsageOf gs u
+IsUsageOf-table plan gs u p out some =
+    let one : SymbolIn gs = symbol_in gs (λ none. represents_none plan.symbols (subst (TableRepresents plan.symbols) none p.represents) some) in
+    let whole : gs ≡ (one.before ++ one.symbol ∷ []) ++ one.more = one.is ∙ sym (append_assoc one.before (one.symbol ∷ []) one.more) in
+    let puts : StoresSymbol gs = record {
+      before = one.before;
+      symbol = one.symbol;
+      more = one.more;
+      is = one.is;
+      right = first_fault-prefix (one.before ++ one.symbol ∷ []) one.more (ap first_fault (sym whole) ∙ p.right);
+      sets = one.sets;
+    } in
+    rw out puts

@@ -9,7 +9,7 @@ ghost use Rattle.ud_args.specs.Plans.{IsPlanOf, as_operand};
 
 use crate::command_line::CommandLine;
 use crate::options::{Setting, parse_arg};
-use crate::plans::Plan;
+use crate::plans::{Plan, PlanDraft};
 use crate::usage::Usage;
 use std::alloc::Global;
 
@@ -23,9 +23,9 @@ use std::alloc::Global;
 /// The first fault in reading order: `UnknownOption`, `MissingArgument`, `BadSymbol`, `BadMode`,
 /// or `TooManyFiles` at the argument after an operand.
 ///
-/// `OutOfMemory` if an allocation fails as a symbol is added to the table. The arguments after
-/// the symbol aren't read then, and those up to it have no fault. Arguments without a valid `-D`,
-/// `-U` or `-i` before their first fault never give this error.
+/// `OutOfMemory` if an allocation fails as a symbol is added, or as the table is made. The
+/// arguments up to some symbol have no fault then. Arguments without a valid `-D`, `-U` or `-i`
+/// before their first fault never give this error.
 ///
 /// (POSIX XBD 12.2, unifdef(1))
 ///
@@ -49,14 +49,13 @@ pub fn plan(alloc: Global, args: &[String]) -> Result<Plan, Usage>
     ensures ok { IfOk result (IsPlanOf (map string_bytes args.now)) }
     ensures err { IfErr result (IsUsageOf (parsed_args (map string_bytes args.now))) }
 {
-    let mut plan = Plan::new(alloc);
+    let mut draft = PlanDraft::new(alloc);
     let mut line = CommandLine::new(args);
     'given: while let Some((given, after)) = line.next() {
         line = after;
-        plan.apply(given)?;
+        draft.apply(given)?;
     }
-    plan.cache_symbols();
-    Ok(plan)
+    draft.into_plan()
 }
 
 /// Returns the index of the operand that names a file, counted from 0 among the arguments.

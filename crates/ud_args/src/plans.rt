@@ -1,6 +1,6 @@
 //! The plan of a run, as the arguments of a command line set it.
 
-ghost use Rattle.std.specs.Prelude.{◌≡◌, ◌++◌, ◌∷◌, [], List, None, IsSome, OnOk, IfErr};
+ghost use Rattle.std.specs.Prelude.{◌≡◌, ◌++◌, ◌∷◌, [], List, None, IsSome, OnOk, IfOk, IfErr};
 ghost use Rattle.ud_model.specs.conditions.Table.{Argument};
 ghost use Rattle.ud_cond.specs.symbols.SymbolTable.{TableRepresents};
 ghost use Rattle.ud_model.specs.answer.CommandLine.{ParsedArg as GivenInWords};
@@ -14,7 +14,7 @@ use crate::options::{Setting, Symbol, parse_arg, with_flag};
 use crate::usage::Usage;
 use std::alloc::Global;
 use std::marker::Model;
-use ud_cond::Symbols;
+use ud_cond::{SymbolCalls, Symbols};
 use ud_model::Settings;
 
 /// The plan of a run: the settings, the symbols and the operand of a command line.
@@ -42,17 +42,6 @@ impl Model for Plan {
 }
 
 impl Plan {
-    /// Returns the plan of no arguments. Its symbols take memory from `alloc`.
-    pub(crate) fn new(alloc: Global) -> Plan
-        ensures { PlanRepresents result [] }
-    {
-        Plan {
-            settings: Settings::default(),
-            symbols: Symbols::new(alloc),
-            operand: None,
-        }
-    }
-
     /// Returns the settings as given: `renumber` stays true beside `blank`, and both beside a
     /// listing.
     pub fn settings(&self) -> Settings
@@ -75,19 +64,49 @@ impl Plan {
     {
         self.operand
     }
+}
 
-    /// Caches the positions of the symbols, which are all in the table. Changes no result.
-    pub(crate) fn cache_symbols(&mut self)
-        ensures { self.new ≡ self.old }
+/// A plan that is being made of options and operands.
+#[derive(Drop)]
+pub(crate) struct PlanDraft {
+    /// The settings so far.
+    settings: Settings,
+    /// The calls for symbols so far.
+    calls: SymbolCalls,
+    /// The operand's index among the arguments, counted from 0.
+    operand: Option<usize>,
+}
+
+impl Model for PlanDraft {
+    ghost use Rattle.ud_args.specs.Plans.{PlanState};
+
+    ghost Value = { PlanState };
+
+    ghost view = { λ p. record {
+      settings = p.settings;
+      symbols = p.calls;
+      operand =
+          p.operand;
+    } };
+}
+
+impl PlanDraft {
+    /// Returns the draft of no arguments. Its symbols take memory from `alloc`.
+    pub(crate) fn new(alloc: Global) -> PlanDraft
+        ensures { PlanRepresents result [] }
     {
-        self.symbols.cache_positions();
+        PlanDraft {
+            settings: Settings::default(),
+            calls: SymbolCalls::new(alloc),
+            operand: None,
+        }
     }
 
-    /// Adds the next option or operand to the plan.
+    /// Adds the next option or operand.
     ///
     /// # Errors
     /// The fault of `given`. If `given` is valid and sets a symbol, `OutOfMemory` if the allocation
-    /// for the symbol fails. The plan is then of no use.
+    /// for the symbol fails. The draft is then of no use.
     pub(crate) fn apply(&mut self, given: ParsedArg<'_>) -> Result<(), Usage>
         ensures ok { (gs : List GivenInWords) → PlanRepresents self.old gs →
             OnOk result (PlanRepresents self.new (gs ++ parsed_arg given.entry ∷ [])) }
@@ -101,7 +120,7 @@ impl Plan {
         }
     }
 
-    /// Adds a setting to the plan, which has no operand yet.
+    /// Adds a setting to the draft, which has no operand yet.
     ///
     /// # Errors
     /// `OutOfMemory` if an allocation for a symbol fails.
@@ -129,22 +148,38 @@ impl Plan {
         }
     }
 
-    /// Adds a symbol to the table.
+    /// Adds a symbol.
     ///
     /// # Errors
-    /// `OutOfMemory` if an allocation fails. The name is valid, so the table fails for no other
-    /// reason.
+    /// `OutOfMemory` if an allocation fails. The name is valid, so there is no other reason.
     fn set_symbol(&mut self, symbol: Symbol<'_>) -> Result<(), Usage>
-        ensures ok { OnOk result ((calls : List Argument) → TableRepresents self.old.symbols calls
-            → TableRepresents self.new.symbols (calls ++ as_argument symbol.entry ∷ [])) }
+        ensures ok { OnOk result (self.new.symbols ≡
+            self.old.symbols ++ as_argument symbol.entry ∷ []) }
         ensures same { (self.new.settings ≡ self.old.settings) ×
             (self.new.operand ≡ self.old.operand) }
         ensures err { IfErr result (λ u. u ≡ Usage.OutOfMemory) }
     {
-        let setting = match symbol.value {
-            Some(value) => self.symbols.define(symbol.name, value, symbol.ignoring),
-            None => self.symbols.undefine(symbol.name, symbol.ignoring),
-        };
-        setting.map_err(|_| Usage::OutOfMemory)
+        let pushed = self.calls.push(symbol.name, symbol.value, symbol.ignoring);
+        pushed.map_err(|_| Usage::OutOfMemory)
+    }
+
+    /// Returns the plan, with the table of all symbols.
+    ///
+    /// # Errors
+    /// `OutOfMemory` if an allocation for the table fails.
+    pub(crate) fn into_plan(self) -> Result<Plan, Usage>
+        ensures ok { IfOk result (λ plan. (gs : List GivenInWords) → PlanRepresents self gs →
+            PlanRepresents plan gs) }
+        ensures err { (gs : List GivenInWords) → PlanRepresents self gs →
+            IfErr result (IsUsageOf gs) }
+    {
+        match self.calls.into_symbols() {
+            Ok(symbols) => Ok(Plan {
+                settings: self.settings,
+                symbols,
+                operand: self.operand,
+            }),
+            Err(_) => Err(Usage::OutOfMemory),
+        }
     }
 }

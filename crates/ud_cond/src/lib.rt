@@ -17,4 +17,4 @@ mod symbols;
 pub use conditions::{Answer, Rules, condition};
 pub use list_names::names;
 pub use list_names::names_iter::Names;
-pub use symbols::{Entry, SymbolFault, Symbols};
+pub use symbols::{Entry, SymbolCalls, SymbolFault, Symbols};

@@ -5,33 +5,40 @@
 //! Memory is taken before anything changes, so a failed call leaves the table as it was.
 //!
 //! A cache gives the position of most rows without a search. Positions change with each insertion,
-//! so all of them are cached once, after the last one.
+//! so all of them are cached once, after the last one. So are the ends of the paths from name to
+//! name, each of which is followed twice as far again and again.
 
 ghost use Rattle.std.specs.Prelude.{◌≡◌, ◌++◌, ◌∷◌, [], List, option_map, OnOk, OnErr, IfOk, IfErr};
 ghost use Rattle.std.specs.Prelude.{IsErrOf, Some, None, ◌↔◌, false, true, IsTrue, length};
-ghost use Rattle.std.specs.Prelude.{bytes_eq};
+ghost use Rattle.std.specs.Prelude.{bytes_eq, ◌<◌, ◌+◌, IfSome, IfNone, set};
 ghost use Rattle.std.specs.List.{insert};
 ghost use Rattle.ud_model.specs.conditions.Table.{Argument, entry_in};
 ghost use Rattle.ud_model.specs.answer.SymbolArguments as names;
 ghost use Rattle.ud_model.specs.conditions.Symbols as ends;
 ghost use Rattle.ud_cond.specs.symbols.Keys as spec;
 ghost use Rattle.ud_cond.specs.symbols.SymbolTable.{TableRepresents, SetsEntry, name_cmp};
-ghost use Rattle.ud_cond.specs.symbols.SymbolTable.{same_key_cmp, IsRowOf, IsGapFor};
+ghost use Rattle.ud_cond.specs.symbols.SymbolTable.{same_key_cmp, IsRowOf, IsGapFor, name_at};
+ghost use Rattle.ud_cond.specs.symbols.Paths.{LeadsTo, AllLead};
 ghost use Rattle.ud_cond.specs.CondViews.{as_entry, argument_for};
 
 use keys::{is_same, key_of};
 use name_filter::NameFilter;
+use paths::Path;
 use slot_cache::SlotCache;
 use std::alloc::Global;
 use std::cmp::Ordering;
 use std::marker::Model;
+use std::mem;
 use ud_model::bytes::{is_identifier, is_name};
 
+mod calls;
 mod fault;
 mod keys;
 mod name_filter;
+mod paths;
 mod slot_cache;
 
+pub use calls::SymbolCalls;
 pub use fault::SymbolFault;
 
 /// The entry of a name: how it is defined, and whether its sections are plain text.
@@ -78,22 +85,21 @@ impl Model for Row {
 }
 
 impl Row {
-    /// Returns the row of a name, whose key is `key`.
+    /// Returns the row of `name`, which is defined as `value`, or undefined if `value` is `None`.
     ///
     /// # Errors
     /// `OutOfMemory` if an allocation fails.
-    fn new(
+    fn of(
         alloc: Global,
-        key: u64,
         name: &[u8],
-        text: Option<Vec<u8>>,
+        value: Option<&[u8]>,
         ignores: bool,
     ) -> Result<Row, SymbolFault>
-        requires { key ≡ spec.key_of name.now }
         ensures row { IfOk result (λ r. r ≡ argument_for name.now
-            (option_map (λ v. v.items) text) ignores) }
+            (option_map (λ v. v.now) value.entry) ignores) }
         ensures fault { OnErr result (IsErrOf result SymbolFault.OutOfMemory) }
     {
+        let text = try_clone(alloc, value)?;
         let symbol = Vec::from_slice(alloc, name)?;
         let named = Named {
             symbol,
@@ -101,17 +107,12 @@ impl Row {
             ignores,
         };
         match Box::new(alloc, named) {
-            Ok(named) => Ok(Row { number: key, named }),
+            Ok(named) => Ok(Row {
+                number: key_of(name),
+                named,
+            }),
             Err(_) => Err(SymbolFault::OutOfMemory),
         }
-    }
-
-    /// Replaces the entry of the row's name.
-    fn set_entry(&mut self, text: Option<Vec<u8>>, ignores: bool)
-        ensures { self.new ≡ argument_for self.old.name (option_map (λ v. v.items) text) ignores }
-    {
-        self.named.text = text;
-        self.named.ignores = ignores;
     }
 
     /// Returns the key of the row's name.
@@ -119,6 +120,13 @@ impl Row {
         ensures { result ≡ spec.key_of self.now.name }
     {
         self.number
+    }
+
+    /// Returns the row's name.
+    fn name(&self) -> &[u8]
+        ensures { result.now ≡ self.now.name }
+    {
+        self.named.symbol.as_slice()
     }
 
     /// Returns whether the row is that of `name`, whose key is `key`.
@@ -146,6 +154,13 @@ impl Row {
             Ordering::Equal => self.compare_same_key(name),
             other => other,
         }
+    }
+
+    /// Compares the row's name with that of another row.
+    fn compare_row(&self, other: &Row) -> Ordering
+        ensures { result ≡ name_cmp self.now.name other.now.name }
+    {
+        self.compare(other.number, other.named.symbol.as_slice())
     }
 
     /// Compares the row's name with a name that has the same key.
@@ -183,19 +198,24 @@ pub struct Symbols {
     filter: NameFilter,
     /// The positions of rows, to be tried before a search.
     cache: SlotCache,
+    /// The end of the path from each row's name; empty unless they were cached.
+    paths: Vec<Path>,
 }
 
 impl Model for Symbols {
     ghost use Rattle.std.specs.Prelude.{List};
     ghost use Rattle.ud_model.specs.conditions.Table.{Argument};
     ghost use Rattle.ud_cond.specs.symbols.SymbolTable.{AreSorted};
+    ghost use Rattle.std.specs.Prelude.{length};
     ghost use Rattle.ud_cond.specs.symbols.NameFilters.{AreInFilter};
+    ghost use Rattle.ud_cond.specs.symbols.Paths.{AllLead};
 
     ghost Value = { List Argument };
 
     ghost view = { λ s. s.rows.items };
 
-    ghost invariant = { λ s. AreSorted s.rows.items × AreInFilter s.filter.words s.rows.items };
+    ghost invariant = { λ s. AreSorted s.rows.items × AreInFilter s.filter.words s.rows.items ×
+        AllLead s.rows.items (length s.rows.items) s.paths.items };
 }
 
 impl Symbols {
@@ -209,6 +229,7 @@ impl Symbols {
             rows: Vec::new(alloc),
             filter: NameFilter::new(),
             cache: SlotCache::new(alloc),
+            paths: Vec::new(alloc),
         }
     }
 
@@ -267,14 +288,118 @@ impl Symbols {
         }
     }
 
-    /// Caches the position of each row, so that `find` mostly needs no search. Changes no result.
+    /// Caches the position of each row, so that `find` mostly needs no search, and the end of each
+    /// path from name to name. Changes no result.
     ///
-    /// Each later call that inserts a row makes cached positions stale. So call it once, after the
-    /// last name.
+    /// Each later call for a name makes what was cached stale. So call it once, after the last
+    /// name.
     pub fn cache_positions(&mut self)
         ensures { self.new ≡ self.old }
     {
         cache_positions_of(&mut self.cache, self.rows.as_slice());
+        self.cache_paths();
+    }
+
+    /// Caches the end of the path from each name, if memory was taken for paths.
+    fn cache_paths(&mut self)
+        ensures { self.new ≡ self.old }
+    {
+        if self.paths.capacity() == 0 {
+            return;
+        }
+        let space = mem::replace(&mut self.paths, Vec::new(self.alloc));
+        if let Some(paths) = self.followed_paths(space) {
+            self.paths = paths;
+        }
+    }
+
+    /// Returns the end of the path from each name, after as many steps as there are rows. A path
+    /// that goes on then is a cycle. Uses the memory of `space`, and returns `None` if it doesn't
+    /// suffice and no more is given.
+    fn followed_paths(&self, space: Vec<Path>) -> Option<Vec<Path>>
+        ensures { IfSome result (λ p. AllLead self.now (length self.now) p.items) }
+    {
+        let mut paths = self.first_steps(space)?;
+        let mut steps = 1;
+        while steps < self.count() {
+            self.follow_twice(steps, &mut paths);
+            steps = steps.saturating_add(steps);
+        }
+        Some(paths)
+    }
+
+    /// Returns the path from each name after one step. Uses `space` as `followed_paths` does.
+    fn first_steps(&self, space: Vec<Path>) -> Option<Vec<Path>>
+        ensures { IfSome result (λ p. (length p.items ≡ length self.now) ×
+            AllLead self.now 1 p.items) }
+    {
+        let mut paths = space;
+        paths.clear();
+        for i in 0..self.count() {
+            if paths.push(self.first_step(i)).is_err() {
+                return None;
+            }
+        }
+        Some(paths)
+    }
+
+    /// Returns the path from the name of row `i` after one step.
+    fn first_step(&self, i: usize) -> Path
+        requires within { i < length self.now }
+        ensures { LeadsTo self.now (name_at self.now i) 1 result }
+    {
+        let Some(text) = self.rows[i].entry().value else {
+            return Path::Nothing;
+        };
+        if !is_identifier(text) {
+            return Path::Text(i);
+        }
+        match self.row_position(text) {
+            Some(next) => Path::Name(next),
+            None => Path::Nothing,
+        }
+    }
+
+    /// Follows each path, which has at least `steps` steps, twice as far.
+    fn follow_twice(&self, steps: usize, paths: &mut Vec<Path>)
+        requires all { length paths.old.items ≡ length self.now }
+        requires lead { AllLead self.now steps paths.old.items }
+        ensures all { length paths.new.items ≡ length self.now }
+        ensures lead { AllLead self.now (steps + steps) paths.new.items }
+    {
+        for i in 0..paths.len() {
+            let path = self.path_twice(steps, paths.as_slice(), i);
+            paths[i] = path;
+        }
+    }
+
+    /// Returns the path of row `i` followed twice as far, by that of the name to which it leads.
+    fn path_twice(&self, steps: usize, paths: &[Path], i: usize) -> Path
+        requires all { length paths.now ≡ length self.now }
+        requires within { i < length paths.now }
+        requires lead { AllLead self.now steps paths.now }
+        ensures { LeadsTo self.now (name_at self.now i) (steps + steps) result }
+    {
+        match paths[i] {
+            Path::Name(next) => paths[next],
+            end => end,
+        }
+    }
+
+    /// Returns the position of the row of `name`, or `None` if there is none.
+    #[inline(always)]
+    fn row_position(&self, name: &[u8]) -> Option<usize>
+        ensures found { IfSome result (λ i. IsRowOf self.now i name.now) }
+        ensures absent { IfNone result (entry_in self.now name.now ≡ None) }
+    {
+        let key = key_of(name);
+        if !self.filter.may_contain(key) {
+            return None;
+        }
+        match self.position(key, name) {
+            Ok(i) => Some(i),
+            Err(_) => None,
+        }
     }
 
     /// Returns the number of rows.
@@ -296,6 +421,25 @@ impl Symbols {
     /// Returns `None` if a name on the way isn't defined, or if the way has more steps than there
     /// are rows: such a way is a cycle.
     pub(crate) fn resolve<'a>(&'a self, name: &'a [u8]) -> Option<&'a [u8]>
+        ensures { option_map (λ v. v.now) result ≡ ends.resolve self.now name.now }
+    {
+        if self.paths.is_empty() {
+            return self.follow(name);
+        }
+        let Some(i) = self.row_position(name) else {
+            return None;
+        };
+        match self.paths.get(i) {
+            Some(Path::Text(end)) => self.rows[*end].entry().value,
+            // A path that still goes on is a cycle.
+            Some(Path::Name(_)) => None,
+            Some(Path::Nothing) => None,
+            None => self.follow(name),
+        }
+    }
+
+    /// Resolves `name` as `resolve` does, step by step.
+    fn follow<'a>(&'a self, name: &'a [u8]) -> Option<&'a [u8]>
         ensures { option_map (λ v. v.now) result ≡ ends.resolve self.now name.now }
     {
         let mut at = name;
@@ -369,36 +513,53 @@ impl Symbols {
         if !is_name(name) {
             return Err(SymbolFault::BadName);
         }
-        self.cache.reserve(self.alloc)?;
-        self.insert_or_replace(name, value, ignoring)
+        let row = Row::of(self.alloc, name, value, ignoring)?;
+        self.add(row)
     }
 
-    /// Changes the row of `name`, or inserts one.
-    fn insert_or_replace(
-        &mut self,
-        name: &[u8],
-        value: Option<&[u8]>,
-        ignoring: bool,
-    ) -> Result<(), SymbolFault>
-        ensures ok { OnOk result
-            (SetsEntry self.old self.new
-            (argument_for name.now (option_map (λ v. v.now) value.entry) ignoring)) }
+    /// Takes memory for the paths of all rows and of one more, once a value is an identifier. So
+    /// `cache_positions` takes none.
+    fn reserve_paths(&mut self, value: Option<&[u8]>) -> Result<(), SymbolFault>
+        ensures same { self.new ≡ self.old }
+        ensures fault { OnErr result (IsErrOf result SymbolFault.OutOfMemory) }
+    {
+        let leads_on = match value {
+            Some(text) => is_identifier(text),
+            None => false,
+        };
+        if !leads_on && self.paths.capacity() == 0 {
+            return Ok(());
+        }
+        self.paths.clear();
+        self.paths.reserve(self.rows.len().saturating_add(1))?;
+        Ok(())
+    }
+
+    /// Replaces the row of the same name, or inserts the row.
+    fn add(&mut self, row: Row) -> Result<(), SymbolFault>
+        ensures ok { OnOk result (SetsEntry self.old self.new row) }
         ensures err { OnErr result (self.new ≡ self.old) }
         ensures fault { OnErr result (IsErrOf result SymbolFault.OutOfMemory) }
     {
-        let text = try_clone(self.alloc, value)?;
-        let key = key_of(name);
-        match self.binary_search(key, name) {
+        self.cache.reserve(self.alloc)?;
+        self.reserve_paths(row.entry().value)?;
+        let key = row.key();
+        match self.binary_search(key, row.name()) {
             Ok(i) => {
-                let row = &mut self.rows[i];
-                row.set_entry(text, ignoring);
+                self.replace_at(i, row);
                 Ok(())
             }
-            Err(i) => {
-                let row = Row::new(self.alloc, key, name, text, ignoring)?;
-                self.insert_at(i, key, row)
-            }
+            Err(i) => self.insert_at(i, key, row),
         }
+    }
+
+    /// Replaces the row of a name.
+    fn replace_at(&mut self, i: usize, row: Row)
+        requires row { IsRowOf self.old i row.name }
+        ensures { self.new ≡ set self.old i row }
+    {
+        self.paths.clear();
+        self.rows[i] = row;
     }
 
     /// Inserts a row at the position of its name.
@@ -409,6 +570,7 @@ impl Symbols {
         ensures err { OnErr result (self.new ≡ self.old) }
         ensures fault { OnErr result (IsErrOf result SymbolFault.OutOfMemory) }
     {
+        self.paths.clear();
         self.filter.insert(key);
         let added = self.rows.insert(i, row);
         self.cache.set(key, i);

@@ -1,5 +1,5 @@
 -- Output of a line that is dropped but for its ending, or wholly.
-use Rattle.std.proofs.Common.{◌≡◌, inl, inr, ℕ, ◌+◌, ◌==◌, List, [], ◌∷◌, ◌++◌, length, Bool, true, false, not, bytes_eq, Option, refl, sym, ◌∙◌, ap, subst, length-append, arith}
+use Rattle.std.proofs.Common.{◌≡◌, inl, inr, ℕ, ◌+◌, ◌==◌, List, [], ◌∷◌, ◌++◌, length, true, bytes_eq, refl, ◌∙◌, ap, length-append, arith}
 use Rattle.std.proofs.lemmas.Bool.Decides.{same_from_decides, Decides-eqb, Decides-like}
 use Rattle.std.proofs.lemmas.Slice.Eq.{bytes_eq-Decides}
 use Rattle.ud_engine.specs.ProcessedLines.{IsLeftOf}
@@ -23,4 +23,3 @@ left_is_line left body ending some =
     (Decides-like (length left == (length body + length ending)) (all_left left body ending some) (λ e. ap length e ∙ length-append body ending)
     (Decides-eqb (length left) (length body + length ending)))
     (bytes_eq-Decides left (body ++ ending))
-

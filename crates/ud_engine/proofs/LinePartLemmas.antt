@@ -1,5 +1,5 @@
 -- Taking: the engine's state after more bytes.
-use Rattle.std.proofs.Common.{◌≡◌, ℕ, suc, ◌+◌, ◌<◌, ◌≤◌, Bool, true, false, List, [], ◌∷◌, ◌++◌, length, take, drop, Option, Some, None, refl, sym, ◌∙◌, ap, subst, append_assoc, append-nil, take-append-drop, take_all, arith, length-append}
+use Rattle.std.proofs.Common.{◌≡◌, ℕ, suc, ◌+◌, ◌<◌, ◌≤◌, Bool, true, false, List, [], ◌∷◌, ◌++◌, length, take, drop, Some, None, refl, sym, ◌∙◌, ap, subst, append_assoc, append-nil, take-append-drop, take_all, arith, length-append}
 use Rattle.std.proofs.Math.ListN.{length-take}
 use Rattle.ud_model.proofs.output.SoundBounds.{sound_low}
 use Rattle.ud_model.proofs.sections.Heights.{depth_height}

@@ -4,16 +4,15 @@
 --   IsCursor room lines piece r   a cursor in a chunk
 --   measure piece r               how much is left to do
 --   Advances .. bytes ..          a step took these bytes
---   StepFails .. f                a step failed
+--   StepFails .. f                the next line is faulty
 --   Takes .. e f s rest pending old new used   an engine took bytes, and is another one after that
---   StopsIn e s rest pending old new f         it can't take the next line
---   TakesPart .. e f rest pending old new r    the one or the other, in each session
---   Steps .. e f s piece at old new next       it took the bytes between two cursors
---   StopsAt e s piece at old new f             it can't take the line after a cursor
---   Moves .. e f piece at old new result       the one or the other, in each session
+--   StopsIn s rest f                           the next line of an engine in this session is faulty
+--   TakesPart .. e f rest pending out out' r   the one or the other, in each session
+--   Steps .. e f s piece at old new next       an engine took the bytes between two cursors
+--   Moves .. e f piece at out out' result      it did, or its next line is faulty, in each session
 --   IsNext room lines piece at next            a cursor after another one
 --   IsPart room lines rest used                the first bytes of `rest` are taken
---   IsStep e f old new result                  streams and recorded fault after a step
+--   IsStep e f out out' result                 output and recorded fault after a step
 use Rattle.std.specs.Prelude.{ℕ, ◌+◌, ◌-◌, ◌<◌, ◌≤◌, List, ◌++◌, length, take, drop, if◌then◌else◌}
 use Rattle.std.specs.Prelude.{◌≡◌, Option, Result, MatchResult, IfErr}
 use Rattle.ud_model.specs.sections.Items.{Options}
@@ -81,13 +80,12 @@ Takes represents piece_of e f s rest pending old new used =
     Advances represents piece_of f s.options s.pieces s.text s.printed (take used rest) old new
     (e.buffered ++ pending) f.buffered
 
--- `StopsIn s rest f`: an engine in the session `s` can't take the next line of `rest`, for the
--- reason `f`.
+-- `StopsIn s rest f`: the next line of `rest` has the fault `f`, for an engine in the session `s`.
 abbrev pub StopsIn : Session → List ℕ → RunFault → Type 0
 StopsIn s rest f = StepFails s.options s.pieces (s.text ++ rest) s.printed f
 
 -- `TakesPart .. contents e f rest pending out out' result`: in each session of `e`, it took bytes
--- of `rest` (`Takes`); or it can't take the next line (`StopsIn`).
+-- of `rest` (`Takes`); or the next line is faulty (`StopsIn`).
 abbrev pub TakesPart : {S W : Type 0} → (S → List Judged → Type 0) → (S → List Judged → Judged →
     List ℕ) → (W → Option (List ℕ)) → EngineState S → EngineState S → List ℕ → List ℕ →
     WatchedState W → WatchedState W → Result ℕ RunFault → Type 0
@@ -108,7 +106,7 @@ Steps represents piece_of e f s piece at old new next =
     (f.buffered ++ slice_between piece next.pending_start next.pos)
 
 -- `Moves .. contents e f piece at out out' result`: in each session of `e`, it took the bytes from
--- the cursor `at` to the next one (`Steps`); or it can't take the line after `at` (`StopsAt`).
+-- the cursor `at` to the next one (`Steps`); or the line after `at` is faulty (`StopsIn`).
 abbrev pub Moves : {S W : Type 0} → (S → List Judged → Type 0) → (S → List Judged → Judged →
     List ℕ) → (W → Option (List ℕ)) → EngineState S → EngineState S → List ℕ → Cursor →
     WatchedState W → WatchedState W → Result Cursor RunFault → Type 0
@@ -131,8 +129,8 @@ pub record IsPart (room : ℕ) (lines : LinesState) (rest : List ℕ) (used : �
   pub within : used ≤ length rest
   pub fits : HasCapacity room lines (length rest - used)
 
--- `IsStep e f out out' result`: after a step from the engine `e` to `f`, the recorded fault is the
--- same, and after an error `OutputUnchanged`.
+-- `IsStep e f out out' result`: a step from the engine `e` to `f` records no fault. After an error
+-- the output is unchanged.
 pub record IsStep {S W T : Type 0} (e f : EngineState S) (out out' : WatchedState W)
     (result : Result T RunFault) : Type 0 where
   pub output_unchanged : IfErr result (OutputUnchanged out out' e.buffered f.buffered)

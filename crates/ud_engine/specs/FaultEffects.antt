@@ -1,5 +1,5 @@
 -- FaultEffects: the state of the output after a fault, and the result of a call.
-use Rattle.std.specs.Prelude.{◌≡◌, ℕ, List, Bool, true, false, Result, Ok, Err}
+use Rattle.std.specs.Prelude.{◌≡◌, ℕ, List, Bool, true, false, Result, Err}
 use Rattle.ud_faults.specs.declared.run.RunFault.{RunFault}
 use Rattle.ud_faults.specs.declared.run.RunFault.TheVariants.{Text, Section, Read, Write}
 use Rattle.ud_io.specs.Watched.{WatchedState}
@@ -13,15 +13,8 @@ OutputUnchanged old new buffered left (Text f) = (new ≡ old) × (left ≡ buff
 OutputUnchanged old new buffered left Read = ⊥
 OutputUnchanged old new buffered left Write = ⊥
 
--- `IsOfText f`: `f` is a fault of the text.
-abbrev pub IsOfText : RunFault → Type 0
-IsOfText (Section f) = Unit {0}
-IsOfText (Text f) = Unit {0}
-IsOfText Read = ⊥
-IsOfText Write = ⊥
-
--- `result_after failed ended`: the result of a call whose lines ended so: a failed write, if there
--- is one.
+-- `result_after failed ended`: the result of a call: `Write` if the writer has failed, and else
+-- `ended`, by which its lines ended.
 abbrev pub result_after : {T : Type 0} → Bool → Result T RunFault → Result T RunFault
 result_after true ended = Err Write
 result_after false ended = ended

@@ -2,12 +2,16 @@
 --
 --   without_fault symbols lines printer buffered   an engine that isn't fused
 --   PrintsAll .. p o piece text printed old new    all lines of the text are printed
---   PrintsLast .. p s failed old new result        they are, or that failed
---   PrintsRest .. e p out out' result              the same, in each session
 --   FinishOk .. differs                            the text has no fault, and is printed
---   FinishErr .. f                                 finishing failed
+--   FinishFault .. f                               the text has this fault
+--   FinishTruncated .. old new                     a write failed
+--   FinishErr .. f                                 the one or the other
 --   Finishes s failed old new result               the text has ended, or that failed
+--   PrintsLast .. p s failed old new result        the last line is printed, or that failed
+--   PrintsRest .. e p out out' result              the same, in each session
+--   text_fault_of f                                the fault of the definitions
 --   ResultIs result r                              the result of a run is this outcome
+--   RunAnswers o input old new result              output and result are those of an input
 use Rattle.std.specs.Prelude.{◌≡◌, ℕ, List, ◌++◌, Bool, true, false, Option, Some, None, Result, Ok}
 use Rattle.std.specs.Prelude.{Err}
 use Rattle.std.specs.Io.KnownBytes.{Appends}

@@ -1,15 +1,15 @@
 -- NameListing: a line decider that lists the names of lines.
 --
---   ListsLine o r xs t l depths ..   it has also read this line, and listed its names
---   ListErr o xs t l depths .. f     listing this line failed
---   ListsNext .. r new l depths ..   the one or the other, whatever the decider had read
+--   ListsMore o xs t l depths ..     the names of this line, as they are listed
+--   ListsLine o r xs t l depths ..   a decider has also read this line, and listed its names
+--   ListsNext .. r new l depths ..   it did, whatever it had read, or the line is faulty
 --   ListsWith .. l depths ..         the same of the deciders of these scanners and machines
 use Rattle.std.specs.Prelude.{◌≡◌, ℕ, List, [], ◌∷◌, ◌++◌, Bool, Option, Result, MatchResult}
 use Rattle.ud_model.specs.text.Lines.{Line}
 use Rattle.ud_model.specs.text.Scans.{Reading}
 use Rattle.ud_model.specs.sections.Tree.{Item, Tree}
 use Rattle.ud_model.specs.sections.Items.{Options, next_item}
-use Rattle.ud_model.specs.sections.Faults.{AreFaultless, FaultOf}
+use Rattle.ud_model.specs.sections.Faults.{FaultOf}
 use Rattle.ud_model.specs.conditions.Table.{Argument}
 use Rattle.ud_cond.specs.symbols.SymbolTable.{TableRepresents}
 use Rattle.ud_model.specs.answer.Listing.{levels, listed}
@@ -43,7 +43,7 @@ pub record ListsLine (o : Options) (r : LineDecider) (xs : List (Item Reading)) 
 
 -- `ListsNext contents symbols r new l depths pending buffered left out out' result`: whatever items
 -- `r` has read, under options with these symbols, `new` has also read the line `l`, and its names
--- were listed (`ListsLine`); or that failed (`ListErr`).
+-- were listed (`ListsLine`); or `l` has this fault.
 abbrev pub ListsNext : {W T : Type 0} → (W → Option (List ℕ)) → List Argument → LineDecider →
     LineDecider → Line → Bool → List ℕ → List ℕ → List ℕ → WatchedState W → WatchedState W →
     Result T SectionFault → Type 0

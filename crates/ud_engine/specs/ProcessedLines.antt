@@ -6,14 +6,16 @@
 --   BeginsLines .. settings show p                       a processor before the first line
 --   HasEndFault .. p fault                               the fault at the end of what it read
 --   HasDifference .. p differs                           whether some line that it read differs
+--   PrintsMore o piece xs t l tree more                  the output for this line
+--   IsAppended put old new ..                            the output for a line was appended
+--   ShowsLine put old new ..                             the same, if it differs from the line
 --   ShowsNext .. show j pending ..                       a printer's piece of the next line
---   PrintsLine .. l put ..                               it has also printed this line
 --   IsLeftOf left ending                                 the output is nothing or the ending
+--   PrintsLine .. l put ..                               a processor has also printed this line
 --   printed_of passed bytes                              the output for skipped text
 --   PrintsBulk .. ls more                                a processor has also printed these lines
 --   PrintsText .. p q lines bytes more                   it did, whatever it had read
---   PrintErr .. l f ..                                   printing this line failed
---   PrintsNext .. p q l ..                               it did or that failed, whatever was read
+--   PrintsNext .. p q l ..                               it printed this line, or that is faulty
 use Rattle.std.specs.Prelude.{◌≡◌, ◌⊎◌, ℕ, suc, List, [], ◌∷◌, ◌++◌, take, map, Bool, true, false}
 use Rattle.std.specs.Prelude.{not, bytes_eq, if◌then◌else◌, Option, Some, None, Result, MatchResult}
 use Rattle.std.specs.List.{concat}
@@ -23,7 +25,7 @@ use Rattle.ud_model.specs.conditions.Table.{Argument}
 use Rattle.ud_model.specs.sections.Tree.{Item, Tree, closed, nothing}
 use Rattle.ud_model.specs.sections.Pruning.{marks}
 use Rattle.ud_model.specs.sections.Items.{Options, line_of, next_item}
-use Rattle.ud_model.specs.sections.Faults.{Fault, AreFaultless, FaultOf, end_fault}
+use Rattle.ud_model.specs.sections.Faults.{Fault, FaultOf, end_fault}
 use Rattle.ud_model.specs.answer.Printing.{Judged, judged_lines, pieces_by, some_other}
 use Rattle.ud_model.specs.answer.Listing.{levels, listed}
 use Rattle.ud_model.specs.declared.settings.Settings.{Settings}
@@ -183,7 +185,7 @@ PrintsText represents piece_of p q lines bytes more =
 
 -- `PrintsNext .. contents symbols p q l pending buffered left out out' put result`: whatever items
 -- `p` has read, under options with these symbols, `q` has also read the line `l`. Its output was
--- appended as `put` has it (`PrintsLine`); or that failed (`PrintErr`).
+-- appended as `put` has it (`PrintsLine`); or `l` has this fault.
 abbrev pub PrintsNext : {S W T : Type 0} → (S → List Judged → Type 0) → (S → List Judged → Judged →
     List ℕ) → (W → Option (List ℕ)) → List Argument → LineProcessor S → LineProcessor S → Line →
     List ℕ → List ℕ → List ℕ → WatchedState W → WatchedState W → (T → Bool) →

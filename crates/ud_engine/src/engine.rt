@@ -15,7 +15,7 @@ ghost use Rattle.ud_model.specs.sections.Items.{Options};
 ghost use Rattle.ud_model.specs.answer.Printing.{Judged};
 ghost use Rattle.ud_model.specs.declared.settings.Listing.TheVariants.{Off};
 ghost use Rattle.ud_cond.specs.symbols.SymbolTable.{TableRepresents};
-ghost use Rattle.ud_engine.specs.Sinks.{Takes};
+ghost use Rattle.ud_engine.specs.Sinks.{Accepts};
 ghost use Rattle.ud_text.specs.bulk.BulkStates.{is_other_word};
 ghost use Rattle.ud_text.specs.lines.LinesState.{HasCapacity};
 ghost use Rattle.ud_engine.specs.Feeding.{IsOpen, WriterMatches};
@@ -354,7 +354,7 @@ impl<P: PlanSource, S: Show, H: LineBuffer> EngineOf<P, S, H> {
         pending: &[u8],
         out: &mut Watched<W>,
     ) -> Result<(), RunFault>
-        ensures written { Takes W.contents self.old.buffered [] out.old out.new pending.now }
+        ensures written { Accepts W.contents self.old.buffered [] out.old out.new pending.now }
         ensures flushed { self.new ≡ record self.old { buffered = [] } }
         ensures ended { result ≡ result_after out.new.failed ended }
     {
@@ -387,13 +387,13 @@ impl<P: PlanSource, S: Show, H: LineBuffer> EngineOf<P, S, H> {
         ensures step { IsStep self.old self.new out.old out.new result }
     {
         if may_skip_text(chunk, cursor) {
-            self.advance_in_bulk(chunk, cursor, out)
+            Ok(self.advance_in_bulk(chunk, cursor, out))
         } else {
             self.advance_line(chunk, cursor, out)
         }
     }
 
-    /// Skips as many of the next lines as are recognized as text.
+    /// Skips as many of the next lines as are recognized as text. Returns the cursor after them.
     ///
     /// If they are copied, the pending bytes extend over them. If they are dropped, the pending
     /// bytes are appended to the output, and nothing is pending after them.
@@ -402,34 +402,34 @@ impl<P: PlanSource, S: Show, H: LineBuffer> EngineOf<P, S, H> {
         chunk: &[u8],
         cursor: Cursor,
         out: &mut Watched<W>,
-    ) -> Result<Cursor, RunFault>
+    ) -> Cursor
         requires cursor { IsCursor H.CAPACITY self.old.lines chunk.now cursor }
         requires untried { cursor.bulk_tried ≡ false }
         requires some { cursor.pos < cursor.whole_end }
-        ensures next { IfOk result (IsNext H.CAPACITY self.new.lines chunk.now cursor) }
+        ensures next { IsNext H.CAPACITY self.new.lines chunk.now cursor result }
         ensures moves { Moves S.represents S.piece W.contents self.old self.new chunk.now cursor
-            out.old out.new result }
-        ensures step { IsStep self.old self.new out.old out.new result }
+            out.old out.new (Ok result) }
+        ensures fault { self.new.fault ≡ self.old.fault }
     {
         let pending = &chunk[cursor.pending_start..cursor.pos];
         let lines = &chunk[cursor.pos..cursor.whole_end];
         let skipped = self.printer.skip_text(lines, &mut self.lines);
-        let at = cursor.pos + skipped.count;
+        let pos = cursor.pos + skipped.count;
+        let bulk_tried = true;
         if skipped.kept {
-            return Ok(Cursor {
-                pending_start: cursor.pending_start,
-                pos: at,
-                whole_end: cursor.whole_end,
-                bulk_tried: true,
-            });
+            return Cursor {
+                pos,
+                bulk_tried,
+                ..cursor
+            };
         }
         self.output.append(pending, out);
-        Ok(Cursor {
-            pending_start: at,
-            pos: at,
-            whole_end: cursor.whole_end,
-            bulk_tried: true,
-        })
+        Cursor {
+            pending_start: pos,
+            pos,
+            bulk_tried,
+            ..cursor
+        }
     }
 
     /// Decides the next line, or buffers the line that the chunk begins.

@@ -2,7 +2,7 @@
 
 ghost use Rattle.ud_model.specs.answer.Listing.{listed_names};
 ghost use Rattle.ud_engine.specs.NameLines.{name_line};
-ghost use Rattle.ud_engine.specs.Sinks.{Takes};
+ghost use Rattle.ud_engine.specs.Sinks.{Accepts};
 
 use crate::output::Output;
 use std::io::Write;
@@ -16,7 +16,7 @@ pub(crate) fn append_names<W: Write>(
     names: Names<'_>,
     out: &mut Watched<W>,
 )
-    ensures { Takes W.contents output.old output.new out.old out.new
+    ensures { Accepts W.contents output.old output.new out.old out.new
         (listed_names prefix.now names.entry) }
 {
     for name in names {
@@ -25,13 +25,8 @@ pub(crate) fn append_names<W: Write>(
 }
 
 /// Appends `prefix`, `name` and a newline.
-fn append_name<W: Write>(
-    output: &mut Output,
-    prefix: &[u8],
-    name: &[u8],
-    out: &mut Watched<W>,
-)
-    ensures { Takes W.contents output.old output.new out.old out.new
+fn append_name<W: Write>(output: &mut Output, prefix: &[u8], name: &[u8], out: &mut Watched<W>)
+    ensures { Accepts W.contents output.old output.new out.old out.new
         (name_line prefix.now name.now) }
 {
     output.append_parts(&[prefix, name, b"\n"], out);

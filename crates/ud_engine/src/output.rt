@@ -5,7 +5,7 @@
 
 ghost use Rattle.std.specs.Prelude.{◌≡◌, []};
 ghost use Rattle.std.specs.List.{flat_map};
-ghost use Rattle.ud_engine.specs.Sinks.{Takes};
+ghost use Rattle.ud_engine.specs.Sinks.{Accepts};
 
 use crate::output_buffer::OutputBuffer;
 use std::io::Write;
@@ -39,7 +39,7 @@ impl Output {
     /// Appends `bytes` to the buffer. Writes what doesn't fit.
     #[inline(always)]
     pub(crate) fn append<W: Write>(&mut self, bytes: &[u8], out: &mut Watched<W>)
-        ensures { Takes W.contents self.old self.new out.old out.new bytes.now }
+        ensures { Accepts W.contents self.old self.new out.old out.new bytes.now }
     {
         if bytes.is_empty() || self.buffered.try_append(bytes) {
             return;
@@ -49,7 +49,7 @@ impl Output {
 
     /// Appends `bytes` after all buffered bytes were written.
     fn append_after_flush<W: Write>(&mut self, bytes: &[u8], out: &mut Watched<W>)
-        ensures { Takes W.contents self.old self.new out.old out.new bytes.now }
+        ensures { Accepts W.contents self.old self.new out.old out.new bytes.now }
     {
         self.flush(out);
         if self.buffered.try_append(bytes) {
@@ -60,7 +60,7 @@ impl Output {
 
     /// Appends `parts` in turn.
     pub(crate) fn append_parts<W: Write>(&mut self, parts: &[&[u8]], out: &mut Watched<W>)
-        ensures { Takes W.contents self.old self.new out.old out.new
+        ensures { Accepts W.contents self.old self.new out.old out.new
             (flat_map (λ p. p.now) parts.now) }
     {
         for part in parts {
@@ -70,7 +70,7 @@ impl Output {
 
     /// Writes all buffered bytes, and empties the buffer.
     pub(crate) fn flush<W: Write>(&mut self, out: &mut Watched<W>)
-        ensures takes { Takes W.contents self.old self.new out.old out.new [] }
+        ensures takes { Accepts W.contents self.old self.new out.old out.new [] }
         ensures empty { self.new ≡ [] }
     {
         write(self.buffered.as_slice(), out);
@@ -80,7 +80,7 @@ impl Output {
     /// Writes all buffered bytes and `bytes`, and empties the buffer. If nothing is buffered,
     /// `bytes` isn't copied.
     pub(crate) fn flush_with<W: Write>(&mut self, bytes: &[u8], out: &mut Watched<W>)
-        ensures takes { Takes W.contents self.old self.new out.old out.new bytes.now }
+        ensures takes { Accepts W.contents self.old self.new out.old out.new bytes.now }
         ensures empty { self.new ≡ [] }
     {
         if self.buffered.is_empty() {
@@ -93,7 +93,7 @@ impl Output {
 
 /// Writes `bytes`, unless the writer has failed.
 fn write<W: Write>(bytes: &[u8], out: &mut Watched<W>)
-    ensures { Takes W.contents [] [] out.old out.new bytes.now }
+    ensures { Accepts W.contents [] [] out.old out.new bytes.now }
 {
     if !out.failed() {
         write_all(out, bytes);

@@ -1,10 +1,12 @@
 //! Skips many whole text lines at once in C mode.
 //!
-//! The bytes are read from one significant byte to the next. Outside comments and literals these
-//! are `/`, quotes, backslashes and `#`; in a block comment, a star before a slash or a backslash.
-//! At anything unusual the reading stops at the beginning of that line: a step returns `Err` with
-//! that beginning. So each way to continue is a step of its own, and a step that isn't sure may
-//! stop.
+//! The bytes are read from one significant byte to the next: `/`, a quote, a backslash or `#`. At
+//! anything unusual the reading stops at the beginning of that line. So each way to continue is a
+//! step of its own, and a step that isn't sure may stop.
+//!
+//! Most bytes are read by the fast path. It doesn't always know the line at which it stops. Then
+//! the steps below read the bytes anew, and keep the last line at each comment. A step that stops
+//! returns `Err` with the beginning of its line.
 //!
 //! A new kind of lexeme needs a function in lexeme_lengths.rt and its lemma.
 
@@ -25,10 +27,10 @@ use hash_sign::{is_line_white_after, other_word_len};
 use lexeme_lengths::{lexeme_len, line_comment_len, splice_len};
 
 mod blocks;
+mod fast_path;
 pub(crate) mod hash_sign;
 mod lexeme_lengths;
 pub(crate) mod plain;
-mod quick;
 
 /// The beginning of a line.
 #[derive(Clone, Copy)]
@@ -300,7 +302,8 @@ fn skip_text_from(lines: &[u8], begun: Progress) -> LineStart
     last_line(lines, p.line, p.at)
 }
 
-/// Skips text lines as `quick::skip_text_lines` does, but keeps what it leaves out.
+/// Skips text lines as `fast_path::skip_text_lines` does, and always returns the beginning of a
+/// line.
 fn skip_again(lexer: Lexer, lines: &[u8]) -> LineStart
     requires starts { can_start (lex_state_of lexer.state) ≡ true }
     ensures bound { result.at ≤ length lines.now }
@@ -332,7 +335,7 @@ pub(crate) fn skip_text_lines(lexer: Lexer, lines: &[u8]) -> LineStart
     ensures bound { result.at ≤ length lines.now }
     ensures skipped { SkippedBy (bulk_state_of lexer) lines.now result }
 {
-    match quick::skip_text_lines(lexer, lines) {
+    match fast_path::skip_text_lines(lexer, lines) {
         Some(line) => line,
         None => skip_again(lexer, lines),
     }

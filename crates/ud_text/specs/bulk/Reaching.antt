@@ -1,33 +1,35 @@
--- Reaching: what the quick reader of whole lines knows.
+-- Reaching: what the fast path of a skip knows.
 --
 --   Reached start bytes p        the bytes before `p.at` are read, outside comments and literals
---   InReach p bytes              the positions of a `Reach` are in order
---   ClosesAt bytes at end        the first star pair from `at` on closes a block comment at `end`
+--   InReach p bytes              its positions are in order
+--   ClosesAt bytes at end        the first star pair closes a block comment
 --   GoesOn bytes p result        a step reads on, or stops
 --
 -- Unlike a `Progress`, a `Reach` names no line: some line was begun at or before its base.
-use Rattle.std.specs.Prelude.{◌≡◌, ◌≤◌, ◌<◌, ℕ, ◌+◌, ◌-◌, List, [], ◌∷◌, length, take, drop, get_or, Bool, true, false, Option, IfSome}
+use Rattle.std.specs.Prelude.{◌≡◌, ◌≤◌, ◌<◌, ℕ, ◌+◌, ◌-◌, List, [], ◌∷◌, length, take, drop, get_or}
+use Rattle.std.specs.Prelude.{Bool, true, false, Option, IfSome}
 use Rattle.ud_model.specs.text.Bytes.{slash, star}
-use Rattle.ud_text.specs.bulk.BulkStates.{BulkState, code_state}
+use Rattle.ud_text.specs.bulk.BulkStates.{BulkState}
 use Rattle.ud_text.specs.bulk.BulkLexemes.{is_star_pair}
 use Rattle.ud_text.specs.bulk.Progress.{ReadOutside}
-use Rattle.ud_text.specs.declared.bulk.quick.Reach.{Reach}
+use Rattle.ud_text.specs.declared.bulk.fast_path.Reach.{Reach}
 
--- `Reached start bytes p`: the bytes before `p.at` are read, outside comments and literals, and no
--- comment begins from `p.base` on. If `p.known`, a line begins there, white as `p.begins` says.
+-- `Reached start bytes p`: the bytes before `p.at` are read, which lies outside comments and
+-- literals, and no comment begins from `p.base` on. If `p.at_line_start`, a line begins at
+-- `p.base`, and `p.begins` is whether its logical line is white there.
 pub record Reached (start : BulkState) (bytes : List ℕ) (p : Reach) : Type 0 where
   pub line : ℕ
   pub kept : BulkState
   pub begins : Bool
   pub read : ReadOutside start bytes line kept p.base begins p.at
-  pub known : p.known ≡ true → (line ≡ p.base) × (begins ≡ p.begins)
+  pub at_line_start : p.at_line_start ≡ true → (line ≡ p.base) × (begins ≡ p.begins)
 
--- `InReach p bytes`: the positions of `p` are in order, and lie within the bytes
+-- `InReach p bytes`: the positions of `p` are in order, and lie within `bytes`.
 abbrev pub InReach : Reach → List ℕ → Type 0
 InReach p bytes = (p.base ≤ p.at) × (p.at ≤ length bytes)
 
--- `ClosesAt bytes at end`: from `at` on no star pair comes before a star and a slash, which end at
--- `end`
+-- `ClosesAt bytes at end`: the first star pair from `at` on is a star and a slash, which end at
+-- `end`.
 pub record ClosesAt (bytes : List ℕ) (at end : ℕ) : Type 0 where
   pub order : at + 2 ≤ end
   pub within : end ≤ length bytes
@@ -35,7 +37,7 @@ pub record ClosesAt (bytes : List ℕ) (at end : ℕ) : Type 0 where
       is_star_pair (get_or bytes k 0) (get_or bytes (k + 1) 0) ≡ false
   pub pair : take 2 (drop (end - 2) bytes) ≡ star ∷ slash ∷ []
 
--- `GoesOn bytes p result`: a step from `p` reads on, or stops
+-- `GoesOn bytes p result`: a step from `p` reads on to the result, or stops.
 abbrev pub GoesOn : List ℕ → Reach → Option Reach → Type 0
 GoesOn bytes p result =
     (start : BulkState) → Reached start bytes p → IfSome result (λ q. Reached start bytes q)

@@ -3,7 +3,8 @@
 //! A lexeme ends on the line on which it begins. The result is `None` if its end isn't among the
 //! bytes, or if a backslash may belong to a splice: the line is then read by itself.
 
-ghost use Rattle.std.specs.Prelude.{◌≡◌, ◌≤◌, ◌<◌, ◌-◌, Bool, [], ◌∷◌, length, take, slice_index, true};
+ghost use Rattle.std.specs.Prelude.{◌≡◌, ◌≤◌, ◌<◌, ◌-◌, Bool, [], ◌∷◌, length, take, true};
+ghost use Rattle.std.specs.Prelude.{slice_index};
 ghost use Rattle.std.specs.Prelude.{false, IfSome, OnSome};
 ghost use Rattle.ud_model.specs.text.Bytes.{slash, backslash, newline, is_quote};
 ghost use Rattle.ud_text.specs.bulk.BulkLexemes.{is_significant, CodeLexeme, LineLexeme, IsSplice};

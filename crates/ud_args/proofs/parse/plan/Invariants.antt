@@ -5,7 +5,7 @@ use Rattle.ud_args.specs.Plans.{PlanRepresents}
 use Rattle.ud_args.proofs.parse.plan.Given as goal
 
 abbrev pub invariant-given : goal.invariant-given
-invariant-given l = (done : List ParsedArg) × (parsed_args (map string_bytes l.args) ≡ done ++ remaining_args l.line) × PlanRepresents l.plan done
+invariant-given l = (done : List ParsedArg) × (parsed_args (map string_bytes l.args) ≡ done ++ remaining_args l.line) × PlanRepresents l.draft done
 
 abbrev pub decreases-given : goal.decreases-given
 decreases-given l = length (remaining_args l.line)

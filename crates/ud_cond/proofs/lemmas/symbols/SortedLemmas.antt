@@ -21,7 +21,7 @@ use Rattle.ud_cond.proofs.lemmas.symbols.TableLemmas.{NoneFrom, IsLastRow}
 alike_total : IsTotalOrder same_key_cmp
 alike_total = then_total (on_total length nat_cmp_total) nat_list_cmp_total
 
-name_total : IsTotalOrder name_cmp
+pub name_total : IsTotalOrder name_cmp
 name_total = then_total (on_total key_of nat_cmp_total) alike_total
 
 then_equal : (a b : Ordering) → ordering_then a b ≡ Equal → b ≡ Equal

@@ -38,5 +38,5 @@ returns-then-failed-clause-last g c = λ s fed. (
       c.put_line.new.self (sink g.W.Write.contents c.args.out.now) (sink g.W.Write.contents c.put_line.new.out) (sink g.W.Write.contents c.flush.new.out) c.put_line.new.output
       (c.in-Ok.ensures.prints s.options s.pieces fed.taken.items fed.taken.tree fed.taken.symbols fed.taken.has) c.requires.not_failed
       (subst (λ x. TakesAllBut (sink g.W.Write.contents c.put_line.new.out) (sink g.W.Write.contents c.flush.new.out) x []) (append-nil c.put_line.new.output)
-    (subst (λ x. TakesAllBut (sink g.W.Write.contents c.put_line.new.out) (sink g.W.Write.contents c.flush.new.out) (c.put_line.new.output ++ []) x) c.flush.ensures.empty c.flush.ensures.takes)) (search rules),
+      (subst (λ x. TakesAllBut (sink g.W.Write.contents c.put_line.new.out) (sink g.W.Write.contents c.flush.new.out) (c.put_line.new.output ++ []) x) c.flush.ensures.empty c.flush.ensures.takes)) (search rules),
 )

@@ -8,8 +8,7 @@ use Rattle.ud_engine.proofs.line_processor.append_parts_of.Goals as goal
 pub returns-clause-shows : goal.returns-clause-shows
 returns-clause-shows g c = λ before represents.
     let a = g.W.Write.contents c.args.out.now.inner in
-    let d = g.W.Write.contents c.append_parts.new.out.inner in
-    (
+    let d = g.W.Write.contents c.append_parts.new.out.inner in (
       ap not (c.if-same.ensures ∙ c.pieces-pieces.ensures.is_unchanged ∙ ap (λ x. bytes_eq x (text_of (as_line c.args.line.now))) (c.pieces-pieces.ensures.parts before represents)),
       subst (λ (x : List ℕ). TakesBy c.args.out.now.failed c.append_parts.new.out.failed a d (c.args.output.now ++ (c.args.pending.now ++ x)) c.append_parts.new.self)
           (c.parts.ensures.joined ∙ c.pieces-pieces.ensures.parts before represents)

@@ -1,27 +1,26 @@
--- Reaches: from what the quick reader knows up to a position to what it knows further on.
-use Rattle.std.proofs.Common.{◌≡◌, ℕ, zero, suc, ◌+◌, ◌-◌, ◌<◌, ◌≤◌, ◌==◌, List, [], ◌∷◌, ◌++◌, length, take, drop, get_or, Bool, true, false, not, ◌&&◌, ◌||◌, ◌⊎◌, inl, inr, refl, sym, ◌∙◌, ap, subst, append-nil, append_assoc, arith, length-append, add-one}
+-- ReachLemmas: from what the fast path knows at a position to what it knows further on.
+use Rattle.std.proofs.Common.{◌≡◌, ℕ, zero, suc, ◌+◌, ◌-◌, ◌<◌, ◌≤◌, ◌==◌, List, [], ◌∷◌, ◌++◌, length, take, drop, get_or, Bool, true, false, ◌&&◌, ◌||◌, inl, inr, refl, sym, ◌∙◌, ap, subst, arith, length-append}
 use Rattle.std.specs.List.{position_or_len}
 use Rattle.std.proofs.lemmas.Bool.{eqb-true, eqb-false, cases_lt}
-use Rattle.std.proofs.lemmas.List.{take_more, take_rest, take-append-drop, take-take, get_or-drop, get_or-take, length-take-le, take_all, drop-take}
-use Rattle.std.proofs.lemmas.List.Sums.{fails_before_first, passes_at_first}
+use Rattle.std.proofs.lemmas.List.{take_more, take_rest, get_or-drop, length-take-le, take_all}
+use Rattle.std.proofs.lemmas.List.Sums.{fails_before_first}
 use Rattle.std.proofs.Math.ListN.{length-drop}
-use Rattle.ud_model.specs.text.Bytes.{is_quote, slash, star, backslash, number_sign, newline}
+use Rattle.ud_model.specs.text.Bytes.{slash, star, backslash, number_sign, newline}
 use Rattle.ud_model.specs.text.Lines.{NoNewline}
-use Rattle.ud_model.specs.aids.LexStates.{LexState, in_text, in_block}
+use Rattle.ud_model.specs.aids.LexStates.{LexState, in_text}
 use Rattle.ud_text.specs.bulk.BulkStates.{line_state, BulkState, code_state, block_state, inside_state, is_other_word, Skipped, bulk_state_after}
 use Rattle.ud_text.specs.bulk.BulkLexemes.{CodeLexeme, LineLexeme, IsSplice, IsWhiteAfter, all_white, new_line, black, LastLineStarts, IsLineStart, at_start, after_newline, NoStarPair, NoSignificant, is_significant, is_star_pair}
 use Rattle.ud_text.specs.bulk.Progress.{ReadTo, ReadOutside}
-use Rattle.ud_text.specs.bulk.Reaching.{Reached, InReach, ClosesAt, GoesOn}
-use Rattle.ud_text.specs.declared.bulk.quick.Reach.{Reach}
-use Rattle.ud_text.proofs.lemmas.searching.MarkLemmas.{position_or_len-bound}
+use Rattle.ud_text.specs.bulk.Reaching.{Reached, ClosesAt}
+use Rattle.ud_text.specs.declared.bulk.fast_path.Reach.{Reach}
 use Rattle.ud_text.proofs.lemmas.bulk.BulkPlainLemmas.{not_special}
 use Rattle.ud_text.proofs.lemmas.bulk.ProgressLemmas.{read_base, read_text, read_on, read_splice, plain_of, passed_of, settled, settled_at, begins-append}
 use Rattle.ud_text.proofs.lemmas.searching.PairLemmas.{none_before}
 use Rattle.ud_text.proofs.lemmas.bulk.LexemeLemmas.{sign_read}
 use Rattle.ud_text.proofs.lemmas.bulk.BlockLemmas.{block_same, block_later, block_opened, block_closed}
-use Rattle.ud_text.proofs.lemmas.bulk.StepLemmas.{two_at, pair_is, start_read, text_step_read, line_step_read, plain_step_read, looked, sign_step_read, sign_alone_read, splice_step_read}
+use Rattle.ud_text.proofs.lemmas.bulk.StepLemmas.{two_at, pair_is, start_read, text_step_read, plain_step_read, looked, sign_step_read}
 
--- each bytes have a last line
+-- Each list of bytes has a last line.
 pub last_line_of : (l : List ℕ) → (n : ℕ) × LastLineStarts l n
 last_line_of [] = (0, record { within = omega arith; begins = at_start; one_line = tt })
 last_line_of (b ∷ l) = by_rest (last_line_of l).0 (last_line_of l).1
@@ -36,13 +35,16 @@ last_line_of (b ∷ l) = by_rest (last_line_of l).0 (last_line_of l).1
 
     by_rest : (n : ℕ) → LastLineStarts l n → (n : ℕ) × LastLineStarts (b ∷ l) n
     by_rest zero h = by_feed (b == newline) refl h.one_line
-    by_rest (suc n) h = (suc (suc n), record {
-      within = (let k : suc n ≤ length l = h.within in omega (arith, k));
-      begins = longer (suc n) (take (suc n) l) refl (omega arith) h.within h.begins;
-      one_line = h.one_line;
-    })
+    by_rest (suc n) h = (
+      suc (suc n),
+      record {
+        within = (let k : suc n ≤ length l = h.within in omega (arith, k));
+        begins = longer (suc n) (take (suc n) l) refl (omega arith) h.within h.begins;
+        one_line = h.one_line;
+      },
+    )
 
--- the last line of the bytes up to a position, if a line begins there
+-- The last line of the bytes up to a position at which a line begins.
 line_there : (bytes : List ℕ) (line at : ℕ) → line < at → at ≤ length bytes → get_or bytes (at - 1) 0 ≡ newline → LastLineStarts (take (at - line) (drop line bytes)) (at - line)
 line_there bytes line at low high e =
     let l : List ℕ = drop line bytes in
@@ -53,10 +55,10 @@ line_there bytes line at low high e =
     let all : length (take (at - line) (drop line bytes)) ≡ at - line = length-take-le (at - line) (drop line bytes) (omega (arith, long)) in
     let byte : get_or (drop line bytes) (at - line - 1) 0 ≡ newline = get_or-drop line bytes (at - line - 1) 0 ∙ ap (λ (n : ℕ). get_or bytes n 0) there ∙ e in
     let is : take (at - line) (drop line bytes) ≡ take (at - line - 1) (drop line bytes) ++ newline ∷ [] =
-        ap (λ (n : ℕ). take n (drop line bytes)) (sym next) ∙ take_more (drop line bytes) (at - line - 1) 0 long ∙ ap (λ (b : ℕ). take (at - line - 1) (drop line bytes) ++ b ∷ []) byte in
+    ap (λ (n : ℕ). take n (drop line bytes)) (sym next) ∙ take_more (drop line bytes) (at - line - 1) 0 long ∙ ap (λ (b : ℕ). take (at - line - 1) (drop line bytes) ++ b ∷ []) byte in
     record {
       within = omega (arith, all);
-      begins = subst IsLineStart (sym (take_all (at - line) (take (at - line) (drop line bytes)) (omega (arith, all))) ) (subst IsLineStart (sym is) (after_newline (take (at - line - 1) (drop line bytes))));
+      begins = subst IsLineStart (sym (take_all (at - line) (take (at - line) (drop line bytes)) (omega (arith, all)))) (subst IsLineStart (sym is) (after_newline (take (at - line - 1) (drop line bytes))));
       one_line = subst NoNewline (sym (none_left (at - line) (take (at - line) (drop line bytes)) (omega (arith, all)))) tt;
     }
   where
@@ -87,9 +89,9 @@ sign_alone_black {bytes = bytes} {at = at} r first e =
     some [] e = cc
     some (x ∷ l) e = omega arith
 
--- the bytes before a comment's end, and the end
+-- The bytes up to the end of a block comment are read.
 pub reach_close : {start : BulkState} {bytes : List ℕ} {line : ℕ} {kept : BulkState} {at : ℕ} {u : Bool} → ReadTo start bytes line kept at (block_state u) →
-    (end : ℕ) → ClosesAt bytes at end → Reached start bytes (record { base = end; known = false; begins = false; at = end })
+    (end : ℕ) → ClosesAt bytes at end → Reached start bytes (record { base = end; at_line_start = false; begins = false; at = end })
 reach_close {start = start} {bytes = bytes} {at = at} {u = u} r end c = by_line (last_line_of (take count (drop at bytes))).0 (last_line_of (take count (drop at bytes))).1
   where
     count : ℕ
@@ -116,56 +118,56 @@ reach_close {start = start} {bytes = bytes} {at = at} {u = u} r end c = by_line 
     free : NoStarPair (take count (drop at bytes))
     free = by_count count refl
 
-    closed : (l : ℕ) (s : BulkState) (b : Bool) → ReadTo start bytes l s (at + count) (inside_state b u) → Reached start bytes (record { base = end; known = false; begins = false; at = end })
+    closed : (l : ℕ) (s : BulkState) (b : Bool) → ReadTo start bytes l s (at + count) (inside_state b u) → Reached start bytes (record { base = end; at_line_start = false; begins = false; at = end })
     closed l s b x =
         let o : at + 2 ≤ end = c.order in
         let w : end ≤ length bytes = c.within in
         let out : ReadOutside start bytes l s (at + count + 2) u (at + count + 2) =
-            block_closed b u x (omega (arith, length-drop (at + count) bytes, there, w, o)) (sym (ap (λ (n : ℕ). take 2 (drop n bytes)) there ∙ c.pair)) in
-        record { line = l; kept = s; begins = u; read = subst (λ (n : ℕ). ReadOutside start bytes l s n u n) then_end out; known = λ e. cc }
+        block_closed b u x (omega (arith, length-drop (at + count) bytes, there, w, o)) (sym (ap (λ (n : ℕ). take 2 (drop n bytes)) there ∙ c.pair)) in
+        record { line = l; kept = s; begins = u; read = subst (λ (n : ℕ). ReadOutside start bytes l s n u n) then_end out; at_line_start = λ e. cc }
 
-    by_line : (n : ℕ) → LastLineStarts (take count (drop at bytes)) n → Reached start bytes (record { base = end; known = false; begins = false; at = end })
+    by_line : (n : ℕ) → LastLineStarts (take count (drop at bytes)) n → Reached start bytes (record { base = end; at_line_start = false; begins = false; at = end })
     by_line zero h = closed _ _ _ (block_same r count fits free h.one_line)
     by_line (suc n) h = closed _ _ _ (block_later r count fits free (suc n) h (omega arith))
 
 module _ {start : BulkState} {bytes : List ℕ} {p : Reach} (r : Reached start bytes p) where
-  -- a run of bytes outside comments
+  -- Bytes without a comment are read.
   pub reach_text : (k : ℕ) → k ≤ length (take (length bytes - p.at) (drop p.at bytes)) →
       ((u : Bool) → CodeLexeme u (take k (take (length bytes - p.at) (drop p.at bytes)))) →
-      Reached start bytes (record { base = p.base; known = p.known; begins = p.begins; at = p.at + k })
-  reach_text k h t = record { line = r.line; kept = r.kept; begins = r.begins; read = text_step_read r.read k h t; known = r.known }
+      Reached start bytes (record { base = p.base; at_line_start = p.at_line_start; begins = p.begins; at = p.at + k })
+  reach_text k h t = record { line = r.line; kept = r.kept; begins = r.begins; read = text_step_read r.read k h t; at_line_start = r.at_line_start }
 
-  -- plain text up to the next significant byte
+  -- Plain text is read, up to the next significant byte.
   pub reach_plain : (next : ℕ) → next ≡ p.at + position_or_len is_significant (drop p.at bytes) →
-      Reached start bytes (record { base = p.base; known = p.known; begins = p.begins; at = next })
-  reach_plain next e = record { line = r.line; kept = r.kept; begins = r.begins; read = plain_step_read r.read next e; known = r.known }
+      Reached start bytes (record { base = p.base; at_line_start = p.at_line_start; begins = p.begins; at = next })
+  reach_plain next e = record { line = r.line; kept = r.kept; begins = r.begins; read = plain_step_read r.read next e; at_line_start = r.at_line_start }
 
-  -- a `#` that belongs to no directive, and the plain bytes after it
+  -- A `#` that belongs to no directive is read, with plain bytes after it.
   pub reach_sign : take 1 (drop p.at bytes) ≡ number_sign ∷ [] → (k : ℕ) → k ≤ length (drop (p.at + 1) bytes) → NoSignificant (take k (drop (p.at + 1) bytes)) →
-      is_other_word (take k (drop (p.at + 1) bytes)) ≡ true → Reached start bytes (record { base = p.base; known = p.known; begins = p.begins; at = p.at + 1 + k })
-  reach_sign first k h none other = record { line = r.line; kept = r.kept; begins = r.begins; read = sign_step_read r.read first k h none (inl other); known = r.known }
+      is_other_word (take k (drop (p.at + 1) bytes)) ≡ true → Reached start bytes (record { base = p.base; at_line_start = p.at_line_start; begins = p.begins; at = p.at + 1 + k })
+  reach_sign first k h none other = record { line = r.line; kept = r.kept; begins = r.begins; read = sign_step_read r.read first k h none (inl other); at_line_start = r.at_line_start }
 
-  -- the `#` alone
+  -- Such a `#` is read alone.
   pub reach_sign_alone : take 1 (drop p.at bytes) ≡ number_sign ∷ [] → r.read.now_white ≡ false →
-      Reached start bytes (record { base = p.base; known = p.known; begins = p.begins; at = p.at + 1 })
-  reach_sign_alone first e = record { line = r.line; kept = r.kept; begins = r.begins; read = sign_alone_black r.read first e; known = r.known }
+      Reached start bytes (record { base = p.base; at_line_start = p.at_line_start; begins = p.begins; at = p.at + 1 })
+  reach_sign_alone first e = record { line = r.line; kept = r.kept; begins = r.begins; read = sign_alone_black r.read first e; at_line_start = r.at_line_start }
 
-  -- a splice on a logical line that isn't white
+  -- A splice is read, on a logical line that isn't white.
   pub reach_splice : r.read.now_white ≡ false → (k : ℕ) → k ≤ length (drop p.at bytes) → IsSplice (take k (drop p.at bytes)) →
-      Reached start bytes (record { base = p.at + k; known = true; begins = false; at = p.at + k })
+      Reached start bytes (record { base = p.at + k; at_line_start = true; begins = false; at = p.at + k })
   reach_splice e k h s = record {
     line = p.at + k;
     kept = code_state false;
     begins = false;
     read = read_base false (read_splice r.read.so_far (ap (λ (u : Bool). code_state u) e) k h s);
-    known = λ _. (refl, refl);
+    at_line_start = λ _. (refl, refl);
   }
 
-  -- a line comment with its newline
+  -- A line comment is read, with its newline.
   pub reach_comment : (k : ℕ) → 0 < k → k ≤ length (take (length bytes - p.at) (drop p.at bytes)) →
       ((u : Bool) → LineLexeme u (take k (take (length bytes - p.at) (drop p.at bytes)))) →
       get_or (take (length bytes - p.at) (drop p.at bytes)) (k - 1) 0 ≡ newline →
-      Reached start bytes (record { base = p.at + k; known = true; begins = true; at = p.at + k })
+      Reached start bytes (record { base = p.at + k; at_line_start = true; begins = true; at = p.at + k })
   reach_comment k z h t e =
       let now : Bool = r.read.now_white in
       let x : LineLexeme now (take k (drop p.at bytes)) = subst (λ (l : List ℕ). LineLexeme r.read.now_white (take k l)) (take_rest bytes p.at) (t now) in
@@ -176,22 +178,22 @@ module _ {start : BulkState} {bytes : List ℕ} {p : Reach} (r : Reached start b
       let c : r.line ≡ length r.read.so_far.prefix = r.read.so_far.line_is in
       let there : p.at + (k - 1) ≡ p.at + k - 1 = omega (arith, z) in
       let byte : get_or bytes (p.at + k - 1) 0 ≡ newline =
-          ap (λ (n : ℕ). get_or bytes n 0) (sym there) ∙ sym (get_or-drop p.at bytes (k - 1) 0) ∙ ap (λ (l : List ℕ). get_or l (k - 1) 0) (sym (take_rest bytes p.at)) ∙ e in
+      ap (λ (n : ℕ). get_or bytes n 0) (sym there) ∙ sym (get_or-drop p.at bytes (k - 1) 0) ∙ ap (λ (l : List ℕ). get_or l (k - 1) 0) (sym (take_rest bytes p.at)) ∙ e in
       let low : r.line < p.at + k = omega (arith, b, c, z) in
       let same : r.line + (p.at + k - r.line) ≡ p.at + k = omega (arith, low) in
       let there : ReadTo start bytes (r.line + (p.at + k - r.line)) (code_state true) (p.at + k) (code_state true) =
-          settled on (p.at + k - r.line) (line_there bytes r.line (p.at + k) low (omega (arith, fits, length-drop p.at bytes, z)) byte) (omega (arith, low)) in
+      settled on (p.at + k - r.line) (line_there bytes r.line (p.at + k) low (omega (arith, fits, length-drop p.at bytes, z)) byte) (omega (arith, low)) in
       record {
         line = p.at + k;
         kept = code_state true;
         begins = true;
         read = read_base true (subst (λ (n : ℕ). ReadTo start bytes n (code_state true) (p.at + k) (code_state true)) same there);
-        known = λ _. (refl, refl);
+        at_line_start = λ _. (refl, refl);
       }
 
-  -- a block comment
+  -- A block comment is read.
   pub reach_block : 2 ≤ length (drop p.at bytes) → take 2 (drop p.at bytes) ≡ slash ∷ star ∷ [] → (end : ℕ) → ClosesAt bytes (p.at + 2) end →
-      Reached start bytes (record { base = end; known = false; begins = false; at = end })
+      Reached start bytes (record { base = end; at_line_start = false; begins = false; at = end })
   reach_block h e end c = reach_close (block_opened r.read.now_white r.read.so_far h (sym e)) end c
 
   turned : (l : List ℕ) (a v : Bool) → IsWhiteAfter l a v → v ≡ false → (a ≡ false → r.begins ≡ false) → IsWhiteAfter l r.begins false
@@ -199,11 +201,11 @@ module _ {start : BulkState} {bytes : List ℕ} {p : Reach} (r : Reached start b
   turned l a _ (new_line x y i w) e f = cc
   turned l a _ (black x b y i k m w) e f = black x b y i k m w
 
-  -- looking back finds that the logical line isn't white
+  -- Looking back finds that the logical line isn't white.
   pub reach_black : (a v : Bool) → IsWhiteAfter (take (p.at - p.base) (drop p.base bytes)) a v → v ≡ false → (a ≡ false → r.begins ≡ false) → r.read.now_white ≡ false
   reach_black a v h e f = looked r.read false (turned (take (p.at - p.base) (drop p.base bytes)) a v h e f)
 
-  -- a line begins after the base
+  -- A line that begins after the base: the lines before it are skipped.
   pub reach_line : (n : ℕ) → LastLineStarts (take (p.at - p.base) (drop p.base bytes)) n → 0 < n → Skipped start (take (p.base + n) bytes) (code_state true)
   reach_line n h z =
       let l : LastLineStarts r.read.plain n = subst (λ (x : List ℕ). LastLineStarts x n) (plain_of r.read) h in
@@ -213,27 +215,27 @@ module _ {start : BulkState} {bytes : List ℕ} {p : Reach} (r : Reached start b
       let w : n ≤ length r.read.plain = l.within in
       let there : r.line + (length r.read.before + n) ≡ p.base + n = omega (arith, a, b) in
       let begun : ReadTo start bytes (r.line + (length r.read.before + n)) (code_state true) p.at (code_state r.read.now_white) =
-          settled_at r.read.so_far (length r.read.before + n) (r.read.before ++ take n r.read.plain)
-          (begins_after r.read.before n r.read.plain (take n r.read.plain) refl w z l.begins)
-          (sym (ap (λ (x : List ℕ). take (length r.read.before + n) x) r.read.mid_is ∙ take_past r.read.before r.read.plain n)) (omega (arith, m, w)) (omega (arith, z)) in
+      settled_at r.read.so_far (length r.read.before + n) (r.read.before ++ take n r.read.plain)
+      (begins_after r.read.before n r.read.plain (take n r.read.plain) refl w z l.begins)
+      (sym (ap (λ (x : List ℕ). take (length r.read.before + n) x) r.read.mid_is ∙ take_past r.read.before r.read.plain n)) (omega (arith, m, w)) (omega (arith, z)) in
       subst (λ (k : ℕ). Skipped start (take k bytes) (code_state true)) there (passed_of begun)
 
-  -- a line begins at the base
-  pub reach_base : p.known ≡ true → Skipped start (take p.base bytes) (code_state p.begins)
+  -- A line that begins at the base: the lines before it are skipped.
+  pub reach_base : p.at_line_start ≡ true → Skipped start (take p.base bytes) (code_state p.begins)
   reach_base e =
-      let at_base : r.line ≡ p.base = (r.known e).0 in
+      let at_base : r.line ≡ p.base = (r.at_line_start e).0 in
       let a : r.line ≡ length r.read.so_far.prefix = r.read.so_far.line_is in
       let b : p.base ≡ length r.read.so_far.prefix + length r.read.before = r.read.base_is in
       let nothing : r.read.before ≡ [] = is_none r.read.before (omega (arith, a, b, at_base)) in
-      let is : r.kept ≡ code_state p.begins = ap (λ (l : List ℕ). bulk_state_after r.kept l) (sym nothing) ∙ r.read.base_leads ∙ ap (λ (u : Bool). code_state u) (r.known e).1 in
+      let is : r.kept ≡ code_state p.begins = ap (λ (l : List ℕ). bulk_state_after r.kept l) (sym nothing) ∙ r.read.base_leads ∙ ap (λ (u : Bool). code_state u) (r.at_line_start e).1 in
       subst (λ (s : BulkState). Skipped start (take p.base bytes) s) is (subst (λ (n : ℕ). Skipped start (take n bytes) r.kept) at_base (passed_of r.read.so_far))
 
--- nothing is read yet
+-- Nothing is read yet.
 pub reach_start : (bytes : List ℕ) (w : LexState) (white : Bool) → w ≡ in_text →
-    Reached (line_state w white) bytes (record { base = 0; known = true; begins = white; at = 0 })
-reach_start bytes w white e = record { line = 0; kept = line_state w white; begins = white; read = start_read bytes w white e; known = λ _. (refl, refl) }
+    Reached (line_state w white) bytes (record { base = 0; at_line_start = true; begins = white; at = 0 })
+reach_start bytes w white e = record { line = 0; kept = line_state w white; begins = white; read = start_read bytes w white e; at_line_start = λ _. (refl, refl) }
 
--- the pairs before the next significant byte are none
+-- No star pair ends before the next significant byte.
 pub none_on : (bytes : List ℕ) (at from end : ℕ) → end ≡ from + position_or_len is_significant (drop from bytes) →
     ((k : ℕ) → at ≤ k → k + 1 < from → is_star_pair (get_or bytes k 0) (get_or bytes (k + 1) 0) ≡ false) →
     (k : ℕ) → at ≤ k → k + 1 < end → is_star_pair (get_or bytes k 0) (get_or bytes (k + 1) 0) ≡ false
@@ -242,8 +244,8 @@ none_on bytes at from end e h k low high = elim (cases_lt (k + 1) from) [
   | inr i ↦
       let there : from + (k + 1 - from) ≡ k + 1 = omega (arith, i) in
       let plain : is_significant (get_or bytes (k + 1) 0) ≡ false =
-          ap (λ (n : ℕ). is_significant (get_or bytes n 0)) (sym there) ∙ ap is_significant (sym (get_or-drop from bytes (k + 1 - from) 0))
-          ∙ fails_before_first is_significant (drop from bytes) (k + 1 - from) 0 (omega (arith, e, high, i)) in
+      ap (λ (n : ℕ). is_significant (get_or bytes n 0)) (sym there) ∙ ap is_significant (sym (get_or-drop from bytes (k + 1 - from) 0))
+      ∙ fails_before_first is_significant (drop from bytes) (k + 1 - from) 0 (omega (arith, e, high, i)) in
       by_tests (get_or bytes k 0 == star) (get_or bytes (k + 1) 0 == slash) (get_or bytes (k + 1) 0 == backslash) (not_special (get_or bytes (k + 1) 0) plain).0 (not_special (get_or bytes (k + 1) 0) plain).2
 ]
   where
@@ -253,7 +255,7 @@ none_on bytes at from end e h k low high = elim (cases_lt (k + 1) from) [
     by_tests true true q e f = cc
     by_tests true false true e f = cc
 
--- the pairs up to a significant byte are none, if it ends none
+-- No star pair ends up to a significant byte, if none ends with it.
 pub none_past : (bytes : List ℕ) (at end : ℕ) → ((k : ℕ) → at ≤ k → k + 1 < end → is_star_pair (get_or bytes k 0) (get_or bytes (k + 1) 0) ≡ false) →
     (at < end → is_star_pair (get_or bytes (end - 1) 0) (get_or bytes end 0) ≡ false) →
     (k : ℕ) → at ≤ k → k + 1 < end + 1 → is_star_pair (get_or bytes k 0) (get_or bytes (k + 1) 0) ≡ false
@@ -265,7 +267,7 @@ none_past bytes at end h f k low high = elim (cases_lt (k + 1) end) [
       ap (λ (n : ℕ). is_star_pair (get_or bytes n 0) (get_or bytes (k + 1) 0)) (sym last) ∙ ap (λ (n : ℕ). is_star_pair (get_or bytes (end - 1) 0) (get_or bytes n 0)) (sym next) ∙ f (omega (arith, i, low, high))
 ]
 
--- a star pair that ends with a slash closes a comment
+-- A star pair that ends with a slash closes a comment.
 pub closes : (bytes : List ℕ) (at end : ℕ) → at < end → end < length bytes → ((k : ℕ) → at ≤ k → k + 1 < end → is_star_pair (get_or bytes k 0) (get_or bytes (k + 1) 0) ≡ false) →
     is_star_pair (get_or bytes (end - 1) 0) (get_or bytes end 0) ≡ true → get_or bytes end 0 ≡ slash → ClosesAt bytes at (end + 1)
 closes bytes at end low high h f e = record {
@@ -278,7 +280,7 @@ closes bytes at end low high h f e = record {
       ∙ two_at bytes (end - 1) star slash (omega (arith, low, high)) (pair_is (get_or bytes (end - 1) 0) (get_or bytes end 0) f) (ap (λ (n : ℕ). get_or bytes n 0) next ∙ e));
 }
 
--- bytes that begin with two bytes
+-- Bytes that begin with two bytes are at least two.
 pub two_long : (l : List ℕ) (a b : ℕ) → take 2 l ≡ a ∷ b ∷ [] → 2 ≤ length l
 two_long [] a b e = cc
 two_long (x ∷ []) a b e = cc

@@ -1,7 +1,7 @@
 -- Text: a line that is read without a stop shows no `#` that belongs to a directive.
 use Rattle.std.proofs.Common.{◌≡◌, ℕ, ◌==◌, List, [], ◌∷◌, ◌++◌, Bool, true, false, not, ◌&&◌, ◌||◌, if◌then◌else◌, refl, sym, ◌∙◌, ap, ap₂, subst, ne_eqb, Option, Some, None, bytes_eq}
 use Rattle.std.specs.List.{list_any}
-use Rattle.std.proofs.lemmas.Bool.{eqb-true, not-true}
+use Rattle.std.proofs.lemmas.Bool.{eqb-true}
 use Rattle.std.proofs.Math.Bool.{and-false}
 use Rattle.ud_model.specs.text.Bytes.{is_white, is_quote, is_word_byte, are_word_bytes, skip_white, leading_word, slash, number_sign, newline, space, carriage_return, star}
 use Rattle.ud_model.specs.text.Lines.{NoNewline}

@@ -1,9 +1,9 @@
 -- Counting: the newlines of many bytes, by the lanes of vectors.
-use Rattle.std.proofs.Common.{◌≡◌, ℕ, suc, ◌+◌, ◌<◌, ◌≤◌, ◌-◌, ◌^◌, ◌*◌, Bool, true, false, eqb, cond, List, [], ◌∷◌, map, length, take, drop, replicate, refl, sym, ◌∙◌, ap, ap₂, subst, arith, w8, w16}
+use Rattle.std.proofs.Common.{◌≡◌, ℕ, suc, ◌+◌, ◌<◌, ◌≤◌, ◌-◌, ◌^◌, Bool, true, false, eqb, cond, List, [], ◌∷◌, map, length, take, drop, replicate, refl, sym, ◌∙◌, ap, arith, w8}
 use Rattle.std.specs.List.{count_by}
 use Rattle.std.proofs.lemmas.List.Recursion.{is_count_by}
 use Rattle.std.proofs.lemmas.List.{take_rest}
-use Rattle.std.proofs.lemmas.Simd.{tops_compared, zip2_splat, sum-zip2, Each1-zip2, Each2-of, sum_bound, length-sel_l, length-replicate}
+use Rattle.std.proofs.lemmas.Simd.{tops_compared, zip2_splat, Each1-zip2, Each2-of}
 use lib.Lanes.{Each1, Each2, zip2, sum_l, sel_l, top}
 use mir.Val.{Fits, bits, hbits}
 use Rattle.ud_text.specs.lines.Consuming.{is_newline}

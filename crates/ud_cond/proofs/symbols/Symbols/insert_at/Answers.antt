@@ -4,6 +4,7 @@ use Rattle.ud_cond.specs.symbols.SymbolTable.{IsGapFor}
 use Rattle.ud_cond.specs.symbols.NameFilters.{slot_is_set}
 use Rattle.ud_cond.proofs.lemmas.symbols.SortedLemmas.{sorted-added}
 use Rattle.ud_cond.proofs.lemmas.symbols.FilterLemmas.{noted-kept, noted-added}
+use Rattle.ud_cond.proofs.lemmas.symbols.PathLemmas.{none_lead}
 use Rattle.ud_cond.proofs.symbols.Symbols.insert_at.Goals as goal
 
 pub invariant_of-self : goal.invariant_of-self
@@ -14,4 +15,5 @@ invariant_of-self c =
       sorted-added c.self.inside.rows.items c.args.i c.args.row (is_ok c.insert-added.result) c.self.invariant.0 gap,
       noted-added c.insert.new.self.words c.self.inside.rows.items c.args.i c.args.row (is_ok c.insert-added.result)
           (noted-kept c.self.inside.filter.words c.insert.new.self.words c.self.inside.rows.items c.insert.ensures.others_kept c.self.invariant.1) gap.within new,
+      none_lead _ _ c.clear.new.self.items c.clear.ensures.items,
     )

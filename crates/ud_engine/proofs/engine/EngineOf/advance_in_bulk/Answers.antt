@@ -1,4 +1,4 @@
-use Rattle.std.proofs.Common.{rules, refl, sym, ap, subst, ◌++◌, ◌+◌, drop, arith}
+use Rattle.std.proofs.Common.{rules, refl, sym, subst, ◌++◌, ◌+◌, arith}
 use Rattle.ud_engine.specs.Advancing.{Advances, IsCursor, slice_between}
 use Rattle.ud_engine.specs.Feeding.{EngineState, EngineRepresentsBuffered}
 use Rattle.ud_engine.specs.Sinks.{sink}

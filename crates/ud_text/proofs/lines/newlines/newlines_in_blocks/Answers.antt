@@ -1,5 +1,5 @@
 -- The newlines of the blocks so far, and of the next one.
-use Rattle.std.proofs.Common.{◌≡◌, ◌+◌, ◌*◌, ◌≤◌, ◌<◌, ◌^◌, List, ℕ, length, take, drop, refl, sym, ◌∙◌, ap, subst, w16, arith}
+use Rattle.std.proofs.Common.{◌≡◌, ◌+◌, ◌*◌, ◌≤◌, ◌<◌, ◌^◌, List, ℕ, take, drop, refl, sym, ◌∙◌, ap, subst, w16, arith}
 use Rattle.std.specs.List.{count_by}
 use Rattle.std.proofs.lemmas.List.Sums.{count_by-le-length}
 use Rattle.std.proofs.lemmas.Simd.{Each1-weaker, sum_fits, fold-sum}

@@ -1,0 +1,325 @@
+//! Skips many whole text lines with one search, that for the next significant byte.
+//!
+//! The end of a block comment is found by the same search, as a slash after a star. So a comment
+//! costs no search of its own, and no look back for its white space and its line. Only a stop on a
+//! line on which a comment ends needs what is left out. The result is then `None`, and `skip_again`
+//! of bulk.rt reads the bytes anew.
+//!
+//! A new kind of lexeme is a step here and one in bulk.rt.
+
+ghost use Rattle.std.specs.Prelude.{◌≡◌, ◌≤◌, ◌<◌, ◌+◌, ◌-◌, Bool, ℕ, [], ◌∷◌, length, take, drop};
+ghost use Rattle.std.specs.Prelude.{slice_index, true};
+ghost use Rattle.std.specs.Prelude.{false, IfSome};
+ghost use Rattle.ud_model.specs.text.Bytes.{slash, star, number_sign};
+ghost use Rattle.ud_text.specs.bulk.BulkStates.{BulkState, can_start};
+ghost use Rattle.ud_text.specs.bulk.Blocks.{IsBlock};
+ghost use Rattle.ud_text.specs.bulk.BulkLexemes.{is_star_pair, IsSplice};
+ghost use Rattle.ud_text.specs.bulk.Progress.{SkippedBy, ReadTo, bulk_state_of};
+ghost use Rattle.ud_text.specs.bulk.Reaching.{Reached, InReach, ClosesAt, GoesOn};
+ghost use Rattle.ud_text.specs.scan.LexerViews.{lex_state_of};
+
+use crate::bulk::LineStart;
+use crate::bulk::blocks::{Block, next_significant, no_block};
+use crate::bulk::hash_sign::{is_line_white_after, other_word_len};
+use crate::bulk::lexeme_lengths::{lexeme_len, line_comment_len, splice_len};
+use crate::scan::lexer::{LexState, Lexer};
+use crate::searching::{is_star_pair, last_line_start};
+
+/// A position that a skip has reached. The bytes before `at` are read, and `at` lies outside
+/// comments and literals.
+#[derive(Clone, Copy)]
+struct Reach {
+    /// A position from which on no comment begins.
+    base: usize,
+    /// A line begins at `base`. Otherwise a block comment ends there.
+    at_line_start: bool,
+    /// The logical line is white at `base`, if a line begins there.
+    begins: bool,
+    /// The position up to which the bytes are read.
+    at: usize,
+}
+
+/// Returns the last line that begins at or before `p.at`; `None` if a block comment ends on it.
+fn last_line(lines: &[u8], p: Reach) -> Option<LineStart>
+    requires order { InReach p lines.now }
+    ensures bound { IfSome result (λ line. line.at ≤ length lines.now) }
+    ensures read { (start : BulkState) → Reached start lines.now p →
+        IfSome result (λ line. SkippedBy start lines.now line) }
+{
+    let begin = last_line_start(&lines[p.base..p.at]);
+    if begin > 0 {
+        let lexer = Lexer {
+            state: LexState::Text,
+            white: true,
+        };
+        return Some(LineStart {
+            at: p.base + begin,
+            lexer,
+        });
+    }
+    if !p.at_line_start {
+        return None;
+    }
+    let lexer = Lexer {
+        state: LexState::Text,
+        white: p.begins,
+    };
+    Some(LineStart { at: p.base, lexer })
+}
+
+/// Returns whether a star pair that begins at or after `at` ends with the byte at `end`.
+#[inline(always)]
+fn ends_pair(lines: &[u8], at: usize, end: usize) -> bool
+    requires order { at ≤ end }
+    requires within { end < length lines.now }
+    ensures none { result ≡ false → at < end →
+        is_star_pair (slice_index lines.now (end - 1)) (slice_index lines.now end) ≡ false }
+    ensures later { result ≡ true → at < end }
+    ensures found { result ≡ true →
+        is_star_pair (slice_index lines.now (end - 1)) (slice_index lines.now end) ≡ true }
+{
+    if end == at {
+        return false;
+    }
+    is_star_pair(lines[end - 1], lines[end])
+}
+
+/// Returns the end of the block comment in which `at` lies, and its block. `row` is the block found
+/// before.
+///
+/// There is no end if `lines` doesn't close the comment, or if a splice may stand between its star
+/// and its slash.
+#[inline(always)]
+fn block_end(lines: &[u8], row: Block, at: usize) -> (Option<usize>, Block)
+    requires within { at ≤ length lines.now }
+    requires row { IsBlock row lines.now }
+    ensures row { IsBlock result.1 lines.now }
+    ensures closes { IfSome result.0 (λ end. ClosesAt lines.now at end) }
+{
+    let (mut end, mut row) = next_significant(lines, row, at);
+    while end < lines.len() {
+        if ends_pair(lines, at, end) {
+            if lines[end] == b'/' {
+                return (Some(end + 1), row);
+            }
+            return (None, row);
+        }
+        let (further, later) = next_significant(lines, row, end + 1);
+        end = further;
+        row = later;
+    }
+    (None, row)
+}
+
+/// Returns whether the logical line may be white before `p.at`. It isn't known of a line on which a
+/// comment ends.
+#[inline(always)]
+fn may_be_white(lines: &[u8], p: Reach) -> bool
+    requires order { InReach p lines.now }
+    ensures black { (start : BulkState) → (r : Reached start lines.now p) → result ≡ false →
+        r.read.now_white ≡ false }
+{
+    let before = &lines[p.base..p.at];
+    if p.at_line_start {
+        return is_line_white_after(before, p.begins);
+    }
+    is_line_white_after(before, true)
+}
+
+/// Skips a line comment with its newline.
+#[inline(always)]
+fn comment_step(lines: &[u8], p: Reach) -> Option<Reach>
+    requires order { InReach p lines.now }
+    requires some { 2 ≤ length (drop p.at lines.now) }
+    requires first { take 2 (drop p.at lines.now) ≡ slash ∷ slash ∷ [] }
+    ensures further { IfSome result (λ q. InReach q lines.now × (p.at < q.at)) }
+    ensures read { GoesOn lines.now p result }
+{
+    let Some(count) = line_comment_len(&lines[p.at..]) else {
+        return None;
+    };
+    let at = p.at + count;
+    Some(Reach {
+        base: at,
+        at_line_start: true,
+        begins: true,
+        at,
+    })
+}
+
+/// Skips a `#` that belongs to no directive, as `hash_step` of bulk.rt does.
+#[inline(always)]
+fn hash_step(lines: &[u8], p: Reach) -> Option<Reach>
+    requires order { InReach p lines.now }
+    requires some { 1 ≤ length (drop p.at lines.now) }
+    requires first { take 1 (drop p.at lines.now) ≡ number_sign ∷ [] }
+    ensures further { IfSome result (λ q. InReach q lines.now × (p.at < q.at)) }
+    ensures read { GoesOn lines.now p result }
+{
+    let after = p.at + 1;
+    if let Some(count) = other_word_len(&lines[after..]) {
+        let at = after + count;
+        return Some(Reach { at, ..p });
+    }
+    if may_be_white(lines, p) {
+        return None;
+    }
+    Some(Reach { at: after, ..p })
+}
+
+/// Skips a splice of `count` bytes on a logical line that isn't white.
+#[inline(always)]
+fn splice_step(lines: &[u8], p: Reach, count: usize) -> Option<Reach>
+    requires order { InReach p lines.now }
+    requires some { (0 < count) × (count ≤ length (drop p.at lines.now)) }
+    requires splice { IsSplice (take count (drop p.at lines.now)) }
+    ensures further { IfSome result (λ q. InReach q lines.now × (p.at < q.at)) }
+    ensures read { GoesOn lines.now p result }
+{
+    if may_be_white(lines, p) {
+        return None;
+    }
+    let at = p.at + count;
+    Some(Reach {
+        base: at,
+        at_line_start: true,
+        begins: false,
+        at,
+    })
+}
+
+/// Skips what a slash, a backslash or a quote begins.
+#[inline(always)]
+fn text_step(lines: &[u8], p: Reach) -> Option<Reach>
+    requires order { InReach p lines.now }
+    requires some { p.at < length lines.now }
+    ensures further { IfSome result (λ q. InReach q lines.now × (p.at < q.at)) }
+    ensures read { GoesOn lines.now p result }
+{
+    let Some(count) = lexeme_len(&lines[p.at..]) else {
+        return None;
+    };
+    Some(Reach {
+        at: p.at + count,
+        ..p
+    })
+}
+
+/// Skips what a significant byte begins, but for a block comment.
+#[inline(always)]
+fn code_step(lines: &[u8], p: Reach) -> Option<Reach>
+    requires order { InReach p lines.now }
+    requires some { p.at < length lines.now }
+    ensures further { IfSome result (λ q. InReach q lines.now × (p.at < q.at)) }
+    ensures read { GoesOn lines.now p result }
+{
+    let rest = &lines[p.at..];
+    if rest.starts_with(b"#") {
+        hash_step(lines, p)
+    } else if rest.starts_with(b"//") {
+        comment_step(lines, p)
+    } else if let Some(count) = splice_len(rest) {
+        splice_step(lines, p, count)
+    } else {
+        text_step(lines, p)
+    }
+}
+
+/// Skips a block comment, as far as `block_end` finds its end.
+#[inline(always)]
+fn block_step(lines: &[u8], row: Block, p: Reach) -> (Option<Reach>, Block)
+    requires order { InReach p lines.now }
+    requires row { IsBlock row lines.now }
+    requires some { 2 ≤ length (drop p.at lines.now) }
+    requires first { take 2 (drop p.at lines.now) ≡ slash ∷ star ∷ [] }
+    ensures row { IsBlock result.1 lines.now }
+    ensures further { IfSome result.0 (λ q. InReach q lines.now × (p.at < q.at)) }
+    ensures read { GoesOn lines.now p result.0 }
+{
+    let (end, last) = block_end(lines, row, p.at + 2);
+    let Some(end) = end else {
+        return (None, last);
+    };
+    let next = Reach {
+        base: end,
+        at_line_start: false,
+        begins: false,
+        at: end,
+    };
+    (Some(next), last)
+}
+
+/// Skips what a significant byte begins.
+#[inline(always)]
+fn step(lines: &[u8], row: Block, p: Reach) -> (Option<Reach>, Block)
+    requires order { InReach p lines.now }
+    requires row { IsBlock row lines.now }
+    requires some { p.at < length lines.now }
+    ensures row { IsBlock result.1 lines.now }
+    ensures further { IfSome result.0 (λ q. InReach q lines.now × (p.at < q.at)) }
+    ensures read { GoesOn lines.now p result.0 }
+{
+    let rest = &lines[p.at..];
+    if rest.starts_with(b"/*") {
+        block_step(lines, row, p)
+    } else {
+        (code_step(lines, p), row)
+    }
+}
+
+/// Skips text lines from `begun` on. Returns the beginning of the line at which the skip stops.
+fn skip_text_from(lines: &[u8], row: Block, begun: Reach) -> Option<LineStart>
+    requires order { InReach begun lines.now }
+    requires row { IsBlock row lines.now }
+    ensures bound { IfSome result (λ line. line.at ≤ length lines.now) }
+    ensures skipped { (start : BulkState) → Reached start lines.now begun →
+        IfSome result (λ line. SkippedBy start lines.now line) }
+{
+    let (at, first) = next_significant(lines, row, begun.at);
+    let mut row = first;
+    let mut p = Reach { at, ..begun };
+    while p.at < lines.len() {
+        let (next, last) = step(lines, row, p);
+        let Some(next) = next else {
+            return last_line(lines, p);
+        };
+        let (at, found) = next_significant(lines, last, next.at);
+        row = found;
+        p = Reach { at, ..next };
+    }
+    last_line(lines, p)
+}
+
+/// Skips text lines, the first of which begins where `lexer` is. Returns the beginning of the first
+/// line that isn't skipped; `None` if that isn't known.
+pub(crate) fn skip_text_lines(lexer: Lexer, lines: &[u8]) -> Option<LineStart>
+    requires starts { can_start (lex_state_of lexer.state) ≡ true }
+    ensures bound { IfSome result (λ line. line.at ≤ length lines.now) }
+    ensures skipped { IfSome result (λ line. SkippedBy (bulk_state_of lexer) lines.now line) }
+{
+    match lexer.state {
+        LexState::Text => {
+            let begun = Reach {
+                base: 0,
+                at_line_start: true,
+                begins: lexer.white,
+                at: 0,
+            };
+            skip_text_from(lines, no_block(lines), begun)
+        }
+        LexState::Block => {
+            let (end, row) = block_end(lines, no_block(lines), 0);
+            let Some(end) = end else {
+                return None;
+            };
+            let begun = Reach {
+                base: end,
+                at_line_start: false,
+                begins: false,
+                at: end,
+            };
+            skip_text_from(lines, row, begun)
+        }
+        _ => None,
+    }
+}
