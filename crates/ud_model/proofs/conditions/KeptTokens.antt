@@ -1,4 +1,4 @@
--- Kept tokens: the flags choose the tokens of what is left.
+-- Kept tokens: the flags choose the tokens of the residual.
 use Rattle.std.proofs.Common.{◌≡◌, Bool, true, false, not, ◌&&◌, if◌then◌else◌, List, [], ◌∷◌, ◌++◌, map, refl, sym, ◌∙◌, ap, ap₂}
 use Rattle.ud_model.specs.conditions.Table.{Argument}
 use Rattle.ud_model.specs.conditions.Tokens.{operator, opening, closing}
@@ -10,7 +10,7 @@ use Rattle.ud_model.specs.declared.cond.Cond.{Cond}
 use Rattle.ud_model.specs.declared.operator.Operator.{Operator}
 use Rattle.ud_model.specs.declared.operator.Operator.TheVariants.{Or, And, Not}
 
--- As many flags as members.
+-- There are as many flags as members.
 abbrev SameLength : {A B : Type 0} → List A → List B → Type 0
 SameLength [] [] = Unit {0}
 SameLength (x ∷ xs) (y ∷ ys) = SameLength xs ys
@@ -46,7 +46,7 @@ to_nil : {A : Type 0} (xs : List A) → xs ++ [] ≡ xs
 to_nil [] = refl
 to_nil (x ∷ xs) = ap (λ zs. x ∷ zs) (to_nil xs)
 
--- The flags of a tree are as many as its tokens, and choose those of what is left.
+-- The flags of a tree are as many as its tokens, and choose the tokens of the residual.
 record Chooses (flags : List Bool) (e : Expression) (left : Expression) : Type 0 where
   long : SameLength flags (spelling e)
   are : chosen flags (spelling e) ≡ spelling left

@@ -1,5 +1,5 @@
--- Residual shape: what is left of an expression has only operands that are undecided, and nothing
--- more of it can go.
+-- Residual shape: the residual of an expression has only undecided operands, and is its own
+-- residual.
 use Rattle.std.proofs.Common.{◌≡◌, ℕ, ◌+◌, ◌≤◌, Bool, true, false, ◌&&◌, if◌then◌else◌, List, [], ◌∷◌, ◌++◌, refl, sym, ◌∙◌, ap, ap₂, arith}
 use Rattle.ud_model.specs.conditions.Table.{Argument}
 use Rattle.ud_model.specs.conditions.Tokens.{operator, opening, closing}
@@ -36,7 +36,7 @@ of_right : {A : Type 0} {xs zs : List A} (ys : List A) → IsSublist xs zs → I
 of_right [] p = p
 of_right (y ∷ ys) p = without (of_right ys p)
 
--- 2. Only tokens go, in place.
+-- 2. Tokens are only removed.
 
 module _ (b d : Bool) (o : Operator) (c : Cond) (x y : Residual) (e f : Expression) (p : IsSublist (spelling x.tree) (spelling e)) (q : IsSublist (spelling y.tree) (spelling f)) where
   joined_spelling : IsSublist (spelling (if b then record y { lost = true } else if d then record x { lost = true } else record { cond = c; tree = binary o x.tree y.tree; lost = false }).tree)
@@ -105,7 +105,7 @@ enclosed_precedence true x k e p = any_precedence x.tree 1 k (and_true x.lost (s
 enclosed_precedence false x k e p = p
 
 module _ (table : List Argument) (rules : Rules) where
-  -- What is left is nested by precedence as the expression is.
+  -- The residual is nested by precedence, like the expression.
   pub precedence_stays : (e : Expression) (k : ℕ) → HasPrecedence k e → HasPrecedence k (left table rules e).tree
   precedence_stays (unary Not a) k h = (h.0, precedence_stays a 10 h.1)
   precedence_stays (binary And a b) k h =
@@ -123,7 +123,7 @@ module _ (table : List Argument) (rules : Rules) where
 
 -- 4. A second time nothing more goes.
 
--- What is left again of what is left.
+-- The residual of a residual.
 abbrev settled_down : Residual → Residual
 settled_down x = record { cond = x.cond; tree = x.tree; lost = false }
 
@@ -181,7 +181,7 @@ module _ (table : List Argument) (rules : Rules) where
   unknown_by x e true false p q h = h
   unknown_by x e false c p q h = h
 
-  -- What is left of an unknown condition is unknown.
+  -- The simplified form of an unknown condition is unknown.
   pub simplified_unknown : (e : Expression) → tree_cond e table rules ≡ Unknown → tree_cond (simplified table rules e) table rules ≡ Unknown
   simplified_unknown e h = unknown_by (residual table rules e) e (is_unknown (residual table rules e).cond) (is_unknown (tree_cond (residual table rules e).tree table rules)) refl refl h
 

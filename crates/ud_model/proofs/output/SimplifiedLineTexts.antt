@@ -52,7 +52,7 @@ module _ (table : List Argument) (rules : Rules) where
       ap₂ (λ (b f : List ℕ). record { body = b; ending = f; number = k.number })
       (sym (ap (λ (f : List ℕ). take (length (text_of k) - length f) (text_of k)) e ∙ cut_there k.body k.ending)) (sym e)
 
-  -- A line of a text, and what becomes of it.
+  -- A line of a text, and the line that it becomes.
   record Left (n : ℕ) (t : List ℕ) (k : Line) : Type 0 where
     pub is : k ≡ line_at n (text_of k)
     pub whole : IsWhole t → IsWhole (text_of k)

@@ -1,5 +1,5 @@
--- Simplified lines: each line of a simplified text is that of the text, or stands alone and has what
--- is left of its condition.
+-- Simplified lines: each line of a simplified text is that of the text, or stands alone and has the
+-- residual of its condition.
 use Rattle.std.proofs.Common.{◌≡◌, ◌≢◌, ℕ, ◌+◌, List, [], ◌∷◌, ◌++◌, length, map, drop, Bool, true, false, not, ◌&&◌, ◌||◌, Option, Some, None, if◌then◌else◌, bytes_eq, refl, sym, ◌∙◌, ap, ap₂, ◌⊎◌, inl, inr, arith, append_assoc, length-append}
 use Rattle.std.proofs.lemmas.List.{drop-map, drop_at}
 use Rattle.std.proofs.lemmas.Slice.Eq.{bytes_eq-Decides}
@@ -41,7 +41,7 @@ same_bytes xs ys e = (bytes_eq-Decides xs ys).0 e
 not_empty : (e : List ℕ) → is_empty e ≡ false → e ≢ []
 not_empty e h q = let p : is_empty e ≡ true = ap is_empty q in let r : true ≡ false = sym p ∙ h in cc
 
--- The same kind, which is `#if` or `#elif`.
+-- Both are `#if`, or both `#elif`.
 pub data SameIf : Kind → Kind → Type 0 where
   both_if : SameIf If If
   both_elif : SameIf Elif Elif
@@ -83,7 +83,7 @@ module _ (table : List Argument) (rules : Rules) where
     pub kind : SameIf d.kind now.kind
     pub after : now.after ≡ map shown (left_cells_of table rules l d)
 
-  -- What becomes of a line.
+  -- The line that a line becomes: itself, or the edited line.
   pub data Becomes (l : Line) (scan : Scan) : Line → Type 0 where
     it_stays : Becomes l scan l
     it_changes : (d : Directive) → IsEdited l scan d → Becomes l scan (left_line table rules l d)
@@ -178,7 +178,7 @@ module _ (table : List Argument) (rules : Rules) where
   spans true b e = cc
   spans false true e = cc
 
-  -- The edited line has what is left of the condition.
+  -- The edited line has the residual of the condition.
   pub line_simplified : (l k : Reading) (d : Directive) → IsEdited l.line l.scan d → l.scan ≡ scan_after [] C l.line →
       k.scan ≡ scan_after_run [] (left_line table rules l.line d) → LineSimplified table rules l k
   line_simplified l k d i e f =

@@ -1,4 +1,4 @@
--- Simplified readings: line for line, a simplified text is read as the text, with what is left of
+-- Simplified readings: line for line, a simplified text is read as the text, with the residuals of
 -- its conditions.
 use Rattle.std.proofs.Common.{◌≡◌, ◌≢◌, List, [], ◌∷◌, ◌++◌, map, Bool, true, false, ◌||◌, refl, sym, ◌∙◌, ap, subst, ◌⊎◌, inl, inr, append-nil}
 use Rattle.std.proofs.lemmas.List.{map-append, same_from_push}
@@ -72,7 +72,7 @@ module _ (o : Options) where
   abbrev Simplified : Reading → Reading → Type 0
   Simplified l k = LineSimplified o.table (rules_of o.settings) l k
 
-  -- The items have the same part in sections, and the condition is left or is what is left of it.
+  -- The items have the same part in sections, and the same condition or its residual.
   pub data ItemSimplified : Item Reading → Item Reading → Type 0 where
     a_text : {r : Reading} → ItemSimplified (text_line r) (text_line r)
     an_if : {p q : Opener Reading} → Simplified p.line q.line → ItemSimplified (if_line p) (if_line q)
