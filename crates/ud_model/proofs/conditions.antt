@@ -18,5 +18,6 @@ pub mod ResidualTruth
 pub mod ResidualShape
 pub mod KeptTokens
 pub mod ResidualRead
+pub mod ResidualAgain
 pub mod StayedChoices
 pub mod OneValue

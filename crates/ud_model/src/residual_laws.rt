@@ -70,7 +70,7 @@ pub fn law_residual_shape()
 
 /// A simplified text is read as the residual of its tree, or is the text itself.
 ///
-/// Cells are only removed, and none moves (C11 6.10.1).
+/// Cells are only removed, and none moves. A second time nothing is removed (C11 6.10.1).
 pub fn law_residual_text()
     ensures read { (table : List Argument) (rules : Rules) (e : Expression) (cells : List Cell) →
         expression_of (map shown cells) ≡ Some e → (f : Expression) ×
@@ -78,6 +78,9 @@ pub fn law_residual_text()
         ((f ≡ e) ⊎ (f ≡ (residual table rules e).tree)) }
     ensures cells { (table : List Argument) (rules : Rules) (cells : List Cell) →
         IsSublist (simplified_cells table rules cells) cells }
+    ensures again { (table : List Argument) (rules : Rules) (cells : List Cell) →
+        simplified_cells table rules (simplified_cells table rules cells) ≡
+        simplified_cells table rules cells }
 {}
 
 /// C selects the same lines of a tree and of the tree with simplified conditions.
@@ -104,6 +107,17 @@ pub fn law_other_lines_stay()
         (m : Mode) (l : Line) → scan_after before m l ≡ scan_after after m l }
     ensures alone { (before : List Reading) (l : Line) → StandsAlone before l →
         scan_after before Mode.C l ≡ scan_after [] Mode.C l }
+{}
+
+/// A simplified text has bytes of the text, in their order, and no others.
+///
+/// A second time nothing is removed.
+pub fn law_simplified_text()
+    ensures bytes { (table : List Argument) (rules : Rules) (bytes : List ℕ) →
+        IsSublist (simplified_text table rules bytes) bytes }
+    ensures again { (table : List Argument) (rules : Rules) (bytes : List ℕ) →
+        simplified_text table rules (simplified_text table rules bytes) ≡
+        simplified_text table rules bytes }
 {}
 
 /// A simplified text has the tree of the text, with simplified openers.

@@ -124,20 +124,35 @@ module _ (table : List Argument) (rules : Rules) where
       expression_only (map shown left) (rest_of e) (precedence_stays table rules e 1 w.0, tokens_of_are (map shown left) (spelling (rest_of e)) f)
 
   -- The simplified text is the text itself, or is read as the residual.
-  pub read_as : (e : Expression) (cells : List Cell) → expression_of (map shown cells) ≡ Some e →
-      (f : Expression) × (expression_of (map shown (simplified_cells table rules cells)) ≡ Some f) × ((f ≡ e) ⊎ (f ≡ rest_of e))
+  pub same_or_left : (e : Expression) (cells : List Cell) → expression_of (map shown cells) ≡ Some e →
+      (simplified_cells table rules cells ≡ cells) ⊎ (expression_of (map shown (simplified_cells table rules cells)) ≡ Some (rest_of e))
   unfolding simplified_cells
-  read_as e cells p = subst (λ o. (f : Expression) × (expression_of (map shown (simplified_by table rules o cells)) ≡ Some f) × ((f ≡ e) ⊎ (f ≡ rest_of e))) (sym p)
+  same_or_left e cells p = subst (λ o. (simplified_by table rules o cells ≡ cells) ⊎ (expression_of (map shown (simplified_by table rules o cells)) ≡ Some (rest_of e))) (sym p)
       (by (may_go table rules e cells && is_read table rules e (left_cells (keeps table rules e) cells)) refl)
     where
       by : (b : Bool) → (may_go table rules e cells && is_read table rules e (left_cells (keeps table rules e) cells)) ≡ b →
-          (f : Expression) × (expression_of (map shown (if b then left_cells (keeps table rules e) cells else cells)) ≡ Some f) × ((f ≡ e) ⊎ (f ≡ rest_of e))
-      by true q = (rest_of e, written_left e cells p (left_cells (keeps table rules e) cells) (right_true (may_go table rules e cells) (is_read table rules e (left_cells (keeps table rules e) cells)) q), inr refl)
-      by false q = (e, p, inl refl)
+          ((if b then left_cells (keeps table rules e) cells else cells) ≡ cells) ⊎ (expression_of (map shown (if b then left_cells (keeps table rules e) cells else cells)) ≡ Some (rest_of e))
+      by true q = inr (written_left e cells p (left_cells (keeps table rules e) cells) (right_true (may_go table rules e cells) (is_read table rules e (left_cells (keeps table rules e) cells)) q))
+      by false q = inl refl
+
+  -- A text without a tree stays.
+  pub untouched : (cells : List Cell) → expression_of (map shown cells) ≡ None → simplified_cells table rules cells ≡ cells
+  unfolding simplified_cells
+  untouched cells e = ap (λ o. simplified_by table rules o cells) e
+
+  -- The simplified text is read as the tree of the text, or as the residual.
+  pub read_as : (e : Expression) (cells : List Cell) → expression_of (map shown cells) ≡ Some e →
+      (f : Expression) × (expression_of (map shown (simplified_cells table rules cells)) ≡ Some f) × ((f ≡ e) ⊎ (f ≡ rest_of e))
+  read_as e cells p = by (same_or_left e cells p)
+    where
+      by : (simplified_cells table rules cells ≡ cells) ⊎ (expression_of (map shown (simplified_cells table rules cells)) ≡ Some (rest_of e)) →
+          (f : Expression) × (expression_of (map shown (simplified_cells table rules cells)) ≡ Some f) × ((f ≡ e) ⊎ (f ≡ rest_of e))
+      by (inl q) = (e, ap (λ (cs : List Cell). expression_of (map shown cs)) q ∙ p, inl refl)
+      by (inr q) = (rest_of e, q, inr refl)
 
 -- 3. Cells are only removed.
 
-of_parts : {A : Type 0} (n : ℕ) (xs : List A) {a b : List A} → IsSublist a (take n xs) → IsSublist b (drop n xs) → IsSublist (a ++ b) xs
+pub of_parts : {A : Type 0} (n : ℕ) (xs : List A) {a b : List A} → IsSublist a (take n xs) → IsSublist b (drop n xs) → IsSublist (a ++ b) xs
 of_parts zero xs nothing q = q
 of_parts (suc n) [] nothing q = q
 of_parts (suc n) (x ∷ xs) (without p) q = without (of_parts n xs p q)

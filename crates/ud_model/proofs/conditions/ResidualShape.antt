@@ -27,7 +27,7 @@ of_both nothing q = q
 of_both (without p) q = without (of_both p q)
 of_both (with_same p) q = with_same (of_both p q)
 
-of_left : {A : Type 0} {xs ys : List A} (zs : List A) → IsSublist xs ys → IsSublist xs (ys ++ zs)
+pub of_left : {A : Type 0} {xs ys : List A} (zs : List A) → IsSublist xs ys → IsSublist xs (ys ++ zs)
 of_left zs nothing = none_of_it zs
 of_left zs (without p) = without (of_left zs p)
 of_left zs (with_same p) = with_same (of_left zs p)

@@ -132,7 +132,8 @@ module _ (table : List Argument) (rules : Rules) where
       all_left (next {r = s} {rs = rs} g m) f.1 in
       ((l.whole f.0, q.0), ap₂ (λ (k : Line) (ks : List Line). k ∷ ks) l.is q.1)
 
-  read_back_by : {ls : List Line} → ByPush ls → map (λ (r : Reading). r.line) (read_in C ls) ≡ ls
+  -- The readings of lines are of these lines.
+  pub read_back_by : {ls : List Line} → ByPush ls → map (λ (r : Reading). r.line) (read_in C ls) ≡ ls
   read_back_by nothing_pushed = refl
   read_back_by (push {xs = ls} l p) =
       ap (λ (rs : List Reading). map (λ (r : Reading). r.line) rs) (read_more C ls l)

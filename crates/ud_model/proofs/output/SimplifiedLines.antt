@@ -15,7 +15,7 @@ use Rattle.ud_model.specs.conditions.Table.{Argument}
 use Rattle.ud_model.specs.conditions.Conditions.{Rules}
 use Rattle.ud_model.specs.conditions.Expressions.{Expression}
 use Rattle.ud_model.specs.conditions.Residuals.{residual}
-use Rattle.ud_model.specs.conditions.ResidualTexts.{simplified_cells, simplified_by}
+use Rattle.ud_model.specs.conditions.ResidualTexts.{simplified_cells}
 use Rattle.ud_model.specs.aids.Parsing.{expression_of}
 use Rattle.ud_model.specs.output.CSelection.{condition_in, condition_by, condition_after}
 use Rattle.ud_model.specs.output.SimplifiedTrees.{LineSimplified, condition_stays, operands_go}
@@ -25,7 +25,7 @@ use Rattle.ud_model.specs.declared.kind.Kind.TheVariants.{If, Ifdef, Ifndef, Eli
 use Rattle.ud_model.specs.declared.kind.Mode.TheVariants.{C}
 use Rattle.ud_model.proofs.text.ScanBytes.{masked-content_cells}
 use Rattle.ud_model.proofs.sections.SplitLines.{directive_is}
-use Rattle.ud_model.proofs.conditions.ResidualRead.{read_as}
+use Rattle.ud_model.proofs.conditions.ResidualRead.{read_as, untouched}
 
 both_true : (a b : Bool) → (a && b) ≡ true → (a ≡ true) × (b ≡ true)
 both_true true b e = (refl, e)
@@ -69,6 +69,10 @@ same_kind Elifdef j e = cc
 same_kind Elifndef j e = cc
 same_kind Else j e = cc
 same_kind Endif j e = cc
+
+pub option_is : {A : Type 0} (o : Option A) → (o ≡ None) ⊎ ((x : A) × (o ≡ Some x))
+option_is None = inl refl
+option_is (Some x) = inr (x, refl)
 
 module _ (table : List Argument) (rules : Rules) where
   -- The line `l` with this scan has the directive `d`, and was edited.
@@ -130,7 +134,7 @@ module _ (table : List Argument) (rules : Rules) where
   becomes r = becomes_by r.line r.scan (content_of r.scan) refl
 
   -- The text after a keyword, by its cells.
-  after_is : (l : Line) (scan : Scan) (d : Directive) → scan ≡ scan_after [] C l → content_of scan ≡ directive d → map shown (condition_cells l d) ≡ d.after
+  pub after_is : (l : Line) (scan : Scan) (d : Directive) → scan ≡ scan_after [] C l → content_of scan ≡ directive d → map shown (condition_cells l d) ≡ d.after
   after_is l scan d e h =
       let i : HasDirective scan d = (directive_is scan d).0 h in
       let front : List ℕ = i.parts.white ++ number_sign ∷ (i.parts.gap ++ i.parts.word) in
@@ -144,15 +148,7 @@ module _ (table : List Argument) (rules : Rules) where
       ∙ ap (λ (x : List ℕ). drop (keyword_end d) x) (sym (masked-content_cells [] l) ∙ ap (λ (s : Scan). s.masked) (sym e) ∙ split)
       ∙ drop_at front i.parts.rest (keyword_end d) (sym n) ∙ sym i.after
 
-  untouched : (cells : List Cell) → expression_of (map shown cells) ≡ None → simplified_cells table rules cells ≡ cells
-  unfolding simplified_cells
-  untouched cells e = ap (λ o. simplified_by table rules o cells) e
-
-  option_is : {A : Type 0} (o : Option A) → (o ≡ None) ⊎ ((x : A) × (o ≡ Some x))
-  option_is None = inl refl
-  option_is (Some x) = inr (x, refl)
-
-  -- The condition of an edited line is what is left, or the condition.
+  -- The condition of an edited line is the condition, or its residual.
   conditions : (l k : Reading) (cells : List Cell) → condition_in l ≡ expression_of (map shown cells) →
       condition_in k ≡ expression_of (map shown (simplified_cells table rules cells)) → LineSimplified table rules l k
   conditions l k cells p q = go (option_is (expression_of (map shown cells)))
@@ -163,7 +159,7 @@ module _ (table : List Argument) (rules : Rules) where
       by e i (f, j, inr s) = operands_go (p ∙ i) (q ∙ j ∙ ap (λ (x : Expression). Some x) s)
 
       go : (expression_of (map shown cells) ≡ None) ⊎ ((e : Expression) × (expression_of (map shown cells) ≡ Some e)) → LineSimplified table rules l k
-      go (inl n) = condition_stays (q ∙ ap (λ (x : List Cell). expression_of (map shown x)) (untouched cells n) ∙ sym p)
+      go (inl n) = condition_stays (q ∙ ap (λ (x : List Cell). expression_of (map shown x)) (untouched table rules cells n) ∙ sym p)
       go (inr (e, i)) = by e i (read_as table rules e cells i)
 
   shown_by : (scan : Scan) (d : Directive) (c : Content) → c ≡ directive d → scan.joins_after ≡ false → condition_by scan c ≡ condition_after d.kind d.after
