@@ -19,5 +19,6 @@ pub mod ResidualShape
 pub mod KeptTokens
 pub mod ResidualRead
 pub mod ResidualAgain
+pub mod ReducedTrees
 pub mod StayedChoices
 pub mod OneValue

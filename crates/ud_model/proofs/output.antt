@@ -68,4 +68,5 @@ pub mod SimplifiedTree
 pub mod SimplifiedLineTexts
 pub mod SimplifiedAgain
 pub mod SimplifiedBytes
+pub mod OperandsLeft
 pub mod SimplifiedAnswers

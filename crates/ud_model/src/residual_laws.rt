@@ -1,6 +1,7 @@
 //! Laws of residuals: conditions and texts without the operands that the table decides.
 
-ghost use Rattle.std.specs.Prelude.{◌≡◌, ◌↔◌, ◌⊎◌, ℕ, List, [], map, Some, false};
+ghost use Rattle.std.specs.Prelude.{◌≡◌, ◌↔◌, ◌⊎◌, ℕ, List, [], ◌∷◌, ◌++◌, map};
+ghost use Rattle.std.specs.Prelude.{Some, false};
 ghost use Rattle.ud_model.specs.text.Lines.{Line, lines_of};
 ghost use Rattle.ud_model.specs.text.Scans.{Reading};
 ghost use Rattle.ud_model.specs.text.Lexemes.{Cell, shown};
@@ -15,6 +16,7 @@ ghost use Rattle.ud_model.specs.conditions.Residuals.{residual, simplified, oper
 ghost use Rattle.ud_model.specs.conditions.ResidualTexts.{chosen, keeps, simplified_cells};
 ghost use Rattle.ud_model.specs.conditions.Sublists.{IsSublist};
 ghost use Rattle.ud_model.specs.conditions.Choices.{Choice, IsAllowed, HasValue, stay};
+ghost use Rattle.ud_model.specs.sections.Directives.{Directive, directive, content_of, test_of};
 ghost use Rattle.ud_model.specs.sections.Items.{Options, rules_of};
 ghost use Rattle.ud_model.specs.sections.Tree.{Nodes, closed};
 ghost use Rattle.ud_model.specs.output.Worlds.{World, openers, selected};
@@ -23,10 +25,12 @@ ghost use Rattle.ud_model.specs.output.CSelection.{IsCPair};
 ghost use Rattle.ud_model.specs.output.InsertedLines.{read_as};
 ghost use Rattle.ud_model.specs.output.SimplifiedTrees.{NodesSimplified, IsChosenWorld};
 ghost use Rattle.ud_model.specs.output.SimplifiedTexts.{simplified_line, simplified_text};
+ghost use Rattle.ud_model.specs.output.LeftOperands.{IsReduced, MayStay};
 ghost use Rattle.ud_model.specs.answer.CommandLine.{options_of};
 ghost use Rattle.ud_model.specs.answer.Answer.{Answer, Succeeds};
 ghost use Rattle.ud_model.specs.declared.cond.Cond.{Cond};
 ghost use Rattle.ud_model.specs.declared.kind.Mode.{Mode};
+ghost use Rattle.ud_model.specs.declared.kind.Test.{Test};
 
 /// The residual of a condition is true exactly if the condition is.
 ///
@@ -118,6 +122,19 @@ pub fn law_simplified_text()
     ensures again { (table : List Argument) (rules : Rules) (bytes : List ℕ) →
         simplified_text table rules (simplified_text table rules bytes) ≡
         simplified_text table rules bytes }
+{}
+
+/// A simplified text keeps an operand that the table decides only for one of a few reasons.
+///
+/// Each `#if` and `#elif` of the text is reduced, or may stay as it is. In a reduced condition no
+/// operand can be removed. So each operand is unknown by itself, unless `&&` and `||` are strict.
+pub fn law_operands_left()
+    ensures { (table : List Argument) (rules : Rules) (bytes : List ℕ) (before after : List Reading)
+        (r : Reading) (d : Directive) →
+        read_as Mode.C (simplified_text table rules bytes) ≡ before ++ r ∷ after →
+        content_of r.scan ≡ directive d → test_of d.kind ≡ Test.Nonzero →
+        MayStay table rules r d ⊎ ((e : Expression) × (expression_of d.after ≡ Some e) ×
+        IsReduced table rules e) }
 {}
 
 /// A simplified text has the tree of the text, with simplified openers.

@@ -17,7 +17,7 @@ use Rattle.ud_model.proofs.conditions.ResidualRead.{same_or_left, untouched}
 -- 1. The flags of a residual.
 
 -- Each flag is true.
-abbrev AreTrue : List Bool → Type 0
+abbrev pub AreTrue : List Bool → Type 0
 AreTrue [] = Unit {0}
 AreTrue (f ∷ flags) = (f ≡ true) × AreTrue flags
 
@@ -65,10 +65,12 @@ module _ (table : List Argument) (rules : Rules) where
   abbrev rest_of : Expression → Expression
   rest_of e = (residual table rules e).tree
 
+  -- If an expression is its own residual, each of its tokens stays.
+  pub fixed_true : (e : Expression) → rest_of e ≡ e → AreTrue (keeps table rules e)
+  fixed_true e p = all_true (keeps table rules e) (spelling e) (choose table rules e).long (sym (kept_are table rules e) ∙ ap spelling p)
+
   flags_true : (e : Expression) → AreTrue (keeps table rules (rest_of e))
-  flags_true e =
-      all_true (keeps table rules (rest_of e)) (spelling (rest_of e)) (choose table rules (rest_of e)).long
-      (sym (kept_are table rules (rest_of e)) ∙ ap (λ x. spelling x.tree) (again table rules e))
+  flags_true e = fixed_true (rest_of e) (ap (λ x. x.tree) (again table rules e))
 
   -- The text of a residual stays.
   pub residual_stays : (e : Expression) (cells : List Cell) → expression_of (map shown cells) ≡ Some (rest_of e) → simplified_cells table rules cells ≡ cells

@@ -117,7 +117,7 @@ module _ (table : List Argument) (rules : Rules) where
   abbrev rest_of : Expression → Expression
   rest_of e = (residual table rules e).tree
 
-  written_left : (e : Expression) (cells : List Cell) → expression_of (map shown cells) ≡ Some e → (left : List Cell) → is_read table rules e left ≡ true → expression_of (map shown left) ≡ Some (rest_of e)
+  pub written_left : (e : Expression) (cells : List Cell) → expression_of (map shown cells) ≡ Some e → (left : List Cell) → is_read table rules e left ≡ true → expression_of (map shown left) ≡ Some (rest_of e)
   written_left e cells p left q =
       let w : IsWritten (map shown cells) e = expression_is (map shown cells) e p in
       let f : tokens_of (map shown left) ≡ Some (spelling (rest_of e)) = found_are (tokens_of (map shown left)) (spelling (rest_of e)) (right_true (not (begins_word left)) (are_tokens (tokens_of (map shown left)) (spelling (rest_of e))) q) in

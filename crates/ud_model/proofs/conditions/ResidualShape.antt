@@ -121,7 +121,7 @@ module _ (table : List Argument) (rules : Rules) where
   precedence_stays (unary o a) k h = h
   precedence_stays (binary o a b) k h = h
 
--- 4. A second time nothing more goes.
+-- 4. A second time nothing more is removed.
 
 -- The residual of a residual.
 abbrev settled_down : Residual → Residual
@@ -142,8 +142,13 @@ enclosed_again : (b : Bool) (x : Residual) (res : Expression → Residual) → (
 enclosed_again true x res r p = p
 enclosed_again false x res r p = r x.tree ∙ ap enclosed p
 
+pub unknown_is : (c : Cond) → is_unknown c ≡ true → c ≡ Unknown
+unknown_is Unknown e = refl
+unknown_is Yes e = cc
+unknown_is No e = cc
+
 module _ (table : List Argument) (rules : Rules) where
-  -- Nothing more goes.
+  -- Nothing more is removed.
   pub again : (e : Expression) → residual table rules (residual table rules e).tree ≡ settled_down (residual table rules e)
   again (unary Not a) = ap negated (again a)
   again (binary And a b) =
@@ -173,11 +178,6 @@ module _ (table : List Argument) (rules : Rules) where
   unknown_by : (x : Residual) (e : Expression) (b c : Bool) → is_unknown x.cond ≡ b → is_unknown (tree_cond x.tree table rules) ≡ c → tree_cond e table rules ≡ Unknown →
       tree_cond (if b && c then x.tree else e) table rules ≡ Unknown
   unknown_by x e true true p q h = unknown_is (tree_cond x.tree table rules) q
-    where
-      unknown_is : (c : Cond) → is_unknown c ≡ true → c ≡ Unknown
-      unknown_is Unknown f = refl
-      unknown_is Yes f = cc
-      unknown_is No f = cc
   unknown_by x e true false p q h = h
   unknown_by x e false c p q h = h
 

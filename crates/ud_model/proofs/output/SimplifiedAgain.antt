@@ -1,5 +1,5 @@
 -- Simplified again: a simplified text stays as it is.
-use Rattle.std.proofs.Common.{◌≡◌, ℕ, ◌-◌, List, [], ◌∷◌, ◌++◌, length, map, take, drop, Bool, true, false, Some, None, if◌then◌else◌, refl, sym, ◌∙◌, ap, ap₂, ◌⊎◌, inl, inr}
+use Rattle.std.proofs.Common.{◌≡◌, ℕ, ◌-◌, List, [], ◌∷◌, ◌++◌, length, map, take, drop, Bool, true, false, Some, None, if◌then◌else◌, refl, sym, ◌∙◌, ap, ap₂, subst, ◌⊎◌, inl, inr}
 use Rattle.std.specs.List.{concat}
 use Rattle.std.proofs.lemmas.List.{drop-map, take-append-drop}
 use Rattle.ud_model.specs.text.Lines.{Line, text_of}
@@ -23,19 +23,16 @@ use Rattle.ud_model.proofs.text.ScanBytes.{bytes-content_cells}
 use Rattle.ud_model.proofs.conditions.ResidualRead.{same_or_left, untouched}
 use Rattle.ud_model.proofs.conditions.ResidualAgain.{residual_stays}
 use Rattle.ud_model.proofs.output.Each.{Pairs, no_pair, pair}
-use Rattle.ud_model.proofs.output.SimplifiedLines.{option_is, after_is}
+use Rattle.ud_model.proofs.output.SimplifiedLines.{byte_of, option_is, after_is}
 use Rattle.ud_model.proofs.output.SimplifiedLineTexts.{lines_left}
 use Rattle.ud_model.proofs.output.SimplifiedReadings.{IsLeft, ReadingSimplified, reading_stays, reading_edited, alone_before, alone_after, readings_simplified}
 
 -- A line that doesn't join the next one has no splice.
-unspliced : (l : Line) → (scan_after_run [] l).joins_after ≡ false → is_spliced l ≡ false
+pub unspliced : (l : Line) → (scan_after_run [] l).joins_after ≡ false → is_spliced l ≡ false
 unspliced l h =
     alone_before (is_spliced l) (is_block (kind_at_end (spliced_text [] ++ spliced_part l))) (sym (joins_last [] l) ∙ sym (joins_after-code [] l) ∙ h)
 
 module _ (table : List Argument) (rules : Rules) where
-  abbrev byte_of : Cell → ℕ
-  byte_of c = c.byte
-
   -- A line of which all cells are left is the line.
   whole_line : (l : Line) (d : Directive) → is_spliced l ≡ false → simplified_cells table rules (condition_cells l d) ≡ condition_cells l d → left_line table rules l d ≡ l
   whole_line l d s e =
@@ -93,9 +90,14 @@ module _ (table : List Argument) (rules : Rules) where
   left_text r = text_of (simplified_line table rules r)
 
   -- A line of a simplified text is simplified as the line of the text.
-  line_again : (r s : Reading) → ReadingSimplified table rules r s → simplified_line table rules s ≡ simplified_line table rules r
-  line_again r s (reading_stays e q) = ap (simplified_line table rules) q
+  pub line_again : (r s : Reading) → ReadingSimplified table rules r s → simplified_line table rules s ≡ simplified_line table rules r
+  line_again r s (reading_stays e q h) = ap (simplified_line table rules) q
   line_again r s (reading_edited d i) = edited_again r s d i ∙ sym i.simplified
+
+  -- A line of a simplified text stays.
+  pub line_stays : (r s : Reading) → ReadingSimplified table rules r s → simplified_line table rules s ≡ s.line
+  line_stays r s (reading_stays e q h) = subst (λ (x : Reading). simplified_line table rules x ≡ x.line) (sym q) e
+  line_stays r s (reading_edited d i) = edited_again r s d i
 
   texts_again : {rs ss : List Reading} → Pairs (ReadingSimplified table rules) rs ss → map left_text ss ≡ map left_text rs
   texts_again no_pair = refl

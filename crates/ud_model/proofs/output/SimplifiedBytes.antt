@@ -19,11 +19,8 @@ use Rattle.ud_model.proofs.text.ScanBytes.{bytes-content_cells, content-prefix}
 use Rattle.ud_model.proofs.text.LinesLemmas.{lines_exist, map-lines_of}
 use Rattle.ud_model.proofs.conditions.ResidualShape.{all_of_it, none_of_it, of_both, of_left}
 use Rattle.ud_model.proofs.conditions.ResidualRead.{of_parts, cells_go}
-use Rattle.ud_model.proofs.output.SimplifiedLines.{Becomes, it_stays, it_changes, becomes}
+use Rattle.ud_model.proofs.output.SimplifiedLines.{byte_of, Becomes, it_stays, it_changes, becomes}
 use Rattle.ud_model.proofs.output.SimplifiedLineTexts.{read_back_by}
-
-abbrev byte_of : Cell → ℕ
-byte_of c = c.byte
 
 mapped : {xs ys : List Cell} → IsSublist xs ys → IsSublist (map byte_of xs) (map byte_of ys)
 mapped nothing = nothing

@@ -43,7 +43,7 @@ module _ (o : Options) where
       (by_kind r s d.kind e.kind (decision_on r.scan d o.table (rules_of o.settings)) (decision_on s.scan e o.table (rules_of o.settings)) i j))
 
   item_simplified : (r s : Reading) → ReadingSimplified o.table (rules_of o.settings) r s → ItemSimplified (item_of o r) (item_of o s)
-  item_simplified r s (reading_stays e q) = subst (λ (x : Reading). ItemSimplified (item_of o r) (item_of o x)) (sym q) (same_item (item_of o r))
+  item_simplified r s (reading_stays e q h) = subst (λ (x : Reading). ItemSimplified (item_of o r) (item_of o x)) (sym q) (same_item (item_of o r))
   item_simplified r s (reading_edited d i) =
       edited_item r s d i.edited.now i.edited.has (ap content_of i.after ∙ i.edited.has_now) i.edited.kind (line_simplified o.table (rules_of o.settings) r s d i.edited i.before i.after)
 

@@ -20,11 +20,8 @@ use Rattle.ud_model.proofs.text.Pushes.{ByPush, none as nothing_pushed, push, by
 use Rattle.ud_model.proofs.output.InsertedText.{read_more}
 use Rattle.ud_model.proofs.output.Formed.{IsEnd, whole_ending, ended, whole_body, no_feed_parts, no_feed_cut}
 use Rattle.ud_model.proofs.output.OutputPieces.{output_lines}
-use Rattle.ud_model.proofs.output.SimplifiedLines.{Becomes, it_stays, it_changes, becomes}
+use Rattle.ud_model.proofs.output.SimplifiedLines.{byte_of, Becomes, it_stays, it_changes, becomes}
 use Rattle.ud_model.proofs.conditions.ResidualRead.{cells_go}
-
-abbrev byte_of : Cell → ℕ
-byte_of c = c.byte
 
 -- Cells that are left have no newline.
 fewer : {xs ys : List Cell} → IsSublist xs ys → NoNewline (map byte_of ys) → NoNewline (map byte_of xs)

@@ -27,11 +27,11 @@ use Rattle.ud_model.proofs.text.ScanBytes.{masked-content_cells}
 use Rattle.ud_model.proofs.sections.SplitLines.{directive_is}
 use Rattle.ud_model.proofs.conditions.ResidualRead.{read_as, untouched}
 
-both_true : (a b : Bool) → (a && b) ≡ true → (a ≡ true) × (b ≡ true)
+pub both_true : (a b : Bool) → (a && b) ≡ true → (a ≡ true) × (b ≡ true)
 both_true true b e = (refl, e)
 both_true false b e = cc
 
-not_true : (a : Bool) → not a ≡ true → a ≡ false
+pub not_true : (a : Bool) → not a ≡ true → a ≡ false
 not_true true e = cc
 not_true false e = refl
 
@@ -40,6 +40,9 @@ same_bytes xs ys e = (bytes_eq-Decides xs ys).0 e
 
 not_empty : (e : List ℕ) → is_empty e ≡ false → e ≢ []
 not_empty e h q = let p : is_empty e ≡ true = ap is_empty q in let r : true ≡ false = sym p ∙ h in cc
+
+abbrev pub byte_of : Cell → ℕ
+byte_of c = c.byte
 
 -- Both are `#if`, or both `#elif`.
 pub data SameIf : Kind → Kind → Type 0 where

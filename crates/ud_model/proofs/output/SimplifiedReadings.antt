@@ -84,7 +84,7 @@ module _ (table : List Argument) (rules : Rules) where
 
   -- `s` is the reading of the line that the line of `r` becomes.
   pub data ReadingSimplified (r s : Reading) : Type 0 where
-    reading_stays : simplified_line table rules r ≡ r.line → s ≡ r → ReadingSimplified r s
+    reading_stays : simplified_line table rules r ≡ r.line → s ≡ r → (r.scan.joins_before ≡ false → r.scan ≡ scan_after [] C r.line) → ReadingSimplified r s
     reading_edited : (d : Directive) → IsLeft r s d → ReadingSimplified r s
 
   abbrev pub left_lines : List Line → List Line
@@ -109,7 +109,7 @@ module _ (table : List Argument) (rules : Rules) where
   next_by : (before after : List Reading) → AreReadAlike before after → (l : Line) → ((scan_after before C l).joins_before ≡ false → Begins before) → (k : Line) →
       simplified_line table rules (next_reading before C l) ≡ k → Becomes table rules l (scan_after before C l) k → Next before after l k
   next_by before after p l b _ q it_stays = record {
-    reading = reading_stays q (ap (λ (s : Scan). record { line = l; mode = C; scan = s }) (sym (alike_after p l)));
+    reading = reading_stays q (ap (λ (s : Scan). record { line = l; mode = C; scan = s }) (sym (alike_after p l))) (λ j. scanned_alone before l (b j));
     alike = same_line p l;
   }
   next_by before after p l b _ q (it_changes d i) =

@@ -79,10 +79,14 @@ module _ (table : List Argument) (rules : Rules) where
   is_read_back l d scan = not scan.joins_after &&
       has_condition d.kind (map shown (left_cells_of l d)) (content_of scan)
 
+  -- `is_read_alone l d`: the edited line, read by itself, is the line that is meant.
+  abbrev pub is_read_alone : Line → Directive → Bool
+  is_read_alone l d = keeps_ending (left_line l d) &&
+      is_read_back l d (scan_after_run [] (left_line l d))
+
   -- `may_change scan l d`: the line `l` with the directive `d` may be edited.
   abbrev pub may_change : Scan → Line → Directive → Bool
-  may_change scan l d = is_lone scan l && (keeps_ending (left_line l d) &&
-      is_read_back l d (scan_after_run [] (left_line l d)))
+  may_change scan l d = is_lone scan l && is_read_alone l d
 
   -- `line_by scan l content`: the line `l` with this content as edited, or the line itself.
   abbrev pub line_by : Scan → Line → Content → Line
