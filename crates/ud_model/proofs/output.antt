@@ -70,3 +70,4 @@ pub mod SimplifiedAgain
 pub mod SimplifiedBytes
 pub mod OperandsLeft
 pub mod SimplifiedAnswers
+pub mod ChosenWorlds

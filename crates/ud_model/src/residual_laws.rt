@@ -21,6 +21,7 @@ ghost use Rattle.ud_model.specs.sections.Items.{Options, rules_of};
 ghost use Rattle.ud_model.specs.sections.Tree.{Nodes, closed};
 ghost use Rattle.ud_model.specs.output.Worlds.{World, openers, selected};
 ghost use Rattle.ud_model.specs.output.Rereading.{NoneIgnores, IsTreeOf, IsPlainC, selected_bytes};
+ghost use Rattle.ud_model.specs.output.Rereading.{KeepsTruths};
 ghost use Rattle.ud_model.specs.output.CSelection.{IsCPair};
 ghost use Rattle.ud_model.specs.output.InsertedLines.{read_as};
 ghost use Rattle.ud_model.specs.output.SimplifiedTrees.{NodesSimplified, IsChosenWorld};
@@ -170,4 +171,33 @@ pub fn law_answer_simplified()
         IsTreeOf o (simplified_text o.table (rules_of o.settings) bytes) (closed ss) →
         (x v : World Reading) → map v (openers ss) ≡ map x (openers us) →
         IsChosenWorld o.table x us → IsChosenWorld o.table v ss }
+{}
+
+/// C selects the same lines of the simplified output as of the input, by any numbers.
+///
+/// The arguments only decide conditions, without `-t`, and the input has no fault. In the world `w`,
+/// each condition of the input that C evaluates has a truth that some numbers for the uses of the
+/// open names give it. Each opener of the simplified output has in `v` the truth of the opener from
+/// which it comes. C then selects the same lines, byte by byte. Each condition of the simplified
+/// output that it evaluates has a value with this truth (C11 5.1.1.2, 6.10.1p4, p6).
+pub fn law_answer_chosen()
+    ensures tree { (args : List (List ℕ)) (input : List ℕ) (a : Answer) → Succeeds args input a →
+        IsPlainC (options_of args) → (ns : Nodes Reading) →
+        IsTreeOf (options_of args) input (closed ns) → (ss : Nodes Reading) ×
+        IsTreeOf (options_of args) (simplified_text (options_of args).table
+        (rules_of (options_of args).settings) a.output) (closed ss) }
+    ensures truths { (args : List (List ℕ)) (input : List ℕ) (a : Answer) → Succeeds args input a →
+        IsPlainC (options_of args) → (ns ss : Nodes Reading) →
+        IsTreeOf (options_of args) input (closed ns) →
+        IsTreeOf (options_of args) (simplified_text (options_of args).table
+        (rules_of (options_of args).settings) a.output) (closed ss) → (w : World Reading) →
+        (v : World Reading) × KeepsTruths w ns v ss }
+    ensures selected { (args : List (List ℕ)) (input : List ℕ) (a : Answer) →
+        Succeeds args input a → IsPlainC (options_of args) → (ns ss : Nodes Reading) →
+        IsTreeOf (options_of args) input (closed ns) →
+        IsTreeOf (options_of args) (simplified_text (options_of args).table
+        (rules_of (options_of args).settings) a.output) (closed ss) → (w v : World Reading) →
+        KeepsTruths w ns v ss → IsChosenWorld (options_of args).table w ns →
+        (selected_bytes v ss ≡ selected_bytes w ns) ×
+        IsChosenWorld (options_of args).table v ss }
 {}

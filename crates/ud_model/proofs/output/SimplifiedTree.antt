@@ -28,7 +28,8 @@ abbrev always : World Reading
 always r = true
 
 module _ (o : Options) where
-  abbrev Like : Nodes Reading → Nodes Reading → Type 0
+  -- The tree with simplified openers, whatever their truths are.
+  abbrev pub Like : Nodes Reading → Nodes Reading → Type 0
   Like ns us = NodesSimplified o.table (rules_of o.settings) always always ns us
 
   abbrev GroupsLike : Groups Reading → Groups Reading → Type 0
@@ -175,7 +176,8 @@ module _ (o : Options) where
   more_long a b x y e = length-append a (x ∷ []) ∙ ap (λ (n : ℕ). n + 1) e ∙ sym (length-append b (y ∷ []))
 
   mutual
-    long : {ns us : Nodes Reading} → Like ns us → length (openers us) ≡ length (openers ns)
+    -- Both trees have the same count of openers.
+    pub long : {ns us : Nodes Reading} → Like ns us → length (openers us) ≡ length (openers ns)
     long no_nodes = refl
     long (text_stays p) = long p
     long (section_stays {ns = ns} {us = us} {gs = gs} {hs = hs} p q) =
