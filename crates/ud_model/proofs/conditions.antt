@@ -18,5 +18,7 @@ pub mod ResidualTruth
 pub mod ResidualShape
 pub mod KeptTokens
 pub mod ResidualRead
+pub mod ResidualAgain
+pub mod ReducedTrees
 pub mod StayedChoices
 pub mod OneValue

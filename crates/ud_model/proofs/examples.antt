@@ -8,4 +8,5 @@ pub mod CSelectionExamples
 pub mod WrongRules
 pub mod PrintingExamples
 pub mod ResidualExamples
+pub mod ResidualRows
 pub mod SimplifiedExamples

@@ -63,6 +63,11 @@ pub mod ReachedAlike
 pub mod SimplifiedSelected
 pub mod SimplifiedLines
 pub mod SimplifiedReadings
+pub mod SimplifiedItems
 pub mod SimplifiedTree
 pub mod SimplifiedLineTexts
+pub mod SimplifiedAgain
+pub mod SimplifiedBytes
+pub mod OperandsLeft
 pub mod SimplifiedAnswers
+pub mod ChosenWorlds

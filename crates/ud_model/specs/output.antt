@@ -10,3 +10,4 @@ pub mod InsertedLines
 pub mod InsertedNodes
 pub mod SimplifiedTrees
 pub mod SimplifiedTexts
+pub mod LeftOperands

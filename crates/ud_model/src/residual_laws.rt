@@ -1,7 +1,12 @@
-//! Laws of residuals: what is left of a condition without the operands that the table decides.
+//! Laws of residuals: conditions and texts without the operands that the table decides.
 
-ghost use Rattle.std.specs.Prelude.{◌≡◌, ◌↔◌, ◌⊎◌, ℕ, List, [], map, Some, false};
+ghost use Rattle.std.specs.Prelude.{◌≡◌, ◌↔◌, ◌⊎◌, ℕ, List, [], ◌∷◌, ◌++◌, map};
+ghost use Rattle.std.specs.Prelude.{Some, false};
+ghost use Rattle.ud_model.specs.text.Lines.{Line, lines_of};
+ghost use Rattle.ud_model.specs.text.Scans.{Reading};
 ghost use Rattle.ud_model.specs.text.Lexemes.{Cell, shown};
+ghost use Rattle.ud_model.specs.text.Scanning.{scan_after};
+ghost use Rattle.ud_model.specs.text.OtherLines.{AreReadAlike, StandsAlone};
 ghost use Rattle.ud_model.specs.aids.Parsing.{expression_of};
 ghost use Rattle.ud_model.specs.conditions.Table.{Argument};
 ghost use Rattle.ud_model.specs.conditions.Expressions.{Expression, spelling, HasPrecedence};
@@ -11,31 +16,28 @@ ghost use Rattle.ud_model.specs.conditions.Residuals.{residual, simplified, oper
 ghost use Rattle.ud_model.specs.conditions.ResidualTexts.{chosen, keeps, simplified_cells};
 ghost use Rattle.ud_model.specs.conditions.Sublists.{IsSublist};
 ghost use Rattle.ud_model.specs.conditions.Choices.{Choice, IsAllowed, HasValue, stay};
-ghost use Rattle.ud_model.specs.text.Lines.{Line};
-ghost use Rattle.ud_model.specs.text.Scans.{Reading};
-ghost use Rattle.ud_model.specs.text.Scanning.{scan_after};
-ghost use Rattle.ud_model.specs.text.OtherLines.{AreReadAlike, StandsAlone};
-ghost use Rattle.ud_model.specs.declared.kind.Mode.{Mode};
-ghost use Rattle.ud_model.specs.sections.Tree.{Nodes};
-ghost use Rattle.ud_model.specs.output.Worlds.{World, selected};
+ghost use Rattle.ud_model.specs.sections.Directives.{Directive, directive, content_of, test_of};
+ghost use Rattle.ud_model.specs.sections.Items.{Options, rules_of};
+ghost use Rattle.ud_model.specs.sections.Tree.{Nodes, closed};
+ghost use Rattle.ud_model.specs.output.Worlds.{World, openers, selected};
+ghost use Rattle.ud_model.specs.output.Rereading.{NoneIgnores, IsTreeOf, IsPlainC, selected_bytes};
+ghost use Rattle.ud_model.specs.output.Rereading.{KeepsTruths};
+ghost use Rattle.ud_model.specs.output.CSelection.{IsCPair};
+ghost use Rattle.ud_model.specs.output.InsertedLines.{read_as};
 ghost use Rattle.ud_model.specs.output.SimplifiedTrees.{NodesSimplified, IsChosenWorld};
 ghost use Rattle.ud_model.specs.output.SimplifiedTexts.{simplified_line, simplified_text};
-ghost use Rattle.ud_model.specs.output.Worlds.{openers};
-ghost use Rattle.ud_model.specs.output.Rereading.{NoneIgnores, IsTreeOf, IsPlainC, selected_bytes};
-ghost use Rattle.ud_model.specs.output.CSelection.{IsCPair};
+ghost use Rattle.ud_model.specs.output.LeftOperands.{IsReduced, MayStay};
 ghost use Rattle.ud_model.specs.answer.CommandLine.{options_of};
 ghost use Rattle.ud_model.specs.answer.Answer.{Answer, Succeeds};
-ghost use Rattle.ud_model.specs.output.InsertedLines.{read_as};
-ghost use Rattle.ud_model.specs.sections.Items.{Options, rules_of};
-ghost use Rattle.ud_model.specs.sections.Tree.{closed};
-ghost use Rattle.ud_model.specs.text.Lines.{lines_of};
 ghost use Rattle.ud_model.specs.declared.cond.Cond.{Cond};
+ghost use Rattle.ud_model.specs.declared.kind.Mode.{Mode};
+ghost use Rattle.ud_model.specs.declared.kind.Test.{Test};
 
-/// What is left of a condition is true exactly if the condition is.
+/// The residual of a condition is true exactly if the condition is.
 ///
-/// Whatever numbers the uses of the open names have, and those of the decided ones as the table has
-/// them: if C gives the condition a value, it gives one to what is left, by the same numbers, and
-/// both are 0 or neither is (C11 6.5.13p3, 6.5.14p3, 6.10.1p6).
+/// Each use of an open name may have any number, and the decided names have those of the table. If
+/// C then gives the condition a value, it gives one to the residual, by the same numbers. Both
+/// values are 0, or neither is (C11 6.5.13p3, 6.5.14p3, 6.10.1p6).
 pub fn law_residual_truth()
     ensures truth { (table : List Argument) (rules : Rules) (e : Expression) (m : Choice e)
         (c : Number) → IsAllowed table m → HasValue e m c → (d : Number) ×
@@ -50,10 +52,10 @@ pub fn law_residual_truth()
         (residual table rules e).cond ≡ Cond.No → IsZero c }
 {}
 
-/// What is left is written with tokens of the condition, in their order, and needs no more.
+/// The residual of a condition has tokens of the condition, in their order, and no others.
 ///
 /// Each operand that is left is unknown as a condition of its own, unless `&&` and `||` are strict.
-/// A second time nothing goes, and what is left of an unknown condition is unknown.
+/// A second time nothing is removed, and the simplified form of an unknown condition is unknown.
 pub fn law_residual_shape()
     ensures tokens { (table : List Argument) (rules : Rules) (e : Expression) →
         IsSublist (spelling (residual table rules e).tree) (spelling e) }
@@ -71,9 +73,9 @@ pub fn law_residual_shape()
         tree_cond (simplified table rules e) table rules ≡ Cond.Unknown }
 {}
 
-/// What is left of a text is read as what is left of its tree, or the text is left as it is.
+/// A simplified text is read as the residual of its tree, or is the text itself.
 ///
-/// A text without a tree is left as it is. Bytes only go, and none moves (C11 6.10.1).
+/// Cells are only removed, and none moves. A second time nothing is removed (C11 6.10.1).
 pub fn law_residual_text()
     ensures read { (table : List Argument) (rules : Rules) (e : Expression) (cells : List Cell) →
         expression_of (map shown cells) ≡ Some e → (f : Expression) ×
@@ -81,12 +83,15 @@ pub fn law_residual_text()
         ((f ≡ e) ⊎ (f ≡ (residual table rules e).tree)) }
     ensures cells { (table : List Argument) (rules : Rules) (cells : List Cell) →
         IsSublist (simplified_cells table rules cells) cells }
+    ensures again { (table : List Argument) (rules : Rules) (cells : List Cell) →
+        simplified_cells table rules (simplified_cells table rules cells) ≡
+        simplified_cells table rules cells }
 {}
 
-/// Of a text in which operands of the conditions went C selects the same lines.
+/// C selects the same lines of a tree and of the tree with simplified conditions.
 ///
-/// Whatever numbers the uses of the open names have: each condition that C evaluates has the truth
-/// by them that the condition has from which it comes (C11 6.10.1p4, p6).
+/// Each use of an open name may have any number. By these numbers, each condition that C evaluates
+/// has the truth of the condition from which it comes (C11 6.10.1p4, p6).
 pub fn law_residual_selects()
     ensures selected { (table : List Argument) (rules : Rules) (w v : World Reading)
         (ns us : Nodes Reading) → NodesSimplified table rules w v ns us →
@@ -109,9 +114,33 @@ pub fn law_other_lines_stay()
         scan_after before Mode.C l ≡ scan_after [] Mode.C l }
 {}
 
-/// A text without the decided operands has the tree of the text, with simplified openers.
+/// A simplified text has bytes of the text, in their order, and no others.
 ///
-/// It has the lines of the text, one for one, each with its number and its ending.
+/// A second time nothing is removed.
+pub fn law_simplified_text()
+    ensures bytes { (table : List Argument) (rules : Rules) (bytes : List ℕ) →
+        IsSublist (simplified_text table rules bytes) bytes }
+    ensures again { (table : List Argument) (rules : Rules) (bytes : List ℕ) →
+        simplified_text table rules (simplified_text table rules bytes) ≡
+        simplified_text table rules bytes }
+{}
+
+/// A simplified text keeps an operand that the table decides only for one of a few reasons.
+///
+/// Each `#if` and `#elif` of the text is reduced, or may stay as it is. In a reduced condition no
+/// operand can be removed. So each operand is unknown by itself, unless `&&` and `||` are strict.
+pub fn law_operands_left()
+    ensures { (table : List Argument) (rules : Rules) (bytes : List ℕ) (before after : List Reading)
+        (r : Reading) (d : Directive) →
+        read_as Mode.C (simplified_text table rules bytes) ≡ before ++ r ∷ after →
+        content_of r.scan ≡ directive d → test_of d.kind ≡ Test.Nonzero →
+        MayStay table rules r d ⊎ ((e : Expression) × (expression_of d.after ≡ Some e) ×
+        IsReduced table rules e) }
+{}
+
+/// A simplified text has the tree of the text, with simplified openers.
+///
+/// Its lines are the simplified lines of the text, one for one, with their numbers.
 pub fn law_simplified_tree()
     ensures lines { (table : List Argument) (rules : Rules) (bytes : List ℕ) →
         lines_of (simplified_text table rules bytes) ≡
@@ -123,11 +152,11 @@ pub fn law_simplified_tree()
         NodesSimplified o.table (rules_of o.settings) w v ns us) }
 {}
 
-/// Of the output without the decided operands C selects the lines that it selects of the input.
+/// C selects the same lines of the simplified output as of the input.
 ///
 /// `x` gives the conditions of the output the truths that C may give those of the input, and `v`
-/// gives them to the conditions of the simplified output. By the same numbers for the uses of the
-/// open names each of these has that truth (C11 5.1.1.2, 6.10.1p4, p6).
+/// gives these truths to the conditions of the simplified output. By the same numbers for the uses
+/// of the open names, each of them has this truth (C11 5.1.1.2, 6.10.1p4, p6).
 pub fn law_answer_simplified()
     ensures selected { (args : List (List ℕ)) (input : List ℕ) (a : Answer) →
         Succeeds args input a → IsPlainC (options_of args) → (ns us ss : Nodes Reading) →
@@ -142,4 +171,33 @@ pub fn law_answer_simplified()
         IsTreeOf o (simplified_text o.table (rules_of o.settings) bytes) (closed ss) →
         (x v : World Reading) → map v (openers ss) ≡ map x (openers us) →
         IsChosenWorld o.table x us → IsChosenWorld o.table v ss }
+{}
+
+/// C selects the same lines of the simplified output as of the input, by any numbers.
+///
+/// The arguments only decide conditions, without `-t`, and the input has no fault. In the world `w`,
+/// each condition of the input that C evaluates has a truth that some numbers for the uses of the
+/// open names give it. Each opener of the simplified output has in `v` the truth of the opener from
+/// which it comes. C then selects the same lines, byte by byte. Each condition of the simplified
+/// output that it evaluates has a value with this truth (C11 5.1.1.2, 6.10.1p4, p6).
+pub fn law_answer_chosen()
+    ensures tree { (args : List (List ℕ)) (input : List ℕ) (a : Answer) → Succeeds args input a →
+        IsPlainC (options_of args) → (ns : Nodes Reading) →
+        IsTreeOf (options_of args) input (closed ns) → (ss : Nodes Reading) ×
+        IsTreeOf (options_of args) (simplified_text (options_of args).table
+        (rules_of (options_of args).settings) a.output) (closed ss) }
+    ensures truths { (args : List (List ℕ)) (input : List ℕ) (a : Answer) → Succeeds args input a →
+        IsPlainC (options_of args) → (ns ss : Nodes Reading) →
+        IsTreeOf (options_of args) input (closed ns) →
+        IsTreeOf (options_of args) (simplified_text (options_of args).table
+        (rules_of (options_of args).settings) a.output) (closed ss) → (w : World Reading) →
+        (v : World Reading) × KeepsTruths w ns v ss }
+    ensures selected { (args : List (List ℕ)) (input : List ℕ) (a : Answer) →
+        Succeeds args input a → IsPlainC (options_of args) → (ns ss : Nodes Reading) →
+        IsTreeOf (options_of args) input (closed ns) →
+        IsTreeOf (options_of args) (simplified_text (options_of args).table
+        (rules_of (options_of args).settings) a.output) (closed ss) → (w v : World Reading) →
+        KeepsTruths w ns v ss → IsChosenWorld (options_of args).table w ns →
+        (selected_bytes v ss ≡ selected_bytes w ns) ×
+        IsChosenWorld (options_of args).table v ss }
 {}

@@ -92,7 +92,7 @@ module _ (table : List Argument) (u : Bool) where
       by None e = may.of_open_defined e (zero_or_one b)
       by (Some z) e = subst (λ x. CValue table u (is_defined n p) (signed x)) (sym (h z e)) (may.of_known_defined e)
 
-  -- What a choice gives is one of the values that C may give.
+  -- The value by a choice is one of the values that C may give.
   pub value_may : {e : Expression} {m : Choice e} {c : Number} → IsAllowed table m → HasValue e m c → (has_unsigned table e ≡ true → u ≡ true) → CValue table u e c
   value_may a (of_constant p) v = may.of_constant p
   value_may a (of_name {n = n} {arguments = arguments} {c = c}) v = name_may n arguments c a.0 a.1 v

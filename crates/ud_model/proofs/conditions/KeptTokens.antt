@@ -1,4 +1,4 @@
--- Kept tokens: the flags choose the tokens of what is left.
+-- Kept tokens: the flags choose the tokens of the residual.
 use Rattle.std.proofs.Common.{◌≡◌, Bool, true, false, not, ◌&&◌, if◌then◌else◌, List, [], ◌∷◌, ◌++◌, map, refl, sym, ◌∙◌, ap, ap₂}
 use Rattle.ud_model.specs.conditions.Table.{Argument}
 use Rattle.ud_model.specs.conditions.Tokens.{operator, opening, closing}
@@ -10,8 +10,8 @@ use Rattle.ud_model.specs.declared.cond.Cond.{Cond}
 use Rattle.ud_model.specs.declared.operator.Operator.{Operator}
 use Rattle.ud_model.specs.declared.operator.Operator.TheVariants.{Or, And, Not}
 
--- As many flags as members.
-abbrev SameLength : {A B : Type 0} → List A → List B → Type 0
+-- There are as many flags as members.
+abbrev pub SameLength : {A B : Type 0} → List A → List B → Type 0
 SameLength [] [] = Unit {0}
 SameLength (x ∷ xs) (y ∷ ys) = SameLength xs ys
 SameLength [] (y ∷ ys) = ⊥
@@ -46,10 +46,10 @@ to_nil : {A : Type 0} (xs : List A) → xs ++ [] ≡ xs
 to_nil [] = refl
 to_nil (x ∷ xs) = ap (λ zs. x ∷ zs) (to_nil xs)
 
--- The flags of a tree are as many as its tokens, and choose those of what is left.
-record Chooses (flags : List Bool) (e : Expression) (left : Expression) : Type 0 where
-  long : SameLength flags (spelling e)
-  are : chosen flags (spelling e) ≡ spelling left
+-- The flags of a tree are as many as its tokens, and choose the tokens of the residual.
+pub record Chooses (flags : List Bool) (e : Expression) (left : Expression) : Type 0 where
+  pub long : SameLength flags (spelling e)
+  pub are : chosen flags (spelling e) ≡ spelling left
 
 joined_choose : (b d : Bool) (o : Operator) (c : Cond) (x y : Residual) (e f : Expression) (xs ys : List Bool) → Chooses xs e x.tree → Chooses ys f y.tree →
     Chooses (joined_flags b d e f xs ys) (binary o e f) (if b then record y { lost = true } else if d then record x { lost = true } else record { cond = c; tree = binary o x.tree y.tree; lost = false }).tree
@@ -84,7 +84,8 @@ all_choose : (e : Expression) → Chooses (all_flags true e) e e
 all_choose e = record { long = same_all true (spelling e); are = chosen_all (spelling e) }
 
 module _ (table : List Argument) (rules : Rules) where
-  choose : (e : Expression) → Chooses (keeps table rules e) e (residual table rules e).tree
+  -- The flags of each tree choose the tokens of its residual.
+  pub choose : (e : Expression) → Chooses (keeps table rules e) e (residual table rules e).tree
   choose (unary Not a) = not_choose (residual table rules a) a (keeps table rules a) (choose a)
   choose (binary And a b) =
       joined_choose (is_unit And (residual table rules a).cond) (is_unit And (residual table rules b).cond) And (settled rules.strict And (residual table rules a).cond (residual table rules b).cond)

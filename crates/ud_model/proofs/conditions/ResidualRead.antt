@@ -1,4 +1,4 @@
--- Residual read: what is left of a text is read as the tree that is left, and cells only go.
+-- Residual read: a simplified text is read as the residual of its tree, and cells are only removed.
 use Rattle.std.proofs.Common.{◌≡◌, ℕ, zero, suc, ◌-◌, Bool, true, false, not, ◌&&◌, ◌||◌, if◌then◌else◌, List, [], ◌∷◌, ◌++◌, length, map, take, drop, Option, Some, None, bytes_eq, refl, sym, ◌∙◌, ap, ap₂, subst, inl, inr, ◌⊎◌}
 use Rattle.std.proofs.lemmas.Slice.Eq.{bytes_eq-Decides}
 use Rattle.ud_model.specs.text.Bytes.{skip_white, are_white}
@@ -111,33 +111,48 @@ found_are : (o : Option (List Token)) (ts : List Token) → are_tokens o ts ≡ 
 found_are None ts e = cc
 found_are (Some us) ts e = ap (λ xs. Some xs) (lists_alike us ts e)
 
--- 2. What is left is read as the tree that is left.
+-- 2. A simplified text is read as the residual.
 
 module _ (table : List Argument) (rules : Rules) where
   abbrev rest_of : Expression → Expression
   rest_of e = (residual table rules e).tree
 
-  written_left : (e : Expression) (cells : List Cell) → expression_of (map shown cells) ≡ Some e → (left : List Cell) → is_read table rules e left ≡ true → expression_of (map shown left) ≡ Some (rest_of e)
+  pub written_left : (e : Expression) (cells : List Cell) → expression_of (map shown cells) ≡ Some e → (left : List Cell) → is_read table rules e left ≡ true → expression_of (map shown left) ≡ Some (rest_of e)
   written_left e cells p left q =
       let w : IsWritten (map shown cells) e = expression_is (map shown cells) e p in
       let f : tokens_of (map shown left) ≡ Some (spelling (rest_of e)) = found_are (tokens_of (map shown left)) (spelling (rest_of e)) (right_true (not (begins_word left)) (are_tokens (tokens_of (map shown left)) (spelling (rest_of e))) q) in
       expression_only (map shown left) (rest_of e) (precedence_stays table rules e 1 w.0, tokens_of_are (map shown left) (spelling (rest_of e)) f)
 
-  -- The result is the text itself, or one that is read as the tree that is left.
-  pub read_as : (e : Expression) (cells : List Cell) → expression_of (map shown cells) ≡ Some e →
-      (f : Expression) × (expression_of (map shown (simplified_cells table rules cells)) ≡ Some f) × ((f ≡ e) ⊎ (f ≡ rest_of e))
+  -- The simplified text is the text itself, or is read as the residual.
+  pub same_or_left : (e : Expression) (cells : List Cell) → expression_of (map shown cells) ≡ Some e →
+      (simplified_cells table rules cells ≡ cells) ⊎ (expression_of (map shown (simplified_cells table rules cells)) ≡ Some (rest_of e))
   unfolding simplified_cells
-  read_as e cells p = subst (λ o. (f : Expression) × (expression_of (map shown (simplified_by table rules o cells)) ≡ Some f) × ((f ≡ e) ⊎ (f ≡ rest_of e))) (sym p)
+  same_or_left e cells p = subst (λ o. (simplified_by table rules o cells ≡ cells) ⊎ (expression_of (map shown (simplified_by table rules o cells)) ≡ Some (rest_of e))) (sym p)
       (by (may_go table rules e cells && is_read table rules e (left_cells (keeps table rules e) cells)) refl)
     where
       by : (b : Bool) → (may_go table rules e cells && is_read table rules e (left_cells (keeps table rules e) cells)) ≡ b →
-          (f : Expression) × (expression_of (map shown (if b then left_cells (keeps table rules e) cells else cells)) ≡ Some f) × ((f ≡ e) ⊎ (f ≡ rest_of e))
-      by true q = (rest_of e, written_left e cells p (left_cells (keeps table rules e) cells) (right_true (may_go table rules e cells) (is_read table rules e (left_cells (keeps table rules e) cells)) q), inr refl)
-      by false q = (e, p, inl refl)
+          ((if b then left_cells (keeps table rules e) cells else cells) ≡ cells) ⊎ (expression_of (map shown (if b then left_cells (keeps table rules e) cells else cells)) ≡ Some (rest_of e))
+      by true q = inr (written_left e cells p (left_cells (keeps table rules e) cells) (right_true (may_go table rules e cells) (is_read table rules e (left_cells (keeps table rules e) cells)) q))
+      by false q = inl refl
 
--- 3. Cells only go.
+  -- A text without a tree stays.
+  pub untouched : (cells : List Cell) → expression_of (map shown cells) ≡ None → simplified_cells table rules cells ≡ cells
+  unfolding simplified_cells
+  untouched cells e = ap (λ o. simplified_by table rules o cells) e
 
-of_parts : {A : Type 0} (n : ℕ) (xs : List A) {a b : List A} → IsSublist a (take n xs) → IsSublist b (drop n xs) → IsSublist (a ++ b) xs
+  -- The simplified text is read as the tree of the text, or as the residual.
+  pub read_as : (e : Expression) (cells : List Cell) → expression_of (map shown cells) ≡ Some e →
+      (f : Expression) × (expression_of (map shown (simplified_cells table rules cells)) ≡ Some f) × ((f ≡ e) ⊎ (f ≡ rest_of e))
+  read_as e cells p = by (same_or_left e cells p)
+    where
+      by : (simplified_cells table rules cells ≡ cells) ⊎ (expression_of (map shown (simplified_cells table rules cells)) ≡ Some (rest_of e)) →
+          (f : Expression) × (expression_of (map shown (simplified_cells table rules cells)) ≡ Some f) × ((f ≡ e) ⊎ (f ≡ rest_of e))
+      by (inl q) = (e, ap (λ (cs : List Cell). expression_of (map shown cs)) q ∙ p, inl refl)
+      by (inr q) = (rest_of e, q, inr refl)
+
+-- 3. Cells are only removed.
+
+pub of_parts : {A : Type 0} (n : ℕ) (xs : List A) {a b : List A} → IsSublist a (take n xs) → IsSublist b (drop n xs) → IsSublist (a ++ b) xs
 of_parts zero xs nothing q = q
 of_parts (suc n) [] nothing q = q
 of_parts (suc n) (x ∷ xs) (without p) q = without (of_parts n xs p q)
@@ -164,7 +179,7 @@ from_sub : (prev operand : Bool) (flags : List Bool) (cells : List Cell) → IsS
 from_sub prev operand [] cells = all_of_it cells
 from_sub prev operand (f ∷ flags) cells = by_sub prev operand f (λ o c. left_from f o flags c) cells (next_token (map shown cells)) (λ o c. from_sub f o flags c)
 
--- What is left has some of the cells, in their order.
+-- A simplified text has some of the cells, in their order.
 pub cells_go : (table : List Argument) (rules : Rules) (cells : List Cell) → IsSublist (simplified_cells table rules cells) cells
 unfolding simplified_cells
 cells_go table rules cells = by (expression_of (map shown cells))

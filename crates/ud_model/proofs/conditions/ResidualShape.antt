@@ -1,5 +1,5 @@
--- Residual shape: what is left of an expression has only operands that are undecided, and nothing
--- more of it can go.
+-- Residual shape: the residual of an expression has only undecided operands, and is its own
+-- residual.
 use Rattle.std.proofs.Common.{◌≡◌, ℕ, ◌+◌, ◌≤◌, Bool, true, false, ◌&&◌, if◌then◌else◌, List, [], ◌∷◌, ◌++◌, refl, sym, ◌∙◌, ap, ap₂, arith}
 use Rattle.ud_model.specs.conditions.Table.{Argument}
 use Rattle.ud_model.specs.conditions.Tokens.{operator, opening, closing}
@@ -27,7 +27,7 @@ of_both nothing q = q
 of_both (without p) q = without (of_both p q)
 of_both (with_same p) q = with_same (of_both p q)
 
-of_left : {A : Type 0} {xs ys : List A} (zs : List A) → IsSublist xs ys → IsSublist xs (ys ++ zs)
+pub of_left : {A : Type 0} {xs ys : List A} (zs : List A) → IsSublist xs ys → IsSublist xs (ys ++ zs)
 of_left zs nothing = none_of_it zs
 of_left zs (without p) = without (of_left zs p)
 of_left zs (with_same p) = with_same (of_left zs p)
@@ -36,7 +36,7 @@ of_right : {A : Type 0} {xs zs : List A} (ys : List A) → IsSublist xs zs → I
 of_right [] p = p
 of_right (y ∷ ys) p = without (of_right ys p)
 
--- 2. Only tokens go, in place.
+-- 2. Tokens are only removed.
 
 module _ (b d : Bool) (o : Operator) (c : Cond) (x y : Residual) (e f : Expression) (p : IsSublist (spelling x.tree) (spelling e)) (q : IsSublist (spelling y.tree) (spelling f)) where
   joined_spelling : IsSublist (spelling (if b then record y { lost = true } else if d then record x { lost = true } else record { cond = c; tree = binary o x.tree y.tree; lost = false }).tree)
@@ -105,7 +105,7 @@ enclosed_precedence true x k e p = any_precedence x.tree 1 k (and_true x.lost (s
 enclosed_precedence false x k e p = p
 
 module _ (table : List Argument) (rules : Rules) where
-  -- What is left is nested by precedence as the expression is.
+  -- The residual is nested by precedence, like the expression.
   pub precedence_stays : (e : Expression) (k : ℕ) → HasPrecedence k e → HasPrecedence k (left table rules e).tree
   precedence_stays (unary Not a) k h = (h.0, precedence_stays a 10 h.1)
   precedence_stays (binary And a b) k h =
@@ -121,9 +121,9 @@ module _ (table : List Argument) (rules : Rules) where
   precedence_stays (unary o a) k h = h
   precedence_stays (binary o a b) k h = h
 
--- 4. A second time nothing more goes.
+-- 4. A second time nothing more is removed.
 
--- What is left again of what is left.
+-- The residual of a residual.
 abbrev settled_down : Residual → Residual
 settled_down x = record { cond = x.cond; tree = x.tree; lost = false }
 
@@ -142,8 +142,13 @@ enclosed_again : (b : Bool) (x : Residual) (res : Expression → Residual) → (
 enclosed_again true x res r p = p
 enclosed_again false x res r p = r x.tree ∙ ap enclosed p
 
+pub unknown_is : (c : Cond) → is_unknown c ≡ true → c ≡ Unknown
+unknown_is Unknown e = refl
+unknown_is Yes e = cc
+unknown_is No e = cc
+
 module _ (table : List Argument) (rules : Rules) where
-  -- Nothing more goes.
+  -- Nothing more is removed.
   pub again : (e : Expression) → residual table rules (residual table rules e).tree ≡ settled_down (residual table rules e)
   again (unary Not a) = ap negated (again a)
   again (binary And a b) =
@@ -173,15 +178,10 @@ module _ (table : List Argument) (rules : Rules) where
   unknown_by : (x : Residual) (e : Expression) (b c : Bool) → is_unknown x.cond ≡ b → is_unknown (tree_cond x.tree table rules) ≡ c → tree_cond e table rules ≡ Unknown →
       tree_cond (if b && c then x.tree else e) table rules ≡ Unknown
   unknown_by x e true true p q h = unknown_is (tree_cond x.tree table rules) q
-    where
-      unknown_is : (c : Cond) → is_unknown c ≡ true → c ≡ Unknown
-      unknown_is Unknown f = refl
-      unknown_is Yes f = cc
-      unknown_is No f = cc
   unknown_by x e true false p q h = h
   unknown_by x e false c p q h = h
 
-  -- What is left of an unknown condition is unknown.
+  -- The simplified form of an unknown condition is unknown.
   pub simplified_unknown : (e : Expression) → tree_cond e table rules ≡ Unknown → tree_cond (simplified table rules e) table rules ≡ Unknown
   simplified_unknown e h = unknown_by (residual table rules e) e (is_unknown (residual table rules e).cond) (is_unknown (tree_cond (residual table rules e).tree table rules)) refl refl h
 

@@ -1,4 +1,4 @@
--- Residual truth: what is left of an expression has the truth that the expression has.
+-- Residual truth: the residual of an expression has the truth of the expression.
 --
 -- The proof goes by the way in which the value of the expression comes about. An operand that is
 -- decided has the truth that the table says, so a unit leaves the truth to the other operand.
@@ -18,7 +18,7 @@ use Rattle.ud_model.specs.declared.operator.Operator.TheVariants.{Or, And, Not}
 use Rattle.ud_model.proofs.conditions.ChoiceValues.{choice_may}
 use Rattle.ud_model.proofs.conditions.DecidedConditions.{yes_is_true, no_is_false}
 
--- The condition says the truth of the value `c`, and the tree that is left has this truth.
+-- The residual's condition is the truth of the value `c`, and so is the truth of its tree.
 pub record Tells (x : Residual) (m : Choice x.tree) (c : Number) : Type 0 where
   pub yes : x.cond ≡ Yes → IsZero c → ⊥
   pub no : x.cond ≡ No → IsZero c
@@ -109,7 +109,7 @@ truth_one : (Holds : Type 0) (c : Number) → IsTruth Holds c → Holds → IsZe
 truth_one Holds c (inl p) h z = one_is_not (subst (λ x. IsZero x) p.1 z)
 truth_one Holds c (inr p) h z = p.0 h
 
--- The same truth of two facts that are alike.
+-- A truth of one of two facts that are alike is a truth of the other.
 truth_alike : (P Q : Type 0) (c : Number) → IsTruth P c → (P ↔ Q) → IsTruth Q c
 truth_alike P Q c (inl p) h = inl (h.0 p.0, p.1)
 truth_alike P Q c (inr p) h = inr ((λ q. p.0 (h.1 q)), p.1)
@@ -172,7 +172,7 @@ parens_tell false x m c t = record { yes = t.yes; no = t.no; value = t.value; ha
 
 -- 5. `&&` and `||`.
 
--- One side alone, whatever else is said of it.
+-- One operand alone tells the truth of the operator.
 one_tells : (x : Residual) (m : Choice x.tree) (y c : Number) → Tells x m y → (IsZero c ↔ IsZero y) → Tells (record x { lost = true }) m c
 one_tells x m y c t h = record {
   yes = λ e z. t.yes e (h.0 z);
@@ -275,7 +275,7 @@ no_or (unsigned a) (signed b) c g = g
 no_or (unsigned a) (unsigned b) c g = g
 
 module _ (table : List Argument) (rules : Rules) where
-  -- What is left tells the truth of the whole.
+  -- The residual tells the truth of the whole.
   pub tells : {e : Expression} {m : Choice e} {c : Number} → IsAllowed table m → HasValue e m c → Tells (residual table rules e) (stay table rules m) c
   tells h (of_constant {w = w} {c = c} p) = by_itself table rules (constant w) for_constant c h (of_constant p)
   tells h (of_name {n = n} {arguments = arguments} {c = c}) = by_itself table rules (named n arguments) (for_name c) c h of_name

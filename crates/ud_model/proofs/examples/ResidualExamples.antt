@@ -1,5 +1,5 @@
--- Examples: what is left of the text of a condition, computed by the checker, against texts worked
--- out by hand. A is undefined, B is 1 and N is -1.
+-- Examples: the simplified text of a condition, computed by the checker, against texts worked out by
+-- hand. A is undefined, B is 1 and N is -1.
 use Rattle.std.proofs.Common.{◌≡◌, refl, ℕ, List, [], ◌∷◌, ◌++◌, map, codes, None, true, false}
 use Rattle.ud_model.specs.text.Lexemes.{Cell, cells_in, single, literal, block_comment, line_comment}
 use Rattle.ud_model.specs.conditions.Table.{Argument}
@@ -86,7 +86,7 @@ pub comment_stays :
 unfolding simplified_cells expression_of reads tokens_of next_token suffix_sign apply_binary_known apply_unary_known name_value name_has_u resolve defined_value
 comment_stays = refl
 
--- Where a quote is, all stays.
+-- A text with a quote stays.
 pub quote_stays :
     left_by_rules usual (cells_in single (codes " F(") ++ cells_in literal (codes "'(') || A")) ≡ codes " F('(') || A"
 unfolding simplified_cells expression_of reads tokens_of next_token suffix_sign apply_binary_known apply_unary_known name_value name_has_u resolve defined_value

@@ -20,7 +20,7 @@ pub operands_go :
 unfolding split_lines lexeme_at lex_from lex kind_at_end joins scan_after_run simplified_cells expression_of reads tokens_of next_token suffix_sign apply_binary_known apply_unary_known name_value name_has_u resolve defined_value
 operands_go = refl
 
--- A carriage return would come to stand before the newline, so the line stays.
+-- A carriage return would precede the newline, so the line stays.
 pub ending_stays : simplified_text symbols usual (codes "#if X/**/\r||A\n#endif\n") ≡ codes "#if X/**/\r||A\n#endif\n"
 unfolding split_lines lexeme_at lex_from lex kind_at_end joins scan_after_run simplified_cells expression_of reads tokens_of next_token suffix_sign apply_binary_known apply_unary_known name_value name_has_u resolve defined_value
 ending_stays = refl

@@ -38,3 +38,14 @@ module _ {A B : Type 0} (P : A → B → Type 0) where
   pairwise_parts [] (y ∷ ys) later more l p = absurd (omega arith)
   pairwise_parts (x ∷ xs) [] later more l p = absurd (omega arith)
   pairwise_parts (x ∷ xs) (y ∷ ys) later more l p = let r : Pairwise xs ys × Pairwise later more = pairwise_parts xs ys later more (omega arith) p.1 in ((p.0, r.0), r.1)
+
+module _ {A B : Type 0} (P : A → B → Type 0) where
+  -- The lists have the same length, and their elements go together in pairs.
+  pub data Pairs : List A → List B → Type 0 where
+    no_pair : Pairs [] []
+    pair : {x : A} {y : B} {xs : List A} {ys : List B} → P x y → Pairs xs ys → Pairs (x ∷ xs) (y ∷ ys)
+
+  -- They do if both parts do.
+  pub pairs_both : {xs : List A} {ys : List B} {later : List A} {more : List B} → Pairs xs ys → Pairs later more → Pairs (xs ++ later) (ys ++ more)
+  pairs_both no_pair q = q
+  pairs_both (pair i p) q = pair i (pairs_both p q)

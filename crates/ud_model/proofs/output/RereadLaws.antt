@@ -13,7 +13,7 @@ use Rattle.ud_model.specs.sections.Faults.{Fault, end_fault, end_by, ends_in_com
 use Rattle.ud_model.specs.answer.Printing.{Judged, judged_lines, piece_by, piece_after, pieces_by, style_of, some_other, keyword_in, printed_by}
 use Rattle.ud_model.specs.answer.Outcomes.{Outcome, HasOutcome, ran_as, HasNoFault, output_by, differs_by}
 use Rattle.ud_model.specs.answer.Outcomes.ReadsAs.{stops, ends}
-use Rattle.ud_model.specs.output.Worlds.{World, selected, Agrees, openers, openers_in}
+use Rattle.ud_model.specs.output.Worlds.{World, selected, EachReached, Agrees, openers, openers_in}
 use Rattle.ud_model.specs.output.Pruned.{Edited, edited, IsPruned, pruned_lines, printed, kept_line, IsUndecided, GroupsUndecided, ElifsUndecided}
 use Rattle.ud_model.proofs.output.Folded.{folded}
 use Rattle.ud_model.specs.output.Rereading.{IsPlain, AreRead, IsTreeOf, CleanRun, KeepsTruths, LinesFit, line_bytes, edited_bytes}
@@ -239,23 +239,29 @@ clear_run {o = o} {input = input} (ran_as (ends xs t g)) e ns a =
     subst (λ (u : Tree Reading). Pairwise (Clear o) (lines u) (marks u)) (one_tree_of o input t (closed ns) (record { items = xs; read = sound_read g.sound; are = g.are }) a)
     (subst (λ (zs : List (Item Reading)). Pairwise (Clear o) zs (marks t)) (sym (sound_lines g.sound)) (sound_clear o xs t g.sound))
 
+module _ (k : CleanRun) (w : World Reading) (a : Agrees w k.before) (R : Option Expression → Bool → Type 0) where
+  -- A relation between the condition and the truth of each opener that is reached in the input holds
+  -- in the output, if the truths are kept.
+  pub reached_again : (v : World Reading) → KeepsTruths w k.before v k.after → EachReached w (λ o. R (condition_in o.line) (w o.line)) k.before →
+      EachReached v (λ o. R (condition_in o.line) (v o.line)) k.after
+  reached_again v t g =
+      reached_alike scanned left_seen v (λ (e : Edited Reading). w e.line) (λ (s : Seen) (b : Bool). R s.condition b) k.after (folded k.before)
+      (ap (with_lines scanned) (same_tree k) ∙ (result k).alike) (truths_folded w k.before v k.after t)
+      (pruned_reached w (λ (l : Reading). R (condition_in l) (w l)) (λ (e : Edited Reading). R (left_seen e).condition (w e.line)) still k.before a g)
+    where
+      still : (part : Part) (l : Reading) → R (condition_in l) (w l) → R (left_condition (first_kept_verdict part) l) (w l)
+      still an_if l h = h
+      still an_elif l h = h
+      still an_else l h = h
+
 module _ (k : CleanRun) (w : World Reading) (g : IsCWorld k.options.table w k.before) where
   -- A world that C may give the input agrees with the decided conditions.
-  c_world_agrees : Agrees w k.before
+  pub c_world_agrees : Agrees w k.before
   c_world_agrees = c_agrees k.options w k.before (clear_run k.clean.runs k.clean.faultless k.before k.of_input) g
 
   -- C may give the output the world that keeps its truths.
   pub c_world_again : (v : World Reading) → KeepsTruths w k.before v k.after → IsCWorld k.options.table v k.after
-  c_world_again v t =
-      reached_alike scanned left_seen v (λ (e : Edited Reading). w e.line) (λ (s : Seen) (b : Bool). MayBe k.options.table s.condition b) k.after (folded k.before)
-      (ap (with_lines scanned) (same_tree k) ∙ (result k).alike) (truths_folded w k.before v k.after t)
-      (pruned_reached w (λ (l : Reading). MayBe k.options.table (condition_in l) (w l)) (λ (e : Edited Reading). MayBe k.options.table (left_seen e).condition (w e.line)) still k.before
-      c_world_agrees g)
-    where
-      still : (part : Part) (l : Reading) → MayBe k.options.table (condition_in l) (w l) → MayBe k.options.table (left_condition (first_kept_verdict part) l) (w l)
-      still an_if l h = h
-      still an_elif l h = h
-      still an_else l h = h
+  c_world_again v t = reached_again k w c_world_agrees (MayBe k.options.table) v t g
 
   -- Then C selects the same lines.
   pub c_selected_again : (v : World Reading) → KeepsTruths w k.before v k.after → map line_bytes (selected v k.after) ≡ map line_bytes (selected w k.before)

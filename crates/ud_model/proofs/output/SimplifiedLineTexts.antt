@@ -20,11 +20,8 @@ use Rattle.ud_model.proofs.text.Pushes.{ByPush, none as nothing_pushed, push, by
 use Rattle.ud_model.proofs.output.InsertedText.{read_more}
 use Rattle.ud_model.proofs.output.Formed.{IsEnd, whole_ending, ended, whole_body, no_feed_parts, no_feed_cut}
 use Rattle.ud_model.proofs.output.OutputPieces.{output_lines}
-use Rattle.ud_model.proofs.output.SimplifiedLines.{Becomes, it_stays, it_changes, becomes}
+use Rattle.ud_model.proofs.output.SimplifiedLines.{byte_of, Becomes, it_stays, it_changes, becomes}
 use Rattle.ud_model.proofs.conditions.ResidualRead.{cells_go}
-
-abbrev byte_of : Cell → ℕ
-byte_of c = c.byte
 
 -- Cells that are left have no newline.
 fewer : {xs ys : List Cell} → IsSublist xs ys → NoNewline (map byte_of ys) → NoNewline (map byte_of xs)
@@ -52,7 +49,7 @@ module _ (table : List Argument) (rules : Rules) where
       ap₂ (λ (b f : List ℕ). record { body = b; ending = f; number = k.number })
       (sym (ap (λ (f : List ℕ). take (length (text_of k) - length f) (text_of k)) e ∙ cut_there k.body k.ending)) (sym e)
 
-  -- A line of a text, and what becomes of it.
+  -- A line of a text, and the line that it becomes.
   record Left (n : ℕ) (t : List ℕ) (k : Line) : Type 0 where
     pub is : k ≡ line_at n (text_of k)
     pub whole : IsWhole t → IsWhole (text_of k)
@@ -132,7 +129,8 @@ module _ (table : List Argument) (rules : Rules) where
       all_left (next {r = s} {rs = rs} g m) f.1 in
       ((l.whole f.0, q.0), ap₂ (λ (k : Line) (ks : List Line). k ∷ ks) l.is q.1)
 
-  read_back_by : {ls : List Line} → ByPush ls → map (λ (r : Reading). r.line) (read_in C ls) ≡ ls
+  -- The readings of lines are of these lines.
+  pub read_back_by : {ls : List Line} → ByPush ls → map (λ (r : Reading). r.line) (read_in C ls) ≡ ls
   read_back_by nothing_pushed = refl
   read_back_by (push {xs = ls} l p) =
       ap (λ (rs : List Reading). map (λ (r : Reading). r.line) rs) (read_more C ls l)

@@ -1,5 +1,5 @@
--- Simplified lines: each line of a simplified text is that of the text, or stands alone and has what
--- is left of its condition.
+-- Simplified lines: each line of a simplified text is that of the text, or stands alone and has the
+-- residual of its condition.
 use Rattle.std.proofs.Common.{◌≡◌, ◌≢◌, ℕ, ◌+◌, List, [], ◌∷◌, ◌++◌, length, map, drop, Bool, true, false, not, ◌&&◌, ◌||◌, Option, Some, None, if◌then◌else◌, bytes_eq, refl, sym, ◌∙◌, ap, ap₂, ◌⊎◌, inl, inr, arith, append_assoc, length-append}
 use Rattle.std.proofs.lemmas.List.{drop-map, drop_at}
 use Rattle.std.proofs.lemmas.Slice.Eq.{bytes_eq-Decides}
@@ -15,7 +15,7 @@ use Rattle.ud_model.specs.conditions.Table.{Argument}
 use Rattle.ud_model.specs.conditions.Conditions.{Rules}
 use Rattle.ud_model.specs.conditions.Expressions.{Expression}
 use Rattle.ud_model.specs.conditions.Residuals.{residual}
-use Rattle.ud_model.specs.conditions.ResidualTexts.{simplified_cells, simplified_by}
+use Rattle.ud_model.specs.conditions.ResidualTexts.{simplified_cells}
 use Rattle.ud_model.specs.aids.Parsing.{expression_of}
 use Rattle.ud_model.specs.output.CSelection.{condition_in, condition_by, condition_after}
 use Rattle.ud_model.specs.output.SimplifiedTrees.{LineSimplified, condition_stays, operands_go}
@@ -25,13 +25,13 @@ use Rattle.ud_model.specs.declared.kind.Kind.TheVariants.{If, Ifdef, Ifndef, Eli
 use Rattle.ud_model.specs.declared.kind.Mode.TheVariants.{C}
 use Rattle.ud_model.proofs.text.ScanBytes.{masked-content_cells}
 use Rattle.ud_model.proofs.sections.SplitLines.{directive_is}
-use Rattle.ud_model.proofs.conditions.ResidualRead.{read_as}
+use Rattle.ud_model.proofs.conditions.ResidualRead.{read_as, untouched}
 
-both_true : (a b : Bool) → (a && b) ≡ true → (a ≡ true) × (b ≡ true)
+pub both_true : (a b : Bool) → (a && b) ≡ true → (a ≡ true) × (b ≡ true)
 both_true true b e = (refl, e)
 both_true false b e = cc
 
-not_true : (a : Bool) → not a ≡ true → a ≡ false
+pub not_true : (a : Bool) → not a ≡ true → a ≡ false
 not_true true e = cc
 not_true false e = refl
 
@@ -41,7 +41,10 @@ same_bytes xs ys e = (bytes_eq-Decides xs ys).0 e
 not_empty : (e : List ℕ) → is_empty e ≡ false → e ≢ []
 not_empty e h q = let p : is_empty e ≡ true = ap is_empty q in let r : true ≡ false = sym p ∙ h in cc
 
--- The same kind, which is `#if` or `#elif`.
+abbrev pub byte_of : Cell → ℕ
+byte_of c = c.byte
+
+-- Both are `#if`, or both `#elif`.
 pub data SameIf : Kind → Kind → Type 0 where
   both_if : SameIf If If
   both_elif : SameIf Elif Elif
@@ -70,6 +73,10 @@ same_kind Elifndef j e = cc
 same_kind Else j e = cc
 same_kind Endif j e = cc
 
+pub option_is : {A : Type 0} (o : Option A) → (o ≡ None) ⊎ ((x : A) × (o ≡ Some x))
+option_is None = inl refl
+option_is (Some x) = inr (x, refl)
+
 module _ (table : List Argument) (rules : Rules) where
   -- The line `l` with this scan has the directive `d`, and was edited.
   pub record IsEdited (l : Line) (scan : Scan) (d : Directive) : Type 0 where
@@ -83,7 +90,7 @@ module _ (table : List Argument) (rules : Rules) where
     pub kind : SameIf d.kind now.kind
     pub after : now.after ≡ map shown (left_cells_of table rules l d)
 
-  -- What becomes of a line.
+  -- The line that a line becomes: itself, or the edited line.
   pub data Becomes (l : Line) (scan : Scan) : Line → Type 0 where
     it_stays : Becomes l scan l
     it_changes : (d : Directive) → IsEdited l scan d → Becomes l scan (left_line table rules l d)
@@ -130,7 +137,7 @@ module _ (table : List Argument) (rules : Rules) where
   becomes r = becomes_by r.line r.scan (content_of r.scan) refl
 
   -- The text after a keyword, by its cells.
-  after_is : (l : Line) (scan : Scan) (d : Directive) → scan ≡ scan_after [] C l → content_of scan ≡ directive d → map shown (condition_cells l d) ≡ d.after
+  pub after_is : (l : Line) (scan : Scan) (d : Directive) → scan ≡ scan_after [] C l → content_of scan ≡ directive d → map shown (condition_cells l d) ≡ d.after
   after_is l scan d e h =
       let i : HasDirective scan d = (directive_is scan d).0 h in
       let front : List ℕ = i.parts.white ++ number_sign ∷ (i.parts.gap ++ i.parts.word) in
@@ -144,15 +151,7 @@ module _ (table : List Argument) (rules : Rules) where
       ∙ ap (λ (x : List ℕ). drop (keyword_end d) x) (sym (masked-content_cells [] l) ∙ ap (λ (s : Scan). s.masked) (sym e) ∙ split)
       ∙ drop_at front i.parts.rest (keyword_end d) (sym n) ∙ sym i.after
 
-  untouched : (cells : List Cell) → expression_of (map shown cells) ≡ None → simplified_cells table rules cells ≡ cells
-  unfolding simplified_cells
-  untouched cells e = ap (λ o. simplified_by table rules o cells) e
-
-  option_is : {A : Type 0} (o : Option A) → (o ≡ None) ⊎ ((x : A) × (o ≡ Some x))
-  option_is None = inl refl
-  option_is (Some x) = inr (x, refl)
-
-  -- The condition of an edited line is what is left, or the condition.
+  -- The condition of an edited line is the condition, or its residual.
   conditions : (l k : Reading) (cells : List Cell) → condition_in l ≡ expression_of (map shown cells) →
       condition_in k ≡ expression_of (map shown (simplified_cells table rules cells)) → LineSimplified table rules l k
   conditions l k cells p q = go (option_is (expression_of (map shown cells)))
@@ -163,7 +162,7 @@ module _ (table : List Argument) (rules : Rules) where
       by e i (f, j, inr s) = operands_go (p ∙ i) (q ∙ j ∙ ap (λ (x : Expression). Some x) s)
 
       go : (expression_of (map shown cells) ≡ None) ⊎ ((e : Expression) × (expression_of (map shown cells) ≡ Some e)) → LineSimplified table rules l k
-      go (inl n) = condition_stays (q ∙ ap (λ (x : List Cell). expression_of (map shown x)) (untouched cells n) ∙ sym p)
+      go (inl n) = condition_stays (q ∙ ap (λ (x : List Cell). expression_of (map shown x)) (untouched table rules cells n) ∙ sym p)
       go (inr (e, i)) = by e i (read_as table rules e cells i)
 
   shown_by : (scan : Scan) (d : Directive) (c : Content) → c ≡ directive d → scan.joins_after ≡ false → condition_by scan c ≡ condition_after d.kind d.after
@@ -178,7 +177,7 @@ module _ (table : List Argument) (rules : Rules) where
   spans true b e = cc
   spans false true e = cc
 
-  -- The edited line has what is left of the condition.
+  -- The edited line has the residual of the condition.
   pub line_simplified : (l k : Reading) (d : Directive) → IsEdited l.line l.scan d → l.scan ≡ scan_after [] C l.line →
       k.scan ≡ scan_after_run [] (left_line table rules l.line d) → LineSimplified table rules l k
   line_simplified l k d i e f =

@@ -1,31 +1,28 @@
--- Simplified readings: line for line, a simplified text is read as the text, with what is left of
+-- Simplified readings: line for line, a simplified text is read as the text, with the residuals of
 -- its conditions.
-use Rattle.std.proofs.Common.{◌≡◌, ◌≢◌, List, [], ◌∷◌, ◌++◌, map, Bool, true, false, ◌||◌, refl, sym, ◌∙◌, ap, subst, ◌⊎◌, inl, inr, append-nil}
+use Rattle.std.proofs.Common.{◌≡◌, ◌≢◌, ℕ, List, [], ◌∷◌, ◌++◌, map, Bool, true, false, ◌||◌, refl, sym, ◌∙◌, ap, subst, ◌⊎◌, inl, inr, append-nil}
 use Rattle.std.proofs.lemmas.List.{map-append, same_from_push}
-use Rattle.ud_model.specs.text.Lines.{Line}
+use Rattle.ud_model.specs.text.Lines.{Line, lines_of, texts_of}
 use Rattle.ud_model.specs.text.Scans.{Scan, Reading}
 use Rattle.ud_model.specs.text.Splicing.{c_run_of}
-use Rattle.ud_model.specs.text.Scanning.{joins, scan_after, next_reading, with_next, EndsLogicalLine, ends_with}
+use Rattle.ud_model.specs.text.Scanning.{joins, scan_after_run, scan_after, next_reading, with_next, EndsLogicalLine, ends_with}
 use Rattle.ud_model.specs.text.OtherLines.{AreReadAlike, no_lines, same_line, other_line}
-use Rattle.ud_model.specs.sections.Directives.{Content, directive, Directive, content_of, role_of}
-use Rattle.ud_model.specs.conditions.Conditions.{Decision, decision_on}
-use Rattle.ud_model.specs.sections.Tree.{Item, Opener, text_line, if_line, elif_line, else_line, endif_line}
-use Rattle.ud_model.specs.sections.Items.{Options, item_of, item_by, directive_item, rules_of}
+use Rattle.ud_model.specs.sections.Directives.{Directive}
+use Rattle.ud_model.specs.conditions.Table.{Argument}
+use Rattle.ud_model.specs.conditions.Conditions.{Rules}
 use Rattle.ud_model.specs.output.InsertedLines.{read_in}
-use Rattle.ud_model.specs.output.SimplifiedTrees.{LineSimplified, condition_stays}
 use Rattle.ud_model.specs.output.SimplifiedTexts.{left_line, simplified_line}
-use Rattle.ud_model.specs.declared.kind.Kind.{Kind}
 use Rattle.ud_model.specs.declared.kind.Mode.TheVariants.{C}
-use Rattle.ud_model.proofs.text.Pushes.{ByPush, none, push}
+use Rattle.ud_model.proofs.text.Pushes.{ByPush, none, push, by_push}
+use Rattle.ud_model.proofs.text.LinesLemmas.{lines_exist}
 use Rattle.ud_model.proofs.text.ScanLaws.{joins_before-code, joins_after-code}
 use Rattle.ud_model.proofs.text.ScanLemmas.{run_of_last}
 use Rattle.ud_model.proofs.text.OtherLineScans.{scanned_alone, scanned_alike}
-use Rattle.ud_model.proofs.output.Each.{Each, each_parts}
+use Rattle.ud_model.proofs.output.Each.{Each, each_parts, Pairs, no_pair, pair, pairs_both}
 use Rattle.ud_model.proofs.output.LeavesOff.{HasEnd}
-use Rattle.ud_model.proofs.output.RereadChain.{AllButLast, IsInner, ends_before}
-use Rattle.ud_model.proofs.output.InsertedTree.{items, last_item}
+use Rattle.ud_model.proofs.output.RereadChain.{AllButLast, IsInner, ends_before, lines_end}
 use Rattle.ud_model.proofs.output.InsertedText.{read_more}
-use Rattle.ud_model.proofs.output.SimplifiedLines.{SameIf, both_if, both_elif, Becomes, it_stays, it_changes, becomes, line_simplified}
+use Rattle.ud_model.proofs.output.SimplifiedLines.{IsEdited, Becomes, it_stays, it_changes, becomes}
 
 -- 1. Where logical lines end.
 
@@ -66,114 +63,83 @@ ends_alike (same_line {before = before} {after = after} p l) (inr e) =
 ends_alike (other_line {before = before} {after = after} p l k s t) b =
     inr (ends_with after C k (ap (λ (c : Scan). c.joins_after) (scanned_alone after k t.begins) ∙ t.alone) t.has_ending)
 
--- 2. Items.
+-- 2. Lines.
 
-module _ (o : Options) where
-  abbrev Simplified : Reading → Reading → Type 0
-  Simplified l k = LineSimplified o.table (rules_of o.settings) l k
+pub alone_before : (a c : Bool) → (a || c) ≡ false → a ≡ false
+alone_before false c e = refl
+alone_before true c e = cc
 
-  -- The items have the same part in sections, and the condition is left or is what is left of it.
-  pub data ItemSimplified : Item Reading → Item Reading → Type 0 where
-    a_text : {r : Reading} → ItemSimplified (text_line r) (text_line r)
-    an_if : {p q : Opener Reading} → Simplified p.line q.line → ItemSimplified (if_line p) (if_line q)
-    an_elif : {p q : Opener Reading} → Simplified p.line q.line → ItemSimplified (elif_line p) (elif_line q)
-    an_else : {r : Reading} → ItemSimplified (else_line r) (else_line r)
-    an_endif : {r : Reading} → ItemSimplified (endif_line r) (endif_line r)
+pub alone_after : (a c : Bool) → (a || c) ≡ false → c ≡ false
+alone_after false c e = e
+alone_after true c e = cc
 
-  same_item : (x : Item Reading) → ItemSimplified x x
-  same_item (text_line r) = a_text
-  same_item (if_line p) = an_if (condition_stays refl)
-  same_item (elif_line p) = an_elif (condition_stays refl)
-  same_item (else_line r) = an_else
-  same_item (endif_line r) = an_endif
+module _ (table : List Argument) (rules : Rules) where
+  -- `s` is the reading of the edited line, which has the residual of the condition of `d`.
+  pub record IsLeft (r s : Reading) (d : Directive) : Type 0 where
+    pub edited : IsEdited table rules r.line r.scan d
+    pub line : s.line ≡ left_line table rules r.line d
+    pub simplified : simplified_line table rules r ≡ s.line
+    pub before : r.scan ≡ scan_after [] C r.line
+    pub after : s.scan ≡ scan_after_run [] (left_line table rules r.line d)
 
-  -- Item for item.
-  pub data Pairs : List (Item Reading) → List (Item Reading) → Type 0 where
-    no_pair : Pairs [] []
-    pair : {y z : Item Reading} {ys zs : List (Item Reading)} → ItemSimplified y z → Pairs ys zs → Pairs (y ∷ ys) (z ∷ zs)
-
-  pairs_both : {ys zs vs ws : List (Item Reading)} → Pairs ys zs → Pairs vs ws → Pairs (ys ++ vs) (zs ++ ws)
-  pairs_both no_pair b = b
-  pairs_both (pair i a) b = pair i (pairs_both a b)
-
-  by_kind : (r s : Reading) (j k : Kind) (d e : Decision) → SameIf j k → Simplified r s → ItemSimplified (directive_item r (role_of j) d) (directive_item s (role_of k) e)
-  by_kind r s _ _ d e both_if i = an_if i
-  by_kind r s _ _ d e both_elif i = an_elif i
-
-  edited_item : (r s : Reading) (d e : Directive) → content_of r.scan ≡ directive d → content_of s.scan ≡ directive e → SameIf d.kind e.kind → Simplified r s → ItemSimplified (item_of o r) (item_of o s)
-  edited_item r s d e p q i j =
-      subst (λ (c : Content). ItemSimplified (item_by o r c) (item_of o s)) (sym p)
-      (subst (λ (c : Content). ItemSimplified (item_by o r (directive d)) (item_by o s c)) (sym q)
-      (by_kind r s d.kind e.kind (decision_on r.scan d o.table (rules_of o.settings)) (decision_on s.scan e o.table (rules_of o.settings)) i j))
-
-  -- 3. Lines.
+  -- `s` is the reading of the line that the line of `r` becomes.
+  pub data ReadingSimplified (r s : Reading) : Type 0 where
+    reading_stays : simplified_line table rules r ≡ r.line → s ≡ r → (r.scan.joins_before ≡ false → r.scan ≡ scan_after [] C r.line) → ReadingSimplified r s
+    reading_edited : (d : Directive) → IsLeft r s d → ReadingSimplified r s
 
   abbrev pub left_lines : List Line → List Line
-  left_lines ls = map (simplified_line o.table (rules_of o.settings)) (read_in C ls)
+  left_lines ls = map (simplified_line table rules) (read_in C ls)
 
   abbrev left_one : List Line → Line → Line
-  left_one ls l = simplified_line o.table (rules_of o.settings) (next_reading (read_in C ls) C l)
+  left_one ls l = simplified_line table rules (next_reading (read_in C ls) C l)
 
-  pub left_more : (ls : List Line) (l : Line) → left_lines (ls ++ l ∷ []) ≡ left_lines ls ++ left_one ls l ∷ []
+  left_more : (ls : List Line) (l : Line) → left_lines (ls ++ l ∷ []) ≡ left_lines ls ++ left_one ls l ∷ []
   left_more ls l =
-      ap (λ (rs : List Reading). map (simplified_line o.table (rules_of o.settings)) rs) (read_more C ls l)
-      ∙ map-append (simplified_line o.table (rules_of o.settings)) (read_in C ls) (next_reading (read_in C ls) C l ∷ [])
+      ap (λ (rs : List Reading). map (simplified_line table rules) rs) (read_more C ls l)
+      ∙ map-append (simplified_line table rules) (read_in C ls) (next_reading (read_in C ls) C l ∷ [])
 
   abbrev Alike : List Line → Type 0
   Alike ls = AreReadAlike (read_in C ls) (read_in C (left_lines ls))
 
   -- The next line of both texts.
   record Next (before after : List Reading) (l k : Line) : Type 0 where
-    pub item : ItemSimplified (item_of o (next_reading before C l)) (item_of o (next_reading after C k))
+    pub reading : ReadingSimplified (next_reading before C l) (next_reading after C k)
     pub alike : AreReadAlike (with_next before C l) (with_next after C k)
 
   next_by : (before after : List Reading) → AreReadAlike before after → (l : Line) → ((scan_after before C l).joins_before ≡ false → Begins before) → (k : Line) →
-      Becomes o.table (rules_of o.settings) l (scan_after before C l) k → Next before after l k
-  next_by before after p l b _ it_stays = record {
-    item = subst (λ (s : Scan). ItemSimplified (item_of o (next_reading before C l)) (item_of o (record { line = l; mode = C; scan = s }))) (alike_after p l) (same_item (item_of o (next_reading before C l)));
+      simplified_line table rules (next_reading before C l) ≡ k → Becomes table rules l (scan_after before C l) k → Next before after l k
+  next_by before after p l b _ q it_stays = record {
+    reading = reading_stays q (ap (λ (s : Scan). record { line = l; mode = C; scan = s }) (sym (alike_after p l))) (λ j. scanned_alone before l (b j));
     alike = same_line p l;
   }
-  next_by before after p l b _ (it_changes d i) =
-      let k : Line = left_line o.table (rules_of o.settings) l d in
+  next_by before after p l b _ q (it_changes d i) =
+      let k : Line = left_line table rules l d in
       let x : Begins before = b (alone_before (scan_after before C l).joins_before (scan_after before C l).joins_after i.lone) in
       let y : Begins after = ends_alike p x in
       let e : scan_after before C l ≡ scan_after [] C l = scanned_alone before l x in
-      let f : scan_after after C k ≡ scan_after [] C k = scanned_alone after k y in
       record {
-        item =
-            edited_item (next_reading before C l) (next_reading after C k) d i.now i.has (ap content_of f ∙ i.has_now) i.kind
-            (line_simplified o.table (rules_of o.settings) (next_reading before C l) (next_reading after C k) d i e f);
+        reading = reading_edited d (record { edited = i; line = refl; simplified = q; before = e; after = scanned_alone after k y });
         alike =
             other_line p l k
             (record { begins = x; alone = ap (λ (s : Scan). s.joins_after) (sym e) ∙ alone_after (scan_after before C l).joins_before (scan_after before C l).joins_after i.lone; has_ending = i.some })
             (record { begins = y; alone = i.alone; has_ending = i.some });
       }
-    where
-      alone_before : (a c : Bool) → (a || c) ≡ false → a ≡ false
-      alone_before false c e = refl
-      alone_before true c e = cc
-
-      alone_after : (a c : Bool) → (a || c) ≡ false → c ≡ false
-      alone_after false c e = e
-      alone_after true c e = cc
 
   next_line : (ls : List Line) → ByPush ls → Each HasEnd ls → Alike ls → (l : Line) → Next (read_in C ls) (read_in C (left_lines ls)) l (left_one ls l)
   next_line ls p h a l =
       next_by (read_in C ls) (read_in C (left_lines ls)) a l
-      (λ j. begins p h (sym (joins_before-code (c_run_of (read_in C ls)) l) ∙ j)) (left_one ls l) (becomes o.table (rules_of o.settings) (next_reading (read_in C ls) C l))
+      (λ j. begins p h (sym (joins_before-code (c_run_of (read_in C ls)) l) ∙ j)) (left_one ls l) refl (becomes table rules (next_reading (read_in C ls) C l))
 
   abbrev Paired : List Line → Type 0
-  Paired ls = Pairs (items o (read_in C ls)) (items o (read_in C (left_lines ls)))
+  Paired ls = Pairs ReadingSimplified (read_in C ls) (read_in C (left_lines ls))
 
   read_left : (ls : List Line) (l : Line) → read_in C (left_lines (ls ++ l ∷ [])) ≡ with_next (read_in C (left_lines ls)) C (left_one ls l)
   read_left ls l = ap (λ (ks : List Line). read_in C ks) (left_more ls l) ∙ read_more C (left_lines ls) (left_one ls l)
 
   one_more_pair : (ls : List Line) (l : Line) → Next (read_in C ls) (read_in C (left_lines ls)) l (left_one ls l) → Paired ls → Paired (ls ++ l ∷ [])
   one_more_pair ls l n a =
-      subst (λ (ys : List (Item Reading)). Pairs ys (items o (read_in C (left_lines (ls ++ l ∷ []))))) (sym (ap (items o) (read_more C ls l) ∙ last_item o (read_in C ls) (next_reading (read_in C ls) C l)))
-      (subst (λ (zs : List (Item Reading)). Pairs (items o (read_in C ls) ++ item_of o (next_reading (read_in C ls) C l) ∷ []) zs)
-      (sym (ap (items o) (read_left ls l) ∙ last_item o (read_in C (left_lines ls)) (next_reading (read_in C (left_lines ls)) C (left_one ls l))))
-      (pairs_both a (pair n.item no_pair)))
+      subst (λ (rs : List Reading). Pairs ReadingSimplified rs (read_in C (left_lines (ls ++ l ∷ [])))) (sym (read_more C ls l))
+      (subst (λ (ss : List Reading). Pairs ReadingSimplified (with_next (read_in C ls) C l) ss) (sym (read_left ls l)) (pairs_both ReadingSimplified a (pair n.reading no_pair)))
 
   inner_pairs : {ls : List Line} → ByPush ls → Each HasEnd ls → Alike ls × Paired ls
   inner_pairs none h = (no_lines, no_pair)
@@ -190,10 +156,13 @@ module _ (o : Options) where
   have_ends [] h = tt
   have_ends (l ∷ ls) h = (h.0.0, have_ends ls h.1)
 
-  -- The items of both texts.
-  pub all_pairs : {ls : List Line} → ByPush ls → AllButLast ls → Paired ls
+  all_pairs : {ls : List Line} → ByPush ls → AllButLast ls → Paired ls
   all_pairs none h = no_pair
   all_pairs (push {xs = ls} l p) h =
       let q : Each HasEnd ls = have_ends ls (ends_before ls l h).0 in
       let r : Alike ls × Paired ls = inner_pairs p q in
       one_more_pair ls l (next_line ls p q r.0 l) r.1
+
+  -- The readings of both texts.
+  pub readings_simplified : (bytes : List ℕ) → Paired (lines_of bytes)
+  readings_simplified bytes = all_pairs (by_push (lines_of bytes)) (lines_end 1 (texts_of bytes) (lines_exist bytes).formed)

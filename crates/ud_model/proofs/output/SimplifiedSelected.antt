@@ -30,7 +30,7 @@ module _ (table : List Argument) (rules : Rules) where
 
   module _ (w v : World Reading) where
     mutual
-      -- The same lines are selected.
+      -- C selects the same lines of both.
       pub selects : {ns us : Nodes Reading} → NodesSimplified table rules w v ns us → selected v us ≡ selected w ns
       selects no_nodes = refl
       selects (text_stays {l = l} p) = ap (λ ls. ls ++ l ∷ []) (selects p)

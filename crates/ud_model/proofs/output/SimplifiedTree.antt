@@ -1,7 +1,7 @@
 -- The tree of a simplified text is that of the text, with simplified openers.
 use Rattle.std.proofs.Common.{◌≡◌, ℕ, suc, ◌+◌, List, [], ◌∷◌, ◌++◌, length, map, true, false, refl, sym, ◌∙◌, ap, ap₂, subst, length-append}
 use Rattle.std.proofs.lemmas.List.{map-append, length-map}
-use Rattle.ud_model.specs.text.Lines.{Line, lines_of, texts_of}
+use Rattle.ud_model.specs.text.Lines.{Line, lines_of}
 use Rattle.ud_model.specs.text.Scans.{Reading}
 use Rattle.ud_model.specs.sections.Tree.{Item, Opener, Nodes, Groups, Elifs, closed, text_line, if_line, elif_line, else_line, endif_line, nothing, text, section, conditional, otherwise, first, elif, lines_of_nodes, lines_of_groups, lines_of_elifs}
 use Rattle.ud_model.specs.sections.Items.{Options, rules_of, mode_by}
@@ -13,14 +13,14 @@ use Rattle.ud_model.specs.output.SimplifiedTexts.{simplified_text}
 use Rattle.ud_model.specs.declared.kind.Mode.{Mode}
 use Rattle.ud_model.specs.declared.kind.Mode.TheVariants.{C}
 use Rattle.ud_model.proofs.text.Pushes.{by_push}
-use Rattle.ud_model.proofs.text.LinesLemmas.{lines_exist}
 use Rattle.ud_model.proofs.sections.Soundness.{read_lines}
 use Rattle.ud_model.proofs.output.SameShape.{parts}
 use Rattle.ud_model.proofs.output.Heeding.{ReadIn, the_mode, are_read}
-use Rattle.ud_model.proofs.output.RereadChain.{lines_end}
 use Rattle.ud_model.proofs.output.InsertedTree.{items}
 use Rattle.ud_model.proofs.output.InsertedText.{read_items, lines_back, items_are}
-use Rattle.ud_model.proofs.output.SimplifiedReadings.{ItemSimplified, a_text, an_if, an_elif, an_else, an_endif, Pairs, no_pair, pair, all_pairs, left_lines}
+use Rattle.ud_model.proofs.output.Each.{Pairs, no_pair, pair}
+use Rattle.ud_model.proofs.output.SimplifiedReadings.{left_lines, readings_simplified}
+use Rattle.ud_model.proofs.output.SimplifiedItems.{ItemSimplified, a_text, an_if, an_elif, an_else, an_endif, items_simplified}
 
 -- 1. Nodes.
 
@@ -28,7 +28,8 @@ abbrev always : World Reading
 always r = true
 
 module _ (o : Options) where
-  abbrev Like : Nodes Reading → Nodes Reading → Type 0
+  -- The tree with simplified openers, whatever their truths are.
+  abbrev pub Like : Nodes Reading → Nodes Reading → Type 0
   Like ns us = NodesSimplified o.table (rules_of o.settings) always always ns us
 
   abbrev GroupsLike : Groups Reading → Groups Reading → Type 0
@@ -41,13 +42,13 @@ module _ (o : Options) where
     pub before : List (Item Reading)
     pub later : List (Item Reading)
     pub are : zs ≡ before ++ later
-    pub first_part : Pairs o A before
-    pub second_part : Pairs o B later
+    pub first_part : Pairs (ItemSimplified o) A before
+    pub second_part : Pairs (ItemSimplified o) B later
 
-  split_by : (A B ws zs : List (Item Reading)) → ws ≡ A ++ B → Pairs o ws zs → SplitBoth A B zs
-  split_by [] B ws zs e s = record { before = []; later = zs; are = refl; first_part = no_pair; second_part = subst (λ (vs : List (Item Reading)). Pairs o vs zs) e s }
+  split_by : (A B ws zs : List (Item Reading)) → ws ≡ A ++ B → Pairs (ItemSimplified o) ws zs → SplitBoth A B zs
+  split_by [] B ws zs e s = record { before = []; later = zs; are = refl; first_part = no_pair; second_part = subst (λ (vs : List (Item Reading)). Pairs (ItemSimplified o) vs zs) e s }
   split_by (a ∷ A) B _ _ e no_pair = cc
-  split_by (a ∷ A) B _ _ e (pair {y = x} {z = z} {ys = ys} {zs = zs} k s) =
+  split_by (a ∷ A) B _ _ e (pair {x = x} {y = z} {xs = ys} {ys = zs} k s) =
       let p : x ≡ a = cc in
       let q : ys ≡ A ++ B = cc in
       let r : SplitBoth A B zs = split_by A B ys zs q s in
@@ -59,11 +60,11 @@ module _ (o : Options) where
         second_part = r.second_part;
       }
 
-  split : (A B zs : List (Item Reading)) → Pairs o (A ++ B) zs → SplitBoth A B zs
+  split : (A B zs : List (Item Reading)) → Pairs (ItemSimplified o) (A ++ B) zs → SplitBoth A B zs
   split A B zs s = split_by A B (A ++ B) zs refl s
 
-  one : (y : Item Reading) (zs : List (Item Reading)) → Pairs o (y ∷ []) zs → (z : Item Reading) × (zs ≡ z ∷ []) × ItemSimplified o y z
-  one y _ (pair {z = z} k no_pair) = (z, refl, k)
+  one : (y : Item Reading) (zs : List (Item Reading)) → Pairs (ItemSimplified o) (y ∷ []) zs → (z : Item Reading) × (zs ≡ z ∷ []) × ItemSimplified o y z
+  one y _ (pair {y = z} k no_pair) = (z, refl, k)
 
   a_text_here : (r : Reading) (z : Item Reading) → ItemSimplified o (text_line r) z → z ≡ text_line r
   a_text_here r _ a_text = refl
@@ -102,7 +103,7 @@ module _ (o : Options) where
     pub like : ElifsLike es elifs
 
   mutual
-    weave_nodes : (ns : Nodes Reading) (zs : List (Item Reading)) → Pairs o (lines_of_nodes ns) zs → Nodesof ns zs
+    weave_nodes : (ns : Nodes Reading) (zs : List (Item Reading)) → Pairs (ItemSimplified o) (lines_of_nodes ns) zs → Nodesof ns zs
     weave_nodes nothing _ no_pair = record { nodes = nothing; lines = refl; like = no_nodes }
     weave_nodes (text ns l) zs s =
         let c : SplitBoth (lines_of_nodes ns) (text_line l ∷ []) zs = split (lines_of_nodes ns) (text_line l ∷ []) zs s in
@@ -127,7 +128,7 @@ module _ (o : Options) where
           like = section_stays n.like g.like;
         }
 
-    weave_groups : (gs : Groups Reading) (zs : List (Item Reading)) → Pairs o (lines_of_groups gs) zs → Groupsof gs zs
+    weave_groups : (gs : Groups Reading) (zs : List (Item Reading)) → Pairs (ItemSimplified o) (lines_of_groups gs) zs → Groupsof gs zs
     weave_groups (conditional es) zs s = let e : Elifsof es zs = weave_elifs es zs s in record { groups = conditional e.elifs; lines = e.lines; like = conditions_alone e.like }
     weave_groups (otherwise es l ns) zs s =
         let c : SplitBoth (lines_of_elifs es ++ else_line l ∷ []) (lines_of_nodes ns) zs = split (lines_of_elifs es ++ else_line l ∷ []) (lines_of_nodes ns) zs s in
@@ -143,7 +144,7 @@ module _ (o : Options) where
           like = with_else e.like n.like;
         }
 
-    weave_elifs : (es : Elifs Reading) (zs : List (Item Reading)) → Pairs o (lines_of_elifs es) zs → Elifsof es zs
+    weave_elifs : (es : Elifs Reading) (zs : List (Item Reading)) → Pairs (ItemSimplified o) (lines_of_elifs es) zs → Elifsof es zs
     weave_elifs (first p ns) zs s =
         let c : SplitBoth (if_line p ∷ []) (lines_of_nodes ns) zs = split (if_line p ∷ []) (lines_of_nodes ns) zs s in
         let z = one (if_line p) c.before c.first_part in
@@ -175,7 +176,8 @@ module _ (o : Options) where
   more_long a b x y e = length-append a (x ∷ []) ∙ ap (λ (n : ℕ). n + 1) e ∙ sym (length-append b (y ∷ []))
 
   mutual
-    long : {ns us : Nodes Reading} → Like ns us → length (openers us) ≡ length (openers ns)
+    -- Both trees have the same count of openers.
+    pub long : {ns us : Nodes Reading} → Like ns us → length (openers us) ≡ length (openers ns)
     long no_nodes = refl
     long (text_stays p) = long p
     long (section_stays {ns = ns} {us = us} {gs = gs} {hs = hs} p q) =
@@ -230,17 +232,17 @@ module _ (o : Options) where
 
   -- The simplified text has the tree of the text.
   pub simplified_tree : NoneIgnores o.table → o.settings.plain ≡ false → (bytes : List ℕ) (ns : Nodes Reading) → IsTreeOf o bytes (closed ns) →
-      lines_of (simplified_text o.table (rules_of o.settings) bytes) ≡ left_lines o (lines_of bytes) →
+      lines_of (simplified_text o.table (rules_of o.settings) bytes) ≡ left_lines o.table (rules_of o.settings) (lines_of bytes) →
       (us : Nodes Reading) × IsTreeOf o (simplified_text o.table (rules_of o.settings) bytes) (closed us) × Like ns us
   simplified_tree n c bytes ns i e =
       let m : the_mode o ≡ C = ap mode_by c in
       let ls : List Line = lines_of bytes in
-      let ks : List Line = left_lines o ls in
+      let ks : List Line = left_lines o.table (rules_of o.settings) ls in
       let zs : List (Item Reading) = items o (read_in C ks) in
       let here : lines_of_nodes ns ≡ items o (read_in C ls) =
       read_lines i.read ∙ items_are o n i.read ∙ ap₂ (λ (q : Mode) (xs : List Line). items o (read_in q xs)) m (sym i.are) in
       let w : Nodesof ns zs =
-      weave_nodes ns zs (subst (λ (ys : List (Item Reading)). Pairs o ys zs) (sym here) (all_pairs o (by_push ls) (lines_end 1 (texts_of bytes) (lines_exist bytes).formed))) in (
+      weave_nodes ns zs (subst (λ (ys : List (Item Reading)). Pairs (ItemSimplified o) ys zs) (sym here) (items_simplified o (readings_simplified o.table (rules_of o.settings) bytes))) in (
         w.nodes,
         record {
           items = zs;

@@ -1,4 +1,5 @@
--- Choices: a number for each use of a name in an expression, and the value of the expression by them.
+-- Choices: a number for each use of a name in an expression, and the value of the expression by
+-- these numbers.
 -- C11 6.10.1p4, 6.5: whatever the macros are, each use of one in a condition has a number, or the
 -- condition has no value.
 --
@@ -6,7 +7,7 @@
 --                         name after each `defined` is defined
 --   IsAllowed table m     the numbers of the names that the table decides are those of the table
 --   HasValue e m c        by the choice `m` the tree `e` has the value `c`
---   stay m                the choice for the uses that are left (Residuals)
+--   stay m                the choice `m` for the uses that are left (Residuals)
 --
 -- CValues says which values an expression may have; here each value comes with the numbers that
 -- lead to it, so two expressions can be compared use by use.
@@ -46,7 +47,8 @@ module _ (table : List Argument) where
   IsAllowed (for_binary m k) = IsAllowed m × IsAllowed k
   IsAllowed (for_parens m) = IsAllowed m
 
--- `HasValue e m c`: by the choice `m` the tree `e` has the value `c`. There is none if C gives none.
+-- `HasValue e m c`: by the choice `m` the tree `e` has the value `c`. It has no value if C gives it
+-- none.
 pub data HasValue : (e : Expression) → Choice e → Number → Type 0 where
   of_constant : {w : List ℕ} {c : Number} → IsConstantValue w c →
       HasValue (constant w) for_constant c
@@ -72,8 +74,8 @@ pub data HasValue : (e : Expression) → Choice e → Number → Type 0 where
   of_parens : {a : Expression} {m : Choice a} {c : Number} → HasValue a m c →
       HasValue (parens a) (for_parens m) c
 
--- `one_or_both b d o x y`: the choice for what is left of `o`: its right operand if `b`, its left
--- one if `d`, else both.
+-- `one_or_both b d o c x y m k`: the choice for the residual of `o`: `k` for its right operand if
+-- `b`, `m` for its left one if `d`, else both.
 abbrev pub one_or_both : (b d : Bool) (o : Operator) (c : Cond) (x y : Residual) → Choice x.tree →
     Choice y.tree →
     Choice (if b then record y { lost = true } else if d then record x { lost = true }
@@ -82,14 +84,14 @@ one_or_both true d o c x y m k = k
 one_or_both false true o c x y m k = m
 one_or_both false false o c x y m k = for_binary m k
 
--- `bare_or_not b x`: the choice for what is left of parentheses.
+-- `bare_or_not b x m`: the choice `m` for the residual of parentheses, which are removed if `b`.
 abbrev pub bare_or_not : (b : Bool) (x : Residual) → Choice x.tree →
     Choice (if b then x else record x { tree = parens x.tree }).tree
 bare_or_not true x m = m
 bare_or_not false x m = for_parens m
 
 module _ (table : List Argument) (rules : Rules) where
-  -- `stay m`: the choice for the uses that are left.
+  -- `stay m`: the choice `m` for the uses that are left in the residual.
   abbrev pub stay : {e : Expression} → Choice e → Choice (residual table rules e).tree
   stay (for_constant {w = w}) = for_constant {w = w}
   stay (for_name c) = for_name c

@@ -1,19 +1,19 @@
--- Residual texts: the text of a condition without the tokens of the operands that go.
+-- Residual texts: the text of a condition without the tokens of the operands that are removed.
 --
---   keeps e                for each token of the tree `e` whether it is left (Residuals)
---   chosen flags xs        the members of `xs` whose flag is true
---   left_cells cells       what is left of the text of a condition, cell by cell
---   simplified_cells       the same, or the text itself if it must stay as it is
+--   keeps e                  for each token of the tree `e` whether it is left (Residuals)
+--   chosen flags xs          the members of `xs` whose flag is true
+--   left_cells flags cells   the cells of the text of a condition that are left by these flags
+--   simplified_cells cells   the cells that are left, or the text itself if it must stay
 --
 -- White space after an operand belongs to the token after it, and other white space to the token
--- before it, at first the keyword. It goes with that token, but stays if a comment is in it. So each
--- comment stays, and nothing is added or moved.
+-- before it, at first the keyword. It is removed with that token, but stays if a comment is in it.
+-- So each comment stays, and nothing is added or moved.
 --
--- The text stays as it is if it isn't understood, if it is decided, if what is left would be decided,
--- would begin with a word byte, right behind the keyword, or wouldn't be read as the tokens that are
--- left; and if it has a quote: what follows a quote could be a comment without it.
+-- The text stays if it isn't understood, or if it is decided. It stays if the rest would be
+-- decided, would begin with a word byte next to the keyword, or wouldn't be read as the tokens that
+-- are left. And it stays if it has a quote: without it, the text after it could be a comment.
 --
--- Example: with A undefined ` A || X // c` leaves ` X // c`, and ` X || A // c` leaves ` X // c`.
+-- Example: with A undefined, ` A || X // c` and ` X || A // c` both become ` X // c`.
 use Rattle.std.specs.Prelude.{ℕ, ◌-◌, List, [], ◌∷◌, ◌++◌, length, map, take, drop, Bool, true}
 use Rattle.std.specs.Prelude.{false, not, ◌&&◌, ◌||◌, if◌then◌else◌, Option, Some, None}
 use Rattle.std.specs.Prelude.{bytes_eq, codes}
@@ -48,8 +48,8 @@ chosen (f ∷ flags) (x ∷ xs) = if f then x ∷ chosen flags xs else chosen fl
 abbrev pub all_flags : Bool → Expression → List Bool
 all_flags f e = map (λ t. f) (spelling e)
 
--- `joined_flags b d e f xs ys`: the flags of an operator between `e` and `f`, of which `xs` and `ys`
--- are the flags: only the right one is left if `b`, only the left one if `d`, else both.
+-- `joined_flags b d e f xs ys`: the flags of an operator between `e` and `f`, whose flags are `xs`
+-- and `ys`. Only the right operand is left if `b`, only the left one if `d`, else both are.
 abbrev pub joined_flags : Bool → Bool → Expression → Expression → List Bool → List Bool → List Bool
 joined_flags b d e f xs ys =
     if b then all_flags false e ++ false ∷ ys
@@ -91,15 +91,16 @@ cells_before rest cells = take (length cells - length rest) cells
 abbrev pub cells_after : List ℕ → List Cell → List Cell
 cells_after rest cells = drop (length cells - length rest) cells
 
--- `token_left f further rest o cells`: the token that `cells` begin with, if `f`, and what is left of
--- the text `rest` after it. The token ends an operand if `o`.
-abbrev pub token_left : Bool → (Bool → List Cell → List Cell) → List ℕ → Bool → List Cell → List Cell
+-- `token_left f further rest o cells`: the token that `cells` begin with, if `f`, and the part of
+-- the text `rest` that `further` leaves. The token ends an operand if `o`.
+abbrev pub token_left : Bool → (Bool → List Cell → List Cell) → List ℕ → Bool → List Cell →
+    List Cell
 token_left f further rest o cells =
     (if f then cells_before rest cells else []) ++ further o (cells_after rest cells)
 
--- `left_by prev operand f further cells next`: what is left of `cells`, whose first token is `next`.
--- This one stays if `f`, and the token before it stayed if `prev` and ended an operand if `operand`.
--- `further` is what is left of the rest.
+-- `left_by prev operand f further cells next`: the part of `cells` that is left, if their first
+-- token is `next`. The token stays if `f`. The token before it stayed if `prev`, and ended an
+-- operand if `operand`. `further` gives the part that is left of the rest.
 abbrev pub left_by : Bool → Bool → Bool → (Bool → List Cell → List Cell) → List Cell → NextToken →
     List Cell
 left_by prev operand f further cells at_end = cells
@@ -108,13 +109,13 @@ left_by prev operand f further cells (found t rest) =
     gap_left (if operand then f else prev) (cells_before (skip_white (map shown cells)) cells) ++
     token_left f further rest (ends_operand t) (cells_after (skip_white (map shown cells)) cells)
 
--- `left_from prev operand flags cells`: what is left of `cells` by the flags of its tokens.
+-- `left_from prev operand flags cells`: the part of `cells` that is left by the tokens' flags.
 abbrev pub left_from : Bool → Bool → List Bool → List Cell → List Cell
 left_from prev operand [] cells = cells
 left_from prev operand (f ∷ flags) cells =
     left_by prev operand f (λ o c. left_from f o flags c) cells (next_token (map shown cells))
 
--- `left_cells flags cells`: what is left of the text after a keyword.
+-- `left_cells flags cells`: the part that is left of the text `cells` after a keyword.
 abbrev pub left_cells : List Bool → List Cell → List Cell
 left_cells flags cells = left_from true false flags cells
 
@@ -139,7 +140,7 @@ operator_bytes Remainder = codes "%"
 operator_bytes Not = codes "!"
 operator_bytes Complement = codes "~"
 
--- `same_flag a b`: both are true or neither is.
+-- `same_flag a b`: both flags are true, or neither is.
 abbrev pub same_flag : Bool → Bool → Bool
 same_flag true b = b
 same_flag false b = not b
@@ -182,28 +183,30 @@ begins_word [] = false
 begins_word (c ∷ cells) = is_word_byte (shown c)
 
 module _ (table : List Argument) (rules : Rules) where
-  -- `may_go e cells`: operands of the unknown condition `e` may go from its text.
+  -- `may_go e cells`: operands of the unknown condition `e` may be removed from its text `cells`.
   abbrev pub may_go : Expression → List Cell → Bool
   may_go e cells = is_unknown (tree_cond e table rules) &&
       is_undecided table rules (residual table rules e) && not (list_any is_literal cells)
 
-  -- `is_read e left`: `left` begins no word, and has the tokens of what is left of the tree `e`.
+  -- `is_read e left`: `left` begins no word, and has the tokens of the residual of the tree `e`.
   abbrev pub is_read : Expression → List Cell → Bool
   is_read e left = not (begins_word left) &&
       are_tokens (tokens_of (map shown left)) (spelling (residual table rules e).tree)
 
-  -- `simplified_tree e cells`: the text `cells` of the tree `e` without the operands that go.
+  -- `simplified_tree e cells`: the text `cells` of the tree `e` without the operands that are
+  -- removed.
   abbrev pub simplified_tree : Expression → List Cell → List Cell
   simplified_tree e cells =
       if may_go e cells && is_read e (left_cells (keeps table rules e) cells)
       then left_cells (keeps table rules e) cells else cells
 
-  -- `simplified_by tree cells`: the same, or the text itself if it has no tree.
+  -- `simplified_by tree cells`: the text without these operands, or the text itself if it has no
+  -- tree.
   abbrev pub simplified_by : Option Expression → List Cell → List Cell
   simplified_by None cells = cells
   simplified_by (Some e) cells = simplified_tree e cells
 
   -- `simplified_cells cells`: the text `cells` after the keyword of an `#if` or `#elif` without the
-  -- operands that go.
+  -- operands that are removed.
   unfoldable pub simplified_cells : List Cell → List Cell
   simplified_cells cells = simplified_by (expression_of (map shown cells)) cells

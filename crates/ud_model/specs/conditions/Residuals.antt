@@ -1,12 +1,13 @@
 -- Residuals: a condition without the operands that the table decides.
--- C11 6.5.13p3, 6.5.14p3: only the truth of the operands of `&&`, `||` and `!` counts, and only that
--- of a whole condition (6.10.1p6).
+-- C11 6.5.13p3, 6.5.14p3: only the truth of the operands of `&&`, `||` and `!` counts, and only the
+-- truth of a whole condition (6.10.1p6).
 --
---   Residual          a condition, and the expression that is left for it
---   operands e        the operands of the tree: what `&&`, `||` and `!` outside other operators join
---   residual e        what is left of the tree if each operand that the table decides goes, with its
---                     operator, unless it decides that operator's value
---   simplified e      the same of a whole condition; `e` itself if nothing would be left of it
+--   Residual        a condition, and the expression that is left for it
+--   operands e      the operands of the tree: the trees that `&&`, `||` and `!` outside other
+--                   operators join
+--   residual e      the tree `e` without each operand that the table decides, and without its
+--                   operator, unless the operand decides that operator's value
+--   simplified e    the residual of a whole condition, or `e` itself if the residual is decided
 --
 -- An operand is decided as an `#if` with nothing but the operand would be. Nothing is added, and
 -- nothing moves.
@@ -28,7 +29,7 @@ use Rattle.ud_model.specs.declared.operator.Operator.TheVariants.{Or, And, Not}
 pub record Residual : Type 0 where
   pub cond : Cond
   pub tree : Expression
-  -- The last operator `&&` or `||` of the expression went, with one of its operands.
+  -- The operator `&&` or `||` at the top of the expression was removed, with one of its operands.
   pub lost : Bool
 
 -- `is_unit o c`: beside an operand with the condition `c` the other operand of `o` decides.
@@ -56,7 +57,7 @@ settled strict o c d =
     else if settles o d && not (strict && is_unknown c) then d
     else Unknown
 
--- `joined strict o x y`: what is left of `o` between operands of which `x` and `y` are left.
+-- `joined strict o x y`: the residual of `o` between operands with the residuals `x` and `y`.
 abbrev pub joined : Bool → Operator → Residual → Residual → Residual
 joined strict o x y =
     if is_unit o x.cond then record y { lost = true }
@@ -67,7 +68,7 @@ joined strict o x y =
       lost = false;
     }
 
--- `negated x`: what is left of `!` before an operand of which `x` is left.
+-- `negated x`: the residual of `!` before an operand with the residual `x`.
 abbrev pub negated : Residual → Residual
 negated x = record { cond = negate x.cond; tree = unary Not x.tree; lost = false }
 
@@ -79,8 +80,8 @@ stands_alone (parens a) = true
 stands_alone (unary o a) = stands_alone a
 stands_alone _ = false
 
--- `enclosed x`: what is left of parentheses around an expression of which `x` is left. The
--- parentheses go if the operator in them went, and they aren't needed.
+-- `enclosed x`: the residual of parentheses around an expression with the residual `x`. The
+-- parentheses are removed if the operator in them was, and they aren't needed.
 abbrev pub enclosed : Residual → Residual
 enclosed x =
     if x.lost && stands_alone x.tree then x
@@ -91,8 +92,8 @@ module _ (table : List Argument) (rules : Rules) where
   abbrev pub alone : Expression → Residual
   alone e = record { cond = tree_cond e table rules; tree = e; lost = false }
 
-  -- `residual e`: what is left of the tree `e` without its decided operands. A decided operand of
-  -- `&&` or `||` goes if the other one decides the value.
+  -- `residual e`: the tree `e` without its decided operands. A decided operand of `&&` or `||` is
+  -- removed if the other operand decides the value.
   abbrev pub residual : Expression → Residual
   residual (unary Not a) = negated (residual a)
   residual (binary And a b) = joined rules.strict And (residual a) (residual b)
@@ -105,7 +106,7 @@ module _ (table : List Argument) (rules : Rules) where
   AreUndecided [] = Unit {0}
   AreUndecided (x ∷ xs) = (tree_cond x table rules ≡ Unknown) × AreUndecided xs
 
-  -- `is_undecided x`: what is left has no condition, by its operands and as a whole.
+  -- `is_undecided x`: the residual is unknown, by its operands and as a whole.
   abbrev pub is_undecided : Residual → Bool
   is_undecided x = is_unknown x.cond && is_unknown (tree_cond x.tree table rules)
 

@@ -1,4 +1,4 @@
--- Sublists: lists of which some members are left.
+-- Sublists: lists without some of their members.
 --
 --   IsSublist xs ys   `xs` has some members of `ys`, in their order
 use Rattle.std.specs.Prelude.{List, [], ◌∷◌}

@@ -1,18 +1,19 @@
 -- Simplified texts: a text without the operands of its conditions that the table decides.
 -- C11 6.10.1.
 --
---   left_line l d          the line `l` of the directive `d` with what is left of its condition
---   simplified_line r      that line, or the line that was read
---   simplified_text text   the text of such lines
+--   left_line l d           the line `l` of the directive `d` with the cells of its condition that
+--                           are left
+--   simplified_line r       this line, or the line that was read
+--   simplified_text bytes   the text of such lines
 --
--- A line is left as it is unless it has an `#if` or an `#elif`, joins no other line, and has an
--- ending. And it is left as it is if the edited line, read by itself, would join the next one, have
--- another directive, another text after the keyword than what is left, or another ending: without
--- the operands a carriage return may come to stand before the newline.
+-- A line stays unless it has an `#if` or an `#elif`, joins no other line, and has an ending. And it
+-- stays unless the edited line, read by itself, joins no other line and has the same directive, the
+-- same ending, and exactly the cells that are left after the keyword. Without the operands, a
+-- carriage return may precede the newline, for example.
 --
--- Each line that is edited keeps its number, so both texts have as many lines.
+-- An edited line keeps its number, so both texts have the same count of lines.
 --
--- Example: with A undefined `#if A || X // c` is `#if X // c`, and `#if!A||X` stays.
+-- Example: with A undefined, `#if A || X // c` becomes `#if X // c`, and `#if!A||X` stays.
 use Rattle.std.specs.Prelude.{ℕ, ◌+◌, List, [], ◌++◌, map, take, drop, Bool, true, false}
 use Rattle.std.specs.Prelude.{not, ◌&&◌, if◌then◌else◌, bytes_eq}
 use Rattle.std.specs.List.{concat}
@@ -31,11 +32,11 @@ use Rattle.ud_model.specs.declared.kind.Kind.{Kind}
 use Rattle.ud_model.specs.declared.kind.Kind.TheVariants.{If, Elif}
 use Rattle.ud_model.specs.declared.kind.Mode.TheVariants.{C}
 
--- `keyword_end d`: the place in the line where the text after the keyword begins.
+-- `keyword_end d`: the position in the line at which the text after the keyword begins.
 abbrev pub keyword_end : Directive → ℕ
 keyword_end d = d.keyword.at + d.keyword.len
 
--- `condition_cells l d`: the cells of that text, on a line `l` that joins no other.
+-- `condition_cells l d`: the cells of this text, if the line `l` joins no other line.
 abbrev pub condition_cells : Line → Directive → List Cell
 condition_cells l d = drop (keyword_end d) (content_cells [] l)
 
@@ -61,11 +62,11 @@ abbrev pub is_lone : Scan → Line → Bool
 is_lone scan l = not (is_spanning scan) && not (is_empty l.ending)
 
 module _ (table : List Argument) (rules : Rules) where
-  -- `left_cells_of l d`: what is left of the condition.
+  -- `left_cells_of l d`: the cells of the condition that are left.
   abbrev pub left_cells_of : Line → Directive → List Cell
   left_cells_of l d = simplified_cells table rules (condition_cells l d)
 
-  -- `left_line l d`: the line with what is left of its condition.
+  -- `left_line l d`: the line `l` with the cells of its condition that are left.
   abbrev pub left_line : Line → Directive → Line
   left_line l d = record {
     body = take (keyword_end d) l.body ++ map (λ (c : Cell). c.byte) (left_cells_of l d);
@@ -78,13 +79,16 @@ module _ (table : List Argument) (rules : Rules) where
   is_read_back l d scan = not scan.joins_after &&
       has_condition d.kind (map shown (left_cells_of l d)) (content_of scan)
 
-  -- `may_change scan l d`: the line with the directive `d` may have what is left of its condition.
-  abbrev pub may_change : Scan → Line → Directive → Bool
-  may_change scan l d = is_lone scan l && (keeps_ending (left_line l d) &&
-      is_read_back l d (scan_after_run [] (left_line l d)))
+  -- `is_read_alone l d`: the edited line, read by itself, is the line that is meant.
+  abbrev pub is_read_alone : Line → Directive → Bool
+  is_read_alone l d = keeps_ending (left_line l d) &&
+      is_read_back l d (scan_after_run [] (left_line l d))
 
-  -- `line_by scan l content`: the line with this content and what is left of its condition, or the
-  -- line itself.
+  -- `may_change scan l d`: the line `l` with the directive `d` may be edited.
+  abbrev pub may_change : Scan → Line → Directive → Bool
+  may_change scan l d = is_lone scan l && is_read_alone l d
+
+  -- `line_by scan l content`: the line `l` with this content as edited, or the line itself.
   abbrev pub line_by : Scan → Line → Content → Line
   line_by scan l (directive d) = if may_change scan l d then left_line l d else l
   line_by scan l cut_keyword = l

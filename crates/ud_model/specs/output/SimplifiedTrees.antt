@@ -1,11 +1,11 @@
--- Simplified trees: a text in which operands of the conditions went, as a tree, and the truths that
--- C gives both texts.
+-- Simplified trees: the tree of a text whose conditions lack the decided operands, and the truths
+-- that C gives both texts.
 -- C11 6.10.1p4, p6.
 --
 --   IsChosen table e b            by some numbers for the uses of the open names, C finds the
 --                                 condition `e` to be `b`
 --   IsChosenWorld table w ns      so does C for each condition that it evaluates in the world `w`
---   LineSimplified l k            `k` has the condition of the line `l`, or what is left of it
+--   LineSimplified l k            `k` has the condition of the line `l`, or its residual
 --   NodesSimplified w v ns us     `us` are the nodes `ns` with such openers, and `v` gives each
 --                                 opener the truth that `w` gives the one from which it comes
 use Rattle.std.specs.Prelude.{◌≡◌, Bool, Option, Some, None, List}
@@ -34,7 +34,7 @@ abbrev pub IsChosenWorld : List Argument → World Reading → Nodes Reading →
 IsChosenWorld table w ns = EachReached w (λ o. IsChosen table (condition_in o.line) (w o.line)) ns
 
 module _ (table : List Argument) (rules : Rules) where
-  -- `LineSimplified l k`: `k` has the condition of the line `l`, or what is left of it.
+  -- `LineSimplified l k`: `k` has the condition of the line `l`, or its residual.
   pub data LineSimplified : Reading → Reading → Type 0 where
     condition_stays : {l k : Reading} → condition_in k ≡ condition_in l → LineSimplified l k
     operands_go : {l k : Reading} {e : Expression} → condition_in l ≡ Some e →
@@ -55,7 +55,7 @@ module _ (table : List Argument) (rules : Rules) where
           NodesSimplified w v ns us → GroupsSimplified w v gs hs →
           NodesSimplified w v (section ns gs l) (section us hs l)
 
-    -- `GroupsSimplified w v gs hs`: the same of groups.
+    -- `GroupsSimplified w v gs hs`: `hs` are the groups `gs` with simplified openers.
     pub data GroupsSimplified (w v : World Reading) : Groups Reading → Groups Reading → Type 0 where
       conditions_alone : {es fs : Elifs Reading} → ElifsSimplified w v es fs →
           GroupsSimplified w v (conditional es) (conditional fs)
@@ -63,7 +63,8 @@ module _ (table : List Argument) (rules : Rules) where
           ElifsSimplified w v es fs → NodesSimplified w v ns us →
           GroupsSimplified w v (otherwise es l ns) (otherwise fs l us)
 
-    -- `ElifsSimplified w v es fs`: the same of groups with a condition.
+    -- `ElifsSimplified w v es fs`: `fs` are the groups `es`, each with a condition, with simplified
+    -- openers.
     pub data ElifsSimplified (w v : World Reading) : Elifs Reading → Elifs Reading → Type 0 where
       first_group : {o p : Opener Reading} {ns us : Nodes Reading} → OpenerSimplified w v o p →
           NodesSimplified w v ns us → ElifsSimplified w v (first o ns) (first p us)

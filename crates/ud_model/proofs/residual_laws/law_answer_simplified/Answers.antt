@@ -1,4 +1,4 @@
--- As the output is, so is the simplified output.
+-- By the tree of the simplified output.
 use Rattle.std.proofs.Common.{List, map, ◌∙◌, ap}
 use Rattle.ud_model.specs.text.Scans.{Reading}
 use Rattle.ud_model.specs.answer.CommandLine.{options_of}

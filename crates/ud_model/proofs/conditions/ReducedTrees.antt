@@ -1,0 +1,46 @@
+-- Reduced trees: a tree that is its own residual has no operand that can be removed.
+use Rattle.std.proofs.Common.{◌≡◌, Bool, true, false, not, ◌&&◌, List, [], ◌∷◌, ◌++◌, refl, subst}
+use Rattle.ud_model.specs.conditions.Table.{Argument}
+use Rattle.ud_model.specs.conditions.Expressions.{Expression, constant, named, is_defined, unary, binary, parens}
+use Rattle.ud_model.specs.conditions.Conditions.{Rules}
+use Rattle.ud_model.specs.conditions.Residuals.{is_unit, is_unknown, stands_alone, residual, operands, AreUndecided}
+use Rattle.ud_model.specs.conditions.ResidualTexts.{all_flags, joined_flags, keeps}
+use Rattle.ud_model.specs.output.LeftOperands.{HasNoUnit, IsReduced}
+use Rattle.ud_model.specs.declared.operator.Operator.TheVariants.{Or, And, Not}
+use Rattle.ud_model.proofs.conditions.ResidualShape.{unknown_is, operands_undecided}
+use Rattle.ud_model.proofs.conditions.ResidualAgain.{AreTrue, fixed_true}
+
+true_parts : (xs ys : List Bool) → AreTrue (xs ++ ys) → AreTrue xs × AreTrue ys
+true_parts [] ys h = (tt, h)
+true_parts (x ∷ xs) ys h = let r : AreTrue xs × AreTrue ys = true_parts xs ys h.1 in ((h.0, r.0), r.1)
+
+-- If all tokens of an operator stay, neither operand is a unit.
+no_unit_by : (b d : Bool) (e f : Expression) (xs ys : List Bool) → AreTrue (joined_flags b d e f xs ys) → (b ≡ false) × (d ≡ false) × AreTrue xs × AreTrue ys
+no_unit_by true d e f xs ys h = let p : AreTrue (all_flags false e) × AreTrue (false ∷ ys) = true_parts (all_flags false e) (false ∷ ys) h in let q : false ≡ true = p.1.0 in cc
+no_unit_by false true e f xs ys h = let p : AreTrue xs × AreTrue (false ∷ all_flags false f) = true_parts xs (false ∷ all_flags false f) h in let q : false ≡ true = p.1.0 in cc
+no_unit_by false false e f xs ys h = let p : AreTrue xs × AreTrue (true ∷ ys) = true_parts xs (true ∷ ys) h in (refl, refl, p.0, p.1.1)
+
+module _ (table : List Argument) (rules : Rules) where
+  no_unit : (e : Expression) → AreTrue (keeps table rules e) → HasNoUnit table rules e
+  no_unit (unary Not a) h = no_unit a h.1
+  no_unit (binary And a b) h =
+      let p = no_unit_by (is_unit And (residual table rules a).cond) (is_unit And (residual table rules b).cond) a b (keeps table rules a) (keeps table rules b) h in
+      (p.0, p.1, no_unit a p.2, no_unit b p.3)
+  no_unit (binary Or a b) h =
+      let p = no_unit_by (is_unit Or (residual table rules a).cond) (is_unit Or (residual table rules b).cond) a b (keeps table rules a) (keeps table rules b) h in
+      (p.0, p.1, no_unit a p.2, no_unit b p.3)
+  no_unit (parens a) h =
+      let f : Bool = not ((residual table rules a).lost && stands_alone (residual table rules a).tree) in
+      no_unit a (true_parts (keeps table rules a) (f ∷ []) h.1).0
+  no_unit (constant w) h = tt
+  no_unit (named n a) h = tt
+  no_unit (is_defined n p) h = tt
+  no_unit (unary o a) h = tt
+  no_unit (binary o a b) h = tt
+
+  -- A tree that is its own unknown residual is reduced.
+  pub fixed_reduced : (e : Expression) → (residual table rules e).tree ≡ e → is_unknown (residual table rules e).cond ≡ true → IsReduced table rules e
+  fixed_reduced e p u = record {
+    no_unit = no_unit e (fixed_true table rules e p);
+    undecided = λ s. subst (λ (x : Expression). AreUndecided table rules (operands x)) p (operands_undecided table rules e s (unknown_is (residual table rules e).cond u));
+  }

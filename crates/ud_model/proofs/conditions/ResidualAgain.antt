@@ -1,0 +1,97 @@
+-- Residual again: the text of a residual stays as it is.
+use Rattle.std.proofs.Common.{◌≡◌, ◌≤◌, ◌-◌, ℕ, Bool, true, false, ◌&&◌, if◌then◌else◌, List, [], ◌∷◌, ◌++◌, length, map, Option, Some, None, refl, sym, ◌∙◌, ap, ap₂, subst, inl, inr, ◌⊎◌, arith}
+use Rattle.std.proofs.lemmas.List.{take-append-drop}
+use Rattle.ud_model.specs.text.Bytes.{skip_white}
+use Rattle.ud_model.specs.text.Lexemes.{Cell, shown}
+use Rattle.ud_model.specs.conditions.Table.{Argument}
+use Rattle.ud_model.specs.conditions.Tokens.{NextToken, at_end, unreadable, found, next_token}
+use Rattle.ud_model.specs.conditions.Expressions.{Expression, spelling}
+use Rattle.ud_model.specs.aids.Parsing.{expression_of}
+use Rattle.ud_model.specs.conditions.Conditions.{Rules}
+use Rattle.ud_model.specs.conditions.Residuals.{residual}
+use Rattle.ud_model.specs.conditions.ResidualTexts.{chosen, keeps, ends_operand, gap_left, cells_before, cells_after, left_by, left_from, left_cells, may_go, is_read, simplified_by, simplified_cells}
+use Rattle.ud_model.proofs.conditions.KeptTokens.{SameLength, choose, kept_are}
+use Rattle.ud_model.proofs.conditions.ResidualShape.{again}
+use Rattle.ud_model.proofs.conditions.ResidualRead.{same_or_left, untouched}
+
+-- 1. The flags of a residual.
+
+-- Each flag is true.
+abbrev pub AreTrue : List Bool → Type 0
+AreTrue [] = Unit {0}
+AreTrue (f ∷ flags) = (f ≡ true) × AreTrue flags
+
+chosen_fewer : {A : Type 0} (flags : List Bool) (xs : List A) → length (chosen flags xs) ≤ length xs
+chosen_fewer [] xs = omega arith
+chosen_fewer (f ∷ flags) [] = omega arith
+chosen_fewer (true ∷ flags) (x ∷ xs) = let h = chosen_fewer flags xs in omega (arith, h)
+chosen_fewer (false ∷ flags) (x ∷ xs) = let h = chosen_fewer flags xs in omega (arith, h)
+
+-- If all members are chosen, each flag is true.
+all_true : {A : Type 0} (flags : List Bool) (xs : List A) → SameLength flags xs → chosen flags xs ≡ xs → AreTrue flags
+all_true [] xs h e = tt
+all_true (true ∷ flags) (x ∷ xs) h e = let t : chosen flags xs ≡ xs = cc in (refl, all_true flags xs h t)
+all_true (false ∷ flags) (x ∷ xs) h e =
+    let a : length (chosen flags xs) ≤ length xs = chosen_fewer flags xs in
+    let b : length (chosen flags xs) ≡ length (x ∷ xs) = ap length e in
+    absurd (omega (arith, a, b))
+all_true (f ∷ flags) [] h e = absurd h
+
+-- 2. A text all of whose tokens stay.
+
+gap_stays : (operand : Bool) (gap : List Cell) → gap_left (if operand then true else true) gap ≡ gap
+gap_stays true gap = refl
+gap_stays false gap = refl
+
+token_stays : (operand : Bool) (further : Bool → List Cell → List Cell) → ((o : Bool) (c : List Cell) → further o c ≡ c) → (cells : List Cell) (x : NextToken) →
+    left_by true operand true further cells x ≡ cells
+token_stays operand further h cells at_end = refl
+token_stays operand further h cells unreadable = refl
+token_stays operand further h cells (found t rest) =
+    let s : List ℕ = skip_white (map shown cells) in
+    let after : List Cell = cells_after s cells in
+    ap₂ (λ (xs ys : List Cell). xs ++ ys) (gap_stays operand (cells_before s cells))
+    (ap (λ (ys : List Cell). cells_before rest after ++ ys) (h (ends_operand t) (cells_after rest after)) ∙ take-append-drop (length after - length rest) after)
+    ∙ take-append-drop (length cells - length s) cells
+
+all_stay : (operand : Bool) (flags : List Bool) → AreTrue flags → (cells : List Cell) → left_from true operand flags cells ≡ cells
+all_stay operand [] h cells = refl
+all_stay operand (true ∷ flags) h cells = token_stays operand (λ o c. left_from true o flags c) (λ o c. all_stay o flags h.1 c) cells (next_token (map shown cells))
+all_stay operand (false ∷ flags) h cells = let e : false ≡ true = h.0 in cc
+
+-- 3. The text of a residual.
+
+module _ (table : List Argument) (rules : Rules) where
+  abbrev rest_of : Expression → Expression
+  rest_of e = (residual table rules e).tree
+
+  -- If an expression is its own residual, each of its tokens stays.
+  pub fixed_true : (e : Expression) → rest_of e ≡ e → AreTrue (keeps table rules e)
+  fixed_true e p = all_true (keeps table rules e) (spelling e) (choose table rules e).long (sym (kept_are table rules e) ∙ ap spelling p)
+
+  flags_true : (e : Expression) → AreTrue (keeps table rules (rest_of e))
+  flags_true e = fixed_true (rest_of e) (ap (λ x. x.tree) (again table rules e))
+
+  -- The text of a residual stays.
+  pub residual_stays : (e : Expression) (cells : List Cell) → expression_of (map shown cells) ≡ Some (rest_of e) → simplified_cells table rules cells ≡ cells
+  unfolding simplified_cells
+  residual_stays e cells p =
+      subst (λ o. simplified_by table rules o cells ≡ cells) (sym p)
+      (by (may_go table rules (rest_of e) cells && is_read table rules (rest_of e) (left_cells (keeps table rules (rest_of e)) cells)))
+    where
+      by : (b : Bool) → (if b then left_cells (keeps table rules (rest_of e)) cells else cells) ≡ cells
+      by true = all_stay false (keeps table rules (rest_of e)) (flags_true e) cells
+      by false = refl
+
+  -- A simplified text stays.
+  pub cells_again : (cells : List Cell) → simplified_cells table rules (simplified_cells table rules cells) ≡ simplified_cells table rules cells
+  cells_again cells = by (expression_of (map shown cells)) refl
+    where
+      go : (e : Expression) → (simplified_cells table rules cells ≡ cells) ⊎ (expression_of (map shown (simplified_cells table rules cells)) ≡ Some (rest_of e)) →
+          simplified_cells table rules (simplified_cells table rules cells) ≡ simplified_cells table rules cells
+      go e (inl q) = ap (simplified_cells table rules) q
+      go e (inr q) = residual_stays e (simplified_cells table rules cells) q
+
+      by : (o : Option Expression) → expression_of (map shown cells) ≡ o → simplified_cells table rules (simplified_cells table rules cells) ≡ simplified_cells table rules cells
+      by None p = ap (simplified_cells table rules) (untouched table rules cells p)
+      by (Some e) p = go e (same_or_left table rules e cells p)
