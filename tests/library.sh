@@ -33,6 +33,39 @@ for chunk in 1 7 64 65536; do
   filters+=("$work/filter$chunk")
 done
 
+# The function of C.md.
+{
+  printf '#include <stdio.h>\n#include <string.h>\n#include <unifdef.h>\n'
+  awk '/^```/ { inside = $0 == "```c"; next } inside' docs/C.md
+  printf 'int main(int argc, char **argv) {\n'
+  printf '    return argc != 2 ? 3 : strip_file(argv[1], strlen(argv[1]), stdin, stdout);\n}\n'
+} > "$work/page.c"
+"$cc" "${flags[@]}" "${checked[@]}" -o "$work/page" "$work/page.c" lib/libunifdef.a
+
+# gives STATUS OUTPUT PROGRAM..: what a program must give. A minute is a guard against hanging.
+gives() {
+  local status=0
+  timeout 60 "${@:3}" > "$work/out" 2> "$work/err" || status=$?
+  if [ "$status" -ne "$1" ] || [ "$(cat "$work/out")" != "$2" ]; then
+    echo "library: ${*:3}: status $status"
+    cat "$work/out" "$work/err"
+    exit 1
+  fi
+}
+
+# A read error is no end of the text. A fault ends the reading of a text that has no end, and so
+# does an output that is full.
+for program in "$work/page" "$work/filter65536"; do
+  gives 1 x "$program" -DA < <(printf '#ifdef A\nx\n#endif\n')
+  gives 2 '' "$program" -DA < "$work"
+  gives 2 x "$program" -DA < <(echo x; yes '#endif' 2> /dev/null)
+  status=0
+  yes 2> /dev/null | timeout 60 "$program" -DA > /dev/full 2> "$work/err" || status=${PIPESTATUS[1]}
+  [ "$status" -eq 2 ] || { echo "library: $program with a full output: status $status"; exit 1; }
+done
+gives 2 '' "$work/filter65536" -DA < "$work"
+[ "$(cat "$work/err")" = 'filter: Read error' ]
+
 # Through the shared library: what pkg-config prints is what a program needs.
 "$cc" "${flags[@]}" -O2 -o "$work/shared" lib/examples/filter.c -Llib -lunifdef
 [ "$(printf '#ifdef A\nx\n#endif\n' | LD_LIBRARY_PATH=lib "$work/shared" -DA)" = x ]
