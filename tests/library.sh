@@ -80,4 +80,5 @@ awk '/^\.Bd/ { n++; next } /^\.Ed/ { n += n > 1 } n == 2' "$work/examples" > "$w
 command -v python3 > /dev/null || { echo 'library: python3 is not there, so it is left out'; exit 0; }
 export UNIFDEF_LIBRARY=$PWD/lib/libunifdef.so.1 PYTHONDONTWRITEBYTECODE=1
 (cd lib/python && python3 -m unifdef)
+timeout 600 tests/library_module.py
 tests/library.py "${filters[@]}"

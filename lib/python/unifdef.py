@@ -72,8 +72,11 @@ class Trouble(Exception):
     """The arguments or the text have a fault. `answer` has the output for what comes before it."""
 
     def __init__(self, answer: Answer) -> None:
-        super().__init__(answer.message.rstrip("\n"))
+        super().__init__(answer)  # Its arguments are those of a copy, as in another process.
         self.answer = answer
+
+    def __str__(self) -> str:
+        return self.answer.message.rstrip("\n")
 
 
 def run(text: bytes, *arguments: Union[str, bytes]) -> Answer:
@@ -125,6 +128,7 @@ class Stream:
     def __init__(self, *arguments: Union[str, bytes]) -> None:
         """Begins a text. Raises `Trouble` if the arguments have a fault."""
         self._stream = _Stream()
+        self.faulty = False  # Whether the text so far has a fault.
         self._words = b"".join(_word(argument) + b"\0" for argument in arguments)
         error = _library.unifdef_open(self._stream, self._words, len(self._words))
         if error == -2:
@@ -135,9 +139,10 @@ class Stream:
     def feed(self, chunk: bytes) -> bytes:
         """Returns the output for the lines that end in `chunk`.
 
-        After a fault of the text that is b"", and `finish` returns the fault.
+        After a fault of the text that is b"", `faulty` is true, and `finish` returns the fault.
         """
         fed = _library.unifdef_feed(self._stream, chunk, len(chunk))
+        self.faulty = self.faulty or fed == TROUBLE
         if fed < 0:
             raise ValueError("the text has ended") if fed == CLOSED else MemoryError(_REASONS[fed])
         return self._take()
@@ -187,7 +192,7 @@ class Stream:
 def strip_chunks(chunks: Iterable[bytes], *arguments: Union[str, bytes]) -> Iterator[bytes]:
     """Yields the output for a text in chunks, as it comes.
 
-    Raises `Trouble` at the end of a text with a fault.
+    At a fault, takes no further chunk, and raises `Trouble` after the output for what comes before.
 
     >>> b"".join(strip_chunks([b"#ifdef A\\n", b"x\\n#endif", b"\\ny\\n"], "-UA"))
     b'y\\n'
@@ -196,6 +201,8 @@ def strip_chunks(chunks: Iterable[bytes], *arguments: Union[str, bytes]) -> Iter
         for chunk in chunks:
             if output := stream.feed(chunk):
                 yield output
+            if stream.faulty:
+                break
         answer = stream.finish()
         if answer.output:
             yield answer.output
