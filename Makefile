@@ -23,7 +23,8 @@
 #                 PREFIX; make uninstall removes them
 # make lib        proves and builds the library for C: lib/libunifdef.a and lib/libunifdef.so
 # make lib-test   tries both from C and from Python, with sanitizers, and runs all cases through them
-# make install-lib  installs the library, unifdef.h, unifdef.pc, the module for Python and unifdef(3)
+# make install-lib  installs the library, unifdef.h, unifdef.pc, the module for Python and unifdef(3),
+#                 and runs ldconfig if it is root and DESTDIR is empty
 # make dist       makes unifdef-VERSION.tar.gz of the last commit, which builds by itself
 # make deb        makes a Debian package of both programs
 # make deb-lib    makes the Debian packages libunifdef1, libunifdef-dev and python3-unifdef
@@ -65,6 +66,7 @@ INCLUDEDIR ?= $(PREFIX)/include
 PKGCONFIGDIR ?= $(LIBDIR)/pkgconfig
 PYTHONDIR ?= $(PREFIX)/lib/python3/dist-packages
 INSTALL ?= install
+LDCONFIG ?= /sbin/ldconfig
 
 # The pages that are installed. They link to one another alone.
 PAGES := $(addprefix docs/,DEFINITIONS.md PROVED.md PROMISES.md PROOFS.md crates.svg)
@@ -206,6 +208,7 @@ install-lib: lib
 	$(INSTALL) -m 644 lib/python/unifdef.py "$(DESTDIR)$(PYTHONDIR)" && \
 	sed -e 's|@PREFIX@|$(PREFIX)|' -e 's|@LIBDIR@|$(LIBDIR)|' -e 's|@INCLUDEDIR@|$(INCLUDEDIR)|' -e "s|@VERSION@|$$(packaging/version.sh)|" \
 	  lib/unifdef.pc.in > "$(DESTDIR)$(PKGCONFIGDIR)/unifdef.pc"
+	@[ -n "$(DESTDIR)" ] || [ "$$(id -u)" -ne 0 ] || [ ! -x "$(LDCONFIG)" ] || "$(LDCONFIG)"
 
 uninstall-lib:
 	rm -f "$(DESTDIR)$(LIBDIR)"/libunifdef.a "$(DESTDIR)$(LIBDIR)"/libunifdef.so "$(DESTDIR)$(LIBDIR)"/libunifdef.so.[0-9]*

@@ -29,6 +29,9 @@ printf '%s (%s) unstable; urgency=medium\n\n  * CHANGELOG.md has what changed.\n
 gzip -9n "$documents/changelog" "$root"/usr/share/man/man1/*.1
 strip --remove-section=.comment "$root/usr/bin/unifdef" "$root/usr/bin/unifdef-tree"
 
+# kibibytes FOLDER: the size of its files, which isn't that of their blocks on some disk.
+kibibytes() { find "$1" -type f -printf '%s\n' | awk '{ n += int(($1 + 1023) / 1024) } END { print n }'; }
+
 # The programs need a C library that is at least as new as the newest of their symbols.
 library=$(objdump -T unifdef unifdef-tree | sed -n 's/.*GLIBC_\([0-9.]*\).*/\1/p' | sort -Vu | tail -n 1)
 mkdir "$root/DEBIAN"
@@ -37,7 +40,7 @@ Package: $package
 Version: $version
 Architecture: $architecture
 Maintainer: $maintainer
-Installed-Size: $(du -sk "$root/usr" | cut -f 1)
+Installed-Size: $(kibibytes "$root/usr")
 Depends: libc6 (>= $library)
 Conflicts: unifdef
 Replaces: unifdef

@@ -93,7 +93,15 @@ built_by_pkg_config() {
 }
 if [ -e lib/libunifdef.a ] && command -v cc > /dev/null && command -v pkg-config > /dev/null; then
   prefix=$work/library
-  check install-lib "$make" -s -o lib/libunifdef.a install-lib PREFIX="$prefix"
+  # Only root, and only without DESTDIR, refreshes the list of the machine's libraries.
+  printf '#!/bin/sh\necho ldconfig >> "%s/refreshed"\n' "$work" > "$work/ldconfig"
+  chmod +x "$work/ldconfig"
+  check 'install-lib: DESTDIR' "$make" -s -o lib/libunifdef.a install-lib DESTDIR="$target" LDCONFIG="$work/ldconfig"
+  check 'install-lib: DESTDIR refreshes nothing' test ! -e "$work/refreshed"
+  check install-lib "$make" -s -o lib/libunifdef.a install-lib PREFIX="$prefix" LDCONFIG="$work/ldconfig"
+  refreshed=ldconfig
+  [ "$(id -u)" -eq 0 ] || refreshed=''
+  check 'install-lib: ldconfig' same "$(grep -xs ldconfig "$work/refreshed")" "$refreshed"
   check 'install-lib: files' same "$(cd "$prefix" && find . ! -type d | sort)" \
 "./include/unifdef.h
 ./lib/libunifdef.a
@@ -148,6 +156,11 @@ if command -v dpkg-deb > /dev/null && command -v objdump > /dev/null; then
   cp "$package" "$work/first.deb"
   check 'deb: again' "$make" -s -o unifdef -o unifdef-tree deb
   check 'deb: the same bytes' cmp "$work/first.deb" "$package"
+  # Each file system counts its own blocks for a file.
+  if [ -w /dev/shm ] && [ "$(stat -fc %T /dev/shm)" != "$(stat -fc %T "$work")" ]; then
+    check 'deb: in memory' env TMPDIR=/dev/shm "$make" -s -o unifdef -o unifdef-tree deb
+    check 'deb: the same bytes in memory' cmp "$work/first.deb" "$package"
+  fi
   root=$work/root
   mkdir -p "$root/var/lib/dpkg/info" "$root/var/lib/dpkg/updates" "$root/var/lib/dpkg/triggers"
   touch "$root/var/lib/dpkg/status" "$root/var/lib/dpkg/available"
