@@ -10,6 +10,9 @@
  * number of threads may call at once, each with buffers and streams of its own. No call may be made
  * in a signal handler, or in the forked child of a process with threads, since malloc may not.
  *
+ * A thread that calls needs a stack of 1 MiB, for conditions with thousands of operators or
+ * parentheses. With less, such a condition ends the process.
+ *
  * A pointer may be null if its length is 0. What a call writes to may not overlap anything else
  * that it is passed.
  */
