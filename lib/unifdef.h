@@ -97,7 +97,12 @@ struct unifdef_stream {
     void *state;
 };
 
+/* In C++, {0} has a warning: 0 is no null pointer there. */
+#ifdef __cplusplus
+#define UNIFDEF_STREAM_INIT {}
+#else
 #define UNIFDEF_STREAM_INIT {0}
+#endif
 
 /* The error if a stream is closed, or if its text has ended and is fed. */
 #define UNIFDEF_CLOSED (-4)

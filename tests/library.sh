@@ -66,6 +66,25 @@ done
 gives 2 '' "$work/filter65536" -DA < "$work"
 [ "$(cat "$work/err")" = 'filter: Read error' ]
 
+# C++, with the warnings that its compiler has for C's null pointers.
+cxx=${CXX:-c++}
+if command -v "$cxx" > /dev/null; then
+  printf '#include <unifdef.h>\nint main() {\n    unifdef_stream stream = UNIFDEF_STREAM_INIT;\n' > "$work/init.cpp"
+  printf '    unifdef_close(&stream);\n    return stream.state != nullptr;\n}\n' >> "$work/init.cpp"
+  for source in "$work/init.cpp" lib/examples/strip.cpp; do
+    for standard in c++11 c++17; do
+      "$cxx" -std=$standard -Wall -Wextra -Wpedantic -Wzero-as-null-pointer-constant -Wold-style-cast -Werror -g -Ilib \
+        "${checked[@]}" -o "$work/strip" "$source" lib/libunifdef.a
+    done
+  done
+  gives 2 '' "$work/strip" -DA < "$work"
+  [ "$(cat "$work/err")" = 'strip: stdin: Is a directory' ]
+  gives 2 x "$work/strip" -DA < <(printf 'x\n#endif\n')
+  filters+=("$work/strip")
+else
+  echo "library: $cxx is not there, so C++ is left out"
+fi
+
 # Through the shared library: what pkg-config prints is what a program needs.
 "$cc" "${flags[@]}" -O2 -o "$work/shared" lib/examples/filter.c -Llib -lunifdef
 [ "$(printf '#ifdef A\nx\n#endif\n' | LD_LIBRARY_PATH=lib "$work/shared" -DA)" = x ]
