@@ -71,6 +71,9 @@ LDCONFIG ?= /sbin/ldconfig
 # The pages that are installed. They link to one another alone.
 PAGES := $(addprefix docs/,DEFINITIONS.md PROVED.md PROMISES.md PROOFS.md crates.svg)
 
+# The module for Python.
+MODULE := $(addprefix lib/python/unifdef/,__init__.py __main__.py _library.py py.typed)
+
 # Rattle's command: the one on PATH, or `make RT=FILE`.
 RT ?= rt
 
@@ -200,12 +203,12 @@ uninstall:
 
 install-lib: lib
 	@MAJOR=$$(packaging/version.sh | sed 's/\..*//') && \
-	$(INSTALL) -d "$(DESTDIR)$(LIBDIR)" "$(DESTDIR)$(PKGCONFIGDIR)" "$(DESTDIR)$(INCLUDEDIR)" "$(DESTDIR)$(MANDIR)/man3" "$(DESTDIR)$(PYTHONDIR)" && \
+	$(INSTALL) -d "$(DESTDIR)$(LIBDIR)" "$(DESTDIR)$(PKGCONFIGDIR)" "$(DESTDIR)$(INCLUDEDIR)" "$(DESTDIR)$(MANDIR)/man3" "$(DESTDIR)$(PYTHONDIR)/unifdef" && \
 	$(INSTALL) -m 644 lib/libunifdef.a lib/libunifdef.so.$$MAJOR "$(DESTDIR)$(LIBDIR)" && \
 	ln -sf libunifdef.so.$$MAJOR "$(DESTDIR)$(LIBDIR)/libunifdef.so" && \
 	$(INSTALL) -m 644 lib/unifdef.h "$(DESTDIR)$(INCLUDEDIR)" && \
 	$(INSTALL) -m 644 docs/unifdef.3 "$(DESTDIR)$(MANDIR)/man3" && \
-	$(INSTALL) -m 644 lib/python/unifdef.py "$(DESTDIR)$(PYTHONDIR)" && \
+	$(INSTALL) -m 644 $(MODULE) "$(DESTDIR)$(PYTHONDIR)/unifdef" && \
 	sed -e 's|@PREFIX@|$(PREFIX)|' -e 's|@LIBDIR@|$(LIBDIR)|' -e 's|@INCLUDEDIR@|$(INCLUDEDIR)|' -e "s|@VERSION@|$$(packaging/version.sh)|" \
 	  lib/unifdef.pc.in > "$(DESTDIR)$(PKGCONFIGDIR)/unifdef.pc"
 	@[ -n "$(DESTDIR)" ] || [ "$$(id -u)" -ne 0 ] || [ ! -x "$(LDCONFIG)" ] || "$(LDCONFIG)"
@@ -213,7 +216,9 @@ install-lib: lib
 uninstall-lib:
 	rm -f "$(DESTDIR)$(LIBDIR)"/libunifdef.a "$(DESTDIR)$(LIBDIR)"/libunifdef.so "$(DESTDIR)$(LIBDIR)"/libunifdef.so.[0-9]*
 	rm -f "$(DESTDIR)$(PKGCONFIGDIR)/unifdef.pc" "$(DESTDIR)$(INCLUDEDIR)/unifdef.h"
-	rm -f "$(DESTDIR)$(MANDIR)/man3/unifdef.3" "$(DESTDIR)$(PYTHONDIR)/unifdef.py"
+	rm -f "$(DESTDIR)$(MANDIR)/man3/unifdef.3" $(foreach file,$(notdir $(MODULE)),"$(DESTDIR)$(PYTHONDIR)/unifdef/$(file)")
+	rm -rf "$(DESTDIR)$(PYTHONDIR)/unifdef/__pycache__"
+	[ ! -d "$(DESTDIR)$(PYTHONDIR)/unifdef" ] || rmdir "$(DESTDIR)$(PYTHONDIR)/unifdef" 2> /dev/null || true
 
 dist:
 	@packaging/dist.sh

@@ -92,11 +92,12 @@ removal of preprocessor conditionals, for building programs
  libraries that a C program is linked with.
 END
 
-take python3-unifdef usr/lib/python3/dist-packages/unifdef.py
+module=usr/lib/python3/dist-packages/unifdef
+take python3-unifdef "$module"/{__init__,__main__,_library}.py "$module/py.typed"
 build python3-unifdef all python "Depends: $shared (>= $version), python3:any" << 'END'
 removal of preprocessor conditionals, for Python
  The module unifdef removes the preprocessor conditionals of C source that
- its options decide. It calls libunifdef, and is one file over ctypes.
+ its options decide. It calls libunifdef by ctypes, and has types.
 END
 
 left=$(find "$all" ! -type d)

@@ -120,4 +120,9 @@ command -v python3 > /dev/null || { echo 'library: python3 is not there, so it i
 export UNIFDEF_LIBRARY=$PWD/lib/libunifdef.so.1 PYTHONDONTWRITEBYTECODE=1
 (cd lib/python && python3 -m unifdef)
 timeout 600 tests/library_module.py
+if command -v mypy > /dev/null; then
+  (cd lib/python && mypy --strict --cache-dir=/dev/null unifdef)
+else
+  echo 'library: mypy is not there, so the types of the module are not checked'
+fi
 tests/library.py "${filters[@]}"

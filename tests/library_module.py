@@ -1,14 +1,18 @@
 #!/usr/bin/env python3
-"""Tries what no case tells of the Python module: faults in pools, and chunks after a fault.
+"""Tries what no case tells of the Python module: pools, chunks after a fault, buffers, wrong types.
 
     tests/library_module.py     UNIFDEF_LIBRARY is the library
 
 A pool whose result doesn't come back has lost it. A minute for each is a guard against hanging.
 """
 
+import array
+import mmap
 import multiprocessing
+import os
 import pickle
 import sys
+import tempfile
 from concurrent.futures import Executor, ProcessPoolExecutor, ThreadPoolExecutor
 from pathlib import Path
 from typing import Callable, Iterator
@@ -96,9 +100,100 @@ def chunks() -> None:
         check("faulty: at the end", stream.faulty)
 
 
+def buffers() -> None:
+    """A text is any object with bytes, however long, and stays the caller's."""
+    text = b"#ifdef A\nx\n#endif\ny\n"
+    longer = text * 40000
+    changed = bytearray(text)
+    for what, given in (
+        ("bytearray", changed),
+        ("memoryview", memoryview(b"..." + text)[3:]),
+        ("a view of each second byte", memoryview(bytes(it for it in text for _ in "xx"))[::2]),
+        ("a view of numbers", memoryview(array.array("H", memoryview(text).cast("H")))),
+    ):
+        check(what, unifdef.strip(given, "-UA").rstrip() == b"y")
+        with unifdef.Stream("-UA") as stream:
+            check(f"{what}: a chunk", stream.feed(given).rstrip() == b"y")
+    changed.append(0)  # It isn't held.
+    check("empty", all(unifdef.strip(it, "-DA") == b"" for it in (b"", bytearray(), memoryview(b""))))
+    check("an expression", unifdef.condition(bytearray(b"A > 1"), "-DA=2") is True)
+    check("names", unifdef.names(memoryview(b"A || B")) == [b"A", b"B"])
+    with tempfile.TemporaryFile() as file:
+        file.write(longer)
+        file.flush()
+        with mmap.mmap(file.fileno(), 0, access=mmap.ACCESS_READ) as mapped:
+            check("mmap", unifdef.strip(mapped, "-UA") == b"y\n" * 40000)
+
+
+def long_texts() -> None:
+    """A text that is fed has the same answer as one that is run in one call."""
+    for text in (b"#ifdef A\nx\n#else\ny\n#endif\n" * 30000 + b"z", b"x" * 65000 + b"\n#if A\n#elif B\n"):
+        for end in (b"", b"#endif\n", b"/* "):
+            for arguments in (["-DA"], ["-n", "-UA"], ["-s", "a.c"], ["-S"], ["-DA", "-x1"], ["-q"]):
+                given = (text + b"\n" * unifdef.LONG + end, *arguments)
+                whole = unifdef._run_short(given[0], unifdef._words(tuple(arguments)))
+                check(f"a long text with {arguments}", unifdef.run(*given) == whole)
+
+
+class Named:
+    """An object that names a file."""
+
+    def __init__(self, name: str) -> None:
+        self.name = name
+
+    def __fspath__(self) -> str:
+        return self.name
+
+
+def arguments() -> None:
+    """An argument is a word or a path, and each option is one of its own."""
+    message = "unifdef: sub/a.c: 1: Inappropriate #endif\n"
+    for name in ("sub/a.c", b"sub/a.c", Path("sub", "a.c"), Named("sub/a.c")):
+        check(f"{name!r} names a file", unifdef.run(b"#endif\n", "-DA", name).message == message)
+    odd = os.fsdecode(b"\xff.c")
+    check("a name that isn't UTF-8", unifdef.run(b"", odd).message == "unifdef: Cannot take arguments\n")
+    for what, call in {
+        "'-DA -UB'": lambda: unifdef.strip(b"", "-k", "-DA -UB"),
+        "b'-DA -UB'": lambda: unifdef.Stream(b"-DA -UB"),
+        "'-U A'": lambda: list(unifdef.strip_chunks([], "-U A")),
+    }.items():
+        error = raised(call)
+        check(f"{what} is named", isinstance(error, unifdef.Trouble) and f": {what};" in str(error))
+        check(f"{what}: a copy", str(pickle.loads(pickle.dumps(error))) == str(error))
+    error = raised(lambda: unifdef.condition(b"A", "-DA -UB"))
+    check("condition names it", isinstance(error, ValueError) and "'-DA -UB'" in str(error))
+
+
+def wrong_types() -> None:
+    """What isn't bytes, or no argument, is refused by its name."""
+    for name, kind, call in (
+        ("text", "str", lambda: unifdef.strip("#if A\n", "-DA")),
+        ("text", "str", lambda: unifdef.run("x" * unifdef.LONG, "-DA")),
+        ("text", "NoneType", lambda: unifdef.run(None, "-DA")),
+        ("text", "int", lambda: unifdef.run(3, "-DA")),
+        ("chunk", "str", lambda: unifdef.Stream("-DA").feed("x")),
+        ("chunk", "str", lambda: list(unifdef.strip_chunks("text", "-DA"))),
+        ("chunk", "int", lambda: list(unifdef.strip_chunks(b"text", "-DA"))),
+        ("expression", "str", lambda: unifdef.condition("A", "-DA")),
+        ("expression", "str", lambda: unifdef.names("A")),
+        ("argument 1", "list", lambda: unifdef.strip(b"x", ["-DA", "-UB"])),
+        ("argument 2", "int", lambda: unifdef.strip(b"x", "-DA", 1)),
+        ("argument 1", "NoneType", lambda: unifdef.condition(b"A", None)),
+    ):
+        error = raised(call)
+        told = str(error).startswith(f"{name} must be ") and f", not {kind}" in str(error)
+        check(f"{name} that is {kind}: {error!r}", isinstance(error, TypeError) and told)
+    error = raised(lambda: unifdef.run(b"x", "-DA", "a\0b"))
+    check("a zero byte", str(error) == "argument 2 has a zero byte")
+
+
 def main() -> int:
     """Makes all checks. Returns the exit status."""
     chunks()
+    buffers()
+    long_texts()
+    arguments()
+    wrong_types()
     pools()
     print(f"library: {right} checks of the Python module hold, {wrong} don't")
     return 1 if wrong else 0

@@ -91,6 +91,28 @@ built_by_pkg_config() {
   read -ra flags <<< "$(PKG_CONFIG_PATH=$1/lib/pkgconfig pkg-config --cflags --libs unifdef)"
   cc -o "$work/filter" lib/examples/filter.c "${flags[@]}" && objdump -p "$work/filter" | grep -q 'NEEDED *libunifdef.so.1$'
 }
+
+# in_an_environment LIBRARIES: pip installs the module into a virtual environment, beside the installed
+# library. It gets nothing from the network, so setuptools has to be there.
+in_an_environment() {
+  local python=$work/environment/bin/python
+  # pip writes to the folder that it installs.
+  cp -R lib/python "$work/module"
+  if ! python3 -m venv --system-site-packages "$work/environment" > /dev/null 2>&1 || ! "$python" -c '
+from importlib.util import find_spec
+built = any(map(find_spec, ("wheel", "setuptools.command.bdist_wheel")))
+raise SystemExit(not (built and find_spec("pip")))' 2> /dev/null; then
+    echo 'packages: venv, pip, setuptools or wheel is not there, so pip install is left out'
+    return
+  fi
+  check 'pip install' "$python" -m pip -q install --no-build-isolation --no-index --no-deps "$work/module"
+  check 'pip install: runs' same "$(cd "$work/environment" && LD_LIBRARY_PATH=$1 "$python" -c '
+import unifdef; print(unifdef.__version__, unifdef.__file__, unifdef.names(b"A || B"))')" \
+    "$version $(cd "$work/environment" && echo "$PWD"/lib/python3*/site-packages/unifdef/__init__.py) [b'A', b'B']"
+  check 'pip install: the examples' env LD_LIBRARY_PATH="$1" "$python" -m unifdef
+  check 'pip install: types' test -e "$work"/environment/lib/python3*/site-packages/unifdef/py.typed
+}
+
 if [ -e lib/libunifdef.a ] && command -v cc > /dev/null && command -v pkg-config > /dev/null; then
   prefix=$work/library
   # Only root, and only without DESTDIR, refreshes the list of the machine's libraries.
@@ -108,7 +130,10 @@ if [ -e lib/libunifdef.a ] && command -v cc > /dev/null && command -v pkg-config
 ./lib/libunifdef.so
 ./lib/libunifdef.so.1
 ./lib/pkgconfig/unifdef.pc
-./lib/python3/dist-packages/unifdef.py
+./lib/python3/dist-packages/unifdef/__init__.py
+./lib/python3/dist-packages/unifdef/__main__.py
+./lib/python3/dist-packages/unifdef/_library.py
+./lib/python3/dist-packages/unifdef/py.typed
 ./share/man/man3/unifdef.3"
   check 'install-lib: the version' same "$(PKG_CONFIG_PATH=$prefix/lib/pkgconfig pkg-config --modversion unifdef)" "$version"
   check 'install-lib: builds' built_by_pkg_config "$prefix"
@@ -117,6 +142,7 @@ if [ -e lib/libunifdef.a ] && command -v cc > /dev/null && command -v pkg-config
   if command -v python3 > /dev/null; then
     check 'install-lib: Python' same "$(LD_LIBRARY_PATH=$prefix/lib PYTHONPATH=$prefix/lib/python3/dist-packages \
       python3 -Bc 'import unifdef; print(unifdef.names(b"A || B"))')" "[b'A', b'B']"
+    in_an_environment "$prefix/lib"
   fi
   check uninstall-lib "$make" -s uninstall-lib PREFIX="$prefix"
   check 'uninstall-lib: files' same "$(find "$prefix" ! -type d)" ''
