@@ -189,7 +189,7 @@ install: unifdef unifdef-tree
 	$(INSTALL) -m 644 $(PAGES) LICENSE "$(DESTDIR)$(DOCDIR)"
 	$(INSTALL) -m 644 packaging/completions/unifdef.bash "$(DESTDIR)$(BASHDIR)/unifdef"
 	$(INSTALL) -m 644 packaging/completions/unifdef.bash "$(DESTDIR)$(BASHDIR)/unifdef-tree"
-	$(INSTALL) -m 644 packaging/completions/_unifdef "$(DESTDIR)$(ZSHDIR)"
+	$(INSTALL) -m 644 packaging/completions/_unifdef packaging/completions/_unifdef-tree "$(DESTDIR)$(ZSHDIR)"
 	$(INSTALL) -m 644 packaging/completions/unifdef.fish packaging/completions/unifdef-tree.fish "$(DESTDIR)$(FISHDIR)"
 	@test -n "$(DESTDIR)" || packaging/warn.sh "$(BINDIR)"
 
@@ -198,7 +198,7 @@ uninstall:
 	rm -f "$(DESTDIR)$(MANDIR)/man1/unifdef.1" "$(DESTDIR)$(MANDIR)/man1/unifdef-tree.1"
 	rm -f $(foreach page,$(notdir $(PAGES)) LICENSE,"$(DESTDIR)$(DOCDIR)/$(page)")
 	[ ! -d "$(DESTDIR)$(DOCDIR)" ] || rmdir "$(DESTDIR)$(DOCDIR)" 2> /dev/null || true
-	rm -f "$(DESTDIR)$(BASHDIR)/unifdef" "$(DESTDIR)$(BASHDIR)/unifdef-tree" "$(DESTDIR)$(ZSHDIR)/_unifdef"
+	rm -f "$(DESTDIR)$(BASHDIR)/unifdef" "$(DESTDIR)$(BASHDIR)/unifdef-tree" "$(DESTDIR)$(ZSHDIR)/_unifdef" "$(DESTDIR)$(ZSHDIR)/_unifdef-tree"
 	rm -f "$(DESTDIR)$(FISHDIR)/unifdef.fish" "$(DESTDIR)$(FISHDIR)/unifdef-tree.fish"
 
 install-lib: lib

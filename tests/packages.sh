@@ -71,7 +71,8 @@ check 'install: files' same "$(cd "$target/opt/my tools" && find . -type f | sor
 ./share/fish/vendor_completions.d/unifdef.fish
 ./share/man/man1/unifdef-tree.1
 ./share/man/man1/unifdef.1
-./share/zsh/site-functions/_unifdef"
+./share/zsh/site-functions/_unifdef
+./share/zsh/site-functions/_unifdef-tree"
 
 # A file of somebody else stays, and so does a folder that others use.
 documents="$target/opt/my tools/share/doc/unifdef"
