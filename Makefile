@@ -26,7 +26,7 @@
 # make install-lib  installs the library, unifdef.h, unifdef.pc, the module for Python and unifdef(3),
 #                 and runs ldconfig if it is root and DESTDIR is empty
 # make dist       makes unifdef-VERSION.tar.gz of the last commit, which builds by itself
-# make deb        makes a Debian package of both programs
+# make deb        makes the Debian packages unifdef-tree and unifdef-proved
 # make deb-lib    makes the Debian packages libunifdef1, libunifdef-dev and python3-unifdef
 # make packages-test  installs and uninstalls in folders of its own, makes both packages, and tries
 #                 the completions

@@ -1,5 +1,6 @@
 #!/usr/bin/env bash
-# Installs and uninstalls both programs in folders of its own, and tries both packages.
+# Installs and uninstalls both programs and the library in folders of its own, and tries the tarball
+# and the packages of the programs.
 set -u -o pipefail
 export LC_ALL=C
 unset MAKEFLAGS MAKELEVEL
@@ -176,32 +177,51 @@ else
   echo 'packages: not under version control, so the tarball is left out'
 fi
 
-# The Debian package, in a folder with a list of packages of its own.
+# The Debian packages, in a folder with a list of packages of its own.
 if command -v dpkg-deb > /dev/null && command -v objdump > /dev/null; then
-  check deb "$make" -s -o unifdef -o unifdef-tree deb
-  package=unifdef-proved_${version}_$(dpkg --print-architecture).deb
-  cp "$package" "$work/first.deb"
+  architecture=$(dpkg --print-architecture)
+  packages=("unifdef-tree_${version}_$architecture.deb" "unifdef-proved_${version}_$architecture.deb")
+  check deb same "$("$make" -s -o unifdef -o unifdef-tree deb)" "$(printf '%s\n' "${packages[@]}")"
+  mkdir "$work/made"
+  cp "${packages[@]}" "$work/made"
+  same_bytes() { for it in "${packages[@]}"; do cmp "$work/made/$it" "$it" || return 1; done; }
   check 'deb: again' "$make" -s -o unifdef -o unifdef-tree deb
-  check 'deb: the same bytes' cmp "$work/first.deb" "$package"
+  check 'deb: the same bytes' same_bytes
   # Each file system counts its own blocks for a file.
   if [ -w /dev/shm ] && [ "$(stat -fc %T /dev/shm)" != "$(stat -fc %T "$work")" ]; then
     check 'deb: in memory' env TMPDIR=/dev/shm "$make" -s -o unifdef -o unifdef-tree deb
-    check 'deb: the same bytes in memory' cmp "$work/first.deb" "$package"
+    check 'deb: the same bytes in memory' same_bytes
   fi
   root=$work/root
   mkdir -p "$root/var/lib/dpkg/info" "$root/var/lib/dpkg/updates" "$root/var/lib/dpkg/triggers"
   touch "$root/var/lib/dpkg/status" "$root/var/lib/dpkg/available"
   in_root() { dpkg --root="$root" --log=/dev/null --force-not-root --force-depends "$@"; }
+  is_installed() { in_root -s "$1" | grep -qx 'Status: install ok installed'; }
   if command -v lintian > /dev/null; then
-    check 'deb: lintian' lintian_is_quiet "$package"
+    for package in "${packages[@]}"; do
+      check "$package: lintian" lintian_is_quiet "$package"
+    done
   fi
-  check 'deb: installs' in_root -i "$here/$package"
-  check 'deb: is known' in_root -s unifdef-proved
+  check 'deb: installs' in_root -i "${packages[@]/#/$here/}"
+  check 'deb: is known' is_installed unifdef-proved
   works_in deb "$root/usr"
-  check 'deb: goes away' in_root --purge unifdef-proved
+  check 'deb: goes away' in_root --purge unifdef-proved unifdef-tree
   check 'deb: leaves nothing' same "$(find "$root" -path "$root/var" -prune -o -type f -print)" ''
+
+  # Beside a package with the name and the files of Debian's unifdef.
+  theirs=$work/theirs
+  mkdir -p "$theirs/DEBIAN" "$theirs/usr/bin" "$theirs/usr/share/man/man1"
+  touch "$theirs/usr/bin/unifdef" "$theirs/usr/share/man/man1/unifdef.1.gz"
+  printf '%s\n' 'Package: unifdef' 'Version: 2.12-1' 'Architecture: all' 'Maintainer: nobody <nobody@localhost>' \
+    'Description: theirs' > "$theirs/DEBIAN/control"
+  check 'deb: theirs' dpkg-deb --root-owner-group --build "$theirs" "$work/theirs.deb"
+  check 'deb: beside unifdef' in_root -i "$work/theirs.deb" "$here/${packages[0]}"
+  check 'deb: both are there' eval 'is_installed unifdef && is_installed unifdef-tree'
+  check 'deb: runs beside unifdef' same "$("$root/usr/bin/unifdef-tree" -V)" "unifdef-tree $version"
+  check 'deb: in place of unifdef' in_root -i "$here/${packages[1]}"
+  check 'deb: unifdef is away' eval '! is_installed unifdef && is_installed unifdef-proved && is_installed unifdef-tree'
 else
-  echo 'packages: dpkg-deb or objdump is not there, so the Debian package is left out'
+  echo 'packages: dpkg-deb or objdump is not there, so the Debian packages are left out'
 fi
 
 echo "packages: $passed checks hold, $failed don't"
