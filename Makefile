@@ -28,8 +28,8 @@
 # make dist       makes unifdef-VERSION.tar.gz of the last commit, which builds by itself
 # make deb        makes the Debian packages unifdef-tree and unifdef-proved
 # make deb-lib    makes the Debian packages libunifdef1, libunifdef-dev and python3-unifdef
-# make packages-test  installs and uninstalls in folders of its own, makes both packages, and tries
-#                 the completions
+# make packages-test  installs and uninstalls in folders of its own, makes all packages, and tries
+#                 the completions and the hooks
 # make manuals    checks the version, the manuals by mandoc, the scripts by shellcheck, the language
 #                 of comments and pages by tools/style.py, that the names and files that pages cite
 #                 exist, by tools/names.py, and that each edit can be applied, by tools/edits.py
@@ -233,6 +233,7 @@ packages-test: unifdef unifdef-tree
 	@MAKE="$(MAKE_COMMAND)" tests/packages.sh
 	@MAKE="$(MAKE_COMMAND)" tests/packages-lib.sh
 	@tests/completions.sh
+	@tests/hooks.sh
 
 manuals:
 	@tools/lint.sh
