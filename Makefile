@@ -64,7 +64,7 @@ FISHDIR ?= $(DATADIR)/fish/vendor_completions.d
 LIBDIR ?= $(PREFIX)/lib
 INCLUDEDIR ?= $(PREFIX)/include
 PKGCONFIGDIR ?= $(LIBDIR)/pkgconfig
-PYTHONDIR ?= $(PREFIX)/lib/python3/dist-packages
+PYTHONDIR ?= $(shell packaging/pythondir.sh '$(PREFIX)')
 INSTALL ?= install
 LDCONFIG ?= /sbin/ldconfig
 

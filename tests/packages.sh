@@ -144,6 +144,8 @@ if [ -e lib/libunifdef.a ] && command -v cc > /dev/null && command -v pkg-config
   if command -v python3 > /dev/null; then
     check 'install-lib: Python' same "$(LD_LIBRARY_PATH=$prefix/lib PYTHONPATH=$prefix/lib/python3/dist-packages \
       python3 -Bc 'import unifdef; print(unifdef.names(b"A || B"))')" "[b'A', b'B']"
+    check 'install-lib: where Python looks' python3 -c 'import sys; sys.exit(sys.argv[1] not in sys.path)' \
+      "$(packaging/pythondir.sh "$(python3 -c 'import sys; print(sys.prefix)')")"
     in_an_environment "$prefix/lib"
   fi
   check uninstall-lib "$make" -s uninstall-lib PREFIX="$prefix"
