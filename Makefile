@@ -279,4 +279,4 @@ fronts: unifdef
 
 clean:
 	rm -f unifdef unifdef-tree unifdef-*.tar.gz *.deb lib/libunifdef.* gate.log
-	rm -rf crates/*/out .prove-*
+	rm -rf crates/*/out .prove-* lib/python/build lib/python/unifdef.egg-info
