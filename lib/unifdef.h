@@ -82,7 +82,7 @@ int unifdef_text(const char *words, size_t words_len,
  *
  *     struct unifdef_stream stream = UNIFDEF_STREAM_INIT;
  *     int status = unifdef_open(&stream, words, words_len);
- *     for each chunk:
+ *     for each chunk, while status is 0:
  *         status = unifdef_feed(&stream, chunk, chunk_len);
  *         while ((taken = unifdef_take(&stream, output, sizeof output, &pending)) > 0) ..
  *     status = unifdef_finish(&stream, message, sizeof message, &size);
