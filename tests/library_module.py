@@ -115,7 +115,8 @@ def buffers() -> None:
         with unifdef.Stream("-UA") as stream:
             check(f"{what}: a chunk", stream.feed(given).rstrip() == b"y")
     changed.append(0)  # It isn't held.
-    check("empty", all(unifdef.strip(it, "-DA") == b"" for it in (b"", bytearray(), memoryview(b""))))
+    for empty in (b"", bytearray(), memoryview(b"")):
+        check(f"an empty {type(empty).__name__}", unifdef.strip(empty, "-DA") == b"")
     check("an expression", unifdef.condition(bytearray(b"A > 1"), "-DA=2") is True)
     check("names", unifdef.names(memoryview(b"A || B")) == [b"A", b"B"])
     with tempfile.TemporaryFile() as file:
@@ -127,12 +128,13 @@ def buffers() -> None:
 
 def long_texts() -> None:
     """A text that is fed has the same answer as one that is run in one call."""
-    for text in (b"#ifdef A\nx\n#else\ny\n#endif\n" * 30000 + b"z", b"x" * 65000 + b"\n#if A\n#elif B\n"):
-        for end in (b"", b"#endif\n", b"/* "):
-            for arguments in (["-DA"], ["-n", "-UA"], ["-s", "a.c"], ["-S"], ["-DA", "-x1"], ["-q"]):
-                given = (text + b"\n" * unifdef.LONG + end, *arguments)
-                whole = unifdef._run_short(given[0], unifdef._words(tuple(arguments)))
-                check(f"a long text with {arguments}", unifdef.run(*given) == whole)
+    texts = (b"#ifdef A\nx\n#else\ny\n#endif\n" * 30000, b"x" * 65000 + b"\n#if A\n#elif B\n")
+    for words in ("-DA",), ("-n", "-UA"), ("-s", "a.c"), ("-S",), ("-DA", "-x1"), ("-q",):
+        for begin in texts:
+            for end in (b"", b"#endif\n", b"/* "):
+                text = begin + b"\n" * unifdef.LONG + end
+                whole = unifdef._run_short(text, unifdef._words(words))
+                check(f"a long text with {words}", unifdef.run(text, *words) == whole)
 
 
 class Named:
@@ -151,7 +153,8 @@ def arguments() -> None:
     for name in ("sub/a.c", b"sub/a.c", Path("sub", "a.c"), Named("sub/a.c")):
         check(f"{name!r} names a file", unifdef.run(b"#endif\n", "-DA", name).message == message)
     odd = os.fsdecode(b"\xff.c")
-    check("a name that isn't UTF-8", unifdef.run(b"", odd).message == "unifdef: Cannot take arguments\n")
+    refused = "unifdef: Cannot take arguments\n"
+    check("a name that isn't UTF-8", unifdef.run(b"", odd).message == refused)
     for what, call in {
         "'-DA -UB'": lambda: unifdef.strip(b"", "-k", "-DA -UB"),
         "b'-DA -UB'": lambda: unifdef.Stream(b"-DA -UB"),
@@ -160,6 +163,8 @@ def arguments() -> None:
         error = raised(call)
         check(f"{what} is named", isinstance(error, unifdef.Trouble) and f": {what};" in str(error))
         check(f"{what}: a copy", str(pickle.loads(pickle.dumps(error))) == str(error))
+    error = raised(lambda: unifdef.strip(b"", "-x3"))
+    check("a mode is named", str(error) == "unifdef: Bad exit mode in word 1: '-x3'")
     error = raised(lambda: unifdef.condition(b"A", "-DA -UB"))
     check("condition names it", isinstance(error, ValueError) and "'-DA -UB'" in str(error))
 

@@ -63,7 +63,8 @@ class Trouble(Exception):
         counted = re.fullmatch(r"unifdef: Bad .* in word (\d+)", message)
         if not counted or int(counted[1]) > len(self.arguments):
             return message
-        return f"{message}: {self.arguments[int(counted[1]) - 1]!r}; each option is an argument"
+        word = self.arguments[int(counted[1]) - 1]
+        return f"{message}: {word!r}" + (_EACH if " " in os.fsdecode(word) else "")
 
 
 def run(text: ReadableBuffer, *arguments: Word) -> Answer:
@@ -91,7 +92,8 @@ def _run_short(text: bytes, words: bytes) -> Answer:
             words, len(words), text, len(text), output, len(output), message, len(message), sizes
         )
         if status != TOO_SMALL:
-            return Answer(ctypes.string_at(output, sizes.output), _told(message, sizes.message), status)
+            written = ctypes.string_at(output, sizes.output)
+            return Answer(written, _told(message, sizes.message), status)
 
 
 def _run_long(text: memoryview, arguments: tuple[Word, ...]) -> Answer:
@@ -115,7 +117,7 @@ def strip(text: ReadableBuffer, *arguments: Word) -> bytes:
     unifdef.Trouble: unifdef: stdin: 1: Premature EOF (#if line 1)
     >>> strip(b"#ifdef A\\n", "-DA -UB")
     Traceback (most recent call last):
-    unifdef.Trouble: unifdef: Bad symbol in word 1: '-DA -UB'; each option is an argument
+    unifdef.Trouble: unifdef: Bad symbol in word 1: '-DA -UB'; each option is an argument of its own
     """
     answer = run(text, *arguments)
     if answer.status == TROUBLE:
@@ -263,6 +265,7 @@ def version() -> tuple[int, int]:
 
 
 _ERRORS = {NO_MEMORY: MemoryError, TOO_LONG: ValueError}
+_EACH = "; each option is an argument of its own"
 _REASONS = {NO_MEMORY: "memory was refused", TOO_LONG: "the expression is too long"}
 
 
@@ -278,7 +281,7 @@ def _word(number: int, argument: Word) -> bytes:
     except TypeError:
         kind = type(argument).__name__
         reason = f"argument {number} must be str, bytes or os.PathLike, not {kind}"
-        raise TypeError(f"{reason}; each option is an argument") from None
+        raise TypeError(reason + _EACH) from None
     word = word.encode(errors="surrogateescape") if isinstance(word, str) else word
     if b"\0" in word:
         raise ValueError(f"argument {number} has a zero byte")

@@ -32,7 +32,8 @@ def _loaded() -> ctypes.CDLL:
     try:
         library = ctypes.CDLL(file)
     except OSError as error:
-        raise ImportError(f"{error}: unifdef calls this library; UNIFDEF_LIBRARY names it") from error
+        reason = f"{error}: unifdef calls this library; UNIFDEF_LIBRARY names it"
+        raise ImportError(reason) from error
     read = [ctypes.c_char_p, ctypes.c_size_t]
     written = [ctypes.c_void_p, ctypes.c_size_t]
     stream = ctypes.POINTER(StreamState)
