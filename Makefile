@@ -23,12 +23,13 @@
 #                 PREFIX; make uninstall removes them
 # make lib        proves and builds the library for C: lib/libunifdef.a and lib/libunifdef.so
 # make lib-test   tries both from C and from Python, with sanitizers, and runs all cases through them
-# make install-lib  installs the library, unifdef.h, unifdef.pc, the module for Python and unifdef(3)
+# make install-lib  installs the library, unifdef.h, unifdef.pc, the module for Python and unifdef(3),
+#                 and runs ldconfig if it is root and DESTDIR is empty
 # make dist       makes unifdef-VERSION.tar.gz of the last commit, which builds by itself
-# make deb        makes a Debian package of both programs
+# make deb        makes the Debian packages unifdef-tree and unifdef-proved
 # make deb-lib    makes the Debian packages libunifdef1, libunifdef-dev and python3-unifdef
-# make packages-test  installs and uninstalls in folders of its own, makes both packages, and tries
-#                 the completions
+# make packages-test  installs and uninstalls in folders of its own, makes all packages, and tries
+#                 the completions and the hooks
 # make manuals    checks the version, the manuals by mandoc, the scripts by shellcheck, the language
 #                 of comments and pages by tools/style.py, that the names and files that pages cite
 #                 exist, by tools/names.py, and that each edit can be applied, by tools/edits.py
@@ -63,11 +64,15 @@ FISHDIR ?= $(DATADIR)/fish/vendor_completions.d
 LIBDIR ?= $(PREFIX)/lib
 INCLUDEDIR ?= $(PREFIX)/include
 PKGCONFIGDIR ?= $(LIBDIR)/pkgconfig
-PYTHONDIR ?= $(PREFIX)/lib/python3/dist-packages
+PYTHONDIR ?= $(shell packaging/pythondir.sh '$(PREFIX)')
 INSTALL ?= install
+LDCONFIG ?= /sbin/ldconfig
 
 # The pages that are installed. They link to one another alone.
 PAGES := $(addprefix docs/,DEFINITIONS.md PROVED.md PROMISES.md PROOFS.md crates.svg)
+
+# The module for Python.
+MODULE := $(addprefix lib/python/unifdef/,__init__.py __main__.py _library.py py.typed)
 
 # Rattle's command: the one on PATH, or `make RT=FILE`.
 RT ?= rt
@@ -184,7 +189,7 @@ install: unifdef unifdef-tree
 	$(INSTALL) -m 644 $(PAGES) LICENSE "$(DESTDIR)$(DOCDIR)"
 	$(INSTALL) -m 644 packaging/completions/unifdef.bash "$(DESTDIR)$(BASHDIR)/unifdef"
 	$(INSTALL) -m 644 packaging/completions/unifdef.bash "$(DESTDIR)$(BASHDIR)/unifdef-tree"
-	$(INSTALL) -m 644 packaging/completions/_unifdef "$(DESTDIR)$(ZSHDIR)"
+	$(INSTALL) -m 644 packaging/completions/_unifdef packaging/completions/_unifdef-tree "$(DESTDIR)$(ZSHDIR)"
 	$(INSTALL) -m 644 packaging/completions/unifdef.fish packaging/completions/unifdef-tree.fish "$(DESTDIR)$(FISHDIR)"
 	@test -n "$(DESTDIR)" || packaging/warn.sh "$(BINDIR)"
 
@@ -193,24 +198,27 @@ uninstall:
 	rm -f "$(DESTDIR)$(MANDIR)/man1/unifdef.1" "$(DESTDIR)$(MANDIR)/man1/unifdef-tree.1"
 	rm -f $(foreach page,$(notdir $(PAGES)) LICENSE,"$(DESTDIR)$(DOCDIR)/$(page)")
 	[ ! -d "$(DESTDIR)$(DOCDIR)" ] || rmdir "$(DESTDIR)$(DOCDIR)" 2> /dev/null || true
-	rm -f "$(DESTDIR)$(BASHDIR)/unifdef" "$(DESTDIR)$(BASHDIR)/unifdef-tree" "$(DESTDIR)$(ZSHDIR)/_unifdef"
+	rm -f "$(DESTDIR)$(BASHDIR)/unifdef" "$(DESTDIR)$(BASHDIR)/unifdef-tree" "$(DESTDIR)$(ZSHDIR)/_unifdef" "$(DESTDIR)$(ZSHDIR)/_unifdef-tree"
 	rm -f "$(DESTDIR)$(FISHDIR)/unifdef.fish" "$(DESTDIR)$(FISHDIR)/unifdef-tree.fish"
 
 install-lib: lib
 	@MAJOR=$$(packaging/version.sh | sed 's/\..*//') && \
-	$(INSTALL) -d "$(DESTDIR)$(LIBDIR)" "$(DESTDIR)$(PKGCONFIGDIR)" "$(DESTDIR)$(INCLUDEDIR)" "$(DESTDIR)$(MANDIR)/man3" "$(DESTDIR)$(PYTHONDIR)" && \
+	$(INSTALL) -d "$(DESTDIR)$(LIBDIR)" "$(DESTDIR)$(PKGCONFIGDIR)" "$(DESTDIR)$(INCLUDEDIR)" "$(DESTDIR)$(MANDIR)/man3" "$(DESTDIR)$(PYTHONDIR)/unifdef" && \
 	$(INSTALL) -m 644 lib/libunifdef.a lib/libunifdef.so.$$MAJOR "$(DESTDIR)$(LIBDIR)" && \
 	ln -sf libunifdef.so.$$MAJOR "$(DESTDIR)$(LIBDIR)/libunifdef.so" && \
 	$(INSTALL) -m 644 lib/unifdef.h "$(DESTDIR)$(INCLUDEDIR)" && \
 	$(INSTALL) -m 644 docs/unifdef.3 "$(DESTDIR)$(MANDIR)/man3" && \
-	$(INSTALL) -m 644 lib/python/unifdef.py "$(DESTDIR)$(PYTHONDIR)" && \
+	$(INSTALL) -m 644 $(MODULE) "$(DESTDIR)$(PYTHONDIR)/unifdef" && \
 	sed -e 's|@PREFIX@|$(PREFIX)|' -e 's|@LIBDIR@|$(LIBDIR)|' -e 's|@INCLUDEDIR@|$(INCLUDEDIR)|' -e "s|@VERSION@|$$(packaging/version.sh)|" \
 	  lib/unifdef.pc.in > "$(DESTDIR)$(PKGCONFIGDIR)/unifdef.pc"
+	@[ -n "$(DESTDIR)" ] || [ "$$(id -u)" -ne 0 ] || [ ! -x "$(LDCONFIG)" ] || "$(LDCONFIG)"
 
 uninstall-lib:
 	rm -f "$(DESTDIR)$(LIBDIR)"/libunifdef.a "$(DESTDIR)$(LIBDIR)"/libunifdef.so "$(DESTDIR)$(LIBDIR)"/libunifdef.so.[0-9]*
 	rm -f "$(DESTDIR)$(PKGCONFIGDIR)/unifdef.pc" "$(DESTDIR)$(INCLUDEDIR)/unifdef.h"
-	rm -f "$(DESTDIR)$(MANDIR)/man3/unifdef.3" "$(DESTDIR)$(PYTHONDIR)/unifdef.py"
+	rm -f "$(DESTDIR)$(MANDIR)/man3/unifdef.3" $(foreach file,$(notdir $(MODULE)),"$(DESTDIR)$(PYTHONDIR)/unifdef/$(file)")
+	rm -rf "$(DESTDIR)$(PYTHONDIR)/unifdef/__pycache__"
+	[ ! -d "$(DESTDIR)$(PYTHONDIR)/unifdef" ] || rmdir "$(DESTDIR)$(PYTHONDIR)/unifdef" 2> /dev/null || true
 
 dist:
 	@packaging/dist.sh
@@ -225,6 +233,7 @@ packages-test: unifdef unifdef-tree
 	@MAKE="$(MAKE_COMMAND)" tests/packages.sh
 	@MAKE="$(MAKE_COMMAND)" tests/packages-lib.sh
 	@tests/completions.sh
+	@tests/hooks.sh
 
 manuals:
 	@tools/lint.sh
@@ -270,4 +279,4 @@ fronts: unifdef
 
 clean:
 	rm -f unifdef unifdef-tree unifdef-*.tar.gz *.deb lib/libunifdef.* gate.log
-	rm -rf crates/*/out .prove-*
+	rm -rf crates/*/out .prove-* lib/python/build lib/python/unifdef.egg-info

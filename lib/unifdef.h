@@ -10,6 +10,9 @@
  * number of threads may call at once, each with buffers and streams of its own. No call may be made
  * in a signal handler, or in the forked child of a process with threads, since malloc may not.
  *
+ * A thread that calls needs a stack of 1 MiB, for conditions with thousands of operators or
+ * parentheses. With less, such a condition ends the process.
+ *
  * A pointer may be null if its length is 0. What a call writes to may not overlap anything else
  * that it is passed.
  */
@@ -79,7 +82,7 @@ int unifdef_text(const char *words, size_t words_len,
  *
  *     struct unifdef_stream stream = UNIFDEF_STREAM_INIT;
  *     int status = unifdef_open(&stream, words, words_len);
- *     for each chunk:
+ *     for each chunk, while status is 0:
  *         status = unifdef_feed(&stream, chunk, chunk_len);
  *         while ((taken = unifdef_take(&stream, output, sizeof output, &pending)) > 0) ..
  *     status = unifdef_finish(&stream, message, sizeof message, &size);
@@ -94,7 +97,12 @@ struct unifdef_stream {
     void *state;
 };
 
+/* In C++, {0} has a warning: 0 is no null pointer there. */
+#ifdef __cplusplus
+#define UNIFDEF_STREAM_INIT {}
+#else
 #define UNIFDEF_STREAM_INIT {0}
+#endif
 
 /* The error if a stream is closed, or if its text has ended and is fed. */
 #define UNIFDEF_CLOSED (-4)

@@ -1,56 +1,52 @@
-#!/bin/sh
-# Makes the Debian package unifdef-proved_VERSION_ARCHITECTURE.deb of ./unifdef and ./unifdef-tree,
-# with dpkg's tools.
+#!/usr/bin/env bash
+# Makes the Debian packages of the programs, with dpkg's tools:
 #
-# Debian's own package is called unifdef. The two can't be installed beside each other. The same
-# programs give the same package, byte by byte: times are SOURCE_DATE_EPOCH or, without it, the time
-# of the last commit.
-set -eu
-umask 022
-cd "$(dirname "$0")/.."
-command -v dpkg-deb > /dev/null || { echo 'deb: dpkg-deb is not there' >&2; exit 1; }
-version=$(packaging/version.sh)
-architecture=$(dpkg --print-architecture)
-stage=$(mktemp -d)
-trap 'rm -rf "$stage"' EXIT
-root=$stage/root
-package=unifdef-proved
+#   unifdef-tree       unifdef-tree alone, which can be installed beside Debian's unifdef
+#   unifdef-proved     unifdef, which takes the place of Debian's unifdef
+#
+# The same programs give the same packages, byte by byte.
+cd "$(dirname "$0")/.." || exit 1
+# shellcheck source=packaging/debian.sh
+source packaging/debian.sh
 
-"${MAKE:-make}" -s -o unifdef -o unifdef-tree install DESTDIR="$root" PREFIX=/usr DOCDIR="/usr/share/doc/$package" \
+pages=$all/usr/share/doc/pages
+"${MAKE:-make}" -s -o unifdef -o unifdef-tree install DESTDIR="$all" PREFIX=/usr DOCDIR=/usr/share/doc/pages \
   ZSHDIR=/usr/share/zsh/vendor-completions
-documents=$root/usr/share/doc/$package
-mv "$documents/LICENSE" "$documents/copyright"
-maintainer=$(git log -1 --format='%an <%ae>' 2> /dev/null || echo 'unifdef maintainers <maintainers@localhost>')
-SOURCE_DATE_EPOCH=${SOURCE_DATE_EPOCH:-$(git log -1 --format=%ct 2> /dev/null || stat -c %Y CHANGELOG.md)}
-export SOURCE_DATE_EPOCH
-cp CHANGELOG.md "$documents"
-printf '%s (%s) unstable; urgency=medium\n\n  * CHANGELOG.md has what changed.\n\n -- %s  %s\n' \
-  "$package" "$version" "$maintainer" "$(date -uRd "@$SOURCE_DATE_EPOCH")" > "$documents/changelog"
-gzip -9n "$documents/changelog" "$root"/usr/share/man/man1/*.1
-strip --remove-section=.comment "$root/usr/bin/unifdef" "$root/usr/bin/unifdef-tree"
+gzip -9n "$all"/usr/share/man/man1/*.1
+strip --remove-section=.comment "$all/usr/bin/unifdef" "$all/usr/bin/unifdef-tree"
+rm "$pages/LICENSE" # It is the copyright of each package.
+cp CHANGELOG.md "$pages"
 
-# The programs need a C library that is at least as new as the newest of their symbols.
-library=$(objdump -T unifdef unifdef-tree | sed -n 's/.*GLIBC_\([0-9.]*\).*/\1/p' | sort -Vu | tail -n 1)
-mkdir "$root/DEBIAN"
-cat > "$root/DEBIAN/control" << END
-Package: $package
-Version: $version
-Architecture: $architecture
-Maintainer: $maintainer
-Installed-Size: $(du -sk "$root/usr" | cut -f 1)
-Depends: libc6 (>= $library)
-Conflicts: unifdef
-Replaces: unifdef
-Section: devel
-Priority: optional
-Description: remove preprocessor conditionals from C source, proved
+# take_program PACKAGE PROGRAM: moves what belongs to a program, and copies the pages.
+take_program() {
+  take "$1" "usr/bin/$2" "usr/share/man/man1/$2.1.gz" "usr/share/bash-completion/completions/$2" \
+    "usr/share/zsh/vendor-completions/_$2" "usr/share/fish/vendor_completions.d/$2.fish"
+  cp "$pages"/* "$stage/$1/usr/share/doc/$1"
+}
+
+take_program unifdef-tree unifdef-tree
+build unifdef-tree "$architecture" devel "Depends: libc6 (>= $(newest unifdef-tree))" << 'END'
+remove preprocessor conditionals from the files of a tree, proved
+ unifdef-tree removes the preprocessor conditionals of C source that its
+ options decide, and the lines that they exclude, from the files of a tree, in
+ place. It shows what would change, lists the conditions that remain, and
+ counts the names on which a tree depends. It is proved that the output for a
+ file is the answer of a definition of unifdef that can be read.
+ .
+ It conflicts with no package: Debian's unifdef can be installed beside it.
+END
+
+take_program unifdef-proved unifdef
+build unifdef-proved "$architecture" devel "Depends: libc6 (>= $(newest unifdef))" 'Recommends: unifdef-tree' \
+  'Conflicts: unifdef' 'Replaces: unifdef' << 'END'
+remove preprocessor conditionals from C source, proved
  unifdef removes the preprocessor conditionals of C source that its options
  decide, and the lines that they exclude. It is proved that the program gives
  the answer of a definition of unifdef that can be read.
  .
- The package also has unifdef-tree, which does this to the files of a tree.
+ It takes the place of Debian's unifdef, but lacks its options B, d, e, f, h,
+ I, M, m, o and V. Other packages may call unifdef with these.
 END
-(cd "$root" && find usr -type f -print0 | sort -z | xargs -0 md5sum) > "$root/DEBIAN/md5sums"
-find "$root" -exec touch -hd "@$SOURCE_DATE_EPOCH" {} +
-dpkg-deb --root-owner-group --build "$root" "${package}_${version}_$architecture.deb" > /dev/null
-echo "${package}_${version}_$architecture.deb"
+
+rm -r "$pages"
+complete

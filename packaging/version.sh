@@ -1,6 +1,6 @@
 #!/bin/sh
 # Prints the version. Fails if CHANGELOG.md, the manuals, lib/unifdef.h, the library's code, the
-# option -V of unifdef-tree and the commit's tag don't agree on it.
+# module for Python, the option -V of unifdef-tree and the commit's tag don't agree on it.
 #
 # The version is that of the first heading of CHANGELOG.md with a number, as "## 1.0".
 set -u
@@ -29,6 +29,10 @@ if ! grep -qxF "const VERSION: &str = \"unifdef-tree $version\";" crates/unifdef
 fi
 if ! grep -qx "#define UNIFDEF_VERSION_STRING \"$version\"" lib/unifdef.h; then
   echo "version: lib/unifdef.h has no line #define UNIFDEF_VERSION_STRING \"$version\"" >&2
+  result=1
+fi
+if ! grep -qx "__version__ = \"$version\"" lib/python/unifdef/__init__.py; then
+  echo "version: lib/python/unifdef/__init__.py has no line __version__ = \"$version\"" >&2
   result=1
 fi
 code=crates/unifdef_c/src/version.rt

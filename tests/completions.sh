@@ -10,13 +10,13 @@ completions=$here/../packaging/completions
 
 work=$(mktemp -d)
 trap 'rm -rf "$work"' EXIT
-mkdir "$work/bin" "$work/here"
+mkdir -p "$work/bin" "$work/here/below"
 ln -s "$program" "$work/bin/unifdef"
 ln -s "$(realpath "$here/../unifdef-tree")" "$work/bin/unifdef-tree"
 export PATH=$work/bin:$PATH HOME=$work XDG_CONFIG_HOME=$work XDG_DATA_HOME=$work
 cd "$work/here" || exit 1
 printf '#if DEBUG > 1 && defined(DEEP)\n#endif\n' > a.h
-printf '#ifdef OTHER\n#endif\n' > b.c
+printf '#ifdef OTHER\n#endif\n' > below/b.c
 right=0 wrong=0
 
 # in_SHELL LINE: prints the completions that a shell offers for a line.
@@ -26,6 +26,7 @@ in_bash() {
     read -ra COMP_WORDS <<< "$2"
     [[ "$2" != *" " ]] || COMP_WORDS+=("")
     COMP_CWORD=$((${#COMP_WORDS[@]} - 1))
+    compopt() { printf "%s\n" "$2"; }
     _unifdef
     printf "%s\n" "${COMPREPLY[@]}"' bash "$completions" "$1"
 }
@@ -87,10 +88,22 @@ for shell in bash zsh fish; do
   offers "$shell" 'unifdef -UDE' "${names}DEBUG" "${names}OTHER"
   offers "$shell" 'unifdef-tree -U ' OTHER a.h
   offers "$shell" 'unifdef -x ' 2 3
+  offers "$shell" 'unifdef -U ' OTHER a.h
   case $shell in
-    bash) offers bash 'unifdef -iDDE' -iDDEEP -iDOTHER ;;
+    bash)
+      offers bash 'unifdef -iDDE' -iDDEEP -iDOTHER
+      # A value may follow the name, so no space does.
+      offers bash 'unifdef -DDE' nospace -DOTHER
+      offers bash 'unifdef-tree -D DE' nospace OTHER
+      offers bash 'unifdef -UDE' -UDEBUG nospace
+      ;;
     zsh) offers zsh 'unifdef -iDDE' DEEP OTHER ;;
-    fish) offers fish 'unifdef -iDDE' -iDDEEP -iDOTHER ;;
+    fish)
+      offers fish 'unifdef -iDDE' -iDDEEP -iDOTHER
+      # A value may follow the name, so no space does.
+      offers fish 'unifdef-tree -DDE' -DDEBUG= -DOTHER=
+      offers fish 'unifdef -UDE' -UDEBUG -UDEBUG=
+      ;;
   esac
 done
 echo "completions: $right lines are completed right, $wrong wrong"

@@ -27,6 +27,17 @@ EXAMPLE = re.compile(
     re.MULTILINE,
 )
 
+# What 2.10 is called with, and the command that does the same here.
+COMMANDS = re.compile(r"^there: (.*)\nhere:  ((?:.*\n)*?)\.Ed$", re.MULTILINE)
+
+# The files of both commands. Only the first one has blank lines.
+FILES = {
+    "in.c": b"#ifdef A\na\n\n#else\nb\n#endif\n\n#if B == 2\nc\n#endif\n#ifdef C\nd\n#endif\n",
+    "a.c": b"#ifndef A\na\n#endif\nb\n",
+    "b.c": b"#if defined(A) || B\na\n#endif\nb\n",
+    "defs": b"#define A\n#define B 2\n#undef C\n",
+}
+
 OLD, NEW = "2.10", "2.12"
 
 
@@ -105,6 +116,44 @@ def check_closed_pipe(program: Path) -> bool:
     return right
 
 
+def run_command(command: str, program: Path) -> tuple[bytes, Optional[int], dict[str, bytes]]:
+    """Returns what a command writes, its status if it is no pipe, and the files then."""
+    with tempfile.TemporaryDirectory() as top:
+        folder = Path(top, "folder")
+        folder.mkdir()
+        for name, text in FILES.items():
+            (folder / name).write_bytes(text)
+        for name, there in (("unifdef", program), ("unifdef-tree", TOP / "unifdef-tree")):
+            Path(top, name).symlink_to(there)
+        path = os.pathsep.join((top, os.environ["PATH"]))
+        done = subprocess.run(
+            ["bash", "-c", command], cwd=folder, env={**os.environ, "PATH": path},
+            stdin=subprocess.DEVNULL, capture_output=True, check=False,
+        )
+        files = {it.name: it.read_bytes() for it in folder.iterdir()}
+    return done.stdout, None if "|" in command else done.returncode, files
+
+
+def check_commands(program: Path, released: Optional[Path]) -> Iterator[bool]:
+    """Yields whether each command for users of 2.x does what 2.10 does with its arguments."""
+    manual = (TOP / "docs" / "unifdef.1").read_text(encoding="utf-8").replace("\\e", "\\")
+    section = manual.partition("\n.Ss Coming from 2.x\n")[2].partition("\n.Sh ")[0]
+    pairs = COMMANDS.findall(section)
+    if len(pairs) != section.count("\nthere: ") or not pairs:
+        raise CaseError("docs/unifdef.1: a command for users of 2.x has another form")
+    for there, here in pairs:
+        found = run_command(here, program)
+        wanted = run_command(there, released) if released else found
+        if "|" in here:
+            wanted = (wanted[0], None, wanted[2])  # The status is that of another program.
+        right = found == wanted and (found[1] or 0) < 2 and (found[0] != b"" or found[2] != FILES)
+        # The program itself takes no such arguments.
+        right = right and run_command(there, program)[1] == 2
+        if not right:
+            print(f"differences: the manual's {here.strip()}: {found}, and {there}: {wanted}")
+        yield right
+
+
 def check_new(program: Path, cases: list[Case]) -> Iterator[bool]:
     """Yields whether 2.12 gives what the manual says, for each of its examples."""
     for arguments, text, _, _, answer in examples():
@@ -128,6 +177,7 @@ def results(program: Path, released: Optional[Path], new: Optional[Path]) -> Ite
         yield check_file(new, b' "in.c"')
         yield from check_new(new, cases)
     yield check_closed_pipe(program)
+    yield from check_commands(program, released)
 
 
 def main() -> int:

@@ -33,9 +33,81 @@ for chunk in 1 7 64 65536; do
   filters+=("$work/filter$chunk")
 done
 
+# The function of C.md.
+{
+  printf '#include <stdio.h>\n#include <string.h>\n#include <unifdef.h>\n'
+  awk '/^```/ { inside = $0 == "```c"; next } inside' docs/C.md
+  printf 'int main(int argc, char **argv) {\n'
+  printf '    return argc != 2 ? 3 : strip_file(argv[1], strlen(argv[1]), stdin, stdout);\n}\n'
+} > "$work/page.c"
+"$cc" "${flags[@]}" "${checked[@]}" -o "$work/page" "$work/page.c" lib/libunifdef.a
+
+# gives STATUS OUTPUT PROGRAM..: what a program must give. A minute is a guard against hanging.
+gives() {
+  local status=0
+  timeout 60 "${@:3}" > "$work/out" 2> "$work/err" || status=$?
+  if [ "$status" -ne "$1" ] || [ "$(cat "$work/out")" != "$2" ]; then
+    echo "library: ${*:3}: status $status"
+    cat "$work/out" "$work/err"
+    exit 1
+  fi
+}
+
+# A read error is no end of the text. A fault ends the reading of a text that has no end, and so
+# does an output that is full.
+for program in "$work/page" "$work/filter65536"; do
+  gives 1 x "$program" -DA < <(printf '#ifdef A\nx\n#endif\n')
+  gives 2 '' "$program" -DA < "$work"
+  gives 2 x "$program" -DA < <(echo x; yes '#endif' 2> /dev/null)
+  status=0
+  yes 2> /dev/null | timeout 60 "$program" -DA > /dev/full 2> "$work/err" || status=${PIPESTATUS[1]}
+  [ "$status" -eq 2 ] || { echo "library: $program with a full output: status $status"; exit 1; }
+done
+gives 2 '' "$work/filter65536" -DA < "$work"
+[ "$(cat "$work/err")" = 'filter: Read error' ]
+
+# C++, with the warnings that its compiler has for C's null pointers.
+cxx=${CXX:-c++}
+if command -v "$cxx" > /dev/null; then
+  printf '#include <unifdef.h>\nint main() {\n    unifdef_stream stream = UNIFDEF_STREAM_INIT;\n' > "$work/init.cpp"
+  printf '    unifdef_close(&stream);\n    return stream.state != nullptr;\n}\n' >> "$work/init.cpp"
+  for source in "$work/init.cpp" lib/examples/strip.cpp; do
+    for standard in c++11 c++17; do
+      "$cxx" -std=$standard -Wall -Wextra -Wpedantic -Wzero-as-null-pointer-constant -Wold-style-cast -Werror -g -Ilib \
+        "${checked[@]}" -o "$work/strip" "$source" lib/libunifdef.a
+    done
+  done
+  gives 2 '' "$work/strip" -DA < "$work"
+  [ "$(cat "$work/err")" = 'strip: stdin: Is a directory' ]
+  gives 2 x "$work/strip" -DA < <(printf 'x\n#endif\n')
+  filters+=("$work/strip")
+else
+  echo "library: $cxx is not there, so C++ is left out"
+fi
+
 # Through the shared library: what pkg-config prints is what a program needs.
 "$cc" "${flags[@]}" -O2 -o "$work/shared" lib/examples/filter.c -Llib -lunifdef
 [ "$(printf '#ifdef A\nx\n#endif\n' | LD_LIBRARY_PATH=lib "$work/shared" -DA)" = x ]
+
+# The deepest inputs with a stack of 1 MiB, as a thread and as a program. Statuses, lengths, messages
+# and output are those with a large stack. A sanitizer takes stack, so none is there.
+"$cc" "${flags[@]}" -O2 -pthread -o "$work/stack" tests/library_stack.c lib/libunifdef.a
+run_shared() { LD_LIBRARY_PATH=lib "$work/shared" "$1" < "$work/in" 2>&1 || echo "status $?"; }
+for kind in $(tests/deep.sh); do
+  tests/deep.sh "$kind" > "$work/in"
+  calls=(text feed)
+  ! head -n 1 "$work/in" | grep -q '^#if ' || calls+=(condition names)
+  for words in -DA -kUA -SDA; do
+    for call in "${calls[@]}"; do
+      "$work/stack" 65536 "$call" "$words" < "$work/in" > "$work/wanted"
+      "$work/stack" 1024 "$call" "$words" < "$work/in" | cmp - "$work/wanted" ||
+        { echo "library: $call of $kind under $words needs a larger stack"; exit 1; }
+    done
+    run_shared "$words" > "$work/wanted"
+    (ulimit -s 1024; run_shared "$words") | cmp - "$work/wanted" ||
+      { echo "library: the filter needs a larger stack for $kind under $words"; exit 1; }
+  done
+done
 
 # The example of the manual, and what it prints.
 sed -n '/^\.Sh EXAMPLES/,/^\.Sh ERRORS/p' docs/unifdef.3 | sed 's/\\e/\\/g' > "$work/examples"
@@ -47,4 +119,10 @@ awk '/^\.Bd/ { n++; next } /^\.Ed/ { n += n > 1 } n == 2' "$work/examples" > "$w
 command -v python3 > /dev/null || { echo 'library: python3 is not there, so it is left out'; exit 0; }
 export UNIFDEF_LIBRARY=$PWD/lib/libunifdef.so.1 PYTHONDONTWRITEBYTECODE=1
 (cd lib/python && python3 -m unifdef)
+timeout 600 tests/library_module.py
+if command -v mypy > /dev/null; then
+  (cd lib/python && mypy --strict --cache-dir=/dev/null unifdef)
+else
+  echo 'library: mypy is not there, so the types of the module are not checked'
+fi
 tests/library.py "${filters[@]}"

@@ -59,7 +59,10 @@ check 'installs: files' same "$(cd "$root/usr" && find . ! -type d | grep -v /do
 ./${folder#usr/}/libunifdef.so
 ./${folder#usr/}/libunifdef.so.1
 ./${folder#usr/}/pkgconfig/unifdef.pc
-./lib/python3/dist-packages/unifdef.py
+./lib/python3/dist-packages/unifdef/__init__.py
+./lib/python3/dist-packages/unifdef/__main__.py
+./lib/python3/dist-packages/unifdef/_library.py
+./lib/python3/dist-packages/unifdef/py.typed
 ./share/man/man3/unifdef.3.gz
 END
 )"

@@ -1,5 +1,6 @@
 #!/usr/bin/env bash
-# Installs and uninstalls both programs in folders of its own, and tries both packages.
+# Installs and uninstalls both programs and the library in folders of its own, and tries the tarball
+# and the packages of the programs.
 set -u -o pipefail
 export LC_ALL=C
 unset MAKEFLAGS MAKELEVEL
@@ -71,7 +72,8 @@ check 'install: files' same "$(cd "$target/opt/my tools" && find . -type f | sor
 ./share/fish/vendor_completions.d/unifdef.fish
 ./share/man/man1/unifdef-tree.1
 ./share/man/man1/unifdef.1
-./share/zsh/site-functions/_unifdef"
+./share/zsh/site-functions/_unifdef
+./share/zsh/site-functions/_unifdef-tree"
 
 # A file of somebody else stays, and so does a folder that others use.
 documents="$target/opt/my tools/share/doc/unifdef"
@@ -91,16 +93,49 @@ built_by_pkg_config() {
   read -ra flags <<< "$(PKG_CONFIG_PATH=$1/lib/pkgconfig pkg-config --cflags --libs unifdef)"
   cc -o "$work/filter" lib/examples/filter.c "${flags[@]}" && objdump -p "$work/filter" | grep -q 'NEEDED *libunifdef.so.1$'
 }
+
+# in_an_environment LIBRARIES: pip installs the module into a virtual environment, beside the installed
+# library. It gets nothing from the network, so setuptools has to be there.
+in_an_environment() {
+  local python=$work/environment/bin/python
+  # pip writes to the folder that it installs.
+  cp -R lib/python "$work/module"
+  if ! python3 -m venv --system-site-packages "$work/environment" > /dev/null 2>&1 || ! "$python" -c '
+from importlib.util import find_spec
+built = any(map(find_spec, ("wheel", "setuptools.command.bdist_wheel")))
+raise SystemExit(not (built and find_spec("pip")))' 2> /dev/null; then
+    echo 'packages: venv, pip, setuptools or wheel is not there, so pip install is left out'
+    return
+  fi
+  check 'pip install' "$python" -m pip -q install --no-build-isolation --no-index --no-deps "$work/module"
+  check 'pip install: runs' same "$(cd "$work/environment" && LD_LIBRARY_PATH=$1 "$python" -c '
+import unifdef; print(unifdef.__version__, unifdef.__file__, unifdef.names(b"A || B"))')" \
+    "$version $(cd "$work/environment" && echo "$PWD"/lib/python3*/site-packages/unifdef/__init__.py) [b'A', b'B']"
+  check 'pip install: the examples' env LD_LIBRARY_PATH="$1" "$python" -m unifdef
+  check 'pip install: types' test -e "$work"/environment/lib/python3*/site-packages/unifdef/py.typed
+}
+
 if [ -e lib/libunifdef.a ] && command -v cc > /dev/null && command -v pkg-config > /dev/null; then
   prefix=$work/library
-  check install-lib "$make" -s -o lib/libunifdef.a install-lib PREFIX="$prefix"
+  # Only root, and only without DESTDIR, refreshes the list of the machine's libraries.
+  printf '#!/bin/sh\necho ldconfig >> "%s/refreshed"\n' "$work" > "$work/ldconfig"
+  chmod +x "$work/ldconfig"
+  check 'install-lib: DESTDIR' "$make" -s -o lib/libunifdef.a install-lib DESTDIR="$target" LDCONFIG="$work/ldconfig"
+  check 'install-lib: DESTDIR refreshes nothing' test ! -e "$work/refreshed"
+  check install-lib "$make" -s -o lib/libunifdef.a install-lib PREFIX="$prefix" LDCONFIG="$work/ldconfig"
+  refreshed=ldconfig
+  [ "$(id -u)" -eq 0 ] || refreshed=''
+  check 'install-lib: ldconfig' same "$(grep -xs ldconfig "$work/refreshed")" "$refreshed"
   check 'install-lib: files' same "$(cd "$prefix" && find . ! -type d | sort)" \
 "./include/unifdef.h
 ./lib/libunifdef.a
 ./lib/libunifdef.so
 ./lib/libunifdef.so.1
 ./lib/pkgconfig/unifdef.pc
-./lib/python3/dist-packages/unifdef.py
+./lib/python3/dist-packages/unifdef/__init__.py
+./lib/python3/dist-packages/unifdef/__main__.py
+./lib/python3/dist-packages/unifdef/_library.py
+./lib/python3/dist-packages/unifdef/py.typed
 ./share/man/man3/unifdef.3"
   check 'install-lib: the version' same "$(PKG_CONFIG_PATH=$prefix/lib/pkgconfig pkg-config --modversion unifdef)" "$version"
   check 'install-lib: builds' built_by_pkg_config "$prefix"
@@ -109,6 +144,9 @@ if [ -e lib/libunifdef.a ] && command -v cc > /dev/null && command -v pkg-config
   if command -v python3 > /dev/null; then
     check 'install-lib: Python' same "$(LD_LIBRARY_PATH=$prefix/lib PYTHONPATH=$prefix/lib/python3/dist-packages \
       python3 -Bc 'import unifdef; print(unifdef.names(b"A || B"))')" "[b'A', b'B']"
+    check 'install-lib: where Python looks' python3 -c 'import sys; sys.exit(sys.argv[1] not in sys.path)' \
+      "$(packaging/pythondir.sh "$(python3 -c 'import sys; print(sys.prefix)')")"
+    in_an_environment "$prefix/lib"
   fi
   check uninstall-lib "$make" -s uninstall-lib PREFIX="$prefix"
   check 'uninstall-lib: files' same "$(find "$prefix" ! -type d)" ''
@@ -141,27 +179,51 @@ else
   echo 'packages: not under version control, so the tarball is left out'
 fi
 
-# The Debian package, in a folder with a list of packages of its own.
+# The Debian packages, in a folder with a list of packages of its own.
 if command -v dpkg-deb > /dev/null && command -v objdump > /dev/null; then
-  check deb "$make" -s -o unifdef -o unifdef-tree deb
-  package=unifdef-proved_${version}_$(dpkg --print-architecture).deb
-  cp "$package" "$work/first.deb"
+  architecture=$(dpkg --print-architecture)
+  packages=("unifdef-tree_${version}_$architecture.deb" "unifdef-proved_${version}_$architecture.deb")
+  check deb same "$("$make" -s -o unifdef -o unifdef-tree deb)" "$(printf '%s\n' "${packages[@]}")"
+  mkdir "$work/made"
+  cp "${packages[@]}" "$work/made"
+  same_bytes() { for it in "${packages[@]}"; do cmp "$work/made/$it" "$it" || return 1; done; }
   check 'deb: again' "$make" -s -o unifdef -o unifdef-tree deb
-  check 'deb: the same bytes' cmp "$work/first.deb" "$package"
+  check 'deb: the same bytes' same_bytes
+  # Each file system counts its own blocks for a file.
+  if [ -w /dev/shm ] && [ "$(stat -fc %T /dev/shm)" != "$(stat -fc %T "$work")" ]; then
+    check 'deb: in memory' env TMPDIR=/dev/shm "$make" -s -o unifdef -o unifdef-tree deb
+    check 'deb: the same bytes in memory' same_bytes
+  fi
   root=$work/root
   mkdir -p "$root/var/lib/dpkg/info" "$root/var/lib/dpkg/updates" "$root/var/lib/dpkg/triggers"
   touch "$root/var/lib/dpkg/status" "$root/var/lib/dpkg/available"
   in_root() { dpkg --root="$root" --log=/dev/null --force-not-root --force-depends "$@"; }
+  is_installed() { in_root -s "$1" | grep -qx 'Status: install ok installed'; }
   if command -v lintian > /dev/null; then
-    check 'deb: lintian' lintian_is_quiet "$package"
+    for package in "${packages[@]}"; do
+      check "$package: lintian" lintian_is_quiet "$package"
+    done
   fi
-  check 'deb: installs' in_root -i "$here/$package"
-  check 'deb: is known' in_root -s unifdef-proved
+  check 'deb: installs' in_root -i "${packages[@]/#/$here/}"
+  check 'deb: is known' is_installed unifdef-proved
   works_in deb "$root/usr"
-  check 'deb: goes away' in_root --purge unifdef-proved
+  check 'deb: goes away' in_root --purge unifdef-proved unifdef-tree
   check 'deb: leaves nothing' same "$(find "$root" -path "$root/var" -prune -o -type f -print)" ''
+
+  # Beside a package with the name and the files of Debian's unifdef.
+  theirs=$work/theirs
+  mkdir -p "$theirs/DEBIAN" "$theirs/usr/bin" "$theirs/usr/share/man/man1"
+  touch "$theirs/usr/bin/unifdef" "$theirs/usr/share/man/man1/unifdef.1.gz"
+  printf '%s\n' 'Package: unifdef' 'Version: 2.12-1' 'Architecture: all' 'Maintainer: nobody <nobody@localhost>' \
+    'Description: theirs' > "$theirs/DEBIAN/control"
+  check 'deb: theirs' dpkg-deb --root-owner-group --build "$theirs" "$work/theirs.deb"
+  check 'deb: beside unifdef' in_root -i "$work/theirs.deb" "$here/${packages[0]}"
+  check 'deb: both are there' eval 'is_installed unifdef && is_installed unifdef-tree'
+  check 'deb: runs beside unifdef' same "$("$root/usr/bin/unifdef-tree" -V)" "unifdef-tree $version"
+  check 'deb: in place of unifdef' in_root -i "$here/${packages[1]}"
+  check 'deb: unifdef is away' eval '! is_installed unifdef && is_installed unifdef-proved && is_installed unifdef-tree'
 else
-  echo 'packages: dpkg-deb or objdump is not there, so the Debian package is left out'
+  echo 'packages: dpkg-deb or objdump is not there, so the Debian packages are left out'
 fi
 
 echo "packages: $passed checks hold, $failed don't"

@@ -9,7 +9,7 @@ sys.dont_write_bytecode = True
 TOP = os.path.dirname(os.path.dirname(os.path.realpath(__file__)))
 
 # What a build makes, as .gitignore has it.
-MADE_FOLDERS = (".git", "out", "__pycache__")
+MADE_FOLDERS = (".git", "out", "__pycache__", ".mypy_cache", "build", "unifdef.egg-info")
 MADE = ("unifdef", "unifdef-tree", "gate.log")
 MADE_BEGIN = "lib/libunifdef."
 MADE_END = (".deb", ".tar.gz")

@@ -13,6 +13,10 @@ if command -v mandoc > /dev/null; then
   findings=$(mandoc -T lint -W style docs/*.[13] 2>&1 |
     grep -v -e 'referenced manual not found' -e 'outdated mandoc.db')
   [ -z "$findings" ] || { printf '%s\n' "$findings"; result=1; }
+  for manual in docs/*.[13]; do
+    wide=$(mandoc -T ascii "$manual" | sed 's/.\x08//g' | awk 'length > 80')
+    [ -z "$wide" ] || { printf '%s: more than 80 columns:\n%s\n' "$manual" "$wide"; result=1; }
+  done
 else
   echo 'manuals: mandoc is not there, so it is left out'
 fi

@@ -45,7 +45,7 @@ EXCEPTIONS = {
     "built": ["lib/libunifdef.a", "lib/libunifdef.so", "libunifdef.so.1"],
     "stand for others": ["NAME.antt", "NAME.case", "vVERSION", "step_counts_no_line"],
     "units": ["conditions/s", "MB/s"],
-    "Debian's and Linux's": ["linux-source-6.1", "make headers_install", "include/uapi"],
+    "Debian's and Linux's": ["linux-source-6.1", "make headers", "make headers_install", "include/uapi"],
 }
 EXCEPTED = {name for names in EXCEPTIONS.values() for name in names}
 

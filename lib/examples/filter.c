@@ -2,7 +2,8 @@
  *
  * cc filter.c $(pkg-config --cflags --libs unifdef)
  *
- * It reads CHUNK bytes at once, so its memory doesn't grow with the text. */
+ * It reads CHUNK bytes at once, so its memory doesn't grow with the text. If reading fails, the
+ * output is that for the lines before, and the status is 2. */
 #include <stdio.h>
 #include <stdlib.h>
 #include <string.h>
@@ -12,40 +13,65 @@
 #define CHUNK 65536
 #endif
 
-/* Writes all output of a stream that is there. Returns whether it was written. */
+/* Returns the arguments of main, each with its zero byte, and their length. Free them by free. */
+static char *words_of(int argc, char **argv, size_t *len) {
+    *len = 0;
+    for (int i = 1; i < argc; i++) *len += strlen(argv[i]) + 1;
+    char *words = malloc(*len + 1), *end = words;
+    for (int i = 1; words != NULL && i < argc; i++) {
+        strcpy(end, argv[i]);
+        end += strlen(argv[i]) + 1;
+    }
+    return words;
+}
+
+/* Writes the output that can be taken. Returns whether it was written. */
 static int write_output(struct unifdef_stream *stream) {
     static char output[CHUNK];
-    size_t taken, left;
-    while ((taken = unifdef_take(stream, output, sizeof output, &left)) != 0)
+    size_t taken, pending;
+    while ((taken = unifdef_take(stream, output, sizeof output, &pending)) != 0)
         if (fwrite(output, 1, taken, stdout) != taken) return 0;
     return 1;
+}
+
+/* Feeds standard input to a stream, up to its end or the first fault. Returns what has failed, or
+ * NULL. A fault of the text is none: unifdef_finish says which it is. */
+static const char *feed_input(struct unifdef_stream *stream) {
+    static char chunk[CHUNK];
+    size_t got;
+    int fed = 0;
+    while (fed == 0 && (got = fread(chunk, 1, sizeof chunk, stdin)) != 0) {
+        fed = unifdef_feed(stream, chunk, got);
+        if (!write_output(stream)) return "Write error";
+    }
+    return ferror(stdin) ? "Read error" : NULL;
 }
 
 int main(int argc, char **argv) {
     struct unifdef_stream stream = UNIFDEF_STREAM_INIT;
     struct unifdef_sizes sizes = {0, 0};
-    static char chunk[CHUNK];
-    size_t words_len = 0, at = 0, got;
-    int fed = 0, written = 1, status;
+    const char *failed = NULL;
+    size_t words_len;
+    int status = UNIFDEF_TROUBLE;
+    char *words = words_of(argc, argv, &words_len), *message = malloc(words_len + 80);
 
-    for (int i = 1; i < argc; i++) words_len += strlen(argv[i]) + 1;
-    size_t message_len = words_len + 80;
-    char *words = malloc(words_len + 1), *message = malloc(message_len);
-    if (words == NULL || message == NULL) abort();
-    for (int i = 1; i < argc; at += strlen(argv[i++]) + 1) strcpy(words + at, argv[i]);
-
-    if (unifdef_open(&stream, words, words_len) != 0) { /* unifdef_text has the message. */
-        status = unifdef_text(words, words_len, NULL, 0, NULL, 0, message, message_len, &sizes);
+    if (words == NULL || message == NULL) {
+        failed = "Out of memory";
+    } else if (unifdef_open(&stream, words, words_len) != 0) { /* unifdef_text has the message. */
+        status = unifdef_text(words, words_len, NULL, 0, NULL, 0, message, words_len + 80, &sizes);
     } else {
-        while (written && fed == 0 && (got = fread(chunk, 1, sizeof chunk, stdin)) != 0) {
-            fed = unifdef_feed(&stream, chunk, got);
-            written = write_output(&stream);
+        failed = feed_input(&stream);
+        if (failed == NULL) { /* Else the text has no end. */
+            status = unifdef_finish(&stream, message, words_len + 80, &sizes.message);
+            failed = write_output(&stream) ? NULL : "Write error";
         }
-        status = unifdef_finish(&stream, message, message_len, &sizes.message);
-        written = written && write_output(&stream);
         unifdef_close(&stream);
     }
-    fwrite(message, 1, sizes.message, stderr);
+    if (fflush(stdout) != 0 && failed == NULL) failed = "Write error";
+    if (failed != NULL)
+        fprintf(stderr, "filter: %s\n", failed);
+    else
+        fwrite(message, 1, sizes.message, stderr);
     free(words), free(message);
-    return written && fflush(stdout) == 0 ? status : UNIFDEF_TROUBLE;
+    return failed == NULL ? status : UNIFDEF_TROUBLE;
 }

@@ -1,26 +1,32 @@
 # Completions of unifdef-tree for fish.
 
-# Prints the names in the conditions of the folder's C files.
-function __unifdef_names
-    for file in *.{c,h,cc,cpp,hh,hpp}
-        command unifdef -s < $file 2> /dev/null
-    end
+# Prints the names in the conditions of the C files below the folder: of the first files, and for
+# two seconds at most, so that a key press doesn't wait longer.
+function __unifdef_tree_names
+    timeout 2 find . -name '.?*' -prune -o -type f \( -name '*.[ch]' -o -name '*.cc' -o -name '*.hh' \
+        -o -name '*.cpp' -o -name '*.hpp' -o -name '*.cxx' -o -name '*.hxx' \) -print0 2> /dev/null |
+        head -z -n 2000 | timeout 2 unifdef-tree -0 -q -s 2> /dev/null | awk '{ print $2 }' | sort -u
 end
 
-function __unifdef_ignoring
-    printf 'D%s\n' (__unifdef_names)
-    printf 'U%s\n' (__unifdef_names)
+# Prints each name with the end of a value too, so that no space follows it.
+function __unifdef_tree_values
+    __unifdef_tree_names | sed 'p; s/$/=/'
+end
+
+function __unifdef_tree_ignoring
+    __unifdef_tree_values | sed 's/^/D/'
+    __unifdef_tree_names | sed 's/^/U/'
 end
 
 complete -c unifdef-tree -s b -d 'Leave removed lines blank'
 complete -c unifdef-tree -s c -d 'Print only the lines that would be removed'
-complete -c unifdef-tree -s D -x -a '(__unifdef_names)' -d 'Define a symbol'
-complete -c unifdef-tree -s i -x -a '(__unifdef_ignoring)' -d 'Ignore text inside sections that a symbol controls'
+complete -c unifdef-tree -s D -x -a '(__unifdef_tree_values)' -d 'Define a symbol'
+complete -c unifdef-tree -s i -x -a '(__unifdef_tree_ignoring)' -d 'Ignore text inside sections that a symbol controls'
 complete -c unifdef-tree -s K -d 'Leave && and || unknown if an operand is'
 complete -c unifdef-tree -s k -d 'Decide constant expressions'
 complete -c unifdef-tree -s l -d 'Leave removed lines blank'
 complete -c unifdef-tree -s t -d 'Plain text'
-complete -c unifdef-tree -s U -x -a '(__unifdef_names)' -d 'Undefine a symbol'
+complete -c unifdef-tree -s U -x -a '(__unifdef_tree_names)' -d 'Undefine a symbol'
 complete -c unifdef-tree -s x -x -a '0 1 2' -d 'Meaning of the exit status'
 complete -c unifdef-tree -s 0 -d 'Read paths from standard input'
 complete -c unifdef-tree -s d -d 'Print a diff of what is changed'

@@ -1,11 +1,17 @@
 # Completions of unifdef and unifdef-tree for bash.
 
-# Prints the names in the conditions of the folder's C files.
+# Prints the names in the conditions of the C files below the folder: of the first files, and for
+# two seconds at most, so that a key press doesn't wait longer.
+#
+# _unifdef_names PROGRAM: unifdef or unifdef-tree, which lists them.
 _unifdef_names() {
-  local file
-  for file in ./*.[ch] ./*.cc ./*.cpp ./*.hh ./*.hpp; do
-    [ ! -f "$file" ] || command unifdef -s < "$file" 2> /dev/null
-  done | sort -u
+  timeout 2 find . -name '.?*' -prune -o -type f \( -name '*.[ch]' -o -name '*.cc' -o -name '*.hh' \
+    -o -name '*.cpp' -o -name '*.hpp' -o -name '*.cxx' -o -name '*.hxx' \) -print0 2> /dev/null |
+    if [ "$1" = unifdef-tree ]; then
+      head -z -n 2000 | timeout 2 unifdef-tree -0 -q -s 2> /dev/null | awk '{ print $2 }'
+    else
+      head -z -n 200 | timeout 2 xargs -0 -r -n 1 unifdef -s 2> /dev/null
+    fi | sort -u
 }
 
 # Puts into COMPREPLY the words of $2 that complete the typed word after its prefix $1, each with
@@ -15,16 +21,24 @@ _unifdef_after() {
   mapfile -t COMPREPLY < <(compgen -P "$1" -W "$2" -- "${typed#"$1"}")
 }
 
+# Completes a name after its prefix $2, which the program $1 lists. No space follows one that may have
+# a value.
+_unifdef_symbol() {
+  _unifdef_after "$2" "$(_unifdef_names "$1")"
+  [[ $3 != *D ]] || compopt -o nospace 2> /dev/null || true
+}
+
 _unifdef() {
   local typed=${COMP_WORDS[COMP_CWORD]} before=${COMP_WORDS[COMP_CWORD - 1]} command=${COMP_WORDS[0]##*/}
   COMPREPLY=()
   case $before in
     -D | -U)
-      _unifdef_after '' "$(_unifdef_names)"
+      _unifdef_symbol "$command" '' "$before"
       return
       ;;
     -i)
       _unifdef_after '' 'D U'
+      compopt -o nospace 2> /dev/null || true
       return
       ;;
     -x)
@@ -34,8 +48,8 @@ _unifdef() {
     -g | -j) return ;;
   esac
   case $typed in
-    -iD* | -iU*) _unifdef_after "${typed:0:3}" "$(_unifdef_names)" ;;
-    -D* | -U*) _unifdef_after "${typed:0:2}" "$(_unifdef_names)" ;;
+    -iD* | -iU*) _unifdef_symbol "$command" "${typed:0:3}" "${typed:0:3}" ;;
+    -D* | -U*) _unifdef_symbol "$command" "${typed:0:2}" "${typed:0:2}" ;;
     -*)
       if [ "$command" = unifdef-tree ]; then
         _unifdef_after '' '-0 -b -c -D -d -g -h -iD -iU -j -K -k -l -n -q -r -s -t -U -V -w -x0 -x1 -x2 -- --help'

@@ -1,20 +1,26 @@
 # Completions of unifdef for fish.
 
-# Prints the names in the conditions of the folder's C files.
+# Prints the names in the conditions of the C files below the folder: of the first files, and for
+# two seconds at most, so that a key press doesn't wait longer.
 function __unifdef_names
-    for file in *.{c,h,cc,cpp,hh,hpp}
-        command unifdef -s < $file 2> /dev/null
-    end
+    timeout 2 find . -name '.?*' -prune -o -type f \( -name '*.[ch]' -o -name '*.cc' -o -name '*.hh' \
+        -o -name '*.cpp' -o -name '*.hpp' -o -name '*.cxx' -o -name '*.hxx' \) -print0 2> /dev/null |
+        head -z -n 200 | timeout 2 xargs -0 -r -n 1 unifdef -s 2> /dev/null | sort -u
+end
+
+# Prints each name with the end of a value too, so that no space follows it.
+function __unifdef_values
+    __unifdef_names | sed 'p; s/$/=/'
 end
 
 function __unifdef_ignoring
-    printf 'D%s\n' (__unifdef_names)
-    printf 'U%s\n' (__unifdef_names)
+    __unifdef_values | sed 's/^/D/'
+    __unifdef_names | sed 's/^/U/'
 end
 
 complete -c unifdef -s b -d 'Leave removed lines blank'
 complete -c unifdef -s c -d 'Print only the lines that would be removed'
-complete -c unifdef -s D -x -a '(__unifdef_names)' -d 'Define a symbol'
+complete -c unifdef -s D -x -a '(__unifdef_values)' -d 'Define a symbol'
 complete -c unifdef -s i -x -a '(__unifdef_ignoring)' -d 'Ignore text inside sections that a symbol controls'
 complete -c unifdef -s K -d 'Leave && and || unknown if an operand is'
 complete -c unifdef -s k -d 'Decide constant expressions'

@@ -105,29 +105,9 @@ compare "an input whose writer is killed" 2 "$status" 'a\nb\nc' 'unifdef: stdin:
 
 # --- The deepest inputs, with a stack of 1 MiB.
 
-repeat() {
-  local text
-  printf -v text '%*s' "$2" ''
-  printf '%s' "${text// /$1}"
-}
-
-deep() {
-  case $1 in
-    sections) repeat $'#ifdef X\n' 256; repeat $'#endif\n' 256 ;;
-    removed) printf '#ifdef A\n'; repeat $'#if X\n#else\n' 255; repeat $'#endif\n' 255; printf '#endif\nx\n' ;;
-    parentheses) printf '#if '; repeat '(' 32000; printf A; repeat ')' 32000; printf '\nx\n#endif\n' ;;
-    negations) printf '#if '; repeat '!' 65520; printf 'A\nx\n#endif\n' ;;
-    operators) printf '#if A'; repeat '||A' 21840; printf '\nx\n#endif\n' ;;
-    mixed) printf '#if '; repeat '-(~(!(' 10000; printf 1; repeat ')))' 1840; printf '\nx\n#endif\n' ;;
-    arguments) printf '#if A'; repeat '(A' 16000; repeat ')' 16000; printf '\nx\n#endif\n' ;;
-    comment) printf '/*'; repeat '*' 65530; printf '\n'; repeat $'*\n' 2000; printf '*/\n' ;;
-    splices) repeat $'\\\n' 50000; printf 'x\n' ;;
-    longest) repeat a 65535; printf '\n' ;;
-  esac
-}
-
-for kind in sections removed parentheses negations operators mixed arguments comment splices longest; do
-  deep $kind > "$work/in"
+deep() { "$here/../deep.sh" "$@"; }
+for kind in $(deep); do
+  deep "$kind" > "$work/in"
   for words in "-DA" "-UA -k" "-S -DA"; do
     wanted=0 status=0
     # shellcheck disable=SC2086

@@ -1,0 +1,60 @@
+#!/usr/bin/env bash
+# The parts of Debian packages that deb.sh and deb-lib.sh share: they read this file, at the top of
+# the repository.
+#
+# The same files give the same packages, byte by byte: times are SOURCE_DATE_EPOCH or, without it,
+# the time of the last commit.
+set -eu -o pipefail
+umask 022
+export LC_ALL=C
+command -v dpkg-deb > /dev/null || { echo "${0##*/}: dpkg-deb is not there" >&2; exit 1; }
+version=$(packaging/version.sh)
+# shellcheck disable=SC2034 # It is for the scripts that read this file.
+architecture=$(dpkg --print-architecture)
+maintainer=$(git log -1 --format='%an <%ae>' 2> /dev/null || echo 'unifdef maintainers <maintainers@localhost>')
+SOURCE_DATE_EPOCH=${SOURCE_DATE_EPOCH:-$(git log -1 --format=%ct 2> /dev/null || stat -c %Y CHANGELOG.md)}
+export SOURCE_DATE_EPOCH
+stage=$(mktemp -d)
+trap 'rm -rf "$stage"' EXIT
+
+# All files, in the folders of Debian. Each package takes its own.
+all=$stage/all
+
+# take PACKAGE FILE..: moves files to a package, which gets the license and what changed.
+take() {
+  local root=$stage/$1 documents=$stage/$1/usr/share/doc/$1
+  mkdir -p "$documents" "$root/DEBIAN"
+  (cd "$all" && tar cf - -- "${@:2}") | tar xf - -C "$root"
+  (cd "$all" && rm -- "${@:2}")
+  cp LICENSE "$documents/copyright"
+  printf '%s (%s) unstable; urgency=medium\n\n  * CHANGELOG.md has what changed.\n\n -- %s  %s\n' \
+    "$1" "$version" "$maintainer" "$(date -uRd "@$SOURCE_DATE_EPOCH")" | gzip -9n > "$documents/changelog.gz"
+}
+
+# kibibytes FOLDER: the size of its files, which isn't that of their blocks on some disk.
+kibibytes() { find "$1" -type f -printf '%s\n' | awk '{ n += int(($1 + 1023) / 1024) } END { print n }'; }
+
+# newest FILE..: the C library that a program needs: as new as the newest of its symbols.
+newest() { objdump -T "$@" | sed -n 's/.*GLIBC_\([0-9.]*\).*/\1/p' | sort -Vu | tail -n 1; }
+
+# build PACKAGE ARCHITECTURE SECTION FIELD..: makes a package. The description is standard input.
+build() {
+  local root=$stage/$1 package=$1_${version}_$2.deb
+  {
+    printf 'Package: %s\nVersion: %s\nArchitecture: %s\n' "$1" "$version" "$2"
+    printf 'Maintainer: %s\nInstalled-Size: %s\n' "$maintainer" "$(kibibytes "$root/usr")"
+    printf 'Section: %s\nPriority: optional\n' "$3"
+    printf '%s\n' "${@:4}" "Description: $(cat)"
+  } > "$root/DEBIAN/control"
+  (cd "$root" && find usr -type f -print0 | sort -z | xargs -0 md5sum) > "$root/DEBIAN/md5sums"
+  find "$root" -exec touch -hd "@$SOURCE_DATE_EPOCH" {} +
+  dpkg-deb --root-owner-group --build "$root" "$package" > /dev/null
+  echo "$package"
+}
+
+# complete: fails if a file is in no package.
+complete() {
+  local left
+  left=$(find "$all" ! -type d)
+  [ -z "$left" ] || { printf '%s: no package has\n%s\n' "${0##*/}" "$left" >&2; exit 1; }
+}

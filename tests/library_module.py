@@ -1,0 +1,208 @@
+#!/usr/bin/env python3
+"""Tries what no case tells of the Python module: pools, chunks after a fault, buffers, wrong types.
+
+    tests/library_module.py     UNIFDEF_LIBRARY is the library
+
+A pool whose result doesn't come back has lost it. A minute for each is a guard against hanging.
+"""
+
+import array
+import mmap
+import multiprocessing
+import os
+import pickle
+import sys
+import tempfile
+from concurrent.futures import Executor, ProcessPoolExecutor, ThreadPoolExecutor
+from pathlib import Path
+from typing import Callable, Iterator
+
+sys.dont_write_bytecode = True
+sys.path[:0] = [str(Path(__file__).resolve().parent.parent / "lib" / "python")]
+
+import unifdef  # noqa: E402
+
+SECONDS = 60
+FAULTY = b"a\n#ifdef A\nb\n#endif\n#endif\n"
+MESSAGE = "unifdef: stdin: 5: Inappropriate #endif"
+
+right, wrong = 0, 0
+
+
+def check(what: str, holds: bool) -> None:
+    """Counts one check."""
+    global right, wrong
+    right, wrong = right + holds, wrong + (not holds)
+    if not holds:
+        print(f"library: Python: {what}")
+
+
+def is_fault(error: object) -> bool:
+    """Returns whether an error is that of the faulty text, with all that it tells."""
+    return (
+        isinstance(error, unifdef.Trouble)
+        and str(error) == MESSAGE
+        and error.answer == (b"a\nb\n", MESSAGE + "\n", 2)
+    )
+
+
+def raised(call: Callable[[], object]) -> object:
+    """Returns what a call raises."""
+    try:
+        call()
+    except Exception as error:  # pylint: disable=broad-except
+        return error
+    return None
+
+
+def pools() -> None:
+    """A fault in a worker comes back to the caller."""
+    copy = pickle.loads(pickle.dumps(raised(lambda: unifdef.strip(FAULTY, "-DA"))))
+    check("a copy of a fault", is_fault(copy))
+    spawned = multiprocessing.get_context("spawn")
+    with spawned.Pool(1) as pool:
+        held = pool.apply_async(unifdef.strip, (FAULTY, "-DA"))
+        check("a fault in a pool of processes", is_fault(raised(lambda: held.get(SECONDS))))
+    for kind in ProcessPoolExecutor, ThreadPoolExecutor:
+        with executor(kind) as pool:
+            future = pool.submit(unifdef.strip, FAULTY, "-DA")
+            check(f"a fault under {kind.__name__}", is_fault(future.exception(SECONDS)))
+
+
+def executor(kind: "type[Executor]") -> Executor:
+    """Returns a pool of one worker, whose process doesn't share the module's state."""
+    if kind is ProcessPoolExecutor:
+        return ProcessPoolExecutor(1, mp_context=multiprocessing.get_context("spawn"))
+    return ThreadPoolExecutor(1)
+
+
+def chunks() -> None:
+    """After a fault, no further chunk is taken."""
+    taken = 0
+
+    def source() -> Iterator[bytes]:
+        nonlocal taken
+        for chunk in (b"a\n#ifdef A\n", b"b\n#endif\n#en", b"dif\n", b"c\n", b"d\n"):
+            taken += 1
+            yield chunk
+
+    found = []
+    error = raised(lambda: found.extend(unifdef.strip_chunks(source(), "-DA")))
+    check("chunks: the output before a fault", b"".join(found) == b"a\nb\n")
+    check("chunks: the fault", isinstance(error, unifdef.Trouble) and str(error) == MESSAGE)
+    check("chunks: none after a fault", taken == 3)
+    with unifdef.Stream("-DA") as stream:
+        stream.feed(b"a\n")
+        check("faulty: not yet", not stream.faulty)
+        stream.feed(b"#endif\n")
+        check("faulty: at once", stream.faulty)
+        stream.finish()
+        check("faulty: at the end", stream.faulty)
+
+
+def buffers() -> None:
+    """A text is any object with bytes, however long, and stays the caller's."""
+    text = b"#ifdef A\nx\n#endif\ny\n"
+    longer = text * 40000
+    changed = bytearray(text)
+    for what, given in (
+        ("bytearray", changed),
+        ("memoryview", memoryview(b"..." + text)[3:]),
+        ("a view of each second byte", memoryview(bytes(it for it in text for _ in "xx"))[::2]),
+        ("a view of numbers", memoryview(array.array("H", memoryview(text).cast("H")))),
+    ):
+        check(what, unifdef.strip(given, "-UA").rstrip() == b"y")
+        with unifdef.Stream("-UA") as stream:
+            check(f"{what}: a chunk", stream.feed(given).rstrip() == b"y")
+    changed.append(0)  # It isn't held.
+    for empty in (b"", bytearray(), memoryview(b"")):
+        check(f"an empty {type(empty).__name__}", unifdef.strip(empty, "-DA") == b"")
+    check("an expression", unifdef.condition(bytearray(b"A > 1"), "-DA=2") is True)
+    check("names", unifdef.names(memoryview(b"A || B")) == [b"A", b"B"])
+    with tempfile.TemporaryFile() as file:
+        file.write(longer)
+        file.flush()
+        with mmap.mmap(file.fileno(), 0, access=mmap.ACCESS_READ) as mapped:
+            check("mmap", unifdef.strip(mapped, "-UA") == b"y\n" * 40000)
+
+
+def long_texts() -> None:
+    """A text that is fed has the same answer as one that is run in one call."""
+    texts = (b"#ifdef A\nx\n#else\ny\n#endif\n" * 30000, b"x" * 65000 + b"\n#if A\n#elif B\n")
+    for words in ("-DA",), ("-n", "-UA"), ("-s", "a.c"), ("-S",), ("-DA", "-x1"), ("-q",):
+        for begin in texts:
+            for end in (b"", b"#endif\n", b"/* "):
+                text = begin + b"\n" * unifdef.LONG + end
+                whole = unifdef._run_short(text, unifdef._words(words))
+                check(f"a long text with {words}", unifdef.run(text, *words) == whole)
+
+
+class Named:
+    """An object that names a file."""
+
+    def __init__(self, name: str) -> None:
+        self.name = name
+
+    def __fspath__(self) -> str:
+        return self.name
+
+
+def arguments() -> None:
+    """An argument is a word or a path, and each option is one of its own."""
+    message = "unifdef: sub/a.c: 1: Inappropriate #endif\n"
+    for name in ("sub/a.c", b"sub/a.c", Path("sub", "a.c"), Named("sub/a.c")):
+        check(f"{name!r} names a file", unifdef.run(b"#endif\n", "-DA", name).message == message)
+    odd = os.fsdecode(b"\xff.c")
+    refused = "unifdef: Cannot take arguments\n"
+    check("a name that isn't UTF-8", unifdef.run(b"", odd).message == refused)
+    for what, call in {
+        "'-DA -UB'": lambda: unifdef.strip(b"", "-k", "-DA -UB"),
+        "b'-DA -UB'": lambda: unifdef.Stream(b"-DA -UB"),
+        "'-U A'": lambda: list(unifdef.strip_chunks([], "-U A")),
+    }.items():
+        error = raised(call)
+        check(f"{what} is named", isinstance(error, unifdef.Trouble) and f": {what};" in str(error))
+        check(f"{what}: a copy", str(pickle.loads(pickle.dumps(error))) == str(error))
+    error = raised(lambda: unifdef.strip(b"", "-x3"))
+    check("a mode is named", str(error) == "unifdef: Bad exit mode in word 1: '-x3'")
+    error = raised(lambda: unifdef.condition(b"A", "-DA -UB"))
+    check("condition names it", isinstance(error, ValueError) and "'-DA -UB'" in str(error))
+
+
+def wrong_types() -> None:
+    """What isn't bytes, or no argument, is refused by its name."""
+    for name, kind, call in (
+        ("text", "str", lambda: unifdef.strip("#if A\n", "-DA")),
+        ("text", "str", lambda: unifdef.run("x" * unifdef.LONG, "-DA")),
+        ("text", "NoneType", lambda: unifdef.run(None, "-DA")),
+        ("text", "int", lambda: unifdef.run(3, "-DA")),
+        ("chunk", "str", lambda: unifdef.Stream("-DA").feed("x")),
+        ("chunk", "str", lambda: list(unifdef.strip_chunks("text", "-DA"))),
+        ("chunk", "int", lambda: list(unifdef.strip_chunks(b"text", "-DA"))),
+        ("expression", "str", lambda: unifdef.condition("A", "-DA")),
+        ("expression", "str", lambda: unifdef.names("A")),
+        ("argument 1", "list", lambda: unifdef.strip(b"x", ["-DA", "-UB"])),
+        ("argument 2", "int", lambda: unifdef.strip(b"x", "-DA", 1)),
+        ("argument 1", "NoneType", lambda: unifdef.condition(b"A", None)),
+    ):
+        error = raised(call)
+        told = str(error).startswith(f"{name} must be ") and f", not {kind}" in str(error)
+        check(f"{name} that is {kind}: {error!r}", isinstance(error, TypeError) and told)
+    error = raised(lambda: unifdef.run(b"x", "-DA", "a\0b"))
+    check("a zero byte", str(error) == "argument 2 has a zero byte")
+
+
+def main() -> int:
+    """Makes all checks. Returns the exit status."""
+    chunks()
+    buffers()
+    long_texts()
+    arguments()
+    wrong_types()
+    pools()
+    print(f"library: {right} checks of the Python module hold, {wrong} don't")
+    return 1 if wrong else 0
+
+
+if __name__ == "__main__":
+    sys.exit(main())
