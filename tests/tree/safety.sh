@@ -1,6 +1,7 @@
 #!/usr/bin/env bash
 # What a run does to files of other users, to files that another program changes, and on file systems
-# that fail late. tests/tree.sh reads this file, and has the functions that it uses.
+# that fail late. tests/tree.sh reads this file, and has the functions and variables that it uses.
+# shellcheck disable=SC2154
 
 # run_paused CALL N COMMAND..: runs a command while a run over the small tree waits in its Nth call
 # of CALL, after the call. strace announces that. The options are in ${options[@]}.

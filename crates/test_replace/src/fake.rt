@@ -5,7 +5,7 @@ ghost use Rattle.std.specs.Prelude.{◌≡◌, ◌≤◌, length, IfSome};
 use std::alloc::Global;
 use ud_replace::{CreateError, FileStat, FileTime, FileVersion, Folder, FolderCall, History};
 
-/// What another program changes of the file after it was read.
+/// A change that another program makes to the file after it was read.
 #[derive(Clone, Copy)]
 pub(crate) enum Change {
     /// Nothing.
@@ -29,7 +29,7 @@ pub(crate) struct Failures {
     pub denied: bool,
     /// True if the fresh name isn't free.
     pub taken: bool,
-    /// What another program changes.
+    /// The change that another program makes.
     pub change: Change,
 }
 

@@ -7,8 +7,8 @@ use Rattle.ud_replace.specs.declared.call.FolderWalk.{FolderWalk}
 use Rattle.ud_replace.specs.declared.call.FolderWalk.TheVariants.{Met, Followed, Listed}
 use Rattle.ud_replace.specs.declared.call.FolderCall.{FolderCall}
 use Rattle.ud_replace.specs.declared.call.FolderCall.TheVariants.{Read, MayWrite, Create, Append}
-use Rattle.ud_replace.specs.declared.call.FolderCall.TheVariants.{SetModeAndOwner, Sync, Look, Rename}
-use Rattle.ud_replace.specs.declared.call.FolderCall.TheVariants.{Overwrite, Remove, Walk}
+use Rattle.ud_replace.specs.declared.call.FolderCall.TheVariants.{SetModeAndOwner, Sync, Look}
+use Rattle.ud_replace.specs.declared.call.FolderCall.TheVariants.{Rename, Overwrite, Remove, Walk}
 use Rattle.ud_replace.specs.Calls.{Call, was_read, asked, made, appended, given, synced, looked}
 use Rattle.ud_replace.specs.Calls.{renamed, overwrote, removed, walked}
 use Rattle.ud_replace.specs.Calls.{WalkCall, met, followed, listed}

@@ -116,8 +116,8 @@ touches (walked w) n = false
 
 -- `TookOutput o name fresh old calls`: after `old`, `name` was read, and the user was found to be
 -- allowed to write into it. Then `fresh` was made, and took all of the output for the bytes that
--- were read. It got the mode and owner of `name`, and its bytes reached the disk. At last `name` was
--- read again, and it still had the same bytes.
+-- were read. It got the mode and owner of `name`, and its bytes reached the disk. At last `name`
+-- was read again, and it still had the same bytes.
 pub record TookOutput (o : Options) (name fresh : List ℕ) (old calls : List Call) : Type 0 where
   pub text : List ℕ
   pub stat : FileStat

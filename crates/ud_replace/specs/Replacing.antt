@@ -77,8 +77,8 @@ pub data Renames (into : Bool) (name fresh before text : List ℕ) (stat : FileS
       Renames into name fresh before text stat old new r
 
 -- `Puts into name fresh before text stat old new r`: a file with several links is left alone,
--- unless `into`. Else, if the user may write into the file, one with one link is replaced by another
--- file, and one with several is written into.
+-- unless `into`. Else, if the user may write into the file, one with one link is replaced by
+-- another file, and one with several is written into.
 pub data Puts (into : Bool) (name fresh before text : List ℕ) (stat : FileStat)
     (old new : List Call) : Result Update ReplaceError → Type 0 where
   several : 1 < stat.links → into ≡ false → new ≡ old →
@@ -123,8 +123,8 @@ pub data Replaces (o : Options) (into : Bool) (id : FileId) (name fresh : List �
 pub data IsOutputOf (o : Options) (text output : List ℕ) : Type 0 where
   output_of : (a : Outcome) → HasOutcome o text a → output ≡ a.output → IsOutputOf o text output
 
--- `Keeps o into id name fresh old new r text output`: the file `id` was read once, and the rest went
--- by its `text`. `output` is that of the outcome of this text.
+-- `Keeps o into id name fresh old new r text output`: the file `id` was read once, and the rest
+-- went by its `text`. `output` is that of the outcome of this text.
 pub data Keeps (o : Options) (into : Bool) (id : FileId) (name fresh : List ℕ)
     (old new : List Call) (r : Result Update ReplaceError) (text output : List ℕ) : Type 0 where
   keeps : (stat : FileStat) → is_of id stat ≡ true →

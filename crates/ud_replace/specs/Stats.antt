@@ -10,8 +10,8 @@ use Rattle.ud_replace.specs.declared.stat.FileStat.{FileStat}
 abbrev pub is_of : FileId → FileStat → Bool
 is_of id s = s.version.device == id.device && s.version.inode == id.inode
 
--- `has_facts_of stat seen`: the file that was seen has the mode, the owner, the group and the number
--- of links of `stat`.
+-- `has_facts_of stat seen`: `seen` has the mode, the owner, the group and the number of links of
+-- `stat`.
 abbrev pub has_facts_of : FileStat → FileStat → Bool
 has_facts_of stat seen = seen.mode == stat.mode && seen.owner == stat.owner &&
     seen.group == stat.group && seen.links == stat.links

@@ -1,8 +1,8 @@
 //! The folder of a file, as far as `replace` asks it.
 
 ghost use Rattle.std.specs.Prelude.{◌≡◌, ◌≤◌, ◌∷◌, [], List, length, IfSome};
-ghost use Rattle.ud_replace.specs.Calls.{Call, was_read, asked, made, appended, given, synced, looked};
-ghost use Rattle.ud_replace.specs.Calls.{renamed, overwrote, removed};
+ghost use Rattle.ud_replace.specs.Calls.{Call, was_read, asked, made, appended, given, synced};
+ghost use Rattle.ud_replace.specs.Calls.{looked, renamed, overwrote, removed};
 
 use crate::stat::FileStat;
 
@@ -46,8 +46,8 @@ pub trait Folder {
     /// Makes an empty file, which only the user may read and write. Its name must be free.
     ///
     /// # Errors
-    /// `Denied` if the folder can't be written, `Taken` if the name isn't free, and else `Failed`. No
-    /// file was made.
+    /// `Denied` if the folder can't be written, `Taken` if the name isn't free, and else `Failed`.
+    /// No file was made.
     fn create(&mut self, name: &[u8]) -> Result<(), CreateError>
         ensures { history self.new ≡ made name.now result ∷ history self.old };
 
@@ -65,7 +65,8 @@ pub trait Folder {
     fn set_mode_and_owner(&mut self, name: &[u8], like: &FileStat) -> bool
         ensures { history self.new ≡ given name.now like.now result ∷ history self.old };
 
-    /// Waits until the bytes of a file that `create` made are on the disk. Returns whether they are.
+    /// Waits until the bytes of a file that `create` made are on the disk. Returns whether they
+    /// are.
     fn sync(&mut self, name: &[u8]) -> bool
         ensures { history self.new ≡ synced name.now result ∷ history self.old };
 

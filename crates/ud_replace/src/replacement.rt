@@ -85,8 +85,9 @@ pub fn replace<F: Folder>(
     replace_keeping(alloc, plan, folder, target, &mut text, &mut out)
 }
 
-/// Replaces a file as `replace` does. Leaves its text in `text` and the output for it in `out`, which
-/// are empty before. The output is that of the text that was read, also if the file is unchanged.
+/// Replaces a file as `replace` does. Leaves its text in `text` and the output for it in `out`,
+/// which are empty before. The output is that of the text that was read, also if the file is
+/// unchanged.
 ///
 /// # Errors
 /// As `replace`. Then `text` and `out` may have any bytes.
@@ -278,11 +279,7 @@ fn overwrite<F: Folder>(
 ///
 /// # Errors
 /// `Read` if the file can't be read, and `ChangedMeanwhile` if it isn't as it was.
-fn confirm<F: Folder>(
-    folder: &mut F,
-    name: &[u8],
-    before: &Before<'_>,
-) -> Result<(), ReplaceError>
+fn confirm<F: Folder>(folder: &mut F, name: &[u8], before: &Before<'_>) -> Result<(), ReplaceError>
     ensures { Confirms name.now before.now.text.now before.now.stat (F.history folder.old)
         (F.history folder.new) result }
 {

@@ -52,8 +52,8 @@ impl FileStat {
         self.version.device == id.device && self.version.inode == id.inode
     }
 
-    /// Returns whether the file that was seen has the mode, the owner, the group and the number of
-    /// links of this one.
+    /// Returns whether `seen` has the mode, the owner, the group and the number of links of these
+    /// facts.
     pub fn has_facts_of(&self, seen: &FileStat) -> bool
         ensures { result ≡ has_facts_of self.now seen.now }
     {

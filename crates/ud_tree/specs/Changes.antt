@@ -3,7 +3,7 @@
 --   KeepsOne o into name old new r text output   a file was replaced, with this text and output
 --   ShowsChange shows name update text output shown   the diff of a file that was changed
 --   ShowsUpdate plan into shows name old new r shown   the same, by the result of replacing it
---   ReplacesShowing plan into shows name old new result   a file was replaced, and its diff is shown
+--   ReplacesShowing plan into shows name old new result   both: it was replaced, and is shown
 --
 -- `old` and `new` are the calls before and after, the newest first.
 use Rattle.std.specs.Prelude.{◌≡◌, ℕ, List, [], Bool, true, Result, Ok, Err}
@@ -19,15 +19,15 @@ use Rattle.ud_tree.specs.Fates.{is_changed}
 use Rattle.ud_tree.specs.Paths.{fresh_name}
 use Rattle.ud_tree.specs.Runs.{FileResult, IsPlanned, ReplacesOne, fate_of}
 
--- `KeepsOne o into name old new r text output`: the file `name` was read as `text`, and was replaced
--- by the help of a new one, with the result `r`. `output` is the output for `text`.
+-- `KeepsOne o into name old new r text output`: the file `name` was read as `text`, and was
+-- replaced by the help of a new one, with the result `r`. `output` is the output for `text`.
 abbrev pub KeepsOne : Options → Bool → List ℕ → List Call → List Call →
     Result Update ReplaceError → List ℕ → List ℕ → Type 0
 KeepsOne o into name old new r text output =
     (id : FileId) × Keeps o into id name (fresh_name name) old new r text output
 
--- `ShowsChange shows name update text output shown`: nothing is shown of the file `name`. Or its diff
--- is, which turns `text` into `output`; it is wanted, and the file was changed.
+-- `ShowsChange shows name update text output shown`: nothing is shown of the file `name`. Or its
+-- diff is, which turns `text` into `output`; it is wanted, and the file was changed.
 pub data ShowsChange (shows : Bool) (name : List ℕ) (update : Update) (text output : List ℕ) :
     List ℕ → Type 0 where
   nothing_shown : {shown : List ℕ} → shown ≡ [] → ShowsChange shows name update text output shown

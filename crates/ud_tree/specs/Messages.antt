@@ -46,7 +46,8 @@ pub data IsFailureOf (name text message : List ℕ) : Type 0 where
   with_reason : (reason : List ℕ) → message ≡ fault_line name (text ++ codes ": " ++ reason) →
       IsFailureOf name text message
 
--- `locked_line name`: the line of a file beside which there is one of another run. It names that one.
+-- `locked_line name`: the line of a file beside which there is one of another run. It names that
+-- one.
 abbrev pub locked_line : List ℕ → List ℕ
 locked_line name = fault_line name (codes "Another run is at it; if none is, remove " ++
     fresh_name name)

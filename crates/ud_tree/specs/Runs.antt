@@ -54,9 +54,9 @@ pub record IsPlanned (plan : PlanState) (o : Options) : Type 0 where
   pub settings : o.settings ≡ plan.settings
   pub table : TableRepresents plan.symbols o.table
 
--- `ReplacesOne plan into name old new update`: the calls are those that replace the file
--- `name`, by the help of a new one, and `update` is their result. It is some file that the walk met.
--- Or memory for the new name couldn't be allocated, and nothing was asked.
+-- `ReplacesOne plan into name old new update`: the calls are those that replace the file `name`, by
+-- the help of a new one, and `update` is their result. It is some file that the walk met. Or memory
+-- for the new name couldn't be allocated, and nothing was asked.
 pub data ReplacesOne (plan : PlanState) (into : Bool) (name : List ℕ) (old new : List Call) :
     Result Update ReplaceError → Type 0 where
   replaces : (r : Result Update ReplaceError) (id : FileId) (fresh : List ℕ) →

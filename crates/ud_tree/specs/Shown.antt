@@ -60,8 +60,8 @@ pub data FailsOver (o : Options) (text : List ℕ) : ReplaceError → Type 0 whe
       outcome.fault ≡ text_fault_of f → ¬ (outcome.fault ≡ None) → FailsOver o text (Text f)
   over_memory : FailsOver o text OutOfMemory
 
--- `Fails o name calls calls' e`: the file `name` couldn't be read. Or it was read, and it wasn't the
--- file that the walk met, its text has the fault of `e`, or memory couldn't be allocated.
+-- `Fails o name calls calls' e`: the file `name` couldn't be read. Or it was read, and it wasn't
+-- the file that the walk met, its text has the fault of `e`, or memory couldn't be allocated.
 pub data Fails (o : Options) (name : List ℕ) (calls calls' : List Call) :
     ReplaceError → Type 0 where
   unread : (text : List ℕ) → calls' ≡ was_read name text None ∷ calls →
@@ -80,10 +80,10 @@ pub record HasDiff (o : Options) (name text diff : List ℕ) : Type 0 where
   pub differs : outcome.differs ≡ true
   pub is_diff : IsDiff name text outcome.output diff
 
--- `ShowsFile o into name calls calls' update shown`: the file `name` was read. If its output differs,
--- its diff is shown, and the result is `Replaced`. If it doesn't, nothing is shown, and the result
--- is `Unchanged`. Nothing is shown either of a file with several links, which a run leaves alone
--- unless `into`, or if `Fails` is true of the error.
+-- `ShowsFile o into name calls calls' update shown`: the file `name` was read. If its output
+-- differs, its diff is shown, and the result is `Replaced`. If it doesn't, nothing is shown, and
+-- the result is `Unchanged`. Nothing is shown either of a file with several links, which a run
+-- leaves alone unless `into`, or if `Fails` is true of the error.
 pub data ShowsFile (o : Options) (into : Bool) (name : List ℕ) (calls calls' : List Call) :
     Result Update ReplaceError → List ℕ → Type 0 where
   faulty : {e : ReplaceError} → Fails o name calls calls' e →
@@ -97,8 +97,8 @@ pub data ShowsFile (o : Options) (into : Bool) (name : List ℕ) (calls calls' :
       (stat.links ≤ 1) ⊎ (into ≡ true) → HasDiff o name text diff →
       ShowsFile o into name calls calls' (Ok Replaced) diff
 
--- `ShowsOne plan into name calls calls' result`: the file `name` was read once. Its result, and what
--- is shown of it, are those of the text that was read, for the options of the plan.
+-- `ShowsOne plan into name calls calls' result`: the file `name` was read once. Its result, and
+-- what is shown of it, are those of the text that was read, for the options of the plan.
 pub record ShowsOne (plan : PlanState) (into : Bool) (name : List ℕ) (calls calls' : List Call)
     (result : FileResult) : Type 0 where
   pub reads : ReadsOne name calls calls'

@@ -8,7 +8,7 @@ use std::alloc::{AllocError, Global};
 /// The beginning of the name of each new file.
 pub(crate) const FRESH: &[u8] = b".unifdef-tree.";
 
-/// The longest name, in bytes, before which a name of at most 255 bytes has room for `FRESH`.
+/// The longest name, in bytes, before which `FRESH` fits in a name of at most 255 bytes.
 const LONGEST_END: usize = 240;
 
 /// Returns the number of bytes of a path up to its last slash, which is included; 0 if there is

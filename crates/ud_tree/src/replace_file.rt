@@ -23,8 +23,8 @@ use ud_replace::{ReplaceError, Target, Update, replace_keeping};
 /// Writes the diff of a file that was changed, if the arguments ask for it.
 ///
 /// # Errors
-/// As `replace_keeping`. `OutOfMemory` also if memory for the new file's name can't be allocated. If
-/// memory for the diff can't be, the file is changed, and the report has it.
+/// As `replace_keeping`. `OutOfMemory` also if memory for the new file's name can't be allocated.
+/// If memory for the diff can't be, the file is changed, and the report has it.
 pub(crate) fn replace_file<T: Tree, W: Write>(
     job: &Job<'_>,
     tree: &mut T,
@@ -46,13 +46,20 @@ pub(crate) fn replace_file<T: Tree, W: Write>(
         Err(error) => return Err(error),
     };
     report.search(job, file.name, output.inner().as_slice());
-    let diff = change_of(job, file.name, update, text.as_slice(), output.inner().as_slice(), report);
+    let diff = change_of(
+        job,
+        file.name,
+        update,
+        text.as_slice(),
+        output.inner().as_slice(),
+        report,
+    );
     send(out, diff.as_slice());
     Ok(update)
 }
 
-/// Returns the diff of a file that was changed, if the arguments ask for it; else nothing. If memory
-/// runs out, the report has it.
+/// Returns the diff of a file that was changed, if the arguments ask for it; else nothing. If
+/// memory runs out, the report has it.
 fn change_of(
     job: &Job<'_>,
     name: &[u8],
@@ -92,8 +99,8 @@ fn is_change(update: Update) -> bool
     }
 }
 
-/// Replaces a file by one with a name of its own. Its text is left in `text` and the output for it in
-/// `output`, which are empty before.
+/// Replaces a file by one with a name of its own. Its text is left in `text` and the output for it
+/// in `output`, which are empty before.
 fn replace_named<T: Tree>(
     job: &Job<'_>,
     tree: &mut T,

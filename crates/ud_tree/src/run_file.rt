@@ -17,7 +17,7 @@ use ud_replace::{FileStat, ReplaceError};
 pub(crate) struct Ran {
     /// The file's text.
     pub text: Vec<u8>,
-    /// What was known of the file before it was read.
+    /// The facts about the file before it was read.
     pub stat: FileStat,
     /// True if the output differs.
     pub differs: bool,

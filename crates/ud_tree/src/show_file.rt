@@ -22,8 +22,8 @@ use ud_replace::{FileStat, ReplaceError, Update};
 /// Nothing is asked but that the file is read once.
 ///
 /// # Errors
-/// As `run_file`. `OutOfMemory` also if memory for the diff can't be allocated. `SeveralLinks` if the
-/// file would change, and a run would only write into it, which isn't allowed.
+/// As `run_file`. `OutOfMemory` also if memory for the diff can't be allocated. `SeveralLinks` if
+/// the file would change, and a run would only write into it, which isn't allowed.
 pub(crate) fn show_file<T: Tree, W: Write>(
     job: &Job<'_>,
     tree: &mut T,

@@ -14,7 +14,10 @@ returns-in-Err-clause-writes g c = record {
 pub returns-clause-writes : goal.returns-clause-writes
 returns-clause-writes g c = record {
   shown = c.change_of-diff.result.items;
-  does = λ told. record { does = c.in-Ok.ensures.replaces; change = after_update _ _ (λ o p. c.in-Ok.ensures.keeps o p refl)
-      (rw (c.as_slice-2.ensures.value, c.as_slice-3.ensures.value ∙ ap (λ v. v.items) c.inner-2.ensures) at c.change_of-diff.ensures.change) };
+  does = λ told. record {
+    does = c.in-Ok.ensures.replaces;
+    change = after_update _ _ (λ o p. c.in-Ok.ensures.keeps o p refl)
+        (rw (c.as_slice-2.ensures.value, c.as_slice-3.ensures.value ∙ ap (λ v. v.items) c.inner-2.ensures) at c.change_of-diff.ensures.change);
+  };
   sent = sends_same c.as_slice-4.ensures.value c.send.ensures;
 }
