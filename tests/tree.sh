@@ -242,7 +242,7 @@ bad.c' 'x\n#else\n'
     tree $words
     check "$words: status" same "$status $(cat "$work/err")" '0 '
     check "$words: usage" grep -q '^usage: unifdef-tree ' "$work/out"
-    check "$words: a line for each option" same "$(sed -n 's/^  -\(.\).*/\1/p' "$work/out" | sort -u | tr -d '\n')" '-0DKUVbcghijklnqrstwx'
+    check "$words: a line for each option" same "$(sed -n 's/^  -\(.\).*/\1/p' "$work/out" | sort -u | tr -d '\n')" '-0DKUVbcdghijklnqrstwx'
   done
   (cd "$work/run" && "$TREE" -h > /dev/full 2> /dev/null)
   check '-h: the output can not be written' same "$?" 2
