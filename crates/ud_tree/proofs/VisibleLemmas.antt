@@ -23,18 +23,18 @@ pub visible_sent : {a b : Stream} (text : List ℕ) → Sends a b (flat_map visi
 unfolding visible
 visible_sent text h = h
 
--- What was appended to an empty buffer without a failure is all of it.
+-- A buffer that was empty has all that was appended without a failure.
 appended_all : (failed : Bool) (o p : Option (List ℕ)) {x y : List ℕ} → AppendsAllOrPrefix failed o p x → failed ≡ false → o ≡ Some [] → p ≡ Some y → y ≡ x
 appended_all failed o p {x = x} h works first now =
     subst (λ (q : Option (List ℕ)). Appends (Some []) q x) now
     (subst (λ (q : Option (List ℕ)). Appends q p x) first
     (subst (λ (b : Bool). AppendsAllOrPrefix b o p x) works h))
 
--- What was appended to an empty buffer was written at once.
+-- A buffer that was empty was filled without a failure, and then written at once.
 pub appended_whole : (failed : Bool) (o p : Option (List ℕ)) {a b : Stream} {x y : List ℕ} → AppendsAllOrPrefix failed o p x → failed ≡ false → o ≡ Some [] → p ≡ Some y → Sends a b y → Sends a b x
 appended_whole failed o p h works first now k = sends_same (appended_all failed o p h works first now) k
 
--- What was written to an empty buffer is its contents.
+-- A buffer that was empty has all that was written without a failure.
 pub written_all : {s t : Stream} {x y : List ℕ} → Sends s t x → s.failed ≡ false → t.failed ≡ false → s.contents ≡ Some [] → t.contents ≡ Some y → y ≡ x
 written_all {s = s} {t = t} h was works first now = appended_all t.failed s.contents t.contents (h.appended was) works first now
 
