@@ -518,6 +518,29 @@ counts() {
   check '-q: no counts' same "$(cat "$work/err")" ''
 }
 
+# Tests the deepest conditions with the stack that the manual names.
+small_stack() {
+  local kind
+  fresh_tree
+  put src/plain.c "$text"
+  (ulimit -s 300 && tree -DA src; exit "$status")
+  check 'stack: 300 KiB: status' same "$?" 1
+  check 'stack: 300 KiB' holds src/plain.c 'yes\n'
+  for kind in '(A)' '!A' '- A'; do
+    case $kind in
+      '(A)') printf '#if %s%s%s\nx\n#endif\n' "$(repeat '(' 32700)" A "$(repeat ')' 32700)" ;;
+      '!A') printf '#if %sA\nx\n#endif\n' "$(repeat '!' 65000)" ;;
+      '- A') printf '#if %sA\nx\n#endif\n' "$(repeat '- ' 32000)" ;;
+    esac > src/plain.c
+    (ulimit -s 1200 && tree -DA src; exit "$status")
+    check "stack: 1,200 KiB: $kind: status" same "$?" 1
+    check "stack: 1,200 KiB: $kind" holds src/plain.c 'x\n'
+  done
+}
+
+# repeat TEXT N: prints a text N times.
+repeat() { printf "%0$2d" 0 | sed "s/0/$1/g"; }
+
 # Makes a tree whose files are changed, unchanged, faulty, and in a folder.
 small_tree() {
   fresh_tree
@@ -670,6 +693,7 @@ in_folder() {
   paths_from_input
   counts
   safety
+  small_stack
   if can_trace; then
     kills
     meanwhile

@@ -1,5 +1,5 @@
 -- The messages of parts of a walk, one after another.
-use Rattle.std.proofs.Common.{◌≡◌, ◌⊎◌, inl, inr, ⊎_elim, ◌==◌, true≢false, ℕ, ◌+◌, ◌<◌, ◌≤◌, ◌-◌, ◌^◌, min, List, [], ◌∷◌, ◌++◌, length, take, map, get_or, Bool, true, false, refl, sym, ap, ◌∙◌, subst, arith, append_assoc, append-nil, codes, length-append}
+use Rattle.std.proofs.Common.{◌≡◌, ◌⊎◌, inl, inr, ⊎_elim, ◌==◌, true≢false, ℕ, suc, ◌+◌, ◌<◌, ◌≤◌, ◌-◌, ◌^◌, min, List, [], ◌∷◌, ◌++◌, length, take, map, get_or, Bool, true, false, refl, sym, ap, ◌∙◌, subst, arith, append_assoc, append-nil, codes, length-append}
 use Rattle.std.proofs.lemmas.Bool.{cases_lt}
 use Rattle.std.proofs.lemmas.List.{map-append, get_or-map, length-map}
 use Rattle.std.proofs.lemmas.Grind.{flat_map-append}
@@ -303,6 +303,25 @@ walk_listed folder names r s is = record {
 pub met_at : (path wanted : List ℕ) {calls calls' : List Call} → path ≡ wanted → calls' ≡ walked (met path Absent) ∷ calls → calls' ≡ walked (met wanted Absent) ∷ calls
 met_at path wanted {calls = calls} same is = is ∙ ap (λ (p : List ℕ). walked (met p Absent) ∷ calls) same
 
+-- A name of a folder was visited, and no call was made.
+pub visit_none : {path : List ℕ} {calls : List Call} {r r' : Report} {s s' : Stream} → ReportsWalk calls calls r r' s s' → VisitTells path calls calls r r' s s'
+visit_none {path = path} {calls = calls} h = is_told no_call h
+  where
+    no_call : ¬ (calls ≡ walked (met path Absent) ∷ calls)
+    no_call e =
+        let n : length calls ≡ suc (length calls) = ap (λ (l : List Call). length l) e in
+        omega arith
+
+-- A name of a folder was visited, and something has it, or that isn't known.
+pub visit_met : (answer : Lookup) (met_path : List ℕ) {path : List ℕ} {calls calls' : List Call} {r r' : Report} {s s' : Stream} → ¬ (answer ≡ Absent) → calls' ≡ walked (met met_path answer) ∷ calls →
+    ReportsWalk calls calls' r r' s s' → VisitTells path calls calls' r r' s s'
+visit_met answer met_path {path = path} {calls = calls} {calls' = calls'} other is h = is_told answered h
+  where
+    answered : ¬ (calls' ≡ walked (met path Absent) ∷ calls)
+    answered e =
+        let same : answer ≡ Absent = cc in
+        other same
+
 -- A name of a list is among the names.
 pub name_listed : {X : Type 0} (f : X → List ℕ) (xs : List X) (i : ℕ) (x : X) (name : List ℕ) → i < length xs → x ≡ get_or xs i x → name ≡ f x → Contains (map f xs) name
 name_listed f xs i x name within is named =
@@ -339,7 +358,7 @@ pub walk_visited : {folder name : List ℕ} {names : List (List ℕ)} {calls mid
     VisitTells (folder ++ name) mid calls' b c t u → ReportsNames folder names calls calls' a c s u
 unfolding walk_then
 walk_visited h has (is_gone is same_report same_stream) = walk_gone h has is same_report same_stream
-walk_visited {folder = folder} {names = names} h has (is_told k) = record {
+walk_visited {folder = folder} {names = names} h has (is_told other k) = record {
   answer = h.answer;
   reports = walk_then h.reports k;
   listing = Contains-append_right k.walk.calls h.reports.walk.calls (listed folder names h.answer) h.listing;

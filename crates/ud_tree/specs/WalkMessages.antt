@@ -126,15 +126,15 @@ pub record ReportsNames (folder : List ℕ) (names : List (List ℕ)) (calls cal
   pub reports : ReportsWalk calls calls' old new err err'
   pub listing : Contains reports.walk.calls (listed folder names answer)
 
--- `VisitTells path calls calls' old new err err'`: nothing has `path`, which was looked at, and
--- nothing was written. Or only calls of a walk were made, and their messages were written and
--- counted.
+-- `VisitTells path calls calls' old new err err'`: `path` was looked at, nothing has it, and nothing
+-- was written. Or that isn't so: then only calls of a walk were made, and their messages were
+-- written and counted.
 pub data VisitTells (path : List ℕ) (calls calls' : List Call) (old new : Report)
     (err err' : Stream) : Type 0 where
   is_gone : calls' ≡ walked (met path Absent) ∷ calls → new ≡ old → err' ≡ err →
       VisitTells path calls calls' old new err err'
-  is_told : ReportsWalk calls calls' old new err err' →
-      VisitTells path calls calls' old new err err'
+  is_told : ¬ (calls' ≡ walked (met path Absent) ∷ calls) →
+      ReportsWalk calls calls' old new err err' → VisitTells path calls calls' old new err err'
 
 -- `TellsGiven path node old new err err'`: nothing was written. Or `node` has `path` and is of
 -- another kind than a file, a folder and a link, and the message that it is no regular file was
