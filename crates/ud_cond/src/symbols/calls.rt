@@ -11,6 +11,9 @@ use std::alloc::Global;
 use std::marker::Model;
 use ud_model::bytes::is_name;
 
+/// The most rows that aren't sorted: it costs less to move them as they are inserted.
+const FEW_ROWS: usize = 64;
+
 /// Calls for a table of symbols, each of which defines or undefines a name.
 ///
 /// A table that is made of them at once takes each new row after all others, in whatever order the
@@ -91,7 +94,7 @@ impl SymbolCalls {
     }
 }
 
-/// Sorts rows by their names. Rows of one name keep their order.
+/// Sorts rows by their names, unless they are few. Rows of one name keep their order.
 ///
 /// # Errors
 /// `OutOfMemory` if an allocation fails.
@@ -100,6 +103,9 @@ fn sorted(rows: Vec<Row>) -> Result<Vec<Row>, SymbolFault>
     ensures fault { OnErr result (IsErrOf result SymbolFault.OutOfMemory) }
 {
     let mut rows = rows;
+    if rows.len() <= FEW_ROWS {
+        return Ok(rows);
+    }
     match rows.sort_by(|a, b| a.compare_row(b)) {
         Ok(()) => Ok(rows),
         Err(_) => Err(SymbolFault::OutOfMemory),

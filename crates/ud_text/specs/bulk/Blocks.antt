@@ -4,7 +4,7 @@
 --   IsBlock row bytes        the block `row` lies within the bytes, and has their bits
 --
 -- Example: the bits of `a/b#` are 0b1010.
-use Rattle.std.specs.Prelude.{◌≡◌, ◌≤◌, ℕ, List, length, take, drop, map}
+use Rattle.std.specs.Prelude.{◌≡◌, ◌≤◌, ◌+◌, ℕ, List, length, take, drop, map}
 use lib.Lanes.{mask_l}
 use Rattle.ud_text.specs.bulk.BulkLexemes.{is_significant}
 use Rattle.ud_text.specs.declared.bulk.blocks.Block.{Block}
@@ -14,7 +14,9 @@ use Rattle.ud_text.specs.declared.bulk.blocks.Block.{Block}
 abbrev pub significant_bits : List ℕ → ℕ
 significant_bits bytes = mask_l (map is_significant bytes)
 
--- `IsBlock row bytes`: the block `row` lies within `bytes`, and has the bits of its 64 bytes
+-- `IsBlock row bytes`: the block `row` begins within `bytes`, and has the bits of its 64 bytes. If
+-- a bit is set, all of them are there.
 pub record IsBlock (row : Block) (bytes : List ℕ) : Type 0 where
   pub within : row.begin ≤ length bytes
+  pub whole : (row.bits ≡ 0 → ⊥) → row.begin + 64 ≤ length bytes
   pub bits_are : row.bits ≡ significant_bits (take 64 (drop row.begin bytes))

@@ -87,13 +87,15 @@ pub(crate) fn next_significant(bytes: &[u8], row: Block, at: usize) -> (usize, B
     ensures bound { result.0 ≤ length bytes.now }
     ensures row { IsBlock result.1 bytes.now }
 {
-    let end = row.begin + BLOCK_BYTES;
-    if at < row.begin || end <= at || bytes.len() < end {
+    // One comparison: a position before the block is a great number.
+    let shift = at.wrapping_sub(row.begin);
+    if shift >= BLOCK_BYTES {
         return significant_from(bytes, at);
     }
-    let bits = row.bits >> (at - row.begin);
+    let bits = row.bits >> shift;
     if bits == 0 {
-        return significant_from(bytes, end);
+        let end = row.begin + BLOCK_BYTES;
+        return significant_from(bytes, end.min(bytes.len()));
     }
     (at + bits.trailing_zeros() as usize, row)
 }

@@ -1,12 +1,12 @@
 -- Blocks: the next significant byte by the remaining bits of a block.
-use Rattle.std.proofs.Common.{◌≡◌, ℕ, zero, suc, ◌+◌, ◌-◌, ◌*◌, ◌/◌, ◌^◌, ◌<◌, ◌≤◌, Bool, true, false, not, cond, List, [], ◌∷◌, map, length, take, drop, min, refl, sym, ap, ◌∙◌, inl, inr, arith}
+use Rattle.std.proofs.Common.{◌≡◌, ℕ, zero, suc, ◌+◌, ◌-◌, ◌*◌, ◌/◌, ◌%◌, ◌^◌, ◌<◌, ◌≤◌, Bool, true, false, not, cond, List, [], ◌∷◌, map, length, take, drop, min, refl, sym, ap, ◌∙◌, inl, inr, arith}
 use Rattle.std.specs.Int.{w64, trailing_zeros}
 use Rattle.std.specs.List.{position_or_len, drop-map}
 use Rattle.std.proofs.lemmas.Bool.{cases_lt}
 use Rattle.std.proofs.Math.Nat.{zero-div, div-one, div-div-eq-div-mul, pow-suc, mul_comm}
 use Rattle.std.proofs.Math.Seq.{drop-nil}
 use Rattle.std.proofs.Math.ListN.{length-drop}
-use Rattle.std.proofs.lemmas.List.{drop-take}
+use Rattle.std.proofs.lemmas.List.{drop-take, take_all}
 use Rattle.std.proofs.lemmas.Simd.{trailing_mask_l, leading_from_mask_l}
 use Rattle.std.proofs.lemmas.Simd.{length-chunk}
 use lib.Lanes.{mask_l}
@@ -88,18 +88,53 @@ pub row_bound : (bytes : List ℕ) (at next : ℕ) → at ≤ length bytes → n
 row_bound bytes at next h e = omega (arith, e, search_bound is_significant (drop at bytes) (position_or_len is_significant (drop at bytes)) refl, length-drop at bytes)
 
 module _ (bytes : List ℕ) (begin at bits : ℕ) (is : bits ≡ significant_bits (take 64 (drop begin bytes))) (low : begin ≤ at) (high : at < begin + 64)
-    (room : begin + 64 ≤ length bytes) where
+    (whole : (bits ≡ 0 → ⊥) → begin + 64 ≤ length bytes) (within : at ≤ length bytes) where
   left : bits / 2 ^ (at - begin) ≡ significant_bits (take (begin + 64 - at) (drop at bytes))
   left = ap (λ (n : ℕ). n / 2 ^ (at - begin)) is ∙ rest_bits bytes begin at low (omega arith)
+
+  some_bit : (bits / 2 ^ (at - begin) ≡ 0 → ⊥) → bits ≡ 0 → ⊥
+  some_bit some none = some (ap (λ (n : ℕ). n / 2 ^ (at - begin)) none ∙ zero-div (2 ^ (at - begin)))
 
   -- the lowest of the remaining bits of a block
   pub left_found : (bits / 2 ^ (at - begin) ≡ 0 → ⊥) →
       at + trailing_zeros w64 (bits / 2 ^ (at - begin)) ≡ at + position_or_len is_significant (drop at bytes)
-  left_found some = row_found bytes at (begin + 64 - at) (omega arith) (omega arith) (bits / 2 ^ (at - begin)) left some
+  left_found some =
+      let room : begin + 64 ≤ length bytes = whole (some_bit some) in
+      row_found bytes at (begin + 64 - at) (omega arith) (omega arith) (bits / 2 ^ (at - begin)) left some
 
-  -- what comes next lies after the block, if no bit remains
-  pub left_empty : bits / 2 ^ (at - begin) ≡ 0 → begin + 64 + position_or_len is_significant (drop (begin + 64) bytes) ≡ at + position_or_len is_significant (drop at bytes)
-  left_empty none =
-      let there : at + (begin + 64 - at) ≡ begin + 64 = omega arith in
+  none_left : bits / 2 ^ (at - begin) ≡ 0 → begin + 64 ≤ length bytes → (end : ℕ) → end ≡ begin + 64 →
+      end + position_or_len is_significant (drop end bytes) ≡ at + position_or_len is_significant (drop at bytes)
+  none_left none room end e =
+      let there : at + (begin + 64 - at) ≡ end = omega arith in
       sym (row_later bytes at (begin + 64 - at) (row_empty bytes at (begin + 64 - at) (omega arith) (omega arith) (bits / 2 ^ (at - begin)) left none)
       ∙ ap (λ (n : ℕ). n + position_or_len is_significant (drop n bytes)) there)
+
+  none_at_all : bits / 2 ^ (at - begin) ≡ 0 → length bytes < begin + 64 → (end : ℕ) → end ≡ length bytes →
+      end + position_or_len is_significant (drop end bytes) ≡ at + position_or_len is_significant (drop at bytes)
+  none_at_all none short end e =
+      let all : take (begin + 64 - at) (drop at bytes) ≡ drop at bytes = take_all (begin + 64 - at) (drop at bytes) (omega (arith, length-drop at bytes)) in
+      let zero_bits : significant_bits (drop at bytes) ≡ 0 = ap significant_bits (sym all) ∙ sym left ∙ none in
+      let here : position_or_len is_significant (drop at bytes) ≡ length (drop at bytes) = leading_from_mask_l is_significant (drop at bytes) zero_bits in
+      let last : position_or_len is_significant (drop end bytes) ≤ length (drop end bytes) = search_bound is_significant (drop end bytes) (position_or_len is_significant (drop end bytes)) refl in
+      omega (arith, here, last, length-drop at bytes, length-drop end bytes)
+
+  -- what comes next lies after the block, if no bit remains
+  pub left_empty : bits / 2 ^ (at - begin) ≡ 0 → (end : ℕ) → end ≡ min (begin + 64) (length bytes) →
+      end + position_or_len is_significant (drop end bytes) ≡ at + position_or_len is_significant (drop at bytes)
+  left_empty none end e = elim (cases_lt (length bytes) (begin + 64)) [
+    | inl short ↦ none_at_all none short end (omega arith)
+    | inr room ↦ none_left none room end (omega arith)
+  ]
+
+-- A wrapped difference below 64 is the position in a block.
+pub record IsShift (at begin : ℕ) : Type 0 where
+  pub low : begin ≤ at
+  pub high : at < begin + 64
+  pub is : (at + (18446744073709551616 - begin)) % 18446744073709551616 ≡ at - begin
+
+pub shift_in_block : (at begin : ℕ) → at < 18446744073709551616 → begin + 64 < 18446744073709551616 →
+    (at + (18446744073709551616 - begin)) % 18446744073709551616 < 64 → IsShift at begin
+shift_in_block at begin fits room near = elim (cases_lt at begin) [
+  | inl before ↦ absurd (let same : (at + (18446744073709551616 - begin)) % 18446744073709551616 ≡ at + (18446744073709551616 - begin) = omega arith in omega (arith, near, same))
+  | inr behind ↦ record { low = omega arith; high = omega arith; is = omega arith }
+]
