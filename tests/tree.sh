@@ -712,8 +712,26 @@ by_default=(env --default-signal)
 
 can_trace() { has strace && strace -o /dev/null true 2> /dev/null; }
 
+# in_image KIND SIZE: the same on a file system of this kind, whose times may be ticks of a second.
+in_image() {
+  local at
+  [ "$(id -u)" -eq 0 ] && has "mkfs.$1" || return 0
+  at=$(mktemp -d "${TMPDIR:-/tmp}/tree-test.XXXXXX")
+  truncate -s "$2" "$at/image"
+  mkdir "$at/mounted"
+  if "mkfs.$1" -q "$at/image" 2> /dev/null && mount -o loop "$at/image" "$at/mounted" 2> /dev/null; then
+    in_folder "$at/mounted"
+    umount "$at/mounted"
+  else
+    echo "tree-test: $1 cannot be mounted here, so it is left out"
+  fi
+  rm -rf "$at"
+}
+
 trap 'umount "$work/small" 2> /dev/null; rm -rf "$work"' EXIT
 in_folder "${TMPDIR:-/tmp}"
 [ ! -w /dev/shm ] || in_folder /dev/shm
+in_image ext3 32M
+in_image xfs 400M
 echo "unifdef-tree: $passed checks hold, $failed don't"
 [ "$failed" -eq 0 ]

@@ -144,19 +144,36 @@ syncs() {
   check 'sync: -w fails: the old bytes' holds src/a.c "$text"
 }
 
-# Tests each call that a run makes on a file, failing in turn: the status is 2, and each file is old
-# or new.
+# Tests each call that a run makes, failing in turn from the first one about the tree on: each file
+# is old or new, and the status is 2 unless both files are new.
 fails_in_turn() {
-  local call error i
+  local call error i first count
   while read -r call error; do
-    for i in 1 2; do
+    small_tree
+    strace -f -o "$work/calls" "$TREE" -DA src > /dev/null 2>&1
+    first=$(awk -v call="$call(" '{ count += index($0, call) > 0 }
+      /AT_FDCWD, "src"/ { print count + (index($0, call) == 0); exit }' "$work/calls")
+    count=$(grep -c " $call(" "$work/calls")
+    for i in $(seq "$first" "$count"); do
       small_tree
       strace -f -o /dev/null -e trace="$call" -e inject="$call:error=$error:when=$i" "$TREE" -DA src \
         > "$work/out" 2> "$work/err"
-      check "$call $i fails by $error: status" same "$?" 2
+      status=$?
       each_old_or_new "$call $i fails by $error"
+      [ "$status" -eq 2 ] || check "$call $i fails by $error: status" \
+        same "$(cat src/a.c src/folder/b.c)" $'yes\nyes'
     done
   done << 'EOT'
+openat EACCES
+openat EMFILE
+openat EIO
+read EIO
+read ENOMEM
+write EIO
+write ENOSPC
+close EIO
+close EDQUOT
+getdents64 EIO
 fchmod EPERM
 fchmod EIO
 fsync EIO
@@ -257,6 +274,32 @@ overlay() {
   umount "$work/layers"
 }
 
+# Tests a file system that takes all that is written, and says only at fsync and close that none of
+# it was kept.
+late_errors() {
+  if [ "$(id -u)" -ne 0 ] || [ ! -c /dev/fuse ] || ! has cc || ! pkg-config --exists fuse3 2> /dev/null; then
+    echo 'tree-test: libfuse3 is not there, so a file system that fails late is left out'
+    return
+  fi
+  fresh_tree
+  mkdir "$work/kept"
+  put "$work/kept/a.c" "$text"
+  # shellcheck disable=SC2046
+  cc "$here/tree/late.c" $(pkg-config --cflags --libs fuse3) -o "$work/late"
+  if ROOT="$work/kept" "$work/late" "$work/run/src" 2> /dev/null; then
+    tree -DA src
+    check 'a late error: status' same "$status" 2
+    check 'a late error: message' has_line "$work/err" \
+      'unifdef-tree: src/a.c: Cannot be written: Disk quota exceeded'
+    check 'a late error: the file' holds src/a.c "$text"
+    check 'a late error: nothing left over' no_rest
+    umount src
+  else
+    echo 'tree-test: nothing can be mounted by FUSE here, so a file system that fails late is left out'
+  fi
+  rm -rf "$work/kept"
+}
+
 # Tests that -n reports the links that a run reports.
 promises() {
   fresh_tree
@@ -308,6 +351,7 @@ safety() {
   undoes
   promises
   overlay
+  late_errors
   unrenamed
   if can_trace; then
     gives_to_open_file
