@@ -126,9 +126,9 @@ pub record ReportsNames (folder : List ℕ) (names : List (List ℕ)) (calls cal
   pub reports : ReportsWalk calls calls' old new err err'
   pub listing : Contains reports.walk.calls (listed folder names answer)
 
--- `VisitTells path calls calls' old new err err'`: `path` was looked at, nothing has it, and nothing
--- was written. Or that isn't so: then only calls of a walk were made, and their messages were
--- written and counted.
+-- `VisitTells path calls calls' old new err err'`: `path` was looked at, nothing has it, and
+-- nothing was written. Or that isn't so: then only calls of a walk were made, and their messages
+-- were written and counted.
 pub data VisitTells (path : List ℕ) (calls calls' : List Call) (old new : Report)
     (err err' : Stream) : Type 0 where
   is_gone : calls' ≡ walked (met path Absent) ∷ calls → new ≡ old → err' ≡ err →
