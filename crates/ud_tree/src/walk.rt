@@ -140,18 +140,18 @@ impl<'w> Walk<'w> {
         &mut self,
         report: &mut Report,
         err: &mut Watched<E>,
-        path: &str,
+        name: &str,
         node: Node,
     ) -> Result<(), AllocError>
-        ensures adds { AddsNode self.old.found.items path.now node self.new.found.items }
-        ensures told { TellsGiven path.now node report.old report.new
+        ensures adds { AddsNode self.old.found.items name.now node self.new.found.items }
+        ensures told { TellsGiven name.now node report.old report.new
             (stream_of E.contents err.old) (stream_of E.contents err.new) }
     {
         match node.kind {
-            NodeKind::File => self.push_file(path, node.id),
+            NodeKind::File => self.push_file(name, node.id),
             NodeKind::Folder | NodeKind::Link => Ok(()),
             NodeKind::Other => {
-                report.fault(err, path.as_bytes(), b"Is no regular file");
+                report.fault(err, name.as_bytes(), b"Is no regular file");
                 Ok(())
             }
         }
