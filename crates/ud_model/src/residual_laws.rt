@@ -175,7 +175,7 @@ pub fn law_answer_simplified()
 
 /// C selects the same lines of the simplified output as of the input, by any numbers.
 ///
-/// The arguments only decide conditions, without `-t`, and the input has no fault. In the world `w`,
+/// The arguments only decide conditions, without `-t`, and the input has no fault. In the world `w`
 /// each condition of the input that C evaluates has a truth that some numbers for the uses of the
 /// open names give it. Each opener of the simplified output has in `v` the truth of the opener from
 /// which it comes. C then selects the same lines, byte by byte. Each condition of the simplified
