@@ -4,3 +4,4 @@ pub mod Stacks
 pub mod DefinedOperands
 pub mod TwoSlots
 pub mod Digits
+pub mod ResidualReading

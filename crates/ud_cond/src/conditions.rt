@@ -39,7 +39,7 @@ pub struct Answer {
 }
 
 /// Returns the condition that a value decides.
-fn cond_of_value(rules: Rules, value: Value) -> Cond
+pub(crate) fn cond_of_value(rules: Rules, value: Value) -> Cond
     ensures { result ≡ cond_of_value (as_rules rules) value }
 {
     if value.calls_undefined || !(rules.constants || value.listed) {
@@ -154,7 +154,7 @@ fn ifdef_answer(text: &[u8], symbols: &Symbols) -> Answer
 }
 
 /// Returns the opposite condition. Unknown stays unknown.
-fn negate(cond: Cond) -> Cond
+pub(crate) fn negate(cond: Cond) -> Cond
     ensures { result ≡ spec.negate cond }
 {
     match cond {

@@ -5,12 +5,18 @@
 //! text by `tokens`, build no tree and allocate nothing. The value of a part is `values.Value`:
 //! `constants` has those of constants, and `operators` the precedence of each operator.
 //!
+//! `residuals` reads which tokens are left of an expression without the operands that the table
+//! decides. It keeps a `parts.Part` of each part, over the two stacks of `part_stacks`.
+//!
 //! A new operator needs a token, a precedence, and its value in `values`.
 
 mod constants;
 pub(crate) mod fast_path;
 mod operators;
 pub(crate) mod parsing;
+mod part_stacks;
+mod parts;
+pub(crate) mod residuals;
 mod stacks;
 pub(crate) mod tokens;
 pub(crate) mod values;

@@ -6,15 +6,18 @@
 //! `specs.symbols.NameFilters` which names are known to be unlisted without a search,
 //! `specs.expressions.Evaluation` the value that `fast_path` or `parsing` keeps of an expression,
 //! and `specs.expressions.TwoSlots` and `specs.expressions.Stacks` the operators that are pending
-//! meanwhile.
+//! meanwhile. `specs.expressions.ResidualReading` defines what `residuals` keeps of an expression.
 #![tactic(auto)]
 
 mod conditions;
 mod expressions;
 mod list_names;
 mod symbols;
+mod token_flags;
 
 pub use conditions::{Answer, Rules, condition};
+pub use expressions::residuals::residual;
 pub use list_names::names;
 pub use list_names::names_iter::Names;
 pub use symbols::{Entry, SymbolCalls, SymbolFault, Symbols};
+pub use token_flags::TokenFlags;

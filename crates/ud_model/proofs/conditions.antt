@@ -19,6 +19,7 @@ pub mod ResidualShape
 pub mod KeptTokens
 pub mod ResidualRead
 pub mod ResidualAgain
+pub mod ResidualSame
 pub mod ReducedTrees
 pub mod StayedChoices
 pub mod OneValue

@@ -175,11 +175,11 @@ pub fn law_answer_simplified()
 
 /// C selects the same lines of the simplified output as of the input, by any numbers.
 ///
-/// The arguments only decide conditions, without `-t`, and the input has no fault. In the world
-/// `w`, each condition of the input that C evaluates has a truth that some numbers for the uses of
-/// the open names give it. Each opener of the simplified output has in `v` the truth of the opener
-/// from which it comes. C then selects the same lines, byte by byte. Each condition of the
-/// simplified output that it evaluates has a value with this truth (C11 5.1.1.2, 6.10.1p4, p6).
+/// The arguments only decide conditions, without `-t`, and the input has no fault. In the world `w`
+/// each condition of the input that C evaluates has a truth that some numbers for the uses of the
+/// open names give it. Each opener of the simplified output has in `v` the truth of the opener from
+/// which it comes. C then selects the same lines, byte by byte. Each condition of the simplified
+/// output that it evaluates has a value with this truth (C11 5.1.1.2, 6.10.1p4, p6).
 pub fn law_answer_chosen()
     ensures tree { (args : List (List ℕ)) (input : List ℕ) (a : Answer) → Succeeds args input a →
         IsPlainC (options_of args) → (ns : Nodes Reading) →

@@ -6,3 +6,7 @@ pub mod StackLemmas
 pub mod NamedLemmas
 pub mod EvaluationLemmas
 pub mod DigitLemmas
+pub mod ResidualLemmas
+pub mod ReduceLemmas
+pub mod StateLemmas
+pub mod KeptLemmas

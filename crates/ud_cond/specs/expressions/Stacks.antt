@@ -15,7 +15,6 @@ use Rattle.ud_model.specs.conditions.Expressions.{precedence}
 use Rattle.ud_model.specs.aids.Parsing.{Frame, left, before, paren, ParseState, needs, has}
 use Rattle.ud_model.specs.declared.operator.Operator.{Operator}
 use Rattle.ud_model.specs.declared.limits.TheConstants.{LINE_BYTES}
-use Rattle.ud_cond.specs.declared.expressions.values.Value.{Value}
 use Rattle.ud_cond.specs.declared.expressions.stacks.PendingOp.{PendingOp}
 use Rattle.ud_cond.specs.declared.expressions.stacks.PendingOp.TheVariants.{Binary, Prefix, Opening}
 
@@ -25,7 +24,7 @@ abbrev pub Suffice : ℕ → ℕ → Type 0
 Suffice bytes operands = (bytes ≤ LINE_BYTES) × (operands ≤ bytes) × (bytes ≤ 2 * operands)
 
 -- `frames ws vs`: what is pending, by the operators and the left operands, each from the top down
-abbrev pub frames : List PendingOp → List Value → List (Frame Value)
+abbrev pub frames : {A : Type 0} → List PendingOp → List A → List (Frame A)
 frames [] vs = []
 frames (Binary o ∷ ws) [] = []
 frames (Binary o ∷ ws) (a ∷ vs) = left o a ∷ frames ws vs
@@ -33,7 +32,7 @@ frames (Prefix o ∷ ws) vs = before o ∷ frames ws vs
 frames (Opening ∷ ws) vs = paren ∷ frames ws vs
 
 -- `AreMatched ws vs`: each left operand has its operator, and each binary operator its left operand
-abbrev pub AreMatched : List PendingOp → List Value → Type 0
+abbrev pub AreMatched : {A : Type 0} → List PendingOp → List A → Type 0
 AreMatched [] [] = Unit {0}
 AreMatched [] (a ∷ vs) = ⊥
 AreMatched (Binary o ∷ ws) [] = ⊥
@@ -42,48 +41,48 @@ AreMatched (Prefix o ∷ ws) vs = AreMatched ws vs
 AreMatched (Opening ∷ ws) vs = AreMatched ws vs
 
 -- `is_empty s`: nothing is pending
-abbrev pub is_empty : List (Frame Value) → Bool
+abbrev pub is_empty : {A : Type 0} → List (Frame A) → Bool
 is_empty [] = true
 is_empty (f ∷ s) = false
 
 -- `weight s`: the least number of bytes of the text that the frames take
-abbrev pub weight : List (Frame Value) → ℕ
+abbrev pub weight : {A : Type 0} → List (Frame A) → ℕ
 weight [] = 0
 weight (left o a ∷ s) = weight s + 2
 weight (before o ∷ s) = weight s + 1
 weight (paren ∷ s) = weight s + 1
 
 -- `popped o a`: the frame of an operator popped from the top, with its left operand if it has one
-abbrev pub popped : Operator → Option Value → Frame Value
+abbrev pub popped : {A : Type 0} → Operator → Option A → Frame A
 popped o (Some a) = left o a
 popped o None = before o
 
 -- `BindsAsTightly j o a`: the operator binds at least as tightly as precedence `j`, as each prefix
 -- operator does; `a` is its left operand, if it has one
-abbrev pub BindsAsTightly : ℕ → Operator → Option Value → Type 0
+abbrev pub BindsAsTightly : {A : Type 0} → ℕ → Operator → Option A → Type 0
 BindsAsTightly j o (Some a) = j ≤ precedence o
 BindsAsTightly j o None = Unit {0}
 
 -- `IsSettled j s`: no prefix operator and none of precedence `j` or more is on top
-abbrev pub IsSettled : ℕ → List (Frame Value) → Type 0
+abbrev pub IsSettled : {A : Type 0} → ℕ → List (Frame A) → Type 0
 IsSettled j [] = Unit {0}
 IsSettled j (left o a ∷ s) = precedence o < j
 IsSettled j (before o ∷ s) = ⊥
 IsSettled j (paren ∷ s) = Unit {0}
 
 -- `IsNoParen s`: no parenthesis is on top
-abbrev pub IsNoParen : List (Frame Value) → Type 0
+abbrev pub IsNoParen : {A : Type 0} → List (Frame A) → Type 0
 IsNoParen [] = Unit {0}
 IsNoParen (left o a ∷ s) = Unit {0}
 IsNoParen (before o ∷ s) = Unit {0}
 IsNoParen (paren ∷ s) = ⊥
 
 -- `parse_state v s`: the state after the operand `v`, or the one that needs an operand
-abbrev pub parse_state : Option Value → List (Frame Value) → ParseState Value
+abbrev pub parse_state : {A : Type 0} → Option A → List (Frame A) → ParseState A
 parse_state (Some v) s = has v s
 parse_state None s = needs s
 
 -- `operand_weight v`: the least number of bytes of the text that the operand takes, if there is one
-abbrev pub operand_weight : Option Value → ℕ
+abbrev pub operand_weight : {A : Type 0} → Option A → ℕ
 operand_weight (Some v) = 1
 operand_weight None = 0

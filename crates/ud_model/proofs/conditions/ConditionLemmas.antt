@@ -64,7 +64,8 @@ module _ (t u : List Argument) (same : SaySame t u) where
   pub value_of_same : (strict : Bool) (e : Expression) → value_of t strict e ≡ value_of u strict e
   value_of_same strict e = ap (λ (b : Bool). number_of t strict b e) (has_unsigned_same e) ∙ number_of_same strict (has_unsigned u e) e
 
-  tree_cond_same : (e : Expression) (rules : Rules) → tree_cond e t rules ≡ tree_cond e u rules
+  -- A tree has the same condition by both tables.
+  pub tree_cond_same : (e : Expression) (rules : Rules) → tree_cond e t rules ≡ tree_cond e u rules
   tree_cond_same e rules = rw (calls_undefined_same e, names_listed_same e, value_of_same rules.strict e)
 
   tree_cond_if_same : (o : Option Expression) (rules : Rules) → tree_cond_if o t rules ≡ tree_cond_if o u rules

@@ -5,14 +5,13 @@ use Rattle.ud_model.specs.conditions.Tokens.{Token, at_end, unreadable, found, n
 use Rattle.ud_model.specs.conditions.Expressions.{precedence}
 use Rattle.ud_model.specs.aids.Parsing.{Meaning, Frame, ParseState, step, finish, reads}
 use Rattle.ud_model.specs.declared.operator.Operator.{Operator}
-use Rattle.ud_cond.specs.declared.expressions.values.Value.{Value}
 use Rattle.ud_cond.specs.declared.expressions.stacks.PendingOp.{PendingOp}
 use Rattle.ud_cond.specs.declared.expressions.stacks.PendingOp.TheVariants.{Binary, Prefix, Opening}
 use Rattle.ud_cond.specs.expressions.Stacks.{frames, AreMatched, weight, IsSettled, is_empty, parse_state}
 use Rattle.ud_cond.proofs.lemmas.expressions.ReadingLemmas.{reads_on, reads-on, reads-found}
 
 -- the frames weigh as much as both stacks are long
-pub weighs : (ws : List PendingOp) (vs : List Value) → AreMatched ws vs → weight (frames ws vs) ≡ length ws + length vs
+pub weighs : {A : Type 0} (ws : List PendingOp) (vs : List A) → AreMatched ws vs → weight (frames ws vs) ≡ length ws + length vs
 weighs [] [] m = refl
 weighs [] (a ∷ vs) m = absurd m
 weighs (Binary o ∷ ws) [] m = absurd m
@@ -21,7 +20,7 @@ weighs (Prefix o ∷ ws) vs m = let h = weighs ws vs m in omega arith
 weighs (Opening ∷ ws) vs m = let h = weighs ws vs m in omega arith
 
 -- there are no more operands than operators
-pub fewer : (ws : List PendingOp) (vs : List Value) → AreMatched ws vs → length vs ≤ length ws
+pub fewer : {A : Type 0} (ws : List PendingOp) (vs : List A) → AreMatched ws vs → length vs ≤ length ws
 fewer [] [] m = omega arith
 fewer [] (a ∷ vs) m = absurd m
 fewer (Binary o ∷ ws) [] m = absurd m
@@ -30,26 +29,26 @@ fewer (Prefix o ∷ ws) vs m = let h = fewer ws vs m in omega arith
 fewer (Opening ∷ ws) vs m = let h = fewer ws vs m in omega arith
 
 -- one more operator, or one more operand too
-pub holds-push : (new ws : List PendingOp) (vs : List Value) (x : PendingOp) → new ≡ ws ++ x ∷ [] → AreMatched (x ∷ reverse ws) vs → AreMatched (reverse new) vs
+pub holds-push : {A : Type 0} (new ws : List PendingOp) (vs : List A) (x : PendingOp) → new ≡ ws ++ x ∷ [] → AreMatched (x ∷ reverse ws) vs → AreMatched (reverse new) vs
 holds-push new ws vs x e m = subst (λ us. AreMatched us vs) (sym (ap reverse e ∙ reverse-append ws (x ∷ []))) m
 
-pub holds-both : (new ws : List PendingOp) (more vs : List Value) (o : Operator) (a : Value) → new ≡ ws ++ Binary o ∷ [] → more ≡ vs ++ a ∷ [] → AreMatched (reverse ws) (reverse vs) → AreMatched (reverse new) (reverse more)
+pub holds-both : {A : Type 0} (new ws : List PendingOp) (more vs : List A) (o : Operator) (a : A) → new ≡ ws ++ Binary o ∷ [] → more ≡ vs ++ a ∷ [] → AreMatched (reverse ws) (reverse vs) → AreMatched (reverse new) (reverse more)
 holds-both new ws more vs o a e f m =
     holds-push new ws (reverse more) (Binary o) e (subst (λ us. AreMatched (Binary o ∷ reverse ws) us) (sym (ap reverse f ∙ reverse-append vs (a ∷ []))) m)
 
 -- there is capacity for one more operator, or for an operand too
-pub room : (ws : List PendingOp) (vs : List Value) (n : ℕ) → AreMatched (reverse ws) (reverse vs) → weight (frames (reverse ws) (reverse vs)) + 1 ≤ n → length ws < n
+pub room : {A : Type 0} (ws : List PendingOp) (vs : List A) (n : ℕ) → AreMatched (reverse ws) (reverse vs) → weight (frames (reverse ws) (reverse vs)) + 1 ≤ n → length ws < n
 room ws vs n m l =
     let all = weighs (reverse ws) (reverse vs) m in
     omega (arith, length-reverse ws, length-reverse vs)
 
-pub room-left : (ws : List PendingOp) (vs : List Value) (n k : ℕ) → AreMatched (reverse ws) (reverse vs) → weight (frames (reverse ws) (reverse vs)) + 2 ≤ n → n ≤ 2 * k → length vs < k
+pub room-left : {A : Type 0} (ws : List PendingOp) (vs : List A) (n k : ℕ) → AreMatched (reverse ws) (reverse vs) → weight (frames (reverse ws) (reverse vs)) + 2 ≤ n → n ≤ 2 * k → length vs < k
 room-left ws vs n k m l h =
     let all = weighs (reverse ws) (reverse vs) m in
     let some = fewer (reverse ws) (reverse vs) m in
     omega (arith, length-reverse ws, length-reverse vs)
 
-nothing_by : (ws : List PendingOp) (vs : List Value) → AreMatched ws vs → (length ws == 0) ≡ is_empty (frames ws vs)
+nothing_by : {A : Type 0} (ws : List PendingOp) (vs : List A) → AreMatched ws vs → (length ws == 0) ≡ is_empty (frames ws vs)
 nothing_by [] vs m = refl
 nothing_by (Binary o ∷ ws) [] m = absurd m
 nothing_by (Binary o ∷ ws) (a ∷ vs) m = grind arith
@@ -57,26 +56,26 @@ nothing_by (Prefix o ∷ ws) vs m = grind arith
 nothing_by (Opening ∷ ws) vs m = grind arith
 
 -- no frame is pending if no operator is
-pub nothing : (ws : List PendingOp) (vs : List Value) → AreMatched (reverse ws) (reverse vs) → (length ws == 0) ≡ is_empty (frames (reverse ws) (reverse vs))
+pub nothing : {A : Type 0} (ws : List PendingOp) (vs : List A) → AreMatched (reverse ws) (reverse vs) → (length ws == 0) ≡ is_empty (frames (reverse ws) (reverse vs))
 nothing ws vs m = ap (λ n. n == 0) (sym (length-reverse ws)) ∙ nothing_by (reverse ws) (reverse vs) m
 
 -- a looser operator on top isn't popped
-settled-between : (j : ℕ) (o : Operator) (ws : List PendingOp) (vs : List Value) → precedence o < j → IsSettled j (frames (Binary o ∷ ws) vs)
+settled-between : {A : Type 0} (j : ℕ) (o : Operator) (ws : List PendingOp) (vs : List A) → precedence o < j → IsSettled j (frames (Binary o ∷ ws) vs)
 settled-between j o ws [] l = tt
 settled-between j o ws (a ∷ vs) l = l
 
-pub settled-top : (old new : List PendingOp) (vs : List Value) (j : ℕ) (o : Operator) → old ≡ new ++ Binary o ∷ [] → precedence o < j → IsSettled j (frames (reverse old) vs)
+pub settled-top : {A : Type 0} (old new : List PendingOp) (vs : List A) (j : ℕ) (o : Operator) → old ≡ new ++ Binary o ∷ [] → precedence o < j → IsSettled j (frames (reverse old) vs)
 settled-top old new vs j o e l = subst (λ ws. IsSettled j (frames ws vs)) (sym (ap reverse e ∙ reverse-append new (Binary o ∷ []))) (settled-between j o (reverse new) vs l)
 
-module _ (m : Meaning Value) where
+module _ {A : Type 0} (m : Meaning A) where
   -- the meaning so far continues in the state that the next token makes
-  pub goes-on : (all : Option Value) (o : Option Value) (s : List (Frame Value)) (q : ParseState Value) (text : List ℕ) (t : Token) (rest : List ℕ) → all ≡ reads m (parse_state o s) text → parse_state o s ≡ q →
+  pub goes-on : (all : Option A) (o : Option A) (s : List (Frame A)) (q : ParseState A) (text : List ℕ) (t : Token) (rest : List ℕ) → all ≡ reads m (parse_state o s) text → parse_state o s ≡ q →
       found t rest ≡ next_token text → all ≡ reads m (step m q t) rest
   goes-on all o s q text t rest e f h = e ∙ ap (λ p. reads m p text) f ∙ reads-found m q text t rest (sym h)
 
   -- the meaning so far is that of the state if the text ends, and nothing if the text is unreadable
-  pub ends : (all : Option Value) (q : ParseState Value) (text : List ℕ) → all ≡ reads m q text → at_end ≡ next_token text → finish m q ≡ all
+  pub ends : (all : Option A) (q : ParseState A) (text : List ℕ) → all ≡ reads m q text → at_end ≡ next_token text → finish m q ≡ all
   ends all q text e h = sym (e ∙ reads-on m q text ∙ ap (reads_on m q) (sym h))
 
-  pub ends-unreadable : (all : Option Value) (q : ParseState Value) (text : List ℕ) → all ≡ reads m q text → unreadable ≡ next_token text → None ≡ all
+  pub ends-unreadable : (all : Option A) (q : ParseState A) (text : List ℕ) → all ≡ reads m q text → unreadable ≡ next_token text → None ≡ all
   ends-unreadable all q text e h = sym (e ∙ reads-on m q text ∙ ap (reads_on m q) (sym h))

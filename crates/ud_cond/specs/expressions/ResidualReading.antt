@@ -1,0 +1,214 @@
+-- ResidualReading: the residual of an expression while it is read.
+-- `ud_model.specs.conditions.Residuals` defines the residual of a tree, and
+-- `ud_model.specs.conditions.ResidualTexts` the flags of its tokens. Both come from those of the
+-- parts, so no tree is needed.
+--
+--   Kept                         the value, the residual's condition and the flags of a part
+--   kept_meaning table rules     the record `Kept` of each part of an expression
+--   kept_of_tree table rules e   the record `Kept` of a tree
+--   flags_in s                   the flags of the tokens that are pending in the frames `s`
+--   part_of k n                  the program's part for `k`, whose flags begin at `n`
+--   parts_of s                   the frames `s` with such parts
+--   IsAt ps x flags (k, s)       the program has the part `k` after the frames `s`
+--   Represents st ps flags q     the program is in the state `q`
+use Rattle.std.specs.Prelude.{◌≡◌, ℕ, ◌+◌, suc, List, [], ◌∷◌, ◌++◌, length, replicate, Option}
+use Rattle.std.specs.Prelude.{Some, Bool, true, false, not, ◌&&◌, if◌then◌else◌, ℤ}
+use Rattle.ud_model.specs.conditions.Table.{Argument}
+use Rattle.ud_model.specs.conditions.Expressions.{Expression}
+use Rattle.ud_model.specs.conditions.Conditions.{Rules, negate}
+use Rattle.ud_model.specs.conditions.Values.{name_value, apply_unary, apply_binary, number_of}
+use Rattle.ud_model.specs.conditions.Residuals.{is_unit, settled, stands_alone, residual}
+use Rattle.ud_model.specs.conditions.ResidualTexts.{keeps}
+use Rattle.ud_model.specs.aids.Parsing.{Meaning, Frame, left, before, paren, ParseState, needs, has}
+use Rattle.ud_model.specs.aids.Parsing.{asks, asks_inside, asks_end, step, finish}
+use Rattle.ud_model.specs.conditions.Tokens.{Token}
+use Rattle.ud_model.specs.declared.cond.Cond.{Cond}
+use Rattle.ud_model.specs.declared.operator.Operator.{Operator}
+use Rattle.ud_model.specs.declared.operator.Operator.TheVariants.{Or, And, Not}
+use Rattle.ud_cond.specs.declared.expressions.values.Value.{Value}
+use Rattle.ud_cond.specs.declared.expressions.parts.Part.{Part}
+use Rattle.ud_cond.specs.declared.expressions.residuals.State.{State}
+use Rattle.ud_cond.specs.declared.expressions.residuals.State.TheVariants as is
+use Rattle.ud_cond.specs.expressions.Evaluation.{constant_value_of, name_value_of}
+use Rattle.ud_cond.specs.expressions.Evaluation.{defined_value_of, unary_value_of, binary_value_of}
+use Rattle.ud_cond.specs.expressions.Evaluation.{value_of_tree, cond_of_value}
+
+-- `is_joining o`: the operator is `&&` or `||`
+abbrev pub is_joining : Operator → Bool
+is_joining And = true
+is_joining Or = true
+is_joining o = false
+
+-- `is_not o`: the operator is `!`
+abbrev pub is_not : Operator → Bool
+is_not Not = true
+is_not o = false
+
+-- A part of an expression: its value, and the condition and the flags of its residual.
+pub record Kept : Type 0 where
+  -- The value with signed numbers, and the number in an expression with a `u`.
+  pub value : Value
+  pub number : Option ℤ
+  -- The condition of the residual, and whether the last operator of the part was removed.
+  pub cond : Cond
+  pub lost : Bool
+  -- The residual stands alone; the part does.
+  pub left_alone : Bool
+  pub alone : Bool
+  pub flags : List Bool
+
+-- `value_by v n`: the value `v` with its own least number, where `n` is the number in an expression
+-- with a `u`
+abbrev pub value_by : Value → Option ℤ → Value
+value_by v n = if v.unsigned then record v { number = n } else v
+
+-- `leaf rules v n alone flags`: an operand of its own
+abbrev pub leaf : Rules → Value → Option ℤ → Bool → List Bool → Kept
+leaf rules v n alone flags = record {
+  value = v;
+  number = n;
+  cond = cond_of_value rules (value_by v n);
+  lost = false;
+  left_alone = alone;
+  alone = alone;
+  flags = flags;
+}
+
+-- `unary_kept rules o a`: a prefix operator and its operand
+abbrev pub unary_kept : Rules → Operator → Kept → Kept
+unary_kept rules Not a = record {
+  value = unary_value_of false Not a.value;
+  number = apply_unary true Not a.number;
+  cond = negate a.cond;
+  lost = false;
+  left_alone = a.left_alone;
+  alone = a.alone;
+  flags = true ∷ a.flags;
+}
+unary_kept rules o a = leaf rules (unary_value_of false o a.value) (apply_unary true o a.number)
+    a.alone (replicate (suc (length a.flags)) true)
+
+-- `joined_kept rules o a b`: `&&` or `||` between two operands
+abbrev pub joined_kept : Rules → Operator → Kept → Kept → Kept
+joined_kept rules o a b = record {
+  value = binary_value_of rules.strict false o a.value b.value;
+  number = apply_binary rules.strict true o a.number b.number;
+  cond = if is_unit o a.cond then b.cond
+      else if is_unit o b.cond then a.cond else settled rules.strict o a.cond b.cond;
+  lost = if is_unit o a.cond then true else if is_unit o b.cond then true else false;
+  left_alone = if is_unit o a.cond then b.left_alone
+      else if is_unit o b.cond then a.left_alone else false;
+  alone = false;
+  flags = if is_unit o a.cond then replicate (length a.flags + 1) false ++ b.flags
+      else if is_unit o b.cond then a.flags ++ replicate (suc (length b.flags)) false
+      else a.flags ++ true ∷ b.flags;
+}
+
+-- `binary_kept rules o a b`: an operator between two operands
+abbrev pub binary_kept : Rules → Operator → Kept → Kept → Kept
+binary_kept rules And a b = joined_kept rules And a b
+binary_kept rules Or a b = joined_kept rules Or a b
+binary_kept rules o a b = leaf rules (binary_value_of rules.strict false o a.value b.value)
+    (apply_binary rules.strict true o a.number b.number) false
+    (replicate (length a.flags + suc (length b.flags)) true)
+
+-- `parens_kept a`: parentheses around a part
+abbrev pub parens_kept : Kept → Kept
+parens_kept a = record a {
+  left_alone = true;
+  alone = true;
+  flags = not (a.lost && a.left_alone) ∷ a.flags ++ not (a.lost && a.left_alone) ∷ [];
+}
+
+-- `defined_flags p`: the flags of `defined` and a name, in parentheses if `p`
+abbrev pub defined_flags : Bool → List Bool
+defined_flags false = true ∷ true ∷ []
+defined_flags true = true ∷ true ∷ true ∷ true ∷ []
+
+module _ (table : List Argument) (rules : Rules) where
+  -- `kept_meaning table rules`: the record of each part of an expression
+  abbrev pub kept_meaning : Meaning Kept
+  kept_meaning = record {
+    constant = λ w. leaf rules (constant_value_of w) (constant_value_of w).number false (true ∷ []);
+    named = λ n a. leaf rules (name_value_of table false n a) (name_value table true n) false
+        (true ∷ []);
+    is_defined = λ n p. leaf rules (defined_value_of table n) (defined_value_of table n).number
+        true (defined_flags p);
+    unary = unary_kept rules;
+    binary = binary_kept rules;
+    parens = parens_kept;
+  }
+
+  -- `kept_of_tree table rules e`: the record of the tree `e`
+  abbrev pub kept_of_tree : Expression → Kept
+  kept_of_tree e = record {
+    value = value_of_tree table rules.strict false e;
+    number = number_of table rules.strict true e;
+    cond = (residual table rules e).cond;
+    lost = (residual table rules e).lost;
+    left_alone = stands_alone (residual table rules e).tree;
+    alone = stands_alone e;
+    flags = keeps table rules e;
+  }
+
+-- `flags_in s`: the flags of the tokens that are pending in the frames `s`, from the outermost one
+abbrev pub flags_in : List (Frame Kept) → List Bool
+flags_in [] = []
+flags_in (left o a ∷ s) = flags_in s ++ a.flags ++ true ∷ []
+flags_in (before o ∷ s) = flags_in s ++ true ∷ []
+flags_in (paren ∷ s) = flags_in s ++ true ∷ []
+
+-- `part_of k n`: the part `k`, whose flags begin at `n`
+abbrev pub part_of : Kept → ℕ → Part
+part_of k n = record {
+  value = k.value;
+  number = k.number;
+  cond = k.cond;
+  lost = k.lost;
+  left_alone = k.left_alone;
+  alone = k.alone;
+  first = n;
+}
+
+-- `parts_of s`: the frames `s` with such parts
+abbrev pub parts_of : List (Frame Kept) → List (Frame Part)
+parts_of [] = []
+parts_of (left o a ∷ s) = left o (part_of a (length (flags_in s))) ∷ parts_of s
+parts_of (before o ∷ s) = before o ∷ parts_of s
+parts_of (paren ∷ s) = paren ∷ parts_of s
+
+-- `IsAt ps x flags (k, s)`: the program has the part `k` after the frames `s`
+abbrev pub IsAt : List (Frame Part) → Part → List Bool → Kept × List (Frame Kept) → Type 0
+IsAt ps x flags (k, s) = (ps ≡ parts_of s) × (flags ≡ flags_in s ++ k.flags) ×
+    (x ≡ part_of k (length (flags_in s)))
+
+-- `Represents st ps flags q`: with the state `st`, the frames `ps` and the flags so far, the
+-- program is in the state `q`
+abbrev pub Represents : State → List (Frame Part) → List Bool → ParseState Kept → Type 0
+Represents is.Needs ps flags (needs s) = (ps ≡ parts_of s) × (flags ≡ flags_in s)
+Represents (is.Has x) ps flags (has k s) = IsAt ps x flags (k, s)
+Represents (is.AfterDefined n) ps flags (asks s) = (ps ≡ parts_of s) ×
+    (flags ≡ flags_in s ++ true ∷ []) × (n ≡ length (flags_in s))
+Represents (is.AfterParen n) ps flags (asks_inside s) = (ps ≡ parts_of s) ×
+    (flags ≡ flags_in s ++ true ∷ true ∷ []) × (n ≡ length (flags_in s))
+Represents (is.AfterName n w) ps flags (asks_end v s) = (ps ≡ parts_of s) ×
+    (flags ≡ flags_in s ++ true ∷ true ∷ true ∷ []) × (n ≡ length (flags_in s)) × (w.now ≡ v)
+Represents _ ps flags _ = ⊥
+
+-- `state_weight st`: the least number of bytes of the text that the state takes
+abbrev pub state_weight : State → ℕ
+state_weight is.Needs = 0
+state_weight (is.Has x) = 1
+state_weight (is.AfterDefined n) = 1
+state_weight (is.AfterParen n) = 1
+state_weight (is.AfterName n w) = 1
+
+-- `step_kept table rules q t`: the state after one token more
+abbrev pub step_kept : List Argument → Rules → ParseState Kept → Token → ParseState Kept
+step_kept table rules = step (kept_meaning table rules)
+
+-- `IsResult table rules q c flags`: the expression that ends in the state `q` has a residual with
+-- the condition `c` and these flags
+abbrev pub IsResult : List Argument → Rules → ParseState Kept → Cond → List Bool → Type 0
+IsResult table rules q c flags = (k : Kept) × (finish (kept_meaning table rules) q ≡ Some k) ×
+    (k.cond ≡ c) × (flags ≡ k.flags)

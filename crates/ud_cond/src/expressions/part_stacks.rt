@@ -1,0 +1,125 @@
+//! Two stacks of fixed size for what is pending in an expression of which the residual is read:
+//! operators, and the parts to their left.
+//!
+//! They are as large as those of `stacks`.
+
+ghost use Rattle.std.specs.Prelude.{◌≡◌, ◌≤◌, ◌+◌, ◌∷◌, [], IfSome, IfNone, IsTrue, false};
+ghost use Rattle.ud_model.specs.aids.Parsing.{left, before, paren};
+ghost use Rattle.ud_cond.specs.expressions.Stacks as spec;
+ghost use Rattle.ud_cond.specs.expressions.Stacks.{weight};
+
+use crate::expressions::operators::precedence;
+use crate::expressions::parts::Part;
+use crate::expressions::stacks::PendingOp;
+use arrayvec::ArrayVec;
+use std::marker::Model;
+use ud_model::Operator;
+
+/// The stacks for a text of at most `BYTES` bytes.
+#[derive(Drop)]
+pub(crate) struct PartStacks<const BYTES: usize, const OPERANDS: usize> {
+    /// The pending operators and parentheses; the last one is the innermost.
+    operators: ArrayVec<PendingOp, BYTES>,
+    /// The left operands of those operators that have one.
+    operands: ArrayVec<Part, OPERANDS>,
+}
+
+impl<const BYTES: usize, const OPERANDS: usize> Model for PartStacks<BYTES, OPERANDS> {
+    ghost use Rattle.std.specs.Prelude.{◌≤◌, List, reverse};
+    ghost use Rattle.arrayvec.specs.ArrayVec.{array_vec_len};
+    ghost use Rattle.ud_model.specs.aids.Parsing.{Frame};
+    ghost use Rattle.ud_cond.specs.expressions.Stacks.{frames, AreMatched, Suffice};
+    ghost use Rattle.ud_cond.specs.declared.expressions.parts.Part as declared;
+
+    ghost Value = { List (Frame declared.Part) };
+
+    ghost view = { λ s. frames (reverse s.operators.items) (reverse s.operands.items) };
+
+    ghost invariant = { λ s. AreMatched (reverse s.operators.items) (reverse s.operands.items) ×
+        (array_vec_len s.operators ≤ BYTES) × Suffice BYTES OPERANDS };
+}
+
+impl<const BYTES: usize, const OPERANDS: usize> PartStacks<BYTES, OPERANDS> {
+    /// Returns empty stacks.
+    pub(crate) fn new() -> Self
+        requires { spec.Suffice BYTES OPERANDS }
+        ensures { result ≡ [] }
+    {
+        PartStacks {
+            operators: ArrayVec::new(),
+            operands: ArrayVec::new(),
+        }
+    }
+
+    /// Returns whether nothing is pending.
+    pub(crate) fn is_empty(&self) -> bool
+        ensures { result ≡ spec.is_empty self.now }
+    {
+        self.operators.is_empty()
+    }
+
+    /// Pushes a binary operator with its left operand.
+    pub(crate) fn push_binary(&mut self, operator: Operator, operand: Part)
+        requires { weight self.old + 2 ≤ BYTES }
+        ensures { self.new ≡ left operator operand ∷ self.old }
+    {
+        self.operators.push(PendingOp::Binary(operator));
+        self.operands.push(operand);
+    }
+
+    /// Pushes a prefix operator.
+    pub(crate) fn push_prefix(&mut self, operator: Operator)
+        requires { weight self.old + 1 ≤ BYTES }
+        ensures { self.new ≡ before operator ∷ self.old }
+    {
+        self.operators.push(PendingOp::Prefix(operator));
+    }
+
+    /// Pushes an open parenthesis.
+    pub(crate) fn push_paren(&mut self)
+        requires { weight self.old + 1 ≤ BYTES }
+        ensures { self.new ≡ paren ∷ self.old }
+    {
+        self.operators.push(PendingOp::Opening);
+    }
+
+    /// Pops the innermost parenthesis, if nothing is pending inside. Returns whether it was popped.
+    pub(crate) fn pop_paren(&mut self) -> bool
+        ensures yes { IsTrue result → self.old ≡ paren ∷ self.new }
+        ensures no { result ≡ false → spec.IsNoParen self.old }
+    {
+        match self.operators.pop() {
+            Some(PendingOp::Opening) => true,
+            Some(other) => {
+                self.operators.push(other);
+                false
+            }
+            None => false,
+        }
+    }
+
+    /// Pops the innermost operator if it binds at least as tightly as `least`, with its left
+    /// operand if it has one.
+    pub(crate) fn pop_operator(&mut self, least: u8) -> Option<(Operator, Option<Part>)>
+        ensures none { IfNone result (self.new ≡ self.old × spec.IsSettled least self.old) }
+        ensures some { IfSome result (λ t. self.old ≡ spec.popped t.0 t.1 ∷ self.new ×
+            spec.BindsAsTightly least t.0 t.1) }
+    {
+        match self.operators.pop() {
+            Some(PendingOp::Binary(operator)) => {
+                if precedence(operator) < least {
+                    self.operators.push(PendingOp::Binary(operator));
+                    return None;
+                }
+                let operand = self.operands.pop().unwrap();
+                Some((operator, Some(operand)))
+            }
+            Some(PendingOp::Prefix(operator)) => Some((operator, None)),
+            Some(PendingOp::Opening) => {
+                self.operators.push(PendingOp::Opening);
+                None
+            }
+            None => None,
+        }
+    }
+}

@@ -1,0 +1,40 @@
+-- Residual same: a table counts for a residual by its entries alone.
+use Rattle.std.proofs.Common.{◌≡◌, Bool, true, false, not, ◌&&◌, List, [], ◌∷◌, ◌++◌, refl, ap, ap₂}
+use Rattle.ud_model.specs.conditions.Table.{Argument}
+use Rattle.ud_model.specs.conditions.Expressions.{Expression, constant, named, is_defined, unary, binary, parens}
+use Rattle.ud_model.specs.conditions.Conditions.{Rules, tree_cond}
+use Rattle.ud_model.specs.conditions.Residuals.{Residual, is_unit, joined, negated, stands_alone, enclosed, residual}
+use Rattle.ud_model.specs.conditions.ResidualTexts.{joined_flags, keeps}
+use Rattle.ud_model.specs.declared.cond.Cond.{Cond}
+use Rattle.ud_model.specs.declared.operator.Operator.TheVariants.{Or, And, Not}
+use Rattle.ud_model.proofs.conditions.SymbolLemmas.{SaySame}
+use Rattle.ud_model.proofs.conditions.ConditionLemmas.{tree_cond_same}
+
+module _ (t u : List Argument) (same : SaySame t u) (rules : Rules) where
+  alone_same : (e : Expression) → ◌≡◌ {A = Residual} (record { cond = tree_cond e t rules; tree = e; lost = false }) (record { cond = tree_cond e u rules; tree = e; lost = false })
+  alone_same e = ap (λ (c : Cond). record { cond = c; tree = e; lost = false }) (tree_cond_same t u same e rules)
+
+  -- The residual is the same.
+  pub residual_same : (e : Expression) → residual t rules e ≡ residual u rules e
+  residual_same (unary Not a) = ap negated (residual_same a)
+  residual_same (binary And a b) = ap₂ (joined rules.strict And) (residual_same a) (residual_same b)
+  residual_same (binary Or a b) = ap₂ (joined rules.strict Or) (residual_same a) (residual_same b)
+  residual_same (parens a) = ap enclosed (residual_same a)
+  residual_same (constant w) = alone_same (constant w)
+  residual_same (named n a) = alone_same (named n a)
+  residual_same (is_defined n p) = alone_same (is_defined n p)
+  residual_same (unary o a) = alone_same (unary o a)
+  residual_same (binary o a b) = alone_same (binary o a b)
+
+  -- So are the flags of its tokens.
+  pub keeps_same : (e : Expression) → keeps t rules e ≡ keeps u rules e
+  keeps_same (unary Not a) = ap (λ (fs : List Bool). true ∷ fs) (keeps_same a)
+  keeps_same (binary And a b) = λ i. joined_flags (is_unit And (residual_same a i).cond) (is_unit And (residual_same b i).cond) a b (keeps_same a i) (keeps_same b i)
+  keeps_same (binary Or a b) = λ i. joined_flags (is_unit Or (residual_same a i).cond) (is_unit Or (residual_same b i).cond) a b (keeps_same a i) (keeps_same b i)
+  keeps_same (parens a) = λ i.
+      not ((residual_same a i).lost && stands_alone (residual_same a i).tree) ∷ keeps_same a i ++ not ((residual_same a i).lost && stands_alone (residual_same a i).tree) ∷ []
+  keeps_same (constant w) = refl
+  keeps_same (named n a) = refl
+  keeps_same (is_defined n p) = refl
+  keeps_same (unary o a) = refl
+  keeps_same (binary o a b) = refl
