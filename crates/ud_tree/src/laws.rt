@@ -10,8 +10,8 @@ ghost use Rattle.ud_tree.specs.TreeRuns.{Run, IsRunOf, IsClean};
 ghost use Rattle.ud_tree.specs.TreeMoments.{TouchesNothing, TouchesFreshOrNone};
 ghost use Rattle.ud_tree.specs.TreeMoments.{LeavesOldOrOutput};
 
-/// If the status isn't 2, nothing failed: the walk has no message, no file has an error, and the
-/// output was written. The number of messages is taken to be one that a machine can count.
+/// If the status isn't 2, the walk has no message, no file has an error, and no write of the output
+/// failed. The number of messages is taken to be one that a machine can count.
 pub fn law_run_status()
     ensures { (run : Run) → IsRunOf run → ¬ (run.status ≡ 2) →
         length run.messages + 2 < 2 ^ 64 → IsClean run }
@@ -40,7 +40,7 @@ pub fn law_run_renames()
 {}
 
 /// If all answers are true, each file has its old bytes or the whole output for them after each
-/// call of a run. A machine that stops between two calls leaves such a state. Writing into files
+/// call of a run. A process that is killed between two calls leaves such a state. Writing into files
 /// isn't allowed here.
 pub fn law_run_old_or_new()
     ensures { (o : Options) (first : Files) (run : Run) → IsRunOf run →
