@@ -235,10 +235,12 @@ const PASSES: &[(&[u8], usize)] = &[
     (b"a\nb \\\r\r\nc\n", 2),
     (b"a\n#\\\nif\n", 2),
     (b"a\n#el\\\nse\n", 2),
+    // A skip stops where a block comment begins that the lines don't close.
+    (b"/* a\nb\nc", 0),
+    (b"a\n/* b\nc\n", 2),
     // A skip stops at a line that may not be text.
     (b"a\n#if X\nb\n", 2),
     (b"/* a\nb\n*/ #if\n", 7),
-    (b"/* a\nb\nc", 7),
     (b"/* a *\\\n/\nb\n", 0),
     (b"/* a \\\n b */\nc\n", 15),
     (b"a\n/* b */ /* c */ #if\n", 2),
