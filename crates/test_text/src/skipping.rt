@@ -214,6 +214,8 @@ const PASSES: &[(&[u8], usize)] = &[
     (b"a\n/* b */ /* c */ d\n", 20),
     (b"/* b */ /* c\n */ #\\\n", 13),
     (b"// a \\b\n// \\ \r\nc\n", 17),
+    (b"don't\nx\n", 8),
+    (b"a \"b\\\"\n/* c */\n", 15),
     // A skip goes through splices.
     (b"a\nb\\\nc\n", 7),
     (b"#define X \\\n  #x /* y */ \\\r\n  # z\nb\n", 36),
@@ -235,14 +237,17 @@ const PASSES: &[(&[u8], usize)] = &[
     (b"a\nb \\\r\r\nc\n", 2),
     (b"a\n#\\\nif\n", 2),
     (b"a\n#el\\\nse\n", 2),
+    // A skip stops where a block comment begins that the lines don't close.
+    (b"/* a\nb\nc", 0),
+    (b"a\n/* b\nc\n", 2),
     // A skip stops at a line that may not be text.
     (b"a\n#if X\nb\n", 2),
     (b"/* a\nb\n*/ #if\n", 7),
-    (b"/* a\nb\nc", 7),
     (b"/* a *\\\n/\nb\n", 0),
     (b"/* a \\\n b */\nc\n", 15),
     (b"a\n/* b */ /* c */ #if\n", 2),
-    (b"don't\n", 0),
+    (b"don't\\\\\nx\n", 0),
+    (b"don't\r\nx\n", 0),
 ];
 
 #[test]

@@ -80,8 +80,8 @@ pub(crate) fn splice_len(rest: &[u8]) -> Option<usize>
     }
 }
 
-/// Returns the length of a literal with this quote, up to the quote that closes it. `None` if its
-/// line ends before (C11 6.4.4.4 and 6.4.5).
+/// Returns the length of a literal with this quote, up to the quote that closes it, or else with
+/// the newline of its line (C11 6.4.4.4 and 6.4.5). `None` if that newline may belong to a splice.
 fn literal_len(rest: &[u8], quote: u8) -> Option<usize>
     requires some { 0 < length rest.now }
     requires first { slice_index rest.now 0 ≡ quote }
@@ -96,7 +96,13 @@ fn literal_len(rest: &[u8], quote: u8) -> Option<usize>
             return None;
         }
         if rest[end] == b'\n' {
-            return None;
+            if rest[end - 1] == b'\\' {
+                return None;
+            }
+            if rest[end - 1] == b'\r' {
+                return None;
+            }
+            return Some(end + 1);
         }
         if rest[end] == quote {
             return Some(end + 1);

@@ -152,6 +152,21 @@ literal_closed white q bytes r k = by_quote (q == 34) (q == 39) refl refl k
     by_quote false true f g h = closed 39 (eqb-true q 39 g) refl refl refl refl
     by_quote false false f g h = cc
 
+-- after a byte that may begin no splice, a newline isn't spliced
+pub literal_unspliced : (white : Bool) (q : ℕ) (bytes : List ℕ) (b : ℕ) (r : LiteralFront white q (bytes ++ b ∷ [])) → (b == backslash) ≡ false → (b == carriage_return) ≡ false → r.spliced ≡ false
+literal_unspliced white q bytes b r e f =
+    sym (ap (λ (s : BulkState). s.spliced) r.leads) ∙ ap (λ (s : BulkState). s.spliced) (bulk_state_after-append (code_state white) bytes (b ∷ [])) ∙ rw (e, f) refl
+
+-- the newline that ends a literal
+pub literal_line : (white : Bool) (q : ℕ) (bytes : List ℕ) (r : LiteralFront white q bytes) → r.spliced ≡ false → CodeLexeme white (bytes ++ newline ∷ [])
+literal_line white q bytes r e = record {
+  now_white = true;
+  leads = bulk_state_after-append (code_state white) bytes (newline ∷ []) ∙ ap (λ (s : BulkState). bulk_state_after s (newline ∷ [])) r.leads;
+  quiet = HasNoStop-append (code_state white) bytes (newline ∷ []) r.quiet (subst (λ (s : BulkState). HasNoStop s (newline ∷ [])) (sym r.leads) (e, tt));
+  no_newline = NoNewlineInBlock-append (code_state white) bytes (newline ∷ []) r.no_newline (subst (λ (s : BulkState). NoNewlineInBlock s (newline ∷ [])) (sym r.leads) (refl, tt));
+  no_comment = NoComment-append (code_state white) bytes (newline ∷ []) r.no_comment (subst (λ (s : BulkState). NoComment s.state (newline ∷ [])) (sym r.leads) (refl, tt));
+}
+
 -- `line_comment white spliced`: a state in a line comment
 abbrev pub line_comment : Bool → Bool → BulkState
 line_comment white spliced = record { state = in_line; white = white; spliced = spliced }

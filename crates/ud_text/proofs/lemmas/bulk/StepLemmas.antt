@@ -12,7 +12,7 @@ use Rattle.ud_model.specs.aids.LexStates.{LexState, in_text, in_block}
 use Rattle.ud_text.specs.bulk.BulkStates.{line_state, BulkState, code_state, is_other_word, inside_state, block_state}
 use Rattle.ud_text.proofs.lemmas.searching.MarkLemmas.{position_or_len-bound}
 use Rattle.ud_text.proofs.lemmas.bulk.BulkPlainLemmas.{plain_read, no_special_before}
-use Rattle.ud_text.proofs.lemmas.bulk.LexemeLemmas.{slash_read, backslash_read, sign_read, literal_byte, literal_pair, literal_closed, line_comment_read, LiteralFront, spliced_by, unspliced}
+use Rattle.ud_text.proofs.lemmas.bulk.LexemeLemmas.{slash_read, backslash_read, sign_read, literal_byte, literal_pair, literal_closed, literal_unspliced, literal_line, line_comment_read, LiteralFront, spliced_by, unspliced}
 use Rattle.ud_text.proofs.lemmas.bulk.LookLemmas.{shows_white}
 use Rattle.ud_text.proofs.lemmas.bulk.ProgressLemmas.{read_text, read_line, plain_of, plain_leads, read_none, read_start, read_base, read_splice}
 use Rattle.ud_text.proofs.lemmas.bulk.BlockLemmas.{pair_front, block_same, block_later, block_opened, block_closed}
@@ -64,6 +64,16 @@ pub literal_ends : (l : List ℕ) (q at : ℕ) → at < length l → is_quote q 
 literal_ends l q at h k e white r =
     subst (λ (x : List ℕ). CodeLexeme white x) (sym (take_more l at 0 h ∙ ap (λ (n : ℕ). take at l ++ n ∷ []) (eqb-true (get_or l at 0) q e)))
     (literal_closed white q (take at l) r k)
+
+-- the newline that ends a literal, after a byte that begins no splice
+pub literal_line_ends : (l : List ℕ) (q at : ℕ) → 0 < at → at < length l → (get_or l at 0 == newline) ≡ true → (get_or l (at - 1) 0 == backslash) ≡ false → (get_or l (at - 1) 0 == carriage_return) ≡ false →
+    (white : Bool) → LiteralFront white q (take at l) → CodeLexeme white (take (at + 1) l)
+literal_line_ends l q at z h n e f white r =
+    let there : at - 1 + 1 ≡ at = omega arith in
+    let front : take at l ≡ take (at - 1) l ++ get_or l (at - 1) 0 ∷ [] = ap (λ (k : ℕ). take k l) (sym there) ∙ take_more l (at - 1) 0 (omega arith) in
+    let s : LiteralFront white q (take (at - 1) l ++ get_or l (at - 1) 0 ∷ []) = subst (λ (x : List ℕ). LiteralFront white q x) front r in
+    subst (λ (x : List ℕ). CodeLexeme white x) (sym (take_more l at 0 h ∙ ap (λ (k : ℕ). take at l ++ k ∷ []) (eqb-true (get_or l at 0) newline n) ∙ ap (λ (x : List ℕ). x ++ newline ∷ []) front))
+    (literal_line white q (take (at - 1) l ++ get_or l (at - 1) 0 ∷ []) s (literal_unspliced white q (take (at - 1) l) (get_or l (at - 1) 0) s e f))
 
 others_fail : (a b c : Bool) → ((((a || b) || c) || c) || c) ≡ false → (a ≡ false) × (b ≡ false) × (c ≡ false)
 others_fail true b c h = cc

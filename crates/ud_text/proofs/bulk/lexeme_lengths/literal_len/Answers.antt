@@ -1,6 +1,6 @@
 -- Bytes up to one that ends the literal or escapes the next byte, and then that one.
 use Rattle.std.proofs.Common.{◌+◌, arith, ne_eqb, eq-eqb}
-use Rattle.ud_text.proofs.lemmas.bulk.StepLemmas.{literal_run, literal_backslash, literal_two, literal_ends}
+use Rattle.ud_text.proofs.lemmas.bulk.StepLemmas.{literal_run, literal_backslash, literal_two, literal_ends, literal_line_ends}
 use Rattle.ud_text.proofs.bulk.lexeme_lengths.literal_len.Goals as goal
 
 pub returns-then-rest-end-clause-read : goal.returns-then-rest-end-clause-read
@@ -18,3 +18,9 @@ loop-at-preserved c = record {
       (ne_eqb _ 10 c.if-rest-end-eq10.false) (ne_eqb _ _ c.if-rest-end.false)) (ne_eqb _ 10 c.if-rest-end-eq10-2.false) white
       (literal_run c.args.rest.now c.args.quote c.loop-at.at c.find_near.result c.find_near.ensures.value white (c.loop-at.invariant.read white));
 }
+
+pub returns-then-rest-end-eq10-clause-read : goal.returns-then-rest-end-eq10-clause-read
+returns-then-rest-end-eq10-clause-read c = λ white.
+    literal_line_ends c.args.rest.now c.args.quote (c.loop-at.at + c.find_near.result) (omega (arith, c.loop-at.invariant.low)) (omega arith) (eq-eqb _ 10 c.if-rest-end-eq10.true)
+    (ne_eqb _ 92 c.if-rest-end-eq92.false) (ne_eqb _ 13 c.if-rest-end-eq13.false) white
+    (literal_run c.args.rest.now c.args.quote c.loop-at.at c.find_near.result c.find_near.ensures.value white (c.loop-at.invariant.read white))
