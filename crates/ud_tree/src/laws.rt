@@ -40,8 +40,8 @@ pub fn law_run_renames()
 {}
 
 /// If all answers are true, each file has its old bytes or the whole output for them after each
-/// call of a run. A process that is killed between two calls leaves such a state. Writing into files
-/// isn't allowed here.
+/// call of a run. A process that is killed between two calls leaves such a state. Writing into
+/// files isn't allowed here.
 pub fn law_run_old_or_new()
     ensures { (o : Options) (first : Files) (run : Run) → IsRunOf run →
         IsPlanned run.args.plan o → run.args.write_into ≡ false → AreTrue first run.new →
