@@ -79,7 +79,7 @@ const EXPRESSIONS: &[(&str, &[u8], Cond)] = &[
     (NUMBERS, b"D < 0", Cond::Unknown),
 ];
 
-fn rules_of(plan: &Plan) -> Rules {
+pub(crate) fn rules_of(plan: &Plan) -> Rules {
     Rules {
         constants: plan.settings().constants,
         strict: plan.settings().strict,

@@ -11,6 +11,8 @@ mod machines;
 mod printers;
 mod printing;
 #[cfg(test)]
+mod residuals;
+#[cfg(test)]
 mod stepping;
 #[cfg(test)]
 mod symbols;

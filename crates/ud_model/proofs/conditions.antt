@@ -19,6 +19,7 @@ pub mod ResidualShape
 pub mod KeptTokens
 pub mod ResidualRead
 pub mod ResidualAgain
+pub mod ResidualUnknown
 pub mod ResidualSame
 pub mod ReducedTrees
 pub mod StayedChoices

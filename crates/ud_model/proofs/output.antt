@@ -71,3 +71,4 @@ pub mod SimplifiedBytes
 pub mod OperandsLeft
 pub mod SimplifiedAnswers
 pub mod ChosenWorlds
+pub mod SimplifiedRuns

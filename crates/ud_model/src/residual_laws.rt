@@ -21,14 +21,14 @@ ghost use Rattle.ud_model.specs.sections.Items.{Options, rules_of};
 ghost use Rattle.ud_model.specs.sections.Tree.{Nodes, closed};
 ghost use Rattle.ud_model.specs.output.Worlds.{World, openers, selected};
 ghost use Rattle.ud_model.specs.output.Rereading.{NoneIgnores, IsTreeOf, IsPlainC, selected_bytes};
-ghost use Rattle.ud_model.specs.output.Rereading.{KeepsTruths};
+ghost use Rattle.ud_model.specs.output.Rereading.{KeepsTruths, LinesFit};
 ghost use Rattle.ud_model.specs.output.CSelection.{IsCPair};
 ghost use Rattle.ud_model.specs.output.InsertedLines.{read_as};
 ghost use Rattle.ud_model.specs.output.SimplifiedTrees.{NodesSimplified, IsChosenWorld};
 ghost use Rattle.ud_model.specs.output.SimplifiedTexts.{simplified_line, simplified_text};
 ghost use Rattle.ud_model.specs.output.LeftOperands.{IsReduced, MayStay};
 ghost use Rattle.ud_model.specs.answer.CommandLine.{options_of};
-ghost use Rattle.ud_model.specs.answer.Answer.{Answer, Succeeds};
+ghost use Rattle.ud_model.specs.answer.Answer.{Answer, IsAnswer, Succeeds, copy_answer};
 ghost use Rattle.ud_model.specs.declared.cond.Cond.{Cond};
 ghost use Rattle.ud_model.specs.declared.kind.Mode.{Mode};
 ghost use Rattle.ud_model.specs.declared.kind.Test.{Test};
@@ -157,6 +157,8 @@ pub fn law_simplified_tree()
 /// `x` gives the conditions of the output the truths that C may give those of the input, and `v`
 /// gives these truths to the conditions of the simplified output. By the same numbers for the uses
 /// of the open names, each of them has this truth (C11 5.1.1.2, 6.10.1p4, p6).
+///
+/// A further run over the simplified output copies it, without a fault (unifdef(1)).
 pub fn law_answer_simplified()
     ensures selected { (args : List (List ℕ)) (input : List ℕ) (a : Answer) →
         Succeeds args input a → IsPlainC (options_of args) → (ns us ss : Nodes Reading) →
@@ -171,6 +173,10 @@ pub fn law_answer_simplified()
         IsTreeOf o (simplified_text o.table (rules_of o.settings) bytes) (closed ss) →
         (x v : World Reading) → map v (openers ss) ≡ map x (openers us) →
         IsChosenWorld o.table x us → IsChosenWorld o.table v ss }
+    ensures again { (args : List (List ℕ)) (input : List ℕ) (a : Answer) → Succeeds args input a →
+        IsPlainC (options_of args) → LinesFit (lines_of a.output) →
+        let text = simplified_text (options_of args).table (rules_of (options_of args).settings)
+        a.output in IsAnswer args text (copy_answer args text) }
 {}
 
 /// C selects the same lines of the simplified output as of the input, by any numbers.

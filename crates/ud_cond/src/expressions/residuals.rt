@@ -50,6 +50,12 @@ const LONG_TEXT_BYTES: usize = 2048;
 /// The most operands that are pending in a long text.
 const LONG_TEXT_OPERANDS: usize = LONG_TEXT_BYTES / 2;
 
+/// The most bytes of a very long text.
+const VERY_LONG_TEXT_BYTES: usize = 8192;
+
+/// The most operands that are pending in a very long text.
+const VERY_LONG_TEXT_OPERANDS: usize = VERY_LONG_TEXT_BYTES / 2;
+
 /// The most operands that are pending in a line.
 const LINE_OPERANDS: usize = LINE_BYTES / 2;
 
@@ -576,6 +582,11 @@ fn read_text(symbols: &Symbols, rules: Rules, text: &[u8], flags: &mut TokenFlag
         0..=LONG_TEXT_BYTES => read_with_stacks::<LONG_TEXT_BYTES, LONG_TEXT_OPERANDS>(
             symbols, rules, text, flags,
         ),
+        0..=VERY_LONG_TEXT_BYTES => {
+            read_with_stacks::<VERY_LONG_TEXT_BYTES, VERY_LONG_TEXT_OPERANDS>(
+                symbols, rules, text, flags,
+            )
+        }
         _ => read_with_stacks::<LINE_BYTES, LINE_OPERANDS>(symbols, rules, text, flags),
     }
 }

@@ -30,7 +30,7 @@ use Rattle.ud_model.proofs.output.SimplifiedAgain.{unspliced, line_stays}
 
 -- 1. Sublists of the same length.
 
-sub_fewer : {A : Type 0} {xs ys : List A} → IsSublist xs ys → length xs ≤ length ys
+pub sub_fewer : {A : Type 0} {xs ys : List A} → IsSublist xs ys → length xs ≤ length ys
 sub_fewer nothing = omega arith
 sub_fewer (without p) = let h = sub_fewer p in omega (arith, h)
 sub_fewer (with_same p) = let h = sub_fewer p in omega (arith, h)

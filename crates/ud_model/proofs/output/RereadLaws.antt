@@ -297,7 +297,7 @@ module _ {L M : Type 0} (f : L → M) where
     elifs_back (elif es o ns) h = (elifs_back es h.0, h.1, undecided_back ns h.2)
 
 -- Nothing is decided of the output.
-output_undecided : (us ns : Nodes Reading) → with_lines line_bytes us ≡ with_lines edited_bytes (folded ns) → IsUndecided us
+pub output_undecided : (us ns : Nodes Reading) → with_lines line_bytes us ≡ with_lines edited_bytes (folded ns) → IsUndecided us
 output_undecided us ns e =
     undecided_back line_bytes us (subst IsUndecided (sym e) (undecided_with edited_bytes (folded ns) (pruned_undecided ns)))
 

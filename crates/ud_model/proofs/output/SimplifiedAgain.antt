@@ -51,7 +51,7 @@ module _ (table : List Argument) (rules : Rules) where
         let c : s.scan ≡ r.scan = i.after ∙ ap (λ (k : Line). scan_after_run [] k) w ∙ sym i.before in
         ap₂ (λ (k : Line) (x : Scan). line_by table rules x k (content_of x)) l c ∙ i.simplified
 
-    lone : is_spliced r.line ≡ false
+    pub lone : is_spliced r.line ≡ false
     lone = unspliced r.line (ap (λ (x : Scan). x.joins_after) (sym i.before) ∙ alone_after r.scan.joins_before r.scan.joins_after i.edited.lone)
 
     still_lone : is_spliced s.line ≡ false

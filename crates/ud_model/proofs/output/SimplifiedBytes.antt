@@ -44,7 +44,8 @@ module _ (table : List Argument) (rules : Rules) where
       of_parts n l.body (all_of_it (take n l.body))
       (subst (λ (xs : List ℕ). IsSublist (map byte_of (left_cells_of table rules l d)) (drop n xs)) (sym p.1) (in_longer n (content l) p.0 q))
 
-  line_bytes : (l : Line) (scan : Scan) (k : Line) → Becomes table rules l scan k → IsSublist (text_of k) (text_of l)
+  -- Of a line bytes are only removed.
+  pub line_bytes : (l : Line) (scan : Scan) (k : Line) → Becomes table rules l scan k → IsSublist (text_of k) (text_of l)
   line_bytes l scan _ it_stays = all_of_it (text_of l)
   line_bytes l scan _ (it_changes d i) = of_both (left_body l d) (all_of_it l.ending)
 

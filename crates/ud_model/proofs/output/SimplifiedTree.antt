@@ -32,10 +32,10 @@ module _ (o : Options) where
   abbrev pub Like : Nodes Reading → Nodes Reading → Type 0
   Like ns us = NodesSimplified o.table (rules_of o.settings) always always ns us
 
-  abbrev GroupsLike : Groups Reading → Groups Reading → Type 0
+  abbrev pub GroupsLike : Groups Reading → Groups Reading → Type 0
   GroupsLike gs hs = GroupsSimplified o.table (rules_of o.settings) always always gs hs
 
-  abbrev ElifsLike : Elifs Reading → Elifs Reading → Type 0
+  abbrev pub ElifsLike : Elifs Reading → Elifs Reading → Type 0
   ElifsLike es fs = ElifsSimplified o.table (rules_of o.settings) always always es fs
 
   record SplitBoth (A B zs : List (Item Reading)) : Type 0 where

@@ -7,6 +7,7 @@ use Rattle.ud_model.specs.output.Rereading.{line_bytes}
 use Rattle.ud_model.proofs.output.AnswerLaws.{answered_selects}
 use Rattle.ud_model.proofs.output.SimplifiedSelected.{selects, chosen_world}
 use Rattle.ud_model.proofs.output.SimplifiedAnswers.{nodes_simplified}
+use Rattle.ud_model.proofs.output.SimplifiedRuns.{answered_left}
 use Rattle.ud_model.proofs.residual_laws.law_answer_simplified.Goals as goal
 
 pub returns-clause-selected : goal.returns-clause-selected
@@ -18,3 +19,6 @@ returns-clause-selected c = λ args input a s p ns us ss i j k w x v h e.
 pub returns-clause-world : goal.returns-clause-world
 returns-clause-world c = λ o p bytes us ss i j x v e h.
     chosen_world o.table (rules_of o.settings) x v (nodes_simplified o p bytes us ss i j x v e) h
+
+pub returns-clause-again : goal.returns-clause-again
+returns-clause-again c = λ args input a s p fit. answered_left s.answer s.no_fault p fit

@@ -1,0 +1,309 @@
+-- Simplified runs: a run over the simplified output copies it.
+use Rattle.std.proofs.Common.{◌≡◌, ◌≢◌, ℕ, suc, ◌≤◌, max, List, [], ◌∷◌, ◌++◌, length, map, Bool, true, false, not, ◌&&◌, None, if◌then◌else◌, refl, sym, ◌∙◌, ap, ap₂, subst, arith}
+use Rattle.ud_model.specs.text.Lines.{Line, text_of, lines_of}
+use Rattle.ud_model.specs.text.Scans.{Scan, Reading}
+use Rattle.ud_model.specs.text.Splicing.{is_spliced, spliced_text, spliced_part}
+use Rattle.ud_model.specs.text.Lexemes.{LexemeKind, block_comment, line_comment, literal, single, shown, kind_at_end}
+use Rattle.ud_model.specs.text.Scanning.{is_block, comment_at, scan_after_run}
+use Rattle.ud_model.specs.sections.Directives.{Content, Directive, content_of, role_of, is_outside}
+use Rattle.ud_model.specs.sections.DirectiveParts.{HasDirective}
+use Rattle.ud_model.specs.conditions.Table.{Argument}
+use Rattle.ud_model.specs.conditions.Conditions.{Rules, Decision, undecided, decision_on, condition_of, expression_cond}
+use Rattle.ud_model.specs.sections.Tree.{Tree, Item, Nodes, Groups, Elifs, nothing, text, section, conditional, otherwise, first, elif, closed, text_line, if_line, elif_line, else_line, endif_line, lines_of_nodes, lines_of_groups, lines_of_elifs}
+use Rattle.ud_model.specs.sections.Items.{Options, reading_of, item_of, item_by, directive_item, rules_of, mode_by}
+use Rattle.ud_model.specs.sections.Faults.{is_cut, is_in_block, ends_in_comment, end_by, last_number}
+use Rattle.ud_model.specs.output.Pruned.{IsUndecided, GroupsUndecided, ElifsUndecided}
+use Rattle.ud_model.specs.aids.Height.{height_of_nodes, height_of_groups, height_of_elifs}
+use Rattle.ud_model.specs.answer.CommandLine.{options_of}
+use Rattle.ud_model.specs.answer.Outcomes.{Outcome, HasOutcome}
+use Rattle.ud_model.specs.answer.Answer.{Answer, IsAnswer, refused, ran, copy_answer}
+use Rattle.ud_model.specs.output.Rereading.{IsPlainC, IsTreeOf, LinesFit}
+use Rattle.ud_model.specs.output.InsertedLines.{read_in, read_as}
+use Rattle.ud_model.specs.output.SimplifiedTrees.{no_nodes, text_stays, section_stays, conditions_alone, with_else, first_group, next_group}
+use Rattle.ud_model.specs.output.SimplifiedTexts.{condition_cells, simplified_line, simplified_text}
+use Rattle.ud_model.specs.declared.cond.Cond.TheVariants.{Unknown}
+use Rattle.ud_model.specs.declared.kind.Kind.{Kind}
+use Rattle.ud_model.specs.declared.kind.Mode.{Mode}
+use Rattle.ud_model.specs.declared.kind.Mode.TheVariants.{C}
+use Rattle.ud_model.specs.declared.limits.TheConstants.{LINE_BYTES, TEXT_LINES, OPEN_SECTIONS}
+use Rattle.ud_model.proofs.text.ScanLaws.{joins_after-code}
+use Rattle.ud_model.proofs.text.ScanLemmas.{joins_last}
+use Rattle.ud_model.proofs.sections.Soundness.{reading_of-item_of, read_lines}
+use Rattle.ud_model.proofs.sections.SplitLines.{directive_is}
+use Rattle.ud_model.proofs.conditions.ResidualUnknown.{left_unknown}
+use Rattle.ud_model.proofs.output.Each.{Each, each_parts, each_both, Pairs, no_pair, pair}
+use Rattle.ud_model.proofs.output.Rereads.{IsUncut}
+use Rattle.ud_model.proofs.output.SoundBounds.{IsFew, IsShort, fit_short}
+use Rattle.ud_model.proofs.output.SoundAgain.{sound_again}
+use Rattle.ud_model.proofs.output.Undecided.{undecided_stay}
+use Rattle.ud_model.proofs.output.RereadLaws.{Result, reread, input_tree, output_undecided, runs_again}
+use Rattle.ud_model.proofs.output.AnswerLaws.{faultless}
+use Rattle.ud_model.proofs.output.InsertedText.{items_are}
+use Rattle.ud_model.proofs.output.SimplifiedLineTexts.{lines_left}
+use Rattle.ud_model.proofs.output.SimplifiedTree.{Like, GroupsLike, ElifsLike, simplified_tree}
+use Rattle.ud_model.proofs.output.InsertedTree.{items}
+use Rattle.ud_model.proofs.output.SimplifiedLines.{SameIf, both_if, both_elif, becomes, after_is}
+use Rattle.ud_model.proofs.output.SimplifiedReadings.{IsLeft, ReadingSimplified, reading_stays, reading_edited, alone_after, readings_simplified}
+use Rattle.ud_model.proofs.output.SimplifiedAgain.{lone}
+use Rattle.ud_model.proofs.output.SimplifiedBytes.{line_bytes}
+use Rattle.ud_model.proofs.output.OperandsLeft.{sub_fewer}
+
+-- 1. Items with an unknown condition.
+
+abbrev pub IsOpen : Item Reading → Type 0
+IsOpen (if_line p) = p.cond ≡ Unknown
+IsOpen (elif_line p) = p.cond ≡ Unknown
+IsOpen x = Unit {0}
+
+mutual
+  -- The items of undecided nodes are open.
+  pub open_lines : (ns : Nodes Reading) → IsUndecided ns → Each IsOpen (lines_of_nodes ns)
+  open_lines nothing h = tt
+  open_lines (text ns l) h = each_both IsOpen (lines_of_nodes ns) (text_line l ∷ []) (open_lines ns h) (tt, tt)
+  open_lines (section ns gs e) h =
+      each_both IsOpen (lines_of_nodes ns ++ lines_of_groups gs) (endif_line e ∷ []) (each_both IsOpen (lines_of_nodes ns) (lines_of_groups gs) (open_lines ns h.0) (open_groups gs h.1)) (tt, tt)
+
+  open_groups : (gs : Groups Reading) → GroupsUndecided gs → Each IsOpen (lines_of_groups gs)
+  open_groups (conditional es) h = open_elifs es h
+  open_groups (otherwise es l ns) h =
+      each_both IsOpen (lines_of_elifs es ++ else_line l ∷ []) (lines_of_nodes ns) (each_both IsOpen (lines_of_elifs es) (else_line l ∷ []) (open_elifs es h.0) (tt, tt)) (open_lines ns h.1)
+
+  open_elifs : (es : Elifs Reading) → ElifsUndecided es → Each IsOpen (lines_of_elifs es)
+  open_elifs (first o ns) h = each_both IsOpen (if_line o ∷ []) (lines_of_nodes ns) (h.0, tt) (open_lines ns h.1)
+  open_elifs (elif es o ns) h =
+      each_both IsOpen (lines_of_elifs es ++ elif_line o ∷ []) (lines_of_nodes ns) (each_both IsOpen (lines_of_elifs es) (elif_line o ∷ []) (open_elifs es h.0) (h.1, tt)) (open_lines ns h.2)
+
+mutual
+  -- Nodes whose items are open are undecided.
+  pub undecided_of : (ns : Nodes Reading) → Each IsOpen (lines_of_nodes ns) → IsUndecided ns
+  undecided_of nothing h = tt
+  undecided_of (text ns l) h = undecided_of ns (each_parts IsOpen (lines_of_nodes ns) (text_line l ∷ []) h).0
+  undecided_of (section ns gs e) h =
+      let p : Each IsOpen (lines_of_nodes ns ++ lines_of_groups gs) × Each IsOpen (endif_line e ∷ []) = each_parts IsOpen (lines_of_nodes ns ++ lines_of_groups gs) (endif_line e ∷ []) h in
+      let q : Each IsOpen (lines_of_nodes ns) × Each IsOpen (lines_of_groups gs) = each_parts IsOpen (lines_of_nodes ns) (lines_of_groups gs) p.0 in
+      (undecided_of ns q.0, undecided_groups gs q.1)
+
+  undecided_groups : (gs : Groups Reading) → Each IsOpen (lines_of_groups gs) → GroupsUndecided gs
+  undecided_groups (conditional es) h = undecided_elifs es h
+  undecided_groups (otherwise es l ns) h =
+      let p : Each IsOpen (lines_of_elifs es ++ else_line l ∷ []) × Each IsOpen (lines_of_nodes ns) = each_parts IsOpen (lines_of_elifs es ++ else_line l ∷ []) (lines_of_nodes ns) h in
+      (undecided_elifs es (each_parts IsOpen (lines_of_elifs es) (else_line l ∷ []) p.0).0, undecided_of ns p.1)
+
+  undecided_elifs : (es : Elifs Reading) → Each IsOpen (lines_of_elifs es) → ElifsUndecided es
+  undecided_elifs (first o ns) h = let p : Each IsOpen (if_line o ∷ []) × Each IsOpen (lines_of_nodes ns) = each_parts IsOpen (if_line o ∷ []) (lines_of_nodes ns) h in (p.0.0, undecided_of ns p.1)
+  undecided_elifs (elif es o ns) h =
+      let p : Each IsOpen (lines_of_elifs es ++ elif_line o ∷ []) × Each IsOpen (lines_of_nodes ns) = each_parts IsOpen (lines_of_elifs es ++ elif_line o ∷ []) (lines_of_nodes ns) h in
+      let q : Each IsOpen (lines_of_elifs es) × Each IsOpen (elif_line o ∷ []) = each_parts IsOpen (lines_of_elifs es) (elif_line o ∷ []) p.0 in
+      (undecided_elifs es q.0, q.1.0, undecided_of ns p.1)
+
+-- 2. A line of the simplified text.
+
+no_block : (spliced : Bool) (k : LexemeKind) → is_block k ≡ false → is_in_block (comment_at spliced k) ≡ false
+no_block spliced block_comment h = cc
+no_block true line_comment h = refl
+no_block false line_comment h = refl
+no_block spliced literal h = refl
+no_block spliced single h = refl
+
+comment-code : (line : Line) → (scan_after_run [] line).comment ≡ comment_at (is_spliced line) (kind_at_end (spliced_text [] ++ spliced_part line))
+unfolding scan_after_run
+comment-code line = refl
+
+spliced-code : (line : Line) → (scan_after_run [] line).spliced ≡ is_spliced line
+unfolding scan_after_run
+spliced-code line = refl
+
+-- No comment is open at the end of a line that doesn't join the next one.
+out_of_comment : (l : Line) → (scan_after_run [] l).joins_after ≡ false → is_in_block (scan_after_run [] l).comment ≡ false
+out_of_comment l h =
+    ap is_in_block (comment-code l)
+    ∙ no_block (is_spliced l) (kind_at_end (spliced_text [] ++ spliced_part l))
+    (alone_after (is_spliced l) (is_block (kind_at_end (spliced_text [] ++ spliced_part l))) (sym (joins_last [] l) ∙ sym (joins_after-code [] l) ∙ h))
+
+module _ (table : List Argument) (rules : Rules) where
+  uncut_left : (r s : Reading) → ReadingSimplified table rules r s → is_cut (content_of r.scan) ≡ false → is_cut (content_of s.scan) ≡ false
+  uncut_left r s (reading_stays e q j) h = ap (λ (x : Reading). is_cut (content_of x.scan)) q ∙ h
+  uncut_left r s (reading_edited d i) h = ap is_cut (ap content_of i.after ∙ i.edited.has_now)
+
+  number_left : (r s : Reading) → ReadingSimplified table rules r s → s.line.number ≡ r.line.number
+  number_left r s (reading_stays e q j) = ap (λ (x : Reading). x.line.number) q
+  number_left r s (reading_edited d i) = ap (λ (l : Line). l.number) i.line
+
+  line_left : (r s : Reading) → ReadingSimplified table rules r s → simplified_line table rules r ≡ s.line
+  line_left r s (reading_stays e q j) = e ∙ sym (ap (λ (x : Reading). x.line) q)
+  line_left r s (reading_edited d i) = i.simplified
+
+  short_left : (r s : Reading) → ReadingSimplified table rules r s → length (text_of s.line) ≤ length (text_of r.line)
+  short_left r s i =
+      subst (λ (l : Line). length (text_of l) ≤ length (text_of r.line)) (line_left r s i)
+      (sub_fewer (line_bytes table rules r.line r.scan (simplified_line table rules r) (becomes table rules r)))
+
+  calm_left : (r s : Reading) → ReadingSimplified table rules r s → is_in_block r.scan.comment ≡ false → is_in_block s.scan.comment ≡ false
+  calm_left r s (reading_stays e q j) h = ap (λ (x : Reading). is_in_block x.scan.comment) q ∙ h
+  calm_left r s (reading_edited d i) h = ap (λ (c : Scan). is_in_block c.comment) i.after ∙ out_of_comment _ i.edited.alone
+
+  open_by : (r s : Reading) (j k : Kind) (d e : Decision) → SameIf j k → (d.cond ≡ Unknown → e.cond ≡ Unknown) → IsOpen (directive_item r (role_of j) d) → IsOpen (directive_item s (role_of k) e)
+  open_by r s _ _ d e both_if h = h
+  open_by r s _ _ d e both_elif h = h
+
+  cond_first : (j k : Kind) (after : List ℕ) → SameIf j k → ((condition_of j after table rules).cond ≡ expression_cond after table rules) × ((condition_of k after table rules).cond ≡ expression_cond after table rules)
+  cond_first _ _ after both_if = (refl, refl)
+  cond_first _ _ after both_elif = (refl, refl)
+
+  -- The decision on a directive, by whether it is broken.
+  abbrev decision_by : Scan → Directive → Bool → Decision
+  decision_by scan d b =
+      if b then undecided else record (condition_of d.kind d.after table rules) { ignoring = (condition_of d.kind d.after table rules).ignoring && not scan.joins_after }
+
+  unknown_by : (scan : Scan) (d : Directive) (b : Bool) → (condition_of d.kind d.after table rules).cond ≡ Unknown → (decision_by scan d b).cond ≡ Unknown
+  unknown_by scan d true h = refl
+  unknown_by scan d false h = h
+
+  known_by : (scan : Scan) (d : Directive) (b : Bool) → b ≡ false → (decision_by scan d b).cond ≡ Unknown → (condition_of d.kind d.after table rules).cond ≡ Unknown
+  known_by scan d true p h = cc
+  known_by scan d false p h = h
+
+  -- A directive on a line that joins no other isn't broken.
+  unbroken : (r s : Reading) (d : Directive) → IsLeft table rules r s d → d.broken ≡ false
+  unbroken r s d i =
+      let h : HasDirective r.scan d = (directive_is r.scan d).0 i.edited.has in
+      let p : r.scan.spliced ≡ false = ap (λ (c : Scan). c.spliced) i.before ∙ spliced-code r.line ∙ lone table rules r s d i in
+      h.broken ∙ ap (λ (b : Bool). b && is_outside r.scan.comment) p
+
+  -- The condition of an edited line stays unknown.
+  still_unknown : (r s : Reading) (d : Directive) (i : IsLeft table rules r s d) → (decision_on r.scan d table rules).cond ≡ Unknown → (decision_on s.scan i.edited.now table rules).cond ≡ Unknown
+  still_unknown r s d i h =
+      let now : Directive = i.edited.now in
+      let a : expression_cond d.after table rules ≡ Unknown = sym (cond_first d.kind now.kind d.after i.edited.kind).0 ∙ known_by r.scan d d.broken (unbroken r s d i) h in
+      let b : expression_cond (map shown (condition_cells r.line d)) table rules ≡ Unknown = ap (λ (xs : List ℕ). expression_cond xs table rules) (after_is table rules r.line r.scan d i.before i.edited.has) ∙ a in
+      let c : expression_cond now.after table rules ≡ Unknown = ap (λ (xs : List ℕ). expression_cond xs table rules) i.edited.after ∙ left_unknown table rules (condition_cells r.line d) b in
+      unknown_by s.scan now now.broken ((cond_first d.kind now.kind now.after i.edited.kind).1 ∙ c)
+
+-- 3. The items of the simplified text.
+
+module _ (o : Options) where
+  abbrev Simplified : Reading → Reading → Type 0
+  Simplified r s = ReadingSimplified o.table (rules_of o.settings) r s
+
+  open_left : (r s : Reading) → Simplified r s → IsOpen (item_of o r) → IsOpen (item_of o s)
+  open_left r s (reading_stays e q j) h = subst (λ (x : Reading). IsOpen (item_of o x)) (sym q) h
+  open_left r s (reading_edited d i) h =
+      let now : Directive = i.edited.now in
+      subst (λ (c : Content). IsOpen (item_by o s c)) (sym (ap content_of i.after ∙ i.edited.has_now))
+      (open_by o.table (rules_of o.settings) r s d.kind now.kind (decision_on r.scan d o.table (rules_of o.settings)) (decision_on s.scan now o.table (rules_of o.settings)) i.edited.kind
+      (still_unknown o.table (rules_of o.settings) r s d i) (subst (λ (c : Content). IsOpen (item_by o r c)) i.edited.has h))
+
+  -- A property of the lines is one of the items.
+  of_reading : (P : Reading → Type 0) (r s : Reading) → (P r → P s) → P (reading_of (item_of o r)) → P (reading_of (item_of o s))
+  of_reading P r s f h = subst P (sym (reading_of-item_of o s)) (f (subst P (reading_of-item_of o r) h))
+
+  each_left : (P : Item Reading → Type 0) → ((r s : Reading) → Simplified r s → P (item_of o r) → P (item_of o s)) → {rs ss : List Reading} → Pairs Simplified rs ss → Each P (items o rs) → Each P (items o ss)
+  each_left P f no_pair h = tt
+  each_left P f (pair {x = r} {y = s} i p) h = (f r s i h.0, each_left P f p h.1)
+
+  pub all_open : {rs ss : List Reading} → Pairs Simplified rs ss → Each IsOpen (items o rs) → Each IsOpen (items o ss)
+  all_open p h = each_left IsOpen open_left p h
+
+  pub all_uncut : {rs ss : List Reading} → Pairs Simplified rs ss → Each IsUncut (items o rs) → Each IsUncut (items o ss)
+  all_uncut p h = each_left IsUncut (λ r s i. of_reading (λ (x : Reading). is_cut (content_of x.scan) ≡ false) r s (uncut_left o.table (rules_of o.settings) r s i)) p h
+
+  pub all_few : {rs ss : List Reading} → Pairs Simplified rs ss → Each IsFew (items o rs) → Each IsFew (items o ss)
+  all_few p h =
+      each_left IsFew (λ r s i. of_reading (λ (x : Reading). x.line.number ≤ TEXT_LINES) r s (λ l. subst (λ (n : ℕ). n ≤ TEXT_LINES) (sym (number_left o.table (rules_of o.settings) r s i)) l)) p h
+
+  pub all_short : {rs ss : List Reading} → Pairs Simplified rs ss → Each IsShort (items o rs) → Each IsShort (items o ss)
+  all_short p h =
+      each_left IsShort (λ r s i. of_reading (λ (x : Reading). length (text_of x.line) ≤ LINE_BYTES) r s (λ l. let m = short_left o.table (rules_of o.settings) r s i in omega (arith, l, m))) p h
+
+  pub all_calm : {rs ss : List Reading} → Pairs Simplified rs ss → ends_in_comment (items o rs) ≡ false → ends_in_comment (items o ss) ≡ false
+  all_calm no_pair h = refl
+  all_calm (pair {x = r} {y = s} i no_pair) h = of_reading (λ (x : Reading). is_in_block x.scan.comment ≡ false) r s (calm_left o.table (rules_of o.settings) r s i) h
+  all_calm (pair i (pair {x = q} {y = t} {xs = rs} {ys = ss} j p)) h = all_calm (pair {x = q} {y = t} {xs = rs} {ys = ss} j p) h
+
+  -- 4. Heights.
+
+  mutual
+    pub height_left : {ns us : Nodes Reading} → Like o ns us → height_of_nodes us ≡ height_of_nodes ns
+    height_left no_nodes = refl
+    height_left (text_stays p) = height_left p
+    height_left (section_stays p q) = ap₂ (λ (m n : ℕ). max m (suc n)) (height_left p) (height_groups q)
+
+    height_groups : {gs hs : Groups Reading} → GroupsLike o gs hs → height_of_groups hs ≡ height_of_groups gs
+    height_groups (conditions_alone p) = height_elifs p
+    height_groups (with_else p q) = ap₂ (λ (m n : ℕ). max m n) (height_elifs p) (height_left q)
+
+    height_elifs : {es fs : Elifs Reading} → ElifsLike o es fs → height_of_elifs fs ≡ height_of_elifs es
+    height_elifs (first_group i n) = height_left n
+    height_elifs (next_group p i n) = ap₂ (λ (m n : ℕ). max m n) (height_elifs p) (height_left n)
+
+-- 5. The run.
+
+module _ (o : Options) (p : IsPlainC o) (input : List ℕ) {r : Outcome} (d : HasOutcome o input r) (n : r.fault ≡ None) (f : LinesFit (lines_of r.output)) where
+  abbrev left_text : List ℕ
+  left_text = simplified_text o.table (rules_of o.settings) r.output
+
+  read_so : (bytes : List ℕ) (t : Tree Reading) (i : IsTreeOf o bytes t) → i.items ≡ items o (read_as C bytes)
+  read_so bytes t i =
+      items_are o p.plain.none_ignores i.read ∙ ap₂ (λ (m : Mode) (ls : List Line). items o (read_in m ls)) (ap mode_by p.in_c) (sym i.are)
+
+  both_read : Pairs (ReadingSimplified o.table (rules_of o.settings)) (read_as C r.output) (read_as C left_text)
+  both_read =
+      subst (λ (ls : List Line). Pairs (ReadingSimplified o.table (rules_of o.settings)) (read_as C r.output) (read_in C ls)) (sym (lines_left o.table (rules_of o.settings) r.output))
+      (readings_simplified o.table (rules_of o.settings) r.output)
+
+  module _ (us ss : Nodes Reading) (i : IsTreeOf o r.output (closed us)) (j : IsTreeOf o left_text (closed ss)) (like : Like o us ss) where
+    ys : i.items ≡ items o (read_as C r.output)
+    ys = read_so r.output (closed us) i
+
+    zs : items o (read_as C left_text) ≡ j.items
+    zs = sym (read_so left_text (closed ss) j)
+
+    uncut_now : Each IsUncut i.items → Each IsUncut j.items
+    uncut_now h = subst (Each IsUncut) zs (all_uncut o both_read (subst (Each IsUncut) ys h))
+
+    few_now : Each IsFew i.items → Each IsFew j.items
+    few_now h = subst (Each IsFew) zs (all_few o both_read (subst (Each IsFew) ys h))
+
+    short_now : Each IsShort j.items
+    short_now = subst (Each IsShort) zs (all_short o both_read (subst (Each IsShort) ys (fit_short i.items (subst LinesFit i.are f))))
+
+    calm_now : ends_in_comment i.items ≡ false → ends_in_comment j.items ≡ false
+    calm_now h = ap ends_in_comment (sym zs) ∙ all_calm o both_read (ap ends_in_comment (sym ys) ∙ h)
+
+    low_now : height_of_nodes us ≤ OPEN_SECTIONS → height_of_nodes ss ≤ OPEN_SECTIONS
+    low_now h = subst (λ (m : ℕ). m ≤ OPEN_SECTIONS) (sym (height_left o like)) h
+
+    undecided_now : IsUndecided us → IsUndecided ss
+    undecided_now h =
+        undecided_of ss (subst (Each IsOpen) (sym (read_lines j.read)) (subst (Each IsOpen) zs (all_open o both_read (subst (Each IsOpen) ys (subst (Each IsOpen) (read_lines i.read) (open_lines us h))))))
+
+    copies_by : Each IsUncut i.items → Each IsFew i.items → height_of_nodes us ≤ OPEN_SECTIONS → ends_in_comment i.items ≡ false → IsUndecided us →
+        HasOutcome o left_text (record { output = left_text; fault = None; differs = false })
+    copies_by a b c e u =
+        runs_again o p.plain left_text j.items ss
+        (record { sound = sound_again o j.items (closed ss) j.read (uncut_now a) (few_now b) short_now (low_now c) (undecided_stay ss (undecided_now u)); are = j.are }) (undecided_now u)
+        (ap (λ (x : Bool). end_by x (last_number j.items) None) (calm_now e))
+
+  copies_with : (us : Nodes Reading) (i : IsTreeOf o r.output (closed us)) → Each IsUncut i.items → Each IsFew i.items → height_of_nodes us ≤ OPEN_SECTIONS → ends_in_comment i.items ≡ false → IsUndecided us →
+      (ss : Nodes Reading) × IsTreeOf o left_text (closed ss) × Like o us ss → HasOutcome o left_text (record { output = left_text; fault = None; differs = false })
+  copies_with us i a b c e u (ss, j, like) = copies_by us ss i j like a b c e u
+
+  copies_from : (ns : Nodes Reading) → Result o p.plain input r ns → HasOutcome o left_text (record { output = left_text; fault = None; differs = false })
+  copies_from ns z =
+      copies_with z.tree z.is_tree z.uncut z.few z.low z.calm (output_undecided z.tree ns z.same)
+      (simplified_tree o p.plain.none_ignores p.in_c r.output z.tree z.is_tree (lines_left o.table (rules_of o.settings) r.output))
+
+  copies_of : (ns : Nodes Reading) × IsTreeOf o input (closed ns) → HasOutcome o left_text (record { output = left_text; fault = None; differs = false })
+  copies_of (ns, k) = copies_from ns (reread o p.plain input d n ns k)
+
+  -- The simplified output is copied.
+  pub copies_left : HasOutcome o left_text (record { output = left_text; fault = None; differs = false })
+  copies_left = copies_of (input_tree o input d n)
+
+-- So does the answer.
+pub answered_left : {args : List (List ℕ)} {input : List ℕ} {a : Answer} → IsAnswer args input a → a.status ≢ 2 → IsPlainC (options_of args) → LinesFit (lines_of a.output) →
+    IsAnswer args (simplified_text (options_of args).table (rules_of (options_of args).settings) a.output) (copy_answer args (simplified_text (options_of args).table (rules_of (options_of args).settings) a.output))
+answered_left (refused f e) n p fit = absurd (n refl)
+answered_left {args = args} {input = input} (ran r e d) n p fit =
+    let t : List ℕ = simplified_text (options_of args).table (rules_of (options_of args).settings) r.output in
+    ran (record { output = t; fault = None; differs = false }) e (copies_left (options_of args) p input d (faultless (options_of args).settings r.differs r.fault n) fit)
