@@ -319,6 +319,40 @@ promises() {
   check '-n -w: links' same "$status $(grep -c '^-#ifdef' "$work/out")" '1 1'
 }
 
+# Tests that a new file may be read by its user alone until it gets its mode, and that rights to run
+# as the owner go if the owner is another one.
+new_modes() {
+  small_tree
+  chmod 644 src/a.c
+  (strace -f -o /dev/null -e trace=fchmod -e inject=fchmod:signal=KILL:when=1 "$TREE" -DA src
+    exit "$?") > /dev/null 2>&1
+  check 'a new file before it gets its mode' same "$(stat -c %a src/.unifdef-tree.a.c)" 600
+  [ "$(id -u)" -eq 0 ] && has setpriv || return 0
+  cp "$TREE" "$work/program"
+  fresh_tree
+  put src/a.c "$text"
+  chmod 6777 src/a.c
+  chown 65534 src
+  as_nobody -DA src
+  check 'setuid of another owner: status' same "$status" 1
+  check 'setuid of another owner' same "$(stat -c '%u %a' src/a.c)" '65534 777'
+}
+
+# Tests an input that can't be read, and left-over files under a pattern that chooses all.
+inputs() {
+  small_tree
+  status=0
+  (cd "$work/run" && "$TREE" -0 -DA < . > "$work/out" 2> "$work/err") || status=$?
+  check 'a folder as input: status' same "$status" 2
+  check 'a folder as input: message' has_line "$work/err" 'unifdef-tree: stdin: Cannot be read'
+  fresh_tree
+  put src/a.c "$text"
+  put src/.unifdef-tree.other.c "$text"
+  tree -g '*' -DA src
+  check 'a left-over file' holds src/.unifdef-tree.other.c "$text"
+  check 'a left-over file: the others' holds src/a.c 'yes\n'
+}
+
 # Tests that -d prints the diff of what a run changes, and that patch -R undoes the run with it.
 undoes() {
   small_tree
@@ -348,12 +382,14 @@ undoes() {
 
 safety() {
   locks
+  inputs
   undoes
   promises
   overlay
   late_errors
   unrenamed
   if can_trace; then
+    new_modes
     gives_to_open_file
     finds_same_file
     compares_bytes
