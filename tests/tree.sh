@@ -310,6 +310,12 @@ lists() {
   check '-s: of one file' has_line "$work/err" 'unifdef-tree: 1 file listed, 0 faulty; 1 condition could not be listed'
   tree -s -j 5 src
   check '-s: status 0' same "$status" 0
+  fresh_tree
+  put src/full.h "#if FULL$(printf '%65527s' '')\\n#endif\\n"
+  tree -s src
+  check '-s: a line at the limit' same "$(tr -s ' ' < "$work/out")" ' 1 FULL'
+  check '-s: a line at the limit is listed' has_line "$work/err" \
+    'unifdef-tree: 1 file listed, 0 faulty; 0 conditions could not be listed'
 }
 
 # Tests the list of the conditions that still name a symbol. The wanted lines were found by hand.
@@ -337,6 +343,13 @@ src/c.c:7: #if A\'
   tree -q -r -UVMS src
   check '-r: line numbers of the output' same "$(head -n 1 "$work/out")" 'src/a.c:1: #if defined(UNIX) || defined(VMS)'
   check '-r -q: no count' same "$(cat "$work/err")" ''
+  # An `#else` that becomes an `#endif` may make a line that is longer than any line of a text.
+  put src/long.c "#if X\\n1\\n#elif defined A\\n2\\n$(printf '%65530s' '')#else\\n3\\n#endif\\n#if B || X\\n#endif\\n"
+  tree -r -n -x2 -DA -UB src/long.c
+  check '-r: after a long line' same "$status $(grep '^src' "$work/out")" '0 src/long.c:6: #if B || X'
+  put src/open.c '#ifdef A\n#if X || A /* q\n#endif\n#endif\n'
+  tree -r -n -x2 -iDA src/open.c
+  check '-r: a comment that is never closed' same "$(grep '^src' "$work/out")" 'src/open.c:1: #if X || A /* q'
   tree -r -DOTHER=1 -UVMS2 src/none.c
   check '-r: none' same "$(cat "$work/err")" 'unifdef-tree: 0 changed, 1 unchanged, 0 faulty
 unifdef-tree: 0 conditions still name a symbol'

@@ -130,9 +130,12 @@ fn is_hidden(alloc: Global, scan: &Scan<'_>) -> Result<bool, AllocError> {
     }
 }
 
-/// Returns whether an expression has no list of names. One of constants alone has none either, so
-/// a name precedes the expression.
+/// Returns whether an expression has no list of names though it isn't one of constants alone. So if
+/// it has none, it is asked for again with a name before it.
 fn is_unlistable(alloc: Global, expression: &[u8]) -> Result<bool, AllocError> {
+    if expression.len() <= LINE_BYTES && names(Kind::If, expression).next().is_some() {
+        return Ok(false);
+    }
     let mut text = Vec::new(alloc);
     text.extend_from_slice(b" x ||")?;
     text.extend_from_slice(expression)?;

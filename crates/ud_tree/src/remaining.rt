@@ -128,6 +128,9 @@ impl<'t> Search<'t> {
                 self.at = self.at.saturating_add(skipped);
             }
             let Some(line) = lines.whole_in(self.rest()) else {
+                if self.pass_long_line() {
+                    continue;
+                }
                 break;
             };
             let start = self.at;
@@ -136,15 +139,37 @@ impl<'t> Search<'t> {
             let scan = scanner.read(self.mode, &line);
             self.read(start, &scan)?;
             if !scan.joins_after
-                && let Some(condition) = self.condition
+                && let Some(condition) = self.end_condition(symbols)
             {
-                self.condition = None;
-                if has_symbol(symbols, self.words.as_slice()) {
-                    return Ok(Some(condition));
-                }
+                return Ok(Some(condition));
             }
         }
-        Ok(None)
+        Ok(self.end_condition(symbols))
+    }
+
+    /// Passes a line over the limit. Returns false if no line ends in the rest of the text.
+    ///
+    /// Only an `#endif` that was an `#else` is so long: it has one byte more than its line of the
+    /// input. Such a line is no condition, and joins no other line.
+    fn pass_long_line(&mut self) -> bool {
+        match memchr(b'\n', self.rest()) {
+            None => false,
+            Some(len) => {
+                self.at = self.at.saturating_add(len).saturating_add(1);
+                true
+            }
+        }
+    }
+
+    /// Ends the current condition. Returns where its line begins if it names a symbol.
+    fn end_condition(&mut self, symbols: &Symbols) -> Option<usize> {
+        let condition = self.condition?;
+        self.condition = None;
+        if has_symbol(symbols, self.words.as_slice()) {
+            Some(condition)
+        } else {
+            None
+        }
     }
 
     /// Takes the words of a line that begins at `start`, if it begins or continues a condition.
