@@ -184,7 +184,7 @@ def main():
         paths = tracked()
     count = 0
     for path in paths:
-        if kind_of(path) is None or path.endswith(("renames.txt", "style.py")):
+        if kind_of(path) is None or path.endswith("style.py"):
             continue
         with open(path, encoding="utf-8") as file:
             text = file.read()
