@@ -1,0 +1,52 @@
+#!/usr/bin/env python3
+"""Prints what a reader of a statement has to read: each spec file that it rests on.
+
+    tools/reading.py [FILE ..]     files of specs, or sources with contracts; by default
+                                   Answer.antt of ud_model: the answer of the tool
+
+Prints the files with their lines, each after those that it uses. The types of the code that a file
+uses, such as settings and verdicts, aren't counted.
+"""
+import os
+import re
+import sys
+
+TOP = os.path.dirname(os.path.dirname(os.path.realpath(__file__)))
+ANSWER = "crates/ud_model/specs/answer/Answer.antt"
+IMPORT = re.compile(r"^\s*(?:ghost )?use Rattle\.(\w+)\.specs\.([\w.]+?)\.\{", re.MULTILINE)
+
+
+def path_of(crate, module):
+    """Returns the file of a module, or of the nearest module around it that has one."""
+    while module:
+        path = f"crates/{crate}/specs/{module.replace('.', '/')}.antt"
+        if os.path.isfile(f"{TOP}/{path}"):
+            return path
+        module = module.rpartition(".")[0]
+    return None
+
+
+def read(path, lines_of):
+    """Adds a file to the lines of each file, after those that it uses."""
+    with open(f"{TOP}/{path}", encoding="utf-8") as file:
+        text = file.read()
+    lines_of[path] = 0  # So that no file is read twice.
+    for crate, module in IMPORT.findall(text):
+        used = path_of(crate, module)
+        if used is not None and used not in lines_of:
+            read(used, lines_of)
+    del lines_of[path]
+    lines_of[path] = text.count("\n")
+
+
+def main():
+    lines_of = {}
+    for path in sys.argv[1:] or [ANSWER]:
+        if path not in lines_of:
+            read(path, lines_of)
+    for path, lines in lines_of.items():
+        print(f"{lines:6,} {path}")
+    print(f"{sum(lines_of.values()):6,} in {len(lines_of)} files")
+
+
+main()
