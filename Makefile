@@ -249,13 +249,16 @@ bench-conditions: kit
 	cd crates/bench_conditions && $(RT) run -- conditions 1 < /dev/null > /dev/null
 	bench/conditions.sh
 
+# Graphviz repeats the name of each node and edge in a comment.
+pictures: DRAW = dot -Tsvg
+pictures: PLAIN = sed '/^<!-- .*-->$$/d'
 pictures: unifdef
 	@command -v dot > /dev/null || { echo "make: graphviz's dot is not there" >&2; exit 1; }
-	dot -Tsvg docs/line.dot > docs/line.svg
-	tools/diagrams.py states | dot -Tsvg > docs/states.svg
-	tools/diagrams.py crates | dot -Tsvg > docs/crates.svg
+	$(DRAW) tools/line.dot | $(PLAIN) > docs/line.svg
+	tools/diagrams.py states | $(DRAW) | $(PLAIN) > docs/states.svg
+	tools/diagrams.py crates | $(DRAW) | $(PLAIN) > docs/crates.svg
 	python3 bench/chart.py bench/README.md > bench/speed.svg
-	tools/before_after.py docs/io.h -UVMS -DUNIX > docs/before-after.svg
+	tools/before_after.py tools/io.h -UVMS -DUNIX > docs/before-after.svg
 
 trees: unifdef
 	bench/trees.sh
