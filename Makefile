@@ -258,6 +258,7 @@ pictures: unifdef
 	tools/diagrams.py states | $(DRAW) | $(PLAIN) > docs/states.svg
 	tools/diagrams.py crates | $(DRAW) | $(PLAIN) > docs/crates.svg
 	python3 bench/chart.py bench/README.md > bench/speed.svg
+	python3 bench/chart.py bench/README.md --short > bench/speed-short.svg
 	tools/before_after.py tools/io.h -UVMS -DUNIX > docs/before-after.svg
 
 trees: unifdef
