@@ -1,57 +1,4 @@
-# make            proves the crates side by side, builds the program and copies it to ./unifdef
-# make unifdef-tree  proves and builds the program for trees, and copies it to ./unifdef-tree
-# make try        runs the program without a proof: make try ARGS='-DA' < in.c. It is built first, in
-#                 half a minute. Statuses 0 and 1 are success, and the status is printed
-# make test       runs each worked case once, in a minute and without a proof
-# make test-all   runs every case in several ways, and every test, without a proof; make check proves
-#                 them
-# make check      runs the merge gate: every proof from nothing, the edits that the prover must
-#                 refuse, the tests, and the stored runs. RT_JOBS=N runs N checks side by side; all
-#                 lines go to gate.log
-# make edits      tries the second edits, which the gate leaves out, many in one check; CRATES='NAME ..'
-#                 those of some crates. make edits-test tries the tool that does it
-# make cases      runs ./unifdef on the worked cases of crates/test_runner/data
-# make examples   runs the examples of README.md and docs/EXAMPLES.md with ./unifdef
-# make manual-examples  runs the examples of the manual, but for those under DIFFERENCES
-# make differences  runs the examples under DIFFERENCES in the manual, and the other cases that say
-#                 what unifdef 2.10 does, with both programs
-# make faults     runs ./unifdef with failing streams, refused memory and a small stack
-#                 (tests/faults/README.md)
-# make fail-alloc  makes each allocation of the program fail in turn, by the kit's fault injection
-# make tree-test  runs ./unifdef-tree over trees with every trap, and kills it at each system call
-# make install    installs ./unifdef, ./unifdef-tree, manuals and completions under DESTDIR and
-#                 PREFIX; make uninstall removes them
-# make lib        proves and builds the library for C: lib/libunifdef.a and lib/libunifdef.so
-# make lib-test   tries both from C and from Python, with sanitizers, and runs all cases through them
-# make install-lib  installs the library, unifdef.h, unifdef.pc, the module for Python and unifdef(3),
-#                 and runs ldconfig if it is root and DESTDIR is empty
-# make dist       makes unifdef-VERSION.tar.gz of the last commit, which builds by itself
-# make deb        makes the Debian packages unifdef-tree and unifdef-proved
-# make deb-lib    makes the Debian packages libunifdef1, libunifdef-dev and python3-unifdef
-# make packages-test  installs and uninstalls in folders of its own, makes all packages, and tries
-#                 the completions and the hooks
-# make manuals    checks the version, the manuals by mandoc, the scripts by shellcheck, the language
-#                 of comments and pages by tools/style.py, that the names and files that pages cite
-#                 exist, by tools/names.py, and that each edit can be applied, by tools/edits.py
-# make around     tries everything around the program that is quick: manuals, examples, differences,
-#                 faults, unifdef-tree and packages
-# make bench      measures ./unifdef beside the released program, and the speed of conditions
-#                 (bench/README.md)
-# make pictures   draws docs/line.svg, docs/states.svg and docs/crates.svg by graphviz,
-#                 docs/before-after.svg by ./unifdef, and bench/speed.svg from the numbers in
-#                 bench/README.md
-# make trees      runs ./unifdef over real trees beside the released program (bench/README.md)
-# make selects    compares what a C compiler selects of real files before and after ./unifdef
-#                 (bench/README.md)
-# make lines      compares the line numbers that a C compiler gives to real files before and after
-#                 -n and -b (bench/README.md)
-# make lines-test  compares the line numbers of a few texts in the same way, in seconds
-# make hostile    compares the library with its reference on N hostile texts from SEED on, in JOBS
-#                 processes; CHECKS=options tries what users of options may rely on
-#                 (bench/README.md)
-# make fronts     compares ./unifdef with its reference on parts of N real files from SEED on
-#                 (bench/README.md)
-# make clean      removes what was built
+# `make help` lists the targets, from the lines with ## above them.
 
 PREFIX ?= /usr/local
 BINDIR ?= $(PREFIX)/bin
@@ -86,13 +33,25 @@ SOURCES := crates.txt HANDLES \
 	$(shell find crates -name out -prune -o \( -name '*.rt' -o -name '*.antt' \) -print)
 
 .DELETE_ON_ERROR:
-.PHONY: all build kit try test test-all check edits edits-test cases examples manual-examples differences
+.PHONY: all help build kit try test test-all check edits edits-test cases examples manual-examples differences
 .PHONY: faults fail-alloc tree-test
 .PHONY: install uninstall dist deb packages-test manuals around bench bench-text
 .PHONY: lib lib-test install-lib uninstall-lib deb-lib
 .PHONY: bench-conditions pictures trees selects lines lines-test hostile fronts clean
 
+## proves the crates side by side, and builds ./unifdef
 all: build
+
+HELP = /^\#\# / { text[n++] = substr($$0, 4); next } \
+	n && /^[a-z-]+:/ { \
+	  sub(/:.*/, ""); sub(/^all$$/, ""); \
+	  for (i = 0; i < n; i++) printf "%-22s%s\n", i ? "" : "make " $$0, text[i]; \
+	  n = 0 \
+	}
+
+## prints this list
+help:
+	@awk '$(HELP)' Makefile
 
 # Reports clearly that the command isn't there.
 NEED_KIT = command -v $(RT) > /dev/null || { echo "make: Rattle's command $(RT) is not there: put it on PATH, or run make RT=FILE" >&2; exit 1; }
@@ -109,14 +68,21 @@ $(UNPROVED): $(filter-out %.antt,$(SOURCES))
 	@RT='$(RT)' tools/unproved.py $@
 
 # Status 1 says that the output differs, so it doesn't fail the recipe.
+## builds the program without a proof, in half a minute, and
+## runs it: make try ARGS='-DA' < in.c. Statuses 0 and 1 are
+## success, and the status is printed
 try: $(UNPROVED)
 	@status=0; $(UNPROVED) $(ARGS) || status=$$?; \
 	echo "make: status $$status, and nothing is proved" >&2; \
 	[ $$status -le 1 ]
 
+## runs each worked case once, in a minute and without a
+## proof
 test: kit
 	@RT='$(RT)' MAKE='$(MAKE_COMMAND)' tests/quick.py
 
+## runs every case in several ways, and every test, without
+## a proof
 test-all: kit
 	@RT='$(RT)' MAKE='$(MAKE_COMMAND)' tests/quick.py --all
 
@@ -126,6 +92,7 @@ unifdef: $(SOURCES)
 	@RT='$(RT)' tools/prove.py
 	cp $(CRATE)/out/unifdef_cli $@
 
+## proves and builds ./unifdef-tree
 unifdef-tree: $(SOURCES)
 	@$(NEED_KIT)
 	@RT='$(RT)' tools/prove.py unifdef_tree_cli
@@ -133,6 +100,7 @@ unifdef-tree: $(SOURCES)
 
 # The library for C. `rt doc` prints a page in the folder of the kit, which has the C functions that
 # allocate memory.
+## proves and builds lib/libunifdef.a and lib/libunifdef.so
 lib: lib/libunifdef.a
 
 lib/libunifdef.a: $(SOURCES) lib/build.sh lib/unifdef.map CHANGELOG.md
@@ -140,32 +108,50 @@ lib/libunifdef.a: $(SOURCES) lib/build.sh lib/unifdef.map CHANGELOG.md
 	@RT='$(RT)' tools/prove.py unifdef_c
 	lib/build.sh crates/unifdef_c/out/libunifdef_c.a "$$(dirname "$$($(RT) doc)")/c/liblibc_c.a"
 
+## tries both from C and Python, and runs all cases through
+## them
 lib-test: lib
 	@tests/library.sh
 
+## runs the merge gate: every proof from nothing, the edits
+## that the prover must refuse, the tests and stored runs.
+## RT_JOBS=N runs N checks side by side; all lines go to
+## gate.log
 check: kit
 	@RT='$(RT)' tools/gate.py
 
+## tries the second edits, which the gate leaves out, many
+## in one check; CRATES='NAME ..' those of some crates
 edits: edits-test
 	@RT='$(RT)' tools/edits.py $(CRATES)
 
+## tries the tool that tries edits, in a minute
 edits-test: kit
 	@RT='$(RT)' tests/edits_control.py
 
+## runs the examples of README.md and docs/EXAMPLES.md
 examples: unifdef unifdef-tree
 	@tests/examples.sh README.md
 	@tests/examples.sh docs/EXAMPLES.md
 	@tests/quotes.sh
 
+## runs the examples of the manual, but for those under
+## DIFFERENCES
 manual-examples: unifdef
 	@tests/manual.sh
 
+## runs ./unifdef on the worked cases
+## (crates/test_runner/data)
 cases: unifdef
 	@tests/cases.py
 
+## runs the examples under DIFFERENCES, and the other cases
+## that say what unifdef 2.10 does, with both programs
 differences: unifdef
 	@tests/differences.py
 
+## runs ./unifdef with failing streams, refused memory and a
+## small stack (tests/faults/README.md)
 faults: unifdef $(TABLE)
 	tests/faults/run.sh
 
@@ -175,12 +161,18 @@ $(TABLE): $(SOURCES)
 	cd crates/test_memory && $(RT) run < /dev/null > /dev/null
 	touch $@
 
+## makes each allocation of the program fail in turn, by the
+## kit's fault injection
 fail-alloc: kit
 	RT='$(RT)' tests/faults/fail-alloc.sh
 
+## runs ./unifdef-tree over trees with every trap, and kills
+## it at each system call
 tree-test: unifdef unifdef-tree
 	@tests/tree.sh
 
+## installs ./unifdef, ./unifdef-tree, manuals and
+## completions under DESTDIR and PREFIX
 install: unifdef unifdef-tree
 	$(INSTALL) -d "$(DESTDIR)$(BINDIR)" "$(DESTDIR)$(MANDIR)/man1" "$(DESTDIR)$(DOCDIR)"
 	$(INSTALL) -d "$(DESTDIR)$(BASHDIR)" "$(DESTDIR)$(ZSHDIR)" "$(DESTDIR)$(FISHDIR)"
@@ -193,6 +185,7 @@ install: unifdef unifdef-tree
 	$(INSTALL) -m 644 packaging/completions/unifdef.fish packaging/completions/unifdef-tree.fish "$(DESTDIR)$(FISHDIR)"
 	@test -n "$(DESTDIR)" || packaging/warn.sh "$(BINDIR)"
 
+## removes what make install installed
 uninstall:
 	rm -f "$(DESTDIR)$(BINDIR)/unifdef" "$(DESTDIR)$(BINDIR)/unifdef-tree"
 	rm -f "$(DESTDIR)$(MANDIR)/man1/unifdef.1" "$(DESTDIR)$(MANDIR)/man1/unifdef-tree.1"
@@ -201,6 +194,9 @@ uninstall:
 	rm -f "$(DESTDIR)$(BASHDIR)/unifdef" "$(DESTDIR)$(BASHDIR)/unifdef-tree" "$(DESTDIR)$(ZSHDIR)/_unifdef" "$(DESTDIR)$(ZSHDIR)/_unifdef-tree"
 	rm -f "$(DESTDIR)$(FISHDIR)/unifdef.fish" "$(DESTDIR)$(FISHDIR)/unifdef-tree.fish"
 
+## installs the library, unifdef.h, unifdef.pc, the module
+## for Python and unifdef(3). Runs ldconfig if it is root
+## and DESTDIR is empty
 install-lib: lib
 	@MAJOR=$$(packaging/version.sh | sed 's/\..*//') && \
 	$(INSTALL) -d "$(DESTDIR)$(LIBDIR)" "$(DESTDIR)$(PKGCONFIGDIR)" "$(DESTDIR)$(INCLUDEDIR)" "$(DESTDIR)$(MANDIR)/man3" "$(DESTDIR)$(PYTHONDIR)/unifdef" && \
@@ -213,6 +209,7 @@ install-lib: lib
 	  lib/unifdef.pc.in > "$(DESTDIR)$(PKGCONFIGDIR)/unifdef.pc"
 	@[ -n "$(DESTDIR)" ] || [ "$$(id -u)" -ne 0 ] || [ ! -x "$(LDCONFIG)" ] || "$(LDCONFIG)"
 
+## removes what make install-lib installed
 uninstall-lib:
 	rm -f "$(DESTDIR)$(LIBDIR)"/libunifdef.a "$(DESTDIR)$(LIBDIR)"/libunifdef.so "$(DESTDIR)$(LIBDIR)"/libunifdef.so.[0-9]*
 	rm -f "$(DESTDIR)$(PKGCONFIGDIR)/unifdef.pc" "$(DESTDIR)$(INCLUDEDIR)/unifdef.h"
@@ -220,31 +217,44 @@ uninstall-lib:
 	rm -rf "$(DESTDIR)$(PYTHONDIR)/unifdef/__pycache__"
 	[ ! -d "$(DESTDIR)$(PYTHONDIR)/unifdef" ] || rmdir "$(DESTDIR)$(PYTHONDIR)/unifdef" 2> /dev/null || true
 
+## makes unifdef-VERSION.tar.gz of the last commit, which
+## builds by itself
 dist:
 	@packaging/dist.sh
 
+## makes the Debian packages unifdef-tree and unifdef-proved
 deb: unifdef unifdef-tree
 	@MAKE="$(MAKE_COMMAND)" packaging/deb.sh
 
+## makes the Debian packages libunifdef1, libunifdef-dev and
+## python3-unifdef
 deb-lib: lib
 	@MAKE="$(MAKE_COMMAND)" packaging/deb-lib.sh
 
+## tries installing, all packages, completions and hooks
 packages-test: unifdef unifdef-tree
 	@MAKE="$(MAKE_COMMAND)" tests/packages.sh
 	@MAKE="$(MAKE_COMMAND)" tests/packages-lib.sh
 	@tests/completions.sh
 	@tests/hooks.sh
 
+## checks version, manuals, scripts, the language of
+## comments and pages, the names that pages cite, and that
+## each edit can be applied
 manuals:
 	@tools/lint.sh
 
+## tries everything around the programs that is quick
 around: manuals cases examples manual-examples differences faults lines-test tree-test lib-test packages-test
 
+## measures speed (bench/README.md): the next two
 bench: bench-text bench-conditions
 
+## measures ./unifdef beside the released program
 bench-text: unifdef
 	bench/run.sh
 
+## measures how fast conditions are decided
 bench-conditions: kit
 	cd crates/bench_conditions && $(RT) run -- conditions 1 < /dev/null > /dev/null
 	bench/conditions.sh
@@ -252,6 +262,7 @@ bench-conditions: kit
 # Graphviz repeats the name of each node and edge in a comment.
 pictures: DRAW = dot -Tsvg
 pictures: PLAIN = sed '/^<!-- .*-->$$/d'
+## draws the pictures in docs and bench
 pictures: unifdef
 	@command -v dot > /dev/null || { echo "make: graphviz's dot is not there" >&2; exit 1; }
 	$(DRAW) tools/line.dot | $(PLAIN) > docs/line.svg
@@ -261,26 +272,37 @@ pictures: unifdef
 	python3 bench/chart.py bench/README.md --short > bench/speed-short.svg
 	tools/before_after.py tools/io.h -UVMS -DUNIX > docs/before-after.svg
 
+## compares output over real trees with the released program
 trees: unifdef
 	bench/trees.sh
 
+## compares what a C compiler selects before and after
 selects: unifdef
 	bench/selects.py $(SELECTS)
 
+## compares the line numbers that a C compiler gives before
+## and after -n and -b
 lines: unifdef
 	bench/lines.py $(LINE_OPTIONS)
 
+## does so for a few texts, in seconds
 lines-test: unifdef
 	@tests/lines.sh
 
+## compares the library with its reference on N hostile
+## texts from SEED on, in JOBS processes; CHECKS=options
+## tries what users of options may rely on
 hostile: kit
 	cd crates/test_runner && $(RT) run -- hostile 0 1 < /dev/null > /dev/null
 	N='$(N)' SEED='$(SEED)' JOBS='$(JOBS)' CHECKS='$(CHECKS)' bench/hostile.sh
 
+## compares ./unifdef with its reference on parts of N real
+## files from SEED on
 fronts: unifdef
 	cd crates/test_runner && $(RT) run -- reference < /dev/null > /dev/null
 	N='$(N)' SEED='$(SEED)' bench/fronts.sh
 
+## removes what was built
 clean:
 	rm -f unifdef unifdef-tree unifdef-*.tar.gz *.deb lib/libunifdef.* gate.log
 	rm -rf crates/*/out .prove-* lib/python/build lib/python/unifdef.egg-info
