@@ -66,7 +66,7 @@ class Whole:
     """All rows, on a logarithmic scale from 1 on."""
 
     width, left, right, top, bar, gap, font = 800, 200, 60, 62, 11, 10, 11
-    head = "Millions of bytes a second by processor time; each line to the right is ten times the speed"
+    head = "Millions of bytes a second by processor time; each line is ten times the one before"
     labels = LABELS
     lines = [10**power for power in range(5)]
     legend = 200
@@ -93,7 +93,13 @@ class Short:
 
 
 def text(x, y, words, anchor="start", colour="#222"):
-    return f'<text x="{x:.1f}" y="{y:.1f}" text-anchor="{anchor}" fill="{colour}">{escape(words)}</text>'
+    place = f'x="{x:.1f}" y="{y:.1f}" text-anchor="{anchor}"'
+    return f'<text {place} fill="{colour}">{escape(words)}</text>'
+
+
+def bar(x, y, width, height, colour):
+    size = f'width="{width:.1f}" height="{height}"'
+    return f'<rect x="{x:.1f}" y="{y}" {size} fill="{colour}"/>'
 
 
 def drawing(names, rows, form):
@@ -101,26 +107,28 @@ def drawing(names, rows, form):
     across = form.width - form.left - form.right
     height = form.top + len(rows) * (len(names) * form.bar + form.gap) + 10
     yield f'<svg xmlns="http://www.w3.org/2000/svg" width="{form.width}" height="{height}"'
-    yield f' viewBox="0 0 {form.width} {height}" font-family="sans-serif" font-size="{form.font}" role="img">'
+    yield f' viewBox="0 0 {form.width} {height}" role="img"'
+    yield f' font-family="sans-serif" font-size="{form.font}">'
     yield f"<title>{form.head}</title>"
     yield f'<rect width="{form.width}" height="{height}" fill="#fff"/>'
     yield text(8, 18, form.head)
     x = form.legend
     for name in names:
-        yield f'<rect x="{x:.1f}" y="30" width="10" height="10" fill="{COLOURS[name]}"/>'
+        yield bar(x, 30, 10, 10, COLOURS[name])
         yield text(x + 15, 40, form.labels[name])
         x += 34 + 0.57 * form.font * len(form.labels[name])
     for line in form.lines:
         x = form.left + across * form.share(line)
-        yield f'<line x1="{x:.1f}" y1="{form.top - 4}" x2="{x:.1f}" y2="{height - 8}" stroke="#ddd"/>'
+        ends = f'y1="{form.top - 4}" y2="{height - 8}"'
+        yield f'<line x1="{x:.1f}" x2="{x:.1f}" {ends} stroke="#ddd"/>'
         yield text(x, form.top - 8, f"{line:,}", "middle", "#666")
     y = form.top
     for name, speeds in rows:
         yield text(form.left - 8, y + len(speeds) * form.bar / 2 + 4, name, "end")
         for program, speed in zip(names, speeds):
-            long = max(across * form.share(speed), 1)
-            yield f'<rect x="{form.left}" y="{y}" width="{long:.1f}" height="{form.bar - 1}" fill="{COLOURS[program]}"/>'
-            yield text(form.left + long + 4, y + form.bar - 3, f"{speed:,.0f}")
+            width = max(across * form.share(speed), 1)
+            yield bar(form.left, y, width, form.bar - 1, COLOURS[program])
+            yield text(form.left + width + 4, y + form.bar - 3, f"{speed:,.0f}")
             y += form.bar
         y += form.gap
     yield "</svg>"

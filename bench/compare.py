@@ -48,7 +48,9 @@ def heading(title, *cells):
 
 
 def cases(work, programs):
-    source, headers, crlf, comments = (work / name for name in ("source.c", "headers.h", "crlf.h", "comments"))
+    source, headers, crlf, comments = (
+        work / name for name in ("source.c", "headers.h", "crlf.h", "comments")
+    )
     if SOURCES:
         source.write_bytes(texts.files(SOURCES, "*.c", BYTES, list(programs.values())))
         for symbols in (0, 50, 1000):
@@ -89,7 +91,9 @@ def best(case, programs, output):
     times, outputs = {}, set()
     for _ in range(RUNS):
         for name, command in commands(programs, case.words, "cat").items():
-            times.setdefault(name, []).append(measured(case.name, finished(command, case.text, output)))
+            times.setdefault(name, []).append(
+                measured(case.name, finished(command, case.text, output))
+            )
             if output != NOWHERE:
                 if name in programs:
                     outputs.add(hashlib.sha256(output.read_bytes()).digest())
@@ -99,8 +103,12 @@ def best(case, programs, output):
 
 def speeds(measures, programs, title, output):
     first, *others = [*programs, "cat"]
-    columns = [f"{name} MB/s" for name in (first, *others)] + [f"{first} / {name}" for name in others]
-    heading(title, "text and options", "bytes", *columns, *([] if output == NOWHERE else ["output"]))
+    columns = [f"{name} MB/s" for name in (first, *others)] + [
+        f"{first} / {name}" for name in others
+    ]
+    heading(
+        title, "text and options", "bytes", *columns, *([] if output == NOWHERE else ["output"])
+    )
     for case in measures:
         times, outputs = best(case, programs, output)
         rates = [f"{case.text.stat().st_size / seconds / 1e6:,.0f}" for seconds in times.values()]
@@ -132,7 +140,9 @@ def instructions(measures, programs):
         return print("bench: left out: instructions: valgrind is not there", file=sys.stderr)
     heading("Instructions a byte", "text and options", *programs)
     with ThreadPoolExecutor(2) as pool:
-        results = pool.map(of_byte, [(case, program) for case in measures for program in programs.values()])
+        results = pool.map(
+            of_byte, [(case, program) for case in measures for program in programs.values()]
+        )
         for case in measures:
             row(case.name, *[f"{next(results):.1f}" for _ in programs])
 
@@ -146,8 +156,12 @@ def starts(programs, work):
     for path in paths:
         for name, command in commands(programs, texts.DECIDED, "true").items():
             whole = [*command, path] if name in programs else command
-            times.setdefault(name, []).append(measured("small", finished(whole, os.devnull, os.devnull)))
-    heading(f"Start: {FILES:,} headers of {paths[0].stat().st_size} bytes or a few more", "", *times)
+            times.setdefault(name, []).append(
+                measured("small", finished(whole, os.devnull, os.devnull))
+            )
+    heading(
+        f"Start: {FILES:,} headers of {paths[0].stat().st_size} bytes or a few more", "", *times
+    )
     middle = [statistics.median(of) for of in times.values()]
     row("microseconds a file", *[f"{seconds * 1e6:.0f}" for seconds in middle])
     row("beside `true`", *[f"{seconds / middle[-1]:.2f}" for seconds in middle])
@@ -156,11 +170,17 @@ def starts(programs, work):
 def memory(measures, programs, work):
     """Prints the peak memory of each program in KiB, and returns the most of the first one."""
     (work / "empty").write_bytes(b"\n" * EMPTY_LINES)
-    measures = [*measures, Case(f"{EMPTY_LINES:,} empty lines, 50 symbols", work / "empty", texts.c_words(50))]
+    measures = [
+        *measures,
+        Case(f"{EMPTY_LINES:,} empty lines, 50 symbols", work / "empty", texts.c_words(50)),
+    ]
     heading("Peak memory in KiB", "text and options", *programs, "cat")
     most = 0
     for case in measures:
-        held = [measured(case.name, peak(c, case.text)) for c in commands(programs, case.words, "cat").values()]
+        held = [
+            measured(case.name, peak(c, case.text))
+            for c in commands(programs, case.words, "cat").values()
+        ]
         most = max(most, held[0])
         row(case.name, *[f"{kib:,}" for kib in held])
     return most

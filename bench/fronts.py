@@ -46,7 +46,9 @@ def part_of(dice, text):
 
 def arguments_for(dice, text):
     """Returns some flags, and options for some names of the text's conditions."""
-    names = sorted({name for line in CONDITION.findall(text) for name in NAME.findall(line)} - {b"defined"})
+    names = sorted(
+        {name for line in CONDITION.findall(text) for name in NAME.findall(line)} - {b"defined"}
+    )
     arguments = dice.sample(FLAGS, dice.choice([0, 0, 0, 1, 1, 2]))
     for name in dice.sample(names, min(len(names), dice.choice([0, 1, 2, 4, 8]))):
         ignoring = "i" if dice.randrange(8) == 0 else ""
@@ -65,7 +67,13 @@ def small_stack():
 def outcome(program, arguments, text, prepare):
     """Returns a program's output, message and status, which is None if it doesn't end in time."""
     try:
-        run = subprocess.run([program, *arguments], input=text, capture_output=True, timeout=SECONDS, preexec_fn=prepare)
+        run = subprocess.run(
+            [program, *arguments],
+            input=text,
+            capture_output=True,
+            timeout=SECONDS,
+            preexec_fn=prepare,
+        )
     except subprocess.TimeoutExpired:
         return b"", b"", None
     return run.stdout, run.stderr, run.returncode
@@ -85,21 +93,29 @@ def check(program, reference, path, seed):
 
 
 def main():
-    program, reference, tree, cases, seed = sys.argv[1], sys.argv[2], sys.argv[3], int(sys.argv[4]), int(sys.argv[5])
+    program, reference, tree = sys.argv[1:4]
+    cases, seed = map(int, sys.argv[4:6])
     paths = list(files_of(tree))
     if not paths:
         sys.exit(f"fronts: no file below {tree}")
     todo = [(paths[at % len(paths)], at) for at in range(seed, seed + cases)]
     with ThreadPoolExecutor(os.cpu_count()) as pool:
-        for (path, at), wrong in zip(todo, pool.map(lambda case: check(program, reference, *case), todo)):
+        for (path, at), wrong in zip(
+            todo, pool.map(lambda case: check(program, reference, *case), todo)
+        ):
             if wrong is None:
                 continue
             arguments, text, ours, theirs = wrong
             with open("mismatch.c", "wb") as file:
                 file.write(text)
-            print(f"fronts: mismatch at case {at}, of {path}: arguments {arguments}, input in mismatch.c")
+            print(
+                f"fronts: mismatch at case {at}, of {path}: arguments {arguments}, "
+                "input in mismatch.c"
+            )
             print(f"fronts: the program: status {ours[2]}, {len(ours[0])} bytes, {ours[1]!r}")
-            print(f"fronts: the reference: status {theirs[2]}, {len(theirs[0])} bytes, {theirs[1]!r}")
+            print(
+                f"fronts: the reference: status {theirs[2]}, {len(theirs[0])} bytes, {theirs[1]!r}"
+            )
             pool.shutdown(cancel_futures=True)
             sys.exit(1)
     print(f"fronts: {cases} cases from {seed} on, of {len(paths)} files below {tree}: no mismatch")

@@ -26,7 +26,17 @@ import re
 import subprocess
 import sys
 
-from selects import CONDITIONAL, chosen, code_of, is_comment, jobs_of, logical_lines, neutral, parser_of, selected
+from selects import (
+    CONDITIONAL,
+    chosen,
+    code_of,
+    is_comment,
+    jobs_of,
+    logical_lines,
+    neutral,
+    parser_of,
+    selected,
+)
 
 WORD = b"line_%d __LINE__ "
 RENUMBERED = re.compile(rb"#line (\d+)\s*$")
@@ -40,7 +50,11 @@ FIXED = [
     ("-UA", b"#ifdef A\na\n#elif defined X\nb\n#else\nc\n#endif\nd\n"),
     ("-DA", b"#if X\r\na\r\n#elif A\r\nb\r\n#elif Y\r\nc\r\n#else\r\nd\r\n#endif\r\ne\r\n"),
     ("-UA -DB=2", b"#ifdef X\na\n#elif A\nb\n#elif B > 1\nc\n#elif Y\nd\n#endif\ne\n"),
-    ("-UA", b"/* a\n * b\n */ c\n#ifdef A\n/* d\n*/\n#endif\ne /* f\n*/ g\n#if defined X && \\\n    1\nh \\\n\ni\n#endif\nj"),
+    (
+        "-UA",
+        b"/* a\n * b\n */ c\n#ifdef A\n/* d\n*/\n#endif\ne /* f\n*/ g\n"
+        b"#if defined X && \\\n    1\nh \\\n\ni\n#endif\nj",
+    ),
     ("-UA", b"#ifdef A\na\n#endif\n\n\n#ifdef A\nb\n#endif\n// c \\\nd\ne\n"),
     ("-UA", b"#ifdef A\r\na\r\n#elif X\r\nb\r\n#endif\r\nc\n#ifndef A\nd\n#endif"),
 ]
@@ -78,10 +92,14 @@ def skipped(cc, arguments, text):
 
 
 def first_difference(expected, found, excused=()):
-    """Describes the first difference, if there is one. Returns it, and the number of excused ones."""
+    """Returns the first difference in words, if there is one, and the number of excused ones."""
     if [w for w, _ in expected] != [w for w, _ in found]:
         return "selected in another way", 0
-    wrong = [(word, number, other) for (word, number), (_, other) in zip(expected, found) if number != other]
+    wrong = [
+        (word, number, other)
+        for (word, number), (_, other) in zip(expected, found)
+        if number != other
+    ]
     for word, number, other in wrong:
         if word not in excused:
             return f"{word.decode()}: numbered {other.decode()} in place of {number.decode()}", 0
@@ -101,7 +119,9 @@ def check(cc, unifdef, options, arguments, source):
         if run.returncode == 2:
             return "faulty", None, 0, 0
         after = numbers(cc, [], taken(run.stdout))
-        difference, _ = first_difference([(word, of_word.get(word, b"?")) for word, _ in after], after)
+        difference, _ = first_difference(
+            [(word, of_word.get(word, b"?")) for word, _ in after], after
+        )
         compared += len(after)
         if difference is None and "-c" not in flags:
             changed = changed or run.returncode == 1
@@ -157,7 +177,10 @@ def report(results, what):
         if difference is not None:
             print(f"{where}: {difference}", flush=True)
     print(f"{files} {what}: " + ", ".join(f"{n} {how}" for how, n in sorted(hows.items())))
-    print(f"{compared} lines compared; {excused} have another number after a #line that the compiler skips")
+    print(
+        f"{compared} lines compared; {excused} have another number after a #line "
+        "that the compiler skips"
+    )
     return 1 if "numbered in another way" in hows else 0
 
 

@@ -19,15 +19,21 @@ import re
 import subprocess
 import sys
 
-CONDITIONAL = re.compile(rb"\s*#\s*(if|ifdef|ifndef|elif|elifdef|elifndef|else|endif)(?![A-Za-z0-9_])")
+CONDITIONAL = re.compile(
+    rb"\s*#\s*(if|ifdef|ifndef|elif|elifdef|elifndef|else|endif)(?![A-Za-z0-9_])"
+)
 # Comments, literals, splices and newlines. All between them is other text.
 LEXEME = re.compile(
-    rb"""/\*.*?\*/|//(?:\\\r?\n|[^\n])*|"(?:\\\r?\n|\\.|[^"\\\n])*"?|'(?:\\\r?\n|\\.|[^'\\\n])*'?|\\\r?\n|\n|[^\n"'/\\]+|.""",
+    rb"""/\*.*?\*/|//(?:\\\r?\n|[^\n])*|"(?:\\\r?\n|\\.|[^"\\\n])*"?|"""
+    rb"""'(?:\\\r?\n|\\.|[^'\\\n])*'?|\\\r?\n|\n|[^\n"'/\\]+|.""",
     re.DOTALL,
 )
 NAME = re.compile(rb"[A-Za-z_][A-Za-z0-9_]*")
 # Their values change with the position of a line, or the compiler has them as operators.
-NOT_CHOSEN = re.compile(rb"defined$|__has_|__is_|__STDC|__LINE__|__FILE__|__COUNTER__|__INCLUDE_LEVEL__|__DATE__|__TIME__")
+NOT_CHOSEN = re.compile(
+    rb"defined$|__has_|__is_|__STDC|__LINE__|__FILE__|__COUNTER__|__INCLUDE_LEVEL__|"
+    rb"__DATE__|__TIME__"
+)
 
 
 def lexemes(text):
@@ -51,7 +57,10 @@ def logical_lines(text):
 
 def code_of(line):
     """Returns a logical line without its splices, and with a space in place of each comment."""
-    return b"".join(b" " if is_comment(p) else b"" if p.startswith(b"\\") and p.endswith(b"\n") else p for p in line)
+    return b"".join(
+        b" " if is_comment(p) else b"" if p.startswith(b"\\") and p.endswith(b"\n") else p
+        for p in line
+    )
 
 
 def neutral(text, word=b"line_%d "):
@@ -75,7 +84,14 @@ def neutral(text, word=b"line_%d "):
 
 def chosen(conditions, rng):
     """Returns options for unifdef, and arguments for the compiler that agree with them."""
-    names = sorted({n for c in conditions for n in NAME.findall(CONDITIONAL.sub(b"", c)) if not NOT_CHOSEN.match(n)})
+    names = sorted(
+        {
+            n
+            for c in conditions
+            for n in NAME.findall(CONDITIONAL.sub(b"", c))
+            if not NOT_CHOSEN.match(n)
+        }
+    )
     called = {m for c in conditions for m in re.findall(rb"([A-Za-z_][A-Za-z0-9_]*)\s*\(", c)}
     options = rng.choice([[], [], ["-k"], ["-K"], ["-k", "-K"]])[:]
     arguments = []
@@ -113,7 +129,11 @@ def compare(job):
     if before is None:
         return "rejected by the compiler", path, ""
     if selected(cc, arguments, run.stdout) != before:
-        return "selected in another way", path, b" ".join(map(os.fsencode, options)).decode("latin-1")
+        return (
+            "selected in another way",
+            path,
+            b" ".join(map(os.fsencode, options)).decode("latin-1"),
+        )
     return ("changed" if run.returncode else "left as they are"), path, ""
 
 

@@ -21,7 +21,9 @@ extern "C" {{\n#endif\nint small_{0}(int value);\n#ifdef __cplusplus\n}}\n#endif
 def c_words(symbols):
     """Returns options for this number of symbols: two that real headers test, and others that occur
     nowhere in them."""
-    return (DECIDED + [f"-DOCCURS_NOWHERE_{n}={n}" for n in range(symbols - len(DECIDED))])[:symbols]
+    return (DECIDED + [f"-DOCCURS_NOWHERE_{n}={n}" for n in range(symbols - len(DECIDED))])[
+        :symbols
+    ]
 
 
 def right_body(path, programs):
@@ -30,7 +32,10 @@ def right_body(path, programs):
     They read it as C and as plain text. Their lists of its symbols may differ, but have no fault.
     """
     for mode in ([], ["-t"], ["-s"]):
-        runs = [subprocess.run([program, *mode, *DECIDED, path], capture_output=True) for program in programs]
+        runs = [
+            subprocess.run([program, *mode, *DECIDED, path], capture_output=True)
+            for program in programs
+        ]
         answers = {(run.returncode, run.stdout) for run in runs}
         differ = len(answers) > 1 and mode != ["-s"]
         if differ or any(status not in (0, 1) for status, _ in answers):
@@ -54,12 +59,18 @@ def files(folder, pattern, limit, programs):
 
 def conditional_words(symbols):
     """Returns options for every other name of `conditionals`: three in four are defined."""
-    return [f"-UNAME_{n:04}" if n % 8 == 0 else f"-DNAME_{n:04}={n % 3}" for n in range(0, 2 * symbols, 2)]
+    return [
+        f"-UNAME_{n:04}" if n % 8 == 0 else f"-DNAME_{n:04}={n % 3}"
+        for n in range(0, 2 * symbols, 2)
+    ]
 
 
 def conditionals(limit, symbols):
     """Returns conditionals alone, 16 bytes a line, over twice as many names as options."""
     rng = random.Random(symbols)
     form = "#ifdef {}\n#if {} > 1 && {}\n#elif !defined({})\n#endif\n#else\n#endif\n"
-    name = lambda: f"NAME_{rng.randrange(2 * symbols):04}"
+
+    def name():
+        return f"NAME_{rng.randrange(2 * symbols):04}"
+
     return "".join(form.format(name(), name(), name(), name()) for _ in range(limit // 94)).encode()

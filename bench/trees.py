@@ -35,7 +35,9 @@ def fault_in(message):
 class Outcome:
     def __init__(self, program, arguments, path):
         begin = time.perf_counter()
-        run = subprocess.run([program, *arguments, path], stdin=subprocess.DEVNULL, capture_output=True)
+        run = subprocess.run(
+            [program, *arguments, path], stdin=subprocess.DEVNULL, capture_output=True
+        )
         self.seconds = time.perf_counter() - begin
         self.output, self.status = run.stdout, run.returncode
         self.fault = fault_in(run.stderr) if run.returncode not in (0, 1) else None
@@ -80,11 +82,17 @@ def main():
         outcomes = list(pool.map(both, paths))
     taken = time.perf_counter() - begin
 
-    print(f"{tree}: {len(paths)} files, {sum(os.path.getsize(p) for p in paths)} bytes, {taken:.0f} seconds in all")
+    print(
+        f"{tree}: {len(paths)} files, {sum(os.path.getsize(p) for p in paths)} bytes, "
+        f"{taken:.0f} seconds in all"
+    )
     for name, at in (("here", 1), ("there", 2)):
         faults = Counter(o[at].fault for o in outcomes if o[at].fault)
         changed = sum(o[at].status == 1 for o in outcomes)
-        print(f"  {name}: {sum(o[at].seconds for o in outcomes):.1f} seconds, {changed} files changed, {sum(faults.values())} with a fault")
+        print(
+            f"  {name}: {sum(o[at].seconds for o in outcomes):.1f} seconds, "
+            f"{changed} files changed, {sum(faults.values())} with a fault"
+        )
         for fault, count in faults.most_common():
             print(f"    {count:6} {fault}")
     classes = Counter(kind for _, _, _, kind in outcomes if kind)

@@ -127,8 +127,12 @@ def run_command(command: str, program: Path) -> tuple[bytes, Optional[int], dict
             Path(top, name).symlink_to(there)
         path = os.pathsep.join((top, os.environ["PATH"]))
         done = subprocess.run(
-            ["bash", "-c", command], cwd=folder, env={**os.environ, "PATH": path},
-            stdin=subprocess.DEVNULL, capture_output=True, check=False,
+            ["bash", "-c", command],
+            cwd=folder,
+            env={**os.environ, "PATH": path},
+            stdin=subprocess.DEVNULL,
+            capture_output=True,
+            check=False,
         )
         files = {it.name: it.read_bytes() for it in folder.iterdir()}
     return done.stdout, None if "|" in command else done.returncode, files

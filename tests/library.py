@@ -35,7 +35,9 @@ def by_filter(program: str, case: cases.Case) -> cases.Answer:
 def by_module(case: cases.Case) -> cases.Answer:
     """Returns what the Python module gives for a case."""
     answer = unifdef.run(case.input, *case.arguments)
-    return cases.Answer(answer.output, answer.message.encode(errors="surrogateescape"), answer.status)
+    return cases.Answer(
+        answer.output, answer.message.encode(errors="surrogateescape"), answer.status
+    )
 
 
 def by_stream(case: cases.Case, most: int) -> cases.Answer:

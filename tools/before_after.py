@@ -37,7 +37,8 @@ def drawing(name, options):
     in_place, after = printed([*options, "-b"], name), printed(options, name)
     width = LETTER * max(map(len, before)) + 2 * MARGIN
     height = HEAD + LINE * len(before) + MARGIN
-    yield f'<svg xmlns="http://www.w3.org/2000/svg" width="{2 * width + MARGIN:.0f}" height="{height}"'
+    size = f'width="{2 * width + MARGIN:.0f}" height="{height}"'
+    yield f'<svg xmlns="http://www.w3.org/2000/svg" {size}'
     yield ' font-family="monospace" font-size="12" fill="#222" role="img">'
     command = f"unifdef {' '.join(options)}"
     yield f"<title>A header before and after {escape(command)}</title>"

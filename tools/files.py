@@ -19,7 +19,9 @@ def tracked():
     """Returns the files that git tracks. Without git, as in a tarball: all files that no build
     makes."""
     if os.path.exists(f"{TOP}/.git") and shutil.which("git"):
-        listed = subprocess.run(["git", "ls-files"], cwd=TOP, check=True, capture_output=True, text=True)
+        listed = subprocess.run(
+            ["git", "ls-files"], cwd=TOP, check=True, capture_output=True, text=True
+        )
         return listed.stdout.split()
     return sorted(unmade())
 

@@ -45,7 +45,12 @@ EXCEPTIONS = {
     "built": ["lib/libunifdef.a", "lib/libunifdef.so", "libunifdef.so.1"],
     "stand for others": ["NAME.antt", "NAME.case", "vVERSION", "step_counts_no_line"],
     "units": ["conditions/s", "MB/s"],
-    "Debian's and Linux's": ["linux-source-6.1", "make headers", "make headers_install", "include/uapi"],
+    "Debian's and Linux's": [
+        "linux-source-6.1",
+        "make headers",
+        "make headers_install",
+        "include/uapi",
+    ],
 }
 EXCEPTED = {name for names in EXCEPTIONS.values() for name in names}
 
@@ -74,7 +79,9 @@ class Tree:
         for path in self.files:
             parts = path.split("/")
             for first in range(len(parts)):
-                self.ends.update("/".join(parts[first:last + 1]) for last in range(first, len(parts)))
+                self.ends.update(
+                    "/".join(parts[first : last + 1]) for last in range(first, len(parts))
+                )
         self.words_of, self.labels, self.commented = {}, set(), []
         for path in filter(SOURCE.fullmatch, self.files):
             if path in ("tools/names.py", "tools/style.py") or path.endswith((".md", ".svg")):
@@ -103,8 +110,11 @@ class Tree:
                 yield f"make {target}"
         for first, mark, second in PAIR.findall(cited):
             ending = f"/{first}.antt" if mark == "." else ".rt"
-            if not any(second in words and (mark == "." or first in words)
-                       for path, words in self.words_of.items() if path.endswith(ending)):
+            if not any(
+                second in words and (mark == "." or first in words)
+                for path, words in self.words_of.items()
+                if path.endswith(ending)
+            ):
                 yield first + mark + second
         for word in WORD.findall(cited):
             if is_checked(word, word == cited) and word not in self.words:
@@ -113,8 +123,12 @@ class Tree:
 
 def citations(text):
     """Yields the line and the text of each citation in backquotes outside of code blocks."""
-    bare = re.sub(r"^```.*?^```", lambda block: re.sub(r"[^\n]", "", block.group(0)), text,
-                  flags=re.MULTILINE | re.DOTALL)
+    bare = re.sub(
+        r"^```.*?^```",
+        lambda block: re.sub(r"[^\n]", "", block.group(0)),
+        text,
+        flags=re.MULTILINE | re.DOTALL,
+    )
     for found in re.finditer(r"`((?:[^`\n]|\n(?!\n))+)`", bare):
         cited = " ".join(found.group(1).replace("\\|", "|").split())
         yield bare.count("\n", 0, found.start()) + 1, cited
@@ -166,7 +180,9 @@ def unlisted_messages(tree):
     """Yields each part of a message of the program that the manual doesn't have."""
     with open("docs/unifdef.1", encoding="utf-8") as file:
         listed = file.read().partition("\n.Sh DIAGNOSTICS\n")[2].partition("\n.Sh ")[0]
-    for path in filter(re.compile(r"crates/(ud_diagnostics|unifdef_cli)/src/.*\.rt").fullmatch, tree.files):
+    for path in filter(
+        re.compile(r"crates/(ud_diagnostics|unifdef_cli)/src/.*\.rt").fullmatch, tree.files
+    ):
         with open(path, encoding="utf-8") as file:
             source = without_comments(path, file.read())
         for literal in re.findall(r'"((?:[^"\\]|\\.)*)"', source):
@@ -179,8 +195,11 @@ def main():
     tree = Tree()
     found = list(problems(tree, sys.argv[1:] or filter(PAGES.fullmatch, tree.files)))
     if not sys.argv[1:]:
-        found += [f"{path}: {cited} doesn't exist" for path, cited in tree.commented
-                  if cited not in tree.ends]
+        found += [
+            f"{path}: {cited} doesn't exist"
+            for path, cited in tree.commented
+            if cited not in tree.ends
+        ]
         found += unlisted_messages(tree)
     print(*found, sep="\n", end="\n" if found else "")
     if found:

@@ -21,7 +21,10 @@ WORDS_AT_MOST = 30
 
 # Words of no field, and what to write in their place.
 WORDS = [
-    (r"\b(a|the|each|its|some|this|in|any) front\b|\bfronts? of (the|a|its|all|these|what)\b", "prefix"),
+    (
+        r"\b(a|the|each|its|some|this|in|any) front\b|\bfronts? of (the|a|its|all|these|what)\b",
+        "prefix",
+    ),
     (r"\bline[ -]feeds?\b", "newline"),
     (r"\bstands? behind\b", "follows"),
     (

@@ -23,14 +23,30 @@ from types import TracebackType
 from typing import TYPE_CHECKING, Iterable, Iterator, NamedTuple, Optional, Type, Union
 
 from ._library import (
-    BAD_WORDS, CLOSED, NO_MEMORY, TOO_LONG, TOO_SMALL, TROUBLE, Sizes, StreamState, library,
+    BAD_WORDS,
+    CLOSED,
+    NO_MEMORY,
+    TOO_LONG,
+    TOO_SMALL,
+    TROUBLE,
+    Sizes,
+    StreamState,
+    library,
 )
 
 if TYPE_CHECKING:
     from _typeshed import ReadableBuffer
 
 __all__ = [
-    "Answer", "Stream", "Trouble", "condition", "names", "run", "strip", "strip_chunks", "version",
+    "Answer",
+    "Stream",
+    "Trouble",
+    "condition",
+    "names",
+    "run",
+    "strip",
+    "strip_chunks",
+    "version",
 ]
 __version__ = "1.0"
 
