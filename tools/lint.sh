@@ -1,8 +1,8 @@
 #!/usr/bin/env bash
 # Checks the version, the manuals by mandoc, the scripts by shellcheck and flake8, the language of
-# comments and pages by tools/style.py, the names in pages by tools/names.py, and by tools/edits.py
-# that each edit of must-fail and must-fail-second can be applied. A linter that isn't there is left
-# out.
+# comments and pages by tools/style.py, the names in pages by tools/names.py, how much there is to read
+# by tools/reading.py, and by tools/edits.py that each edit of must-fail and must-fail-second can be
+# applied. A linter that isn't there is left out.
 set -u
 cd "$(dirname "$0")/.." || exit 1
 result=0
@@ -42,10 +42,11 @@ else
   echo 'manuals: flake8 is not there, so it is left out'
 fi
 if ! command -v python3 > /dev/null; then
-  echo 'manuals: python3 is not there, so style.py, names.py and edits.py of tools are left out'
+  echo 'manuals: python3 is not there, so style.py, names.py, reading.py and edits.py of tools are left out'
 else
   python3 tools/style.py || result=1
   python3 tools/names.py || result=1
+  python3 tools/reading.py --check docs/PROVED.md || result=1
   python3 tools/edits.py --read || result=1
 fi
 [ "$result" -ne 0 ] || echo "manuals: version, manuals, ${#scripts[@]} scripts, ${#modules[@]} files of Python, the language, the names and the edits are in order"

@@ -3,6 +3,8 @@
 
     tools/reading.py [FILE ..]     files of specs, or sources with contracts; by default
                                    Answer.antt of ud_model: the answer of the tool
+    tools/reading.py --check PAGE  whether the rows of a page that end in `FILE` | N files, M lines
+                                   have the numbers of this tree
 
 Prints the files with their lines, each after those that it uses. The types of the code that a file
 uses, such as settings and verdicts, aren't counted.
@@ -13,6 +15,7 @@ import sys
 
 TOP = os.path.dirname(os.path.dirname(os.path.realpath(__file__)))
 ANSWER = "crates/ud_model/specs/answer/Answer.antt"
+ROW = re.compile(r"`([^`]+)` \| (\d+ files, [\d,]+ lines) \|$", re.MULTILINE)
 IMPORT = re.compile(r"^\s*(?:ghost )?use Rattle\.(\w+)\.specs\.([\w.]+?)\.\{", re.MULTILINE)
 
 
@@ -39,11 +42,33 @@ def read(path, lines_of):
     lines_of[path] = text.count("\n")
 
 
-def main():
+def read_all(paths):
+    """Returns the lines of each file that some files rest on, in order."""
     lines_of = {}
-    for path in sys.argv[1:] or [ANSWER]:
+    for path in paths:
         if path not in lines_of:
             read(path, lines_of)
+    return lines_of
+
+
+def check(page):
+    """Prints each number of a page that isn't that of this tree. Returns whether all are."""
+    right = True
+    with open(page, encoding="utf-8") as file:
+        rows = ROW.findall(file.read())
+    for path, written in rows:
+        lines_of = read_all([path])
+        found = f"{len(lines_of)} files, {sum(lines_of.values()):,} lines"
+        if found != written:
+            print(f"{page}: {path} rests on {found}, and not on {written}")
+            right = False
+    return right and rows != []
+
+
+def main():
+    if sys.argv[1:2] == ["--check"]:
+        sys.exit(not check(sys.argv[2]))
+    lines_of = read_all(sys.argv[1:] or [ANSWER])
     for path, lines in lines_of.items():
         print(f"{lines:6,} {path}")
     print(f"{sum(lines_of.values()):6,} in {len(lines_of)} files")
