@@ -259,9 +259,9 @@ bench-conditions: kit
 	cd crates/bench_conditions && $(RT) run -- conditions 1 < /dev/null > /dev/null
 	bench/conditions.sh
 
-# Graphviz repeats the name of each node and edge in a comment.
+# Graphviz repeats the name of each node and edge in a comment and a title. The picture's title stays.
 pictures: DRAW = dot -Tsvg
-pictures: PLAIN = sed '/^<!-- .*-->$$/d'
+pictures: PLAIN = sed -e '/^<!-- .*-->$$/d' -e '0,/^<title>/!{ /^<title>/d }'
 ## draws the pictures in docs and bench
 pictures: unifdef
 	@command -v dot > /dev/null || { echo "make: graphviz's dot is not there" >&2; exit 1; }
