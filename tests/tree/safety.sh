@@ -345,6 +345,14 @@ inputs() {
   (cd "$work/run" && "$TREE" -0 -DA < . > "$work/out" 2> "$work/err") || status=$?
   check 'a folder as input: status' same "$status" 2
   check 'a folder as input: message' has_line "$work/err" 'unifdef-tree: stdin: Cannot be read'
+  check 'a folder as input: no last line' same "$(wc -l < "$work/err")" 1
+  status=0
+  (cd "$work/run" && "$TREE" -DA src > "$work/out" 2> /dev/full) || status=$?
+  check 'messages that cannot be written: status' same "$status" 2
+  check 'messages that cannot be written: the files' holds src/a.c 'yes\n'
+  status=0
+  (cd "$work/run" && "$TREE" -q -UA src > "$work/out" 2> /dev/full) || status=$?
+  check 'no message: status' same "$status" 0
   fresh_tree
   put src/a.c "$text"
   put src/.unifdef-tree.other.c "$text"

@@ -17,7 +17,7 @@ use Rattle.ud_tree.specs.declared.arguments.Task.TheVariants.{Names}
 use Rattle.ud_tree.specs.Fates.{is_changed, is_same, is_faulty}
 use Rattle.ud_tree.specs.Runs.{fate_of, FileResult, Unshown, EachFile, no_file, then_file, changed_in, faulty_in, shown_of, told_of, Counted, names_of}
 use Rattle.ud_tree.specs.Statuses.{tree_status}
-use Rattle.ud_tree.specs.Streams.{Stream, Sends}
+use Rattle.ud_tree.specs.Streams.{Stream, Sends, StreamEnds, Source}
 use Rattle.ud_tree.specs.declared.job.Job.{Job}
 use Rattle.ud_tree.specs.declared.report.Report.{Report}
 use Rattle.ud_tree.specs.Messages.{IsTold, IsPlain, Tells, TellsResult, TellsIf, list_message, write_message, output_messages}
@@ -147,11 +147,11 @@ writes_list args names rest none h k = record {
 -- The run ends with the status of its counts.
 pub ends : (job : Job) (files : List Found) {old mid new : Moment} {listed listed_err : Stream} {r mid_report list_report end_report : Report} {counts : Counts} (lost unwritten : Bool) (in_walk faults hidden status : ℕ) →
     DoesJob job files old r mid mid_report counts → WritesList job.arguments.now mid.out listed →
-    TellsIf list_message lost mid_report list_report mid.err listed_err → Sends listed new.out [] → unwritten ≡ new.out.failed →
+    TellsIf list_message lost mid_report list_report mid.err listed_err → Sends listed new.out [] → unwritten ≡ new.out.failed → (new.out.failed ≡ false → new.out.unflushed ≡ false) →
     (end : Stream) → TellsIf write_message unwritten list_report end_report listed_err end → TellsEnd job.arguments.now counts faults hidden end_report end new.err →
     new.calls ≡ mid.calls → counts.faulty ≤ faults → (in_walk + (cond lost 1 0 + cond unwritten 1 0) + counts.faulty < 2 ^ 64 → faults ≡ in_walk + (cond lost 1 0 + cond unwritten 1 0) + counts.faulty) →
-    status ≡ tree_status job.arguments.now.task job.arguments.now.plan.settings.exit_mode faults counts.changed → (job.is_terminal ≡ false → IsPlain r) → EndsWriting job in_walk old files new status
-ends job files {old = old} {new = new} {counts = counts} lost unwritten in_walk faults hidden status w l t f failed end u e same few all is plain =
+    (unheard : Bool) → unheard ≡ new.err.failed → status ≡ tree_status job.arguments.now.task job.arguments.now.plan.settings.exit_mode unheard faults counts.changed → (job.is_terminal ≡ false → IsPlain r) → EndsWriting job in_walk old files new status
+ends job files {old = old} {new = new} {counts = counts} lost unwritten in_walk faults hidden status w l t f failed flushed end u e same few all unheard heard is plain =
     let h = w.counted in
     let args = job.arguments.now in
     let of_output = joined (output_messages lost unwritten) in
@@ -169,7 +169,9 @@ ends job files {old = old} {new = new} {counts = counts} lost unwritten in_walk 
         shown_is = ap (λ (x : List ℕ). x ++ l.listed) h.shown_is;
         faults = faults;
         reported = rw (← h.counts_are.faulty) few;
-        status_is = is ∙ ap (tree_status args.task args.plan.settings.exit_mode faults) h.counts_are.changed;
+        flushed = flushed;
+        status_is = is ∙ ap (tree_status args.task args.plan.settings.exit_mode unheard faults) h.counts_are.changed
+            ∙ ap (λ (b : Bool). tree_status args.task args.plan.settings.exit_mode b faults (changed_in h.results)) heard;
         hidden = hidden;
         remaining = e.remaining;
         last_is = ap (λ (x : ℕ). last_lines args x counts.unchanged faults hidden e.remaining) h.counts_are.changed
@@ -185,9 +187,9 @@ ends job files {old = old} {new = new} {counts = counts} lost unwritten in_walk 
     }
 
 -- The run made only calls of a walk, and a message says why.
-pub no_files : (job : Job) {old new : Moment} {r r' : Report} → (job.is_terminal ≡ false → IsPlain r) →
-    StopsWalk job.arguments.now.from_input old.calls new.calls r r' old.err new.err → new.out ≡ old.out → RunsTree job old new 2
-no_files job {old = old} {new = new} plain h same = record {
+pub no_files : (job : Job) (given : Source) {left : Source} {old new : Moment} {r r' : Report} → (job.is_terminal ≡ false → IsPlain r) →
+    StopsWalk job.arguments.now.from_input left old.calls new.calls r r' old.err new.err → new.out ≡ old.out → RunsTree job given left old new 2
+no_files job given {old = old} {new = new} plain h same = record {
   messages = h.messages;
   shown = [];
   told = h.told;
@@ -199,9 +201,9 @@ no_files job {old = old} {new = new} plain h same = record {
 }
 
 -- The faults of the walk have another number, which is the same unless it is too large.
-ends_counted : {args : Arguments} {failed : Bool} {old new : List Call} {names : List (List ℕ)} {shown told last : List ℕ} {status : ℕ} (n m : ℕ) → (m < 2 ^ 64 → n ≡ m) →
-    Ends args n failed old names new shown told last status → Ends args m failed old names new shown told last status
-ends_counted {failed = failed} n m same h = record {
+ends_counted : {args : Arguments} {streams : StreamEnds} {old new : List Call} {names : List (List ℕ)} {shown told last : List ℕ} {status : ℕ} (n m : ℕ) → (m < 2 ^ 64 → n ≡ m) →
+    Ends args n streams old names new shown told last status → Ends args m streams old names new shown told last status
+ends_counted {streams = streams} n m same h = record {
   results = h.results;
   each = h.each;
   listed = h.listed;
@@ -209,13 +211,14 @@ ends_counted {failed = failed} n m same h = record {
   shown_is = h.shown_is;
   faults = h.faults;
   reported = h.reported;
+  flushed = h.flushed;
   status_is = h.status_is;
   hidden = h.hidden;
   remaining = h.remaining;
   last_is = h.last_is;
   is_lost = h.is_lost;
   told_is = h.told_is;
-  faults_are = faults_counted n m (length (output_messages h.is_lost failed)) (faulty_in h.results) h.faults same h.faults_are;
+  faults_are = faults_counted n m (length (output_messages h.is_lost streams.failed)) (faulty_in h.results) h.faults same h.faults_are;
 }
   where
     faults_counted : (n m o f faults : ℕ) → (m < 2 ^ 64 → n ≡ m) → (n + o + f < 2 ^ 64 → faults ≡ n + o + f) → m + o + f < 2 ^ 64 → faults ≡ m + o + f
@@ -225,15 +228,15 @@ ends_counted {failed = failed} n m same h = record {
         omega arith
 
 -- The run processed all files that the walk found.
-pub ran_from : (job : Job) {old mid new : Moment} {r r' : Report} {found files : List Found} {status : ℕ} (in_walk : ℕ) → files ≡ found → (job.is_terminal ≡ false → IsPlain r) → r.faulty ≡ 0 →
-    in_walk ≡ r'.faulty → FindsFiles job.arguments.now.from_input old.calls mid.calls found r r' old.err mid.err → mid.out ≡ old.out →
-    EndsWriting job in_walk mid files new status → RunsTree job old new status
+pub ran_from : (job : Job) {given left : Source} {old mid new : Moment} {r r' : Report} {found files : List Found} {status : ℕ} (in_walk : ℕ) → files ≡ found → (job.is_terminal ≡ false → IsPlain r) → r.faulty ≡ 0 →
+    in_walk ≡ r'.faulty → FindsFiles job.arguments.now.from_input given left old.calls mid.calls found r r' old.err mid.err → mid.out ≡ old.out →
+    EndsWriting job in_walk mid files new status → RunsTree job given left old new status
 ran_from job {old = old} {mid = mid} {new = new} {r = r} {r' = r'} {files = files} in_walk is plain none number w same h = record {
   messages = w.reports.messages;
   shown = h.shown;
   told = h.told;
   last = h.last;
-  is_run = ran mid.calls files (subst (λ (fs : List Found). IsWalk old.calls mid.calls fs) (sym is) w.is_walk) w.reports.walk
+  is_run = ran w.text mid.calls files w.takes (subst (λ (fs : List Found). IsWalk old.calls mid.calls fs) (sym is) w.is_walk) w.reports.walk
       (subst (λ (fs : List Found). job.arguments.now.from_input ≡ false → 0 < length fs) (sym is) w.some)
       (ends_counted in_walk (length w.reports.messages) (walk_counted r.faulty r'.faulty in_walk (length w.reports.messages) none number w.reports.counted) h.ends);
   sent = subst (λ (s : Stream). Sends s new.out h.shown) same h.sent;

@@ -1,13 +1,14 @@
 -- Bytes that are written one after another, until a write fails.
-use Rattle.std.proofs.Common.{◌≡◌, ℕ, ◌<◌, ◌+◌, List, [], ◌∷◌, ◌++◌, length, get_or, take, Bool, true, false, Option, refl, sym, ap, ◌∙◌, subst, true≢false, append-nil, arith}
-use Rattle.std.specs.Io.KnownBytes.{Appends, Keeps}
-use Rattle.std.proofs.KnownBytes.{Appends-nil, Appends-trans}
-use Rattle.ud_io.specs.Watched.{AppendsPrefix, AppendsAllOrPrefix}
+use Rattle.std.proofs.Common.{◌≡◌, ℕ, ◌<◌, ◌≤◌, ◌+◌, List, [], ◌∷◌, ◌++◌, length, get_or, take, Bool, true, false, Option, Some, refl, sym, ap, ◌∙◌, subst, true≢false, append-nil, length-append, arith}
+use Rattle.std.specs.Io.KnownBytes.{Appends, Keeps, Consumes}
+use Rattle.std.proofs.KnownBytes.{Appends-nil, Appends-trans, Consumes-trans}
+use Rattle.ud_io.specs.Watched.{AppendsPrefix, AppendsAllOrPrefix, ReadsOnce}
 use Rattle.std.specs.List.{flat_map}
 use Rattle.std.proofs.lemmas.Grind.{flat_map-append}
 use Rattle.std.proofs.lemmas.List.{take_more, take_all}
+use Rattle.std.proofs.Math.ListN.{length-take}
 use Rattle.ud_io.proofs.BufferingLemmas.{appends_kept, prefix_of_first, prefix_of_second}
-use Rattle.ud_tree.specs.Streams.{Stream, Sends}
+use Rattle.ud_tree.specs.Streams.{Stream, Sends, Source, ReadsWhole}
 
 -- Nothing was written.
 pub sends_none : (s : Stream) → Sends s s []
@@ -75,3 +76,24 @@ sends_part f xs i d within h k = sends_same (sym (one_more f xs i d within)) (se
 -- All parts were written.
 pub sends_parts : {X : Type 0} (f : X → List ℕ) (xs : List X) (i : ℕ) {a b : Stream} → i ≡ length xs → Sends a b (flat_map f (take i xs)) → Sends a b (flat_map f xs)
 sends_parts f xs i is h = sends_same (ap (flat_map f) (take_all i xs (omega arith))) h
+
+-- Some more bytes were read, and appended to the text.
+pub reads_more : (a b c : Option (List ℕ)) (count : ℕ) (buf text : List ℕ) {more : List ℕ} → more ≡ text ++ take count buf → Consumes a b text → Consumes b c (take count buf) → Consumes a c more
+reads_more a b c count buf text is h k = subst (λ (t : List ℕ). Consumes a c t) (sym is) (Consumes-trans a b c text (take count buf) h k)
+
+-- Each read gives some bytes.
+pub read_some : (n count : ℕ) (buf text : List ℕ) {more : List ℕ} → more ≡ text ++ take count buf → ¬ (count ≡ 0) → count ≤ length buf → n ≤ length text → n + 1 ≤ length more
+read_some n count buf text {more = more} is some within h =
+    let grown : length more ≡ length text + length (take count buf) = ap (λ (l : List ℕ). length l) is ∙ length-append text (take count buf) in
+    let taken = length-take count buf in
+    omega (arith, grown, taken)
+
+-- No more bytes were read, so the text is whole.
+pub reads_end : {a b : Source} (mid : Option (List ℕ)) (count : ℕ) (buf text : List ℕ) → count ≡ 0 → 0 < length buf → Consumes a.remaining mid text → ReadsOnce mid b.remaining (Some count) buf →
+    b.failed ≡ false → ReadsWhole a b text
+reads_end {a = a} {b = b} mid count buf text none some h once works = record {
+  consumed = subst (λ (t : List ℕ). Consumes a.remaining b.remaining t) (append-nil text)
+      (Consumes-trans a.remaining mid b.remaining text [] h (subst (λ (n : ℕ). Consumes mid b.remaining (take n buf)) none once.1));
+  ended = once.2 none some;
+  unfailed = works;
+}

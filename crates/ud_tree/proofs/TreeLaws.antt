@@ -26,6 +26,7 @@ use Rattle.ud_tree.specs.Runs.{ReadsOne, reads, FileResult, Unshown, IsPlanned, 
 use Rattle.ud_tree.specs.Shown.{ShowsOne, ListsOne}
 use Rattle.ud_tree.specs.TreeRuns.{DoesBy, IsRun, no_run, ran, Run}
 use Rattle.ud_tree.specs.TreeDiffs.{ShowsAs, ShowsDiffs, no_diff, diffs}
+use Rattle.ud_tree.specs.Streams.{StreamEnds, Source}
 use Rattle.ud_tree.specs.Walks.{IsBefore}
 use Rattle.ud_tree.specs.TreeMoments.{TouchesNothing, TouchesFreshOrNone, OldOrOutput}
 
@@ -71,9 +72,9 @@ reads_by args Replace is other h = absurd (other refl)
 reads_by args Diff is other h = shows_touch h
 reads_by args Names is other h = lists_touch h
 
-pub run_reads : (args : Arguments) (old new : List Call) (messages : List (List ℕ)) (failed : Bool) (shown told last : List ℕ) (status : ℕ) → ¬ (args.task ≡ Replace) → IsRun args old new messages failed shown told last status → EachCall TouchesNothing old new
-run_reads args old new messages failed _ _ _ _ other (no_run h stops) = each_at h.are (walk_touches h.calls old)
-run_reads args old new messages failed shown told last status other (ran mid files w t some h) = each_then (each_at w.are (walk_touches w.calls old)) (reads_by args args.task refl other h.each)
+pub run_reads : (args : Arguments) (given left : Source) (old new : List Call) (messages : List (List ℕ)) (streams : StreamEnds) (shown told last : List ℕ) (status : ℕ) → ¬ (args.task ≡ Replace) → IsRun args given left old new messages streams shown told last status → EachCall TouchesNothing old new
+run_reads args given left old new messages streams _ _ _ _ other (no_run h stops) = each_at h.are (walk_touches h.calls old)
+run_reads args given left old new messages streams shown told last status other (ran text mid files takes w t some h) = each_then (each_at w.are (walk_touches w.calls old)) (reads_by args args.task refl other h.each)
 
 -- Replacing a file touches no file but the new one, up to the rename.
 replace_touches : {o : Options} {plan : PlanState} {name : List ℕ} {old new : List Call} {update : Result Update ReplaceError} → IsPlanned plan o →
@@ -98,10 +99,10 @@ replaces_by args Replace p into {old = old} {names = names} {new = new} {results
 replaces_by args Diff p into h = nothing_touched (shows_touch h)
 replaces_by args Names p into h = nothing_touched (lists_touch h)
 
-pub run_renames : (o : Options) (args : Arguments) (old new : List Call) (messages : List (List ℕ)) (failed : Bool) (shown told last : List ℕ) (status : ℕ) → IsPlanned args.plan o → args.write_into ≡ false →
-    IsRun args old new messages failed shown told last status → EachCall (TouchesFreshOrNone o) old new
-run_renames o args old new messages failed _ _ _ _ p into (no_run h stops) = nothing_touched (each_at h.are (walk_touches h.calls old))
-run_renames o args old new messages failed shown told last status p into (ran mid files w m some h) =
+pub run_renames : (o : Options) (args : Arguments) (given left : Source) (old new : List Call) (messages : List (List ℕ)) (streams : StreamEnds) (shown told last : List ℕ) (status : ℕ) → IsPlanned args.plan o → args.write_into ≡ false →
+    IsRun args given left old new messages streams shown told last status → EachCall (TouchesFreshOrNone o) old new
+run_renames o args given left old new messages streams _ _ _ _ p into (no_run h stops) = nothing_touched (each_at h.are (walk_touches h.calls old))
+run_renames o args given left old new messages streams shown told last status p into (ran text mid files takes w m some h) =
     each_then (nothing_touched (each_at w.are (walk_touches w.calls old))) (replaces_by args args.task p into h.each)
 
 -- Calls that touch nothing leave each file as it is.
@@ -247,11 +248,11 @@ moments_by args Replace p into {start = start} {names = names} {new = new} {resu
 moments_by args Diff p into apart t m h = (moments_still m (shows_touch h)).each
 moments_by args Names p into apart t m h = (moments_still m (lists_touch h)).each
 
-pub run_old_or_new : (o : Options) (args : Arguments) (first : Files) (old new : List Call) (messages : List (List ℕ)) (failed : Bool) (shown told last : List ℕ) (status : ℕ) → IsPlanned args.plan o → args.write_into ≡ false →
-    IsRun args old new messages failed shown told last status → AreTrue first new → EachCall (λ (c : Call) (earlier : List Call). OldOrOutput o first old (c ∷ earlier)) old new
-run_old_or_new o args first old new messages failed _ _ _ _ p into (no_run h stops) t =
+pub run_old_or_new : (o : Options) (args : Arguments) (first : Files) (given left : Source) (old new : List Call) (messages : List (List ℕ)) (streams : StreamEnds) (shown told last : List ℕ) (status : ℕ) → IsPlanned args.plan o → args.write_into ≡ false →
+    IsRun args given left old new messages streams shown told last status → AreTrue first new → EachCall (λ (c : Call) (earlier : List Call). OldOrOutput o first old (c ∷ earlier)) old new
+run_old_or_new o args first given left old new messages streams _ _ _ _ p into (no_run h stops) t =
     (moments_still (moments_none o first old) (each_at h.are (walk_touches h.calls old))).each
-run_old_or_new o args first old new messages failed shown told last status p into (ran mid files w m some h) t =
+run_old_or_new o args first given left old new messages streams shown told last status p into (ran text mid files takes w m some h) t =
     moments_by args args.task p into (apart_names files w.ascend) t
     (moments_still (moments_none o first old) (each_at w.are (walk_touches w.calls old))) h.each
 
@@ -263,9 +264,9 @@ each_shows {o = o} p (then_file h k t) = then_file (each_shows p h) (k.shows o p
 
 -- A run that only shows what would change shows the diffs.
 pub run_shows : (o : Options) (run : Run) → IsPlanned run.args.plan o → run.args.task ≡ Diff → (shown told last : List ℕ) (status : ℕ) → run.shown ≡ shown →
-    IsRun run.args run.old run.new run.messages run.failed shown told last status → ShowsDiffs o run
+    IsRun run.args run.given run.left run.old run.new run.messages run.streams shown told last status → ShowsDiffs o run
 run_shows o run p diff _ _ _ _ e (no_run h stops) = no_diff (record { calls = h.calls; are = h.are }) e
-run_shows o run p diff shown told last status e (ran mid files w m some h) =
+run_shows o run p diff shown told last status e (ran text mid files takes w m some h) =
     diffs mid files h.results h.listed w
     (each_shows p (subst (λ (t : Task). EachFile (DoesBy t run.args) mid (names_of files) run.new h.results) diff h.each))
     (e ∙ h.shown_is) (h.is_wanted (λ names. absurd cc))

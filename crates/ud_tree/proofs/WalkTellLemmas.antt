@@ -14,9 +14,9 @@ use Rattle.ud_replace.specs.Calls.{Call, walked, WalkCall, met, followed, listed
 use Rattle.ud_tree.specs.declared.report.Report.{Report}
 use Rattle.ud_tree.specs.Paths.{folder_len, fresh_end, fresh_name}
 use Rattle.ud_tree.specs.Messages.{locked_line, fault_line, IsFailureOf, no_reason, with_reason, Tells, ReportsOne, ReportsFailure}
-use Rattle.ud_tree.specs.Streams.{Stream}
+use Rattle.ud_tree.specs.Streams.{Stream, Source}
 use Rattle.ud_tree.specs.Summaries.{line_of}
-use Rattle.ud_tree.specs.WalkMessages.{is_refused, is_missing, is_unknown, is_unread, IsRemark, is_link, is_other, is_no_text, no_input, AreTold, none_told, then_answered, then_refused, then_vanished, then_remark, joined, WasListed, ReportsRefusal, ReportsWalk, ReportsNames, VisitTells, is_gone, is_told, TellsGiven, is_quiet, is_irregular, no_memory, bad_path, no_match, StopsWalk}
+use Rattle.ud_tree.specs.WalkMessages.{is_refused, is_missing, is_unknown, is_unread, IsRemark, is_link, is_other, is_no_text, no_input, AreTold, none_told, then_answered, then_refused, then_vanished, then_remark, joined, WasListed, ReportsRefusal, ReportsWalk, ReportsNames, VisitTells, is_gone, is_told, TellsGiven, is_quiet, is_irregular, input_message, no_memory, bad_input, bad_path, no_match, StopsWalk}
 use Rattle.ud_tree.proofs.MessageLemmas.{tells_kept, tells_then}
 
 -- One fault more is counted, unless the number is too large.
@@ -261,25 +261,39 @@ some_told a b n none h some = ⊎_elim (λ lt. lt) at_zero (cases_lt 0 n)
         omega arith
 
 -- A path of the command line has a fault, so nothing follows.
-pub stops_bad : {from_input : Bool} {calls calls' : List Call} {r r' : Report} {s s' : Stream} → r.faulty ≡ 0 → (from_input ≡ false) × (0 < r'.faulty) → ReportsWalk calls calls' r r' s s' →
-    StopsWalk from_input calls calls' r r' s s'
-stops_bad {r = r} {r' = r'} {s = s} {s' = s'} none bad h = record {
+pub stops_bad : {from_input : Bool} (left : Source) {calls calls' : List Call} {r r' : Report} {s s' : Stream} → r.faulty ≡ 0 → from_input ≡ false → 0 < r'.faulty → ReportsWalk calls calls' r r' s s' →
+    StopsWalk from_input left calls calls' r r' s s'
+stops_bad left {r = r} {r' = r'} {s = s} {s' = s'} none args bad h = record {
   messages = h.messages;
   told = [];
   walk = h.walk;
-  stops = bad_path bad.0 (some_told r.faulty r'.faulty (length h.messages) none h.counted bad.1) refl;
+  stops = bad_path args (some_told r.faulty r'.faulty (length h.messages) none h.counted bad) refl;
   tells = subst (λ (x : List ℕ). Tells r r' s s' x) (sym (append-nil (joined h.messages))) h.tells;
 }
 
+-- The input couldn't be read, and a line says so.
+pub stops_unread : {left : Source} {r r' : Report} {s s' : Stream} (calls : List Call) → left.failed ≡ true → ReportsOne input_message r r' s s' → StopsWalk true left calls calls r r' s s'
+stops_unread {r = r} {r' = r'} {s = s} {s' = s'} calls failed h = record {
+  messages = input_message ∷ [];
+  told = [];
+  walk = record { calls = []; are = refl; told = then_remark input_message none_told (no_input refl) };
+  stops = bad_input refl failed refl refl;
+  tells = subst (λ (x : List ℕ). Tells r r' s s' x) (sym (append-nil (input_message ++ []))) (subst (λ (x : List ℕ). Tells r r' s s' x) (sym (append-nil input_message)) h.tells);
+}
+
+-- The same, by what the arguments say of the input.
+pub stops_by : {from_input : Bool} {left : Source} {calls calls' : List Call} {r r' : Report} {s s' : Stream} → from_input ≡ true → StopsWalk true left calls calls' r r' s s' → StopsWalk from_input left calls calls' r r' s s'
+stops_by {left = left} {calls = calls} {calls' = calls'} {r = r} {r' = r'} {s = s} {s' = s'} is h = subst (λ (b : Bool). StopsWalk b left calls calls' r r' s s') (sym is) h
+
 -- No file matches, and a line says so.
-pub stops_unmatched : {from_input : Bool} {calls calls' : List Call} {a b c : Report} {s t u : Stream} {line : List ℕ} → from_input ≡ false → line ≡ line_of (codes "No file matches") →
-    ReportsWalk calls calls' a b s t → Tells b c t u line → StopsWalk from_input calls calls' a c s u
-stops_unmatched {line = line} args is h k = record { messages = h.messages; told = line; walk = h.walk; stops = no_match args is; tells = tells_then h.tells k }
+pub stops_unmatched : {from_input : Bool} (left : Source) {calls calls' : List Call} {a b c : Report} {s t u : Stream} {line : List ℕ} → from_input ≡ false → line ≡ line_of (codes "No file matches") →
+    ReportsWalk calls calls' a b s t → Tells b c t u line → StopsWalk from_input left calls calls' a c s u
+stops_unmatched left {line = line} args is h k = record { messages = h.messages; told = line; walk = h.walk; stops = no_match args is; tells = tells_then h.tells k }
 
 -- Memory ran out, and a line says so.
-pub stops_full : {from_input : Bool} {calls calls' : List Call} {a b c : Report} {s t u : Stream} {line : List ℕ} → line ≡ line_of (codes "Out of memory") →
-    ReportsWalk calls calls' a b s t → Tells b c t u line → StopsWalk from_input calls calls' a c s u
-stops_full {line = line} is h k = record { messages = h.messages; told = line; walk = h.walk; stops = no_memory is; tells = tells_then h.tells k }
+pub stops_full : {from_input : Bool} (left : Source) {calls calls' : List Call} {a b c : Report} {s t u : Stream} {line : List ℕ} → line ≡ line_of (codes "Out of memory") →
+    ReportsWalk calls calls' a b s t → Tells b c t u line → StopsWalk from_input left calls calls' a c s u
+stops_full left {line = line} is h k = record { messages = h.messages; told = line; walk = h.walk; stops = no_memory is; tells = tells_then h.tells k }
 
 -- Something has a path, and nothing was written.
 pub walk_met : (path : List ℕ) (node : Node) {calls calls' : List Call} (r : Report) (s : Stream) → calls' ≡ walked (met path (Present node)) ∷ calls → ReportsWalk calls calls' r r s s

@@ -1,10 +1,11 @@
 -- Statuses: the exit status of a run over a tree.
 --
---   tree_status task mode faults changed   the status by the task, the exit mode and the counts
+--   tree_status task mode unheard faults changed   the status by the task, the exit mode and the
+--       counts
 --
--- unifdef-tree(1): 2 at any fault. If names are listed, else 0. Else the status by the exit mode,
--- as of a single text, by whether some file changed.
-use Rattle.std.specs.Prelude.{ℕ, ◌==◌, if◌then◌else◌, nat_lt}
+-- unifdef-tree(1): 2 at any fault, and if a message couldn't be written. If names are listed, else
+-- 0. Else the status by the exit mode, as of a single text, by whether some file changed.
+use Rattle.std.specs.Prelude.{ℕ, Bool, ◌==◌, ◌&&◌, not, if◌then◌else◌, nat_lt}
 use Rattle.ud_model.specs.declared.settings.ExitMode.{ExitMode}
 use Rattle.ud_model.specs.answer.Answer.{status_by}
 use Rattle.ud_tree.specs.declared.arguments.Task.{Task}
@@ -16,6 +17,8 @@ status_of Replace mode changed = status_by mode (nat_lt 0 changed)
 status_of Diff mode changed = status_by mode (nat_lt 0 changed)
 status_of Names mode changed = 0
 
--- `tree_status task mode faults changed`: the status after this number of faults.
-abbrev pub tree_status : Task → ExitMode → ℕ → ℕ → ℕ
-tree_status task mode faults changed = if faults == 0 then status_of task mode changed else 2
+-- `tree_status task mode unheard faults changed`: the status after this number of faults. `unheard`
+-- says whether the error stream has failed.
+abbrev pub tree_status : Task → ExitMode → Bool → ℕ → ℕ → ℕ
+tree_status task mode unheard faults changed =
+    if faults == 0 && not unheard then status_of task mode changed else 2

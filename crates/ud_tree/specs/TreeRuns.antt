@@ -2,20 +2,20 @@
 --
 --   DoesBy task args name old new result   what a task does with a file
 --   DoesOne args name old new result       what the arguments ask for is done with a file
---   Ends args in_walk failed old names new shown told last status   all files are processed
+--   Ends args in_walk streams old names new shown told last status   all files are processed
 --   DoesJob job files before report after report' counts   the same for all files
 --   EndsWriting job in_walk before files after status   the same, and all was written
---   IsRun args old new messages failed shown told last status   a whole run
+--   IsRun args given left old new messages streams shown told last status   a whole run
 --   Run, IsRunOf run                           its arguments, calls, output and status
 --   IsClean run                                a run in which nothing failed
---   RunsTree job before after status           a whole run, and all of that was written
+--   RunsTree job given left before after status   a whole run, and all of that was written
 --
--- `old` and `new` are the calls before and after, the newest first. `messages` are those of the
--- walk, and `in_walk` is their number. `shown` is what is to be written to the output, and `failed`
--- says whether the output has failed. `told` is to be written to the error stream after the walk,
--- and `last` last.
+-- `old` and `new` are the calls before and after, the newest first. `given` and `left` are what the
+-- input has before and after. `messages` are those of the walk, and `in_walk` is their number.
+-- `shown` is what is to be written to the output, and `streams` says what became of both streams.
+-- `told` is to be written to the error stream after the walk, and `last` last.
 use Rattle.std.specs.Prelude.{◌≡◌, ℕ, ◌+◌, ◌≤◌, ◌<◌, ◌^◌, List, [], ◌++◌, length}
-use Rattle.std.specs.Prelude.{Bool, false}
+use Rattle.std.specs.Prelude.{Bool, true, false}
 use Rattle.ud_replace.specs.Calls.{Call}
 use Rattle.ud_tree.specs.declared.arguments.Task.{Task}
 use Rattle.ud_tree.specs.declared.arguments.Task.TheVariants.{Replace, Diff, Names}
@@ -29,7 +29,7 @@ use Rattle.ud_tree.specs.Runs.{FileResult, Unshown, EachFile, shown_of, told_of}
 use Rattle.ud_tree.specs.Runs.{changed_in, same_in, faulty_in, names_of}
 use Rattle.ud_tree.specs.Shown.{ShowsOne, ListsOne}
 use Rattle.ud_tree.specs.Messages.{output_messages}
-use Rattle.ud_tree.specs.Streams.{Sends}
+use Rattle.ud_tree.specs.Streams.{Sends, StreamEnds, ends_of, Source, TakesInput, ReadsWhole}
 use Rattle.ud_tree.specs.Summaries.{last_lines, EndsWith}
 use Rattle.ud_tree.specs.Writing.{Moment, WritesAll}
 use Rattle.ud_tree.specs.Walks.{IsWalk}
@@ -54,13 +54,14 @@ DoesJob job files before report after report' counts =
     WritesAll (DoesOne job.arguments.now) before (names_of files) report after report'
     counts
 
--- `Ends args in_walk failed old names new shown told last status`: it is done with each file in
--- turn. What is shown of them comes first, and then a list, if one is wanted. The status is that of
--- some number of faults, at least one for each faulty file, and of the number of changed files. The
--- last lines have the same numbers. The messages of the faulty files come first, then those about
--- the output, which has one if it has failed, and then the last lines. There is one fault for each
--- message, and for each of the walk.
-pub record Ends (args : Arguments) (in_walk : ℕ) (failed : Bool)
+-- `Ends args in_walk streams old names new shown told last status`: it is done with each file in
+-- turn. What is shown of them comes first, and then a list, if one is wanted. The output has failed
+-- or is flushed. The status is that of some number of faults, at least one for each faulty file,
+-- and of the number of changed files. It is 2 if the error stream has failed. The last lines have
+-- the same numbers. The messages of the faulty files come first, then those about the output, which
+-- has one if it has failed, and then the last lines. There is one fault for each message, and for
+-- each of the walk.
+pub record Ends (args : Arguments) (in_walk : ℕ) (streams : StreamEnds)
     (old : List Call) (names : List (List ℕ)) (new : List Call) (shown told last : List ℕ)
     (status : ℕ) : Type 0 where
   pub results : List FileResult
@@ -70,16 +71,18 @@ pub record Ends (args : Arguments) (in_walk : ℕ) (failed : Bool)
   pub shown_is : shown ≡ shown_of results ++ listed
   pub faults : ℕ
   pub reported : faulty_in results ≤ faults
-  pub status_is : status ≡ tree_status args.task args.plan.settings.exit_mode faults
-      (changed_in results)
+  pub flushed : streams.failed ≡ false → streams.unflushed ≡ false
+  pub status_is : status ≡ tree_status args.task args.plan.settings.exit_mode streams.unheard
+      faults (changed_in results)
   pub hidden : ℕ
   pub remaining : ℕ
   pub last_is : last ≡ last_lines args (changed_in results) (same_in results) faults hidden
       remaining
   pub is_lost : Bool
-  pub told_is : told ≡ told_of results ++ joined (output_messages is_lost failed) ++ last
-  pub faults_are : in_walk + length (output_messages is_lost failed) + faulty_in results < 2 ^ 64 →
-      faults ≡ in_walk + length (output_messages is_lost failed) + faulty_in results
+  pub told_is : told ≡ told_of results ++ joined (output_messages is_lost streams.failed) ++ last
+  pub faults_are :
+      in_walk + length (output_messages is_lost streams.failed) + faulty_in results < 2 ^ 64 →
+      faults ≡ in_walk + length (output_messages is_lost streams.failed) + faulty_in results
 
 -- `EndsWriting job in_walk before files after status`: all files are processed, what is shown was
 -- written, and the last lines were. If the error stream is no terminal, all of `told` was written.
@@ -88,35 +91,39 @@ pub record EndsWriting (job : Job) (in_walk : ℕ) (before : Moment) (files : Li
   pub shown : List ℕ
   pub told : List ℕ
   pub last : List ℕ
-  pub ends : Ends job.arguments.now in_walk after.out.failed before.calls
+  pub ends : Ends job.arguments.now in_walk (ends_of after.out after.err) before.calls
       (names_of files) after.calls shown told last status
   pub sent : Sends before.out after.out shown
   pub ended : EndsWith after.err last
   pub tells : job.is_terminal ≡ false → Sends before.err after.err told
 
--- `IsRun args old new messages failed shown told last status`: only calls of a walk were made,
--- which have these messages. There is a reason why no file follows, nothing is shown, and the
--- status is 2. Or the walk found some files, at least one if paths are those of the command line,
--- and the run ends after them.
-pub data IsRun (args : Arguments) (old new : List Call)
-    (messages : List (List ℕ)) (failed : Bool) : List ℕ → List ℕ → List ℕ → ℕ → Type 0 where
-  no_run : {told : List ℕ} → WalkTells old new messages → Stops args.from_input messages told →
-      IsRun args old new messages failed [] told [] 2
-  ran : {shown told last : List ℕ} {status : ℕ} (mid : List Call) (files : List Found) →
-      IsWalk old mid files → WalkTells old mid messages →
-      (args.from_input ≡ false → 0 < length files) →
-      Ends args (length messages) failed mid (names_of files) new shown told last status →
-      IsRun args old new messages failed shown told last status
+-- `IsRun args given left old new messages streams shown told last status`: only calls of a walk
+-- were made, which have these messages. There is a reason why no file follows, nothing is shown,
+-- and the status is 2. Or the input was read whole, if paths come from it. The walk found some
+-- files, at least one if paths are those of the command line, and the run ends after them.
+pub data IsRun (args : Arguments) (given left : Source) (old new : List Call)
+    (messages : List (List ℕ)) (streams : StreamEnds) :
+    List ℕ → List ℕ → List ℕ → ℕ → Type 0 where
+  no_run : {told : List ℕ} → WalkTells old new messages →
+      Stops args.from_input left messages told →
+      IsRun args given left old new messages streams [] told [] 2
+  ran : {shown told last : List ℕ} {status : ℕ} (text : List ℕ) (mid : List Call)
+      (files : List Found) → TakesInput args.from_input given left text → IsWalk old mid files →
+      WalkTells old mid messages → (args.from_input ≡ false → 0 < length files) →
+      Ends args (length messages) streams mid (names_of files) new shown told last status →
+      IsRun args given left old new messages streams shown told last status
 
--- `Run`: the arguments of a run, the end of the names of its new files, the calls before and after
--- it, the messages of the walk, whether the output has failed, what is to be written to it, to the
--- error stream after the walk, and last, and the status.
+-- `Run`: the arguments of a run, what the input has before and after it, the calls before and
+-- after it, the messages of the walk, what became of both streams, what is to be written to the
+-- output, to the error stream after the walk, and last, and the status.
 pub record Run : Type 0 where
   pub args : Arguments
+  pub given : Source
+  pub left : Source
   pub old : List Call
   pub new : List Call
   pub messages : List (List ℕ)
-  pub failed : Bool
+  pub streams : StreamEnds
   pub shown : List ℕ
   pub told : List ℕ
   pub last : List ℕ
@@ -124,11 +131,12 @@ pub record Run : Type 0 where
 
 -- `IsRunOf run`: `run` is a whole run.
 abbrev pub IsRunOf : Run → Type 0
-IsRunOf run = IsRun run.args run.old run.new run.messages run.failed run.shown run.told
-    run.last run.status
+IsRunOf run = IsRun run.args run.given run.left run.old run.new run.messages run.streams
+    run.shown run.told run.last run.status
 
--- `IsClean run`: a whole walk has no message, none of its files has an error, and the output hasn't
--- failed.
+-- `IsClean run`: if paths come from the input, it was read whole. A whole walk has no message, and
+-- none of its files has an error. The output hasn't failed and is flushed, and the error stream
+-- hasn't failed.
 pub record IsClean (run : Run) : Type 0 where
   pub mid : List Call
   pub files : List Found
@@ -137,18 +145,23 @@ pub record IsClean (run : Run) : Type 0 where
   pub untold : WalkTells run.old mid []
   pub each : EachFile (DoesOne run.args) mid (names_of files) run.new results
   pub faultless : faulty_in results ≡ 0
-  pub unfailed : run.failed ≡ false
+  pub whole : run.args.from_input ≡ true →
+      (text : List ℕ) × ReadsWhole run.given run.left text
+  pub unfailed : run.streams.failed ≡ false
+  pub flushed : run.streams.unflushed ≡ false
+  pub heard : run.streams.unheard ≡ false
 
--- `RunsTree job before after status`: a whole run. What is shown was written to the output, and the
--- last lines were to the error stream. If that is no terminal, the messages of the walk and all of
--- `told` were written, and nothing else.
-pub record RunsTree (job : Job) (before after : Moment) (status : ℕ) : Type 0 where
+-- `RunsTree job given left before after status`: a whole run. What is shown was written to the
+-- output, and the last lines were to the error stream. If that is no terminal, the messages of the
+-- walk and all of `told` were written, and nothing else.
+pub record RunsTree (job : Job) (given left : Source) (before after : Moment) (status : ℕ) :
+    Type 0 where
   pub messages : List (List ℕ)
   pub shown : List ℕ
   pub told : List ℕ
   pub last : List ℕ
-  pub is_run : IsRun job.arguments.now before.calls after.calls messages
-      after.out.failed shown told last status
+  pub is_run : IsRun job.arguments.now given left before.calls after.calls messages
+      (ends_of after.out after.err) shown told last status
   pub sent : Sends before.out after.out shown
   pub ended : EndsWith after.err last
   pub tells : job.is_terminal ≡ false → Sends before.err after.err (joined messages ++ told)

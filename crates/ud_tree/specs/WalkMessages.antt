@@ -12,12 +12,13 @@
 --   ReportsNames folder names calls calls' old new err err'   a folder was listed first
 --   VisitTells path calls calls' old new err err'   a name of a folder was visited
 --   TellsGiven path node old new err err'   a node of the input was added or left out
---   Stops from_input messages told   why no file follows a walk, and what is written of that
---   StopsWalk from_input calls calls' old new err err'   a walk that no file follows
---   FindsFiles from_input calls calls' files old new err err'   a walk that found files
+--   input_message                the message if the input couldn't be read
+--   Stops from_input left messages told   why no file follows a walk, and what is written of that
+--   StopsWalk from_input left calls calls' old new err err'   a walk that no file follows
+--   FindsFiles from_input given left calls calls' files old new err err'   a walk that found files
 --
 -- `old` and `new` are the report before and after, or the calls, the newest first. `err` and `err'`
--- are the error stream.
+-- are the error stream, and `given` and `left` are what the input has before and after.
 use Rattle.std.specs.Prelude.{◌≡◌, ℕ, ◌+◌, ◌<◌, ◌^◌, List, [], ◌∷◌, ◌++◌, length, map, Bool, true}
 use Rattle.std.specs.Prelude.{false, not, codes}
 use Rattle.std.specs.List.{flat_map, Contains}
@@ -28,7 +29,7 @@ use Rattle.ud_replace.specs.Calls.{Call, walked, WalkCall, met, followed, listed
 use Rattle.ud_tree.specs.declared.report.Report.{Report}
 use Rattle.ud_tree.specs.declared.walk.Found.{Found}
 use Rattle.ud_tree.specs.Messages.{fault_line, IsFailureOf, Tells, ReportsOne}
-use Rattle.ud_tree.specs.Streams.{Stream}
+use Rattle.ud_tree.specs.Streams.{Stream, Source, TakesInput}
 use Rattle.ud_tree.specs.Summaries.{line_of}
 use Rattle.ud_tree.specs.Walks.{IsWalk}
 
@@ -50,6 +51,10 @@ pub data IsRefusal (w : WalkCall) (message : List ℕ) : Type 0 where
   is_unread : (folder : List ℕ) (names : List (List ℕ)) → w ≡ listed folder names false →
       IsFailureOf folder (codes "Cannot be read") message → IsRefusal w message
 
+-- `input_message`: the message if the input couldn't be read.
+abbrev pub input_message : List ℕ
+input_message = fault_line (codes "stdin") (codes "Cannot be read")
+
 -- `IsRemark calls message`: `message` is a line with a path that can't be taken, and why, though no
 -- call failed. `calls` met a link there that doesn't lead to a folder, or something else that is no
 -- regular file. Or the line says that a name isn't UTF-8, or that the input couldn't be read.
@@ -62,8 +67,7 @@ pub data IsRemark (calls : List WalkCall) (message : List ℕ) : Type 0 where
       IsRemark calls message
   is_no_text : (path : List ℕ) → message ≡ fault_line path (codes "Its name isn't UTF-8") →
       IsRemark calls message
-  no_input : message ≡ fault_line (codes "stdin") (codes "Cannot be read") →
-      IsRemark calls message
+  no_input : message ≡ input_message → IsRemark calls message
 
 -- `WasListed calls path`: one of `calls` listed a folder, and `path` is that of one of the names.
 pub record WasListed (calls : List WalkCall) (path : List ℕ) : Type 0 where
@@ -146,31 +150,37 @@ pub data TellsGiven (path : List ℕ) (node : Node) (old new : Report) (err err'
       ReportsOne (fault_line path (codes "Is no regular file")) old new err err' →
       TellsGiven path node old new err err'
 
--- `Stops from_input messages told`: no file follows a walk with these messages. Memory ran out, and
--- a line says so. Or the paths are those of the command line, and one has a fault, of which the
--- messages tell. Or no file below them matches, and a line says so.
-pub data Stops (from_input : Bool) (messages : List (List ℕ)) (told : List ℕ) : Type 0 where
-  no_memory : told ≡ line_of (codes "Out of memory") → Stops from_input messages told
+-- `Stops from_input left messages told`: no file follows a walk with these messages. Memory ran
+-- out, and a line says so. Or paths come from the input, which has failed, and the one message says
+-- so. Or the paths are those of the command line, and one has a fault, of which the messages tell.
+-- Or no file below them matches, and a line says so.
+pub data Stops (from_input : Bool) (left : Source) (messages : List (List ℕ))
+    (told : List ℕ) : Type 0 where
+  no_memory : told ≡ line_of (codes "Out of memory") → Stops from_input left messages told
+  bad_input : from_input ≡ true → left.failed ≡ true → messages ≡ input_message ∷ [] →
+      told ≡ [] → Stops from_input left messages told
   bad_path : from_input ≡ false → 0 < length messages → told ≡ [] →
-      Stops from_input messages told
+      Stops from_input left messages told
   no_match : from_input ≡ false → told ≡ line_of (codes "No file matches") →
-      Stops from_input messages told
+      Stops from_input left messages told
 
--- `StopsWalk from_input calls calls' old new err err'`: since `calls`, only calls of a walk were
--- made. Their messages were written, and why no file follows.
-pub record StopsWalk (from_input : Bool) (calls calls' : List Call) (old new : Report)
-    (err err' : Stream) : Type 0 where
+-- `StopsWalk from_input left calls calls' old new err err'`: since `calls`, only calls of a walk
+-- were made. Their messages were written, and why no file follows.
+pub record StopsWalk (from_input : Bool) (left : Source) (calls calls' : List Call)
+    (old new : Report) (err err' : Stream) : Type 0 where
   pub messages : List (List ℕ)
   pub told : List ℕ
   pub walk : WalkTells calls calls' messages
-  pub stops : Stops from_input messages told
+  pub stops : Stops from_input left messages told
   pub tells : Tells old new err err' (joined messages ++ told)
 
--- `FindsFiles from_input calls calls' files old new err err'`: since `calls`, a whole walk found
--- `files`, at least one if the paths are those of the command line. Its messages were written and
--- counted.
-pub record FindsFiles (from_input : Bool) (calls calls' : List Call) (files : List Found)
-    (old new : Report) (err err' : Stream) : Type 0 where
+-- `FindsFiles from_input given left calls calls' files old new err err'`: the input was read whole,
+-- if paths come from it. Since `calls`, a whole walk found `files`, at least one if the paths are
+-- those of the command line. Its messages were written and counted.
+pub record FindsFiles (from_input : Bool) (given left : Source) (calls calls' : List Call)
+    (files : List Found) (old new : Report) (err err' : Stream) : Type 0 where
+  pub text : List ℕ
+  pub takes : TakesInput from_input given left text
   pub is_walk : IsWalk calls calls' files
   pub some : from_input ≡ false → 0 < length files
   pub reports : ReportsWalk calls calls' old new err err'

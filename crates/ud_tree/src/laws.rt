@@ -10,8 +10,9 @@ ghost use Rattle.ud_tree.specs.TreeRuns.{Run, IsRunOf, IsClean};
 ghost use Rattle.ud_tree.specs.TreeMoments.{TouchesNothing, TouchesFreshOrNone};
 ghost use Rattle.ud_tree.specs.TreeMoments.{LeavesOldOrOutput};
 
-/// If the status isn't 2, the walk has no message, no file has an error, and no write of the output
-/// failed. The number of messages is taken to be one that a machine can count.
+/// If the status isn't 2, the input of `-0` was read whole, the walk has no message, and no file
+/// has an error. The output hasn't failed and is flushed, and the error stream hasn't failed. The
+/// number of messages is taken to be one that a machine can count.
 pub fn law_run_status()
     ensures { (run : Run) → IsRunOf run → ¬ (run.status ≡ 2) →
         length run.messages + 2 < 2 ^ 64 → IsClean run }

@@ -34,7 +34,7 @@ pub use arguments::{ArgumentFault, Arguments, Request, Task, parse_arguments};
 pub use disk::Disk;
 pub use help::print_help;
 pub use job::Job;
-pub use laws::{law_run_old_or_new, law_run_reads, law_run_renames, law_run_shows};
+pub use laws::{law_run_old_or_new, law_run_reads, law_run_renames, law_run_shows, law_run_status};
 pub use report::{report_argument_fault, report_line};
 pub use run::run_tree;
 pub use tree::Tree;

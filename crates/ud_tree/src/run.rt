@@ -1,11 +1,10 @@
 //! The run over all files of a tree.
 
-ghost use Rattle.std.specs.Prelude.{◌≡◌, ◌<◌, [], List, false, IfOk, IfSome, IfNone, OnErr};
-ghost use Rattle.ud_replace.specs.Calls.{Call};
+ghost use Rattle.std.specs.Prelude.{◌≡◌, [], List, ℕ, true, false, IfOk, IfSome, IfNone, OnErr};
 ghost use Rattle.ud_model.specs.answer.Answer.{status_by};
 ghost use Rattle.ud_tree.specs.Messages.{TellsIf, list_message, write_message};
 ghost use Rattle.ud_tree.specs.Statuses.{tree_status};
-ghost use Rattle.ud_tree.specs.Streams.{Sends, stream_of};
+ghost use Rattle.ud_tree.specs.Streams.{Sends, stream_of, source_of, ReadsWhole, TakesInput};
 ghost use Rattle.ud_tree.specs.Summaries.{Says, TellsEnd, changes_line, summary};
 ghost use Rattle.ud_tree.specs.Summaries.{files_text, hidden_text};
 ghost use Rattle.ud_tree.specs.Summaries.{remaining_line, remaining_text};
@@ -32,6 +31,9 @@ use ud_model::ExitMode;
 /// The status of a fault, of any kind.
 const EXIT_TROUBLE: u8 = 2;
 
+/// The most bytes of one read of the input.
+const INPUT_BYTES: usize = 8_192;
+
 /// Runs over the files that the arguments name, and returns the exit status.
 ///
 /// Paths are read from `input` if the arguments ask for that. Diffs and names are written to `out`,
@@ -41,19 +43,21 @@ const EXIT_TROUBLE: u8 = 2;
 /// # Errors
 /// The status is 2, and there is a message for each fault, in each of these cases:
 ///
-/// - Memory runs out before the first file. No file was changed.
+/// - Memory runs out before the first file, or the input can't be read. No file was changed.
 /// - A path doesn't exist, or is a link to a file, a pipe or a device. No file was changed.
 /// - The paths name no file. If paths come from the input, that is no fault.
 /// - A folder can't be read, or a file can't be replaced. The other files are.
 /// - The output can't be written.
-pub fn run_tree<T: Tree, R: Read + Drop, W: Write, E: Write>(
+/// - A message can't be written. Then there is none of that.
+pub fn run_tree<T: Tree, R: Read, W: Write, E: Write>(
     job: &Job<'_>,
     tree: &mut T,
-    input: R,
+    input: &mut Watched<R>,
     out: &mut Watched<W>,
     err: &mut Watched<E>,
 ) -> u8
     ensures { RunsTree job.now
+        (source_of R.remaining input.old) (source_of R.remaining input.new)
         (moment T.history W.contents E.contents tree.old out.old err.old)
         (moment T.history W.contents E.contents tree.new out.new err.new) result }
 {
@@ -68,21 +72,24 @@ pub fn run_tree<T: Tree, R: Read + Drop, W: Write, E: Write>(
     }
 }
 
-/// Returns the files of the run; `None` if a path of the command line has a fault, or if no file
-/// matches.
-fn find_files<T: Tree, R: Read + Drop, E: Write>(
+/// Returns the files of the run; `None` if the input can't be read, if a path of the command line
+/// has a fault, or if no file matches.
+fn find_files<T: Tree, R: Read, E: Write>(
     job: &Job<'_>,
     tree: &mut T,
-    input: R,
+    input: &mut Watched<R>,
     report: &mut Report,
     err: &mut Watched<E>,
 ) -> Result<Option<Vec<Found>>, AllocError>
     ensures files { IfOk result (λ r. IfSome r (λ files.
-        FindsFiles job.now.arguments.now.from_input (T.history tree.old) (T.history tree.new)
+        FindsFiles job.now.arguments.now.from_input
+        (source_of R.remaining input.old) (source_of R.remaining input.new)
+        (T.history tree.old) (T.history tree.new)
         files.items report.old report.new (stream_of E.contents err.old)
         (stream_of E.contents err.new))) }
     ensures stops { report.old.faulty ≡ 0 → IfOk result (λ r. IfNone r
-        (StopsWalk job.now.arguments.now.from_input (T.history tree.old) (T.history tree.new)
+        (StopsWalk job.now.arguments.now.from_input (source_of R.remaining input.new)
+        (T.history tree.old) (T.history tree.new)
         report.old report.new (stream_of E.contents err.old)
         (stream_of E.contents err.new))) }
     ensures no_memory { OnErr result (ReportsWalk (T.history tree.old) (T.history tree.new)
@@ -101,13 +108,13 @@ fn find_files<T: Tree, R: Read + Drop, E: Write>(
     Ok(Some(files))
 }
 
-/// Walks over all paths that the arguments name. Returns false if one of them has a fault. Nothing
-/// below the paths was looked at then.
-fn walk_all<T: Tree, R: Read + Drop, E: Write>(
+/// Walks over all paths that the arguments name. Returns false if the input can't be read, or if a
+/// path of the command line has a fault. Nothing below the paths was looked at then.
+fn walk_all<T: Tree, R: Read, E: Write>(
     job: &Job<'_>,
     walk: &mut Walk<'_>,
     tree: &mut T,
-    input: R,
+    input: &mut Watched<R>,
     report: &mut Report,
     err: &mut Watched<E>,
 ) -> Result<bool, AllocError>
@@ -115,12 +122,16 @@ fn walk_all<T: Tree, R: Read + Drop, E: Write>(
         walk.new.found.items }
     ensures told { ReportsWalk (T.history tree.old) (T.history tree.new) report.old report.new
         (stream_of E.contents err.old) (stream_of E.contents err.new) }
-    ensures bad_path { IfOk result (λ all. all ≡ false →
-        (job.now.arguments.now.from_input ≡ false) × (0 < report.new.faulty)) }
+    ensures takes { IfOk result (λ all. all ≡ true → (text : List ℕ) ×
+        TakesInput job.now.arguments.now.from_input (source_of R.remaining input.old)
+        (source_of R.remaining input.new) text) }
+    ensures stops { IfOk result (λ all. all ≡ false → report.old.faulty ≡ 0 →
+        StopsWalk job.now.arguments.now.from_input (source_of R.remaining input.new)
+        (T.history tree.old) (T.history tree.new) report.old report.new
+        (stream_of E.contents err.old) (stream_of E.contents err.new)) }
 {
     if job.arguments.from_input {
-        add_input(job.alloc, walk, tree, input, report, err)?;
-        return Ok(true);
+        return add_input(job.alloc, walk, tree, input, report, err);
     }
     for path in job.arguments.paths.as_slice() {
         walk.start(tree, report, err, path.as_str())?;
@@ -132,46 +143,65 @@ fn walk_all<T: Tree, R: Read + Drop, E: Write>(
     Ok(true)
 }
 
-/// Adds the files whose paths are on the input, each ended by a NUL.
-fn add_input<T: Tree, R: Read + Drop, E: Write>(
+/// Adds the files whose paths are on the input, each ended by a NUL. Returns false after a failed
+/// read, which was reported. No path was looked at then, since the last one may be cut.
+fn add_input<T: Tree, R: Read, E: Write>(
     alloc: Global,
     walk: &mut Walk<'_>,
     tree: &mut T,
-    input: R,
+    input: &mut Watched<R>,
     report: &mut Report,
     err: &mut Watched<E>,
-) -> Result<(), AllocError>
+) -> Result<bool, AllocError>
     ensures finds { Finds (T.history tree.old) (T.history tree.new) walk.old.found.items
         walk.new.found.items }
     ensures told { ReportsWalk (T.history tree.old) (T.history tree.new) report.old report.new
         (stream_of E.contents err.old) (stream_of E.contents err.new) }
+    ensures takes { IfOk result (λ all. all ≡ true → (text : List ℕ) ×
+        ReadsWhole (source_of R.remaining input.old) (source_of R.remaining input.new) text) }
+    ensures stops { IfOk result (λ all. all ≡ false →
+        StopsWalk true (source_of R.remaining input.new) (T.history tree.old)
+        (T.history tree.new) report.old report.new
+        (stream_of E.contents err.old) (stream_of E.contents err.new)) }
 {
-    let text = read_input(alloc, input, report, err);
+    let mut text = Vec::new(alloc);
+    let all = read_input(input, &mut text)?;
+    if !all {
+        report.fault(err, b"stdin", b"Cannot be read");
+        return Ok(false);
+    }
     let paths = split_paths(alloc, text.as_slice())?;
     for name in paths.as_slice() {
         walk.add(tree, report, err, name.as_slice())?;
     }
-    Ok(())
+    Ok(true)
 }
 
-/// Returns the bytes of the input. After a fault, which was reported, they may be some of them.
-fn read_input<R: Read + Drop, E: Write>(
-    alloc: Global,
-    input: R,
-    report: &mut Report,
-    err: &mut Watched<E>,
-) -> Vec<u8>
-    ensures { (calls : List Call) → ReportsWalk calls calls report.old report.new
-        (stream_of E.contents err.old) (stream_of E.contents err.new) }
+/// Appends the bytes of the input up to its end. Returns false if a read fails.
+///
+/// # Errors
+/// Fails if memory runs out.
+fn read_input<R: Read>(input: &mut Watched<R>, text: &mut Vec<u8>) -> Result<bool, AllocError>
+    requires empty { text.old.items ≡ [] }
+    ensures all { IfOk result (λ all. all ≡ true →
+        ReadsWhole (source_of R.remaining input.old) (source_of R.remaining input.new)
+        text.new.items) }
+    ensures cut { IfOk result (λ all. all ≡ false → input.new.failed ≡ true) }
 {
-    let mut input = input;
-    let mut text = Vec::new(alloc);
-    let read = input.read_to_end(&mut text);
-    if read.is_ok() {
-        return text;
+    if input.failed() {
+        return Ok(false);
     }
-    report.fault(err, b"stdin", b"Cannot be read");
-    text
+    let mut buffer = [0u8; INPUT_BYTES];
+    for _read in 0..u64::MAX {
+        let Some(count) = input.read(&mut buffer) else {
+            return Ok(false);
+        };
+        if count == 0 {
+            return Ok(true);
+        }
+        text.extend_from_slice(&buffer[..count])?;
+    }
+    unreachable!()
 }
 
 /// Returns the paths of a text, each of which ends in a NUL.
@@ -211,7 +241,7 @@ fn process_all<T: Tree, W: Write, E: Write>(
         .saturating_add(usize::from(out_fault))
         .saturating_add(counts.faulty);
     report_end(job, &mut report, err, names.hidden(), counts, faults);
-    status(job.arguments, faults, counts.changed)
+    status(job.arguments, err.failed(), faults, counts.changed)
 }
 
 /// Writes the names that were counted, and the conditions that still name a symbol. Returns true
@@ -257,6 +287,7 @@ fn finish_output<W: Write, E: Write>(
 ) -> bool
     ensures sent { Sends (stream_of W.contents out.old) (stream_of W.contents out.new) [] }
     ensures failed { result ≡ out.new.failed }
+    ensures flushed { out.new.failed ≡ false → out.new.unflushed ≡ false }
     ensures told { TellsIf write_message result report.old report.new
         (stream_of E.contents err.old) (stream_of E.contents err.new) }
 {
@@ -417,12 +448,12 @@ fn remaining_text(count: usize) -> &'static [u8]
     }
 }
 
-/// Returns the exit status.
-fn status(arguments: &Arguments, faults: usize, changed: usize) -> u8
-    ensures { result ≡ tree_status arguments.now.task arguments.now.plan.settings.exit_mode faults
-        changed }
+/// Returns the exit status. `unheard` says whether a message couldn't be written.
+fn status(arguments: &Arguments, unheard: bool, faults: usize, changed: usize) -> u8
+    ensures { result ≡ tree_status arguments.now.task arguments.now.plan.settings.exit_mode unheard
+        faults changed }
 {
-    if faults > 0 {
+    if unheard || faults > 0 {
         return EXIT_TROUBLE;
     }
     match arguments.task {

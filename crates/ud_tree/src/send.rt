@@ -1,6 +1,6 @@
 //! Writing to a stream, until a write fails.
 
-ghost use Rattle.std.specs.Prelude.{◌≡◌, ◌<◌, [], not};
+ghost use Rattle.std.specs.Prelude.{◌≡◌, ◌<◌, [], not, true, false};
 ghost use Rattle.std.specs.List.{flat_map};
 ghost use Rattle.ud_tree.specs.Streams.{Sends, stream_of};
 ghost use Rattle.ud_tree.specs.Visible.{hex_digit, visible, visible_byte};
@@ -79,6 +79,7 @@ pub(crate) fn send_visible_parts<W: Write>(out: &mut Watched<W>, parts: &[&[u8]]
 pub(crate) fn flush<W: Write>(out: &mut Watched<W>) -> bool
     ensures sent { Sends (stream_of W.contents out.old) (stream_of W.contents out.new) [] }
     ensures works { result ≡ not out.new.failed }
+    ensures flushed { result ≡ true → out.new.unflushed ≡ false }
 {
     if out.failed() {
         return false;

@@ -57,9 +57,10 @@ fn run(rt: &HostRuntime, arguments: &Arguments) -> ExitCode {
         is_terminal: stderr.is_terminal() && allows_counter(arguments),
     };
     let mut disk = Disk::new(rt, rt.alloc());
+    let mut input = Watched::new(rt.stdin());
     let mut out = Watched::new(rt.stdout());
     let mut err = Watched::new(stderr);
-    ExitCode::from(run_tree(&job, &mut disk, rt.stdin(), &mut out, &mut err))
+    ExitCode::from(run_tree(&job, &mut disk, &mut input, &mut out, &mut err))
 }
 
 /// Returns whether a terminal may show how many files are done. The last lines remove that, so

@@ -1,9 +1,30 @@
+use Rattle.ud_tree.specs.Streams.{stream_of}
 use Rattle.ud_tree.proofs.WalkLemmas.{finds_none, finds_then}
-use Rattle.ud_tree.proofs.WalkTellLemmas.{walk_then}
+use Rattle.std.proofs.Common.{refl}
+use Rattle.ud_tree.specs.WalkMessages.{no_input}
+use Rattle.ud_tree.proofs.WalkTellLemmas.{walk_none, walk_remark, walk_then, reported, stops_unread}
 use Rattle.ud_tree.proofs.run.add_input.Goals as goal
 
+pub returns-in_err-all-clause-finds : goal.returns-in_err-all-clause-finds
+returns-in_err-all-clause-finds g c = finds_none (g.T.Folder.history c.args.tree.now) c.args.walk.now.found.items
+
+pub returns-in_err-all-clause-told : goal.returns-in_err-all-clause-told
+returns-in_err-all-clause-told g c = walk_none (g.T.Folder.history c.args.tree.now) c.args.report.now (stream_of g.E.Write.contents c.args.err.now)
+
+pub returns-then-not-all-clause-finds : goal.returns-then-not-all-clause-finds
+returns-then-not-all-clause-finds g c = finds_none (g.T.Folder.history c.args.tree.now) c.args.walk.now.found.items
+
+pub returns-then-not-all-clause-told : goal.returns-then-not-all-clause-told
+returns-then-not-all-clause-told g c = walk_remark _ (g.T.Folder.history c.args.tree.now) (no_input refl) (reported c.fault.ensures.says c.fault.ensures.counted)
+
+pub returns-then-not-all-clause-stops : goal.returns-then-not-all-clause-stops
+returns-then-not-all-clause-stops g c = λ cut. stops_unread (g.T.Folder.history c.args.tree.now) (c.in_ok-all.ensures.cut c.if-not-all.true) (reported c.fault.ensures.says c.fault.ensures.counted)
+
 pub loop-name-init : goal.loop-name-init
-loop-name-init g c = (finds_none (g.T.Folder.history c.args.tree.now) c.args.walk.now.found.items, c.read_input-text.ensures (g.T.Folder.history c.args.tree.now))
+loop-name-init g c = (
+  finds_none (g.T.Folder.history c.args.tree.now) c.args.walk.now.found.items,
+  walk_none (g.T.Folder.history c.args.tree.now) c.args.report.now (stream_of g.E.Write.contents c.args.err.now),
+)
 
 pub loop-name-preserved : goal.loop-name-preserved
 loop-name-preserved g c = (finds_then c.loop-name.invariant.0 c.add.ensures.finds, walk_then c.loop-name.invariant.1 c.add.ensures.told)
@@ -18,4 +39,7 @@ pub returns-in_err-paths-clause-finds : goal.returns-in_err-paths-clause-finds
 returns-in_err-paths-clause-finds g c = finds_none (g.T.Folder.history c.args.tree.now) c.args.walk.now.found.items
 
 pub returns-in_err-paths-clause-told : goal.returns-in_err-paths-clause-told
-returns-in_err-paths-clause-told g c = c.read_input-text.ensures (g.T.Folder.history c.args.tree.now)
+returns-in_err-paths-clause-told g c = walk_none (g.T.Folder.history c.args.tree.now) c.args.report.now (stream_of g.E.Write.contents c.args.err.now)
+
+pub returns-clause-takes : goal.returns-clause-takes
+returns-clause-takes g c = λ all. (_, c.in_ok-all.ensures.all c.if-not-all.false)

@@ -1,17 +1,19 @@
 use Rattle.std.proofs.Common.{refl, sym}
 use Rattle.ud_tree.proofs.WalkLemmas.{walk_found}
-use Rattle.ud_tree.proofs.WalkTellLemmas.{stops_bad, stops_unmatched, some_files, some_unless}
+use Rattle.ud_tree.proofs.WalkTellLemmas.{stops_unmatched, some_files, some_unless}
 use Rattle.ud_tree.proofs.run.find_files.Goals.{else-is_empty-via-then-is_empty+else-not-job, else-is_empty-via-else-is_empty}
 use Rattle.ud_tree.proofs.run.find_files.Goals as goal
 
 pub returns-then-not-all-clause-stops : goal.returns-then-not-all-clause-stops
-returns-then-not-all-clause-stops g c = λ none. stops_bad none (c.in_ok-all.ensures.bad_path c.if-not-all.true) c.walk_all.ensures.told
+returns-then-not-all-clause-stops g c = λ none. c.in_ok-all.ensures.stops c.if-not-all.true none
 
 pub returns-then-not-job-clause-stops : goal.returns-then-not-job-clause-stops
-returns-then-not-job-clause-stops g c = λ none. stops_unmatched c.if-not-job.true refl c.walk_all.ensures.told c.line.ensures.tells
+returns-then-not-job-clause-stops g c = λ none. stops_unmatched _ c.if-not-job.true refl c.walk_all.ensures.told c.line.ensures.tells
 
 pub returns-clause-files : goal.returns-clause-files
 returns-clause-files g c = record {
+  text = (c.in_ok-all.ensures.takes c.if-not-all.false).0;
+  takes = (c.in_ok-all.ensures.takes c.if-not-all.false).1;
   is_walk = walk_found c.in_ok-files.files.items c.new-walk.ensures c.walk_all.ensures.finds c.in_ok-files.ensures;
   some = elim c.else-is_empty.branch [
     | else-is_empty-via-then-is_empty+else-not-job w ↦ some_unless _ _ w.if-not-job.false

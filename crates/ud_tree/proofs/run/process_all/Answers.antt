@@ -7,10 +7,10 @@ pub returns : goal.returns
 returns g c =
     ends c.args.job.now c.args.files.now c.write_lists-list_fault.result c.finish_output-out_fault.result c.args.walk_faults c.saturating_add-faults.result _ c.status.result
     c.process_files-counts.ensures c.write_lists-list_fault.ensures.writes
-    c.write_lists-list_fault.ensures.told c.finish_output-out_fault.ensures.sent c.finish_output-out_fault.ensures.failed
+    c.write_lists-list_fault.ensures.told c.finish_output-out_fault.ensures.sent c.finish_output-out_fault.ensures.failed c.finish_output-out_fault.ensures.flushed
     (stream_of g.E.Write.contents c.finish_output-out_fault.new.err)
     c.finish_output-out_fault.ensures.told c.report_end.ensures refl
     (omega (arith, c.saturating_add-faults.ensures, c.process_files-counts.type_inv))
     (faults_added c.write_lists-list_fault.result c.finish_output-out_fault.result c.args.walk_faults c.process_files-counts.result.faulty _ _ _ _ _
     c.from.ensures c.saturating_add.ensures c.from-2.ensures c.saturating_add-2.ensures c.saturating_add-faults.ensures)
-    c.status.ensures c.new-report.ensures.plain
+    c.failed.result c.failed.ensures c.status.ensures c.new-report.ensures.plain

@@ -4,10 +4,10 @@ use Rattle.ud_tree.proofs.WalkTellLemmas.{stops_full}
 use Rattle.ud_tree.proofs.run.run_tree.Goals as goal
 
 pub returns-in-Err : goal.returns-in-Err
-returns-in-Err g c = no_files c.args.job.now c.new-report.ensures.plain (stops_full refl c.in-Err.ensures.no_memory c.line.ensures.tells) refl
+returns-in-Err g c = no_files c.args.job.now _ c.new-report.ensures.plain (stops_full _ refl c.in-Err.ensures.no_memory c.line.ensures.tells) refl
 
 pub returns-in-Ok-None : goal.returns-in-Ok-None
-returns-in-Ok-None g c = no_files c.args.job.now c.new-report.ensures.plain (rw c.in-Ok-None.field-0-is at c.in-Ok-None.ensures.stops c.new-report.ensures.faultless) refl
+returns-in-Ok-None g c = no_files c.args.job.now _ c.new-report.ensures.plain (rw c.in-Ok-None.field-0-is at c.in-Ok-None.ensures.stops c.new-report.ensures.faultless) refl
 
 pub returns : goal.returns
 returns g c =
