@@ -5,6 +5,7 @@ pub mod VisibleLemmas
 pub mod MessageLemmas
 pub mod WalkLemmas
 pub mod WalkTellLemmas
+pub mod CoverLemmas
 pub mod TreeLaws
 pub mod StatusLaws
 pub mod RunLemmas

@@ -229,14 +229,14 @@ ends_counted {streams = streams} n m same h = record {
 
 -- The run processed all files that the walk found.
 pub ran_from : (job : Job) {given left : Source} {old mid new : Moment} {r r' : Report} {found files : List Found} {status : ℕ} (in_walk : ℕ) → files ≡ found → (job.is_terminal ≡ false → IsPlain r) → r.faulty ≡ 0 →
-    in_walk ≡ r'.faulty → FindsFiles job.arguments.now.from_input given left old.calls mid.calls found r r' old.err mid.err → mid.out ≡ old.out →
+    in_walk ≡ r'.faulty → FindsFiles job.arguments.now given left old.calls mid.calls found r r' old.err mid.err → mid.out ≡ old.out →
     EndsWriting job in_walk mid files new status → RunsTree job given left old new status
 ran_from job {old = old} {mid = mid} {new = new} {r = r} {r' = r'} {files = files} in_walk is plain none number w same h = record {
   messages = w.reports.messages;
   shown = h.shown;
   told = h.told;
   last = h.last;
-  is_run = ran w.text mid.calls files w.takes (subst (λ (fs : List Found). IsWalk old.calls mid.calls fs) (sym is) w.is_walk) w.reports.walk
+  is_run = ran w.paths.text mid.calls files w.paths.takes w.paths.misses (subst (λ (fs : List Found). IsWalk old.calls mid.calls fs) (sym is) w.is_walk) w.reports.walk
       (subst (λ (fs : List Found). job.arguments.now.from_input ≡ false → 0 < length fs) (sym is) w.some)
       (ends_counted in_walk (length w.reports.messages) (walk_counted r.faulty r'.faulty in_walk (length w.reports.messages) none number w.reports.counted) h.ends);
   sent = subst (λ (s : Stream). Sends s new.out h.shown) same h.sent;

@@ -74,7 +74,7 @@ reads_by args Names is other h = lists_touch h
 
 pub run_reads : (args : Arguments) (given left : Source) (old new : List Call) (messages : List (List ℕ)) (streams : StreamEnds) (shown told last : List ℕ) (status : ℕ) → ¬ (args.task ≡ Replace) → IsRun args given left old new messages streams shown told last status → EachCall TouchesNothing old new
 run_reads args given left old new messages streams _ _ _ _ other (no_run h stops) = each_at h.are (walk_touches h.calls old)
-run_reads args given left old new messages streams shown told last status other (ran text mid files takes w t some h) = each_then (each_at w.are (walk_touches w.calls old)) (reads_by args args.task refl other h.each)
+run_reads args given left old new messages streams shown told last status other (ran text mid files takes misses w t some h) = each_then (each_at w.are (walk_touches w.calls old)) (reads_by args args.task refl other h.each)
 
 -- Replacing a file touches no file but the new one, up to the rename.
 replace_touches : {o : Options} {plan : PlanState} {name : List ℕ} {old new : List Call} {update : Result Update ReplaceError} → IsPlanned plan o →
@@ -102,7 +102,7 @@ replaces_by args Names p into h = nothing_touched (lists_touch h)
 pub run_renames : (o : Options) (args : Arguments) (given left : Source) (old new : List Call) (messages : List (List ℕ)) (streams : StreamEnds) (shown told last : List ℕ) (status : ℕ) → IsPlanned args.plan o → args.write_into ≡ false →
     IsRun args given left old new messages streams shown told last status → EachCall (TouchesFreshOrNone o) old new
 run_renames o args given left old new messages streams _ _ _ _ p into (no_run h stops) = nothing_touched (each_at h.are (walk_touches h.calls old))
-run_renames o args given left old new messages streams shown told last status p into (ran text mid files takes w m some h) =
+run_renames o args given left old new messages streams shown told last status p into (ran text mid files takes misses w m some h) =
     each_then (nothing_touched (each_at w.are (walk_touches w.calls old))) (replaces_by args args.task p into h.each)
 
 -- Calls that touch nothing leave each file as it is.
@@ -252,7 +252,7 @@ pub run_old_or_new : (o : Options) (args : Arguments) (first : Files) (given lef
     IsRun args given left old new messages streams shown told last status → AreTrue first new → EachCall (λ (c : Call) (earlier : List Call). OldOrOutput o first old (c ∷ earlier)) old new
 run_old_or_new o args first given left old new messages streams _ _ _ _ p into (no_run h stops) t =
     (moments_still (moments_none o first old) (each_at h.are (walk_touches h.calls old))).each
-run_old_or_new o args first given left old new messages streams shown told last status p into (ran text mid files takes w m some h) t =
+run_old_or_new o args first given left old new messages streams shown told last status p into (ran text mid files takes misses w m some h) t =
     moments_by args args.task p into (apart_names files w.ascend) t
     (moments_still (moments_none o first old) (each_at w.are (walk_touches w.calls old))) h.each
 
@@ -266,7 +266,7 @@ each_shows {o = o} p (then_file h k t) = then_file (each_shows p h) (k.shows o p
 pub run_shows : (o : Options) (run : Run) → IsPlanned run.args.plan o → run.args.task ≡ Diff → (shown told last : List ℕ) (status : ℕ) → run.shown ≡ shown →
     IsRun run.args run.given run.left run.old run.new run.messages run.streams shown told last status → ShowsDiffs o run
 run_shows o run p diff _ _ _ _ e (no_run h stops) = no_diff (record { calls = h.calls; are = h.are }) e
-run_shows o run p diff shown told last status e (ran text mid files takes w m some h) =
+run_shows o run p diff shown told last status e (ran text mid files takes misses w m some h) =
     diffs mid files h.results h.listed w
     (each_shows p (subst (λ (t : Task). EachFile (DoesBy t run.args) mid (names_of files) run.new h.results) diff h.each))
     (e ∙ h.shown_is) (h.is_wanted (λ names. absurd cc))

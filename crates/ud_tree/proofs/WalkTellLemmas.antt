@@ -1,5 +1,5 @@
 -- The messages of parts of a walk, one after another.
-use Rattle.std.proofs.Common.{◌≡◌, ◌⊎◌, inl, inr, ⊎_elim, ◌==◌, true≢false, ℕ, suc, ◌+◌, ◌<◌, ◌≤◌, ◌-◌, ◌^◌, min, List, [], ◌∷◌, ◌++◌, length, take, map, get_or, Bool, true, false, refl, sym, ap, ◌∙◌, subst, arith, append_assoc, append-nil, codes, length-append}
+use Rattle.std.proofs.Common.{String, Global, ◌≡◌, ◌⊎◌, inl, inr, ⊎_elim, ◌==◌, true≢false, ℕ, suc, ◌+◌, ◌<◌, ◌≤◌, ◌-◌, ◌^◌, min, List, [], ◌∷◌, ◌++◌, length, take, map, get_or, Bool, true, false, refl, sym, ap, ◌∙◌, subst, arith, append_assoc, append-nil, codes, length-append}
 use Rattle.std.proofs.lemmas.Bool.{cases_lt}
 use Rattle.std.proofs.lemmas.List.{map-append, get_or-map, length-map}
 use Rattle.std.proofs.lemmas.Grind.{flat_map-append}
@@ -14,14 +14,21 @@ use Rattle.ud_replace.specs.Calls.{Call, walked, WalkCall, met, followed, listed
 use Rattle.ud_tree.specs.declared.report.Report.{Report}
 use Rattle.ud_tree.specs.Paths.{folder_len, fresh_end, fresh_name}
 use Rattle.ud_tree.specs.Messages.{locked_line, fault_line, IsFailureOf, no_reason, with_reason, Tells, ReportsOne, ReportsFailure}
-use Rattle.ud_tree.specs.Streams.{Stream, Source}
+use Rattle.ud_tree.specs.Streams.{Stream, Source, takes_all, takes_none}
+use Rattle.std.specs.Prelude.{string_bytes}
+use Rattle.ud_tree.specs.declared.arguments.Arguments.{Arguments}
+use Rattle.ud_tree.specs.Covering.{CoversPaths, misses_no_path, misses_no_input}
 use Rattle.ud_tree.specs.Summaries.{line_of}
-use Rattle.ud_tree.specs.WalkMessages.{is_refused, is_missing, is_unknown, is_unread, IsRemark, is_link, is_other, is_no_text, no_input, AreTold, none_told, then_answered, then_refused, then_vanished, then_remark, joined, WasListed, ReportsRefusal, ReportsWalk, ReportsNames, VisitTells, is_gone, is_told, TellsGiven, is_quiet, is_irregular, input_message, no_memory, bad_input, bad_path, no_match, StopsWalk}
+use Rattle.ud_tree.specs.WalkMessages.{is_refused, is_missing, is_unknown, is_unread, IsRemark, is_link, is_other, is_no_text, no_input, AreTold, none_told, then_answered, then_refused, then_vanished, then_remark, joined, WasListed, ReportsRefusal, ReportsWalk, ReportsNames, VisitTells, is_gone, is_told, TellsGiven, is_quiet, is_irregular, input_message, no_memory, bad_input, bad_path, no_match, StopsWalk, TakesEach, TakesPaths}
 use Rattle.ud_tree.proofs.MessageLemmas.{tells_kept, tells_then}
 
 -- One fault more is counted, unless the number is too large.
 pub one_more : (a b c : ℕ) → b ≡ min (a + 1) (2 ^ 64 - 1) → c ≡ b → a + 1 < 2 ^ 64 → c ≡ a + 1
 one_more a b c is same small = omega arith
+
+-- There is a fault then.
+pub some_more : (a b c : ℕ) → b ≡ min (a + 1) (2 ^ 64 - 1) → c ≡ b → 0 < c
+some_more a b c is same = omega arith
 
 -- A line was written once one fault more was counted.
 line_reported : {a b c : Report} {s t : Stream} {x : List ℕ} (name text : List ℕ) → x ≡ name ++ codes ": " ++ text → b.is_terminal ≡ a.is_terminal → b.is_shown ≡ a.is_shown →
@@ -29,11 +36,12 @@ line_reported : {a b c : Report} {s t : Stream} {x : List ℕ} (name text : List
 line_reported {a = a} {b = b} {c = c} {s = s} {t = t} name text is same hidden more faults h = record {
   tells = subst (λ (y : List ℕ). Tells a c s t (line_of y)) is (tells_then (tells_kept s same hidden) h);
   counted = one_more a.faulty b.faulty c.faulty more faults;
+  some = some_more a.faulty b.faulty c.faulty more faults;
 }
 
 -- A message was written, and is counted.
-pub reported : {a b : Report} {s t : Stream} {message : List ℕ} → Tells a b s t message → (a.faulty + 1 < 2 ^ 64 → b.faulty ≡ a.faulty + 1) → ReportsOne message a b s t
-reported h more = record { tells = h; counted = more }
+pub reported : {a b : Report} {s t : Stream} {message : List ℕ} → Tells a b s t message → (a.faulty + 1 < 2 ^ 64 → b.faulty ≡ a.faulty + 1) → 0 < b.faulty → ReportsOne message a b s t
+reported h more some = record { tells = h; counted = more; some = some }
 
 -- The line of a fault was written, from its parts.
 pub fault_reported : {a b c : Report} {s t : Stream} (name text : List ℕ) → b.is_terminal ≡ a.is_terminal → b.is_shown ≡ a.is_shown → b.faulty ≡ min (a.faulty + 1) (2 ^ 64 - 1) →
@@ -399,3 +407,13 @@ some_files from_input b n len counts is test args = by_zero (cases_lt 0 n)
 -- Nothing is claimed of paths of the input.
 pub some_unless : (from_input : Bool) (n : ℕ) → from_input ≡ true → from_input ≡ false → 0 < n
 some_unless from_input n input args = absurd (true≢false (sym input ∙ args))
+
+-- Each path of the input was given.
+pub paths_given : (args : Arguments) {given left : Source} {calls calls' : List Call} → args.from_input ≡ true → TakesEach given left calls calls' → TakesPaths args given left calls calls'
+paths_given args input h = record { text = h.text; takes = takes_all input h.reads; misses = misses_no_input input h.covers }
+
+-- The paths of the command line are covered, and nothing was read.
+pub paths_covered : (args : Arguments) {given : Source} {paths : List (String Global)} {calls calls' : List Call} → args.from_input ≡ false → CoversPaths (map (λ p. string_bytes p) paths) calls calls' → paths ≡ args.paths.items →
+    TakesPaths args given given calls calls'
+paths_covered args {calls = calls} {calls' = calls'} none h are =
+    record { text = []; takes = takes_none none refl; misses = misses_no_path none (subst (λ ps. CoversPaths (map (λ p. string_bytes p) ps) calls calls') are h) }

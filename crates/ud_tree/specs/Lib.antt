@@ -5,6 +5,8 @@ pub mod Fates
 pub mod Runs
 pub mod Changes
 pub mod Walks
+pub mod Covering
+pub mod CoverParts
 pub mod TreeMoments
 pub mod TreeRuns
 pub mod TreeDiffs

@@ -111,6 +111,7 @@ pub record Tells (old new : Report) (err err' : Stream) (bytes : List ℕ) : Typ
 pub record ReportsOne (message : List ℕ) (old new : Report) (err err' : Stream) : Type 0 where
   pub tells : Tells old new err err' message
   pub counted : old.faulty + 1 < 2 ^ 64 → new.faulty ≡ old.faulty + 1
+  pub some : 0 < new.faulty
 
 -- `ReportsFailure name text old new err err'`: the message of a failed call for the path `name` was
 -- written and counted.

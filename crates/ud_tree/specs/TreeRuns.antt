@@ -32,6 +32,7 @@ use Rattle.ud_tree.specs.Messages.{output_messages}
 use Rattle.ud_tree.specs.Streams.{Sends, StreamEnds, ends_of, Source, TakesInput, ReadsWhole}
 use Rattle.ud_tree.specs.Summaries.{last_lines, EndsWith}
 use Rattle.ud_tree.specs.Writing.{Moment, WritesAll}
+use Rattle.ud_tree.specs.Covering.{MissesNone}
 use Rattle.ud_tree.specs.Walks.{IsWalk}
 use Rattle.ud_tree.specs.WalkMessages.{WalkTells, joined, Stops}
 use Rattle.ud_tree.specs.Statuses.{tree_status}
@@ -99,8 +100,9 @@ pub record EndsWriting (job : Job) (in_walk : ℕ) (before : Moment) (files : Li
 
 -- `IsRun args given left old new messages streams shown told last status`: only calls of a walk
 -- were made, which have these messages. There is a reason why no file follows, nothing is shown,
--- and the status is 2. Or the input was read whole, if paths come from it. The walk found some
--- files, at least one if paths are those of the command line, and the run ends after them.
+-- and the status is 2. Or the input was read whole, if paths come from it. The walk missed none of
+-- the paths, and of the names below them. It found some files, at least one if paths are those of
+-- the command line, and the run ends after them.
 pub data IsRun (args : Arguments) (given left : Source) (old new : List Call)
     (messages : List (List ℕ)) (streams : StreamEnds) :
     List ℕ → List ℕ → List ℕ → ℕ → Type 0 where
@@ -108,7 +110,8 @@ pub data IsRun (args : Arguments) (given left : Source) (old new : List Call)
       Stops args.from_input left messages told →
       IsRun args given left old new messages streams [] told [] 2
   ran : {shown told last : List ℕ} {status : ℕ} (text : List ℕ) (mid : List Call)
-      (files : List Found) → TakesInput args.from_input given left text → IsWalk old mid files →
+      (files : List Found) → TakesInput args.from_input given left text →
+      MissesNone args text old mid → IsWalk old mid files →
       WalkTells old mid messages → (args.from_input ≡ false → 0 < length files) →
       Ends args (length messages) streams mid (names_of files) new shown told last status →
       IsRun args given left old new messages streams shown told last status

@@ -15,7 +15,9 @@
 --   input_message                the message if the input couldn't be read
 --   Stops from_input left messages told   why no file follows a walk, and what is written of that
 --   StopsWalk from_input left calls calls' old new err err'   a walk that no file follows
---   FindsFiles from_input given left calls calls' files old new err err'   a walk that found files
+--   TakesEach given left calls calls'   the input was read, and each of its paths was given
+--   TakesPaths args given left calls calls'   so it was, or the paths of the command line are taken
+--   FindsFiles args given left calls calls' files old new err err'   a walk that found files
 --
 -- `old` and `new` are the report before and after, or the calls, the newest first. `err` and `err'`
 -- are the error stream, and `given` and `left` are what the input has before and after.
@@ -29,7 +31,9 @@ use Rattle.ud_replace.specs.Calls.{Call, walked, WalkCall, met, followed, listed
 use Rattle.ud_tree.specs.declared.report.Report.{Report}
 use Rattle.ud_tree.specs.declared.walk.Found.{Found}
 use Rattle.ud_tree.specs.Messages.{fault_line, IsFailureOf, Tells, ReportsOne}
-use Rattle.ud_tree.specs.Streams.{Stream, Source, TakesInput}
+use Rattle.ud_tree.specs.Streams.{Stream, Source, TakesInput, ReadsWhole}
+use Rattle.ud_tree.specs.declared.arguments.Arguments.{Arguments}
+use Rattle.ud_tree.specs.Covering.{CoversInput, paths_of, MissesNone}
 use Rattle.ud_tree.specs.Summaries.{line_of}
 use Rattle.ud_tree.specs.Walks.{IsWalk}
 
@@ -174,13 +178,26 @@ pub record StopsWalk (from_input : Bool) (left : Source) (calls calls' : List Ca
   pub stops : Stops from_input left messages told
   pub tells : Tells old new err err' (joined messages ++ told)
 
--- `FindsFiles from_input given left calls calls' files old new err err'`: the input was read whole,
--- if paths come from it. Since `calls`, a whole walk found `files`, at least one if the paths are
--- those of the command line. Its messages were written and counted.
-pub record FindsFiles (from_input : Bool) (given left : Source) (calls calls' : List Call)
-    (files : List Found) (old new : Report) (err err' : Stream) : Type 0 where
+-- `TakesEach given left calls calls'`: the input was read whole, and each of its paths was given.
+pub record TakesEach (given left : Source) (calls calls' : List Call) : Type 0 where
   pub text : List ℕ
-  pub takes : TakesInput from_input given left text
+  pub reads : ReadsWhole given left text
+  pub covers : CoversInput (paths_of text) calls calls'
+
+-- `TakesPaths args given left calls calls'`: the input was read whole, if paths come from it. Since
+-- `calls`, a whole walk missed none of the paths.
+pub record TakesPaths (args : Arguments) (given left : Source) (calls calls' : List Call) :
+    Type 0 where
+  pub text : List ℕ
+  pub takes : TakesInput args.from_input given left text
+  pub misses : MissesNone args text calls calls'
+
+-- `FindsFiles args given left calls calls' files old new err err'`: the paths are taken. Since
+-- `calls`, a whole walk found `files`, at least one if the paths are those of the command line. Its
+-- messages were written and counted.
+pub record FindsFiles (args : Arguments) (given left : Source) (calls calls' : List Call)
+    (files : List Found) (old new : Report) (err err' : Stream) : Type 0 where
+  pub paths : TakesPaths args given left calls calls'
   pub is_walk : IsWalk calls calls' files
-  pub some : from_input ≡ false → 0 < length files
+  pub some : args.from_input ≡ false → 0 < length files
   pub reports : ReportsWalk calls calls' old new err err'

@@ -1,6 +1,7 @@
 //! Paths: their last names, and names for new files.
 
-ghost use Rattle.std.specs.Prelude.{◌≡◌, ◌≤◌, length, take, IfOk};
+ghost use Rattle.std.specs.Prelude.{◌≡◌, ◌≤◌, length, take, IfOk, string_bytes};
+ghost use Rattle.ud_tree.specs.Covering.{IsFolderPath};
 ghost use Rattle.ud_tree.specs.Paths.{folder_len, fresh_end, fresh_name, last_name};
 
 use std::alloc::{AllocError, Global};
@@ -57,6 +58,21 @@ pub(crate) fn folder(path: &[u8]) -> &[u8]
     ensures { result.now ≡ take (folder_len path.now) path.now }
 {
     &path[..folder_len(path)]
+}
+
+/// Returns the path of a folder with a slash at its end.
+///
+/// # Errors
+/// Fails if memory runs out.
+pub(crate) fn folder_path(alloc: Global, path: &str) -> Result<String, AllocError>
+    ensures { IfOk result (λ folder. IsFolderPath path.now (string_bytes folder)) }
+{
+    let mut folder = String::from_str(alloc, path)?;
+    if path.ends_with('/') {
+        return Ok(folder);
+    }
+    folder.push('/')?;
+    Ok(folder)
 }
 
 /// Returns the name of a new file in the same folder. It is always the same one, so that two runs

@@ -1,5 +1,8 @@
 //! The patterns by which files are chosen.
 
+ghost use Rattle.std.specs.Prelude.{◌≡◌, true};
+ghost use Rattle.ud_tree.specs.Covering.{IsVersioned};
+
 use crate::paths::is_fresh;
 use crate::pattern::matches;
 
@@ -41,6 +44,8 @@ pub(crate) fn chooses(patterns: &[String], name: &[u8]) -> bool {
 }
 
 /// Returns whether a folder of this name is left out: those of version control.
-pub(crate) fn is_left_out(name: &[u8]) -> bool {
+pub(crate) fn is_left_out(name: &[u8]) -> bool
+    ensures { result ≡ true → IsVersioned name.now }
+{
     matches!(name, b".git" | b".hg" | b".svn")
 }

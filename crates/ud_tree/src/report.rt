@@ -222,6 +222,7 @@ impl Report {
             (stream_of E.contents err.new) (fault_line path.now text.now) }
         ensures counted { self.old.faulty + 1 < 2 ^ 64 →
             self.new.faulty ≡ self.old.faulty + 1 }
+        ensures some { 0 < self.new.faulty }
     {
         self.faulty = self.faulty.saturating_add(1);
         self.line(err, &[path, b": ", text]);

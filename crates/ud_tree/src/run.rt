@@ -1,15 +1,18 @@
 //! The run over all files of a tree.
 
-ghost use Rattle.std.specs.Prelude.{◌≡◌, [], List, ℕ, true, false, IfOk, IfSome, IfNone, OnErr};
+ghost use Rattle.std.specs.Prelude.{◌≡◌, ◌++◌, [], map, true, false, IfOk, IfSome, IfNone};
+ghost use Rattle.std.specs.Prelude.{OnErr, OnOk};
 ghost use Rattle.ud_model.specs.answer.Answer.{status_by};
 ghost use Rattle.ud_tree.specs.Messages.{TellsIf, list_message, write_message};
 ghost use Rattle.ud_tree.specs.Statuses.{tree_status};
-ghost use Rattle.ud_tree.specs.Streams.{Sends, stream_of, source_of, ReadsWhole, TakesInput};
+ghost use Rattle.ud_tree.specs.Covering.{own_path, paths_of};
+ghost use Rattle.ud_tree.specs.Streams.{Sends, stream_of, source_of, ReadsWhole};
 ghost use Rattle.ud_tree.specs.Summaries.{Says, TellsEnd, changes_line, summary};
 ghost use Rattle.ud_tree.specs.Summaries.{files_text, hidden_text};
 ghost use Rattle.ud_tree.specs.Summaries.{remaining_line, remaining_text};
 ghost use Rattle.ud_tree.specs.TreeRuns.{EndsWriting, RunsTree};
 ghost use Rattle.ud_tree.specs.WalkMessages.{FindsFiles, ReportsWalk, StopsWalk};
+ghost use Rattle.ud_tree.specs.WalkMessages.{TakesEach, TakesPaths};
 ghost use Rattle.ud_tree.specs.Walks.{Finds};
 ghost use Rattle.ud_tree.specs.Writing.{WritesList, moment};
 
@@ -82,7 +85,7 @@ fn find_files<T: Tree, R: Read, E: Write>(
     err: &mut Watched<E>,
 ) -> Result<Option<Vec<Found>>, AllocError>
     ensures files { IfOk result (λ r. IfSome r (λ files.
-        FindsFiles job.now.arguments.now.from_input
+        FindsFiles job.now.arguments.now
         (source_of R.remaining input.old) (source_of R.remaining input.new)
         (T.history tree.old) (T.history tree.new)
         files.items report.old report.new (stream_of E.contents err.old)
@@ -122,9 +125,9 @@ fn walk_all<T: Tree, R: Read, E: Write>(
         walk.new.found.items }
     ensures told { ReportsWalk (T.history tree.old) (T.history tree.new) report.old report.new
         (stream_of E.contents err.old) (stream_of E.contents err.new) }
-    ensures takes { IfOk result (λ all. all ≡ true → (text : List ℕ) ×
-        TakesInput job.now.arguments.now.from_input (source_of R.remaining input.old)
-        (source_of R.remaining input.new) text) }
+    ensures takes { IfOk result (λ all. all ≡ true → TakesPaths job.now.arguments.now
+        (source_of R.remaining input.old) (source_of R.remaining input.new)
+        (T.history tree.old) (T.history tree.new)) }
     ensures stops { IfOk result (λ all. all ≡ false → report.old.faulty ≡ 0 →
         StopsWalk job.now.arguments.now.from_input (source_of R.remaining input.new)
         (T.history tree.old) (T.history tree.new) report.old report.new
@@ -157,8 +160,9 @@ fn add_input<T: Tree, R: Read, E: Write>(
         walk.new.found.items }
     ensures told { ReportsWalk (T.history tree.old) (T.history tree.new) report.old report.new
         (stream_of E.contents err.old) (stream_of E.contents err.new) }
-    ensures takes { IfOk result (λ all. all ≡ true → (text : List ℕ) ×
-        ReadsWhole (source_of R.remaining input.old) (source_of R.remaining input.new) text) }
+    ensures takes { IfOk result (λ all. all ≡ true → TakesEach
+        (source_of R.remaining input.old) (source_of R.remaining input.new)
+        (T.history tree.old) (T.history tree.new)) }
     ensures stops { IfOk result (λ all. all ≡ false →
         StopsWalk true (source_of R.remaining input.new) (T.history tree.old)
         (T.history tree.new) report.old report.new
@@ -204,17 +208,34 @@ fn read_input<R: Read>(input: &mut Watched<R>, text: &mut Vec<u8>) -> Result<boo
     unreachable!()
 }
 
-/// Returns the paths of a text, each of which ends in a NUL.
-fn split_paths(alloc: Global, text: &[u8]) -> Result<Vec<Vec<u8>>, AllocError> {
+/// Returns the paths of a text, each of which ends in a NUL. The last one may end the text.
+fn split_paths(alloc: Global, text: &[u8]) -> Result<Vec<Vec<u8>>, AllocError>
+    ensures { IfOk result (λ paths. map (λ p. p.items) paths.items ≡ paths_of text.now) }
+{
     let mut paths = Vec::new(alloc);
-    for path in text.split(|byte| *byte == 0) {
-        if !path.is_empty() {
-            let mut owned = Vec::new(alloc);
-            owned.extend_from_slice(path)?;
-            paths.push(owned).map_err(AllocError::from)?;
+    let mut path = Vec::new(alloc);
+    for byte in text {
+        if *byte == 0 {
+            add_path(&mut paths, path)?;
+            path = Vec::new(alloc);
+        } else {
+            path.push(*byte)?;
         }
     }
+    add_path(&mut paths, path)?;
     Ok(paths)
+}
+
+/// Adds a path, unless it is empty.
+fn add_path(paths: &mut Vec<Vec<u8>>, path: Vec<u8>) -> Result<(), AllocError>
+    ensures { OnOk result (map (λ p. p.items) paths.new.items ≡
+        map (λ p. p.items) paths.old.items ++ own_path path.items) }
+{
+    if path.is_empty() {
+        return Ok(());
+    }
+    paths.push(path)?;
+    Ok(())
 }
 
 /// Processes all files in order, and writes the counts. Returns the exit status. `walk_faults` is

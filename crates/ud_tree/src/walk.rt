@@ -1,12 +1,16 @@
 //! The walk over a tree: the files below some paths, each once, in the order of the paths' bytes.
 
-ghost use Rattle.std.specs.Prelude.{◌≡◌, ◌⊎◌, ◌++◌, [], IfOk, OnOk, map, true};
+ghost use Rattle.std.specs.Prelude.{◌≡◌, ◌⊎◌, ◌++◌, ◌∷◌, [], IfOk, OnOk, Bool, map};
+ghost use Rattle.std.specs.Prelude.{string_bytes, true};
+ghost use Rattle.ud_replace.specs.Calls.{walked, listed};
 ghost use Rattle.std.specs.List.{All, AllPairs, Contains};
+ghost use Rattle.ud_tree.specs.CoverParts.{AddsFolder, Enters, Exhausts, Starts, TakesOne};
+ghost use Rattle.ud_tree.specs.CoverParts.{VisitsOne, Waits};
 ghost use Rattle.ud_tree.specs.Streams.{stream_of};
 ghost use Rattle.ud_tree.specs.WalkMessages.{ReportsNames, ReportsWalk, TellsGiven, VisitTells};
 ghost use Rattle.ud_tree.specs.Walks.{Adds, AddsNode, ArePicked, Finds, IsBefore, IsFileList};
 
-use crate::paths::{escaped, last_name};
+use crate::paths::{escaped, folder_path, last_name};
 use crate::patterns::{chooses, is_left_out};
 use crate::report::Report;
 use crate::tree::Tree;
@@ -50,7 +54,8 @@ pub(crate) struct Walk<'w> {
 impl<'w> Walk<'w> {
     /// Returns a walk before its first path.
     pub(crate) fn new(alloc: Global, patterns: &'w [String]) -> Walk<'w>
-        ensures { result.found.items ≡ [] }
+        ensures found { result.found.items ≡ [] }
+        ensures folders { result.folders.items ≡ [] }
     {
         Walk {
             alloc,
@@ -75,6 +80,9 @@ impl<'w> Walk<'w> {
             self.new.found.items }
         ensures told { ReportsWalk (T.history tree.old) (T.history tree.new) report.old report.new
             (stream_of E.contents err.old) (stream_of E.contents err.new) }
+        ensures starts { OnOk result (Starts path.now (T.history tree.old) (T.history tree.new)
+            (map (λ d. string_bytes d) self.old.folders.items)
+            (map (λ d. string_bytes d) self.new.folders.items) report.old report.new) }
     {
         let node = match tree.node(path) {
             Lookup::Present(node) => node,
@@ -117,6 +125,7 @@ impl<'w> Walk<'w> {
             self.new.found.items }
         ensures told { ReportsWalk (T.history tree.old) (T.history tree.new) report.old report.new
             (stream_of E.contents err.old) (stream_of E.contents err.new) }
+        ensures takes { OnOk result (TakesOne name.now (T.history tree.old) (T.history tree.new)) }
     {
         let Ok(path) = std::str::from_utf8(name) else {
             report.fault(err, escaped(self.alloc, name)?.as_slice(), NOT_UTF8);
@@ -159,18 +168,20 @@ impl<'w> Walk<'w> {
 
     /// Adds a folder.
     fn add_folder(&mut self, path: &str) -> Result<(), AllocError>
-        ensures { self.new.found.items ≡ self.old.found.items }
+        ensures found { self.new.found.items ≡ self.old.found.items }
+        ensures waits { OnOk result (Waits path.now
+            (map (λ d. string_bytes d) self.old.folders.items)
+            (map (λ d. string_bytes d) self.new.folders.items)) }
     {
-        let mut folder = String::from_str(self.alloc, path)?;
-        if !path.ends_with('/') {
-            folder.push('/')?;
-        }
-        self.folders.push(folder).map_err(AllocError::from)
+        let folder = folder_path(self.alloc, path)?;
+        self.folders.push(folder)?;
+        Ok(())
     }
 
     /// Adds a file, if its name is chosen.
     fn add_file(&mut self, path: &str, name: &[u8], id: FileId) -> Result<(), AllocError>
-        ensures { Adds self.old.found.items path.now id self.new.found.items }
+        ensures adds { Adds self.old.found.items path.now id self.new.found.items }
+        ensures folders { self.new.folders.items ≡ self.old.folders.items }
     {
         if chooses(self.patterns, name) {
             self.push_file(path, id)
@@ -181,12 +192,12 @@ impl<'w> Walk<'w> {
 
     /// Adds a file.
     fn push_file(&mut self, path: &str, id: FileId) -> Result<(), AllocError>
-        ensures { Adds self.old.found.items path.now id self.new.found.items }
+        ensures adds { Adds self.old.found.items path.now id self.new.found.items }
+        ensures folders { self.new.folders.items ≡ self.old.folders.items }
     {
         let path = String::from_str(self.alloc, path)?;
-        self.found
-            .push(Found { path, id })
-            .map_err(AllocError::from)
+        self.found.push(Found { path, id })?;
+        Ok(())
     }
 
     /// Adds what has a name in a folder. A name that vanished since the folder was listed is left
@@ -203,6 +214,10 @@ impl<'w> Walk<'w> {
             self.new.found.items }
         ensures told { VisitTells (folder.now ++ name.now) (T.history tree.old) (T.history tree.new)
             report.old report.new (stream_of E.contents err.old) (stream_of E.contents err.new) }
+        ensures visits { OnOk result (VisitsOne folder.now name.now
+            (T.history tree.old) (T.history tree.new)
+            (map (λ d. string_bytes d) self.old.folders.items)
+            (map (λ d. string_bytes d) self.new.folders.items)) }
     {
         let mut path = String::from_str(self.alloc, folder)?;
         let Ok(text) = std::str::from_utf8(name) else {
@@ -224,7 +239,10 @@ impl<'w> Walk<'w> {
 
     /// Adds a file or a folder. Others are left out.
     fn add_node(&mut self, path: &str, name: &[u8], node: Node) -> Result<(), AllocError>
-        ensures { AddsNode self.old.found.items path.now node self.new.found.items }
+        ensures adds { AddsNode self.old.found.items path.now node self.new.found.items }
+        ensures waits { OnOk result (AddsFolder path.now name.now node
+            (map (λ d. string_bytes d) self.old.folders.items)
+            (map (λ d. string_bytes d) self.new.folders.items)) }
     {
         match node.kind {
             NodeKind::File => self.add_file(path, name, node.id),
@@ -245,6 +263,9 @@ impl<'w> Walk<'w> {
             self.new.found.items }
         ensures told { ReportsWalk (T.history tree.old) (T.history tree.new) report.old report.new
             (stream_of E.contents err.old) (stream_of E.contents err.new) }
+        ensures enters { OnOk result (Enters folder.now (T.history tree.old) (T.history tree.new)
+            (map (λ d. string_bytes d) self.old.folders.items)
+            (map (λ d. string_bytes d) self.new.folders.items)) }
     {
         let names = self.list_folder(tree, report, err, folder);
         for name in names.as_slice() {
@@ -266,6 +287,9 @@ impl<'w> Walk<'w> {
         ensures told { ReportsNames folder.now (map (λ n. n.items) result.items)
             (T.history tree.old) (T.history tree.new) report.old report.new
             (stream_of E.contents err.old) (stream_of E.contents err.new) }
+        ensures lists { (answer : Bool) × (T.history tree.new ≡
+            walked (listed folder.now (map (λ n. n.items) result.items) answer)
+            ∷ T.history tree.old) }
     {
         let mut names = Vec::new(self.alloc);
         let listed = tree.list(folder, &mut names);
@@ -290,8 +314,11 @@ impl<'w> Walk<'w> {
             self.new.found.items }
         ensures told { ReportsWalk (T.history tree.old) (T.history tree.new) report.old report.new
             (stream_of E.contents err.old) (stream_of E.contents err.new) }
+        ensures exhausts { OnOk result (Exhausts (T.history tree.old) (T.history tree.new)
+            (map (λ d. string_bytes d) self.old.folders.items)
+            (map (λ d. string_bytes d) self.new.folders.items)) }
     {
-        'folders: for _ in 0..u64::MAX {
+        'folders: for _entered in 0..u64::MAX {
             let Some(folder) = self.folders.pop() else {
                 break;
             };

@@ -12,9 +12,8 @@ returns-then-not-job-clause-stops g c = λ none. stops_unmatched _ c.if-not-job.
 
 pub returns-clause-files : goal.returns-clause-files
 returns-clause-files g c = record {
-  text = (c.in_ok-all.ensures.takes c.if-not-all.false).0;
-  takes = (c.in_ok-all.ensures.takes c.if-not-all.false).1;
-  is_walk = walk_found c.in_ok-files.files.items c.new-walk.ensures c.walk_all.ensures.finds c.in_ok-files.ensures;
+  paths = c.in_ok-all.ensures.takes c.if-not-all.false;
+  is_walk = walk_found c.in_ok-files.files.items c.new-walk.ensures.found c.walk_all.ensures.finds c.in_ok-files.ensures;
   some = elim c.else-is_empty.branch [
     | else-is_empty-via-then-is_empty+else-not-job w ↦ some_unless _ _ w.if-not-job.false
     | else-is_empty-via-else-is_empty w ↦ some_files _ _ _ _ (sym c.in_ok-files.files.ok.0) c.is_empty.ensures w.if-is_empty.false

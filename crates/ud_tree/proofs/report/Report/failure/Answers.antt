@@ -3,10 +3,10 @@ use Rattle.ud_tree.proofs.WalkTellLemmas.{failure_alone, failure_reported, repor
 use Rattle.ud_tree.proofs.report.Report.failure.Goals as goal
 
 pub returns-in-None : goal.returns-in-None
-returns-in-None g c = failure_alone c.args.path.now c.args.text.now (reported c.fault.ensures.says c.fault.ensures.counted)
+returns-in-None g c = failure_alone c.args.path.now c.args.text.now (reported c.fault.ensures.says c.fault.ensures.counted c.fault.ensures.some)
 
 pub returns-in-Err : goal.returns-in-Err
-returns-in-Err g c = failure_alone c.args.path.now c.args.text.now (reported c.fault-in-Err.ensures.says c.fault-in-Err.ensures.counted)
+returns-in-Err g c = failure_alone c.args.path.now c.args.text.now (reported c.fault-in-Err.ensures.says c.fault-in-Err.ensures.counted c.fault-in-Err.ensures.some)
 
 pub returns-in-Ok : goal.returns-in-Ok
 returns-in-Ok g c =

@@ -3,7 +3,8 @@ use Rattle.ud_tree.proofs.WalkLemmas.{finds_none, finds_call, finds_node}
 use Rattle.ud_tree.specs.Streams.{stream_of}
 use Rattle.ud_tree.specs.WalkMessages.{is_no_text}
 use Rattle.ud_tree.proofs.WalkTellLemmas.{walk_none, walk_given, walk_unmet, walk_remark, reported}
-use Rattle.ud_replace.specs.declared.node.Lookup.TheVariants.{Absent, Unknown}
+use Rattle.ud_replace.specs.declared.node.Lookup.TheVariants.{Present, Absent, Unknown}
+use Rattle.ud_tree.proofs.CoverLemmas.{on_ok_always, takes_met, takes_other}
 use Rattle.ud_tree.proofs.walk.Walk.add.Goals as goal
 
 pub returns-in_err-escaped-clause-finds : goal.returns-in_err-escaped-clause-finds
@@ -25,7 +26,7 @@ pub returns-in_err-escaped-clause-told : goal.returns-in_err-escaped-clause-told
 returns-in_err-escaped-clause-told g c = walk_none (g.T.Folder.history c.args.tree.now) c.args.report.now (stream_of g.E.Write.contents c.args.err.now)
 
 pub returns-in_default-clause-told : goal.returns-in_default-clause-told
-returns-in_default-clause-told g c = walk_remark _ (g.T.Folder.history c.args.tree.now) (is_no_text _ refl) (reported c.fault.ensures.says c.fault.ensures.counted)
+returns-in_default-clause-told g c = walk_remark _ (g.T.Folder.history c.args.tree.now) (is_no_text _ refl) (reported c.fault.ensures.says c.fault.ensures.counted c.fault.ensures.some)
 
 pub returns-in-Present-clause-told : goal.returns-in-Present-clause-told
 returns-in-Present-clause-told g c = walk_given _ c.in-Present.node c.in-Present.ensures c.add_given.ensures.told
@@ -35,3 +36,15 @@ returns-in-Absent-clause-told g c = walk_unmet Absent _ c.args.name.now (sym c.i
 
 pub returns-in-Unknown-clause-told : goal.returns-in-Unknown-clause-told
 returns-in-Unknown-clause-told g c = walk_unmet Unknown _ c.args.name.now (sym c.in-Ok.ensures.cases.0) c.in-Unknown.ensures c.unknown.ensures
+
+pub returns-in_default-clause-takes : goal.returns-in_default-clause-takes
+returns-in_default-clause-takes g c = takes_other c.args.name.now (g.T.Folder.history c.args.tree.now) c.in_default.ensures.cases.0
+
+pub returns-in-Present-clause-takes : goal.returns-in-Present-clause-takes
+returns-in-Present-clause-takes g c = on_ok_always c.add_given.result (takes_met (Present c.in-Present.node) _ c.args.name.now (sym c.in-Ok.ensures.cases.0) c.in-Present.ensures)
+
+pub returns-in-Absent-clause-takes : goal.returns-in-Absent-clause-takes
+returns-in-Absent-clause-takes g c = takes_met Absent _ c.args.name.now (sym c.in-Ok.ensures.cases.0) c.in-Absent.ensures
+
+pub returns-in-Unknown-clause-takes : goal.returns-in-Unknown-clause-takes
+returns-in-Unknown-clause-takes g c = takes_met Unknown _ c.args.name.now (sym c.in-Ok.ensures.cases.0) c.in-Unknown.ensures

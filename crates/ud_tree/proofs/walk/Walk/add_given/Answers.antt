@@ -3,8 +3,8 @@ use Rattle.ud_tree.proofs.WalkTellLemmas.{given_other, reported}
 use Rattle.ud_tree.proofs.walk.Walk.add_given.Goals as goal
 
 pub returns-in-File-clause-adds : goal.returns-in-File-clause-adds
-returns-in-File-clause-adds g c = file_node c.in-File.is c.push_file.ensures
+returns-in-File-clause-adds g c = file_node c.in-File.is c.push_file.ensures.adds
 
 pub returns-in-Other-clause-told : goal.returns-in-Other-clause-told
 returns-in-Other-clause-told g c =
-    given_other _ _ c.args.node c.as_bytes.ensures.value c.in-Other.is (reported c.fault.ensures.says c.fault.ensures.counted)
+    given_other _ _ c.args.node c.as_bytes.ensures.value c.in-Other.is (reported c.fault.ensures.says c.fault.ensures.counted c.fault.ensures.some)

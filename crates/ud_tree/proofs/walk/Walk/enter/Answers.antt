@@ -1,14 +1,18 @@
+use Rattle.std.proofs.Common.{arith}
+use Rattle.ud_tree.proofs.CoverLemmas.{enters_begun, enters_name, enters_all}
 use Rattle.ud_tree.proofs.WalkLemmas.{finds_then}
 use Rattle.ud_tree.proofs.WalkTellLemmas.{name_listed, names_same, walk_visited}
 use Rattle.ud_tree.proofs.walk.Walk.enter.Goals as goal
 
 pub loop-name-init : goal.loop-name-init
-loop-name-init g c = (c.list_folder-names.ensures.finds, names_same (λ n. n.items) _ _ c.as_slice-name-items.ensures.value c.list_folder-names.ensures.told)
+loop-name-init g c = (c.list_folder-names.ensures.finds, enters_begun (λ n. n.items) _ _ c.args.folder.now _ c.as_slice-name-items.ensures.value c.list_folder-names.ensures.lists, names_same (λ n. n.items) _ _ c.as_slice-name-items.ensures.value c.list_folder-names.ensures.told)
 
 pub loop-name-preserved : goal.loop-name-preserved
 loop-name-preserved g c = (
   finds_then c.loop-name.invariant.0 c.visit.ensures.finds,
-  walk_visited c.loop-name.invariant.1
+  enters_name (λ n. n.items) c.as_slice-name-items.result.now c.loop-name.name-index c.name-item.result c.as_slice.result.now c.loop-name-test.true c.name-item.is c.as_slice.ensures.value
+      c.loop-name.invariant.1 c.in_ok-visit.ensures.visits,
+  walk_visited c.loop-name.invariant.2
       (name_listed (λ n. n.items) c.as_slice-name-items.result.now c.loop-name.name-index c.name-item.result c.as_slice.result.now c.loop-name-test.true c.name-item.is c.as_slice.ensures.value)
       c.visit.ensures.told,
 )
@@ -18,7 +22,7 @@ returns-in_err-visit-clause-finds g c = finds_then c.loop-name.invariant.0 c.vis
 
 pub returns-in_err-visit-clause-told : goal.returns-in_err-visit-clause-told
 returns-in_err-visit-clause-told g c =
-    (walk_visited c.loop-name.invariant.1
+    (walk_visited c.loop-name.invariant.2
     (name_listed (λ n. n.items) c.as_slice-name-items.result.now c.loop-name.name-index c.name-item.result c.as_slice.result.now c.loop-name-test.true c.name-item.is c.as_slice.ensures.value)
     c.visit.ensures.told).reports
 
@@ -26,4 +30,7 @@ pub returns-clause-finds : goal.returns-clause-finds
 returns-clause-finds g c = c.loop-name.invariant.0
 
 pub returns-clause-told : goal.returns-clause-told
-returns-clause-told g c = c.loop-name.invariant.1.reports
+returns-clause-told g c = c.loop-name.invariant.2.reports
+
+pub returns-clause-enters : goal.returns-clause-enters
+returns-clause-enters g c = enters_all (λ n. n.items) c.as_slice-name-items.result.now c.loop-name.name-index (omega arith) c.loop-name.invariant.1

@@ -1,4 +1,7 @@
 use Rattle.ud_tree.specs.Streams.{stream_of}
+use Rattle.std.proofs.Common.{map, arith}
+use Rattle.std.specs.Prelude.{string_bytes}
+use Rattle.ud_tree.proofs.CoverLemmas.{enters_none, enters_more, popped, exhausts_none, exhausts_count}
 use Rattle.ud_tree.proofs.WalkLemmas.{finds_none, finds_then}
 use Rattle.ud_tree.proofs.WalkTellLemmas.{walk_none, walk_then}
 use Rattle.ud_tree.proofs.walk.Walk.go.Goals as goal
@@ -7,13 +10,18 @@ pub folders-init : goal.folders-init
 folders-init g c = (
   finds_none (g.T.Folder.history c.args.tree.now) c.args.self.now.found.items,
   walk_none (g.T.Folder.history c.args.tree.now) c.args.report.now (stream_of g.E.Write.contents c.args.err.now),
+  enters_none (g.T.Folder.history c.args.tree.now) (map (λ d. string_bytes d) c.args.self.now.folders.items),
 )
 
 pub folders-preserved : goal.folders-preserved
-folders-preserved g c = (finds_then c.folders.invariant.0 c.enter.ensures.finds, walk_then c.folders.invariant.1 c.enter.ensures.told)
+folders-preserved g c = (finds_then c.folders.invariant.0 c.enter.ensures.finds, walk_then c.folders.invariant.1 c.enter.ensures.told,
+  enters_more c.folders._entered _ _ (popped (λ d. string_bytes d) _ _ _ _ _ c.pop.ensures.items c.in-Some.is c.as_str.ensures.value) c.folders.invariant.2 c.in_ok-enter.ensures.enters)
 
 pub returns-in_err-enter-clause-finds : goal.returns-in_err-enter-clause-finds
 returns-in_err-enter-clause-finds g c = finds_then c.folders.invariant.0 c.enter.ensures.finds
 
 pub returns-in_err-enter-clause-told : goal.returns-in_err-enter-clause-told
 returns-in_err-enter-clause-told g c = walk_then c.folders.invariant.1 c.enter.ensures.told
+
+pub returns-after-folders-clause-exhausts : goal.returns-after-folders-clause-exhausts
+returns-after-folders-clause-exhausts g c = exhausts_count (omega (arith, c.folders-test.false)) c.folders.invariant.2

@@ -1,3 +1,4 @@
+use Rattle.std.proofs.Common.{true, false}
 use Rattle.ud_tree.specs.Streams.{stream_of}
 use Rattle.ud_tree.proofs.WalkLemmas.{finds_call}
 use Rattle.ud_tree.proofs.WalkTellLemmas.{walk_listed, walk_unread}
@@ -14,3 +15,9 @@ returns-then-listed-clause-told g c = walk_listed _ _ c.args.report.now (stream_
 
 pub returns-clause-told : goal.returns-clause-told
 returns-clause-told g c = walk_unread _ _ _ c.as_bytes.ensures.value c.if-listed.ensures.noted c.failure.ensures
+
+pub returns-then-listed-clause-lists : goal.returns-then-listed-clause-lists
+returns-then-listed-clause-lists g c = (true, c.if-listed.ensures.noted)
+
+pub returns-clause-lists : goal.returns-clause-lists
+returns-clause-lists g c = (false, c.if-listed.ensures.noted)

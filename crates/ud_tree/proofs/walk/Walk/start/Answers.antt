@@ -1,7 +1,13 @@
 use Rattle.ud_tree.proofs.WalkLemmas.{finds_call, finds_file, finds_same, finds_then}
 use Rattle.ud_tree.specs.Streams.{stream_of}
 use Rattle.ud_tree.proofs.WalkTellLemmas.{walk_met, walk_followed, walk_unmet, walk_link, walk_other, other_kind, walk_then, reported}
-use Rattle.ud_replace.specs.declared.node.Lookup.TheVariants.{Absent, Unknown}
+use Rattle.std.proofs.Common.{ap, ◌∙◌, [], ◌∷◌, refl, map, true, false, arith, List}
+use Rattle.std.specs.Prelude.{string_bytes}
+use Rattle.std.proofs.lemmas.Result.{on_ok_weaker}
+use Rattle.ud_replace.specs.declared.node.Lookup.TheVariants.{Present, Absent, Unknown}
+use Rattle.ud_replace.specs.Calls.{Call, walked, met, followed}
+use Rattle.ud_tree.specs.Covering.{at_file, at_folder, at_link}
+use Rattle.ud_tree.proofs.CoverLemmas.{starts_bad, starts_good, met_none, followed_none, waits_same, waits_more, waits_due, on_ok_always}
 use Rattle.ud_tree.proofs.walk.Walk.start.Goals as goal
 
 pub returns-in-Absent-clause-finds : goal.returns-in-Absent-clause-finds
@@ -11,16 +17,16 @@ pub returns-in-Unknown-clause-finds : goal.returns-in-Unknown-clause-finds
 returns-in-Unknown-clause-finds g c = finds_call _ c.args.self.now.found.items c.node.ensures
 
 pub returns-in-Folder-clause-finds : goal.returns-in-Folder-clause-finds
-returns-in-Folder-clause-finds g c = finds_same c.add_folder.ensures (finds_call _ c.args.self.now.found.items c.node.ensures)
+returns-in-Folder-clause-finds g c = finds_same c.add_folder.ensures.found (finds_call _ c.args.self.now.found.items c.node.ensures)
 
 pub returns-in-Link-clause-finds : goal.returns-in-Link-clause-finds
-returns-in-Link-clause-finds g c = finds_same c.add_folder-in-Link.ensures (finds_then (finds_call _ c.args.self.now.found.items c.node.ensures) (finds_call _ c.args.self.now.found.items c.leads_to_folder.ensures))
+returns-in-Link-clause-finds g c = finds_same c.add_folder-in-Link.ensures.found (finds_then (finds_call _ c.args.self.now.found.items c.node.ensures) (finds_call _ c.args.self.now.found.items c.leads_to_folder.ensures))
 
 pub returns-in-Link-2-clause-finds : goal.returns-in-Link-2-clause-finds
 returns-in-Link-2-clause-finds g c = finds_then (finds_call _ c.args.self.now.found.items c.node.ensures) (finds_call _ c.args.self.now.found.items c.leads_to_folder.ensures)
 
 pub returns-in-File-clause-finds : goal.returns-in-File-clause-finds
-returns-in-File-clause-finds g c = finds_file _ c.in-Present.node c.in-Present.ensures c.in-File.is c.add_file.ensures
+returns-in-File-clause-finds g c = finds_file _ c.in-Present.node c.in-Present.ensures c.in-File.is c.add_file.ensures.adds
 
 pub returns-in-Other-clause-finds : goal.returns-in-Other-clause-finds
 returns-in-Other-clause-finds g c = finds_call _ c.args.self.now.found.items c.node.ensures
@@ -41,11 +47,48 @@ returns-in-Link-clause-told g c =
 
 pub returns-in-Link-2-clause-told : goal.returns-in-Link-2-clause-told
 returns-in-Link-2-clause-told g c =
-    walk_link _ _ c.in-Present.node c.as_bytes-in-Link-2.ensures.value c.in-Present.ensures c.if-leads_to_folder.ensures c.in-Link.is (reported c.fault.ensures.says c.fault.ensures.counted)
+    walk_link _ _ c.in-Present.node c.as_bytes-in-Link-2.ensures.value c.in-Present.ensures c.if-leads_to_folder.ensures c.in-Link.is (reported c.fault.ensures.says c.fault.ensures.counted c.fault.ensures.some)
 
 pub returns-in-File-clause-told : goal.returns-in-File-clause-told
 returns-in-File-clause-told g c = walk_met _ c.in-Present.node c.args.report.now (stream_of g.E.Write.contents c.args.err.now) c.in-Present.ensures
 
 pub returns-in-Other-clause-told : goal.returns-in-Other-clause-told
 returns-in-Other-clause-told g c =
-    walk_other _ _ c.in-Present.node c.as_bytes-in-Other.ensures.value c.in-Present.ensures (other_kind _ c.in-Other.is) (reported c.fault-in-Other.ensures.says c.fault-in-Other.ensures.counted)
+    walk_other _ _ c.in-Present.node c.as_bytes-in-Other.ensures.value c.in-Present.ensures (other_kind _ c.in-Other.is) (reported c.fault-in-Other.ensures.says c.fault-in-Other.ensures.counted c.fault-in-Other.ensures.some)
+
+pub returns-in-Absent-clause-starts : goal.returns-in-Absent-clause-starts
+returns-in-Absent-clause-starts g c = starts_bad (met c.args.path.now Absent ∷ []) c.args.path.now _ _ _ c.in-Absent.ensures (met_none c.args.path.now Absent) c.missing.ensures.reports.some
+
+pub returns-in-Unknown-clause-starts : goal.returns-in-Unknown-clause-starts
+returns-in-Unknown-clause-starts g c = starts_bad (met c.args.path.now Unknown ∷ []) c.args.path.now _ _ _ c.in-Unknown.ensures (met_none c.args.path.now Unknown) c.unknown.ensures.reports.some
+
+pub returns-in-Folder-clause-starts : goal.returns-in-Folder-clause-starts
+returns-in-Folder-clause-starts g c =
+    on_ok_weaker c.add_folder.result
+    (λ w. starts_good (met c.args.path.now (Present c.in-Present.node) ∷ []) c.args.path.now _ _ c.args.report.now c.in-Present.ensures (met_none c.args.path.now (Present c.in-Present.node)) (waits_more w)
+    (at_folder c.in-Present.node (0, omega arith, refl) c.in-Folder.is (waits_due (met c.args.path.now (Present c.in-Present.node) ∷ []) w)))
+    c.add_folder.ensures.waits
+
+pub returns-in-Link-clause-starts : goal.returns-in-Link-clause-starts
+returns-in-Link-clause-starts g c =
+    on_ok_weaker c.add_folder-in-Link.result
+    (λ w. starts_good (followed c.args.path.now true ∷ met c.args.path.now (Present c.in-Present.node) ∷ []) c.args.path.now _ _ c.args.report.now
+    (c.if-leads_to_folder.ensures ∙ ap (λ (l : List Call). walked (followed c.args.path.now true) ∷ l) c.in-Present.ensures)
+    (followed_none c.args.path.now true c.args.path.now (Present c.in-Present.node)) (waits_more w)
+    (at_link c.in-Present.node (1, omega arith, refl) c.in-Link.is (0, omega arith, refl) (waits_due (followed c.args.path.now true ∷ met c.args.path.now (Present c.in-Present.node) ∷ []) w)))
+    c.add_folder-in-Link.ensures.waits
+
+pub returns-in-Link-2-clause-starts : goal.returns-in-Link-2-clause-starts
+returns-in-Link-2-clause-starts g c =
+    starts_bad (followed c.args.path.now false ∷ met c.args.path.now (Present c.in-Present.node) ∷ []) c.args.path.now _ _ _
+    (c.if-leads_to_folder.ensures ∙ ap (λ (l : List Call). walked (followed c.args.path.now false) ∷ l) c.in-Present.ensures)
+    (followed_none c.args.path.now false c.args.path.now (Present c.in-Present.node)) c.fault.ensures.some
+
+pub returns-in-File-clause-starts : goal.returns-in-File-clause-starts
+returns-in-File-clause-starts g c =
+    on_ok_always c.add_file.result
+    (starts_good (met c.args.path.now (Present c.in-Present.node) ∷ []) c.args.path.now _ _ c.args.report.now c.in-Present.ensures (met_none c.args.path.now (Present c.in-Present.node))
+    (waits_same (λ d. string_bytes d) _ _ c.add_file.ensures.folders) (at_file c.in-Present.node (0, omega arith, refl) c.in-File.is))
+
+pub returns-in-Other-clause-starts : goal.returns-in-Other-clause-starts
+returns-in-Other-clause-starts g c = starts_bad (met c.args.path.now (Present c.in-Present.node) ∷ []) c.args.path.now _ _ _ c.in-Present.ensures (met_none c.args.path.now (Present c.in-Present.node)) c.fault-in-Other.ensures.some

@@ -3,7 +3,9 @@ use Rattle.std.proofs.Common.{refl}
 use Rattle.ud_tree.specs.Streams.{stream_of}
 use Rattle.ud_tree.specs.WalkMessages.{is_no_text, is_gone}
 use Rattle.ud_tree.proofs.WalkTellLemmas.{met_at, visit_none, visit_met, walk_none, walk_met, walk_unmet, walk_remark}
-use Rattle.ud_replace.specs.declared.node.Lookup.TheVariants.{Present, Unknown}
+use Rattle.std.proofs.lemmas.Result.{on_ok_weaker}
+use Rattle.ud_tree.proofs.CoverLemmas.{visits_other, visits_unmet, visits_node}
+use Rattle.ud_replace.specs.declared.node.Lookup.TheVariants.{Present, Absent, Unknown}
 use Rattle.ud_tree.proofs.walk.Walk.visit.Goals as goal
 
 pub returns-in_err-path-clause-finds : goal.returns-in_err-path-clause-finds
@@ -19,7 +21,7 @@ pub returns-in_err-push_str-clause-finds : goal.returns-in_err-push_str-clause-f
 returns-in_err-push_str-clause-finds g c = finds_none (g.T.Folder.history c.args.tree.now) c.args.self.now.found.items
 
 pub returns-in-Present-clause-finds : goal.returns-in-Present-clause-finds
-returns-in-Present-clause-finds g c = finds_node _ c.in-Present.node c.in-Present.ensures c.add_node.ensures
+returns-in-Present-clause-finds g c = finds_node _ c.in-Present.node c.in-Present.ensures c.add_node.ensures.adds
 
 pub returns-in-Absent-clause-finds : goal.returns-in-Absent-clause-finds
 returns-in-Absent-clause-finds g c = finds_call _ c.args.self.now.found.items c.node.ensures
@@ -47,3 +49,20 @@ returns-in-Absent-clause-told g c = is_gone (met_at _ _ (cc (c.as_str-whole.ensu
 
 pub returns-clause-told : goal.returns-clause-told
 returns-clause-told g c = visit_met Unknown _ (λ e. absurd cc) c.in-Unknown.ensures (walk_unmet Unknown _ _ c.as_bytes-in-Unknown.ensures.value c.in-Unknown.ensures c.unknown.ensures)
+
+pub returns-in_default-clause-visits : goal.returns-in_default-clause-visits
+returns-in_default-clause-visits g c = visits_other c.args.folder.now c.args.name.now (g.T.Folder.history c.args.tree.now) _ (c.in_default.ensures.cases.0)
+
+pub returns-in-Present-clause-visits : goal.returns-in-Present-clause-visits
+returns-in-Present-clause-visits g c =
+    on_ok_weaker c.add_node.result
+    (λ w. visits_node c.in-Present.node _ c.args.folder.now c.args.name.now _ _ (cc (c.as_str-whole.ensures.value, c.in_ok-push_str.ensures.bytes, c.in-Ok.ensures.cases.0, c.in_ok-path.ensures.ok)) c.in-Present.ensures w)
+    c.add_node.ensures.waits
+
+pub returns-in-Absent-clause-visits : goal.returns-in-Absent-clause-visits
+returns-in-Absent-clause-visits g c =
+    visits_unmet Absent _ c.args.folder.now c.args.name.now _ (λ node e. absurd cc) (cc (c.as_str-whole.ensures.value, c.in_ok-push_str.ensures.bytes, c.in-Ok.ensures.cases.0, c.in_ok-path.ensures.ok)) c.in-Absent.ensures
+
+pub returns-clause-visits : goal.returns-clause-visits
+returns-clause-visits g c =
+    visits_unmet Unknown _ c.args.folder.now c.args.name.now _ (λ node e. absurd cc) (cc (c.as_str-whole.ensures.value, c.in_ok-push_str.ensures.bytes, c.in-Ok.ensures.cases.0, c.in_ok-path.ensures.ok)) c.in-Unknown.ensures

@@ -1,0 +1,456 @@
+-- Parts of a walk that miss no name, one after another.
+use Rattle.std.proofs.Common.{◌≡◌, ◌⊎◌, inl, inr, ℕ, ◌+◌, ◌<◌, ◌≤◌, ◌^◌, List, [], ◌∷◌, ◌++◌, length, map, take, get_or, Bool, true, false, Option, Some, Result, refl, sym, ap, ◌∙◌, subst, arith, append-nil, append_assoc, length-append}
+use Rattle.std.proofs.lemmas.List.{map-append, take_more, take_all}
+use Rattle.std.proofs.lemmas.List.Elements.{All-weaker, All-contains, All-nil, All-push, Contains-append_left, Contains-append_right, Contains-append_cases, Contains-push, Contains-push_cases}
+use Rattle.std.specs.List.{All, Contains}
+use Rattle.std.specs.Prelude.{OnOk, Ok, Err, IsUtf8, option_to_list}
+use Rattle.ud_replace.specs.declared.node.Lookup.{Lookup}
+use Rattle.ud_replace.specs.declared.node.Lookup.TheVariants.{Present, Absent, Unknown}
+use Rattle.ud_replace.specs.declared.node.Node.{Node}
+use Rattle.ud_replace.specs.declared.node.NodeKind.{NodeKind}
+use Rattle.ud_replace.specs.declared.node.NodeKind.TheVariants.{File, Folder, Link, Other}
+use Rattle.ud_replace.specs.Calls.{Call, walked, WalkCall, met, followed, listed}
+use Rattle.ud_tree.specs.declared.report.Report.{Report}
+use Rattle.ud_tree.specs.Covering.{IsFolderPath, WasEntered, IsDue, IsVersioned, Begins, at_file, at_folder, at_link, Visits, no_text, was_met, VisitsAll, Gives, no_path_text, was_given, CoversPaths, CoversInput}
+use Rattle.ud_tree.specs.CoverParts.{Explores, Starts, VisitsOne, Enters, Exhausts, Waits, TakesOne, AddsFolder, waits_folder, left_folder, no_folder}
+
+-- Each element of one list is in another.
+abbrev pub Within : {X : Type 0} → List X → List X → Type 0
+Within {X = X} xs ys = (x : X) → Contains xs x → Contains ys x
+
+-- Each folder that waits after some calls was listed by later ones, or still waits.
+abbrev pub Passes : List WalkCall → List (List ℕ) → List (List ℕ) → Type 0
+Passes ys a b = (folder : List ℕ) → Contains a folder → WasEntered ys folder ⊎ Contains b folder
+
+entered_within : (xs ys : List WalkCall) (folder : List ℕ) → Within xs ys → WasEntered xs folder → WasEntered ys folder
+entered_within xs ys folder w h = (h.0, h.1, w (listed folder h.0 h.1) h.2)
+
+-- A folder that is due stays so.
+due_within : (xs ys : List WalkCall) (a b : List (List ℕ)) (path : List ℕ) → Within xs ys → Passes ys a b → IsDue xs a path → IsDue ys b path
+due_within xs ys a b path w k h = (h.0, h.1, by_case h.2)
+  where
+    by_case : WasEntered xs h.0 ⊎ Contains a h.0 → WasEntered ys h.0 ⊎ Contains b h.0
+    by_case (inl e) = inl (entered_within xs ys h.0 w e)
+    by_case (inr there) = k h.0 there
+
+-- A name that was visited stays so.
+visits_within : {xs ys : List WalkCall} {p q : List ℕ → Type 0} {folder : List ℕ} (name : List ℕ) → Within xs ys → ((path : List ℕ) → p path → q path) →
+    Visits xs p folder name → Visits ys q folder name
+visits_within name w d (no_text other) = no_text other
+visits_within {p = p} {q = q} {folder = folder} name w d (was_met answer seen k) = was_met answer (w (met (folder ++ name) answer) seen) (λ node is kind. by_case (k node is kind))
+  where
+    by_case : IsVersioned name ⊎ p (folder ++ name) → IsVersioned name ⊎ q (folder ++ name)
+    by_case (inl left) = inl left
+    by_case (inr due) = inr (d (folder ++ name) due)
+
+visits_all_within : {xs ys : List WalkCall} {p q : List ℕ → Type 0} {folder : List ℕ} (names : List (List ℕ)) → Within xs ys → ((path : List ℕ) → p path → q path) →
+    All (Visits xs p folder) names → All (Visits ys q folder) names
+visits_all_within {xs = xs} {ys = ys} {p = p} {q = q} {folder = folder} names w d h =
+    All-weaker (Visits xs p folder) (Visits ys q folder) (λ name k. visits_within name w d k) names h
+
+-- A path of the command line that can be taken stays so.
+pub begins_within : {xs ys : List WalkCall} {p q : List ℕ → Type 0} {path : List ℕ} → Within xs ys → ((path : List ℕ) → p path → q path) → Begins xs p path → Begins ys q path
+begins_within {path = path} w d (at_file node seen kind) = at_file node (w (met path (Present node)) seen) kind
+begins_within {path = path} w d (at_folder node seen kind due) = at_folder node (w (met path (Present node)) seen) kind (d path due)
+begins_within {path = path} w d (at_link node seen kind led due) = at_link node (w (met path (Present node)) seen) kind (w (followed path true) led) (d path due)
+
+pub later_calls : (xs ys : List WalkCall) → Within ys (ys ++ xs)
+later_calls xs ys x h = Contains-append_left ys xs x h
+
+pub earlier_calls : (xs ys : List WalkCall) → Within xs (ys ++ xs)
+earlier_calls xs ys x h = Contains-append_right ys xs x h
+
+passes_later : (xs ys : List WalkCall) (b c : List (List ℕ)) → Passes ys b c → Passes (ys ++ xs) b c
+passes_later xs ys b c k folder inside = by_case (k folder inside)
+  where
+    by_case : WasEntered ys folder ⊎ Contains c folder → WasEntered (ys ++ xs) folder ⊎ Contains c folder
+    by_case (inl e) = inl (entered_within ys (ys ++ xs) folder (later_calls xs ys) e)
+    by_case (inr there) = inr there
+
+passes_both : (xs ys : List WalkCall) (a b c : List (List ℕ)) → Passes xs a b → Passes ys b c → Passes (ys ++ xs) a c
+passes_both xs ys a b c h k folder inside = by_case (h folder inside)
+  where
+    by_case : WasEntered xs folder ⊎ Contains b folder → WasEntered (ys ++ xs) folder ⊎ Contains c folder
+    by_case (inl e) = inl (entered_within xs (ys ++ xs) folder (earlier_calls xs ys) e)
+    by_case (inr there) = passes_later xs ys b c k folder there
+
+-- A folder that was due after some calls is due after later ones.
+pub due_later : (xs ys : List WalkCall) (b c : List (List ℕ)) → Passes ys b c → (path : List ℕ) → IsDue xs b path → IsDue (ys ++ xs) c path
+due_later xs ys b c k path h = due_within xs (ys ++ xs) b c path (earlier_calls xs ys) (passes_later xs ys b c k) h
+
+pub due_still : (xs ys : List WalkCall) (c : List (List ℕ)) (path : List ℕ) → IsDue ys c path → IsDue (ys ++ xs) c path
+due_still xs ys c path h = due_within ys (ys ++ xs) c c path (later_calls xs ys) (λ folder there. inr there) h
+
+-- None of these calls lists a folder.
+abbrev pub ListsNone : List WalkCall → Type 0
+ListsNone ws = (folder : List ℕ) (names : List (List ℕ)) (answer : Bool) → ¬ (Contains ws (listed folder names answer))
+
+pub lists_none : ListsNone []
+lists_none folder names answer h = omega (arith, h.1)
+
+-- A list of one call has no other.
+only_one : (w x : WalkCall) → Contains (w ∷ []) x → w ≡ x
+only_one w x h = by_case (Contains-push_cases [] w x h)
+  where
+    by_case : Contains [] x ⊎ (w ≡ x) → w ≡ x
+    by_case (inl none) = absurd (omega (arith, none.1))
+    by_case (inr is) = is
+
+lists_no_more : (w : WalkCall) (ws : List WalkCall) → ((folder : List ℕ) (names : List (List ℕ)) (answer : Bool) → ¬ (w ≡ listed folder names answer)) → ListsNone ws → ListsNone (w ∷ ws)
+lists_no_more w ws other h folder names answer there = by_case (Contains-append_cases (w ∷ []) ws (listed folder names answer) there)
+  where
+    by_case : Contains (w ∷ []) (listed folder names answer) ⊎ Contains ws (listed folder names answer) → ⊥
+    by_case (inl first) = other folder names answer (only_one w (listed folder names answer) first)
+    by_case (inr later) = h folder names answer later
+
+-- A look is no listing, and neither is a link that is followed.
+pub met_none : (path : List ℕ) (answer : Lookup) → ListsNone (met path answer ∷ [])
+met_none path answer = lists_no_more (met path answer) [] (λ folder names listing e. absurd cc) lists_none
+
+pub followed_none : (path : List ℕ) (answer : Bool) (other : List ℕ) (seen : Lookup) → ListsNone (followed path answer ∷ met other seen ∷ [])
+followed_none path answer other seen = lists_no_more (followed path answer) (met other seen ∷ []) (λ folder names listing e. absurd cc) (met_none other seen)
+
+-- A few calls were made, and none of them lists a folder.
+pub explores_few : (ws : List WalkCall) {calls calls' : List Call} (folders folders' : List (List ℕ)) → calls' ≡ map walked ws ++ calls → ListsNone ws → Within folders folders' →
+    Explores calls calls' folders folders'
+explores_few ws folders folders' is none kept = record {
+  made = ws;
+  are = is;
+  waits = λ folder there. inr (kept folder there);
+  visits = λ folder names answer there. absurd (none folder names answer there);
+}
+
+-- Nothing was asked.
+pub explores_none : (calls : List Call) (folders : List (List ℕ)) → Explores calls calls folders folders
+explores_none calls folders = explores_few [] folders folders refl lists_none (λ folder there. there)
+
+-- All folders that waited still wait, and one more may.
+pub waits_still : (folders : List (List ℕ)) → Within folders folders
+waits_still folders folder there = there
+
+pub waits_same : {X : Type 0} (f : X → List ℕ) (xs ys : List X) → ys ≡ xs → Within (map f xs) (map f ys)
+waits_same f xs ys is folder there = subst (λ l. Contains (map f l) folder) (sym is) there
+
+waits_equal : {folders folders' : List (List ℕ)} → folders' ≡ folders → Within folders folders'
+waits_equal is folder there = subst (λ (fs : List (List ℕ)). Contains fs folder) (sym is) there
+
+pub waits_more : {path : List ℕ} {folders folders' : List (List ℕ)} → Waits path folders folders' → Within folders folders'
+waits_more {folders = folders} h folder there =
+    subst (λ (fs : List (List ℕ)). Contains fs folder) (sym h.grown) (Contains-append_left folders (h.folder ∷ []) folder there)
+
+-- A folder that waits is due.
+pub waits_due : (ws : List WalkCall) {path : List ℕ} {folders folders' : List (List ℕ)} → Waits path folders folders' → IsDue ws folders' path
+waits_due ws {folders = folders} h =
+    (h.folder, h.is_path, inr (subst (λ (fs : List (List ℕ)). Contains fs h.folder) (sym h.grown) (Contains-push folders h.folder)))
+
+-- A path of the command line can be taken.
+pub starts_good : (ws : List WalkCall) (path : List ℕ) {calls calls' : List Call} (folders folders' : List (List ℕ)) (r : Report) → calls' ≡ map walked ws ++ calls → ListsNone ws → Within folders folders' →
+    Begins ws (IsDue ws folders') path → Starts path calls calls' folders folders' r r
+unfolding explores_few
+starts_good ws path folders folders' r is none kept b = record { explores = explores_few ws folders folders' is none kept; begins = inr b; kept = λ some. some }
+
+-- A path of the command line has a fault.
+pub starts_bad : (ws : List WalkCall) (path : List ℕ) {calls calls' : List Call} (folders : List (List ℕ)) (r r' : Report) → calls' ≡ map walked ws ++ calls → ListsNone ws → 0 < r'.faulty →
+    Starts path calls calls' folders folders r r'
+starts_bad ws path folders r r' is none some = record { explores = explores_few ws folders folders is none (waits_still folders); begins = inl some; kept = λ before. some }
+
+-- A name in a folder was looked at.
+visits_met : (answer : Lookup) (path folder name : List ℕ) {calls calls' : List Call} (folders folders' : List (List ℕ)) → path ≡ folder ++ name → calls' ≡ walked (met path answer) ∷ calls →
+    Within folders folders' → ((node : Node) → answer ≡ Present node → node.kind ≡ Folder → IsVersioned name ⊎ IsDue (met path answer ∷ []) folders' path) →
+    VisitsOne folder name calls calls' folders folders'
+unfolding explores_few
+visits_met answer path folder name folders folders' named is kept due = record {
+  explores = explores_few (met path answer ∷ []) folders folders' is (met_none path answer) kept;
+  visited = was_met answer (0, omega arith, ap (λ (p : List ℕ). met p answer) named)
+      (λ node is_node kind. subst (λ (p : List ℕ). IsVersioned name ⊎ IsDue (met path answer ∷ []) folders' p) named (due node is_node kind));
+}
+
+-- A name in a folder isn't UTF-8.
+pub visits_other : (folder name : List ℕ) (calls : List Call) (folders : List (List ℕ)) → ¬ (IsUtf8 name) → VisitsOne folder name calls calls folders folders
+visits_other folder name calls folders other = record { explores = explores_none calls folders; visited = no_text other }
+
+-- Nothing has the path of a name, or that isn't known.
+pub visits_unmet : (answer : Lookup) (path folder name : List ℕ) {calls calls' : List Call} (folders : List (List ℕ)) → ((node : Node) → ¬ (answer ≡ Present node)) → path ≡ folder ++ name →
+    calls' ≡ walked (met path answer) ∷ calls → VisitsOne folder name calls calls' folders folders
+visits_unmet answer path folder name folders other named is =
+    visits_met answer path folder name folders folders named is (waits_still folders) (λ node is_node kind. absurd (other node is_node))
+
+-- A node has the path of a name, and was added.
+pub visits_node : (node : Node) (path folder name : List ℕ) {calls calls' : List Call} (folders folders' : List (List ℕ)) → path ≡ folder ++ name → calls' ≡ walked (met path (Present node)) ∷ calls →
+    AddsFolder path name node folders folders' → VisitsOne folder name calls calls' folders folders'
+visits_node node path folder name folders folders' named is (waits_folder kind w) =
+    visits_met (Present node) path folder name folders folders' named is (waits_more w) (λ n is_node k. inr (waits_due (met path (Present node) ∷ []) w))
+visits_node node path folder name folders folders' named is (left_folder left same) =
+    visits_met (Present node) path folder name folders folders' named is (waits_equal same) (λ n is_node k. inl left)
+visits_node node path folder name folders folders' named is (no_folder other same) =
+    visits_met (Present node) path folder name folders folders' named is (waits_equal same) (λ n is_node k. absurd (other (same_kind n is_node k)))
+  where
+    same_kind : (n : Node) → Present node ≡ Present n → n.kind ≡ Folder → node.kind ≡ Folder
+    same_kind n is_node k =
+        let e : node ≡ n = cc in
+        ap (λ (m : Node). m.kind) e ∙ k
+
+-- The calls of two parts.
+parts_are : (xs ys : List WalkCall) (x y z : List Call) → y ≡ map walked xs ++ x → z ≡ map walked ys ++ y → z ≡ map walked (ys ++ xs) ++ x
+parts_are xs ys x y z h k =
+    k ∙ ap (λ (l : List Call). map walked ys ++ l) h ∙ sym (append_assoc (map walked ys) (map walked xs) x) ∙ ap (λ (l : List Call). l ++ x) (sym (map-append walked ys xs))
+
+-- One part after another.
+pub explores_then : {x y z : List Call} {f g h : List (List ℕ)} → Explores x y f g → Explores y z g h → Explores x z f h
+explores_then {x = x} {y = y} {z = z} {f = f} {g = g} {h = h} k l = record {
+  made = l.made ++ k.made;
+  are = parts_are k.made l.made x y z k.are l.are;
+  waits = passes_both k.made l.made f g h k.waits l.waits;
+  visits = λ folder names answer there. by_case folder names answer (Contains-append_cases l.made k.made (listed folder names answer) there);
+}
+  where
+    by_case : (folder : List ℕ) (names : List (List ℕ)) (answer : Bool) → Contains l.made (listed folder names answer) ⊎ Contains k.made (listed folder names answer) →
+        All (Visits (l.made ++ k.made) (IsDue (l.made ++ k.made) h) folder) names
+    by_case folder names answer (inl now) = visits_all_within names (later_calls k.made l.made) (due_still k.made l.made h) (l.visits folder names answer now)
+    by_case folder names answer (inr before) = visits_all_within names (earlier_calls k.made l.made) (due_later k.made l.made g h l.waits) (k.visits folder names answer before)
+
+-- Some names of a folder were visited.
+pub record VisitsSome (folder : List ℕ) (names : List (List ℕ)) (x y : List Call) (f g : List (List ℕ)) : Type 0 where
+  pub explores : Explores x y f g
+  pub visited : All (Visits explores.made (IsDue explores.made g) folder) names
+
+-- None was yet.
+pub visits_none : (folder : List ℕ) (calls : List Call) (folders : List (List ℕ)) → VisitsSome folder [] calls calls folders folders
+unfolding explores_none explores_few
+visits_none folder calls folders = record { explores = explores_none calls folders; visited = All-nil (Visits [] (IsDue [] folders) folder) }
+
+-- One name more of a folder was visited.
+pub visits_more : {folder : List ℕ} {names : List (List ℕ)} {name : List ℕ} {x y z : List Call} {f g h : List (List ℕ)} → VisitsSome folder names x y f g → VisitsOne folder name y z g h →
+    VisitsSome folder (names ++ name ∷ []) x z f h
+unfolding explores_then
+visits_more {folder = folder} {names = names} {name = name} {g = g} {h = h} k l = record { explores = explores_then k.explores l.explores; visited = All-push here names name earlier now }
+  where
+    xs : List WalkCall
+    xs = k.explores.made
+
+    ys : List WalkCall
+    ys = l.explores.made
+
+    here : List ℕ → Type 0
+    here = Visits (ys ++ xs) (IsDue (ys ++ xs) h) folder
+
+    earlier : All here names
+    earlier = visits_all_within names (earlier_calls xs ys) (due_later xs ys g h l.explores.waits) k.visited
+
+    now : here name
+    now = visits_within name (later_calls xs ys) (due_still xs ys h) l.visited
+
+-- A folder was listed, and then each of its names was visited.
+pub enters_folder : {folder : List ℕ} (names : List (List ℕ)) (answer : Bool) {x y z : List Call} {f g : List (List ℕ)} → y ≡ walked (listed folder names answer) ∷ x → VisitsSome folder names y z f g →
+    Enters folder x z f g
+enters_folder {folder = folder} names answer {x = x} {y = y} {z = z} {f = f} {g = g} is l = record {
+  explores = record {
+    made = ys ++ first ∷ [];
+    are = parts_are (first ∷ []) ys x y z is l.explores.are;
+    waits = passes_later (first ∷ []) ys f g l.explores.waits;
+    visits = λ d ns again there. by_case d ns again (Contains-append_cases ys (first ∷ []) (listed d ns again) there);
+  };
+  entered = (names, answer, Contains-push ys first);
+}
+  where
+    ys : List WalkCall
+    ys = l.explores.made
+
+    first : WalkCall
+    first = listed folder names answer
+
+    by_case : (d : List ℕ) (ns : List (List ℕ)) (again : Bool) → Contains ys (listed d ns again) ⊎ Contains (first ∷ []) (listed d ns again) →
+        All (Visits (ys ++ first ∷ []) (IsDue (ys ++ first ∷ []) g) d) ns
+    by_case d ns again (inl now) = visits_all_within ns (later_calls (first ∷ []) ys) (due_still (first ∷ []) ys g) (l.explores.visits d ns again now)
+    by_case d ns again (inr at_first) =
+        let same : listed folder names answer ≡ listed d ns again = only_one first (listed d ns again) at_first in
+        let same_folder : folder ≡ d = cc in
+        let same_names : names ≡ ns = cc in
+        subst (λ (e : List ℕ). All (Visits (ys ++ first ∷ []) (IsDue (ys ++ first ∷ []) g) e) ns) same_folder
+        (subst (λ (es : List (List ℕ)). All (Visits (ys ++ first ∷ []) (IsDue (ys ++ first ∷ []) g) folder) es) same_names
+        (visits_all_within names (later_calls (first ∷ []) ys) (due_still (first ∷ []) ys g) l.visited))
+
+-- One name more of a list.
+one_more : {X : Type 0} (f : X → List ℕ) (xs : List X) (i : ℕ) (v : X) (name : List ℕ) → i < length xs → v ≡ get_or xs i v → name ≡ f v → map f (take (i + 1) xs) ≡ map f (take i xs) ++ name ∷ []
+one_more f xs i v name within is named =
+    ap (map f) (take_more xs i v within) ∙ map-append f (take i xs) (get_or xs i v ∷ []) ∙ ap (λ n. map f (take i xs) ++ n ∷ []) (sym (named ∙ ap f is))
+
+-- A folder was listed, and some of its names were visited.
+pub record EntersNames {X : Type 0} (f : X → List ℕ) (folder : List ℕ) (xs : List X) (i : ℕ) (x y : List Call) (a b : List (List ℕ)) : Type 0 where
+  pub answer : Bool
+  pub mid : List Call
+  pub is : mid ≡ walked (listed folder (map f xs) answer) ∷ x
+  pub some : VisitsSome folder (map f (take i xs)) mid y a b
+
+-- None was yet.
+pub enters_begun : {X : Type 0} (f : X → List ℕ) (xs ys : List X) (folder : List ℕ) {x y : List Call} (folders : List (List ℕ)) → ys ≡ xs → (answer : Bool) × (y ≡ walked (listed folder (map f xs) answer) ∷ x) →
+    EntersNames f folder ys 0 x y folders folders
+enters_begun f xs ys folder {x = x} {y = y} folders same h = record {
+  answer = h.0;
+  mid = y;
+  is = h.1 ∙ ap (λ l. walked (listed folder (map f l) h.0) ∷ x) (sym same);
+  some = visits_none folder y folders;
+}
+
+-- One name more was.
+pub enters_name : {X : Type 0} (f : X → List ℕ) (xs : List X) (i : ℕ) (v : X) (name : List ℕ) {folder : List ℕ} {x y z : List Call} {a b c : List (List ℕ)} → i < length xs → v ≡ get_or xs i v → name ≡ f v →
+    EntersNames f folder xs i x y a b → VisitsOne folder name y z b c → EntersNames f folder xs (i + 1) x z a c
+enters_name f xs i v name {folder = folder} {z = z} {a = a} {c = c} within is named h k = record {
+  answer = h.answer;
+  mid = h.mid;
+  is = h.is;
+  some = subst (λ (ns : List (List ℕ)). VisitsSome folder ns h.mid z a c) (sym (one_more f xs i v name within is named)) (visits_more h.some k);
+}
+
+-- All of them were.
+pub enters_all : {X : Type 0} (f : X → List ℕ) (xs : List X) (i : ℕ) {folder : List ℕ} {x y : List Call} {a b : List (List ℕ)} → i ≡ length xs → EntersNames f folder xs i x y a b → Enters folder x y a b
+enters_all f xs i {folder = folder} {y = y} {a = a} {b = b} all h =
+    enters_folder (map f xs) h.answer h.is (subst (λ l. VisitsSome folder (map f l) h.mid y a b) (take_all i xs (omega arith)) h.some)
+
+-- The element that is popped was last.
+pub popped : {X : Type 0} (f : X → List ℕ) (old new : List X) (r : Option X) (x : X) (name : List ℕ) → old ≡ new ++ option_to_list r → r ≡ Some x → name ≡ f x → map f old ≡ map f new ++ name ∷ []
+popped f old new r x name is some named =
+    ap (map f) (is ∙ ap (λ o. new ++ option_to_list o) some) ∙ map-append f new (x ∷ []) ∙ ap (λ n. map f new ++ n ∷ []) (sym named)
+
+-- Some folders were entered.
+pub record EntersSome (count : ℕ) (x y : List Call) (f g : List (List ℕ)) : Type 0 where
+  pub explores : Explores x y f g
+  pub many : count ≤ length explores.made
+
+-- None was yet.
+pub enters_none : (calls : List Call) (folders : List (List ℕ)) → EntersSome 0 calls calls folders folders
+enters_none calls folders = record { explores = explores_none calls folders; many = omega arith }
+
+-- One folder more, which waited last, was entered.
+pub enters_more : (count : ℕ) {x y z : List Call} {f g h : List (List ℕ)} (rest : List (List ℕ)) (folder : List ℕ) → g ≡ rest ++ folder ∷ [] → EntersSome count x y f g → Enters folder y z rest h →
+    EntersSome (count + 1) x z f h
+unfolding explores_then
+enters_more count {x = x} {y = y} {z = z} {f = f} {g = g} {h = h} rest folder is k l = record { explores = explores_then k.explores entered; many = many }
+  where
+    passes : Passes l.explores.made g h
+    passes d inside = by_case (Contains-push_cases rest folder d (subst (λ (fs : List (List ℕ)). Contains fs d) is inside))
+      where
+        by_case : Contains rest d ⊎ (folder ≡ d) → WasEntered l.explores.made d ⊎ Contains h d
+        by_case (inl there) = l.explores.waits d there
+        by_case (inr same) = inl (subst (λ (e : List ℕ). WasEntered l.explores.made e) same l.entered)
+
+    entered : Explores y z g h
+    entered = record { made = l.explores.made; are = l.explores.are; waits = passes; visits = l.explores.visits }
+
+    many : count + 1 ≤ length (l.explores.made ++ k.explores.made)
+    many =
+        let both : length (l.explores.made ++ k.explores.made) ≡ length l.explores.made + length k.explores.made = length-append l.explores.made k.explores.made in
+        let some : l.entered.2.0 < length l.explores.made = l.entered.2.1 in
+        omega (arith, both, some, k.many)
+
+-- No folder waits any more.
+pub exhausts_none : {X : Type 0} (name : X → List ℕ) (xs : List X) {count : ℕ} {x y : List Call} {f : List (List ℕ)} → xs ≡ [] → EntersSome count x y f (map name xs) → Exhausts x y f (map name xs)
+exhausts_none name xs none k = record { explores = k.explores; done = λ few. ap (map name) none }
+
+-- Folders were entered as often as a machine counts.
+pub exhausts_count : {count : ℕ} {x y : List Call} {f g : List (List ℕ)} → 2 ^ 64 ≤ count + 1 → EntersSome count x y f g → Exhausts x y f g
+exhausts_count many k = record { explores = k.explores; done = λ few. absurd (omega (arith, many, few, k.many)) }
+
+-- A result of which something holds in any case.
+pub on_ok_always : {T E Q : Type 0} (r : Result T E) → Q → OnOk r Q
+on_ok_always (Ok x) q = q
+on_ok_always (Err e) q = tt
+
+-- A folder waits after it was pushed.
+pub waits_pushed : {X : Type 0} (f : X → List ℕ) (before after : List X) (x : X) (path : List ℕ) → IsFolderPath path (f x) → after ≡ before ++ x ∷ [] → Waits path (map f before) (map f after)
+waits_pushed f before after x path h is = record { folder = f x; is_path = h; grown = ap (map f) is ∙ map-append f before (x ∷ []) }
+
+-- Some paths of the command line can be taken, or have a fault.
+pub record StartsSome (paths : List (List ℕ)) (x y : List Call) (f g : List (List ℕ)) (r : Report) : Type 0 where
+  pub explores : Explores x y f g
+  pub begins : (0 < r.faulty) ⊎ All (Begins explores.made (IsDue explores.made g)) paths
+
+-- There was none yet.
+pub starts_none : (calls : List Call) (folders : List (List ℕ)) (r : Report) → StartsSome [] calls calls folders folders r
+unfolding explores_none explores_few
+starts_none calls folders r = record { explores = explores_none calls folders; begins = inr (All-nil (Begins [] (IsDue [] folders))) }
+
+-- One path more can be taken, or has a fault.
+starts_more : {paths : List (List ℕ)} {path : List ℕ} {x y z : List Call} {f g h : List (List ℕ)} {a b : Report} → StartsSome paths x y f g a → Starts path y z g h a b → StartsSome (paths ++ path ∷ []) x z f h b
+unfolding explores_then
+starts_more {paths = paths} {path = path} {g = g} {h = h} {a = a} {b = b} k l = record { explores = explores_then k.explores l.explores; begins = by_case k.begins l.begins }
+  where
+    xs : List WalkCall
+    xs = k.explores.made
+
+    ys : List WalkCall
+    ys = l.explores.made
+
+    by_case : (0 < a.faulty) ⊎ All (Begins xs (IsDue xs g)) paths → (0 < b.faulty) ⊎ Begins ys (IsDue ys h) path → (0 < b.faulty) ⊎ All (Begins (ys ++ xs) (IsDue (ys ++ xs) h)) (paths ++ path ∷ [])
+    by_case (inl some) e = inl (l.kept some)
+    by_case (inr each) (inl some) = inl some
+    by_case (inr each) (inr good) = inr (All-push (Begins (ys ++ xs) (IsDue (ys ++ xs) h)) paths path
+        (All-weaker (Begins xs (IsDue xs g)) (Begins (ys ++ xs) (IsDue (ys ++ xs) h)) (λ p start. begins_within (earlier_calls xs ys) (due_later xs ys g h l.explores.waits) start) paths each)
+        (begins_within (later_calls xs ys) (due_still xs ys h) good))
+
+-- The same, by the index of the path.
+pub starts_at : {X : Type 0} (f : X → List ℕ) (xs : List X) (i : ℕ) (v : X) (path : List ℕ) {x y z : List Call} {a b c : List (List ℕ)} {r s : Report} → i < length xs → v ≡ get_or xs i v → path ≡ f v →
+    StartsSome (map f (take i xs)) x y a b r → Starts path y z b c r s → StartsSome (map f (take (i + 1) xs)) x z a c s
+starts_at f xs i v path {x = x} {z = z} {a = a} {c = c} {s = s} within is named h k =
+    subst (λ (ps : List (List ℕ)). StartsSome ps x z a c s) (sym (one_more f xs i v path within is named)) (starts_more h k)
+
+-- All paths can be taken, and all folders were entered.
+pub covers_paths : {X : Type 0} (f : X → List ℕ) (xs : List X) (i : ℕ) {x y z : List Call} {a b c : List (List ℕ)} {r : Report} → i ≡ length xs → ¬ (0 < r.faulty) → StartsSome (map f (take i xs)) x y a b r → Exhausts y z b c →
+    CoversPaths (map f xs) x z
+unfolding explores_then
+covers_paths f xs i {x = x} {y = y} {z = z} {b = b} {c = c} {r = r} all fine h k = record {
+  calls = ys ++ ws;
+  are = (explores_then h.explores k.explores).are;
+  waiting = c;
+  all_listed = λ few. k.done (fewer few);
+  begins = subst (λ l. All (Begins (ys ++ ws) (IsDue (ys ++ ws) c)) (map f l)) (take_all i xs (omega arith)) (by_case h.begins);
+  visits = (explores_then h.explores k.explores).visits;
+}
+  where
+    ws : List WalkCall
+    ws = h.explores.made
+
+    ys : List WalkCall
+    ys = k.explores.made
+
+    fewer : length (ys ++ ws) + 1 < 2 ^ 64 → length ys + 1 < 2 ^ 64
+    fewer few =
+        let both = length-append ys ws in
+        omega (arith, both, few)
+
+    by_case : (0 < r.faulty) ⊎ All (Begins ws (IsDue ws b)) (map f (take i xs)) → All (Begins (ys ++ ws) (IsDue (ys ++ ws) c)) (map f (take i xs))
+    by_case (inl some) = absurd (fine some)
+    by_case (inr each) =
+        All-weaker (Begins ws (IsDue ws b)) (Begins (ys ++ ws) (IsDue (ys ++ ws) c)) (λ p start. begins_within (earlier_calls ws ys) (due_later ws ys b c k.explores.waits) start) (map f (take i xs)) each
+
+-- A path of the input was looked at.
+pub takes_met : (answer : Lookup) (path name : List ℕ) {calls calls' : List Call} → name ≡ path → calls' ≡ walked (met path answer) ∷ calls → TakesOne name calls calls'
+takes_met answer path name same is = record { made = met path answer ∷ []; are = is; gives = was_given answer (0, omega arith, ap (λ (p : List ℕ). met p answer) (sym same)) }
+
+-- A path of the input isn't UTF-8.
+pub takes_other : (name : List ℕ) (calls : List Call) → ¬ (IsUtf8 name) → TakesOne name calls calls
+takes_other name calls other = record { made = []; are = refl; gives = no_path_text other }
+
+gives_within : {xs ys : List WalkCall} {path : List ℕ} → Within xs ys → Gives xs path → Gives ys path
+gives_within w (no_path_text other) = no_path_text other
+gives_within {path = path} w (was_given answer seen) = was_given answer (w (met path answer) seen)
+
+-- No path of the input was given yet.
+pub takes_none : (calls : List Call) → CoversInput [] calls calls
+takes_none calls = record { calls = []; are = refl; gives = All-nil (Gives []) }
+
+-- One path more was given.
+pub takes_at : {X : Type 0} (f : X → List ℕ) (xs : List X) (i : ℕ) (v : X) (path : List ℕ) {x y z : List Call} → i < length xs → v ≡ get_or xs i v → path ≡ f v → CoversInput (map f (take i xs)) x y → TakesOne path y z →
+    CoversInput (map f (take (i + 1) xs)) x z
+takes_at f xs i v path {x = x} {y = y} {z = z} within is named h k = record {
+  calls = k.made ++ h.calls;
+  are = parts_are h.calls k.made x y z h.are k.are;
+  gives = subst (All (Gives (k.made ++ h.calls))) (sym (one_more f xs i v path within is named))
+      (All-push (Gives (k.made ++ h.calls)) (map f (take i xs)) path
+      (All-weaker (Gives h.calls) (Gives (k.made ++ h.calls)) (λ p g. gives_within (earlier_calls h.calls k.made) g) (map f (take i xs)) h.gives) (gives_within (later_calls h.calls k.made) k.gives));
+}
+
+-- All paths were given.
+pub takes_all_paths : {X : Type 0} (f : X → List ℕ) (xs : List X) (i : ℕ) (paths : List (List ℕ)) {x y : List Call} → i ≡ length xs → map f xs ≡ paths → CoversInput (map f (take i xs)) x y → CoversInput paths x y
+takes_all_paths f xs i paths {x = x} {y = y} all are h =
+    subst (λ (ps : List (List ℕ)). CoversInput ps x y) (ap (map f) (take_all i xs (omega arith)) ∙ are) h

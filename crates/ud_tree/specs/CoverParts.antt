@@ -1,0 +1,82 @@
+-- CoverParts: parts of a walk, which miss no name.
+--
+--   Explores calls calls' folders folders'   a part of a walk that misses no name of a folder
+--   Starts path calls calls' folders folders' old new   a path of the command line was looked at
+--   VisitsOne folder name calls calls' folders folders'   a name in a folder was visited
+--   Enters folder calls calls' folders folders'   a folder was listed
+--   Exhausts calls calls' folders folders'   no folder waits any more
+--   Waits path folders folders'   a folder waits to be listed
+--   AddsFolder path name node folders folders'   one does, if a node is a folder
+--   TakesOne path calls calls'   a path of the input was given
+--
+-- `calls` and `calls'` are the calls before and after, the newest first, and `folders` and
+-- `folders'` the folders that wait to be listed. `old` and `new` are the report before and after.
+use Rattle.std.specs.Prelude.{◌≡◌, ◌⊎◌, ℕ, ◌+◌, ◌<◌, ◌^◌, List, [], ◌∷◌, ◌++◌, map, length}
+use Rattle.std.specs.List.{Contains}
+use Rattle.ud_replace.specs.declared.node.NodeKind.TheVariants.{Folder}
+use Rattle.ud_replace.specs.declared.node.Node.{Node}
+use Rattle.ud_replace.specs.Calls.{Call, WalkCall, walked}
+use Rattle.ud_tree.specs.declared.report.Report.{Report}
+use Rattle.ud_tree.specs.Covering.{IsFolderPath, WasEntered, IsDue, IsVersioned, Begins, Visits}
+use Rattle.ud_tree.specs.Covering.{VisitsAll, Gives}
+
+-- `Explores calls calls' folders folders'`: since `calls`, only calls of a walk were made. Each
+-- folder that waited was listed or still waits. Each name of each folder that was listed was
+-- visited.
+pub record Explores (calls calls' : List Call) (folders folders' : List (List ℕ)) : Type 0 where
+  pub made : List WalkCall
+  pub are : calls' ≡ map walked made ++ calls
+  pub waits : (folder : List ℕ) → Contains folders folder →
+      WasEntered made folder ⊎ Contains folders' folder
+  pub visits : VisitsAll made (IsDue made folders')
+
+-- `Starts path calls calls' folders folders' old new`: the same, and the path `path` of the command
+-- line can be taken, or a fault was counted. Faults stay counted.
+pub record Starts (path : List ℕ) (calls calls' : List Call) (folders folders' : List (List ℕ))
+    (old new : Report) : Type 0 where
+  pub explores : Explores calls calls' folders folders'
+  pub begins : (0 < new.faulty) ⊎ Begins explores.made (IsDue explores.made folders') path
+  pub kept : 0 < old.faulty → 0 < new.faulty
+
+-- `VisitsOne folder name calls calls' folders folders'`: the same, and `name` in `folder` was
+-- visited.
+pub record VisitsOne (folder name : List ℕ) (calls calls' : List Call)
+    (folders folders' : List (List ℕ)) : Type 0 where
+  pub explores : Explores calls calls' folders folders'
+  pub visited : Visits explores.made (IsDue explores.made folders') folder name
+
+-- `Enters folder calls calls' folders folders'`: the same, and `folder` was listed.
+pub record Enters (folder : List ℕ) (calls calls' : List Call) (folders folders' : List (List ℕ)) :
+    Type 0 where
+  pub explores : Explores calls calls' folders folders'
+  pub entered : WasEntered explores.made folder
+
+-- `Exhausts calls calls' folders folders'`: the same, and no folder waits any more, unless there
+-- were more calls than a machine counts.
+pub record Exhausts (calls calls' : List Call) (folders folders' : List (List ℕ)) : Type 0 where
+  pub explores : Explores calls calls' folders folders'
+  pub done : length explores.made + 1 < 2 ^ 64 → folders' ≡ []
+
+-- `Waits path folders folders'`: the folder `path` waits to be listed, after those before.
+pub record Waits (path : List ℕ) (folders folders' : List (List ℕ)) : Type 0 where
+  pub folder : List ℕ
+  pub is_path : IsFolderPath path folder
+  pub grown : folders' ≡ folders ++ folder ∷ []
+
+-- `AddsFolder path name node folders folders'`: if the node with this path and name is a folder,
+-- and not one of version control, it waits to be listed. Else nothing more does.
+pub data AddsFolder (path name : List ℕ) (node : Node) (folders folders' : List (List ℕ)) :
+    Type 0 where
+  waits_folder : node.kind ≡ Folder → Waits path folders folders' →
+      AddsFolder path name node folders folders'
+  left_folder : IsVersioned name → folders' ≡ folders →
+      AddsFolder path name node folders folders'
+  no_folder : ¬ (node.kind ≡ Folder) → folders' ≡ folders →
+      AddsFolder path name node folders folders'
+
+-- `TakesOne path calls calls'`: since `calls`, only calls of a walk were made, and the path `path`
+-- of the input was given.
+pub record TakesOne (path : List ℕ) (calls calls' : List Call) : Type 0 where
+  pub made : List WalkCall
+  pub are : calls' ≡ map walked made ++ calls
+  pub gives : Gives made path

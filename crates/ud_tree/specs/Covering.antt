@@ -1,0 +1,117 @@
+-- Covering: what becomes of each path and each name that a walk meets, so that it misses none.
+--
+--   IsFolderPath path folder      `folder` is `path`, with a slash at its end
+--   WasEntered calls folder       a folder was listed
+--   IsDue calls folders path      a folder was listed, or waits for that
+--   IsVersioned name              a name is that of a folder of version control
+--   Begins calls due path         a path of the command line can be taken
+--   Visits calls due folder name   what became of a name in a folder
+--   VisitsAll calls due           so for each name of each folder that was listed
+--   Gives calls path              what became of a path of the input
+--   own_path path                 a path, unless it is empty
+--   paths_after path text, paths_of text   the paths of the input
+--   CoversPaths paths old new     a whole walk from the paths of the command line
+--   CoversInput paths old new     one from those of the input
+--   MissesNone args text old new   one from the paths that the arguments name
+--
+-- `calls` are those of a walk, the newest first. `due path` says that a folder was listed or waits
+-- for that.
+use Rattle.std.specs.Prelude.{◌≡◌, ◌⊎◌, ℕ, List, [], ◌∷◌, ◌++◌, Bool, true, false, IsUtf8, codes}
+use Rattle.std.specs.Prelude.{string_bytes, map, length, ◌+◌, ◌<◌, ◌^◌, ◌==◌, if◌then◌else◌}
+use Rattle.std.specs.List.{All, Contains}
+use Rattle.ud_replace.specs.declared.node.Lookup.{Lookup}
+use Rattle.ud_replace.specs.declared.node.Lookup.TheVariants.{Present}
+use Rattle.ud_replace.specs.declared.node.Node.{Node}
+use Rattle.ud_replace.specs.declared.node.NodeKind.TheVariants.{File, Folder, Link}
+use Rattle.ud_replace.specs.Calls.{Call, walked, WalkCall, met, followed, listed}
+use Rattle.ud_tree.specs.declared.arguments.Arguments.{Arguments}
+
+-- `IsFolderPath path folder`: `folder` is `path`, with a slash at its end.
+abbrev pub IsFolderPath : List ℕ → List ℕ → Type 0
+IsFolderPath path folder = (folder ≡ path) ⊎ (folder ≡ path ++ codes "/")
+
+-- `WasEntered calls folder`: one of `calls` listed the folder.
+abbrev pub WasEntered : List WalkCall → List ℕ → Type 0
+WasEntered calls folder =
+    (names : List (List ℕ)) × (answer : Bool) × Contains calls (listed folder names answer)
+
+-- `IsDue calls folders path`: the folder `path` was listed, or is one of `folders`, which wait.
+abbrev pub IsDue : List WalkCall → List (List ℕ) → List ℕ → Type 0
+IsDue calls folders path = (folder : List ℕ) × IsFolderPath path folder ×
+    (WasEntered calls folder ⊎ Contains folders folder)
+
+-- `IsVersioned name`: a folder of this name is one of version control, and is left out.
+abbrev pub IsVersioned : List ℕ → Type 0
+IsVersioned name = (name ≡ codes ".git") ⊎ (name ≡ codes ".hg") ⊎ (name ≡ codes ".svn")
+
+-- `Begins calls due path`: `path` was met as a regular file. Or it was met as a folder, or as a
+-- link that leads to one, and that is due.
+pub data Begins (calls : List WalkCall) (due : List ℕ → Type 0) (path : List ℕ) : Type 0 where
+  at_file : (node : Node) → Contains calls (met path (Present node)) → node.kind ≡ File →
+      Begins calls due path
+  at_folder : (node : Node) → Contains calls (met path (Present node)) → node.kind ≡ Folder →
+      due path → Begins calls due path
+  at_link : (node : Node) → Contains calls (met path (Present node)) → node.kind ≡ Link →
+      Contains calls (followed path true) → due path → Begins calls due path
+
+-- `Visits calls due folder name`: `name` isn't UTF-8. Or it was looked at, and is due if it is a
+-- folder, unless that is one of version control.
+pub data Visits (calls : List WalkCall) (due : List ℕ → Type 0) (folder name : List ℕ) :
+    Type 0 where
+  no_text : ¬ (IsUtf8 name) → Visits calls due folder name
+  was_met : (answer : Lookup) → Contains calls (met (folder ++ name) answer) →
+      ((node : Node) → answer ≡ Present node → node.kind ≡ Folder →
+      IsVersioned name ⊎ due (folder ++ name)) → Visits calls due folder name
+
+-- `VisitsAll calls due`: of each folder that was listed, each name was visited.
+abbrev pub VisitsAll : List WalkCall → (List ℕ → Type 0) → Type 0
+VisitsAll calls due = (folder : List ℕ) (names : List (List ℕ)) (answer : Bool) →
+    Contains calls (listed folder names answer) → All (Visits calls due folder) names
+
+-- `Gives calls path`: `path` isn't UTF-8, or it was looked at.
+pub data Gives (calls : List WalkCall) (path : List ℕ) : Type 0 where
+  no_path_text : ¬ (IsUtf8 path) → Gives calls path
+  was_given : (answer : Lookup) → Contains calls (met path answer) → Gives calls path
+
+-- `own_path path`: `path`, unless it is empty.
+abbrev pub own_path : List ℕ → List (List ℕ)
+own_path [] = []
+own_path (b ∷ path) = (b ∷ path) ∷ []
+
+-- `paths_after path text`: the paths of the rest `text` of the input, after the bytes `path` of
+-- one. Each path ends before a null byte, or at the end.
+abbrev pub paths_after : List ℕ → List ℕ → List (List ℕ)
+paths_after path [] = own_path path
+paths_after path (b ∷ text) = if b == 0 then own_path path ++ paths_after [] text
+    else paths_after (path ++ b ∷ []) text
+
+-- `paths_of text`: the paths of the input `text`.
+abbrev pub paths_of : List ℕ → List (List ℕ)
+paths_of text = paths_after [] text
+
+-- `CoversPaths paths old new`: since `old`, only calls of a walk were made. Each of `paths` can be
+-- taken. Of each folder that was listed, each name was visited. Each folder that is due was listed,
+-- unless there were more calls than a machine counts.
+pub record CoversPaths (paths : List (List ℕ)) (old new : List Call) : Type 0 where
+  pub calls : List WalkCall
+  pub are : new ≡ map walked calls ++ old
+  pub waiting : List (List ℕ)
+  pub all_listed : length calls + 1 < 2 ^ 64 → waiting ≡ []
+  pub begins : All (Begins calls (IsDue calls waiting)) paths
+  pub visits : VisitsAll calls (IsDue calls waiting)
+
+-- `CoversInput paths old new`: since `old`, only calls of a walk were made, and each of `paths` was
+-- given.
+pub record CoversInput (paths : List (List ℕ)) (old new : List Call) : Type 0 where
+  pub calls : List WalkCall
+  pub are : new ≡ map walked calls ++ old
+  pub gives : All (Gives calls) paths
+
+-- `MissesNone args text old new`: the paths are those of the command line, and they are covered. Or
+-- they are those of the input `text`, and each was given.
+pub data MissesNone (args : Arguments) (text : List ℕ) (old new : List Call) : Type 0 where
+  misses_no_path : args.from_input ≡ false →
+      CoversPaths (map (λ p. string_bytes p) args.paths.items) old new →
+      MissesNone args text old new
+  misses_no_input : args.from_input ≡ true → CoversInput (paths_of text) old new →
+      MissesNone args text old new
