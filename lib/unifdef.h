@@ -147,7 +147,8 @@ size_t unifdef_take(struct unifdef_stream *stream, char *output, size_t output_l
  *
  * Returns what unifdef_text returns for all chunks together, or UNIFDEF_CLOSED. UNIFDEF_TOO_SMALL
  * is for the message alone: the bytes that fit are written, and a second call with a longer buffer
- * succeeds. Each further call returns the same status and message.
+ * succeeds. Each further call returns the same status and message. If memory for the message is
+ * refused, a call returns those of refused memory, and the next one may return the others.
  */
 int unifdef_finish(struct unifdef_stream *stream, char *message, size_t message_len,
                    size_t *size);

@@ -109,7 +109,8 @@ pub extern "C" fn unifdef_take(
 /// Ends the text. The rest of the output can then be taken.
 ///
 /// What fits of the message is written to `message`, and its whole length to `size`. Returns the
-/// exit status, or 3 if the message doesn't fit. A later call returns the same status and message.
+/// exit status, or 3 if the message doesn't fit. A later call returns the same status and message,
+/// unless memory for the message is refused at one of the calls.
 ///
 /// # Errors
 /// The status is 2, with the program's message, if the text has a fault or memory was refused. It
