@@ -17,6 +17,7 @@ mod token_flags;
 
 pub use conditions::{Answer, Rules, condition};
 pub use expressions::residuals::residual;
+pub use expressions::tokens::{NextToken, Token, next_token};
 pub use list_names::names;
 pub use list_names::names_iter::Names;
 pub use symbols::{Entry, SymbolCalls, SymbolFault, Symbols};

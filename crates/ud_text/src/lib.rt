@@ -12,7 +12,7 @@ mod scan;
 mod searching;
 
 pub use bulk::hash_sign::is_other_word;
-pub use lines::{LineBuffer, Lines, LongLineBuffer, ShortLineBuffer, Taken};
+pub use lines::{LineBuffer, Lines, LongLineBuffer, ShortLineBuffer, Taken, line_in};
 pub use scan::{Scanner, ScannerOf, first_mark, law_same_scans};
 pub use ud_faults::TextFault;
 pub use ud_model::{CommentAt, Line, Scan};

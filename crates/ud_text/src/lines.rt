@@ -10,7 +10,7 @@
 
 ghost use Rattle.std.specs.Prelude.{◌≡◌, ℕ, suc, ◌+◌, ◌<◌, ◌≤◌, ◌↔◌, List, [], ◌∷◌, ◌++◌, length};
 ghost use Rattle.std.specs.Prelude.{take, drop, true, false, Some, None, IfOk, IfErr, OnOk, OnErr};
-ghost use Rattle.std.specs.Prelude.{IfSome, OnSome, IfNone, Ok, Err, IsTrue, MatchResult};
+ghost use Rattle.std.specs.Prelude.{IfSome, OnSome, IfNone, Ok, Err, IsTrue, MatchResult, Bool};
 ghost use Rattle.ud_model.specs.text.Lines.{NoNewline, whole_lines, partial_line, line_at, text_of};
 ghost use Rattle.ud_model.specs.text.Lines.{is_ending};
 ghost use Rattle.ud_text.specs.lines.Borrowing.{CanBorrow, IsFirstLine};
@@ -479,4 +479,22 @@ fn split_ending(line: &[u8]) -> (&[u8], &[u8])
         0
     };
     line.split_at(line.len() - ending)
+}
+
+/// Returns the first line of a text, with this number. It has a newline, or is all of the text.
+///
+/// `text` may have any length and any bytes. So the line may have more than `LINE_BYTES`.
+pub fn line_in(text: &[u8], number: u32) -> Line<'_>
+    ensures bytes { (whole : Bool) × UpToNewline text.now (length (text_of (as_line result))) whole }
+    ensures value { as_line result ≡
+        line_at number (take (length (text_of (as_line result))) text.now) }
+    ensures one_line { NoNewline result.body.now }
+{
+    let taken = up_to_newline(text);
+    let (body, ending) = split_ending(&text[..taken.used]);
+    Line {
+        body,
+        ending,
+        number,
+    }
 }

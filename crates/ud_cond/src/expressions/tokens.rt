@@ -14,7 +14,7 @@ use ud_model::bytes::{is_digit, is_word_byte, skip_white, word_len};
 
 /// A token of an expression.
 #[derive(Clone, Copy)]
-pub(crate) enum Token<'a> {
+pub enum Token<'a> {
     /// An integer constant.
     Number(&'a [u8]),
     /// An identifier other than `defined`, and whether arguments follow it.
@@ -31,7 +31,7 @@ pub(crate) enum Token<'a> {
 
 /// The beginning of a text: its first token, if any.
 #[derive(Clone, Copy)]
-pub(crate) enum NextToken<'a> {
+pub enum NextToken<'a> {
     /// White space alone.
     AtEnd,
     /// Text that begins with no token.
@@ -185,9 +185,12 @@ fn punctuator(byte: u8, rest: &[u8]) -> NextToken<'_>
 }
 
 /// Returns the leading token of a text, and the text after it.
+///
+/// `text` may have any length and any bytes. It is that of an expression without its comments (C11
+/// 6.4).
 #[tactic(auto, unfolding(ud_model::specs::conditions::Tokens::next_token))]
 #[inline(always)]
-pub(crate) fn next_token(text: &[u8]) -> NextToken<'_>
+pub fn next_token(text: &[u8]) -> NextToken<'_>
     ensures { as_next result ≡ spec.next_token text.now }
 {
     let text = skip_white(text);

@@ -5,3 +5,4 @@ pub mod BorrowLemmas
 pub mod ConsumeLemmas
 pub mod CountLemmas
 pub mod NearNewlines
+pub mod FirstLineLemmas

@@ -2,3 +2,4 @@
 pub mod MaskLemmas
 pub mod ScannerLemmas
 pub mod UnmarkedLemmas
+pub mod PassLemmas

@@ -11,7 +11,7 @@ ghost use Rattle.ud_model.specs.text.Lines.{NoNewline};
 ghost use Rattle.ud_model.specs.text.Scanning.{is_block};
 ghost use Rattle.ud_model.specs.aids.LexStates.{next_state, opens_comment};
 ghost use Rattle.ud_model.specs.aids.LexStates.{masked_byte, stays_white, blank_last};
-ghost use Rattle.ud_model.specs.aids.LexStates.{kind_in_state, fresh_at};
+ghost use Rattle.ud_model.specs.aids.LexStates.{kind_in_state, fresh_at, LexesTo};
 ghost use Rattle.ud_text.specs.scan.LexerViews.{lex_state_of, shown_in, MasksMore, MasksContent};
 
 use crate::scan::marks::first_mark;
@@ -278,6 +278,27 @@ pub(crate) fn mask_or_borrow<'a, const ROOM: usize>(
         }
     }
     (mask_content(lexer, content, masked), None)
+}
+
+/// The most bytes of a line that are masked at once if nothing reads them.
+const PIECE_BYTES: usize = 64;
+
+/// Reads the content of a line of any length, without showing it.
+pub(crate) fn pass_content(lexer: Lexer, content: &[u8]) -> Lexer
+    requires one_line { NoNewline content.now }
+    ensures { (text : List ℕ) → LexesTo text (lex_state_of lexer.state) lexer.white →
+        LexesTo (text ++ content.now) (lex_state_of result.state) result.white }
+{
+    let mut masked: ArrayVec<u8, PIECE_BYTES> = ArrayVec::new();
+    let mut inside = lexer;
+    let mut rest = content;
+    while !rest.is_empty() {
+        let (piece, after) = rest.split_at(rest.len().min(PIECE_BYTES));
+        masked.clear();
+        inside = mask_content(inside, piece, &mut masked);
+        rest = after;
+    }
+    inside
 }
 
 /// Returns whether a line with this content is fresh: only white space precedes it on its logical

@@ -31,7 +31,8 @@ ghost use Rattle.ud_model.specs.text.Scanning.{is_block};
 use crate::bulk::plain::plain_text_len;
 use crate::bulk::skip_text_lines;
 use crate::scan::lexer::{
-    LexState, Lexer, is_fresh, is_in_block_comment, mask_or_borrow, next_state, stays_white,
+    LexState, Lexer, is_fresh, is_in_block_comment, mask_or_borrow, next_state, pass_content,
+    stays_white,
 };
 use crate::scan::marks::first_mark;
 use arrayvec::ArrayVec;
@@ -182,6 +183,29 @@ fn scan_code<'a, const ROOM: usize>(
         scan_state,
         flags: facts,
         borrowed,
+    }
+}
+
+/// Returns the state after a line of any length in C mode.
+fn pass_code(scan_state: ScanState, line: &Line<'_>) -> ScanState
+    requires one_line { NoNewline line.now.body.now }
+    ensures { ReadsNext Mode.C scan_state (as_line line.now) result }
+{
+    let spliced = is_spliced(line);
+    let inside = pass_content(scan_state.lexer, content(line, spliced));
+    let lexer = end_line(line, spliced, inside);
+    let joins = spliced || is_in_block_comment(lexer.state);
+    ScanState { lexer, joins }
+}
+
+/// Returns the state after a line of any length in its mode.
+fn pass_line(mode: Mode, scan_state: ScanState, line: &Line<'_>) -> ScanState
+    requires one_line { NoNewline line.now.body.now }
+    ensures { ReadsNext mode scan_state (as_line line.now) result }
+{
+    match mode {
+        Mode::C => pass_code(scan_state, line),
+        Mode::Plain => initial_state(),
     }
 }
 
@@ -420,6 +444,18 @@ impl<const N: usize> ScannerOf<N> {
             spliced: scanned.flags.spliced,
             comment: scanned.flags.comment,
         }
+    }
+
+    /// Reads the next line of the text, of any length, without its scan.
+    ///
+    /// The line's body has no newline. The scanner then represents one more reading, as after
+    /// `read`.
+    pub fn pass(&mut self, mode: Mode, line: &Line<'_>)
+        requires one_line { NoNewline line.now.body.now }
+        ensures { (before : List Reading) → ScannerRepresents self.old before →
+            ScannerRepresents self.new (before ++ next_reading before mode (as_line line.now) ∷ []) }
+    {
+        self.scan_state = pass_line(mode, self.scan_state, line);
     }
 
     /// Skips text lines in this mode, many at once. Returns how many bytes of `lines` they have: 0,
