@@ -1,0 +1,100 @@
+-- Token lists: the tokens of a text, one after another.
+use Rattle.std.proofs.Common.{◌≡◌, ℕ, List, [], ◌∷◌, length, Bool, true, false, ◌&&◌, Option, Some, None, option_map, refl, sym, ◌∙◌, ap, arith}
+use Rattle.ud_model.specs.conditions.Tokens.{Token, NextToken, at_end, unreadable, found, next_token}
+use Rattle.ud_model.specs.conditions.ResidualTexts.{are_tokens, same_token, same_tokens, chosen}
+use Rattle.ud_model.specs.aids.Parsing.{prepend_token, tokens_of}
+use Rattle.ud_cond.proofs.lemmas.expressions.ReadingLemmas.{tokens_of-prepend_token}
+
+by_next : (text : List ℕ) (x : NextToken) → next_token text ≡ x → tokens_of text ≡ prepend_token tokens_of x
+by_next text x e = tokens_of-prepend_token text ∙ ap (prepend_token tokens_of) e
+
+-- A text that begins with a token has the tokens of the rest after it.
+first_of : (u t : Token) (o : Option (List Token)) (tokens : List Token) → are_tokens (option_map (λ ts. u ∷ ts) o) (t ∷ tokens) ≡ (same_token u t && are_tokens o tokens)
+first_of u t None tokens = by (same_token u t)
+  where
+    by : (b : Bool) → false ≡ (b && false)
+    by true = refl
+    by false = refl
+first_of u t (Some us) tokens = refl
+
+and_true : (a b : Bool) → a ≡ true → (a && b) ≡ b
+and_true true b e = refl
+and_true false b e = cc
+
+and_false : (a b : Bool) → a ≡ false → (a && b) ≡ false
+and_false false b e = refl
+and_false true b e = cc
+
+module _ (text : List ℕ) (t : Token) where
+  -- The first token is this one.
+  pub same_first : (u : Token) (rest : List ℕ) → next_token text ≡ found u rest → same_token u t ≡ true → (tokens : List Token) →
+      are_tokens (tokens_of text) (t ∷ tokens) ≡ are_tokens (tokens_of rest) tokens
+  same_first u rest e s tokens =
+      ap (λ o. are_tokens o (t ∷ tokens)) (by_next text (found u rest) e) ∙ first_of u t (tokens_of rest) tokens ∙ and_true (same_token u t) (are_tokens (tokens_of rest) tokens) s
+
+  -- The first token is another one.
+  pub other_first : (u : Token) (rest : List ℕ) → next_token text ≡ found u rest → same_token u t ≡ false → (tokens : List Token) →
+      are_tokens (tokens_of text) (t ∷ tokens) ≡ false
+  other_first u rest e s tokens =
+      ap (λ o. are_tokens o (t ∷ tokens)) (by_next text (found u rest) e) ∙ first_of u t (tokens_of rest) tokens ∙ and_false (same_token u t) (are_tokens (tokens_of rest) tokens) s
+
+  -- There is no token.
+  pub none_first : next_token text ≡ at_end → (tokens : List Token) → are_tokens (tokens_of text) (t ∷ tokens) ≡ false
+  none_first e tokens = ap (λ o. are_tokens o (t ∷ tokens)) (by_next text at_end e)
+
+  pub unread_first : next_token text ≡ unreadable → (tokens : List Token) → are_tokens (tokens_of text) (t ∷ tokens) ≡ false
+  unread_first e tokens = ap (λ o. are_tokens o (t ∷ tokens)) (by_next text unreadable e)
+
+-- No tokens.
+pub none_at_end : (text : List ℕ) → next_token text ≡ at_end → are_tokens (tokens_of text) [] ≡ true
+none_at_end text e = ap (λ o. are_tokens o []) (by_next text at_end e)
+
+pub some_found : (text : List ℕ) (u : Token) (rest : List ℕ) → next_token text ≡ found u rest → are_tokens (tokens_of text) [] ≡ false
+some_found text u rest e = ap (λ o. are_tokens o []) (by_next text (found u rest) e) ∙ by (tokens_of rest)
+  where
+    by : (o : Option (List Token)) → are_tokens (option_map (λ ts. u ∷ ts) o) [] ≡ false
+    by None = refl
+    by (Some us) = refl
+
+pub none_unread : (text : List ℕ) → next_token text ≡ unreadable → are_tokens (tokens_of text) [] ≡ false
+none_unread text e = ap (λ o. are_tokens o []) (by_next text unreadable e)
+
+-- The tokens of a text that begins with a token.
+pub record Splits (t : Token) (rest : List ℕ) (tokens : List Token) : Type 0 where
+  pub others : List Token
+  pub is : tokens ≡ t ∷ others
+  pub rest_has : tokens_of rest ≡ Some others
+
+splits_by : (t : Token) (rest : List ℕ) (tokens : List Token) (o : Option (List Token)) → tokens_of rest ≡ o → option_map (λ ts. t ∷ ts) o ≡ Some tokens → Splits t rest tokens
+splits_by t rest tokens None e f = cc
+splits_by t rest tokens (Some us) e f = let q : t ∷ us ≡ tokens = cc in record { others = us; is = sym q; rest_has = e }
+
+pub splits : (text : List ℕ) (t : Token) (rest : List ℕ) (tokens : List Token) → next_token text ≡ found t rest → tokens_of text ≡ Some tokens → Splits t rest tokens
+splits text t rest tokens e f = splits_by t rest tokens (tokens_of rest) refl (sym (by_next text (found t rest) e) ∙ f)
+
+pub ends_none : (text : List ℕ) (tokens : List Token) → next_token text ≡ at_end → tokens_of text ≡ Some tokens → length tokens ≡ 0
+ends_none text tokens e f = let g : Some [] ≡ Some tokens = sym (by_next text at_end e) ∙ f in let h : [] ≡ tokens = cc in ap (λ (l : List Token). length l) (sym h)
+
+pub unread_none : (text : List ℕ) (tokens : List Token) → next_token text ≡ unreadable → tokens_of text ≡ Some tokens → ⊥
+unread_none text tokens e f = let g : None ≡ Some tokens = sym (by_next text unreadable e) ∙ f in cc
+
+-- A text that begins with no token has none.
+pub ends_first : (text : List ℕ) → next_token text ≡ at_end → (t : Token) (tokens : List Token) → tokens_of text ≡ Some (t ∷ tokens) → ⊥
+ends_first text e t tokens f = let n : length (t ∷ tokens) ≡ 0 = ends_none text (t ∷ tokens) e f in cc
+
+-- The token at which a list goes on.
+pub record Begins (tokens : List Token) : Type 0 where
+  pub token : Token
+  pub others : List Token
+  pub is : tokens ≡ token ∷ others
+
+pub begins : (f : Bool) (flags : List Bool) (tokens : List Token) → length (f ∷ flags) ≡ length tokens → Begins tokens
+begins f flags [] e = cc
+begins f flags (t ∷ tokens) e = record { token = t; others = tokens; is = refl }
+
+pub one_less : (f : Bool) (flags : List Bool) (t : Token) (tokens : List Token) → length (f ∷ flags) ≡ length (t ∷ tokens) → length flags ≡ length tokens
+one_less f flags t tokens e = omega (arith, e)
+
+pub none_more : (tokens : List Token) → length tokens ≡ 0 → tokens ≡ []
+none_more [] e = refl
+none_more (t ∷ tokens) e = cc

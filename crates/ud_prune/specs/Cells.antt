@@ -1,0 +1,65 @@
+-- Cells: what the code keeps of the cells of a condition's text.
+--
+--   AreCells cells bytes shown          the cells have these bytes, and are shown so
+--   SameLeft before shown xs after ys   the text so far and then the cells `xs` are the longer text
+--                                       and then the cells `ys`
+--   IsUnknownResidual table rules text flags
+--                                       the residual of the text is unknown, and has the tokens with
+--                                       these flags
+--   IsFound found left cells ..         what is left of the cells was found, or they stay
+--   c_reading l scan                    the line `l` as it is read in C mode, with this scan
+--   IsScannedAlone scan l               the line is scanned as the first of a text, unless the line
+--                                       before joins it
+use Rattle.std.specs.Prelude.{◌≡◌, ℕ, List, [], ◌++◌, map, Bool, true, false, Some}
+use Rattle.ud_model.specs.text.Lines.{Line}
+use Rattle.ud_model.specs.text.Scans.{Scan, Reading}
+use Rattle.ud_model.specs.text.Scanning.{scan_after}
+use Rattle.ud_model.specs.text.Lexemes.{Cell, shown}
+use Rattle.ud_model.specs.conditions.Table.{Argument}
+use Rattle.ud_model.specs.conditions.Expressions.{Expression}
+use Rattle.ud_model.specs.conditions.Conditions.{Rules}
+use Rattle.ud_model.specs.conditions.Residuals.{residual}
+use Rattle.ud_model.specs.conditions.ResidualTexts.{keeps}
+use Rattle.ud_model.specs.aids.Parsing.{expression_of}
+use Rattle.ud_model.specs.declared.cond.Cond.TheVariants.{Unknown}
+use Rattle.ud_model.specs.declared.kind.Mode.TheVariants.{C}
+
+-- `byte_of c`: the byte of the cell `c`.
+abbrev pub byte_of : Cell → ℕ
+byte_of c = c.byte
+
+-- `AreCells cells bytes masked`: the cells have these bytes, and are shown as `masked`.
+pub record AreCells (cells : List Cell) (bytes masked : List ℕ) : Type 0 where
+  pub bytes_are : map byte_of cells ≡ bytes
+  pub shown_are : map shown cells ≡ masked
+
+-- `SameLeft bytes masked xs more longer ys`: bytes and masked bytes, each with those of the cells
+-- `xs`, are `more` and `longer`, each with those of `ys`.
+pub record SameLeft (bytes masked : List ℕ) (xs : List Cell) (more longer : List ℕ)
+    (ys : List Cell) : Type 0 where
+  pub bytes_are : bytes ++ map byte_of xs ≡ more ++ map byte_of ys
+  pub shown_are : masked ++ map shown xs ≡ longer ++ map shown ys
+
+-- `IsUnknownResidual table rules text flags`: the text has a tree whose residual is unknown and has
+-- the tokens whose flag is true.
+pub record IsUnknownResidual (table : List Argument) (rules : Rules) (text : List ℕ)
+    (flags : List Bool) : Type 0 where
+  pub tree : Expression
+  pub is : expression_of text ≡ Some tree
+  pub unknown : (residual table rules tree).cond ≡ Unknown
+  pub kept : flags ≡ keeps table rules tree
+
+-- `IsFound found left cells bytes masked`: these are the bytes of `left` if it was found, else all
+-- cells are left.
+abbrev pub IsFound : Bool → List Cell → List Cell → List ℕ → List ℕ → Type 0
+IsFound true left cells bytes masked = AreCells left bytes masked
+IsFound false left cells bytes masked = left ≡ cells
+
+-- `c_reading l scan`: the line `l` as it is read in C mode, with this scan.
+abbrev pub c_reading : Line → Scan → Reading
+c_reading l scan = record { line = l; mode = C; scan = scan }
+
+-- `IsScannedAlone scan l`: unless the line before joins the line `l`, its scan is that of the first
+-- line of a text.
+abbrev pub IsScannedAlone : Scan → Line → Type 0
+IsScannedAlone scan l = scan.joins_before ≡ false → scan ≡ scan_after [] C l

@@ -1,0 +1,2 @@
+pub mod PrunedTexts
+pub mod Cells

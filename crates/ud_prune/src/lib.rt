@@ -1,0 +1,15 @@
+//! A text without the operands of its conditions that the symbols decide.
+//!
+//! The pass goes over a text line by line. Text lines are copied many at once. An `#if` or `#elif`
+//! that joins no other line is edited if the edited line, read by itself, is the line that is
+//! meant; else it stays. Bytes are only removed.
+//!
+//! ud_model defines what is left of a condition (`conditions.Residuals`, `conditions.ResidualTexts`)
+//! and of a line (`output.SimplifiedTexts`). `specs/PrunedTexts.antt` defines what is left of a text
+//! of any lines, `specs/Cells.antt` what the code keeps of a condition's text.
+#![tactic(auto)]
+
+mod cells;
+mod conditions;
+mod left_texts;
+mod tokens;
