@@ -112,3 +112,7 @@ ok_all (Err e) b s x f = tt
 pub ok_both : {A E B S Q : Type 0} (r : Result A E) → OnOk r B → OnOk r S → (B → S → Q) → OnOk r Q
 ok_both (Ok p) b s f = f b s
 ok_both (Err e) b s f = tt
+
+pub if_ok : {A E : Type 0} {R Q : A → Type 0} (r : Result A E) → IfOk r R → ((p : A) → R p → Q p) → IfOk r Q
+if_ok (Ok p) x f = f p x
+if_ok (Err e) x f = tt

@@ -91,6 +91,11 @@ module _ (table : List Argument) (rules : Rules) where
       stays cells e p (false_and (is_unknown (tree_cond e table rules) && is_undecided table rules (residual table rules e)) (not (list_any is_literal cells))
       (and_false (is_unknown (tree_cond e table rules)) (is_undecided table rules (residual table rules e)) (false_and (is_unknown (residual table rules e).cond) (is_unknown (tree_cond (residual table rules e).tree table rules)) (h e p)))))
 
+  -- A text with a quote stays.
+  pub quote_stays : (cells : List Cell) → list_any is_literal cells ≡ true → simplified_cells table rules cells ≡ cells
+  quote_stays cells h = by_option cells (simplified_cells table rules cells ≡ cells) (without_tree cells) (λ e p.
+      stays cells e p (and_false (is_unknown (tree_cond e table rules) && is_undecided table rules (residual table rules e)) (not (list_any is_literal cells)) (ap not h)))
+
   -- What is left takes the text's place exactly if it is read so, and unknown.
   module _ (cells : List Cell) (e : Expression) (p : expression_of (map shown cells) ≡ Some e) (unknown : is_unknown (expression_cond (map shown cells) table rules) ≡ true)
       (left_unknown : is_unknown (residual table rules e).cond ≡ true) (no_quote : list_any is_literal cells ≡ false) where

@@ -1,3 +1,5 @@
 pub mod CellLemmas
 pub mod TokenLists
 pub mod LeftLemmas
+pub mod QuoteLemmas
+pub mod EditLemmas

@@ -7,13 +7,7 @@
 --                                       the residual of the text is unknown, and has the tokens with
 --                                       these flags
 --   IsFound found left cells ..         what is left of the cells was found, or they stay
---   c_reading l scan                    the line `l` as it is read in C mode, with this scan
---   IsScannedAlone scan l               the line is scanned as the first of a text, unless the line
---                                       before joins it
 use Rattle.std.specs.Prelude.{◌≡◌, ℕ, List, [], ◌++◌, map, Bool, true, false, Some}
-use Rattle.ud_model.specs.text.Lines.{Line}
-use Rattle.ud_model.specs.text.Scans.{Scan, Reading}
-use Rattle.ud_model.specs.text.Scanning.{scan_after}
 use Rattle.ud_model.specs.text.Lexemes.{Cell, shown}
 use Rattle.ud_model.specs.conditions.Table.{Argument}
 use Rattle.ud_model.specs.conditions.Expressions.{Expression}
@@ -22,7 +16,6 @@ use Rattle.ud_model.specs.conditions.Residuals.{residual}
 use Rattle.ud_model.specs.conditions.ResidualTexts.{keeps}
 use Rattle.ud_model.specs.aids.Parsing.{expression_of}
 use Rattle.ud_model.specs.declared.cond.Cond.TheVariants.{Unknown}
-use Rattle.ud_model.specs.declared.kind.Mode.TheVariants.{C}
 
 -- `byte_of c`: the byte of the cell `c`.
 abbrev pub byte_of : Cell → ℕ
@@ -54,12 +47,3 @@ pub record IsUnknownResidual (table : List Argument) (rules : Rules) (text : Lis
 abbrev pub IsFound : Bool → List Cell → List Cell → List ℕ → List ℕ → Type 0
 IsFound true left cells bytes masked = AreCells left bytes masked
 IsFound false left cells bytes masked = left ≡ cells
-
--- `c_reading l scan`: the line `l` as it is read in C mode, with this scan.
-abbrev pub c_reading : Line → Scan → Reading
-c_reading l scan = record { line = l; mode = C; scan = scan }
-
--- `IsScannedAlone scan l`: unless the line before joins the line `l`, its scan is that of the first
--- line of a text.
-abbrev pub IsScannedAlone : Scan → Line → Type 0
-IsScannedAlone scan l = scan.joins_before ≡ false → scan ≡ scan_after [] C l

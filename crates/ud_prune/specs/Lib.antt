@@ -1,2 +1,4 @@
 pub mod PrunedTexts
 pub mod Cells
+pub mod EditedLines
+pub mod Passing

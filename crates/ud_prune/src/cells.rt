@@ -27,7 +27,7 @@ pub(crate) struct LeftText {
 }
 
 /// Splits bytes after the first `count`, or at their end if they are fewer.
-fn split_bytes(bytes: &[u8], count: usize) -> (&[u8], &[u8])
+pub(crate) fn split_bytes(bytes: &[u8], count: usize) -> (&[u8], &[u8])
     ensures front { result.0.now ≡ take count bytes.now }
     ensures back { result.1.now ≡ drop count bytes.now }
 {
@@ -55,6 +55,8 @@ impl<'a> CellBytes<'a> {
             AreCells (take count cells) result.0.bytes.now result.0.shown.now }
         ensures back { (cells : List Cell) → AreCells cells self.entry.bytes.now self.entry.shown.now →
             AreCells (drop count cells) result.1.bytes.now result.1.shown.now }
+        ensures front_bytes { result.0.bytes.now ≡ take count self.entry.bytes.now }
+        ensures back_bytes { result.1.bytes.now ≡ drop count self.entry.bytes.now }
         ensures front_shown { result.0.shown.now ≡ take count self.entry.shown.now }
         ensures back_shown { result.1.shown.now ≡ drop count self.entry.shown.now }
     {

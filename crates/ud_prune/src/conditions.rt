@@ -3,7 +3,7 @@
 //! `residual` gives a flag for each token, by which the text that is left is copied. It takes the
 //! place of the text if it has the tokens that are left, and is as undecided as they are.
 
-ghost use Rattle.std.specs.Prelude.{◌≡◌, ◌≤◌, ◌&&◌, ℕ, List, length, map, false, Some, IfOk, IsTrue};
+ghost use Rattle.std.specs.Prelude.{◌≡◌, ◌≤◌, ◌&&◌, ℕ, List, length, map, true, false, Some, IfOk, IsTrue};
 ghost use Rattle.std.specs.List.{list_any};
 ghost use Rattle.ud_model.specs.text.Lexemes.{Cell, shown};
 ghost use Rattle.ud_model.specs.conditions.Table.{Argument};
@@ -117,7 +117,9 @@ impl LeftCondition {
         rules: Rules,
     ) -> Result<bool, AllocError>
         requires fits { length text.shown.now ≤ LINE_BYTES }
-        ensures { IfOk result (λ found. (calls : List Argument) →
+        ensures fewer { IfOk result (λ found. found ≡ true →
+            length self.new.text.bytes.items ≤ length text.entry.bytes.now) }
+        ensures found { IfOk result (λ found. (calls : List Argument) →
             TableRepresents symbols.now calls → (cells : List Cell) →
             AreCells cells text.entry.bytes.now text.entry.shown.now →
             list_any is_literal cells ≡ false →

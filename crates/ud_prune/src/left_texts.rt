@@ -66,7 +66,11 @@ fn append_token<'a>(
         SameLeft left.old.bytes.items left.old.shown.items
         (left_from place.entry.stays place.entry.operand (flag ∷ flags) cells)
         left.new.bytes.items left.new.shown.items (left_from p.stays p.operand flags rest)) }
-    ensures bound { IfOk result (λ p. length left.new.shown.items + length p.text.shown.now ≤
+    ensures fewer_bytes { IfOk result (λ p.
+        length left.new.bytes.items + length p.text.bytes.now ≤
+        length left.old.bytes.items + length place.entry.text.bytes.now) }
+    ensures fewer_shown { IfOk result (λ p.
+        length left.new.shown.items + length p.text.shown.now ≤
         length left.old.shown.items + length place.entry.text.shown.now) }
 {
     let text = place.text;
@@ -123,7 +127,9 @@ pub(crate) fn append_left(
         AreCells cells text.entry.bytes.now text.entry.shown.now →
         SameLeft left.old.bytes.items left.old.shown.items (left_cells flags.now cells)
         left.new.bytes.items left.new.shown.items []) }
-    ensures bound { OnOk result (length left.new.shown.items ≤
+    ensures fewer_bytes { OnOk result (length left.new.bytes.items ≤
+        length left.old.bytes.items + length text.entry.bytes.now) }
+    ensures fewer_shown { OnOk result (length left.new.shown.items ≤
         length left.old.shown.items + length text.entry.shown.now) }
 {
     let mut place = Place {

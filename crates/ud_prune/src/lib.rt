@@ -6,10 +6,15 @@
 //!
 //! ud_model defines what is left of a condition (`conditions.Residuals`, `conditions.ResidualTexts`)
 //! and of a line (`output.SimplifiedTexts`). `specs/PrunedTexts.antt` defines what is left of a text
-//! of any lines, `specs/Cells.antt` what the code keeps of a condition's text.
+//! of any lines. `specs/Cells.antt`, `specs/EditedLines.antt` and `specs/Passing.antt` have what the
+//! code keeps of a condition's text, of a line and of a text.
 #![tactic(auto)]
 
 mod cells;
 mod conditions;
 mod left_texts;
+mod lines;
+mod texts;
 mod tokens;
+
+pub use texts::prune;

@@ -9,13 +9,15 @@ use Rattle.ud_prune.proofs.left_texts.append_left.Goals as goal
 
 pub loop-flag-init : goal.loop-flag-init
 loop-flag-init c = record {
-  bound = omega arith;
+  fewer_bytes = omega arith;
+  fewer_shown = omega arith;
   left = λ cells a. (cells, a, record { bytes_are = refl; shown_are = refl });
 }
 
 pub loop-flag-preserved : goal.loop-flag-preserved
 loop-flag-preserved c = record {
-  bound = let k = c.in_ok-place.ensures.bound in omega arith;
+  fewer_bytes = let k = c.in_ok-place.ensures.fewer_bytes in omega arith;
+  fewer_shown = let k = c.in_ok-place.ensures.fewer_shown in omega arith;
   left = λ cells a.
       let i = c.loop-flag.invariant.left cells a in
       let later : List Bool = drop (c.loop-flag.flag-index + 1) c.args.flags.now in
@@ -32,9 +34,16 @@ returns-clause-left c =
     same_then (same_on c.args.left.now.bytes.items c.args.left.now.shown.items refl (sym (ap (λ (l : List Bool). left_from c.loop-flag.place.stays c.loop-flag.place.operand l i.0) e)) i.2)
     (all_appended c.loop-flag.left.bytes.items c.loop-flag.left.shown.items i.0 c.loop-flag.place.text.bytes.now c.loop-flag.place.text.shown.now i.1 b s))
 
-pub returns-clause-bound : goal.returns-clause-bound
-returns-clause-bound c =
+pub returns-clause-fewer_bytes : goal.returns-clause-fewer_bytes
+returns-clause-fewer_bytes c =
+    ok_both c.append_if.result c.append_if.ensures.bytes c.append_if.ensures.shown (λ b s.
+    let n = length-append c.loop-flag.left.bytes.items c.loop-flag.place.text.bytes.now in
+    let k = ap (λ (l : List ℕ). length l) b in
+    omega (arith, c.loop-flag.invariant.fewer_bytes))
+
+pub returns-clause-fewer_shown : goal.returns-clause-fewer_shown
+returns-clause-fewer_shown c =
     ok_both c.append_if.result c.append_if.ensures.bytes c.append_if.ensures.shown (λ b s.
     let n = length-append c.loop-flag.left.shown.items c.loop-flag.place.text.shown.now in
     let k = ap (λ (l : List ℕ). length l) s in
-    omega (arith, c.loop-flag.invariant.bound))
+    omega (arith, c.loop-flag.invariant.fewer_shown))

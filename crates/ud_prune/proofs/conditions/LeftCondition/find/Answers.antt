@@ -11,18 +11,18 @@ use Rattle.ud_prune.specs.Cells.{AreCells}
 use Rattle.ud_prune.proofs.LeftLemmas.{known_stays, settled_stays, found_or_stays, left_alone}
 use Rattle.ud_prune.proofs.conditions.LeftCondition.find.Goals as goal
 
-pub returns-then-not-is_unknown : goal.returns-then-not-is_unknown
-returns-then-not-is_unknown c = λ calls h cells a q.
+pub returns-then-not-is_unknown-clause-found : goal.returns-then-not-is_unknown-clause-found
+returns-then-not-is_unknown-clause-found c = λ calls h cells a q.
     known_stays calls (as_rules c.args.rules) cells
     (ap (λ (l : List ℕ). is_unknown (expression_cond l calls (as_rules c.args.rules))) a.shown_are ∙ sym (c.is_unknown.ensures calls h) ∙ c.if-not-is_unknown.true)
 
-pub returns-then-not-find_residual : goal.returns-then-not-find_residual
-returns-then-not-find_residual c = λ calls h cells a q.
+pub returns-then-not-find_residual-clause-found : goal.returns-then-not-find_residual-clause-found
+returns-then-not-find_residual-clause-found c = λ calls h cells a q.
     settled_stays calls (as_rules c.args.rules) cells (λ e p.
     c.find_residual.ensures.no (c.if-not-find_residual.true) calls h e (ap expression_of (sym a.shown_are) ∙ p))
 
-pub returns : goal.returns
-returns c = λ calls h cells a q.
+pub returns-clause-found : goal.returns-clause-found
+returns-clause-found c = λ calls h cells a q.
     let rules : Rules = as_rules c.args.rules in
     let r = c.find_residual.ensures.yes c.if-not-find_residual.false calls h in
     let p : expression_of (map shown cells) ≡ Some r.tree = ap expression_of a.shown_are ∙ r.is in

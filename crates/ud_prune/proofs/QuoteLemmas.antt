@@ -1,0 +1,221 @@
+-- Quotes: a part of a line has a literal exactly if a quote is shown in it.
+use Rattle.std.proofs.Common.{◌≡◌, ℕ, zero, suc, ◌==◌, List, [], ◌∷◌, ◌++◌, length, map, take, drop, Bool, true, false, ◌&&◌, ◌||◌, if◌then◌else◌, refl, sym, ◌∙◌, ap, ap₂, subst, ne_eqb}
+use Rattle.std.specs.List.{list_any}
+use Rattle.std.proofs.lemmas.List.{drop-map}
+use Rattle.ud_model.specs.text.Bytes.{is_quote, is_white, are_white, is_word_byte, are_word_bytes, slash, star, starts_with_byte, number_sign, space}
+use Rattle.ud_model.specs.text.Lexemes.{LexemeKind, block_comment, line_comment, literal, single, Cell, shown, shown_as, Extent, lexeme_at, lex_from, lex, comment_size, line_comment_size, literal_size}
+use Rattle.ud_model.specs.text.Lines.{Line}
+use Rattle.ud_model.specs.text.Scans.{Scan}
+use Rattle.ud_model.specs.text.Splicing.{content, spliced_part}
+use Rattle.ud_model.specs.text.Scanning.{content_cells, scan_after}
+use Rattle.ud_model.specs.sections.Directives.{Directive, directive, content_of}
+use Rattle.ud_model.specs.sections.DirectiveParts.{HasDirective}
+use Rattle.ud_model.specs.conditions.Table.{Argument}
+use Rattle.ud_model.specs.conditions.Conditions.{Rules}
+use Rattle.ud_model.specs.conditions.ResidualTexts.{is_literal}
+use Rattle.ud_model.specs.output.SimplifiedTexts.{keyword_end, condition_cells}
+use Rattle.ud_model.specs.declared.kind.Mode.TheVariants.{C}
+use Rattle.ud_model.proofs.text.ScanBytes.{masked-content_cells}
+use Rattle.ud_model.proofs.sections.SplitLines.{directive_is}
+use Rattle.ud_model.proofs.output.SimplifiedLines.{after_is}
+
+-- 1. Bytes.
+
+parts_false : (a b : Bool) → (a || b) ≡ false → (a ≡ false) × (b ≡ false)
+parts_false false b e = (refl, e)
+parts_false true b e = cc
+
+pub any_append : (p : ℕ → Bool) (xs ys : List ℕ) → list_any p xs ≡ false → list_any p ys ≡ false → list_any p (xs ++ ys) ≡ false
+any_append p [] ys e f = f
+any_append p (x ∷ xs) ys e f =
+    let h = parts_false (p x) (list_any p xs) e in
+    ap (λ (b : Bool). b || list_any p (xs ++ ys)) h.0 ∙ any_append p xs ys h.1 f
+
+-- 2. Cells.
+
+-- A cell of this kind, whose lexeme begins with such a byte, is no single byte that is a quote.
+abbrev IsQuiet : LexemeKind → ℕ → Type 0
+IsQuiet single b = is_quote b ≡ false
+IsQuiet block_comment b = Unit {0}
+IsQuiet line_comment b = Unit {0}
+IsQuiet literal b = Unit {0}
+
+-- The extent by these tests.
+abbrev extent_by : ℕ → List ℕ → Bool → Bool → Bool → Extent
+extent_by a rest s t q =
+    if s then record { kind = block_comment; more = suc (comment_size (drop 1 rest)) }
+    else if t then record { kind = line_comment; more = suc (line_comment_size (drop 1 rest)) }
+    else if q then record { kind = literal; more = literal_size a false rest }
+    else record { kind = single; more = 0 }
+
+quiet_at : (a : ℕ) (rest : List ℕ) → IsQuiet (lexeme_at a rest).kind a
+unfolding lexeme_at
+quiet_at a rest = by ((a == slash) && starts_with_byte star rest) ((a == slash) && starts_with_byte slash rest) (is_quote a) refl
+  where
+    by : (s t q : Bool) → is_quote a ≡ q → IsQuiet (extent_by a rest s t q).kind a
+    by true t q e = tt
+    by false true q e = tt
+    by false false true e = tt
+    by false false false e = e
+
+-- Each single cell is no quote.
+abbrev AreQuiet : List Cell → Type 0
+AreQuiet [] = Unit {0}
+AreQuiet (c ∷ cells) = IsQuiet c.kind c.byte × AreQuiet cells
+
+-- A lexeme of this kind may go on for so many bytes.
+abbrev GoesOn : LexemeKind → ℕ → Type 0
+GoesOn single more = more ≡ 0
+GoesOn block_comment more = Unit {0}
+GoesOn line_comment more = Unit {0}
+GoesOn literal more = Unit {0}
+
+goes_on : (a : ℕ) (rest : List ℕ) → GoesOn (lexeme_at a rest).kind (lexeme_at a rest).more
+unfolding lexeme_at
+goes_on a rest = by ((a == slash) && starts_with_byte star rest) ((a == slash) && starts_with_byte slash rest) (is_quote a)
+  where
+    by : (s t q : Bool) → GoesOn (extent_by a rest s t q).kind (extent_by a rest s t q).more
+    by true t q = tt
+    by false true q = tt
+    by false false true = tt
+    by false false false = refl
+
+inside_quiet : (k : LexemeKind) (n : ℕ) (a : ℕ) → GoesOn k (suc n) → IsQuiet k a
+inside_quiet single n a g = cc
+inside_quiet block_comment n a g = tt
+inside_quiet line_comment n a g = tt
+inside_quiet literal n a g = tt
+
+less : (k : LexemeKind) (n : ℕ) → GoesOn k (suc n) → GoesOn k n
+less single n g = cc
+less block_comment n g = tt
+less line_comment n g = tt
+less literal n g = tt
+
+quiet_from : (k : LexemeKind) (n : ℕ) (text : List ℕ) → GoesOn k n → AreQuiet (lex_from k n text)
+unfolding lex_from
+quiet_from k n [] g = tt
+quiet_from k zero (a ∷ rest) g = (quiet_at a rest, quiet_from (lexeme_at a rest).kind (lexeme_at a rest).more rest (goes_on a rest))
+quiet_from k (suc n) (a ∷ rest) g = (inside_quiet k n a g, quiet_from k n rest (less k n g))
+
+pub quiet_lex : (text : List ℕ) → AreQuiet (lex text)
+unfolding lex
+quiet_lex text = quiet_from single 0 text refl
+
+pub quiet_drop : (n : ℕ) (cells : List Cell) → AreQuiet cells → AreQuiet (drop n cells)
+quiet_drop zero cells q = q
+quiet_drop (suc n) [] q = tt
+quiet_drop (suc n) (c ∷ cells) q = quiet_drop n cells q.1
+
+pub quiet_take : (n : ℕ) (cells : List Cell) → AreQuiet cells → AreQuiet (take n cells)
+quiet_take zero cells q = tt
+quiet_take (suc n) [] q = tt
+quiet_take (suc n) (c ∷ cells) q = (q.0, quiet_take n cells q.1)
+
+-- Where a quote is shown, there is a literal.
+quote_cell : (k : LexemeKind) (b : ℕ) → IsQuiet k b → is_quote (shown_as k b) ≡ true → is_literal (record { byte = b; kind = k }) ≡ true
+quote_cell literal b q e = refl
+quote_cell single b q e = let f : true ≡ false = sym e ∙ q in cc
+quote_cell block_comment b q e = cc
+quote_cell line_comment b q e = cc
+
+pub quote_shown : (cells : List Cell) → AreQuiet cells → list_any is_quote (map shown cells) ≡ true → list_any is_literal cells ≡ true
+quote_shown [] q e = cc
+quote_shown (c ∷ cells) q e = by (is_quote (shown c)) (is_literal c) refl refl (quote_shown cells q.1) e
+  where
+    by : (a l : Bool) → is_quote (shown c) ≡ a → is_literal c ≡ l → (list_any is_quote (map shown cells) ≡ true → list_any is_literal cells ≡ true) → (a || list_any is_quote (map shown cells)) ≡ true →
+        (l || list_any is_literal cells) ≡ true
+    by true true f g k h = refl
+    by false true f g k h = refl
+    by false false f g k h = k h
+    by true false f g k h = let z : false ≡ true = sym g ∙ quote_cell c.kind c.byte q.0 f in cc
+
+-- Where no quote is shown, there is no literal.
+abbrev IsNoLiteral : LexemeKind → Type 0
+IsNoLiteral literal = ⊥
+IsNoLiteral single = Unit {0}
+IsNoLiteral block_comment = Unit {0}
+IsNoLiteral line_comment = Unit {0}
+
+no_literal_cell : (k : LexemeKind) (b : ℕ) → IsNoLiteral k → is_literal (record { byte = b; kind = k }) ≡ false
+no_literal_cell literal b n = absurd n
+no_literal_cell single b n = refl
+no_literal_cell block_comment b n = refl
+no_literal_cell line_comment b n = refl
+
+none_at : (a : ℕ) (rest : List ℕ) → is_quote (shown_as (lexeme_at a rest).kind a) ≡ false → IsNoLiteral (lexeme_at a rest).kind
+unfolding lexeme_at
+none_at a rest = by ((a == slash) && starts_with_byte star rest) ((a == slash) && starts_with_byte slash rest) (is_quote a) refl
+  where
+    by : (s t q : Bool) → is_quote a ≡ q → is_quote (shown_as (extent_by a rest s t q).kind a) ≡ false → IsNoLiteral (extent_by a rest s t q).kind
+    by true t q e f = tt
+    by false true q e f = tt
+    by false false false e f = tt
+    by false false true e f = let z : true ≡ false = sym e ∙ f in cc
+
+none_from : (k : LexemeKind) (n m : ℕ) (text : List ℕ) → IsNoLiteral k → list_any is_quote (map shown (take m (lex_from k n text))) ≡ false → list_any is_literal (take m (lex_from k n text)) ≡ false
+unfolding lex_from
+none_from k n zero text l e = refl
+none_from k n (suc m) [] l e = refl
+none_from k zero (suc m) (a ∷ rest) l e =
+    let x = lexeme_at a rest in
+    let p = parts_false (is_quote (shown_as x.kind a)) (list_any is_quote (map shown (take m (lex_from x.kind x.more rest)))) e in
+    let n : IsNoLiteral x.kind = none_at a rest p.0 in
+    ap (λ (b : Bool). b || list_any is_literal (take m (lex_from x.kind x.more rest))) (no_literal_cell x.kind a n) ∙ none_from x.kind x.more m rest n p.1
+none_from k (suc n) (suc m) (a ∷ rest) l e =
+    let p = parts_false (is_quote (shown_as k a)) (list_any is_quote (map shown (take m (lex_from k n rest)))) e in
+    ap (λ (b : Bool). b || list_any is_literal (take m (lex_from k n rest))) (no_literal_cell k a l) ∙ none_from k n m rest l p.1
+
+none_lex : (m : ℕ) (text : List ℕ) → list_any is_quote (map shown (take m (lex text))) ≡ false → list_any is_literal (take m (lex text)) ≡ false
+unfolding lex
+none_lex m text e = none_from single 0 m text tt e
+
+-- 3. A line.
+
+none_after : (n : ℕ) (cells : List Cell) → list_any is_literal cells ≡ false → list_any is_literal (drop n cells) ≡ false
+none_after zero cells e = e
+none_after (suc n) [] e = e
+none_after (suc n) (c ∷ cells) e = none_after n cells (parts_false (is_literal c) (list_any is_literal cells) e).1
+
+white_no_quote : (b : ℕ) → is_white b ≡ true → is_quote b ≡ false
+white_no_quote b e = ap₂ (λ (x y : Bool). x || y) (ne_eqb b 34 (λ q. let f : is_white 34 ≡ true = subst (λ (x : ℕ). is_white x ≡ true) q e in cc)) (ne_eqb b 39 (λ q. let f : is_white 39 ≡ true = subst (λ (x : ℕ). is_white x ≡ true) q e in cc))
+
+word_no_quote : (b : ℕ) → is_word_byte b ≡ true → is_quote b ≡ false
+word_no_quote b e = ap₂ (λ (x y : Bool). x || y) (ne_eqb b 34 (λ q. let f : is_word_byte 34 ≡ true = subst (λ (x : ℕ). is_word_byte x ≡ true) q e in cc)) (ne_eqb b 39 (λ q. let f : is_word_byte 39 ≡ true = subst (λ (x : ℕ). is_word_byte x ≡ true) q e in cc))
+
+both_true : (a b : Bool) → (a && b) ≡ true → (a ≡ true) × (b ≡ true)
+both_true true b e = (refl, e)
+both_true false b e = cc
+
+whites : (bytes : List ℕ) → are_white bytes ≡ true → list_any is_quote bytes ≡ false
+whites [] e = refl
+whites (b ∷ bytes) e =
+    let p = both_true (is_white b) (are_white bytes) e in
+    ap (λ (q : Bool). q || list_any is_quote bytes) (white_no_quote b p.0) ∙ whites bytes p.1
+
+words : (bytes : List ℕ) → are_word_bytes bytes ≡ true → list_any is_quote bytes ≡ false
+words [] e = refl
+words (b ∷ bytes) e =
+    let p = both_true (is_word_byte b) (are_word_bytes bytes) e in
+    ap (λ (q : Bool). q || list_any is_quote bytes) (word_no_quote b p.0) ∙ words bytes p.1
+
+-- Without a quote after the keyword, a directive's line has none.
+front_no_quote : (scan : Scan) (d : Directive) → HasDirective scan d → list_any is_quote d.after ≡ false → list_any is_quote scan.masked ≡ false
+front_no_quote scan d i e =
+    let rest : list_any is_quote (i.parts.word ++ i.parts.rest) ≡ false = any_append is_quote i.parts.word i.parts.rest (words i.parts.word i.are.word) (ap (list_any is_quote) (sym i.after) ∙ e) in
+    let more : list_any is_quote (i.parts.gap ++ (i.parts.word ++ i.parts.rest)) ≡ false = any_append is_quote i.parts.gap (i.parts.word ++ i.parts.rest) (whites i.parts.gap i.are.gap) rest in
+    ap (list_any is_quote) i.are.joined
+    ∙ any_append is_quote i.parts.white (number_sign ∷ (i.parts.gap ++ (i.parts.word ++ i.parts.rest))) (whites i.parts.white i.are.white) more
+
+module _ (table : List Argument) (rules : Rules) (l : Line) (scan : Scan) (d : Directive) (s : scan ≡ scan_after [] C l) (h : content_of scan ≡ directive d) where
+  -- A line without a quote after the keyword has no literal there.
+  pub no_literal : list_any is_quote d.after ≡ false → list_any is_literal (condition_cells l d) ≡ false
+  no_literal e =
+      none_after (keyword_end d) (content_cells [] l)
+      (none_lex (length (content l)) (spliced_part l) (ap (list_any is_quote) (sym (masked-content_cells [] l) ∙ ap (λ (x : Scan). x.masked) (sym s)) ∙ front_no_quote scan d ((directive_is scan d).0 h) e))
+
+  -- A quote after the keyword begins a literal there.
+  pub a_literal : list_any is_quote d.after ≡ true → list_any is_literal (condition_cells l d) ≡ true
+  a_literal e =
+      quote_shown (condition_cells l d) (quiet_drop (keyword_end d) (content_cells [] l) (quiet_take (length (content l)) (lex (spliced_part l)) (quiet_lex (spliced_part l))))
+      (ap (list_any is_quote) (after_is table rules l scan d s h) ∙ e)

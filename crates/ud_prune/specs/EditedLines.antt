@@ -1,0 +1,59 @@
+-- Edited lines: what the code knows of a line that it edits.
+--
+--   c_reading l scan             the line `l` as it is read in C mode, with this scan
+--   IsScannedAlone scan l        the line is scanned as the first of a text, unless the line before
+--                                joins it
+--   is_meant kind text scan      a line with this scan joins no next line, and has this condition
+--   IsCondition l d              the line `l` alone has the directive `d`
+--   HasNoQuote l d               no literal is in the directive's text
+--   line_if_read l d             the edited line, or the line if that would be misread
+--   IsEditedTo edited pruned ..  whether a line was edited, and to which bytes
+use Rattle.std.specs.Prelude.{◌≡◌, ℕ, List, [], Bool, true, false, not, ◌&&◌, if◌then◌else◌}
+use Rattle.std.specs.Prelude.{bytes_eq}
+use Rattle.std.specs.List.{list_any}
+use Rattle.ud_model.specs.text.Lines.{Line, text_of}
+use Rattle.ud_model.specs.text.Scans.{Scan, Reading}
+use Rattle.ud_model.specs.text.Scanning.{scan_after, scan_after_run}
+use Rattle.ud_model.specs.sections.Directives.{Directive, directive, content_of}
+use Rattle.ud_model.specs.conditions.Table.{Argument}
+use Rattle.ud_model.specs.conditions.Conditions.{Rules}
+use Rattle.ud_model.specs.conditions.ResidualTexts.{is_literal}
+use Rattle.ud_model.specs.output.SimplifiedTexts.{condition_cells, has_condition, left_line}
+use Rattle.ud_model.specs.output.SimplifiedTexts.{is_read_alone}
+use Rattle.ud_model.specs.declared.kind.Kind.{Kind}
+use Rattle.ud_model.specs.declared.kind.Mode.TheVariants.{C}
+
+-- `c_reading l scan`: the line `l` as it is read in C mode, with this scan.
+abbrev pub c_reading : Line → Scan → Reading
+c_reading l scan = record { line = l; mode = C; scan = scan }
+
+-- `IsScannedAlone scan l`: unless the line before joins the line `l`, its scan is that of the first
+-- line of a text.
+abbrev pub IsScannedAlone : Scan → Line → Type 0
+IsScannedAlone scan l = scan.joins_before ≡ false → scan ≡ scan_after [] C l
+
+-- `is_meant kind text scan`: a line with this scan joins no next line, and has an `#if` or `#elif`
+-- of this kind with this text.
+abbrev pub is_meant : Kind → List ℕ → Scan → Bool
+is_meant kind text scan = not scan.joins_after && has_condition kind text (content_of scan)
+
+-- `IsCondition l d`: the line `l`, read by itself, joins no next line and has the directive `d`.
+pub record IsCondition (l : Line) (d : Directive) : Type 0 where
+  pub has : content_of (scan_after_run [] l) ≡ directive d
+  pub lone : (scan_after_run [] l).joins_after ≡ false
+
+-- `HasNoQuote l d`: no literal is in the text after the keyword.
+abbrev pub HasNoQuote : Line → Directive → Type 0
+HasNoQuote l d = list_any is_literal (condition_cells l d) ≡ false
+
+-- `line_if_read table rules l d`: the line `l` of the directive `d` with the cells that are left, if
+-- it is read so by itself.
+abbrev pub line_if_read : List Argument → Rules → Line → Directive → Line
+line_if_read table rules l d =
+    if is_read_alone table rules l d then left_line table rules l d else l
+
+-- `IsEditedTo edited pruned l bytes`: the line `l` was edited to `bytes`, which are other ones, or
+-- it stays.
+abbrev pub IsEditedTo : Bool → List ℕ → Line → List ℕ → Type 0
+IsEditedTo true pruned l bytes = (pruned ≡ bytes) × (bytes_eq bytes (text_of l) ≡ false)
+IsEditedTo false pruned l bytes = pruned ≡ text_of l
