@@ -12,9 +12,11 @@
 
 mod cells;
 mod conditions;
+mod laws;
 mod left_texts;
 mod lines;
 mod texts;
 mod tokens;
 
+pub use laws::law_pruned_text;
 pub use texts::prune;

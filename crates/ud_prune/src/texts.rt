@@ -209,6 +209,13 @@ impl Pass {
     }
 }
 
+/// Returns 1 if a line was edited, else 0.
+fn one_if(edited: bool) -> usize
+    ensures { result ≡ (if edited then 1 else 0) }
+{
+    if edited { 1 } else { 0 }
+}
+
 /// Appends the pruned text.
 ///
 /// # Errors
@@ -230,8 +237,8 @@ fn append_pruned(
     let mut count = 0;
     while !rest.is_empty() {
         let step = pass.step(rest, symbols, rules, out)?;
-        rest = &rest[step.used..];
-        count += usize::from(step.edited);
+        rest = rest.split_at(step.used).1;
+        count += one_if(step.edited);
     }
     Ok(count)
 }

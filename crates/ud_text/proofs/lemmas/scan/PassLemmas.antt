@@ -29,4 +29,3 @@ pub represents_passed : (carry left : ScannerState) (before : List Reading) (lin
 represents_passed carry left before line v white h f p w j =
     let text : List ℕ = spliced_text (c_run_of before) in
     represents_code carry before line (drop (length text) (mask (text ++ content line))) v white left h (shown_somehow text (content line) (f text h.reads)) p w j
-

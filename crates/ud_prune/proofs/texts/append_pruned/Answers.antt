@@ -1,0 +1,54 @@
+-- A step more.
+use Rattle.std.proofs.Common.{◌≡◌, ◌<◌, ◌≤◌, ◌+◌, ℕ, List, [], ◌∷◌, ◌++◌, length, take, drop, take-append-drop, length-append, append_assoc, append-nil, false, refl, sym, ◌∙◌, ap, ap₂, subst, arith}
+use Rattle.ud_model.specs.text.Lines.{split_lines}
+use Rattle.ud_model.specs.conditions.Table.{Argument}
+use Rattle.ud_cond.specs.symbols.SymbolTable.{TableRepresents}
+use Rattle.ud_cond.specs.CondViews.{as_rules}
+use Rattle.ud_text.proofs.lemmas.scan.PassLemmas.{nothing_left}
+use Rattle.ud_prune.specs.PrunedTexts.{pruned_text, edited_count}
+use Rattle.ud_prune.proofs.PassLemmas.{nothing_ends, some_left, one_at_most}
+use Rattle.ud_prune.proofs.texts.append_pruned.Goals as goal
+
+pub loop-rest-init : goal.loop-rest-init
+unfolding split_lines
+loop-rest-init c = record {
+  grows = ([], sym (append-nil c.args.out.now.items));
+  few = omega arith;
+  done = ([], refl, λ some. nothing_ends, c.new-pass.ensures, λ calls h. (sym (append-nil c.args.out.now.items), refl));
+}
+
+pub loop-rest-preserved : goal.loop-rest-preserved
+loop-rest-preserved c =
+    let rest : List ℕ = c.loop-rest.rest.now in
+    let i = c.loop-rest.invariant.done in
+    let some : 0 < length rest = some_left rest (sym c.is_empty.ensures ∙ c.loop-rest-test.true) in
+    let ends = i.2 some in
+    let p : List ℕ = take c.in_ok-step.step.used rest in
+    let r = c.in_ok-step.ensures.represents i.0 ends i.3 in
+    let n = c.split_at.ensures.back_len in
+    record {
+      grows = (
+        c.loop-rest.invariant.grows.0 ++ c.in_ok-step.ensures.grows.0,
+        c.in_ok-step.ensures.grows.1 ∙ ap (λ (x : List ℕ). x ++ c.in_ok-step.ensures.grows.0) c.loop-rest.invariant.grows.1 ∙ append_assoc c.args.out.now.items c.loop-rest.invariant.grows.0 c.in_ok-step.ensures.grows.0,
+      );
+      few = let m = c.in_ok-step.ensures.used.0 in let o : c.one_if-count.result ≤ 1 = subst (λ (x : ℕ). x ≤ 1) (sym c.one_if-count.ensures) (one_at_most c.in_ok-step.step.edited) in omega (arith, c.loop-rest.invariant.few);
+      done = (
+        i.0 ++ p,
+        append_assoc i.0 p c.split_at.result.1.now ∙ ap (λ (x : List ℕ). i.0 ++ x) (ap (λ (x : List ℕ). p ++ x) c.split_at.ensures.back ∙ take-append-drop c.in_ok-step.step.used rest) ∙ i.1,
+        λ more. r.0 (omega (arith, n, more)),
+        r.1,
+        λ calls h.
+            let m = c.in_ok-step.ensures.pruned calls h i.0 ends i.3 in
+            let o = i.4 calls h in (
+              m.appended ∙ ap (λ (x : List ℕ). x ++ m.piece) o.0 ∙ append_assoc c.args.out.now.items (pruned_text calls (as_rules c.args.rules) i.0) m.piece ∙ ap (λ (x : List ℕ). c.args.out.now.items ++ x) (sym m.text),
+              ap₂ (λ (x y : ℕ). x + y) o.1 c.one_if-count.ensures ∙ sym m.count,
+            ),
+      );
+    }
+
+pub returns-clause-pruned : goal.returns-clause-pruned
+returns-clause-pruned c =
+    let i = c.loop-rest.invariant.done in
+    let all : i.0 ≡ c.args.text.now = sym (append-nil i.0) ∙ ap (λ (x : List ℕ). i.0 ++ x) (sym (nothing_left c.loop-rest.rest.now (sym c.is_empty.ensures ∙ c.loop-rest-test.false))) ∙ i.1 in
+    subst (λ (x : List ℕ). (calls : List Argument) → TableRepresents c.args.symbols.now calls →
+    (c.loop-rest.out.items ≡ c.args.out.now.items ++ pruned_text calls (as_rules c.args.rules) x) × (c.loop-rest.count ≡ edited_count calls (as_rules c.args.rules) x)) all i.4
