@@ -38,6 +38,7 @@ SECONDS = {
     "ud_text": 122,
     "ud_args": 72,
     "ud_sections": 110,
+    "ud_prune": 75,
     "ud_engine": 175,
     "ud_diagnostics": 27,
     "unifdef": 43,

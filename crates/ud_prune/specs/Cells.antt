@@ -4,8 +4,8 @@
 --   SameLeft before shown xs after ys   the text so far and then the cells `xs` are the longer text
 --                                       and then the cells `ys`
 --   IsUnknownResidual table rules text flags
---                                       the residual of the text is unknown, and has the tokens with
---                                       these flags
+--                                       the residual of the text is unknown, and has the tokens
+--                                       with these flags
 --   IsFound found left cells ..         what is left of the cells was found, or they stay
 use Rattle.std.specs.Prelude.{◌≡◌, ℕ, List, [], ◌++◌, map, Bool, true, false, Some}
 use Rattle.ud_model.specs.text.Lexemes.{Cell, shown}

@@ -46,8 +46,8 @@ pub record IsCondition (l : Line) (d : Directive) : Type 0 where
 abbrev pub HasNoQuote : Line → Directive → Type 0
 HasNoQuote l d = list_any is_literal (condition_cells l d) ≡ false
 
--- `line_if_read table rules l d`: the line `l` of the directive `d` with the cells that are left, if
--- it is read so by itself.
+-- `line_if_read table rules l d`: the line `l` of the directive `d` with the cells that are left,
+-- if it is read so by itself.
 abbrev pub line_if_read : List Argument → Rules → Line → Directive → Line
 line_if_read table rules l d =
     if is_read_alone table rules l d then left_line table rules l d else l

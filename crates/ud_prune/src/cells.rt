@@ -51,9 +51,11 @@ impl<'a> CellBytes<'a> {
 
     /// Splits the bytes after the first `count`, or at their end if they are fewer.
     pub(crate) fn split_at(self, count: usize) -> (CellBytes<'a>, CellBytes<'a>)
-        ensures front { (cells : List Cell) → AreCells cells self.entry.bytes.now self.entry.shown.now →
+        ensures front { (cells : List Cell) →
+            AreCells cells self.entry.bytes.now self.entry.shown.now →
             AreCells (take count cells) result.0.bytes.now result.0.shown.now }
-        ensures back { (cells : List Cell) → AreCells cells self.entry.bytes.now self.entry.shown.now →
+        ensures back { (cells : List Cell) →
+            AreCells cells self.entry.bytes.now self.entry.shown.now →
             AreCells (drop count cells) result.1.bytes.now result.1.shown.now }
         ensures front_bytes { result.0.bytes.now ≡ take count self.entry.bytes.now }
         ensures back_bytes { result.1.bytes.now ≡ drop count self.entry.bytes.now }

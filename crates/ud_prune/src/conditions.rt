@@ -3,7 +3,8 @@
 //! `residual` gives a flag for each token, by which the text that is left is copied. It takes the
 //! place of the text if it has the tokens that are left, and is as undecided as they are.
 
-ghost use Rattle.std.specs.Prelude.{◌≡◌, ◌≤◌, ◌&&◌, ℕ, List, length, map, true, false, Some, IfOk, IsTrue};
+ghost use Rattle.std.specs.Prelude.{◌≡◌, ◌≤◌, ◌&&◌, List, length, map, true, false, Some, IfOk};
+ghost use Rattle.std.specs.Prelude.{IsTrue};
 ghost use Rattle.std.specs.List.{list_any};
 ghost use Rattle.ud_model.specs.text.Lexemes.{Cell, shown};
 ghost use Rattle.ud_model.specs.conditions.Table.{Argument};
@@ -105,8 +106,8 @@ impl LeftCondition {
         }
     }
 
-    /// Finds what is left of the text of an `#if` or `#elif` without a quote. Returns whether it may
-    /// take the text's place.
+    /// Finds what is left of the text of an `#if` or `#elif` without a quote. Returns whether it
+    /// may take the text's place.
     ///
     /// # Errors
     /// Fails if memory runs out.

@@ -4,13 +4,14 @@
 //! before it. It stays or goes with that token, but stays if a comment is in it
 //! (`ud_model.specs.conditions.ResidualTexts.left_from`).
 
-ghost use Rattle.std.specs.Prelude.{◌≡◌, ◌≤◌, ◌+◌, ◌||◌, ◌∷◌, ◌++◌, List, Bool, [], length, map, not, IfOk, OnOk, if◌then◌else◌};
+ghost use Rattle.std.specs.Prelude.{◌≡◌, ◌≤◌, ◌+◌, ◌||◌, ◌∷◌, ◌++◌, List, Bool, [], length, not};
+ghost use Rattle.std.specs.Prelude.{IfOk, OnOk, if◌then◌else◌};
 ghost use Rattle.ud_model.specs.text.Bytes.{are_white};
-ghost use Rattle.ud_model.specs.text.Lexemes.{Cell, shown};
+ghost use Rattle.ud_model.specs.text.Lexemes.{Cell};
 ghost use Rattle.ud_model.specs.conditions.ResidualTexts as spec;
 ghost use Rattle.ud_model.specs.conditions.ResidualTexts.{left_cells, left_from};
 ghost use Rattle.ud_cond.specs.CondViews.{as_token};
-ghost use Rattle.ud_prune.specs.Cells.{AreCells, SameLeft, byte_of};
+ghost use Rattle.ud_prune.specs.Cells.{AreCells, SameLeft};
 
 use crate::cells::{CellBytes, LeftText};
 use std::alloc::AllocError;
@@ -44,7 +45,8 @@ fn ends_operand(token: Token<'_>) -> bool
 
 /// Returns whether white space before a token stays. `flag` is whether the token does.
 fn gap_stays(place: Place<'_>, flag: bool, gap: &[u8]) -> bool
-    ensures { result ≡ ((if place.entry.operand then flag else place.entry.stays) || not (are_white gap.now)) }
+    ensures { result ≡ ((if place.entry.operand then flag else place.entry.stays) ||
+        not (are_white gap.now)) }
 {
     let stays = if place.operand { flag } else { place.stays };
     stays || !are_white(gap)

@@ -3,7 +3,8 @@
 //! The condition of an `#if` or `#elif` that joins no other line is edited. The edited line is then
 //! read by itself. It takes the line's place only if it is the line that is meant.
 
-ghost use Rattle.std.specs.Prelude.{◌≡◌, ◌≤◌, ◌+◌, List, [], false, length, map, IfOk, IfSome, IfNone};
+ghost use Rattle.std.specs.Prelude.{◌≡◌, ◌≤◌, ◌+◌, List, [], false, length, map, IfOk, IfSome};
+ghost use Rattle.std.specs.Prelude.{IfNone};
 ghost use Rattle.std.specs.List.{list_any};
 ghost use Rattle.ud_model.specs.text.Bytes.{is_quote};
 ghost use Rattle.ud_model.specs.text.Lines.{Line as TextLine, NoNewline, text_of};

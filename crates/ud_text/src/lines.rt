@@ -485,7 +485,8 @@ fn split_ending(line: &[u8]) -> (&[u8], &[u8])
 ///
 /// `text` may have any length and any bytes. So the line may have more than `LINE_BYTES`.
 pub fn line_in(text: &[u8], number: u32) -> Line<'_>
-    ensures bytes { (whole : Bool) × UpToNewline text.now (length (text_of (as_line result))) whole }
+    ensures bytes { (whole : Bool) ×
+        UpToNewline text.now (length (text_of (as_line result))) whole }
     ensures value { as_line result ≡
         line_at number (take (length (text_of (as_line result))) text.now) }
     ensures one_line { NoNewline result.body.now }

@@ -453,7 +453,8 @@ impl<const N: usize> ScannerOf<N> {
     pub fn pass(&mut self, mode: Mode, line: &Line<'_>)
         requires one_line { NoNewline line.now.body.now }
         ensures { (before : List Reading) → ScannerRepresents self.old before →
-            ScannerRepresents self.new (before ++ next_reading before mode (as_line line.now) ∷ []) }
+            ScannerRepresents self.new
+            (before ++ next_reading before mode (as_line line.now) ∷ []) }
     {
         self.scan_state = pass_line(mode, self.scan_state, line);
     }
