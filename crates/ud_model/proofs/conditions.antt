@@ -4,6 +4,7 @@ pub mod SymbolLemmas
 pub mod ConditionLemmas
 pub mod NamedAlike
 pub mod StrictLess
+pub mod StrictItems
 pub mod NeverTurns
 pub mod KnownNumbers
 pub mod KnownStays

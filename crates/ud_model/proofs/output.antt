@@ -47,6 +47,8 @@ pub mod WorldsExist
 pub mod ListComplete
 pub mod BlankedLineLemmas
 pub mod SharedLineLemmas
+pub mod StrictTrees
+pub mod StrictRuns
 pub mod LoneLines
 pub mod Inserting
 pub mod CountedLines

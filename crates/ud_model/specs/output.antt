@@ -6,6 +6,7 @@ pub mod CSelection
 pub mod ListedNames
 pub mod BlankedLines
 pub mod SharedLines
+pub mod StrictLines
 pub mod InsertedLines
 pub mod InsertedNodes
 pub mod SimplifiedTrees

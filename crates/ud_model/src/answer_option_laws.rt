@@ -27,6 +27,7 @@ ghost use Rattle.ud_model.specs.output.BlankedLines.{AreBlankedLines, AreBlanked
 ghost use Rattle.ud_model.specs.output.BlankedLines.{endings_of};
 ghost use Rattle.ud_model.specs.output.SharedLines.{OnlyDecides, with_complement, ShareLines};
 ghost use Rattle.ud_model.specs.output.SharedLines.{AnswersWithComplement};
+ghost use Rattle.ud_model.specs.output.StrictLines.{under_strict, KeepAsMuch, pieces_of};
 ghost use Rattle.ud_model.specs.output.InsertedLines.{KeepsNumbers, Counted, read_as, CountsLines};
 ghost use Rattle.ud_model.specs.output.InsertedLines.{AnswersNumbered};
 ghost use Rattle.ud_model.specs.output.InsertedNodes.{SelectsWithInserted, StillSelects};
@@ -84,6 +85,26 @@ pub fn law_answer_complement()
     ensures shared { (args : List (List ℕ)) (input : List ℕ) (js : List Judged) (a c : Answer) →
         AnswersWithComplement args input a c → JudgesAs args input js →
         ShareLines js a.output c.output }
+{}
+
+/// Under `-K` each text line stays that stays without it.
+///
+/// `-K` comes before the other arguments. Line by line, as far as both runs read: a line that is no
+/// directive and is removed with `-K` is removed without it, too. A run reads up to its first
+/// fault, or to the end, and either run may have a fault that the other one hasn't. Without `-s`,
+/// `-S`, `-b`, `-l`, `-c` and `-n`, the output is the pieces of the lines that were read
+/// (unifdef(1)).
+pub fn law_answer_strict_keeps_text()
+    ensures words { (args : List (List ℕ)) →
+        options_of (codes "-K" ∷ args) ≡ under_strict (options_of args) }
+    ensures text { (args : List (List ℕ)) (input : List ℕ) (js ks : List Judged) →
+        JudgesAs args input js → JudgesAs (codes "-K" ∷ args) input ks → KeepAsMuch js ks }
+    ensures all { (args : List (List ℕ)) (input : List ℕ) (js : List Judged) (a : Answer) →
+        JudgesAs args input js → Succeeds args input a →
+        map (λ (j : Judged). j.line) js ≡ lines_of input }
+    ensures output { (args : List (List ℕ)) (input : List ℕ) (js : List Judged) (a : Answer) →
+        OnlyDecides (options_of args) → JudgesAs args input js → IsAnswer args input a →
+        a.output ≡ pieces_of js }
 {}
 
 /// Under `-n` and `-b` a compiler selects the same lines, and each line keeps its number.

@@ -8,6 +8,7 @@ use Rattle.ud_model.specs.answer.CommandLine.{ParsedArg, flag, parsed_from, pars
 use Rattle.ud_model.specs.output.ListedNames.{with_listing}
 use Rattle.ud_model.specs.output.InsertedLines.{with_blank_renumber, KeepsNumbers}
 use Rattle.ud_model.specs.output.SharedLines.{with_complement}
+use Rattle.ud_model.specs.output.StrictLines.{under_strict}
 use Rattle.ud_model.specs.declared.settings.Settings.{Settings}
 use Rattle.ud_model.specs.declared.settings.Listing.{Listing}
 use Rattle.ud_model.proofs.answer.SameArguments.{Same, a_flag, given_same, table_same, settings_same, no_fault_same, name_same}
@@ -39,6 +40,10 @@ first_b : (args : List (List ℕ)) → parsed_args (codes "-b" ∷ args) ≡ fla
 unfolding chars
 first_b args = refl
 
+first_k : (args : List (List ℕ)) → parsed_args (codes "-K" ∷ args) ≡ flag 75 ∷ parsed_from 1 args
+unfolding chars
+first_k args = refl
+
 -- the options of arguments with a flag before them
 flagged : (args gs : List (List ℕ)) (c : ℕ) → parsed_args gs ≡ flag c ∷ parsed_from 1 args → options_of gs ≡ options_in (flag c ∷ parsed_args args)
 flagged args gs c e = ap options_in e ∙ options_same (flag c ∷ parsed_from 1 args) (flag c ∷ parsed_args args) (a_flag c (after_flag args))
@@ -61,6 +66,10 @@ renumbers args = flagged args (codes "-n" ∷ args) 110 (first_n args)
 -- `-b`
 pub blanks : (args : List (List ℕ)) → options_of (codes "-b" ∷ args) ≡ with_blank_renumber true (options_of args).settings.renumber (options_of args)
 blanks args = flagged args (codes "-b" ∷ args) 98 (first_b args)
+
+-- `-K`
+pub is_strict : (args : List (List ℕ)) → options_of (codes "-K" ∷ args) ≡ under_strict (options_of args)
+is_strict args = flagged args (codes "-K" ∷ args) 75 (first_k args)
 
 -- a flag before arguments without a fault makes none
 no_fault_first : (args gs : List (List ℕ)) (c : ℕ) → parsed_args gs ≡ flag c ∷ parsed_from 1 args → usage_fault args ≡ None → usage_fault gs ≡ None

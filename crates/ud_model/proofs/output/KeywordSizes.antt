@@ -17,7 +17,7 @@ use Rattle.ud_model.specs.declared.kind.Role.TheVariants.{IfGroup, ElifGroup, El
 
 -- The least length of a keyword with this role, if it may be edited.
 abbrev pub least : Role → ℕ
-least IfGroup = 0
+least IfGroup = 2
 least ElifGroup = 4
 least ElseGroup = 4
 least EndifLine = 5

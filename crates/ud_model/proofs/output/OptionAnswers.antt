@@ -13,16 +13,18 @@ use Rattle.ud_model.specs.output.Worlds.{selected}
 use Rattle.ud_model.specs.output.ListedNames.{IsListed, IsNoValue, NeverCounts}
 use Rattle.ud_model.specs.output.BlankedLines.{Blanks, AreBlankedBy}
 use Rattle.ud_model.specs.output.SharedLines.{OnlyDecides, RunsWithComplement, ShareLines}
+use Rattle.ud_model.specs.output.StrictLines.{KeepAsMuch, pieces_of}
 use Rattle.ud_model.specs.output.InsertedLines.{KeepsNumbers, AddsNumbers, AnswersNumbered, CountsLines}
 use Rattle.ud_model.specs.output.InsertedNodes.{StillSelects}
 use Rattle.ud_model.specs.declared.settings.Listing.TheVariants.{Off}
 use Rattle.ud_model.proofs.answer.AddedOption.{WithOption, with_option}
 use Rattle.ud_model.proofs.output.AnswerLaws.{faultless, answered_selects}
-use Rattle.ud_model.proofs.output.FlagArguments.{lists_names, complements, no_fault_with_c, name_with_c}
+use Rattle.ud_model.proofs.output.FlagArguments.{lists_names, complements, is_strict, no_fault_with_c, name_with_c}
 use Rattle.ud_model.proofs.output.ListAnswers.{answered_by_list}
 use Rattle.ud_model.proofs.output.ListComplete.{alike_but_one}
 use Rattle.ud_model.proofs.output.BlankedLineLemmas.{as_many, blanked_places}
 use Rattle.ud_model.proofs.output.SharedLineLemmas.{same_fault, shared_lines}
+use Rattle.ud_model.proofs.output.StrictRuns.{strict_keeps, judged_are_all, judged_output}
 use Rattle.ud_model.proofs.output.CountedText.{counted_lines}
 use Rattle.ud_model.proofs.output.InsertedText.{inserted_in_text}
 use Rattle.ud_model.proofs.output.InsertedSelected.{inserted_in_selected}
@@ -83,6 +85,22 @@ answered_shared p right j (refused f e) b = absurd (none-some f (sym right ∙ e
 answered_shared {args = args} p right j (ran r e d) (refused f g) = absurd (none-some f (sym (no_fault_with_c args right) ∙ g))
 answered_shared {args = args} {input = input} p right j (ran r e d) (ran s g h) =
     shared_lines (options_of args) input (with_c args input p d h) j
+
+-- the run with `-K` keeps as much text
+pub answered_keeps : (args : List (List ℕ)) (input : List ℕ) {js ks : List Judged} → JudgedAs (options_of args) input js →
+    JudgedAs (options_of (codes "-K" ∷ args)) input ks → KeepAsMuch js ks
+answered_keeps args input {ks = ks} j k = strict_keeps (options_of args) input j (subst (λ (o : Options). JudgedAs o input ks) (is_strict args) k)
+
+pub answered_all : {args : List (List ℕ)} {input : List ℕ} {js : List Judged} {a : Answer} → JudgedAs (options_of args) input js →
+    IsAnswer args input a → a.status ≢ 2 → map (λ (j : Judged). j.line) js ≡ lines_of input
+answered_all j (refused f e) n = absurd (n refl)
+answered_all {args = args} {input = input} j (ran r e d) n =
+    judged_are_all (options_of args) input j d (faultless (options_of args).settings r.differs r.fault n)
+
+pub answered_output : {args : List (List ℕ)} {input : List ℕ} {js : List Judged} {a : Answer} → OnlyDecides (options_of args) → usage_fault args ≡ None →
+    JudgedAs (options_of args) input js → IsAnswer args input a → a.output ≡ pieces_of js
+answered_output p right j (refused f e) = absurd (none-some f (sym right ∙ e))
+answered_output {args = args} {input = input} p right j (ran r e d) = judged_output (options_of args) input p j d
 
 -- the run with `-b` or `-n`
 numbered_run : {args more : List (List ℕ)} {input : List ℕ} {r s : Outcome} → IsPlain (options_of args) → KeepsNumbers args more →

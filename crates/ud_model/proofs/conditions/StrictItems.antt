@@ -1,0 +1,104 @@
+-- Under `-K` a line is the same item, but its condition may be unknown.
+use Rattle.std.proofs.Common.{◌≡◌, ◌≢◌, ℕ, List, Bool, true, false, not, ◌&&◌, Option, Some, None, if◌then◌else◌, refl, sym, ap, subst}
+use Rattle.ud_model.specs.text.Scans.{Scan, Reading}
+use Rattle.ud_model.specs.sections.Directives.{Content, Directive, cut_keyword, directive, text, content_of, role_of, test_of}
+use Rattle.ud_model.specs.conditions.Table.{Argument}
+use Rattle.ud_model.specs.conditions.Expressions.{Expression}
+use Rattle.ud_model.specs.aids.Parsing.{expression_of}
+use Rattle.ud_model.specs.conditions.Conditions.{Decision, undecided, tree_cond, tree_cond_if, expression_cond, decision_by_test, condition_of, begins_section, decision_on}
+use Rattle.ud_model.specs.sections.Tree.{Item, Opener, text_line, if_line, elif_line, else_line, endif_line}
+use Rattle.ud_model.specs.sections.Items.{Options, item_of, item_by, directive_item}
+use Rattle.ud_model.specs.output.StrictLines.{under_strict}
+use Rattle.ud_model.specs.declared.cond.Cond.{Cond}
+use Rattle.ud_model.specs.declared.cond.Cond.TheVariants.{Yes, No, Unknown}
+use Rattle.ud_model.specs.declared.kind.Kind.{Kind}
+use Rattle.ud_model.specs.declared.kind.Role.{Role}
+use Rattle.ud_model.specs.declared.kind.Role.TheVariants.{IfGroup, ElifGroup, ElseGroup, EndifLine}
+use Rattle.ud_model.specs.declared.kind.Test.{Test}
+use Rattle.ud_model.specs.declared.kind.Test.TheVariants.{Nonzero, Defined, Undefined, Nothing}
+use Rattle.ud_model.proofs.conditions.StrictLess.{cond_keeps}
+
+-- The conditions are the same, or the first one is unknown.
+pub data Looser : Cond → Cond → Type 0 where
+  alike : {c : Cond} → Looser c c
+  unknown : {d : Cond} → Looser Unknown d
+
+loose_by : (c d : Cond) → (c ≢ Unknown → d ≡ c) → Looser c d
+loose_by Unknown d h = unknown
+loose_by Yes d h = subst (Looser Yes) (sym (h (λ e. cc))) alike
+loose_by No d h = subst (Looser No) (sym (h (λ e. cc))) alike
+
+-- The decisions differ in such conditions at most.
+record LooserDecision (d e : Decision) : Type 0 where
+  pub cond : Looser d.cond e.cond
+  pub ignoring : e.ignoring ≡ d.ignoring
+
+same_decision : (d : Decision) → LooserDecision d d
+same_decision d = record { cond = alike; ignoring = refl }
+
+module _ (table : List Argument) (k : Bool) where
+  tree_loose : (s : Bool) (e : Expression) → Looser (tree_cond e table (record { constants = k; strict = true })) (tree_cond e table (record { constants = k; strict = s }))
+  tree_loose true e = alike
+  tree_loose false e = loose_by (tree_cond e table (record { constants = k; strict = true })) (tree_cond e table (record { constants = k; strict = false })) (cond_keeps table e k)
+
+  tree_if_loose : (s : Bool) (e : Option Expression) → Looser (tree_cond_if e table (record { constants = k; strict = true })) (tree_cond_if e table (record { constants = k; strict = s }))
+  tree_if_loose s None = alike
+  tree_if_loose s (Some e) = tree_loose s e
+
+  expression_loose : (s : Bool) (after : List ℕ) → Looser (expression_cond after table (record { constants = k; strict = true })) (expression_cond after table (record { constants = k; strict = s }))
+  unfolding expression_cond
+  expression_loose s after = tree_if_loose s (expression_of after)
+
+  test_loose : (s : Bool) (t : Test) (after : List ℕ) → LooserDecision (decision_by_test t after table (record { constants = k; strict = true })) (decision_by_test t after table (record { constants = k; strict = s }))
+  test_loose s Nonzero after = record { cond = expression_loose s after; ignoring = refl }
+  test_loose s Defined after = record { cond = alike; ignoring = refl }
+  test_loose s Undefined after = record { cond = alike; ignoring = refl }
+  test_loose s Nothing after = record { cond = alike; ignoring = refl }
+
+  kind_loose : (s : Bool) (i : Kind) (after : List ℕ) → LooserDecision (condition_of i after table (record { constants = k; strict = true })) (condition_of i after table (record { constants = k; strict = s }))
+  kind_loose s i after =
+      let d = test_loose s (test_of i) after in record { cond = d.cond; ignoring = ap (λ (b : Bool). begins_section (role_of i) && b) d.ignoring }
+
+  abbrev unless_cut : Bool → Bool → Decision → Decision
+  unless_cut broken joins d = if broken then undecided else record d { ignoring = d.ignoring && not joins }
+
+  unless_cut_loose : (broken joins : Bool) (d e : Decision) → LooserDecision d e → LooserDecision (unless_cut broken joins d) (unless_cut broken joins e)
+  unless_cut_loose true joins d e h = same_decision undecided
+  unless_cut_loose false joins d e h = record { cond = h.cond; ignoring = ap (λ (b : Bool). b && not joins) h.ignoring }
+
+  decision_loose : (s : Bool) (scan : Scan) (d : Directive) → LooserDecision (decision_on scan d table (record { constants = k; strict = true })) (decision_on scan d table (record { constants = k; strict = s }))
+  decision_loose s scan d =
+      unless_cut_loose d.broken scan.joins_after (condition_of d.kind d.after table (record { constants = k; strict = true })) (condition_of d.kind d.after table (record { constants = k; strict = s }))
+      (kind_loose s d.kind d.after)
+
+-- The openers differ in such conditions at most.
+pub record LooserOpener (o p : Opener Reading) : Type 0 where
+  pub line : p.line ≡ o.line
+  pub cond : Looser o.cond p.cond
+  pub ignoring : p.ignoring ≡ o.ignoring
+
+-- The items differ in such conditions at most.
+pub data LooserItem : Item Reading → Item Reading → Type 0 where
+  a_text : {r : Reading} → LooserItem (text_line r) (text_line r)
+  an_if : {o p : Opener Reading} → LooserOpener o p → LooserItem (if_line o) (if_line p)
+  an_elif : {o p : Opener Reading} → LooserOpener o p → LooserItem (elif_line o) (elif_line p)
+  an_else : {r : Reading} → LooserItem (else_line r) (else_line r)
+  an_endif : {r : Reading} → LooserItem (endif_line r) (endif_line r)
+
+role_loose : (r : Reading) (p : Role) (d e : Decision) → LooserDecision d e → LooserItem (directive_item r p d) (directive_item r p e)
+role_loose r IfGroup d e h = an_if (record { line = refl; cond = h.cond; ignoring = h.ignoring })
+role_loose r ElifGroup d e h = an_elif (record { line = refl; cond = h.cond; ignoring = h.ignoring })
+role_loose r ElseGroup d e h = an_else
+role_loose r EndifLine d e h = an_endif
+
+content_loose : (o : Options) (r : Reading) (c : Content) → LooserItem (item_by (under_strict o) r c) (item_by o r c)
+content_loose o r cut_keyword = a_text
+content_loose o r text = a_text
+content_loose o r (directive d) =
+    role_loose r (role_of d.kind) (decision_on r.scan d o.table (record { constants = o.settings.constants; strict = true }))
+    (decision_on r.scan d o.table (record { constants = o.settings.constants; strict = o.settings.strict }))
+    (decision_loose o.table o.settings.constants o.settings.strict r.scan d)
+
+-- Under `-K` a line is the same item, but for an unknown condition.
+pub item_loose : (o : Options) (r : Reading) → LooserItem (item_of (under_strict o) r) (item_of o r)
+item_loose o r = content_loose o r (content_of r.scan)

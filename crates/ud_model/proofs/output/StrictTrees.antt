@@ -1,0 +1,142 @@
+-- The trees of a text with and without `-K`: the same sections are open, and a group that is kept
+-- without is kept with `-K`.
+use Rattle.std.proofs.Common.{◌≡◌, List, [], ◌∷◌, ◌++◌, Bool, true, false, not, ◌&&◌, ◌||◌, refl, sym, ◌∙◌, ap, ap₂, append_assoc}
+use Rattle.ud_model.specs.text.Scans.{Reading}
+use Rattle.ud_model.specs.sections.Tree.{Item, Opener, Nodes, Elifs, Head, Tree, nothing, text, section, first, elif, if_head, elif_head, else_head, closed, open_section, text_line, opener_of_elifs, opener_of_head, is_ignoring}
+use Rattle.ud_model.specs.sections.Pruning.{Mark, marked, is_false, any_true, is_kept, is_inside_kept, conds_of_elifs, is_removed, marks}
+use Rattle.ud_model.specs.aids.SoFar.{marks_so_far, nodes_so_far, head_so_far}
+use Rattle.ud_model.specs.declared.cond.Cond.{Cond}
+use Rattle.ud_model.specs.declared.cond.Cond.TheVariants.{Yes, No, Unknown}
+use Rattle.ud_model.specs.declared.verdict.Verdict.TheVariants.{Keep}
+use Rattle.ud_model.proofs.conditions.StrictItems.{Looser, alike, unknown, LooserOpener, LooserItem, a_text, an_if, an_elif, an_else, an_endif}
+use Rattle.ud_model.proofs.output.Each.{Pairs, no_pair, pair, pairs_both}
+use Rattle.ud_model.proofs.sections.Growth.{Adds, adds_text, adds_if, elif_after_if, elif_after_elif, else_after_if, else_after_elif, adds_endif, adds_under, complete}
+use Rattle.ud_model.proofs.sections.Stays.{marks_so_far_same}
+
+-- 1. Open sections.
+
+-- The groups have the same first directive, and their conditions go together.
+pub record LooserElifs (es fs : Elifs Reading) : Type 0 where
+  pub conds : Pairs Looser (conds_of_elifs es) (conds_of_elifs fs)
+  pub ignoring : (opener_of_elifs fs).ignoring ≡ (opener_of_elifs es).ignoring
+
+-- The heads have the same parts, and their conditions go together.
+pub data LooserHead : Head Reading → Head Reading → Type 0 where
+  with_if : {o p : Opener Reading} → LooserOpener o p → LooserHead (if_head o) (if_head p)
+  with_elif : {es fs : Elifs Reading} {o p : Opener Reading} → LooserElifs es fs → LooserOpener o p → LooserHead (elif_head es o) (elif_head fs p)
+  with_else : {es fs : Elifs Reading} {r s : Reading} → LooserElifs es fs → LooserHead (else_head es r) (else_head fs s)
+
+-- Trees with the same open sections.
+pub data LooserTree : Tree Reading → Tree Reading → Type 0 where
+  none_open : {ns ms : Nodes Reading} → LooserTree (closed ns) (closed ms)
+  one_open : {ns ms : Nodes Reading} {h k : Head Reading} {t u : Tree Reading} → LooserHead h k → LooserTree t u → LooserTree (open_section ns h t) (open_section ms k u)
+
+first_loose : {o p : Opener Reading} {a b : Nodes Reading} → LooserOpener o p → LooserElifs (first o a) (first p b)
+first_loose k = record { conds = pair k.cond no_pair; ignoring = k.ignoring }
+
+elif_loose : {es fs : Elifs Reading} {o p : Opener Reading} {a b : Nodes Reading} → LooserElifs es fs → LooserOpener o p → LooserElifs (elif es o a) (elif fs p b)
+elif_loose e k = record { conds = pairs_both Looser e.conds (pair k.cond no_pair); ignoring = e.ignoring }
+
+-- One line more opens and closes the same sections.
+pub loose_grows : {t u : Tree Reading} {x : Item Reading} → Adds t x u → {v : Tree Reading} {y : Item Reading} → LooserTree t v → LooserItem x y →
+    (w : Tree Reading) × Adds v y w × LooserTree u w
+loose_grows adds_text (none_open {ms = ms}) (a_text {r = r}) = (closed (text ms r), adds_text, none_open)
+loose_grows adds_if (none_open {ms = ms}) (an_if {p = p} k) = (open_section ms (if_head p) (closed nothing), adds_if, one_open (with_if k) none_open)
+loose_grows elif_after_if (one_open {ms = ms} (with_if {p = q} h) (none_open {ms = b})) (an_elif {p = p} k) =
+    (open_section ms (elif_head (first q b) p) (closed nothing), elif_after_if, one_open (with_elif (first_loose h) k) none_open)
+loose_grows elif_after_elif (one_open {ms = ms} (with_elif {fs = fs} {p = q} e h) (none_open {ms = b})) (an_elif {p = p} k) =
+    (open_section ms (elif_head (elif fs q b) p) (closed nothing), elif_after_elif, one_open (with_elif (elif_loose e h) k) none_open)
+loose_grows else_after_if (one_open {ms = ms} (with_if {p = q} h) (none_open {ms = b})) (an_else {r = r}) =
+    (open_section ms (else_head (first q b) r) (closed nothing), else_after_if, one_open (with_else (first_loose h)) none_open)
+loose_grows else_after_elif (one_open {ms = ms} (with_elif {fs = fs} {p = q} e h) (none_open {ms = b})) (an_else {r = r}) =
+    (open_section ms (else_head (elif fs q b) r) (closed nothing), else_after_elif, one_open (with_else (elif_loose e h)) none_open)
+loose_grows adds_endif (one_open {ms = ms} {k = k} h (none_open {ms = b})) (an_endif {r = r}) = (closed (section ms (complete k b) r), adds_endif, none_open)
+loose_grows (adds_under a) (one_open {ms = ms} {k = k} h t) i =
+    let g = loose_grows a t i in (open_section ms k g.0, adds_under g.1, one_open h g.2)
+
+head_ignoring : {h k : Head Reading} → LooserHead h k → (opener_of_head k).ignoring ≡ (opener_of_head h).ignoring
+head_ignoring (with_if o) = o.ignoring
+head_ignoring (with_elif e o) = e.ignoring
+head_ignoring (with_else e) = e.ignoring
+
+-- Both trees are ignoring, or neither is.
+pub loose_ignoring : {t u : Tree Reading} → LooserTree t u → is_ignoring u ≡ is_ignoring t
+loose_ignoring none_open = refl
+loose_ignoring (one_open h t) = ap₂ (λ (a b : Bool). a || b) (head_ignoring h) (loose_ignoring t)
+
+-- 2. Kept groups.
+
+false_loose : {c d : Cond} → Looser c d → is_false d ≡ false → is_false c ≡ false
+false_loose alike e = e
+false_loose unknown e = refl
+
+any_loose : {cs ds : List Cond} → Pairs Looser cs ds → any_true ds ≡ false → any_true cs ≡ false
+any_loose no_pair e = refl
+any_loose (pair (alike {c = Yes}) p) e = cc
+any_loose (pair (alike {c = No}) p) e = any_loose p e
+any_loose (pair (alike {c = Unknown}) p) e = any_loose p e
+any_loose (pair (unknown {d = Yes}) p) e = cc
+any_loose (pair (unknown {d = No}) p) e = any_loose p e
+any_loose (pair (unknown {d = Unknown}) p) e = any_loose p e
+
+both_parts : (a b : Bool) → (not a && not b) ≡ true → (a ≡ false) × (b ≡ false)
+both_parts false false e = (refl, refl)
+both_parts false true e = cc
+both_parts true b e = cc
+
+kept_loose : {cs ds : List Cond} {c d : Cond} → Pairs Looser cs ds → Looser c d → is_kept ds d ≡ true → is_kept cs c ≡ true
+kept_loose {cs} {ds} {c} {d} p l e =
+    let q = both_parts (is_false d) (any_true ds) e in
+    ap₂ (λ (a b : Bool). not a && not b) (false_loose l q.0) (any_loose p q.1)
+
+inside_loose : {h k : Head Reading} → LooserHead h k → is_inside_kept k ≡ true → is_inside_kept h ≡ true
+inside_loose (with_if o) e = kept_loose no_pair o.cond e
+inside_loose (with_elif es o) e = kept_loose es.conds o.cond e
+inside_loose (with_else es) e = kept_loose es.conds (alike {c = Yes}) e
+
+-- All groups around the end of the text are kept.
+abbrev pub kept_at_end : Bool → Tree Reading → Bool
+kept_at_end kept (closed ns) = kept
+kept_at_end kept (open_section ns h t) = kept_at_end (kept && is_inside_kept h) t
+
+two_parts : (a b : Bool) → (a && b) ≡ true → (a ≡ true) × (b ≡ true)
+two_parts true true e = (refl, refl)
+two_parts true false e = cc
+two_parts false b e = cc
+
+-- The end of a text that is kept without `-K` is kept with it.
+pub end_loose : {t u : Tree Reading} → LooserTree t u → (a b : Bool) → (b ≡ true → a ≡ true) → kept_at_end b u ≡ true → kept_at_end a t ≡ true
+end_loose none_open a b h e = h e
+end_loose (one_open {h = k} {k = l} s t) a b h e =
+    end_loose t (a && is_inside_kept k) (b && is_inside_kept l) (λ f. let q = two_parts b (is_inside_kept l) f in ap₂ (λ (x y : Bool). x && y) (h q.0) (inside_loose s q.1)) e
+
+-- 3. The mark of a text line.
+
+text_mark_in : {t u : Tree Reading} {x : Item Reading} → Adds t x u → (r : Reading) → x ≡ text_line r → (kept : Bool) →
+    marks_so_far kept u ≡ marks_so_far kept t ++ marked (kept_at_end kept t) Keep ∷ []
+text_mark_in adds_text r e kept = refl
+text_mark_in (adds_under {ns = ns} {h = h} {t = t} {u = u} a) r e kept =
+    ap (λ (ms : List Mark). (nodes_so_far kept ns ++ head_so_far kept h) ++ ms) (text_mark_in a r e (kept && is_inside_kept h))
+    ∙ sym (append_assoc (nodes_so_far kept ns ++ head_so_far kept h) (marks_so_far (kept && is_inside_kept h) t) (marked (kept_at_end (kept && is_inside_kept h) t) Keep ∷ []))
+text_mark_in adds_if r e kept = cc
+text_mark_in elif_after_if r e kept = cc
+text_mark_in elif_after_elif r e kept = cc
+text_mark_in else_after_if r e kept = cc
+text_mark_in else_after_elif r e kept = cc
+text_mark_in adds_endif r e kept = cc
+
+-- A text line is kept if all groups around it are.
+pub text_mark : {t u : Tree Reading} {x : Item Reading} → Adds t x u → (r : Reading) → x ≡ text_line r →
+    marks u ≡ marks t ++ marked (kept_at_end true t) Keep ∷ []
+text_mark {t = t} {u = u} a r e =
+    marks_so_far_same true u ∙ text_mark_in a r e true ∙ ap (λ (ms : List Mark). ms ++ marked (kept_at_end true t) Keep ∷ []) (sym (marks_so_far_same true t))
+
+-- A text line that is removed with `-K` is removed without.
+pub removed_loose : {t u : Tree Reading} → LooserTree t u → is_removed (marked (kept_at_end true t) Keep).verdict ≡ true →
+    is_removed (marked (kept_at_end true u) Keep).verdict ≡ true
+removed_loose {t = t} {u = u} k = by_kept (kept_at_end true t) (kept_at_end true u) (end_loose k true true (λ e. e))
+  where
+    by_kept : (a b : Bool) → (b ≡ true → a ≡ true) → is_removed (marked a Keep).verdict ≡ true → is_removed (marked b Keep).verdict ≡ true
+    by_kept a false h e = refl
+    by_kept true true h e = cc
+    by_kept false true h e = let f : false ≡ true = h refl in cc

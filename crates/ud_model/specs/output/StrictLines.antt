@@ -1,0 +1,46 @@
+-- Strict lines: the lines that are read under `-K`, beside those that are read without it.
+-- unifdef(1), `-K`: `&&` and `||` are unknown if either operand is, so fewer lines are removed.
+--
+--   under_strict o        the same options, and `-K`
+--   IsText j              the judged line is no directive
+--   KeepsAsMuch j k       `k` is the line `j` under `-K`: text that isn't removed as `j` isn't
+--                         removed as `k`
+--   KeepAsMuch js ks      line by line, as far as both lists go
+--   pieces_of js          the output for judged lines under options that only decide
+--
+-- A list ends before the first fault of its run, and each run may have one where the other has
+-- none. Directives may be edited in the one run and removed in the other.
+--
+-- Example: under `-DA` the line `x` in `#if X || A`, `#else`, `x`, `#endif` is removed without `-K`
+-- alone. Of `#if X && 0`, `#elif A`, `#else`, `x`, `#endif` it is removed in both.
+use Rattle.std.specs.Prelude.{◌≡◌, ℕ, List, [], ◌∷◌, map, true}
+use Rattle.std.specs.List.{concat}
+use Rattle.ud_model.specs.sections.Pruning.{is_removed}
+use Rattle.ud_model.specs.sections.Items.{Options}
+use Rattle.ud_model.specs.answer.Printing.{Judged, piece_by}
+
+-- `under_strict o`: the options `o` with `-K`.
+abbrev pub under_strict : Options → Options
+under_strict o = record { settings = record o.settings { strict = true }; table = o.table }
+
+-- `IsText j`: the line `j` has no keyword, and is no directive.
+abbrev pub IsText : Judged → Type 0
+IsText j = j.keyword.len ≡ 0
+
+-- `KeepsAsMuch j k`: `k` is the line `j`, and if it is text that is removed as `k`, it is removed
+-- as `j`.
+pub record KeepsAsMuch (j k : Judged) : Type 0 where
+  pub line : k.line ≡ j.line
+  pub keyword : k.keyword ≡ j.keyword
+  pub text : IsText j → is_removed k.verdict ≡ true → is_removed j.verdict ≡ true
+
+-- `KeepAsMuch js ks`: each line of `ks` keeps as much as the one of `js` at its position, as far as
+-- both lists go.
+abbrev pub KeepAsMuch : List Judged → List Judged → Type 0
+KeepAsMuch [] ks = Unit {0}
+KeepAsMuch (j ∷ js) [] = Unit {0}
+KeepAsMuch (j ∷ js) (k ∷ ks) = KeepsAsMuch j k × KeepAsMuch js ks
+
+-- `pieces_of js`: the pieces of the lines `js`, each by its verdict alone, joined in order.
+abbrev pub pieces_of : List Judged → List ℕ
+pieces_of js = concat (map (λ (j : Judged). piece_by j.verdict j.keyword j.line) js)
