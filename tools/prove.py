@@ -55,9 +55,9 @@ OTHER = 60
 # to 1.5.
 KEPT, USUAL = 15, 1.2
 
-# The checks that are split among all processors. The others take no less time then, or take
-# processors from a check beside them.
-SPLIT = {"ud_engine"}
+# Among how many processors a check is split, if it is one of the longest of the chain. A split check
+# takes half as much time of a processor again.
+SPLIT = {"ud_cond": 2, "ud_engine": 4}
 
 # The memory in bytes that must be free before a crate starts beside another one, and before a check
 # is split among all processors.
@@ -169,13 +169,14 @@ class Run:
     """The check of one crate, from its start to its end."""
 
     def __init__(self, crate, below, jobs):
-        self.crate, self.begin = crate, time.monotonic()
+        self.crate, self.jobs, self.begin = crate, jobs, time.monotonic()
         self.log = tempfile.TemporaryFile()
         self.room = Room(crate, below)
         folder = self.room.folder
         # `rt run` proves and builds before it runs. The words of the stored run give status 0.
         is_program = os.path.exists(f"{folder}/src/main.rt")
-        verb = ["run", *jobs, "--", *words_of(folder)] if is_program else ["lib", *jobs]
+        split = ["--jobs", str(jobs)]
+        verb = ["run", *split, "--", *words_of(folder)] if is_program else ["lib", *split]
         self.process = subprocess.Popen(
             [RT, *verb],
             cwd=folder,
@@ -216,9 +217,7 @@ class Build:
         for it in reversed(self.left):
             above = [self.chain[up] for up in self.chain if it in self.used[up]]
             self.chain[it] = expected(it) + max(above, default=0)
-        # A check keeps two processors busy for most of its time.
         self.processors = processors()
-        self.most = max(self.processors // 2, 1)
 
     def ready(self):
         """Returns the crates that can start, those with the longest chain first."""
@@ -228,19 +227,25 @@ class Build:
     def start(self):
         """Starts what can run beside the others."""
         for crate in self.ready():
-            if self.running and (len(self.running) >= self.most or free_memory() < FREE):
+            if self.running and (self.busy() >= self.processors or free_memory() < FREE):
                 return
             self.left.remove(crate)
             jobs = self.jobs_of(crate)
             self.running.append(Run(crate, at_or_below(crate, self.used)[:-1], jobs))
             self.progress.say(f"{crate} is being proved")
 
+    def busy(self):
+        """Returns how many processors the checks keep busy."""
+        return sum(it.jobs for it in self.running)
+
     def jobs_of(self, crate):
-        """Returns the words that split a check among all processors. Without them Rattle's command
-        takes two."""
-        if crate not in SPLIT or self.processors <= 2 or free_memory() < FREE_FOR_ALL:
-            return []
-        return ["--jobs", str(self.processors)]
+        """Returns among how many processors a check that starts now is split: those that no other
+        check can use, if it is one of the longest, or two if nothing can run beside it."""
+        others = self.busy() + len(self.ready())
+        most = SPLIT.get(crate, 1 if others else 2)
+        if most > 1 and free_memory() < FREE_FOR_ALL:
+            return 1
+        return max(min(most, self.processors - others), 1)
 
     def pace(self):
         """Returns how many seconds a second of `SECONDS` takes here, as far as is known."""
@@ -256,7 +261,7 @@ class Build:
         running = {it.crate: max(pace * expected(it.crate) - it.spent(), 3) for it in self.running}
         order = sorted(self.left, key=lambda it: -self.chain[it])
         left = {it: (self.used[it], pace * expected(it)) for it in order}
-        rest = part_and_rest(self.progress.spent(), seconds_left(left, running, self.most))
+        rest = part_and_rest(self.progress.spent(), seconds_left(left, running, self.processors))
         names = ", ".join(f"{it.crate} {it.spent():.0f} s" for it in self.running)
         return f"{rest}; {names or 'nothing runs'}; {len(self.left)} to come"
 
