@@ -24,6 +24,9 @@ MODULE := $(addprefix lib/python/unifdef/,__init__.py __main__.py _library.py py
 # Rattle's command: the one on PATH, or `make RT=FILE`.
 RT ?= rt
 
+# The processor of `make native`, which is no other's.
+CPU = x86-64-v3
+
 # Recipes name make by MAKE_COMMAND: make -n runs each line that names it by MAKE.
 
 CRATE := crates/unifdef_cli
@@ -33,7 +36,7 @@ SOURCES := crates.txt HANDLES \
 	$(shell find crates -name out -prune -o \( -name '*.rt' -o -name '*.antt' \) -print)
 
 .DELETE_ON_ERROR:
-.PHONY: all help build kit try test test-all check edits edits-test cases examples manual-examples differences
+.PHONY: all help build native kit try test test-all check edits edits-test cases examples manual-examples differences
 .PHONY: faults fail-alloc tree-test
 .PHONY: install uninstall dist deb packages-test manuals around bench bench-text
 .PHONY: lib lib-test install-lib uninstall-lib deb-lib
@@ -91,6 +94,13 @@ unifdef: $(SOURCES)
 	@$(NEED_KIT)
 	@RT='$(RT)' tools/prove.py
 	cp $(CRATE)/out/unifdef_cli $@
+
+## proves and builds ./unifdef-native for a processor with
+## AVX2, or for another one: make native CPU=x86-64-v2
+native: $(SOURCES)
+	@$(NEED_KIT)
+	@RT='$(RT)' UNIFDEF_CPU='$(CPU)' tools/prove.py
+	cp $(CRATE)/out/unifdef_cli unifdef-native
 
 ## proves and builds ./unifdef-tree
 unifdef-tree: $(SOURCES)
@@ -304,5 +314,5 @@ fronts: unifdef
 
 ## removes what was built
 clean:
-	rm -f unifdef unifdef-tree unifdef-*.tar.gz *.deb lib/libunifdef.* gate.log
+	rm -f unifdef unifdef-tree unifdef-native unifdef-*.tar.gz *.deb lib/libunifdef.* gate.log
 	rm -rf crates/*/out .prove-* lib/python/build lib/python/unifdef.egg-info

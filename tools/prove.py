@@ -1,7 +1,8 @@
 #!/usr/bin/env python3
 """Proves the program and the crates below it, side by side, and builds the program (`make`).
 
-    tools/prove.py [CRATE ..]     unifdef_cli by default; RT is Rattle's command, `rt` by default
+    tools/prove.py [CRATE ..]     unifdef_cli by default; RT is Rattle's command, `rt` by default;
+                                  UNIFDEF_CPU is the processor of a program, x86-64-v2 by default
 
 A crate is proved as soon as the libraries that it uses are. Those with the longest chain above them
 come first. What a crate prints is shown only if it fails, and then the others are stopped.
@@ -27,6 +28,7 @@ from progress import Progress, part_and_rest, seconds_left
 
 HERE = os.path.dirname(os.path.dirname(os.path.realpath(__file__)))
 RT = os.environ.get("RT", "rt")
+CPU = os.environ.get("UNIFDEF_CPU", "")
 
 # How long each crate takes alone on 4 processors, for the order and the estimate. Nothing else
 # depends on these seconds.
@@ -175,8 +177,9 @@ class Run:
         folder = self.room.folder
         # `rt run` proves and builds before it runs. The words of the stored run give status 0.
         is_program = os.path.exists(f"{folder}/src/main.rt")
-        split = ["--jobs", str(jobs)]
-        verb = ["run", *split, "--", *words_of(folder)] if is_program else ["lib", *split]
+        split, cpu = ["--jobs", str(jobs)], ["--cpu", CPU] if CPU else []
+        program = ["run", *split, *cpu, "--", *words_of(folder)]
+        verb = program if is_program else ["lib", *split]
         self.process = subprocess.Popen(
             [RT, *verb],
             cwd=folder,
