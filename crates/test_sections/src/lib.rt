@@ -1,4 +1,5 @@
-//! Tests of ud_cond and ud_sections: symbols, conditions, directives, machines and printers.
+//! Tests of ud_cond, ud_sections and ud_prune: symbols, conditions, directives, machines, printers
+//! and pruned texts.
 #![tactic(auto)]
 
 #[cfg(test)]
@@ -10,6 +11,8 @@ mod machines;
 #[cfg(test)]
 mod printers;
 mod printing;
+#[cfg(test)]
+mod pruning;
 #[cfg(test)]
 mod residuals;
 #[cfg(test)]
