@@ -346,6 +346,8 @@ inputs() {
   check 'a folder as input: status' same "$status" 2
   check 'a folder as input: message' has_line "$work/err" 'unifdef-tree: stdin: Cannot be read'
   check 'a folder as input: no last line' same "$(wc -l < "$work/err")" 1
+  fresh_tree
+  put src/a.c "$text"
   status=0
   (cd "$work/run" && "$TREE" -DA src > "$work/out" 2> /dev/full) || status=$?
   check 'messages that cannot be written: status' same "$status" 2
@@ -359,6 +361,56 @@ inputs() {
   tree -g '*' -DA src
   check 'a left-over file' holds src/.unifdef-tree.other.c "$text"
   check 'a left-over file: the others' holds src/a.c 'yes\n'
+}
+
+# tree_within KB ARGUMENT..: runs unifdef-tree with this much address space.
+tree_within() {
+  local limit=$1
+  shift
+  status=0
+  (cd "$work/run" && ulimit -v "$limit" && exec "$TREE" "$@" > "$work/out" 2> "$work/err" < /dev/null) ||
+    status=$?
+}
+
+# Tests the lists of -r and -s with less and less memory: each is whole, or a message says that it
+# isn't, and the status is 2.
+little_memory() {
+  local i list lines low high limit wrong told
+  fresh_tree
+  for i in {1..9}; do
+    seq -f "#if NAME_${i}_%g || A" 3000 | sed 's/$/\n#endif/' > "src/$i.c"
+  done
+  for list in '-n -r -UA' '-s'; do
+    lines=27000
+    [ "$list" != '-s' ] || lines=27001
+    # shellcheck disable=SC2086
+    tree $list -- src
+    check "memory: $list: status" same "$status" 0
+    check "memory: $list: the whole list" same "$(wc -l < "$work/out")" "$lines"
+    cp "$work/out" "$work/whole"
+    low=0 high=400000
+    while [ $((high - low)) -gt 32 ]; do
+      limit=$(((low + high) / 2))
+      # shellcheck disable=SC2086
+      tree_within "$limit" $list -- src
+      if [ "$status" -eq 0 ]; then high=$limit; else low=$limit; fi
+    done 2> /dev/null
+    wrong=0 told=0
+    for ((i = 0; i < 16; i++)); do
+      # shellcheck disable=SC2086
+      tree_within $((high + 64 - 64 * i)) $list -- src
+      if [ "$status" -eq 0 ]; then
+        cmp -s "$work/out" "$work/whole" || wrong=$((wrong + 1))
+      elif [ "$status" -eq 2 ]; then
+        grep -qi 'out of memory$' "$work/err" || wrong=$((wrong + 1))
+        ! has_line "$work/err" 'unifdef-tree: stdout: Out of memory' || told=$((told + 1))
+      else
+        wrong=$((wrong + 1))
+      fi
+    done
+    check "memory: $list: whole, or a message" same "$wrong" 0
+    check "memory: $list: a list that isn't whole" test "$told" -gt 0
+  done
 }
 
 # Tests that -d prints the diff of what a run changes, and that patch -R undoes the run with it.
@@ -391,6 +443,7 @@ undoes() {
 safety() {
   locks
   inputs
+  little_memory
   undoes
   promises
   overlay

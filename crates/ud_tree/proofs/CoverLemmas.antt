@@ -1,17 +1,16 @@
 -- Parts of a walk that miss no name, one after another.
-use Rattle.std.proofs.Common.{◌≡◌, ◌⊎◌, inl, inr, ℕ, ◌+◌, ◌<◌, ◌≤◌, ◌^◌, List, [], ◌∷◌, ◌++◌, length, map, take, get_or, Bool, true, false, Option, Some, Result, refl, sym, ap, ◌∙◌, subst, arith, append-nil, append_assoc, length-append}
+use Rattle.std.proofs.Common.{◌≡◌, ◌⊎◌, inl, inr, ℕ, ◌+◌, ◌<◌, ◌≤◌, ◌^◌, List, [], ◌∷◌, ◌++◌, length, map, take, get_or, Bool, true, Option, Some, Result, refl, sym, ap, ◌∙◌, subst, arith, append_assoc, length-append}
 use Rattle.std.proofs.lemmas.List.{map-append, take_more, take_all}
-use Rattle.std.proofs.lemmas.List.Elements.{All-weaker, All-contains, All-nil, All-push, Contains-append_left, Contains-append_right, Contains-append_cases, Contains-push, Contains-push_cases}
+use Rattle.std.proofs.lemmas.List.Elements.{All-weaker, All-nil, All-push, Contains-append_left, Contains-append_right, Contains-append_cases, Contains-push, Contains-push_cases}
 use Rattle.std.specs.List.{All, Contains}
 use Rattle.std.specs.Prelude.{OnOk, Ok, Err, IsUtf8, option_to_list}
 use Rattle.ud_replace.specs.declared.node.Lookup.{Lookup}
-use Rattle.ud_replace.specs.declared.node.Lookup.TheVariants.{Present, Absent, Unknown}
+use Rattle.ud_replace.specs.declared.node.Lookup.TheVariants.{Present}
 use Rattle.ud_replace.specs.declared.node.Node.{Node}
-use Rattle.ud_replace.specs.declared.node.NodeKind.{NodeKind}
-use Rattle.ud_replace.specs.declared.node.NodeKind.TheVariants.{File, Folder, Link, Other}
+use Rattle.ud_replace.specs.declared.node.NodeKind.TheVariants.{Folder}
 use Rattle.ud_replace.specs.Calls.{Call, walked, WalkCall, met, followed, listed}
 use Rattle.ud_tree.specs.declared.report.Report.{Report}
-use Rattle.ud_tree.specs.Covering.{IsFolderPath, WasEntered, IsDue, IsVersioned, Begins, at_file, at_folder, at_link, Visits, no_text, was_met, VisitsAll, Gives, no_path_text, was_given, CoversPaths, CoversInput}
+use Rattle.ud_tree.specs.Covering.{IsFolderPath, WasEntered, IsDue, IsVersioned, Begins, at_file, at_folder, at_link, Visits, no_text, was_met, Gives, no_path_text, was_given, CoversPaths, CoversInput}
 use Rattle.ud_tree.specs.CoverParts.{Explores, Starts, VisitsOne, Enters, Exhausts, Waits, TakesOne, AddsFolder, waits_folder, left_folder, no_folder}
 
 -- Each element of one list is in another.

@@ -11,3 +11,4 @@ pub mod StatusLaws
 pub mod RunLemmas
 mod ShownLemmas
 pub mod PickLemmas
+pub mod KeepLemmas

@@ -8,7 +8,7 @@ use Rattle.std.specs.Cmp.Lexicographic.{slice_cmp}
 use Rattle.std.specs.declared.cmp.Ordering.{Ordering}
 use Rattle.std.specs.declared.cmp.Ordering.TheVariants.{Less, Equal, Greater}
 use Rattle.std.proofs.lemmas.List.{get_or_default}
-use Rattle.std.proofs.lemmas.List.Elements.{All-weaker, All-contains_itself, All-contains, All-push, All-nil}
+use Rattle.std.proofs.lemmas.List.Elements.{All-weaker, All-contains_itself, All-contains, All-push, All-nil, Contains-push, Contains-append_left}
 use Rattle.std.proofs.lemmas.List.Quantifiers.{all_pairs_push}
 use Rattle.std.proofs.lemmas.Cmp.{nat_list_cmp_total}
 use Rattle.std.specs.List.{All, AllPairs, Contains}
@@ -16,7 +16,10 @@ use Rattle.std.specs.Prelude.{string_bytes, not}
 use Rattle.std.specs.BTreeSet.{BTreeSet, contains, Updates}
 use Rattle.ud_replace.specs.declared.node.FileId.{FileId}
 use Rattle.ud_tree.specs.declared.walk.Found.{Found}
-use Rattle.ud_tree.specs.Walks.{IsBefore, IsOtherFile, IsMarked, ArePicked, key_cmp}
+use Rattle.ud_tree.specs.Walks.{IsBefore, IsOtherFile, IsMarked, HasKey, IsKept, ArePicked, key_cmp}
+use Rattle.std.specs.Ordering.{is_eq}
+use Rattle.std.specs.List.{list_any}
+use Rattle.ud_tree.proofs.KeepLemmas.{same_key, kept_later}
 
 -- A file that was added, or one of those before.
 abbrev pub OldOrThis : Found → List Found → Found → Type 0
@@ -57,9 +60,26 @@ still_marked : (seen new : BTreeSet (ℕ × ℕ)) (key : ℕ × ℕ) → Updates
 still_marked seen new key u files h =
     All-weaker (IsMarked seen) (IsMarked new) (λ f m. u.0 (f.id.device, f.id.inode) ∙ cond_true _ (contains key_cmp seen (f.id.device, f.id.inode)) m) files h
 
--- The set has one key more, and the files are the same.
-pub picked_same : (seen new : BTreeSet (ℕ × ℕ)) (files : List Found) (key : ℕ × ℕ) → Updates key_cmp seen new key true → ArePicked seen files → ArePicked new files
-picked_same seen new files key u h = record { ascend = h.ascend; once = h.once; marked = still_marked seen new key u files h.marked }
+-- Each key of the set is the one that was inserted, or was there before.
+key_cases : (seen new : BTreeSet (ℕ × ℕ)) (key q : ℕ × ℕ) → Updates key_cmp seen new key true → contains key_cmp new q ≡ true → (q ≡ key) ⊎ (contains key_cmp seen q ≡ true)
+key_cases seen new key q u there = by_test (is_eq (key_cmp key q)) refl
+  where
+    by_test : (b : Bool) → is_eq (key_cmp key q) ≡ b → (q ≡ key) ⊎ (contains key_cmp seen q ≡ true)
+    by_test true is = inl (same_key key q is)
+    by_test false is = inr (sym (ap (λ (b : Bool). cond b true (contains key_cmp seen q)) is) ∙ sym (u.0 q) ∙ there)
+
+-- The set has a key more that it had, and the files are the same.
+pub picked_same : (seen new : BTreeSet (ℕ × ℕ)) (files : List Found) (key : ℕ × ℕ) (added : Bool) → added ≡ not (contains key_cmp seen key) → added ≡ false → Updates key_cmp seen new key true → ArePicked seen files →
+    ArePicked new files
+picked_same seen new files key added is old u h = record { ascend = h.ascend; once = h.once; marked = still_marked seen new key u files h.marked; only = λ q there. by_case q (key_cases seen new key q u there) }
+  where
+    not_false : (b : Bool) → not b ≡ false → b ≡ true
+    not_false true e = refl
+    not_false false e = absurd (true≢false e)
+
+    by_case : (q : ℕ × ℕ) → (q ≡ key) ⊎ (contains key_cmp seen q ≡ true) → HasKey files q
+    by_case q (inl same) = h.only q (subst (λ (k : ℕ × ℕ). contains key_cmp seen k ≡ true) (sym same) (not_false (contains key_cmp seen key) (sym is ∙ old)))
+    by_case q (inr there) = h.only q there
 
 -- One more file is picked.
 pub picked_more : (seen new : BTreeSet (ℕ × ℕ)) (files : List Found) (found : Found) → contains key_cmp seen (found.id.device, found.id.inode) ≡ false →
@@ -68,8 +88,13 @@ picked_more seen new files found unseen u before h = record {
   ascend = all_pairs_push IsBefore files found h.ascend before;
   once = all_pairs_push IsOtherFile files found h.once other;
   marked = All-push (IsMarked new) files found (still_marked seen new (found.id.device, found.id.inode) u files h.marked) u.1;
+  only = λ q there. by_case q (key_cases seen new (found.id.device, found.id.inode) q u there);
 }
   where
+    by_case : (q : ℕ × ℕ) → (q ≡ (found.id.device, found.id.inode)) ⊎ (contains key_cmp seen q ≡ true) → HasKey (files ++ found ∷ []) q
+    by_case q (inl same) = (found, Contains-push files found, sym same)
+    by_case q (inr there) = let k = h.only q there in (k.0, Contains-append_left files (found ∷ []) k.0 k.1, k.2)
+
     other : (k : ℕ) (d : Found) → k < length files → IsOtherFile (get_or files k d) found
     other k d within e =
         let marked : IsMarked seen (get_or files k d) = h.marked k d within in
@@ -78,11 +103,12 @@ picked_more seen new files found unseen u before h = record {
         true≢false (sym there ∙ unseen)
 
 -- No file is picked yet.
-pub picked_none : (seen : BTreeSet (ℕ × ℕ)) → ArePicked seen []
-picked_none seen = record {
+pub picked_none : (seen : BTreeSet (ℕ × ℕ)) → ((key : ℕ × ℕ) → contains key_cmp seen key ≡ false) → ArePicked seen []
+picked_none seen empty = record {
   ascend = λ i j d below within. absurd (omega arith);
   once = λ i j d below within. absurd (omega arith);
   marked = All-nil (IsMarked seen);
+  only = λ key there. absurd (true≢false (sym there ∙ empty key));
 }
 
 -- After one more file, all are still of the list.
@@ -106,6 +132,51 @@ after_got files last found r ascend got test holds =
     let both : Some last ≡ Some (get_or files (length files - 1) last) = got ∙ slice_get-get_or files (length files - 1) last within in
     let is : last ≡ get_or files (length files - 1) last = cc in
     after_last files last found ascend (omega arith) is (is_less (slice_cmp nat_cmp (string_bytes last.path) (string_bytes found.path)) (sym test ∙ holds))
+
+-- A file that isn't after the element that `last` returns.
+pub before_got : (files : List Found) (last found : Found) (r : Bool) → Some last ≡ slice_get files (length files - 1) → r ≡ is_lt (slice_cmp nat_cmp (string_bytes last.path) (string_bytes found.path)) → r ≡ false →
+    (g : Found) × Contains files g × (¬ (IsBefore g found))
+before_got files last found r got test fails =
+    let within : length files - 1 < length files = slice_get_within files (length files - 1) last (sym got) in
+    let both : Some last ≡ Some (get_or files (length files - 1) last) = got ∙ slice_get-get_or files (length files - 1) last within in
+    let is : last ≡ get_or files (length files - 1) last = cc in
+    (last, (length files - 1, within, sym is), λ b. true≢false (sym (test ∙ ap is_lt b) ∙ fails))
+
+-- The files before stay in the list.
+pub others_kept : (files after : List Found) (found : Found) → after ≡ files ++ found ∷ [] → All (Contains after) files
+others_kept files after found is =
+    subst (λ (fs : List Found). All (Contains fs) files) (sym is)
+    (All-weaker (Contains files) (Contains (files ++ found ∷ [])) (λ f there. Contains-append_left files (found ∷ []) f there) files (All-contains_itself files))
+
+-- Some files were looked at, and each is kept.
+pub record PickedSome (seen : BTreeSet (ℕ × ℕ)) (files found yielded : List Found) : Type 0 where
+  pub picked : ArePicked seen files
+  pub from : All (Contains found) files
+  pub within : All (Contains yielded) files
+  pub kept : All (IsKept files) yielded
+
+-- None was yet.
+pub picked_begun : (seen : BTreeSet (ℕ × ℕ)) (files found : List Found) → seen.keys ≡ [] → files ≡ [] → PickedSome seen files found []
+picked_begun seen files found none empty = subst (λ (fs : List Found). PickedSome seen fs found []) (sym empty) (record {
+  picked = picked_none seen (λ key. ap (λ (ks : List (ℕ × ℕ)). list_any (λ q. is_eq (key_cmp key q)) ks) none);
+  from = All-nil (Contains found);
+  within = All-nil (Contains []);
+  kept = All-nil (IsKept []);
+})
+
+-- One file more was looked at.
+pub picked_next : {seen new : BTreeSet (ℕ × ℕ)} {files after found yielded : List Found} (x : Found) → PickedSome seen files found yielded → ArePicked new after → Contains found x → All (OldOrThis x files) after → All (Contains after) files →
+    IsKept after x → PickedSome new after found (yielded ++ x ∷ [])
+picked_next {files = files} {after = after} {found = found} {yielded = yielded} x h picked inside from others kept = record {
+  picked = picked;
+  from = from_more x found files after inside h.from from;
+  within = All-weaker (OldOrThis x files) (Contains (yielded ++ x ∷ [])) (λ f k. here f k) after from;
+  kept = All-push (IsKept after) yielded x (kept_later files after yielded others h.kept) kept;
+}
+  where
+    here : (f : Found) → OldOrThis x files f → Contains (yielded ++ x ∷ []) f
+    here f (inl old) = Contains-append_left yielded (x ∷ []) f (All-contains (Contains yielded) files f h.within old)
+    here f (inr this) = subst (λ (g : Found). Contains (yielded ++ x ∷ []) g) (sym this) (Contains-push yielded x)
 
 -- A file with a new key was added.
 pub picked_new : (seen new : BTreeSet (ℕ × ℕ)) (files after : List Found) (found : Found) (added : Bool) → added ≡ not (contains key_cmp seen (found.id.device, found.id.inode)) →

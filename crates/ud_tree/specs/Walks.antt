@@ -6,9 +6,11 @@
 --   AddsNode before path node after   a node was found, if it is a file
 --   IsBefore f g                 the path of `f` comes before that of `g`
 --   IsOtherFile f g              `f` and `g` are not the same file
+--   IsKept files f               a file that was found is kept
 --   IsFileList found files       the files, each once and in order
 --   key_cmp a b                  the order of devices and numbers
 --   IsMarked seen f              a set has a file's device and number
+--   HasKey files key             a file has a device and number
 --   ArePicked seen files         the files so far, each once and in order
 --   WalksOnly old new            only calls of a walk were made
 --   IsWalk old new files         a whole walk, and its files
@@ -64,10 +66,16 @@ IsBefore f g = slice_cmp nat_cmp (string_bytes f.path) (string_bytes g.path) ≡
 abbrev pub IsOtherFile : Found → Found → Type 0
 IsOtherFile f g = ¬ (f.id ≡ g.id)
 
--- `IsFileList found files`: each of `files` was found. Their paths ascend, and no two are the same
--- file.
+-- `IsKept files f`: `files` has the file `f`, or one that has its path or is the same file.
+abbrev pub IsKept : List Found → Found → Type 0
+IsKept files f = (g : Found) × Contains files g ×
+    ((string_bytes g.path ≡ string_bytes f.path) ⊎ (g.id ≡ f.id))
+
+-- `IsFileList found files`: each of `files` was found, and each file that was found is kept. Their
+-- paths ascend, and no two are the same file.
 pub record IsFileList (found files : List Found) : Type 0 where
   pub from : All (Contains found) files
+  pub kept : All (IsKept files) found
   pub ascend : AllPairs IsBefore files
   pub once : AllPairs IsOtherFile files
 
@@ -79,12 +87,17 @@ key_cmp a b = ordering_then (nat_cmp a.0 b.0) (nat_cmp a.1 b.1)
 abbrev pub IsMarked : BTreeSet (ℕ × ℕ) → Found → Type 0
 IsMarked seen f = contains key_cmp seen (f.id.device, f.id.inode) ≡ true
 
+-- `HasKey files key`: one of `files` has this device and number.
+abbrev pub HasKey : List Found → ℕ × ℕ → Type 0
+HasKey files key = (f : Found) × Contains files f × ((f.id.device, f.id.inode) ≡ key)
+
 -- `ArePicked seen files`: the paths of the files ascend, no two are the same file, and `seen` has
--- each of them.
+-- each of them, and nothing else.
 pub record ArePicked (seen : BTreeSet (ℕ × ℕ)) (files : List Found) : Type 0 where
   pub ascend : AllPairs IsBefore files
   pub once : AllPairs IsOtherFile files
   pub marked : All (IsMarked seen) files
+  pub only : (key : ℕ × ℕ) → contains key_cmp seen key ≡ true → HasKey files key
 
 -- `WalksOnly old new`: since `old`, only calls of a walk were made.
 pub record WalksOnly (old new : List Call) : Type 0 where

@@ -1,7 +1,7 @@
 //! The walk over a tree: the files below some paths, each once, in the order of the paths' bytes.
 
 ghost use Rattle.std.specs.Prelude.{◌≡◌, ◌⊎◌, ◌++◌, ◌∷◌, [], IfOk, OnOk, Bool, map};
-ghost use Rattle.std.specs.Prelude.{string_bytes, true};
+ghost use Rattle.std.specs.Prelude.{string_bytes, true, false};
 ghost use Rattle.ud_replace.specs.Calls.{walked, listed};
 ghost use Rattle.std.specs.List.{All, AllPairs, Contains};
 ghost use Rattle.ud_tree.specs.CoverParts.{AddsFolder, Enters, Exhausts, Starts, TakesOne};
@@ -9,6 +9,7 @@ ghost use Rattle.ud_tree.specs.CoverParts.{VisitsOne, Waits};
 ghost use Rattle.ud_tree.specs.Streams.{stream_of};
 ghost use Rattle.ud_tree.specs.WalkMessages.{ReportsNames, ReportsWalk, TellsGiven, VisitTells};
 ghost use Rattle.ud_tree.specs.Walks.{Adds, AddsNode, ArePicked, Finds, IsBefore, IsFileList};
+ghost use Rattle.ud_tree.specs.Walks.{IsKept};
 
 use crate::paths::{escaped, folder_path, last_name};
 use crate::patterns::{chooses, is_left_out};
@@ -345,15 +346,18 @@ impl<'w> Walk<'w> {
     }
 }
 
-/// Adds a file, if its path comes after those of all files, and none of them is the same file.
-/// `seen` has the files by their devices and numbers.
+/// Adds a file, if its path comes after those of all files, and none of them is the same file. No
+/// path of these comes after it. `seen` has the files by their devices and numbers.
 fn pick(
     files: &mut Vec<Found>,
     seen: &mut BTreeSet<(u64, u64)>,
     found: Found,
 ) -> Result<(), AllocError>
-    requires { ArePicked seen.old files.old.items }
+    requires picked { ArePicked seen.old files.old.items }
+    requires sorted { All (λ f. ¬ (IsBefore found f)) files.old.items }
     ensures picked { OnOk result (ArePicked seen.new files.new.items) }
+    ensures others { OnOk result (All (Contains files.new.items) files.old.items) }
+    ensures kept { OnOk result (IsKept files.new.items found) }
     ensures from { All (λ f. Contains files.old.items f ⊎ (f ≡ found)) files.new.items }
 {
     if !comes_after(files.as_slice(), &found) {
@@ -370,7 +374,9 @@ fn pick(
 /// Returns whether a file's path comes after those of all these files, which ascend.
 fn comes_after(files: &[Found], found: &Found) -> bool
     requires { AllPairs IsBefore files.now }
-    ensures { result ≡ true → All (λ f. IsBefore f found.now) files.now }
+    ensures after { result ≡ true → All (λ f. IsBefore f found.now) files.now }
+    ensures before { result ≡ false →
+        (last : Found) × Contains files.now last × (¬ (IsBefore last found.now)) }
 {
     match files.last() {
         None => true,

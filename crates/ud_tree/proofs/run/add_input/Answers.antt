@@ -30,8 +30,11 @@ loop-name-init g c = (
 )
 
 pub loop-name-preserved : goal.loop-name-preserved
-loop-name-preserved g c = (finds_then c.loop-name.invariant.0 c.add.ensures.finds, walk_then c.loop-name.invariant.1 c.add.ensures.told,
-  takes_at (λ p. p.items) c.as_slice-name-items.result.now c.loop-name.name-index c.name-item.result c.as_slice-in-loop-name.result.now c.loop-name-test.true c.name-item.is c.as_slice-in-loop-name.ensures.value c.loop-name.invariant.2 c.in_ok-add.ensures.takes)
+loop-name-preserved g c = (
+  finds_then c.loop-name.invariant.0 c.add.ensures.finds,
+  walk_then c.loop-name.invariant.1 c.add.ensures.told,
+  takes_at (λ p. p.items) c.as_slice-name-items.result.now c.loop-name.name-index c.name-item.result c.as_slice-in-loop-name.result.now c.loop-name-test.true c.name-item.is c.as_slice-in-loop-name.ensures.value c.loop-name.invariant.2 c.in_ok-add.ensures.takes,
+)
 
 pub returns-in_err-add-clause-finds : goal.returns-in_err-add-clause-finds
 returns-in_err-add-clause-finds g c = finds_then c.loop-name.invariant.0 c.add.ensures.finds

@@ -22,8 +22,11 @@ loop-path-init g c = (
 )
 
 pub loop-path-preserved : goal.loop-path-preserved
-loop-path-preserved g c = (finds_then c.loop-path.invariant.0 c.start.ensures.finds, walk_then c.loop-path.invariant.1 c.start.ensures.told,
-  starts_at (λ p. string_bytes p) c.as_slice-path-items.result.now c.loop-path.path-index c.path-item.result c.as_str.result.now c.loop-path-test.true c.path-item.is c.as_str.ensures.value c.loop-path.invariant.2 c.in_ok-start.ensures.starts)
+loop-path-preserved g c = (
+  finds_then c.loop-path.invariant.0 c.start.ensures.finds,
+  walk_then c.loop-path.invariant.1 c.start.ensures.told,
+  starts_at (λ p. string_bytes p) c.as_slice-path-items.result.now c.loop-path.path-index c.path-item.result c.as_str.result.now c.loop-path-test.true c.path-item.is c.as_str.ensures.value c.loop-path.invariant.2 c.in_ok-start.ensures.starts,
+)
 
 pub returns-in_err-start-clause-finds : goal.returns-in_err-start-clause-finds
 returns-in_err-start-clause-finds g c = finds_then c.loop-path.invariant.0 c.start.ensures.finds

@@ -1,7 +1,7 @@
 use Rattle.std.proofs.Common.{ap, map}
 use Rattle.std.specs.Prelude.{string_bytes}
 use Rattle.std.proofs.lemmas.Result.{on_ok_weaker}
-use Rattle.ud_tree.specs.CoverParts.{waits_folder, left_folder, no_folder}
+use Rattle.ud_tree.specs.CoverParts.{waits_folder, no_folder}
 use Rattle.ud_tree.specs.Walks.{file_node}
 use Rattle.ud_tree.proofs.CoverLemmas.{on_ok_always}
 use Rattle.ud_tree.proofs.walk.Walk.add_node.Goals as goal

@@ -1,7 +1,7 @@
 use Rattle.ud_tree.specs.Streams.{stream_of}
 use Rattle.std.proofs.Common.{map, arith}
 use Rattle.std.specs.Prelude.{string_bytes}
-use Rattle.ud_tree.proofs.CoverLemmas.{enters_none, enters_more, popped, exhausts_none, exhausts_count}
+use Rattle.ud_tree.proofs.CoverLemmas.{enters_none, enters_more, popped, exhausts_count}
 use Rattle.ud_tree.proofs.WalkLemmas.{finds_none, finds_then}
 use Rattle.ud_tree.proofs.WalkTellLemmas.{walk_none, walk_then}
 use Rattle.ud_tree.proofs.walk.Walk.go.Goals as goal
@@ -14,8 +14,11 @@ folders-init g c = (
 )
 
 pub folders-preserved : goal.folders-preserved
-folders-preserved g c = (finds_then c.folders.invariant.0 c.enter.ensures.finds, walk_then c.folders.invariant.1 c.enter.ensures.told,
-  enters_more c.folders._entered _ _ (popped (λ d. string_bytes d) _ _ _ _ _ c.pop.ensures.items c.in-Some.is c.as_str.ensures.value) c.folders.invariant.2 c.in_ok-enter.ensures.enters)
+folders-preserved g c = (
+  finds_then c.folders.invariant.0 c.enter.ensures.finds,
+  walk_then c.folders.invariant.1 c.enter.ensures.told,
+  enters_more c.folders._entered _ _ (popped (λ d. string_bytes d) _ _ _ _ _ c.pop.ensures.items c.in-Some.is c.as_str.ensures.value) c.folders.invariant.2 c.in_ok-enter.ensures.enters,
+)
 
 pub returns-in_err-enter-clause-finds : goal.returns-in_err-enter-clause-finds
 returns-in_err-enter-clause-finds g c = finds_then c.folders.invariant.0 c.enter.ensures.finds
