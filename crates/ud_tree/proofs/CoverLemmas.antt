@@ -1,16 +1,22 @@
 -- Parts of a walk that miss no name, one after another.
 use Rattle.std.proofs.Common.{◌≡◌, ◌⊎◌, inl, inr, ℕ, ◌+◌, ◌<◌, ◌≤◌, ◌^◌, List, [], ◌∷◌, ◌++◌, length, map, take, get_or, Bool, true, Option, Some, Result, refl, sym, ap, ◌∙◌, subst, arith, append_assoc, length-append}
 use Rattle.std.proofs.lemmas.List.{map-append, take_more, take_all}
-use Rattle.std.proofs.lemmas.List.Elements.{All-weaker, All-nil, All-push, Contains-append_left, Contains-append_right, Contains-append_cases, Contains-push, Contains-push_cases}
+use Rattle.std.proofs.lemmas.List.Elements.{All-weaker, All-contains, All-contains_itself, All-nil, All-push, Contains-append_left, Contains-append_right, Contains-append_cases, Contains-push, Contains-push_cases}
 use Rattle.std.specs.List.{All, Contains}
-use Rattle.std.specs.Prelude.{OnOk, Ok, Err, IsUtf8, option_to_list}
+use Rattle.std.specs.Prelude.{OnOk, Ok, Err, IsUtf8, option_to_list, string_bytes}
 use Rattle.ud_replace.specs.declared.node.Lookup.{Lookup}
 use Rattle.ud_replace.specs.declared.node.Lookup.TheVariants.{Present}
 use Rattle.ud_replace.specs.declared.node.Node.{Node}
-use Rattle.ud_replace.specs.declared.node.NodeKind.TheVariants.{Folder}
+use Rattle.ud_replace.specs.declared.node.NodeKind.TheVariants.{File, Folder}
 use Rattle.ud_replace.specs.Calls.{Call, walked, WalkCall, met, followed, listed}
+use Rattle.ud_replace.specs.declared.node.FileId.{FileId}
+use Rattle.ud_tree.specs.declared.arguments.Arguments.{Arguments}
 use Rattle.ud_tree.specs.declared.report.Report.{Report}
-use Rattle.ud_tree.specs.Covering.{IsFolderPath, WasEntered, IsDue, IsVersioned, Begins, at_file, at_folder, at_link, Visits, no_text, was_met, Gives, no_path_text, was_given, CoversPaths, CoversInput}
+use Rattle.ud_tree.specs.declared.walk.Found.{Found}
+use Rattle.ud_tree.specs.Covering.{IsFolderPath, WasEntered, IsDue, IsVersioned, Begins, at_file, at_folder, at_link, Visits, no_text, was_met, IsIn, StandsIn, Gives, no_path_text, was_given, paths_of, CoversPaths, CoversInput, MissesNone, misses_no_path, misses_no_input}
+use Rattle.ud_tree.specs.Streams.{Source}
+use Rattle.ud_tree.specs.WalkMessages.{TakesPaths}
+use Rattle.ud_tree.specs.Walks.{IsKept, Adds, adds_none, adds_one, AddsNode, no_node, file_node}
 use Rattle.ud_tree.specs.CoverParts.{Explores, Starts, VisitsOne, Enters, Exhausts, Waits, TakesOne, AddsFolder, waits_folder, left_folder, no_folder}
 
 -- Each element of one list is in another.
@@ -422,34 +428,103 @@ covers_paths f xs i {x = x} {y = y} {z = z} {b = b} {c = c} {r = r} all fine h k
     by_case (inr each) =
         All-weaker (Begins ws (IsDue ws b)) (Begins (ys ++ ws) (IsDue (ys ++ ws) c)) (λ p start. begins_within (earlier_calls ws ys) (due_later ws ys b c k.explores.waits) start) (map f (take i xs)) each
 
--- A path of the input was looked at.
-pub takes_met : (answer : Lookup) (path name : List ℕ) {calls calls' : List Call} → name ≡ path → calls' ≡ walked (met path answer) ∷ calls → TakesOne name calls calls'
-takes_met answer path name same is = record { made = met path answer ∷ []; are = is; gives = was_given answer (0, omega arith, ap (λ (p : List ℕ). met p answer) (sym same)) }
-
--- A path of the input isn't UTF-8.
-pub takes_other : (name : List ℕ) (calls : List Call) → ¬ (IsUtf8 name) → TakesOne name calls calls
-takes_other name calls other = record { made = []; are = refl; gives = no_path_text other }
-
-gives_within : {xs ys : List WalkCall} {path : List ℕ} → Within xs ys → Gives xs path → Gives ys path
-gives_within w (no_path_text other) = no_path_text other
-gives_within {path = path} w (was_given answer seen) = was_given answer (w (met path answer) seen)
-
--- No path of the input was given yet.
-pub takes_none : (calls : List Call) → CoversInput [] calls calls
-takes_none calls = record { calls = []; are = refl; gives = All-nil (Gives []) }
-
--- One path more was given.
-pub takes_at : {X : Type 0} (f : X → List ℕ) (xs : List X) (i : ℕ) (v : X) (path : List ℕ) {x y z : List Call} → i < length xs → v ≡ get_or xs i v → path ≡ f v → CoversInput (map f (take i xs)) x y → TakesOne path y z →
-    CoversInput (map f (take (i + 1) xs)) x z
-takes_at f xs i v path {x = x} {y = y} {z = z} within is named h k = record {
-  calls = k.made ++ h.calls;
-  are = parts_are h.calls k.made x y z h.are k.are;
-  gives = subst (All (Gives (k.made ++ h.calls))) (sym (one_more f xs i v path within is named))
-      (All-push (Gives (k.made ++ h.calls)) (map f (take i xs)) path
-      (All-weaker (Gives h.calls) (Gives (k.made ++ h.calls)) (λ p g. gives_within (earlier_calls h.calls k.made) g) (map f (take i xs)) h.gives) (gives_within (later_calls h.calls k.made) k.gives));
+-- A path of the input was looked at, and isn't that of a regular file, or was found.
+takes_met : (answer : Lookup) (path name : List ℕ) {calls calls' : List Call} (found found' : List Found) → name ≡ path → calls' ≡ walked (met path answer) ∷ calls → All (Contains found') found →
+    ((node : Node) → answer ≡ Present node → node.kind ≡ File → IsIn found' name node.id) → TakesOne name calls calls' found found'
+takes_met answer path name found found' same is stay has = record {
+  made = met path answer ∷ [];
+  are = is;
+  gives = was_given answer (0, omega arith, ap (λ (p : List ℕ). met p answer) (sym same)) has;
+  stay = stay;
 }
 
+-- Nothing has a path of the input, or that isn't known.
+pub takes_unmet : (answer : Lookup) (path name : List ℕ) {calls calls' : List Call} (found : List Found) → ((node : Node) → ¬ (answer ≡ Present node)) → name ≡ path → calls' ≡ walked (met path answer) ∷ calls →
+    TakesOne name calls calls' found found
+takes_unmet answer path name found other same is = takes_met answer path name found found same is (All-contains_itself found) (λ node is_node kind. absurd (other node is_node))
+
+-- A node of the input was added, if it is a file.
+pub takes_node : (node : Node) (path name : List ℕ) {calls calls' : List Call} (found found' : List Found) → name ≡ path → calls' ≡ walked (met path (Present node)) ∷ calls → AddsNode found path node found' →
+    (node.kind ≡ File → IsIn found' path node.id) → TakesOne name calls calls' found found'
+takes_node node path name found found' same is adds has =
+    takes_met (Present node) path name found found' same is (added_stay adds) (λ n is_node kind. here n is_node kind)
+  where
+    here : (n : Node) → Present node ≡ Present n → n.kind ≡ File → IsIn found' name n.id
+    here n is_node kind =
+        let e : node ≡ n = cc in
+        subst (λ (p : List ℕ). IsIn found' p n.id) (sym same)
+        (subst (λ (m : Node). IsIn found' path m.id) e (has (ap (λ (m : Node). m.kind) e ∙ kind)))
+
+    stay_by : (path : List ℕ) (id : FileId) → Adds found path id found' → All (Contains found') found
+    stay_by path id (adds_none same) = subst (λ (fs : List Found). All (Contains fs) found) (sym same) (All-contains_itself found)
+    stay_by path id (adds_one f named same grown) = subst (λ (fs : List Found). All (Contains fs) found) (sym grown)
+        (All-weaker (Contains found) (Contains (found ++ f ∷ [])) (λ g there. Contains-append_left found (f ∷ []) g there) found (All-contains_itself found))
+
+    added_stay : AddsNode found path node found' → All (Contains found') found
+    added_stay (no_node same) = stay_by path node.id (adds_none same)
+    added_stay (file_node kind h) = stay_by path node.id h
+
+-- A path of the input isn't UTF-8.
+pub takes_other : (name : List ℕ) (calls : List Call) (found : List Found) → ¬ (IsUtf8 name) → TakesOne name calls calls found found
+takes_other name calls found other = record { made = []; are = refl; gives = no_path_text other; stay = All-contains_itself found }
+
+gives_within : {xs ys : List WalkCall} {p q : List ℕ → FileId → Type 0} {path : List ℕ} → Within xs ys → ((path : List ℕ) (id : FileId) → p path id → q path id) → Gives xs p path → Gives ys q path
+gives_within w d (no_path_text other) = no_path_text other
+gives_within {path = path} w d (was_given answer seen k) = was_given answer (w (met path answer) seen) (λ node is kind. d path node.id (k node is kind))
+
+-- A file that was found stays so.
+is_in_later : (found found' : List Found) → All (Contains found') found → (path : List ℕ) (id : FileId) → IsIn found path id → IsIn found' path id
+is_in_later found found' h path id k = (k.0, All-contains (Contains found') found k.0 h k.1, k.2, k.3)
+
+-- No path of the input was given yet.
+pub takes_none : (calls : List Call) (found : List Found) → CoversInput [] calls calls (IsIn found)
+takes_none calls found = record { calls = []; are = refl; gives = All-nil (Gives [] (IsIn found)) }
+
+-- One path more was given.
+pub takes_at : {X : Type 0} (f : X → List ℕ) (xs : List X) (i : ℕ) (v : X) (path : List ℕ) {x y z : List Call} (found found' : List Found) → i < length xs → v ≡ get_or xs i v → path ≡ f v →
+    CoversInput (map f (take i xs)) x y (IsIn found) → TakesOne path y z found found' → CoversInput (map f (take (i + 1) xs)) x z (IsIn found')
+takes_at f xs i v path {x = x} {y = y} {z = z} found found' within is named h k = record {
+  calls = all;
+  are = parts_are h.calls k.made x y z h.are k.are;
+  gives = subst (All (Gives all (IsIn found'))) (sym (one_more f xs i v path within is named))
+      (All-push (Gives all (IsIn found')) (map f (take i xs)) path
+      (All-weaker (Gives h.calls (IsIn found)) (Gives all (IsIn found')) (λ p g. gives_within (earlier_calls h.calls k.made) (is_in_later found found' k.stay) g) (map f (take i xs)) h.gives)
+      (gives_within (later_calls h.calls k.made) (λ p id there. there) k.gives));
+}
+  where
+    all : List WalkCall
+    all = k.made ++ h.calls
+
 -- All paths were given.
-pub takes_all_paths : {X : Type 0} (f : X → List ℕ) (xs : List X) (i : ℕ) (paths : List (List ℕ)) {x y : List Call} → i ≡ length xs → map f xs ≡ paths → CoversInput (map f (take i xs)) x y → CoversInput paths x y
-takes_all_paths f xs i paths {x = x} {y = y} all are h =
-    subst (λ (ps : List (List ℕ)). CoversInput ps x y) (ap (map f) (take_all i xs (omega arith)) ∙ are) h
+pub takes_all_paths : {X : Type 0} (f : X → List ℕ) (xs : List X) (i : ℕ) (paths : List (List ℕ)) {x y : List Call} (found : List Found) → i ≡ length xs → map f xs ≡ paths →
+    CoversInput (map f (take i xs)) x y (IsIn found) → CoversInput paths x y (IsIn found)
+takes_all_paths f xs i paths {x = x} {y = y} found all are h =
+    subst (λ (ps : List (List ℕ)). CoversInput ps x y (IsIn found)) (ap (map f) (take_all i xs (omega arith)) ∙ are) h
+
+-- Files that were found are kept.
+stands_in : (found files : List Found) → All (IsKept files) found → (path : List ℕ) (id : FileId) → IsIn found path id → StandsIn files path id
+stands_in found files kept path id h = by_case (All-contains (IsKept files) found h.0 kept h.1)
+  where
+    by_case : IsKept files h.0 → StandsIn files path id
+    by_case k = (k.0, k.1, by_same k.2)
+      where
+        by_same : (string_bytes k.0.path ≡ string_bytes h.0.path) ⊎ (k.0.id ≡ h.0.id) → (string_bytes k.0.path ≡ path) ⊎ (k.0.id ≡ id)
+        by_same (inl same) = inl (same ∙ h.2)
+        by_same (inr same) = inr (same ∙ h.3)
+
+-- No path is missed, and the files that were found are kept.
+pub misses_kept : (args : Arguments) (text : List ℕ) {x y : List Call} (found files : List Found) → All (IsKept files) found → MissesNone args text x y (IsIn found) → MissesNone args text x y (StandsIn files)
+misses_kept args text found files kept (misses_no_path none h) = misses_no_path none h
+misses_kept args text found files kept (misses_no_input input h) = misses_no_input input (record {
+  calls = h.calls;
+  are = h.are;
+  gives = All-weaker (Gives h.calls (IsIn found)) (Gives h.calls (StandsIn files)) (λ p g. gives_within (λ w there. there) (stands_in found files kept) g) (paths_of text) h.gives;
+})
+
+-- The paths are taken, and the files that were found are kept.
+pub paths_kept : {args : Arguments} {given left : Source} {x y : List Call} (found files : List Found) → All (IsKept files) found → TakesPaths args given left x y (IsIn found) → TakesPaths args given left x y (StandsIn files)
+paths_kept {args = args} found files kept h = record { text = h.text; takes = h.takes; misses = misses_kept args h.text found files kept h.misses }
+
+-- A file that was pushed is among those found.
+pub is_in_pushed : (before after : List Found) (f : Found) (path : List ℕ) (id : FileId) → string_bytes f.path ≡ path → f.id ≡ id → after ≡ before ++ f ∷ [] → IsIn after path id
+is_in_pushed before after f path id named same is = (f, subst (λ (fs : List Found). Contains fs f) (sym is) (Contains-push before f), named, same)

@@ -77,7 +77,7 @@ same_path f g a b = by_order (slice_cmp nat_cmp (string_bytes f.path) (string_by
     by_order Equal e = same_lists (string_bytes f.path) (string_bytes g.path) e
     by_order Greater e = absurd (b (nat_list_cmp_total.antisymm (string_bytes g.path) (string_bytes f.path) ∙ ap ordering_reverse e))
 
--- A file of a sorted list is before none of those in front of it.
+-- A file of a sorted list is before none of the earlier ones.
 sorted_before : (cmp : Found → Found → Ordering) (all : List Found) → ((f g : Found) → IsBefore f g → is_lt (cmp f g) ≡ true) → IsSorted cmp all → (n : ℕ) (x : Found) → n < length all → x ≡ get_or all n x →
     All (λ f. ¬ (IsBefore x f)) (take n all)
 sorted_before cmp all test sorted zero x within is = All-nil (λ f. ¬ (IsBefore x f))
@@ -96,7 +96,7 @@ sorted_before cmp all test sorted (suc n) x within is =
         let same : x ≡ get_or all (n + 1) x = is ∙ ap (λ (i : ℕ). get_or all i x) next_index in
         true≢false (sym (test (get_or all (n + 1) x) (get_or all n x) (subst (λ (y : Found). IsBefore y (get_or all n x)) same b)) ∙ lt)
 
--- The same, of files that are among those in front of it.
+-- The same, of files that are among the earlier ones.
 pub sorted_files : (cmp : Found → Found → Ordering) (all yielded files : List Found) → ((f g : Found) → IsBefore f g → is_lt (cmp f g) ≡ true) → IsSorted cmp all → (x : Found) → length yielded < length all →
     x ≡ get_or all (length yielded) x → map (λ (y : Found). y) yielded ≡ take (length yielded) all → All (Contains yielded) files → All (λ f. ¬ (IsBefore x f)) files
 sorted_files cmp all yielded files test sorted x within is so_far h =

@@ -9,6 +9,7 @@ use Rattle.ud_replace.specs.declared.node.NodeKind.{NodeKind}
 use Rattle.ud_replace.specs.declared.node.NodeKind.TheVariants.{File, Link, Other}
 use Rattle.ud_replace.specs.declared.node.Lookup.{Lookup}
 use Rattle.ud_replace.specs.declared.node.Lookup.TheVariants.{Present, Absent, Unknown}
+use Rattle.ud_replace.specs.declared.node.FileId.{FileId}
 use Rattle.ud_replace.specs.declared.node.Node.{Node}
 use Rattle.ud_replace.specs.Calls.{Call, walked, WalkCall, met, followed, listed}
 use Rattle.ud_tree.specs.declared.report.Report.{Report}
@@ -409,11 +410,11 @@ pub some_unless : (from_input : Bool) (n : ℕ) → from_input ≡ true → from
 some_unless from_input n input args = absurd (true≢false (sym input ∙ args))
 
 -- Each path of the input was given.
-pub paths_given : (args : Arguments) {given left : Source} {calls calls' : List Call} → args.from_input ≡ true → TakesEach given left calls calls' → TakesPaths args given left calls calls'
+pub paths_given : (args : Arguments) {given left : Source} {calls calls' : List Call} {has : List ℕ → FileId → Type 0} → args.from_input ≡ true → TakesEach given left calls calls' has → TakesPaths args given left calls calls' has
 paths_given args input h = record { text = h.text; takes = takes_all input h.reads; misses = misses_no_input input h.covers }
 
 -- The paths of the command line are covered, and nothing was read.
-pub paths_covered : (args : Arguments) {given : Source} {paths : List (String Global)} {calls calls' : List Call} → args.from_input ≡ false → CoversPaths (map (λ p. string_bytes p) paths) calls calls' → paths ≡ args.paths.items →
-    TakesPaths args given given calls calls'
+pub paths_covered : (args : Arguments) {given : Source} {paths : List (String Global)} {calls calls' : List Call} {has : List ℕ → FileId → Type 0} → args.from_input ≡ false → CoversPaths (map (λ p. string_bytes p) paths) calls calls' →
+    paths ≡ args.paths.items → TakesPaths args given given calls calls' has
 paths_covered args {calls = calls} {calls' = calls'} none h are =
     record { text = []; takes = takes_none none refl; misses = misses_no_path none (subst (λ ps. CoversPaths (map (λ p. string_bytes p) ps) calls calls') are h) }

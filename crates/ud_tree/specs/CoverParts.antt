@@ -7,18 +7,20 @@
 --   Exhausts calls calls' folders folders'   no folder waits any more
 --   Waits path folders folders'   a folder waits to be listed
 --   AddsFolder path name node folders folders'   one does, if a node is a folder
---   TakesOne path calls calls'   a path of the input was given
+--   TakesOne path calls calls' found found'   a path of the input was given
 --
 -- `calls` and `calls'` are the calls before and after, the newest first, and `folders` and
--- `folders'` the folders that wait to be listed. `old` and `new` are the report before and after.
+-- `folders'` the folders that wait to be listed. `found` and `found'` are the files that were
+-- found. `old` and `new` are the report before and after.
 use Rattle.std.specs.Prelude.{◌≡◌, ◌⊎◌, ℕ, ◌+◌, ◌<◌, ◌^◌, List, [], ◌∷◌, ◌++◌, map, length}
-use Rattle.std.specs.List.{Contains}
+use Rattle.std.specs.List.{All, Contains}
 use Rattle.ud_replace.specs.declared.node.NodeKind.TheVariants.{Folder}
 use Rattle.ud_replace.specs.declared.node.Node.{Node}
 use Rattle.ud_replace.specs.Calls.{Call, WalkCall, walked}
 use Rattle.ud_tree.specs.declared.report.Report.{Report}
+use Rattle.ud_tree.specs.declared.walk.Found.{Found}
 use Rattle.ud_tree.specs.Covering.{IsFolderPath, WasEntered, IsDue, IsVersioned, Begins, Visits}
-use Rattle.ud_tree.specs.Covering.{VisitsAll, Gives}
+use Rattle.ud_tree.specs.Covering.{VisitsAll, IsIn, Gives}
 
 -- `Explores calls calls' folders folders'`: since `calls`, only calls of a walk were made. Each
 -- folder that waited was listed or still waits. Each name of each folder that was listed was
@@ -74,9 +76,11 @@ pub data AddsFolder (path name : List ℕ) (node : Node) (folders folders' : Lis
   no_folder : ¬ (node.kind ≡ Folder) → folders' ≡ folders →
       AddsFolder path name node folders folders'
 
--- `TakesOne path calls calls'`: since `calls`, only calls of a walk were made, and the path `path`
--- of the input was given.
-pub record TakesOne (path : List ℕ) (calls calls' : List Call) : Type 0 where
+-- `TakesOne path calls calls' found found'`: since `calls`, only calls of a walk were made, and the
+-- path `path` of the input was given. The files that were found before stay.
+pub record TakesOne (path : List ℕ) (calls calls' : List Call) (found found' : List Found) :
+    Type 0 where
   pub made : List WalkCall
   pub are : calls' ≡ map walked made ++ calls
-  pub gives : Gives made path
+  pub gives : Gives made (IsIn found') path
+  pub stay : All (Contains found') found

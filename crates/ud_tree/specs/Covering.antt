@@ -7,24 +7,28 @@
 --   Begins calls due path         a path of the command line can be taken
 --   Visits calls due folder name   what became of a name in a folder
 --   VisitsAll calls due           so for each name of each folder that was listed
---   Gives calls path              what became of a path of the input
+--   IsIn found path id            a file was found
+--   StandsIn files path id        a list of files has it, or one that stands for it
+--   Gives calls has path          what became of a path of the input
 --   own_path path                 a path, unless it is empty
 --   paths_after path text, paths_of text   the paths of the input
 --   CoversPaths paths old new     a whole walk from the paths of the command line
---   CoversInput paths old new     one from those of the input
---   MissesNone args text old new   one from the paths that the arguments name
+--   CoversInput paths old new has   one from those of the input
+--   MissesNone args text old new has   one from the paths that the arguments name
 --
 -- `calls` are those of a walk, the newest first. `due path` says that a folder was listed or waits
--- for that.
+-- for that, and `has path id` that a file was found.
 use Rattle.std.specs.Prelude.{◌≡◌, ◌⊎◌, ℕ, List, [], ◌∷◌, ◌++◌, Bool, true, false, IsUtf8, codes}
 use Rattle.std.specs.Prelude.{string_bytes, map, length, ◌+◌, ◌<◌, ◌^◌, ◌==◌, if◌then◌else◌}
 use Rattle.std.specs.List.{All, Contains}
+use Rattle.ud_replace.specs.declared.node.FileId.{FileId}
 use Rattle.ud_replace.specs.declared.node.Lookup.{Lookup}
 use Rattle.ud_replace.specs.declared.node.Lookup.TheVariants.{Present}
 use Rattle.ud_replace.specs.declared.node.Node.{Node}
 use Rattle.ud_replace.specs.declared.node.NodeKind.TheVariants.{File, Folder, Link}
 use Rattle.ud_replace.specs.Calls.{Call, walked, WalkCall, met, followed, listed}
 use Rattle.ud_tree.specs.declared.arguments.Arguments.{Arguments}
+use Rattle.ud_tree.specs.declared.walk.Found.{Found}
 
 -- `IsFolderPath path folder`: `folder` is `path`, with a slash at its end.
 abbrev pub IsFolderPath : List ℕ → List ℕ → Type 0
@@ -68,10 +72,23 @@ abbrev pub VisitsAll : List WalkCall → (List ℕ → Type 0) → Type 0
 VisitsAll calls due = (folder : List ℕ) (names : List (List ℕ)) (answer : Bool) →
     Contains calls (listed folder names answer) → All (Visits calls due folder) names
 
--- `Gives calls path`: `path` isn't UTF-8, or it was looked at.
-pub data Gives (calls : List WalkCall) (path : List ℕ) : Type 0 where
-  no_path_text : ¬ (IsUtf8 path) → Gives calls path
-  was_given : (answer : Lookup) → Contains calls (met path answer) → Gives calls path
+-- `IsIn found path id`: `found` has a file with this path and identity.
+abbrev pub IsIn : List Found → List ℕ → FileId → Type 0
+IsIn found path id = (f : Found) × Contains found f × (string_bytes f.path ≡ path) × (f.id ≡ id)
+
+-- `StandsIn files path id`: `files` has a file with this path, or one that is the same file.
+abbrev pub StandsIn : List Found → List ℕ → FileId → Type 0
+StandsIn files path id =
+    (g : Found) × Contains files g × ((string_bytes g.path ≡ path) ⊎ (g.id ≡ id))
+
+-- `Gives calls has path`: `path` isn't UTF-8. Or it was looked at, and was found if it is a regular
+-- file.
+pub data Gives (calls : List WalkCall) (has : List ℕ → FileId → Type 0) (path : List ℕ) :
+    Type 0 where
+  no_path_text : ¬ (IsUtf8 path) → Gives calls has path
+  was_given : (answer : Lookup) → Contains calls (met path answer) →
+      ((node : Node) → answer ≡ Present node → node.kind ≡ File → has path node.id) →
+      Gives calls has path
 
 -- `own_path path`: `path`, unless it is empty.
 abbrev pub own_path : List ℕ → List (List ℕ)
@@ -100,18 +117,20 @@ pub record CoversPaths (paths : List (List ℕ)) (old new : List Call) : Type 0 
   pub begins : All (Begins calls (IsDue calls waiting)) paths
   pub visits : VisitsAll calls (IsDue calls waiting)
 
--- `CoversInput paths old new`: since `old`, only calls of a walk were made, and each of `paths` was
--- given.
-pub record CoversInput (paths : List (List ℕ)) (old new : List Call) : Type 0 where
+-- `CoversInput paths old new has`: since `old`, only calls of a walk were made, and each of `paths`
+-- was given.
+pub record CoversInput (paths : List (List ℕ)) (old new : List Call)
+    (has : List ℕ → FileId → Type 0) : Type 0 where
   pub calls : List WalkCall
   pub are : new ≡ map walked calls ++ old
-  pub gives : All (Gives calls) paths
+  pub gives : All (Gives calls has) paths
 
--- `MissesNone args text old new`: the paths are those of the command line, and they are covered. Or
--- they are those of the input `text`, and each was given.
-pub data MissesNone (args : Arguments) (text : List ℕ) (old new : List Call) : Type 0 where
+-- `MissesNone args text old new has`: the paths are those of the command line, and they are
+-- covered. Or they are those of the input `text`, and each was given.
+pub data MissesNone (args : Arguments) (text : List ℕ) (old new : List Call)
+    (has : List ℕ → FileId → Type 0) : Type 0 where
   misses_no_path : args.from_input ≡ false →
       CoversPaths (map (λ p. string_bytes p) args.paths.items) old new →
-      MissesNone args text old new
-  misses_no_input : args.from_input ≡ true → CoversInput (paths_of text) old new →
-      MissesNone args text old new
+      MissesNone args text old new has
+  misses_no_input : args.from_input ≡ true → CoversInput (paths_of text) old new has →
+      MissesNone args text old new has

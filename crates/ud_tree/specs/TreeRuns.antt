@@ -32,7 +32,7 @@ use Rattle.ud_tree.specs.Messages.{output_messages}
 use Rattle.ud_tree.specs.Streams.{Sends, StreamEnds, ends_of, Source, TakesInput, ReadsWhole}
 use Rattle.ud_tree.specs.Summaries.{last_lines, EndsWith}
 use Rattle.ud_tree.specs.Writing.{Moment, WritesAll}
-use Rattle.ud_tree.specs.Covering.{MissesNone}
+use Rattle.ud_tree.specs.Covering.{StandsIn, MissesNone}
 use Rattle.ud_tree.specs.Walks.{IsWalk}
 use Rattle.ud_tree.specs.WalkMessages.{WalkTells, joined, Stops}
 use Rattle.ud_tree.specs.Statuses.{tree_status}
@@ -111,7 +111,7 @@ pub data IsRun (args : Arguments) (given left : Source) (old new : List Call)
       IsRun args given left old new messages streams [] told [] 2
   ran : {shown told last : List ℕ} {status : ℕ} (text : List ℕ) (mid : List Call)
       (files : List Found) → TakesInput args.from_input given left text →
-      MissesNone args text old mid → IsWalk old mid files →
+      MissesNone args text old mid (StandsIn files) → IsWalk old mid files →
       WalkTells old mid messages → (args.from_input ≡ false → 0 < length files) →
       Ends args (length messages) streams mid (names_of files) new shown told last status →
       IsRun args given left old new messages streams shown told last status

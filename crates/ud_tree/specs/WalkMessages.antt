@@ -15,8 +15,8 @@
 --   input_message                the message if the input couldn't be read
 --   Stops from_input left messages told   why no file follows a walk, and what is written of that
 --   StopsWalk from_input left calls calls' old new err err'   a walk that no file follows
---   TakesEach given left calls calls'   the input was read, and each of its paths was given
---   TakesPaths args given left calls calls'   so it was, or the paths of the command line are taken
+--   TakesEach given left calls calls' has   the input was read, and each of its paths was given
+--   TakesPaths args given left calls calls' has   the same, or paths of the command line are taken
 --   FindsFiles args given left calls calls' files old new err err'   a walk that found files
 --
 -- `old` and `new` are the report before and after, or the calls, the newest first. `err` and `err'`
@@ -33,7 +33,8 @@ use Rattle.ud_tree.specs.declared.walk.Found.{Found}
 use Rattle.ud_tree.specs.Messages.{fault_line, IsFailureOf, Tells, ReportsOne}
 use Rattle.ud_tree.specs.Streams.{Stream, Source, TakesInput, ReadsWhole}
 use Rattle.ud_tree.specs.declared.arguments.Arguments.{Arguments}
-use Rattle.ud_tree.specs.Covering.{CoversInput, paths_of, MissesNone}
+use Rattle.ud_replace.specs.declared.node.FileId.{FileId}
+use Rattle.ud_tree.specs.Covering.{CoversInput, paths_of, StandsIn, MissesNone}
 use Rattle.ud_tree.specs.Summaries.{line_of}
 use Rattle.ud_tree.specs.Walks.{IsWalk}
 
@@ -178,26 +179,28 @@ pub record StopsWalk (from_input : Bool) (left : Source) (calls calls' : List Ca
   pub stops : Stops from_input left messages told
   pub tells : Tells old new err err' (joined messages ++ told)
 
--- `TakesEach given left calls calls'`: the input was read whole, and each of its paths was given.
-pub record TakesEach (given left : Source) (calls calls' : List Call) : Type 0 where
+-- `TakesEach given left calls calls' has`: the input was read whole, and each of its paths was
+-- given.
+pub record TakesEach (given left : Source) (calls calls' : List Call)
+    (has : List ℕ → FileId → Type 0) : Type 0 where
   pub text : List ℕ
   pub reads : ReadsWhole given left text
-  pub covers : CoversInput (paths_of text) calls calls'
+  pub covers : CoversInput (paths_of text) calls calls' has
 
--- `TakesPaths args given left calls calls'`: the input was read whole, if paths come from it. Since
--- `calls`, a whole walk missed none of the paths.
-pub record TakesPaths (args : Arguments) (given left : Source) (calls calls' : List Call) :
-    Type 0 where
+-- `TakesPaths args given left calls calls' has`: the input was read whole, if paths come from it.
+-- Since `calls`, a whole walk missed none of the paths.
+pub record TakesPaths (args : Arguments) (given left : Source) (calls calls' : List Call)
+    (has : List ℕ → FileId → Type 0) : Type 0 where
   pub text : List ℕ
   pub takes : TakesInput args.from_input given left text
-  pub misses : MissesNone args text calls calls'
+  pub misses : MissesNone args text calls calls' has
 
 -- `FindsFiles args given left calls calls' files old new err err'`: the paths are taken. Since
 -- `calls`, a whole walk found `files`, at least one if the paths are those of the command line. Its
 -- messages were written and counted.
 pub record FindsFiles (args : Arguments) (given left : Source) (calls calls' : List Call)
     (files : List Found) (old new : Report) (err err' : Stream) : Type 0 where
-  pub paths : TakesPaths args given left calls calls'
+  pub paths : TakesPaths args given left calls calls' (StandsIn files)
   pub is_walk : IsWalk calls calls' files
   pub some : args.from_input ≡ false → 0 < length files
   pub reports : ReportsWalk calls calls' old new err err'

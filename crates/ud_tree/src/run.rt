@@ -5,7 +5,7 @@ ghost use Rattle.std.specs.Prelude.{OnErr, OnOk};
 ghost use Rattle.ud_model.specs.answer.Answer.{status_by};
 ghost use Rattle.ud_tree.specs.Messages.{TellsIf, list_message, write_message};
 ghost use Rattle.ud_tree.specs.Statuses.{tree_status};
-ghost use Rattle.ud_tree.specs.Covering.{own_path, paths_of};
+ghost use Rattle.ud_tree.specs.Covering.{IsIn, own_path, paths_of};
 ghost use Rattle.ud_tree.specs.Streams.{Sends, stream_of, source_of, ReadsWhole};
 ghost use Rattle.ud_tree.specs.Summaries.{Says, TellsEnd, changes_line, summary};
 ghost use Rattle.ud_tree.specs.Summaries.{files_text, hidden_text};
@@ -127,7 +127,7 @@ fn walk_all<T: Tree, R: Read, E: Write>(
         (stream_of E.contents err.old) (stream_of E.contents err.new) }
     ensures takes { IfOk result (λ all. all ≡ true → TakesPaths job.now.arguments.now
         (source_of R.remaining input.old) (source_of R.remaining input.new)
-        (T.history tree.old) (T.history tree.new)) }
+        (T.history tree.old) (T.history tree.new) (IsIn walk.new.found.items)) }
     ensures stops { IfOk result (λ all. all ≡ false → report.old.faulty ≡ 0 →
         StopsWalk job.now.arguments.now.from_input (source_of R.remaining input.new)
         (T.history tree.old) (T.history tree.new) report.old report.new
@@ -162,7 +162,7 @@ fn add_input<T: Tree, R: Read, E: Write>(
         (stream_of E.contents err.old) (stream_of E.contents err.new) }
     ensures takes { IfOk result (λ all. all ≡ true → TakesEach
         (source_of R.remaining input.old) (source_of R.remaining input.new)
-        (T.history tree.old) (T.history tree.new)) }
+        (T.history tree.old) (T.history tree.new) (IsIn walk.new.found.items)) }
     ensures stops { IfOk result (λ all. all ≡ false →
         StopsWalk true (source_of R.remaining input.new) (T.history tree.old)
         (T.history tree.new) report.old report.new

@@ -4,6 +4,7 @@ ghost use Rattle.std.specs.Prelude.{◌≡◌, ◌⊎◌, ◌++◌, ◌∷◌, [
 ghost use Rattle.std.specs.Prelude.{string_bytes, true, false};
 ghost use Rattle.ud_replace.specs.Calls.{walked, listed};
 ghost use Rattle.std.specs.List.{All, AllPairs, Contains};
+ghost use Rattle.ud_tree.specs.Covering.{IsIn};
 ghost use Rattle.ud_tree.specs.CoverParts.{AddsFolder, Enters, Exhausts, Starts, TakesOne};
 ghost use Rattle.ud_tree.specs.CoverParts.{VisitsOne, Waits};
 ghost use Rattle.ud_tree.specs.Streams.{stream_of};
@@ -126,7 +127,8 @@ impl<'w> Walk<'w> {
             self.new.found.items }
         ensures told { ReportsWalk (T.history tree.old) (T.history tree.new) report.old report.new
             (stream_of E.contents err.old) (stream_of E.contents err.new) }
-        ensures takes { OnOk result (TakesOne name.now (T.history tree.old) (T.history tree.new)) }
+        ensures takes { OnOk result (TakesOne name.now (T.history tree.old) (T.history tree.new)
+            self.old.found.items self.new.found.items) }
     {
         let Ok(path) = std::str::from_utf8(name) else {
             report.fault(err, escaped(self.alloc, name)?.as_slice(), NOT_UTF8);
@@ -154,6 +156,8 @@ impl<'w> Walk<'w> {
         node: Node,
     ) -> Result<(), AllocError>
         ensures adds { AddsNode self.old.found.items name.now node self.new.found.items }
+        ensures is_in { OnOk result (node.kind ≡ NodeKind.File →
+            IsIn self.new.found.items name.now node.id) }
         ensures told { TellsGiven name.now node report.old report.new
             (stream_of E.contents err.old) (stream_of E.contents err.new) }
     {
@@ -195,6 +199,7 @@ impl<'w> Walk<'w> {
     fn push_file(&mut self, path: &str, id: FileId) -> Result<(), AllocError>
         ensures adds { Adds self.old.found.items path.now id self.new.found.items }
         ensures folders { self.new.folders.items ≡ self.old.folders.items }
+        ensures is_in { OnOk result (IsIn self.new.found.items path.now id) }
     {
         let path = String::from_str(self.alloc, path)?;
         self.found.push(Found { path, id })?;

@@ -26,14 +26,14 @@ pub loop-name-init : goal.loop-name-init
 loop-name-init g c = (
   finds_none (g.T.Folder.history c.args.tree.now) c.args.walk.now.found.items,
   walk_none (g.T.Folder.history c.args.tree.now) c.args.report.now (stream_of g.E.Write.contents c.args.err.now),
-  takes_none (g.T.Folder.history c.args.tree.now),
+  takes_none (g.T.Folder.history c.args.tree.now) c.args.walk.now.found.items,
 )
 
 pub loop-name-preserved : goal.loop-name-preserved
 loop-name-preserved g c = (
   finds_then c.loop-name.invariant.0 c.add.ensures.finds,
   walk_then c.loop-name.invariant.1 c.add.ensures.told,
-  takes_at (λ p. p.items) c.as_slice-name-items.result.now c.loop-name.name-index c.name-item.result c.as_slice-in-loop-name.result.now c.loop-name-test.true c.name-item.is c.as_slice-in-loop-name.ensures.value c.loop-name.invariant.2 c.in_ok-add.ensures.takes,
+  takes_at (λ p. p.items) c.as_slice-name-items.result.now c.loop-name.name-index c.name-item.result c.as_slice-in-loop-name.result.now _ _ c.loop-name-test.true c.name-item.is c.as_slice-in-loop-name.ensures.value c.loop-name.invariant.2 c.in_ok-add.ensures.takes,
 )
 
 pub returns-in_err-add-clause-finds : goal.returns-in_err-add-clause-finds
@@ -52,6 +52,6 @@ pub returns-clause-takes : goal.returns-clause-takes
 returns-clause-takes g c = λ all. record {
   text = c.read_input.new.text.items;
   reads = c.in_ok-all.ensures.all c.if-not-all.false;
-  covers = takes_all_paths (λ p. p.items) c.as_slice-name-items.result.now c.loop-name.name-index _ (omega arith)
+  covers = takes_all_paths (λ p. p.items) c.as_slice-name-items.result.now c.loop-name.name-index _ _ (omega arith)
       (ap (map (λ p. p.items)) c.as_slice-name-items.ensures.value ∙ c.in_ok-paths.ensures ∙ ap paths_of c.as_slice.ensures.value) c.loop-name.invariant.2;
 }

@@ -1,5 +1,6 @@
 use Rattle.std.proofs.Common.{refl, sym}
 use Rattle.ud_tree.proofs.WalkLemmas.{walk_found}
+use Rattle.ud_tree.proofs.CoverLemmas.{paths_kept}
 use Rattle.ud_tree.proofs.WalkTellLemmas.{stops_unmatched, some_files, some_unless}
 use Rattle.ud_tree.proofs.run.find_files.Goals.{else-is_empty-via-then-is_empty+else-not-job, else-is_empty-via-else-is_empty}
 use Rattle.ud_tree.proofs.run.find_files.Goals as goal
@@ -12,7 +13,7 @@ returns-then-not-job-clause-stops g c = λ none. stops_unmatched _ c.if-not-job.
 
 pub returns-clause-files : goal.returns-clause-files
 returns-clause-files g c = record {
-  paths = c.in_ok-all.ensures.takes c.if-not-all.false;
+  paths = paths_kept c.walk_all.new.walk.found.items c.in_ok-files.files.items c.in_ok-files.ensures.kept (c.in_ok-all.ensures.takes c.if-not-all.false);
   is_walk = walk_found c.in_ok-files.files.items c.new-walk.ensures.found c.walk_all.ensures.finds c.in_ok-files.ensures;
   some = elim c.else-is_empty.branch [
     | else-is_empty-via-then-is_empty+else-not-job w ↦ some_unless _ _ w.if-not-job.false
