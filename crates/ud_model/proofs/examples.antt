@@ -1,4 +1,5 @@
 -- Small inputs, computed by the checker, against values worked out by hand.
 pub mod CValueExamples
 pub mod SelectionExamples
+pub mod PresumedExamples
 pub mod ResidualExamples

@@ -58,6 +58,9 @@ pub mod InsertedTree
 pub mod InsertedText
 pub mod ReadInMode
 pub mod InsertedSelected
+pub mod PresumedNumbers
+pub mod OwnNumbers
+pub mod PresumedSelected
 pub mod FlagArguments
 pub mod OptionAnswers
 pub mod ReachedPruned

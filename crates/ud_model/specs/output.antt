@@ -9,6 +9,7 @@ pub mod SharedLines
 pub mod StrictLines
 pub mod InsertedLines
 pub mod InsertedNodes
+pub mod PresumedLines
 pub mod SimplifiedTrees
 pub mod SimplifiedTexts
 pub mod LeftOperands

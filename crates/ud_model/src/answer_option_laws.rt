@@ -31,8 +31,12 @@ ghost use Rattle.ud_model.specs.output.StrictLines.{under_strict, KeepAsMuch, pi
 ghost use Rattle.ud_model.specs.output.InsertedLines.{KeepsNumbers, Counted, read_as, CountsLines};
 ghost use Rattle.ud_model.specs.output.InsertedLines.{AnswersNumbered};
 ghost use Rattle.ud_model.specs.output.InsertedNodes.{SelectsWithInserted, StillSelects};
+ghost use Rattle.ud_model.specs.output.PresumedLines.{HasNoLineDirective, Presumed, Presumes};
+ghost use Rattle.ud_model.specs.output.PresumedLines.{HaveInputNumbers, ArePresumed};
+ghost use Rattle.ud_model.specs.output.PresumedLines.{HaveOwnNumbers};
 ghost use Rattle.ud_model.specs.output.Worlds.{World, selected};
 ghost use Rattle.ud_model.specs.declared.settings.Listing.{Listing};
+ghost use Rattle.ud_model.specs.declared.kind.Mode.{Mode};
 
 /// The list of `-s` is complete for arguments, too.
 ///
@@ -130,4 +134,30 @@ pub fn law_answer_numbers()
     ensures selects { (args more : List (List ℕ)) (input : List ℕ) (a c : Answer) →
         AnswersNumbered args more input a c → a.status ≢ 2 → IsPlainC (options_of args) →
         StillSelects (options_of args) input a.output c.output }
+{}
+
+/// Under `-n` and `-b` a line that C processes has the presumed number of the line for which it is
+/// printed.
+///
+/// The arguments are those of `law_answer_numbers`, and lines are read as there. The output without
+/// `-n` and `-b` has no `#line` of its own. A line is sure if C has skipped no inserted `#line`
+/// since the last one that it obeyed. Each sure line that isn't inserted is printed for the line of
+/// the input that has its presumed number. In an input without a `#line` that is also the line's
+/// presumed number (C11 6.10.4p2, 6.10.4p3, 6.10.1p6, unifdef(1)).
+pub fn law_answer_presumed_lines()
+    ensures presumed { (args more : List (List ℕ)) (input : List ℕ) (js : List Judged)
+        (a c : Answer) → AnswersNumbered args more input a c → JudgesAs args input js →
+        HasNoLineDirective (mode_by (options_of args).settings.plain) a.output →
+        (ps : List Presumed) (sure : Bool) (n : ℕ) →
+        Presumes (read_as (mode_by (options_of args).settings.plain) c.output) ps sure n →
+        HaveInputNumbers js ps }
+    ensures selected { (args more : List (List ℕ)) (input : List ℕ) (js : List Judged)
+        (a c : Answer) → AnswersNumbered args more input a c → JudgesAs args input js →
+        HasNoLineDirective (mode_by (options_of args).settings.plain) a.output →
+        (vs : Nodes Reading) → IsTreeOf (options_of args) c.output (closed vs) →
+        (x : World Reading) →
+        ArePresumed (mode_by (options_of args).settings.plain) c.output (selected x vs) }
+    ensures own { (mode : Mode) (text : List ℕ) → HasNoLineDirective mode text →
+        (ps : List Presumed) (sure : Bool) (n : ℕ) → Presumes (read_as mode text) ps sure n →
+        HaveOwnNumbers ps }
 {}

@@ -1,5 +1,5 @@
 -- The lines of a text under `-n` and `-b`, counted from the first to the last.
-use Rattle.std.proofs.Common.{◌≡◌, ℕ, suc, ◌+◌, ◌^◌, ◌<◌, List, [], ◌∷◌, ◌++◌, length, map, Bool, true, ◌||◌, Option, refl, sym, ◌∙◌, ap, subst, arith}
+use Rattle.std.proofs.Common.{◌≡◌, ℕ, suc, ◌+◌, ◌^◌, ◌<◌, ◌≤◌, List, [], ◌∷◌, ◌++◌, length, map, Bool, true, ◌||◌, Option, refl, sym, ◌∙◌, ap, subst, arith}
 use Rattle.std.specs.List.{concat}
 use Rattle.std.proofs.lemmas.List.{map-append}
 use Rattle.ud_model.specs.text.Lines.{Line, lines_of, numbered_from, AreFormed}
@@ -19,10 +19,10 @@ use Rattle.ud_model.specs.declared.limits.TheConstants.{TEXT_LINES}
 use Rattle.ud_model.specs.declared.kind.Mode.{Mode}
 use Rattle.ud_model.specs.declared.settings.Listing.{Listing}
 use Rattle.ud_model.proofs.text.ScanLaws.{readings_after-append}
-use Rattle.ud_model.proofs.sections.Soundness.{reading_of-next, sound_lines, one_run}
-use Rattle.ud_model.proofs.output.BlankedLineLemmas.{lines_read}
+use Rattle.ud_model.proofs.sections.Soundness.{reading_of-next, lines_with_next, sound_lines, one_run}
+use Rattle.ud_model.proofs.output.BlankedLineLemmas.{lines_read, judged_read}
 use Rattle.ud_model.proofs.output.CountedLines.{State, Done, done, first_state, next_state, next_done}
-use Rattle.ud_model.proofs.output.Each.{Each, each_parts}
+use Rattle.ud_model.proofs.output.Each.{Each, each_parts, each_both}
 use Rattle.ud_model.proofs.output.Heeding.{ReadIn, none_read, one_read, the_mode}
 use Rattle.ud_model.proofs.output.LeavesOff.{readings_last}
 use Rattle.ud_model.proofs.output.OutputPieces.{all_formed, all_pieces, output_lines}
@@ -33,16 +33,18 @@ use Rattle.ud_model.proofs.output.SharedLineLemmas.{reads_too}
 use Rattle.ud_model.proofs.output.Inserting.{lines_last}
 
 -- The lines are numbered on from this number.
-InOrder : ℕ → List Line → Type 0
+pub InOrder : ℕ → List Line → Type 0
 InOrder k [] = Unit {0}
 InOrder k (l ∷ ls) = (l.number ≡ k) × InOrder (suc k) ls
 
-numbered_in_order : (k : ℕ) (ts : List (List ℕ)) → InOrder k (numbered_from k ts)
+-- Lines that are numbered are in order.
+pub numbered_in_order : (k : ℕ) (ts : List (List ℕ)) → InOrder k (numbered_from k ts)
 unfolding InOrder
 numbered_in_order k [] = tt
 numbered_in_order k (t ∷ ts) = (refl, numbered_in_order (suc k) ts)
 
-order_last : (k : ℕ) (ls : List Line) (l : Line) → InOrder k (ls ++ l ∷ []) → InOrder k ls × (l.number ≡ k + length ls)
+-- The last line has the last number.
+pub order_last : (k : ℕ) (ls : List Line) (l : Line) → InOrder k (ls ++ l ∷ []) → InOrder k ls × (l.number ≡ k + length ls)
 unfolding InOrder
 order_last k [] l h = (tt, h.0 ∙ omega arith)
 order_last k (j ∷ ls) l h = let r : InOrder (suc k) ls × (l.number ≡ suc k + length ls) = order_last (suc k) ls l h.1 in ((h.0, r.0), r.1 ∙ omega arith)
@@ -130,3 +132,22 @@ counted_text o p b n some input {xs = xs} {t = t} {r = r} {s = s} a run other =
 pub counted_lines : (o : Options) (input : List ℕ) {js : List Judged} {r s : Outcome} → AddsNumbers o input r s → JudgedAs o input js →
     CountsLines o js r.output s.output
 counted_lines o input k (judged_as reads) = counted_text o k.plain k.blank k.renumber k.some input reads k.runs k.numbered
+
+module _ (o : Options) where
+  few_items : {xs : List (Item Reading)} {t : Tree Reading} → AreFaultless o xs t → Each (λ (l : Line). l.number ≤ TEXT_LINES) (map line_of xs)
+  few_items no_lines = tt
+  few_items (one_more xs t s l u e w) =
+      let same : map line_of (xs ++ next_item o xs t l ∷ []) ≡ map line_of xs ++ l ∷ [] = lines_with_next o xs t l in
+      let f : TEXT_LINES < (line_of (next_item o xs t l)).number → ⊥ = w.0 in
+      let g : (line_of (next_item o xs t l)).number ≡ l.number = ap (λ (k : Line). k.number) (reading_of-next o xs t l) in
+      subst (λ (ls : List Line). Each (λ (k : Line). k.number ≤ TEXT_LINES) ls) (sym same)
+      (each_both (λ (k : Line). k.number ≤ TEXT_LINES) (map line_of xs) (l ∷ []) (few_items s) (omega (arith, f, g), tt))
+
+each_line : (js : List Judged) → Each (λ (l : Line). l.number ≤ TEXT_LINES) (map (λ (j : Judged). j.line) js) → Each (λ (j : Judged). j.line.number ≤ TEXT_LINES) js
+each_line [] h = tt
+each_line (j ∷ js) h = (h.0, each_line js h.1)
+
+-- Judged lines have numbers within the limit.
+pub judged_few : (o : Options) (input : List ℕ) {js : List Judged} → JudgedAs o input js → Each (λ (j : Judged). j.line.number ≤ TEXT_LINES) js
+judged_few o input (judged_as {xs = xs} {t = t} reads) =
+    each_line (judged_lines xs (marks t)) (subst (λ (ls : List Line). Each (λ (l : Line). l.number ≤ TEXT_LINES) ls) (sym (judged_read reads)) (few_items o (reads_sound reads)))

@@ -128,7 +128,8 @@ each_map : {A B : Type 0} (f : A → B) (Q : B → Type 0) (xs : List A) → Eac
 each_map f Q [] h = tt
 each_map f Q (x ∷ xs) h = (h.0, each_map f Q xs h.1)
 
-each_unmap : {A B : Type 0} (f : A → B) (Q : B → Type 0) (xs : List A) → Each Q (map f xs) → Each (λ x. Q (f x)) xs
+-- A property of the images of all elements is one of the elements.
+pub each_unmap : {A B : Type 0} (f : A → B) (Q : B → Type 0) (xs : List A) → Each Q (map f xs) → Each (λ x. Q (f x)) xs
 each_unmap f Q [] h = tt
 each_unmap f Q (x ∷ xs) h = (h.0, each_unmap f Q xs h.1)
 

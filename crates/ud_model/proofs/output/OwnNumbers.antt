@@ -1,0 +1,74 @@
+-- A text without a `#line`: each line's presumed number is its own.
+use Rattle.std.proofs.Common.{◌≡◌, ℕ, suc, ◌+◌, List, [], ◌∷◌, ◌++◌, length, map, Bool, true, not, ◌&&◌, Option, Some, None, is_some, decimal, refl, sym, ◌∙◌, ap, ap₂, subst, append_assoc, append-nil, length-append, arith}
+use Rattle.std.proofs.lemmas.List.{map-append, length-map}
+use Rattle.ud_model.specs.text.Lines.{Line, lines_of, texts_of}
+use Rattle.ud_model.specs.text.Scans.{Reading}
+use Rattle.ud_model.specs.text.Scanning.{next_reading, readings_after}
+use Rattle.ud_model.specs.output.InsertedLines.{in_mode, read_as}
+use Rattle.ud_model.specs.output.PresumedLines.{line_operand, HaveNoLineDirective, Presumed, Presumes, no_lines, passes, processes, obeys, HasOwnNumber, HaveOwnNumbers}
+use Rattle.ud_model.specs.declared.kind.Mode.{Mode}
+use Rattle.ud_model.proofs.text.Pushes.{ByPush, none, push, by_push, push_not_nil}
+use Rattle.ud_model.proofs.output.CountedText.{InOrder, numbered_in_order, order_last}
+use Rattle.ud_model.proofs.output.PresumedNumbers.{LastLine, passed, processed, obeyed, last_by, none_last}
+
+abbrev line_of : Reading → Line
+line_of r = r.line
+
+lines_after : (before : List Reading) (ls : List (Mode × Line)) → map line_of (readings_after before ls) ≡ map line_of before ++ map (λ (l : Mode × Line). l.1) ls
+lines_after before [] = sym (append-nil (map line_of before))
+lines_after before (l ∷ ls) =
+    lines_after (before ++ next_reading before l.0 l.1 ∷ []) ls
+    ∙ ap (λ (ks : List Line). ks ++ map (λ (k : Mode × Line). k.1) ls) (map-append line_of before (next_reading before l.0 l.1 ∷ []))
+    ∙ append_assoc (map line_of before) (l.1 ∷ []) (map (λ (k : Mode × Line). k.1) ls)
+
+lines_back : (m : Mode) (ls : List Line) → map (λ (l : Mode × Line). l.1) (map (in_mode m) ls) ≡ ls
+lines_back m [] = refl
+lines_back m (l ∷ ls) = ap (λ (ks : List Line). l ∷ ks) (lines_back m ls)
+
+lines_read_as : (m : Mode) (text : List ℕ) → map line_of (read_as m text) ≡ lines_of text
+lines_read_as m text = lines_after [] (map (in_mode m) (lines_of text)) ∙ lines_back m (lines_of text)
+
+-- However C processes these lines, each has its own number.
+abbrev Own : List Reading → Type 0
+Own ls = (ps : List Presumed) (sure : Bool) (n : ℕ) → Presumes ls ps sure n → (sure ≡ true) × (n ≡ suc (length ls)) × HaveOwnNumbers ps
+
+own_both : (ps : List Presumed) (p : Presumed) → HaveOwnNumbers ps → HasOwnNumber p → HaveOwnNumbers (ps ++ p ∷ [])
+own_both [] p h k = (k, tt)
+own_both (q ∷ ps) p h k = (h.0, own_both ps p h.1 k)
+
+own_line : (ls : List Reading) (d : Reading) → line_operand d.scan ≡ None → d.line.number ≡ suc (length ls) → Own ls → Own (ls ++ d ∷ [])
+own_line ls d nil at h ps sure m p = by_last (last_by p ls d refl)
+  where
+    longer : suc (suc (length ls)) ≡ suc (length (ls ++ d ∷ []))
+    longer = let e = length-append ls (d ∷ []) in omega (arith, e)
+
+    by_last : {qs : List Presumed} {b : Bool} {k : ℕ} → LastLine ls d qs b k → (b ≡ true) × (k ≡ suc (length (ls ++ d ∷ []))) × HaveOwnNumbers qs
+    by_last (passed {ps = qs} {sure = b} {n = k} q) =
+        let r = h qs b k q in
+        (ap₂ (λ (c : Bool) (o : Option (List ℕ)). c && not (is_some o)) r.0 nil, ap (λ (i : ℕ). suc i) r.1 ∙ longer, r.2)
+    by_last (processed {ps = qs} {sure = b} {n = k} q e) =
+        let r = h qs b k q in
+        (r.0, ap (λ (i : ℕ). suc i) r.1 ∙ longer, own_both qs (record { line = d; number = k; sure = b }) r.2 (record { sure = r.0; number = r.1 ∙ sym at }))
+    by_last (obeyed {ps = qs} {sure = b} {n = k} q i g) = let e : None ≡ Some (decimal i) = sym nil ∙ g.operand in cc
+
+own_first : Own []
+own_first ps sure m p = go p refl
+  where
+    go : {ls : List Reading} {qs : List Presumed} {b : Bool} {k : ℕ} → Presumes ls qs b k → ls ≡ [] → (b ≡ true) × (k ≡ 1) × HaveOwnNumbers qs
+    go no_lines e = (refl, refl, tt)
+    go (passes {ls = ls} q r) e = absurd (push_not_nil ls r e)
+    go (processes {ls = ls} q r h) e = absurd (push_not_nil ls r e)
+    go (obeys {ls = ls} q r i g) e = absurd (push_not_nil ls r e)
+
+own_by : {ls : List Reading} → ByPush ls → HaveNoLineDirective ls → InOrder 1 (map line_of ls) → Own ls
+own_by none h i = own_first
+own_by (push {xs = ls} d p) h i =
+    let q = none_last ls d h in
+    let c = order_last 1 (map line_of ls) d.line (subst (InOrder 1) (map-append line_of ls (d ∷ [])) i) in
+    own_line ls d q.1 (c.1 ∙ ap (λ (k : ℕ). 1 + k) (length-map ls line_of) ∙ omega arith) (own_by p q.0 c.0)
+
+-- Each line has its own number.
+pub own_numbers : (mode : Mode) (text : List ℕ) → HaveNoLineDirective (read_as mode text) → (ps : List Presumed) (sure : Bool) (n : ℕ) →
+    Presumes (read_as mode text) ps sure n → HaveOwnNumbers ps
+own_numbers mode text h ps sure n p =
+    (own_by (by_push (read_as mode text)) h (subst (InOrder 1) (sym (lines_read_as mode text)) (numbered_in_order 1 (texts_of text))) ps sure n p).2
