@@ -7,7 +7,7 @@ use Rattle.std.specs.Prelude.{OnOk, Ok, Err, IsUtf8, option_to_list, string_byte
 use Rattle.ud_replace.specs.declared.node.Lookup.{Lookup}
 use Rattle.ud_replace.specs.declared.node.Lookup.TheVariants.{Present}
 use Rattle.ud_replace.specs.declared.node.Node.{Node}
-use Rattle.ud_replace.specs.declared.node.NodeKind.TheVariants.{File, Folder}
+use Rattle.ud_replace.specs.declared.node.NodeKind.TheVariants.{File, Folder, Other}
 use Rattle.ud_replace.specs.Calls.{Call, walked, WalkCall, met, followed, listed}
 use Rattle.ud_replace.specs.declared.node.FileId.{FileId}
 use Rattle.ud_tree.specs.declared.arguments.Arguments.{Arguments}
@@ -39,19 +39,19 @@ due_within xs ys a b path w k h = (h.0, h.1, by_case h.2)
     by_case (inr there) = k h.0 there
 
 -- A name that was visited stays so.
-visits_within : {xs ys : List WalkCall} {p q : List ℕ → Type 0} {folder : List ℕ} (name : List ℕ) → Within xs ys → ((path : List ℕ) → p path → q path) →
-    Visits xs p folder name → Visits ys q folder name
-visits_within name w d (no_text other) = no_text other
-visits_within {p = p} {q = q} {folder = folder} name w d (was_met answer seen k) = was_met answer (w (met (folder ++ name) answer) seen) (λ node is kind. by_case (k node is kind))
+visits_within : {xs ys : List WalkCall} {p q : List ℕ → Type 0} {s t : Type 0} {folder : List ℕ} (name : List ℕ) → Within xs ys → ((path : List ℕ) → p path → q path) → (s → t) →
+    Visits xs p s folder name → Visits ys q t folder name
+visits_within name w d e (no_text other told) = no_text other (e told)
+visits_within {p = p} {q = q} {folder = folder} name w d e (was_met answer seen k) = was_met answer (w (met (folder ++ name) answer) seen) (λ node is kind. by_case (k node is kind))
   where
     by_case : IsVersioned name ⊎ p (folder ++ name) → IsVersioned name ⊎ q (folder ++ name)
     by_case (inl left) = inl left
     by_case (inr due) = inr (d (folder ++ name) due)
 
-visits_all_within : {xs ys : List WalkCall} {p q : List ℕ → Type 0} {folder : List ℕ} (names : List (List ℕ)) → Within xs ys → ((path : List ℕ) → p path → q path) →
-    All (Visits xs p folder) names → All (Visits ys q folder) names
-visits_all_within {xs = xs} {ys = ys} {p = p} {q = q} {folder = folder} names w d h =
-    All-weaker (Visits xs p folder) (Visits ys q folder) (λ name k. visits_within name w d k) names h
+visits_all_within : {xs ys : List WalkCall} {p q : List ℕ → Type 0} {s t : Type 0} {folder : List ℕ} (names : List (List ℕ)) → Within xs ys → ((path : List ℕ) → p path → q path) → (s → t) →
+    All (Visits xs p s folder) names → All (Visits ys q t folder) names
+visits_all_within {xs = xs} {ys = ys} {p = p} {q = q} {s = s} {t = t} {folder = folder} names w d e h =
+    All-weaker (Visits xs p s folder) (Visits ys q t folder) (λ name k. visits_within name w d e k) names h
 
 -- A path of the command line that can be taken stays so.
 pub begins_within : {xs ys : List WalkCall} {p q : List ℕ → Type 0} {path : List ℕ} → Within xs ys → ((path : List ℕ) → p path → q path) → Begins xs p path → Begins ys q path
@@ -116,9 +116,10 @@ pub followed_none : (path : List ℕ) (answer : Bool) (other : List ℕ) (seen :
 followed_none path answer other seen = lists_no_more (followed path answer) (met other seen ∷ []) (λ folder names listing e. absurd cc) (met_none other seen)
 
 -- A few calls were made, and none of them lists a folder.
-pub explores_few : (ws : List WalkCall) {calls calls' : List Call} (folders folders' : List (List ℕ)) → calls' ≡ map walked ws ++ calls → ListsNone ws → Within folders folders' →
-    Explores calls calls' folders folders'
-explores_few ws folders folders' is none kept = record {
+pub explores_few : (ws : List WalkCall) {calls calls' : List Call} (folders folders' : List (List ℕ)) (r r' : Report) → (0 < r.faulty → 0 < r'.faulty) → calls' ≡ map walked ws ++ calls → ListsNone ws → Within folders folders' →
+    Explores calls calls' folders folders' r r'
+explores_few ws folders folders' r r' counted is none kept = record {
+  kept = counted;
   made = ws;
   are = is;
   waits = λ folder there. inr (kept folder there);
@@ -126,8 +127,8 @@ explores_few ws folders folders' is none kept = record {
 }
 
 -- Nothing was asked.
-pub explores_none : (calls : List Call) (folders : List (List ℕ)) → Explores calls calls folders folders
-explores_none calls folders = explores_few [] folders folders refl lists_none (λ folder there. there)
+pub explores_none : (calls : List Call) (folders : List (List ℕ)) (r r' : Report) → (0 < r.faulty → 0 < r'.faulty) → Explores calls calls folders folders r r'
+explores_none calls folders r r' counted = explores_few [] folders folders r r' counted refl lists_none (λ folder there. there)
 
 -- All folders that waited still wait, and one more may.
 pub waits_still : (folders : List (List ℕ)) → Within folders folders
@@ -152,43 +153,43 @@ waits_due ws {folders = folders} h =
 pub starts_good : (ws : List WalkCall) (path : List ℕ) {calls calls' : List Call} (folders folders' : List (List ℕ)) (r : Report) → calls' ≡ map walked ws ++ calls → ListsNone ws → Within folders folders' →
     Begins ws (IsDue ws folders') path → Starts path calls calls' folders folders' r r
 unfolding explores_few
-starts_good ws path folders folders' r is none kept b = record { explores = explores_few ws folders folders' is none kept; begins = inr b; kept = λ some. some }
+starts_good ws path folders folders' r is none kept b = record { explores = explores_few ws folders folders' r r (λ some. some) is none kept; begins = inr b }
 
 -- A path of the command line has a fault.
 pub starts_bad : (ws : List WalkCall) (path : List ℕ) {calls calls' : List Call} (folders : List (List ℕ)) (r r' : Report) → calls' ≡ map walked ws ++ calls → ListsNone ws → 0 < r'.faulty →
     Starts path calls calls' folders folders r r'
-starts_bad ws path folders r r' is none some = record { explores = explores_few ws folders folders is none (waits_still folders); begins = inl some; kept = λ before. some }
+starts_bad ws path folders r r' is none some = record { explores = explores_few ws folders folders r r' (λ before. some) is none (waits_still folders); begins = inl some }
 
 -- A name in a folder was looked at.
-visits_met : (answer : Lookup) (path folder name : List ℕ) {calls calls' : List Call} (folders folders' : List (List ℕ)) → path ≡ folder ++ name → calls' ≡ walked (met path answer) ∷ calls →
+visits_met : (answer : Lookup) (path folder name : List ℕ) {calls calls' : List Call} (folders folders' : List (List ℕ)) (r r' : Report) → (0 < r.faulty → 0 < r'.faulty) → path ≡ folder ++ name → calls' ≡ walked (met path answer) ∷ calls →
     Within folders folders' → ((node : Node) → answer ≡ Present node → node.kind ≡ Folder → IsVersioned name ⊎ IsDue (met path answer ∷ []) folders' path) →
-    VisitsOne folder name calls calls' folders folders'
+    VisitsOne folder name calls calls' folders folders' r r'
 unfolding explores_few
-visits_met answer path folder name folders folders' named is kept due = record {
-  explores = explores_few (met path answer ∷ []) folders folders' is (met_none path answer) kept;
+visits_met answer path folder name folders folders' r r' counted named is kept due = record {
+  explores = explores_few (met path answer ∷ []) folders folders' r r' counted is (met_none path answer) kept;
   visited = was_met answer (0, omega arith, ap (λ (p : List ℕ). met p answer) named)
       (λ node is_node kind. subst (λ (p : List ℕ). IsVersioned name ⊎ IsDue (met path answer ∷ []) folders' p) named (due node is_node kind));
 }
 
 -- A name in a folder isn't UTF-8.
-pub visits_other : (folder name : List ℕ) (calls : List Call) (folders : List (List ℕ)) → ¬ (IsUtf8 name) → VisitsOne folder name calls calls folders folders
-visits_other folder name calls folders other = record { explores = explores_none calls folders; visited = no_text other }
+pub visits_other : (folder name : List ℕ) (calls : List Call) (folders : List (List ℕ)) (r r' : Report) → ¬ (IsUtf8 name) → 0 < r'.faulty → VisitsOne folder name calls calls folders folders r r'
+visits_other folder name calls folders r r' other some = record { explores = explores_none calls folders r r' (λ before. some); visited = no_text other some }
 
 -- Nothing has the path of a name, or that isn't known.
-pub visits_unmet : (answer : Lookup) (path folder name : List ℕ) {calls calls' : List Call} (folders : List (List ℕ)) → ((node : Node) → ¬ (answer ≡ Present node)) → path ≡ folder ++ name →
-    calls' ≡ walked (met path answer) ∷ calls → VisitsOne folder name calls calls' folders folders
-visits_unmet answer path folder name folders other named is =
-    visits_met answer path folder name folders folders named is (waits_still folders) (λ node is_node kind. absurd (other node is_node))
+pub visits_unmet : (answer : Lookup) (path folder name : List ℕ) {calls calls' : List Call} (folders : List (List ℕ)) (r r' : Report) → (0 < r.faulty → 0 < r'.faulty) → ((node : Node) → ¬ (answer ≡ Present node)) → path ≡ folder ++ name →
+    calls' ≡ walked (met path answer) ∷ calls → VisitsOne folder name calls calls' folders folders r r'
+visits_unmet answer path folder name folders r r' counted other named is =
+    visits_met answer path folder name folders folders r r' counted named is (waits_still folders) (λ node is_node kind. absurd (other node is_node))
 
 -- A node has the path of a name, and was added.
-pub visits_node : (node : Node) (path folder name : List ℕ) {calls calls' : List Call} (folders folders' : List (List ℕ)) → path ≡ folder ++ name → calls' ≡ walked (met path (Present node)) ∷ calls →
-    AddsFolder path name node folders folders' → VisitsOne folder name calls calls' folders folders'
-visits_node node path folder name folders folders' named is (waits_folder kind w) =
-    visits_met (Present node) path folder name folders folders' named is (waits_more w) (λ n is_node k. inr (waits_due (met path (Present node) ∷ []) w))
-visits_node node path folder name folders folders' named is (left_folder left same) =
-    visits_met (Present node) path folder name folders folders' named is (waits_equal same) (λ n is_node k. inl left)
-visits_node node path folder name folders folders' named is (no_folder other same) =
-    visits_met (Present node) path folder name folders folders' named is (waits_equal same) (λ n is_node k. absurd (other (same_kind n is_node k)))
+pub visits_node : (node : Node) (path folder name : List ℕ) {calls calls' : List Call} (folders folders' : List (List ℕ)) (r : Report) → path ≡ folder ++ name → calls' ≡ walked (met path (Present node)) ∷ calls →
+    AddsFolder path name node folders folders' → VisitsOne folder name calls calls' folders folders' r r
+visits_node node path folder name folders folders' r named is (waits_folder kind w) =
+    visits_met (Present node) path folder name folders folders' r r (λ some. some) named is (waits_more w) (λ n is_node k. inr (waits_due (met path (Present node) ∷ []) w))
+visits_node node path folder name folders folders' r named is (left_folder left same) =
+    visits_met (Present node) path folder name folders folders' r r (λ some. some) named is (waits_equal same) (λ n is_node k. inl left)
+visits_node node path folder name folders folders' r named is (no_folder other same) =
+    visits_met (Present node) path folder name folders folders' r r (λ some. some) named is (waits_equal same) (λ n is_node k. absurd (other (same_kind n is_node k)))
   where
     same_kind : (n : Node) → Present node ≡ Present n → n.kind ≡ Folder → node.kind ≡ Folder
     same_kind n is_node k =
@@ -201,8 +202,9 @@ parts_are xs ys x y z h k =
     k ∙ ap (λ (l : List Call). map walked ys ++ l) h ∙ sym (append_assoc (map walked ys) (map walked xs) x) ∙ ap (λ (l : List Call). l ++ x) (sym (map-append walked ys xs))
 
 -- One part after another.
-pub explores_then : {x y z : List Call} {f g h : List (List ℕ)} → Explores x y f g → Explores y z g h → Explores x z f h
-explores_then {x = x} {y = y} {z = z} {f = f} {g = g} {h = h} k l = record {
+pub explores_then : {x y z : List Call} {f g h : List (List ℕ)} {a b c : Report} → Explores x y f g a b → Explores y z g h b c → Explores x z f h a c
+explores_then {x = x} {y = y} {z = z} {f = f} {g = g} {h = h} {c = c} k l = record {
+  kept = λ some. l.kept (k.kept some);
   made = l.made ++ k.made;
   are = parts_are k.made l.made x y z k.are l.are;
   waits = passes_both k.made l.made f g h k.waits l.waits;
@@ -210,25 +212,25 @@ explores_then {x = x} {y = y} {z = z} {f = f} {g = g} {h = h} k l = record {
 }
   where
     by_case : (folder : List ℕ) (names : List (List ℕ)) (answer : Bool) → Contains l.made (listed folder names answer) ⊎ Contains k.made (listed folder names answer) →
-        All (Visits (l.made ++ k.made) (IsDue (l.made ++ k.made) h) folder) names
-    by_case folder names answer (inl now) = visits_all_within names (later_calls k.made l.made) (due_still k.made l.made h) (l.visits folder names answer now)
-    by_case folder names answer (inr before) = visits_all_within names (earlier_calls k.made l.made) (due_later k.made l.made g h l.waits) (k.visits folder names answer before)
+        All (Visits (l.made ++ k.made) (IsDue (l.made ++ k.made) h) (0 < c.faulty) folder) names
+    by_case folder names answer (inl now) = visits_all_within names (later_calls k.made l.made) (due_still k.made l.made h) (λ some. some) (l.visits folder names answer now)
+    by_case folder names answer (inr before) = visits_all_within names (earlier_calls k.made l.made) (due_later k.made l.made g h l.waits) l.kept (k.visits folder names answer before)
 
 -- Some names of a folder were visited.
-pub record VisitsSome (folder : List ℕ) (names : List (List ℕ)) (x y : List Call) (f g : List (List ℕ)) : Type 0 where
-  pub explores : Explores x y f g
-  pub visited : All (Visits explores.made (IsDue explores.made g) folder) names
+pub record VisitsSome (folder : List ℕ) (names : List (List ℕ)) (x y : List Call) (f g : List (List ℕ)) (a b : Report) : Type 0 where
+  pub explores : Explores x y f g a b
+  pub visited : All (Visits explores.made (IsDue explores.made g) (0 < b.faulty) folder) names
 
 -- None was yet.
-pub visits_none : (folder : List ℕ) (calls : List Call) (folders : List (List ℕ)) → VisitsSome folder [] calls calls folders folders
+pub visits_none : (folder : List ℕ) (calls : List Call) (folders : List (List ℕ)) (r : Report) → VisitsSome folder [] calls calls folders folders r r
 unfolding explores_none explores_few
-visits_none folder calls folders = record { explores = explores_none calls folders; visited = All-nil (Visits [] (IsDue [] folders) folder) }
+visits_none folder calls folders r = record { explores = explores_none calls folders r r (λ some. some); visited = All-nil (Visits [] (IsDue [] folders) (0 < r.faulty) folder) }
 
 -- One name more of a folder was visited.
-pub visits_more : {folder : List ℕ} {names : List (List ℕ)} {name : List ℕ} {x y z : List Call} {f g h : List (List ℕ)} → VisitsSome folder names x y f g → VisitsOne folder name y z g h →
-    VisitsSome folder (names ++ name ∷ []) x z f h
+pub visits_more : {folder : List ℕ} {names : List (List ℕ)} {name : List ℕ} {x y z : List Call} {f g h : List (List ℕ)} {a b c : Report} → VisitsSome folder names x y f g a b → VisitsOne folder name y z g h b c →
+    VisitsSome folder (names ++ name ∷ []) x z f h a c
 unfolding explores_then
-visits_more {folder = folder} {names = names} {name = name} {g = g} {h = h} k l = record { explores = explores_then k.explores l.explores; visited = All-push here names name earlier now }
+visits_more {folder = folder} {names = names} {name = name} {g = g} {h = h} {c = c} k l = record { explores = explores_then k.explores l.explores; visited = All-push here names name earlier now }
   where
     xs : List WalkCall
     xs = k.explores.made
@@ -237,19 +239,20 @@ visits_more {folder = folder} {names = names} {name = name} {g = g} {h = h} k l 
     ys = l.explores.made
 
     here : List ℕ → Type 0
-    here = Visits (ys ++ xs) (IsDue (ys ++ xs) h) folder
+    here = Visits (ys ++ xs) (IsDue (ys ++ xs) h) (0 < c.faulty) folder
 
     earlier : All here names
-    earlier = visits_all_within names (earlier_calls xs ys) (due_later xs ys g h l.explores.waits) k.visited
+    earlier = visits_all_within names (earlier_calls xs ys) (due_later xs ys g h l.explores.waits) l.explores.kept k.visited
 
     now : here name
-    now = visits_within name (later_calls xs ys) (due_still xs ys h) l.visited
+    now = visits_within name (later_calls xs ys) (due_still xs ys h) (λ some. some) l.visited
 
 -- A folder was listed, and then each of its names was visited.
-pub enters_folder : {folder : List ℕ} (names : List (List ℕ)) (answer : Bool) {x y z : List Call} {f g : List (List ℕ)} → y ≡ walked (listed folder names answer) ∷ x → VisitsSome folder names y z f g →
-    Enters folder x z f g
-enters_folder {folder = folder} names answer {x = x} {y = y} {z = z} {f = f} {g = g} is l = record {
+pub enters_folder : {folder : List ℕ} (names : List (List ℕ)) (answer : Bool) {x y z : List Call} {f g : List (List ℕ)} {a b c : Report} → y ≡ walked (listed folder names answer) ∷ x → (0 < a.faulty → 0 < b.faulty) → VisitsSome folder names y z f g b c →
+    Enters folder x z f g a c
+enters_folder {folder = folder} names answer {x = x} {y = y} {z = z} {f = f} {g = g} {c = c} is counted l = record {
   explores = record {
+    kept = λ some. l.explores.kept (counted some);
     made = ys ++ first ∷ [];
     are = parts_are (first ∷ []) ys x y z is l.explores.are;
     waits = passes_later (first ∷ []) ys f g l.explores.waits;
@@ -265,15 +268,15 @@ enters_folder {folder = folder} names answer {x = x} {y = y} {z = z} {f = f} {g 
     first = listed folder names answer
 
     by_case : (d : List ℕ) (ns : List (List ℕ)) (again : Bool) → Contains ys (listed d ns again) ⊎ Contains (first ∷ []) (listed d ns again) →
-        All (Visits (ys ++ first ∷ []) (IsDue (ys ++ first ∷ []) g) d) ns
-    by_case d ns again (inl now) = visits_all_within ns (later_calls (first ∷ []) ys) (due_still (first ∷ []) ys g) (l.explores.visits d ns again now)
+        All (Visits (ys ++ first ∷ []) (IsDue (ys ++ first ∷ []) g) (0 < c.faulty) d) ns
+    by_case d ns again (inl now) = visits_all_within ns (later_calls (first ∷ []) ys) (due_still (first ∷ []) ys g) (λ some. some) (l.explores.visits d ns again now)
     by_case d ns again (inr at_first) =
         let same : listed folder names answer ≡ listed d ns again = only_one first (listed d ns again) at_first in
         let same_folder : folder ≡ d = cc in
         let same_names : names ≡ ns = cc in
-        subst (λ (e : List ℕ). All (Visits (ys ++ first ∷ []) (IsDue (ys ++ first ∷ []) g) e) ns) same_folder
-        (subst (λ (es : List (List ℕ)). All (Visits (ys ++ first ∷ []) (IsDue (ys ++ first ∷ []) g) folder) es) same_names
-        (visits_all_within names (later_calls (first ∷ []) ys) (due_still (first ∷ []) ys g) l.visited))
+        subst (λ (e : List ℕ). All (Visits (ys ++ first ∷ []) (IsDue (ys ++ first ∷ []) g) (0 < c.faulty) e) ns) same_folder
+        (subst (λ (es : List (List ℕ)). All (Visits (ys ++ first ∷ []) (IsDue (ys ++ first ∷ []) g) (0 < c.faulty) folder) es) same_names
+        (visits_all_within names (later_calls (first ∷ []) ys) (due_still (first ∷ []) ys g) (λ some. some) l.visited))
 
 -- One name more of a list.
 one_more : {X : Type 0} (f : X → List ℕ) (xs : List X) (i : ℕ) (v : X) (name : List ℕ) → i < length xs → v ≡ get_or xs i v → name ≡ f v → map f (take (i + 1) xs) ≡ map f (take i xs) ++ name ∷ []
@@ -281,36 +284,42 @@ one_more f xs i v name within is named =
     ap (map f) (take_more xs i v within) ∙ map-append f (take i xs) (get_or xs i v ∷ []) ∙ ap (λ n. map f (take i xs) ++ n ∷ []) (sym (named ∙ ap f is))
 
 -- A folder was listed, and some of its names were visited.
-pub record EntersNames {X : Type 0} (f : X → List ℕ) (folder : List ℕ) (xs : List X) (i : ℕ) (x y : List Call) (a b : List (List ℕ)) : Type 0 where
+pub record EntersNames {X : Type 0} (f : X → List ℕ) (folder : List ℕ) (xs : List X) (i : ℕ) (x y : List Call) (a b : List (List ℕ)) (r s : Report) : Type 0 where
   pub answer : Bool
   pub mid : List Call
   pub is : mid ≡ walked (listed folder (map f xs) answer) ∷ x
-  pub some : VisitsSome folder (map f (take i xs)) mid y a b
+  pub middle : Report
+  pub counted : 0 < r.faulty → 0 < middle.faulty
+  pub some : VisitsSome folder (map f (take i xs)) mid y a b middle s
 
 -- None was yet.
-pub enters_begun : {X : Type 0} (f : X → List ℕ) (xs ys : List X) (folder : List ℕ) {x y : List Call} (folders : List (List ℕ)) → ys ≡ xs → (answer : Bool) × (y ≡ walked (listed folder (map f xs) answer) ∷ x) →
-    EntersNames f folder ys 0 x y folders folders
-enters_begun f xs ys folder {x = x} {y = y} folders same h = record {
+pub enters_begun : {X : Type 0} (f : X → List ℕ) (xs ys : List X) (folder : List ℕ) {x y : List Call} (folders : List (List ℕ)) (r s : Report) → (0 < r.faulty → 0 < s.faulty) → ys ≡ xs → (answer : Bool) × (y ≡ walked (listed folder (map f xs) answer) ∷ x) →
+    EntersNames f folder ys 0 x y folders folders r s
+enters_begun f xs ys folder {x = x} {y = y} folders r s counted same h = record {
+  middle = s;
+  counted = counted;
   answer = h.0;
   mid = y;
   is = h.1 ∙ ap (λ l. walked (listed folder (map f l) h.0) ∷ x) (sym same);
-  some = visits_none folder y folders;
+  some = visits_none folder y folders s;
 }
 
 -- One name more was.
-pub enters_name : {X : Type 0} (f : X → List ℕ) (xs : List X) (i : ℕ) (v : X) (name : List ℕ) {folder : List ℕ} {x y z : List Call} {a b c : List (List ℕ)} → i < length xs → v ≡ get_or xs i v → name ≡ f v →
-    EntersNames f folder xs i x y a b → VisitsOne folder name y z b c → EntersNames f folder xs (i + 1) x z a c
-enters_name f xs i v name {folder = folder} {z = z} {a = a} {c = c} within is named h k = record {
+pub enters_name : {X : Type 0} (f : X → List ℕ) (xs : List X) (i : ℕ) (v : X) (name : List ℕ) {folder : List ℕ} {x y z : List Call} {a b c : List (List ℕ)} {r s t : Report} → i < length xs → v ≡ get_or xs i v → name ≡ f v →
+    EntersNames f folder xs i x y a b r s → VisitsOne folder name y z b c s t → EntersNames f folder xs (i + 1) x z a c r t
+enters_name f xs i v name {folder = folder} {z = z} {a = a} {c = c} {t = t} within is named h k = record {
+  middle = h.middle;
+  counted = h.counted;
   answer = h.answer;
   mid = h.mid;
   is = h.is;
-  some = subst (λ (ns : List (List ℕ)). VisitsSome folder ns h.mid z a c) (sym (one_more f xs i v name within is named)) (visits_more h.some k);
+  some = subst (λ (ns : List (List ℕ)). VisitsSome folder ns h.mid z a c h.middle t) (sym (one_more f xs i v name within is named)) (visits_more h.some k);
 }
 
 -- All of them were.
-pub enters_all : {X : Type 0} (f : X → List ℕ) (xs : List X) (i : ℕ) {folder : List ℕ} {x y : List Call} {a b : List (List ℕ)} → i ≡ length xs → EntersNames f folder xs i x y a b → Enters folder x y a b
-enters_all f xs i {folder = folder} {y = y} {a = a} {b = b} all h =
-    enters_folder (map f xs) h.answer h.is (subst (λ l. VisitsSome folder (map f l) h.mid y a b) (take_all i xs (omega arith)) h.some)
+pub enters_all : {X : Type 0} (f : X → List ℕ) (xs : List X) (i : ℕ) {folder : List ℕ} {x y : List Call} {a b : List (List ℕ)} {r s : Report} → i ≡ length xs → EntersNames f folder xs i x y a b r s → Enters folder x y a b r s
+enters_all f xs i {folder = folder} {y = y} {a = a} {b = b} {s = s} all h =
+    enters_folder (map f xs) h.answer h.is h.counted (subst (λ l. VisitsSome folder (map f l) h.mid y a b h.middle s) (take_all i xs (omega arith)) h.some)
 
 -- The element that is popped was last.
 pub popped : {X : Type 0} (f : X → List ℕ) (old new : List X) (r : Option X) (x : X) (name : List ℕ) → old ≡ new ++ option_to_list r → r ≡ Some x → name ≡ f x → map f old ≡ map f new ++ name ∷ []
@@ -318,19 +327,19 @@ popped f old new r x name is some named =
     ap (map f) (is ∙ ap (λ o. new ++ option_to_list o) some) ∙ map-append f new (x ∷ []) ∙ ap (λ n. map f new ++ n ∷ []) (sym named)
 
 -- Some folders were entered.
-pub record EntersSome (count : ℕ) (x y : List Call) (f g : List (List ℕ)) : Type 0 where
-  pub explores : Explores x y f g
+pub record EntersSome (count : ℕ) (x y : List Call) (f g : List (List ℕ)) (a b : Report) : Type 0 where
+  pub explores : Explores x y f g a b
   pub many : count ≤ length explores.made
 
 -- None was yet.
-pub enters_none : (calls : List Call) (folders : List (List ℕ)) → EntersSome 0 calls calls folders folders
-enters_none calls folders = record { explores = explores_none calls folders; many = omega arith }
+pub enters_none : (calls : List Call) (folders : List (List ℕ)) (r : Report) → EntersSome 0 calls calls folders folders r r
+enters_none calls folders r = record { explores = explores_none calls folders r r (λ some. some); many = omega arith }
 
 -- One folder more, which waited last, was entered.
-pub enters_more : (count : ℕ) {x y z : List Call} {f g h : List (List ℕ)} (rest : List (List ℕ)) (folder : List ℕ) → g ≡ rest ++ folder ∷ [] → EntersSome count x y f g → Enters folder y z rest h →
-    EntersSome (count + 1) x z f h
+pub enters_more : (count : ℕ) {x y z : List Call} {f g h : List (List ℕ)} {a b c : Report} (rest : List (List ℕ)) (folder : List ℕ) → g ≡ rest ++ folder ∷ [] → EntersSome count x y f g a b → Enters folder y z rest h b c →
+    EntersSome (count + 1) x z f h a c
 unfolding explores_then
-enters_more count {x = x} {y = y} {z = z} {f = f} {g = g} {h = h} rest folder is k l = record { explores = explores_then k.explores entered; many = many }
+enters_more count {x = x} {y = y} {z = z} {f = f} {g = g} {h = h} {b = b} {c = c} rest folder is k l = record { explores = explores_then k.explores entered; many = many }
   where
     passes : Passes l.explores.made g h
     passes d inside = by_case (Contains-push_cases rest folder d (subst (λ (fs : List (List ℕ)). Contains fs d) is inside))
@@ -339,8 +348,8 @@ enters_more count {x = x} {y = y} {z = z} {f = f} {g = g} {h = h} rest folder is
         by_case (inl there) = l.explores.waits d there
         by_case (inr same) = inl (subst (λ (e : List ℕ). WasEntered l.explores.made e) same l.entered)
 
-    entered : Explores y z g h
-    entered = record { made = l.explores.made; are = l.explores.are; waits = passes; visits = l.explores.visits }
+    entered : Explores y z g h b c
+    entered = record { kept = l.explores.kept; made = l.explores.made; are = l.explores.are; waits = passes; visits = l.explores.visits }
 
     many : count + 1 ≤ length (l.explores.made ++ k.explores.made)
     many =
@@ -349,12 +358,17 @@ enters_more count {x = x} {y = y} {z = z} {f = f} {g = g} {h = h} rest folder is
         omega (arith, both, some, k.many)
 
 -- No folder waits any more.
-pub exhausts_none : {X : Type 0} (name : X → List ℕ) (xs : List X) {count : ℕ} {x y : List Call} {f : List (List ℕ)} → xs ≡ [] → EntersSome count x y f (map name xs) → Exhausts x y f (map name xs)
+pub exhausts_none : {X : Type 0} (name : X → List ℕ) (xs : List X) {count : ℕ} {x y : List Call} {f : List (List ℕ)} {a b : Report} → xs ≡ [] → EntersSome count x y f (map name xs) a b → Exhausts x y f (map name xs) a b
 exhausts_none name xs none k = record { explores = k.explores; done = λ few. ap (map name) none }
 
 -- Folders were entered as often as a machine counts.
-pub exhausts_count : {count : ℕ} {x y : List Call} {f g : List (List ℕ)} → 2 ^ 64 ≤ count + 1 → EntersSome count x y f g → Exhausts x y f g
+pub exhausts_count : {count : ℕ} {x y : List Call} {f g : List (List ℕ)} {a b : Report} → 2 ^ 64 ≤ count + 1 → EntersSome count x y f g a b → Exhausts x y f g a b
 exhausts_count many k = record { explores = k.explores; done = λ few. absurd (omega (arith, many, few, k.many)) }
+
+-- A result of which two facts hold.
+pub on_ok_both : {T E : Type 0} (P Q : Type 0) (r : Result T E) → OnOk r P → OnOk r Q → OnOk r (P × Q)
+on_ok_both P Q (Ok x) p q = (p, q)
+on_ok_both P Q (Err e) p q = tt
 
 -- A result of which something holds in any case.
 pub on_ok_always : {T E Q : Type 0} (r : Result T E) → Q → OnOk r Q
@@ -366,17 +380,17 @@ pub waits_pushed : {X : Type 0} (f : X → List ℕ) (before after : List X) (x 
 waits_pushed f before after x path h is = record { folder = f x; is_path = h; grown = ap (map f) is ∙ map-append f before (x ∷ []) }
 
 -- Some paths of the command line can be taken, or have a fault.
-pub record StartsSome (paths : List (List ℕ)) (x y : List Call) (f g : List (List ℕ)) (r : Report) : Type 0 where
-  pub explores : Explores x y f g
+pub record StartsSome (paths : List (List ℕ)) (x y : List Call) (f g : List (List ℕ)) (first r : Report) : Type 0 where
+  pub explores : Explores x y f g first r
   pub begins : (0 < r.faulty) ⊎ All (Begins explores.made (IsDue explores.made g)) paths
 
 -- There was none yet.
-pub starts_none : (calls : List Call) (folders : List (List ℕ)) (r : Report) → StartsSome [] calls calls folders folders r
+pub starts_none : (calls : List Call) (folders : List (List ℕ)) (r : Report) → StartsSome [] calls calls folders folders r r
 unfolding explores_none explores_few
-starts_none calls folders r = record { explores = explores_none calls folders; begins = inr (All-nil (Begins [] (IsDue [] folders))) }
+starts_none calls folders r = record { explores = explores_none calls folders r r (λ some. some); begins = inr (All-nil (Begins [] (IsDue [] folders))) }
 
 -- One path more can be taken, or has a fault.
-starts_more : {paths : List (List ℕ)} {path : List ℕ} {x y z : List Call} {f g h : List (List ℕ)} {a b : Report} → StartsSome paths x y f g a → Starts path y z g h a b → StartsSome (paths ++ path ∷ []) x z f h b
+starts_more : {paths : List (List ℕ)} {path : List ℕ} {x y z : List Call} {f g h : List (List ℕ)} {first a b : Report} → StartsSome paths x y f g first a → Starts path y z g h a b → StartsSome (paths ++ path ∷ []) x z f h first b
 unfolding explores_then
 starts_more {paths = paths} {path = path} {g = g} {h = h} {a = a} {b = b} k l = record { explores = explores_then k.explores l.explores; begins = by_case k.begins l.begins }
   where
@@ -387,21 +401,21 @@ starts_more {paths = paths} {path = path} {g = g} {h = h} {a = a} {b = b} k l = 
     ys = l.explores.made
 
     by_case : (0 < a.faulty) ⊎ All (Begins xs (IsDue xs g)) paths → (0 < b.faulty) ⊎ Begins ys (IsDue ys h) path → (0 < b.faulty) ⊎ All (Begins (ys ++ xs) (IsDue (ys ++ xs) h)) (paths ++ path ∷ [])
-    by_case (inl some) e = inl (l.kept some)
+    by_case (inl some) e = inl (l.explores.kept some)
     by_case (inr each) (inl some) = inl some
     by_case (inr each) (inr good) = inr (All-push (Begins (ys ++ xs) (IsDue (ys ++ xs) h)) paths path
         (All-weaker (Begins xs (IsDue xs g)) (Begins (ys ++ xs) (IsDue (ys ++ xs) h)) (λ p start. begins_within (earlier_calls xs ys) (due_later xs ys g h l.explores.waits) start) paths each)
         (begins_within (later_calls xs ys) (due_still xs ys h) good))
 
 -- The same, by the index of the path.
-pub starts_at : {X : Type 0} (f : X → List ℕ) (xs : List X) (i : ℕ) (v : X) (path : List ℕ) {x y z : List Call} {a b c : List (List ℕ)} {r s : Report} → i < length xs → v ≡ get_or xs i v → path ≡ f v →
-    StartsSome (map f (take i xs)) x y a b r → Starts path y z b c r s → StartsSome (map f (take (i + 1) xs)) x z a c s
-starts_at f xs i v path {x = x} {z = z} {a = a} {c = c} {s = s} within is named h k =
-    subst (λ (ps : List (List ℕ)). StartsSome ps x z a c s) (sym (one_more f xs i v path within is named)) (starts_more h k)
+pub starts_at : {X : Type 0} (f : X → List ℕ) (xs : List X) (i : ℕ) (v : X) (path : List ℕ) {x y z : List Call} {a b c : List (List ℕ)} {first r s : Report} → i < length xs → v ≡ get_or xs i v → path ≡ f v →
+    StartsSome (map f (take i xs)) x y a b first r → Starts path y z b c r s → StartsSome (map f (take (i + 1) xs)) x z a c first s
+starts_at f xs i v path {x = x} {z = z} {a = a} {c = c} {first = first} {s = s} within is named h k =
+    subst (λ (ps : List (List ℕ)). StartsSome ps x z a c first s) (sym (one_more f xs i v path within is named)) (starts_more h k)
 
 -- All paths can be taken, and all folders were entered.
-pub covers_paths : {X : Type 0} (f : X → List ℕ) (xs : List X) (i : ℕ) {x y z : List Call} {a b c : List (List ℕ)} {r : Report} → i ≡ length xs → ¬ (0 < r.faulty) → StartsSome (map f (take i xs)) x y a b r → Exhausts y z b c →
-    CoversPaths (map f xs) x z
+pub covers_paths : {X : Type 0} (f : X → List ℕ) (xs : List X) (i : ℕ) {x y z : List Call} {a b c : List (List ℕ)} {first r last : Report} → i ≡ length xs → ¬ (0 < r.faulty) → StartsSome (map f (take i xs)) x y a b first r → Exhausts y z b c r last →
+    CoversPaths (map f xs) x z (0 < last.faulty)
 unfolding explores_then
 covers_paths f xs i {x = x} {y = y} {z = z} {b = b} {c = c} {r = r} all fine h k = record {
   calls = ys ++ ws;
@@ -429,26 +443,33 @@ covers_paths f xs i {x = x} {y = y} {z = z} {b = b} {c = c} {r = r} all fine h k
         All-weaker (Begins ws (IsDue ws b)) (Begins (ys ++ ws) (IsDue (ys ++ ws) c)) (λ p start. begins_within (earlier_calls ws ys) (due_later ws ys b c k.explores.waits) start) (map f (take i xs)) each
 
 -- A path of the input was looked at, and isn't that of a regular file, or was found.
-takes_met : (answer : Lookup) (path name : List ℕ) {calls calls' : List Call} (found found' : List Found) → name ≡ path → calls' ≡ walked (met path answer) ∷ calls → All (Contains found') found →
-    ((node : Node) → answer ≡ Present node → node.kind ≡ File → IsIn found' name node.id) → TakesOne name calls calls' found found'
-takes_met answer path name found found' same is stay has = record {
+takes_met : (answer : Lookup) (path name : List ℕ) {calls calls' : List Call} (found found' : List Found) (r r' : Report) → (0 < r.faulty → 0 < r'.faulty) → name ≡ path → calls' ≡ walked (met path answer) ∷ calls → All (Contains found') found →
+    ((node : Node) → answer ≡ Present node → node.kind ≡ File → IsIn found' name node.id) → ((node : Node) → answer ≡ Present node → node.kind ≡ Other → 0 < r'.faulty) → TakesOne name calls calls' found found' r r'
+takes_met answer path name found found' r r' counted same is stay has told = record {
+  kept = counted;
   made = met path answer ∷ [];
   are = is;
-  gives = was_given answer (0, omega arith, ap (λ (p : List ℕ). met p answer) (sym same)) has;
+  gives = was_given answer (0, omega arith, ap (λ (p : List ℕ). met p answer) (sym same)) has told;
   stay = stay;
 }
 
 -- Nothing has a path of the input, or that isn't known.
-pub takes_unmet : (answer : Lookup) (path name : List ℕ) {calls calls' : List Call} (found : List Found) → ((node : Node) → ¬ (answer ≡ Present node)) → name ≡ path → calls' ≡ walked (met path answer) ∷ calls →
-    TakesOne name calls calls' found found
-takes_unmet answer path name found other same is = takes_met answer path name found found same is (All-contains_itself found) (λ node is_node kind. absurd (other node is_node))
+pub takes_unmet : (answer : Lookup) (path name : List ℕ) {calls calls' : List Call} (found : List Found) (r r' : Report) → (0 < r.faulty → 0 < r'.faulty) → ((node : Node) → ¬ (answer ≡ Present node)) → name ≡ path → calls' ≡ walked (met path answer) ∷ calls →
+    TakesOne name calls calls' found found r r'
+takes_unmet answer path name found r r' counted other same is =
+    takes_met answer path name found found r r' counted same is (All-contains_itself found) (λ node is_node kind. absurd (other node is_node)) (λ node is_node kind. absurd (other node is_node))
 
 -- A node of the input was added, if it is a file.
-pub takes_node : (node : Node) (path name : List ℕ) {calls calls' : List Call} (found found' : List Found) → name ≡ path → calls' ≡ walked (met path (Present node)) ∷ calls → AddsNode found path node found' →
-    (node.kind ≡ File → IsIn found' path node.id) → TakesOne name calls calls' found found'
-takes_node node path name found found' same is adds has =
-    takes_met (Present node) path name found found' same is (added_stay adds) (λ n is_node kind. here n is_node kind)
+pub takes_node : (node : Node) (path name : List ℕ) {calls calls' : List Call} (found found' : List Found) (r r' : Report) → (0 < r.faulty → 0 < r'.faulty) → (node.kind ≡ Other → 0 < r'.faulty) → name ≡ path → calls' ≡ walked (met path (Present node)) ∷ calls → AddsNode found path node found' →
+    (node.kind ≡ File → IsIn found' path node.id) → TakesOne name calls calls' found found' r r'
+takes_node node path name found found' r r' counted told same is adds has =
+    takes_met (Present node) path name found found' r r' counted same is (added_stay adds) (λ n is_node kind. here n is_node kind) (λ n is_node kind. other n is_node kind)
   where
+    other : (n : Node) → Present node ≡ Present n → n.kind ≡ Other → 0 < r'.faulty
+    other n is_node kind =
+        let e : node ≡ n = cc in
+        told (ap (λ (m : Node). m.kind) e ∙ kind)
+
     here : (n : Node) → Present node ≡ Present n → n.kind ≡ File → IsIn found' name n.id
     here n is_node kind =
         let e : node ≡ n = cc in
@@ -465,41 +486,41 @@ takes_node node path name found found' same is adds has =
     added_stay (file_node kind h) = stay_by path node.id h
 
 -- A path of the input isn't UTF-8.
-pub takes_other : (name : List ℕ) (calls : List Call) (found : List Found) → ¬ (IsUtf8 name) → TakesOne name calls calls found found
-takes_other name calls found other = record { made = []; are = refl; gives = no_path_text other; stay = All-contains_itself found }
+pub takes_other : (name : List ℕ) (calls : List Call) (found : List Found) (r r' : Report) → ¬ (IsUtf8 name) → 0 < r'.faulty → TakesOne name calls calls found found r r'
+takes_other name calls found r r' other some = record { kept = λ before. some; made = []; are = refl; gives = no_path_text other some; stay = All-contains_itself found }
 
-gives_within : {xs ys : List WalkCall} {p q : List ℕ → FileId → Type 0} {path : List ℕ} → Within xs ys → ((path : List ℕ) (id : FileId) → p path id → q path id) → Gives xs p path → Gives ys q path
-gives_within w d (no_path_text other) = no_path_text other
-gives_within {path = path} w d (was_given answer seen k) = was_given answer (w (met path answer) seen) (λ node is kind. d path node.id (k node is kind))
+gives_within : {xs ys : List WalkCall} {p q : List ℕ → FileId → Type 0} {s t : Type 0} {path : List ℕ} → Within xs ys → ((path : List ℕ) (id : FileId) → p path id → q path id) → (s → t) → Gives xs p s path → Gives ys q t path
+gives_within w d e (no_path_text other told) = no_path_text other (e told)
+gives_within {path = path} w d e (was_given answer seen k l) = was_given answer (w (met path answer) seen) (λ node is kind. d path node.id (k node is kind)) (λ node is kind. e (l node is kind))
 
 -- A file that was found stays so.
 is_in_later : (found found' : List Found) → All (Contains found') found → (path : List ℕ) (id : FileId) → IsIn found path id → IsIn found' path id
 is_in_later found found' h path id k = (k.0, All-contains (Contains found') found k.0 h k.1, k.2, k.3)
 
 -- No path of the input was given yet.
-pub takes_none : (calls : List Call) (found : List Found) → CoversInput [] calls calls (IsIn found)
-takes_none calls found = record { calls = []; are = refl; gives = All-nil (Gives [] (IsIn found)) }
+pub takes_none : (calls : List Call) (found : List Found) (told : Type 0) → CoversInput [] calls calls (IsIn found) told
+takes_none calls found told = record { calls = []; are = refl; gives = All-nil (Gives [] (IsIn found) told) }
 
 -- One path more was given.
-pub takes_at : {X : Type 0} (f : X → List ℕ) (xs : List X) (i : ℕ) (v : X) (path : List ℕ) {x y z : List Call} (found found' : List Found) → i < length xs → v ≡ get_or xs i v → path ≡ f v →
-    CoversInput (map f (take i xs)) x y (IsIn found) → TakesOne path y z found found' → CoversInput (map f (take (i + 1) xs)) x z (IsIn found')
-takes_at f xs i v path {x = x} {y = y} {z = z} found found' within is named h k = record {
+pub takes_at : {X : Type 0} (f : X → List ℕ) (xs : List X) (i : ℕ) (v : X) (path : List ℕ) {x y z : List Call} (found found' : List Found) {r r' : Report} → i < length xs → v ≡ get_or xs i v → path ≡ f v →
+    CoversInput (map f (take i xs)) x y (IsIn found) (0 < r.faulty) → TakesOne path y z found found' r r' → CoversInput (map f (take (i + 1) xs)) x z (IsIn found') (0 < r'.faulty)
+takes_at f xs i v path {x = x} {y = y} {z = z} found found' {r = r} {r' = r'} within is named h k = record {
   calls = all;
   are = parts_are h.calls k.made x y z h.are k.are;
-  gives = subst (All (Gives all (IsIn found'))) (sym (one_more f xs i v path within is named))
-      (All-push (Gives all (IsIn found')) (map f (take i xs)) path
-      (All-weaker (Gives h.calls (IsIn found)) (Gives all (IsIn found')) (λ p g. gives_within (earlier_calls h.calls k.made) (is_in_later found found' k.stay) g) (map f (take i xs)) h.gives)
-      (gives_within (later_calls h.calls k.made) (λ p id there. there) k.gives));
+  gives = subst (All (Gives all (IsIn found') (0 < r'.faulty))) (sym (one_more f xs i v path within is named))
+      (All-push (Gives all (IsIn found') (0 < r'.faulty)) (map f (take i xs)) path
+      (All-weaker (Gives h.calls (IsIn found) (0 < r.faulty)) (Gives all (IsIn found') (0 < r'.faulty)) (λ p g. gives_within (earlier_calls h.calls k.made) (is_in_later found found' k.stay) k.kept g) (map f (take i xs)) h.gives)
+      (gives_within (later_calls h.calls k.made) (λ p id there. there) (λ some. some) k.gives));
 }
   where
     all : List WalkCall
     all = k.made ++ h.calls
 
 -- All paths were given.
-pub takes_all_paths : {X : Type 0} (f : X → List ℕ) (xs : List X) (i : ℕ) (paths : List (List ℕ)) {x y : List Call} (found : List Found) → i ≡ length xs → map f xs ≡ paths →
-    CoversInput (map f (take i xs)) x y (IsIn found) → CoversInput paths x y (IsIn found)
-takes_all_paths f xs i paths {x = x} {y = y} found all are h =
-    subst (λ (ps : List (List ℕ)). CoversInput ps x y (IsIn found)) (ap (map f) (take_all i xs (omega arith)) ∙ are) h
+pub takes_all_paths : {X : Type 0} (f : X → List ℕ) (xs : List X) (i : ℕ) (paths : List (List ℕ)) {x y : List Call} (found : List Found) {told : Type 0} → i ≡ length xs → map f xs ≡ paths →
+    CoversInput (map f (take i xs)) x y (IsIn found) told → CoversInput paths x y (IsIn found) told
+takes_all_paths f xs i paths {x = x} {y = y} found {told = told} all are h =
+    subst (λ (ps : List (List ℕ)). CoversInput ps x y (IsIn found) told) (ap (map f) (take_all i xs (omega arith)) ∙ are) h
 
 -- Files that were found are kept.
 stands_in : (found files : List Found) → All (IsKept files) found → (path : List ℕ) (id : FileId) → IsIn found path id → StandsIn files path id
@@ -513,17 +534,24 @@ stands_in found files kept path id h = by_case (All-contains (IsKept files) foun
         by_same (inr same) = inr (same ∙ h.3)
 
 -- No path is missed, and the files that were found are kept.
-pub misses_kept : (args : Arguments) (text : List ℕ) {x y : List Call} (found files : List Found) → All (IsKept files) found → MissesNone args text x y (IsIn found) → MissesNone args text x y (StandsIn files)
-misses_kept args text found files kept (misses_no_path none h) = misses_no_path none h
-misses_kept args text found files kept (misses_no_input input h) = misses_no_input input (record {
+pub misses_kept : (args : Arguments) (text : List ℕ) {x y : List Call} (found files : List Found) (s t : Type 0) → (s → t) → All (IsKept files) found → MissesNone args text x y (IsIn found) s → MissesNone args text x y (StandsIn files) t
+misses_kept args text found files s t e kept (misses_no_path none h) = misses_no_path none (record {
   calls = h.calls;
   are = h.are;
-  gives = All-weaker (Gives h.calls (IsIn found)) (Gives h.calls (StandsIn files)) (λ p g. gives_within (λ w there. there) (stands_in found files kept) g) (paths_of text) h.gives;
+  waiting = h.waiting;
+  all_listed = h.all_listed;
+  begins = h.begins;
+  visits = λ folder names answer there. visits_all_within names (λ w here. here) (λ path due. due) e (h.visits folder names answer there);
+})
+misses_kept args text found files s t e kept (misses_no_input input h) = misses_no_input input (record {
+  calls = h.calls;
+  are = h.are;
+  gives = All-weaker (Gives h.calls (IsIn found) s) (Gives h.calls (StandsIn files) t) (λ p g. gives_within (λ w there. there) (stands_in found files kept) e g) (paths_of text) h.gives;
 })
 
 -- The paths are taken, and the files that were found are kept.
-pub paths_kept : {args : Arguments} {given left : Source} {x y : List Call} (found files : List Found) → All (IsKept files) found → TakesPaths args given left x y (IsIn found) → TakesPaths args given left x y (StandsIn files)
-paths_kept {args = args} found files kept h = record { text = h.text; takes = h.takes; misses = misses_kept args h.text found files kept h.misses }
+pub paths_kept : {args : Arguments} {given left : Source} {x y : List Call} (found files : List Found) (s t : Type 0) → (s → t) → All (IsKept files) found → TakesPaths args given left x y (IsIn found) s → TakesPaths args given left x y (StandsIn files) t
+paths_kept {args = args} found files s t e kept h = record { text = h.text; takes = h.takes; misses = misses_kept args h.text found files s t e kept h.misses }
 
 -- A file that was pushed is among those found.
 pub is_in_pushed : (before after : List Found) (f : Found) (path : List ℕ) (id : FileId) → string_bytes f.path ≡ path → f.id ≡ id → after ≡ before ++ f ∷ [] → IsIn after path id

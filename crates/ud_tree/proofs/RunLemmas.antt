@@ -237,7 +237,7 @@ ran_from job {old = old} {mid = mid} {new = new} {r = r} {r' = r'} {files = file
   shown = h.shown;
   told = h.told;
   last = h.last;
-  is_run = ran w.paths.text mid.calls files w.paths.takes (subst (λ (fs : List Found). MissesNone job.arguments.now w.paths.text old.calls mid.calls (StandsIn fs)) (sym is) w.paths.misses) (subst (λ (fs : List Found). IsWalk old.calls mid.calls fs) (sym is) w.is_walk) w.reports.walk
+  is_run = ran w.paths.text mid.calls files w.paths.takes (subst (λ (fs : List Found). MissesNone job.arguments.now w.paths.text old.calls mid.calls (StandsIn fs) (0 < length w.reports.messages)) (sym is) w.paths.misses) (subst (λ (fs : List Found). IsWalk old.calls mid.calls fs) (sym is) w.is_walk) w.reports.walk
       (subst (λ (fs : List Found). job.arguments.now.from_input ≡ false → 0 < length fs) (sym is) w.some)
       (ends_counted in_walk (length w.reports.messages) (walk_counted r.faulty r'.faulty in_walk (length w.reports.messages) none number w.reports.counted) h.ends);
   sent = subst (λ (s : Stream). Sends s new.out h.shown) same h.sent;

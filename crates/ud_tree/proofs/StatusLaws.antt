@@ -63,6 +63,9 @@ run_clean run shown told last status other few (ran text mid files takes misses 
       results = h.results;
       is_walk = w;
       untold = subst (λ (ms : List (List ℕ)). WalkTells run.old mid ms) (none_of run.messages untold) t;
+      text = text;
+      misses = misses;
+      no_message = none_of run.messages untold;
       each = h.each;
       faultless = fine;
       whole = λ input. (text, whole_input takes input);

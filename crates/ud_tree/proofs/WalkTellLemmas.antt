@@ -261,7 +261,7 @@ walk_then {calls = calls} {a = a} {b = b} {c = c} {s = s} {u = u} h k = record {
         counted_both a.faulty b.faulty c.faulty (length h.messages) (length k.messages) h.counted k.counted small_sum ∙ ap (λ (n : ℕ). a.faulty + n) (sym both)
 
 -- Faults that were counted have messages.
-some_told : (a b n : ℕ) → a ≡ 0 → (a + n < 2 ^ 64 → b ≡ a + n) → 0 < b → 0 < n
+pub some_told : (a b n : ℕ) → a ≡ 0 → (a + n < 2 ^ 64 → b ≡ a + n) → 0 < b → 0 < n
 some_told a b n none h some = ⊎_elim (λ lt. lt) at_zero (cases_lt 0 n)
   where
     at_zero : n ≤ 0 → 0 < n
@@ -410,11 +410,11 @@ pub some_unless : (from_input : Bool) (n : ℕ) → from_input ≡ true → from
 some_unless from_input n input args = absurd (true≢false (sym input ∙ args))
 
 -- Each path of the input was given.
-pub paths_given : (args : Arguments) {given left : Source} {calls calls' : List Call} {has : List ℕ → FileId → Type 0} → args.from_input ≡ true → TakesEach given left calls calls' has → TakesPaths args given left calls calls' has
+pub paths_given : (args : Arguments) {given left : Source} {calls calls' : List Call} {has : List ℕ → FileId → Type 0} {told : Type 0} → args.from_input ≡ true → TakesEach given left calls calls' has told → TakesPaths args given left calls calls' has told
 paths_given args input h = record { text = h.text; takes = takes_all input h.reads; misses = misses_no_input input h.covers }
 
 -- The paths of the command line are covered, and nothing was read.
-pub paths_covered : (args : Arguments) {given : Source} {paths : List (String Global)} {calls calls' : List Call} {has : List ℕ → FileId → Type 0} → args.from_input ≡ false → CoversPaths (map (λ p. string_bytes p) paths) calls calls' →
-    paths ≡ args.paths.items → TakesPaths args given given calls calls' has
-paths_covered args {calls = calls} {calls' = calls'} none h are =
-    record { text = []; takes = takes_none none refl; misses = misses_no_path none (subst (λ ps. CoversPaths (map (λ p. string_bytes p) ps) calls calls') are h) }
+pub paths_covered : (args : Arguments) {given : Source} {paths : List (String Global)} {calls calls' : List Call} {has : List ℕ → FileId → Type 0} {told : Type 0} → args.from_input ≡ false → CoversPaths (map (λ p. string_bytes p) paths) calls calls' told →
+    paths ≡ args.paths.items → TakesPaths args given given calls calls' has told
+paths_covered args {calls = calls} {calls' = calls'} {told = told} none h are =
+    record { text = []; takes = takes_none none refl; misses = misses_no_path none (subst (λ ps. CoversPaths (map (λ p. string_bytes p) ps) calls calls' told) are h) }

@@ -1,17 +1,17 @@
 -- CoverParts: parts of a walk, which miss no name.
 --
---   Explores calls calls' folders folders'   a part of a walk that misses no name of a folder
---   Starts path calls calls' folders folders' old new   a path of the command line was looked at
---   VisitsOne folder name calls calls' folders folders'   a name in a folder was visited
---   Enters folder calls calls' folders folders'   a folder was listed
---   Exhausts calls calls' folders folders'   no folder waits any more
---   Waits path folders folders'   a folder waits to be listed
---   AddsFolder path name node folders folders'   one does, if a node is a folder
---   TakesOne path calls calls' found found'   a path of the input was given
+--   Explores c c' d d' old new       a part of a walk that misses no name of a folder
+--   Starts path c c' d d' old new    a path of the command line was looked at
+--   VisitsOne folder name c c' d d' old new   a name in a folder was visited
+--   Enters folder c c' d d' old new  a folder was listed
+--   Exhausts c c' d d' old new       no folder waits any more
+--   Waits path d d'                  a folder waits to be listed
+--   AddsFolder path name node d d'   one does, if a node is a folder
+--   TakesOne path c c' f f' old new  a path of the input was given
 --
--- `calls` and `calls'` are the calls before and after, the newest first, and `folders` and
--- `folders'` the folders that wait to be listed. `found` and `found'` are the files that were
--- found. `old` and `new` are the report before and after.
+-- `c` and `c'` are the calls before and after (`calls` and `calls'`), the newest first, and `d` and
+-- `d'` the folders that wait to be listed (`folders` and `folders'`). `f` and `f'` are the files
+-- that were found, and `old` and `new` the report before and after.
 use Rattle.std.specs.Prelude.{◌≡◌, ◌⊎◌, ℕ, ◌+◌, ◌<◌, ◌^◌, List, [], ◌∷◌, ◌++◌, map, length}
 use Rattle.std.specs.List.{All, Contains}
 use Rattle.ud_replace.specs.declared.node.NodeKind.TheVariants.{Folder}
@@ -22,41 +22,43 @@ use Rattle.ud_tree.specs.declared.walk.Found.{Found}
 use Rattle.ud_tree.specs.Covering.{IsFolderPath, WasEntered, IsDue, IsVersioned, Begins, Visits}
 use Rattle.ud_tree.specs.Covering.{VisitsAll, IsIn, Gives}
 
--- `Explores calls calls' folders folders'`: since `calls`, only calls of a walk were made. Each
--- folder that waited was listed or still waits. Each name of each folder that was listed was
+-- `Explores calls calls' folders folders' old new`: since `calls`, only calls of a walk were made.
+-- Each folder that waited was listed or still waits. Each name of each folder that was listed was
 -- visited.
-pub record Explores (calls calls' : List Call) (folders folders' : List (List ℕ)) : Type 0 where
+pub record Explores (calls calls' : List Call) (folders folders' : List (List ℕ))
+    (old new : Report) : Type 0 where
   pub made : List WalkCall
   pub are : calls' ≡ map walked made ++ calls
   pub waits : (folder : List ℕ) → Contains folders folder →
       WasEntered made folder ⊎ Contains folders' folder
-  pub visits : VisitsAll made (IsDue made folders')
-
--- `Starts path calls calls' folders folders' old new`: the same, and the path `path` of the command
--- line can be taken, or a fault was counted. Faults stay counted.
-pub record Starts (path : List ℕ) (calls calls' : List Call) (folders folders' : List (List ℕ))
-    (old new : Report) : Type 0 where
-  pub explores : Explores calls calls' folders folders'
-  pub begins : (0 < new.faulty) ⊎ Begins explores.made (IsDue explores.made folders') path
+  pub visits : VisitsAll made (IsDue made folders') (0 < new.faulty)
   pub kept : 0 < old.faulty → 0 < new.faulty
 
--- `VisitsOne folder name calls calls' folders folders'`: the same, and `name` in `folder` was
--- visited.
-pub record VisitsOne (folder name : List ℕ) (calls calls' : List Call)
-    (folders folders' : List (List ℕ)) : Type 0 where
-  pub explores : Explores calls calls' folders folders'
-  pub visited : Visits explores.made (IsDue explores.made folders') folder name
+-- `Starts path calls calls' folders folders' old new`: the same, and the path `path` of the command
+-- line can be taken, or a fault was counted.
+pub record Starts (path : List ℕ) (calls calls' : List Call) (folders folders' : List (List ℕ))
+    (old new : Report) : Type 0 where
+  pub explores : Explores calls calls' folders folders' old new
+  pub begins : (0 < new.faulty) ⊎ Begins explores.made (IsDue explores.made folders') path
 
--- `Enters folder calls calls' folders folders'`: the same, and `folder` was listed.
-pub record Enters (folder : List ℕ) (calls calls' : List Call) (folders folders' : List (List ℕ)) :
-    Type 0 where
-  pub explores : Explores calls calls' folders folders'
+-- `VisitsOne folder name calls calls' folders folders' old new`: the same, and `name` in `folder`
+-- was visited.
+pub record VisitsOne (folder name : List ℕ) (calls calls' : List Call)
+    (folders folders' : List (List ℕ)) (old new : Report) : Type 0 where
+  pub explores : Explores calls calls' folders folders' old new
+  pub visited : Visits explores.made (IsDue explores.made folders') (0 < new.faulty) folder name
+
+-- `Enters folder calls calls' folders folders' old new`: the same, and `folder` was listed.
+pub record Enters (folder : List ℕ) (calls calls' : List Call) (folders folders' : List (List ℕ))
+    (old new : Report) : Type 0 where
+  pub explores : Explores calls calls' folders folders' old new
   pub entered : WasEntered explores.made folder
 
--- `Exhausts calls calls' folders folders'`: the same, and no folder waits any more, unless there
--- were more calls than a machine counts.
-pub record Exhausts (calls calls' : List Call) (folders folders' : List (List ℕ)) : Type 0 where
-  pub explores : Explores calls calls' folders folders'
+-- `Exhausts calls calls' folders folders' old new`: the same, and no folder waits any more, unless
+-- there were more calls than a machine counts.
+pub record Exhausts (calls calls' : List Call) (folders folders' : List (List ℕ))
+    (old new : Report) : Type 0 where
+  pub explores : Explores calls calls' folders folders' old new
   pub done : length explores.made + 1 < 2 ^ 64 → folders' ≡ []
 
 -- `Waits path folders folders'`: the folder `path` waits to be listed, after those before.
@@ -76,11 +78,12 @@ pub data AddsFolder (path name : List ℕ) (node : Node) (folders folders' : Lis
   no_folder : ¬ (node.kind ≡ Folder) → folders' ≡ folders →
       AddsFolder path name node folders folders'
 
--- `TakesOne path calls calls' found found'`: since `calls`, only calls of a walk were made, and the
--- path `path` of the input was given. The files that were found before stay.
-pub record TakesOne (path : List ℕ) (calls calls' : List Call) (found found' : List Found) :
-    Type 0 where
+-- `TakesOne path calls calls' found found' old new`: since `calls`, only calls of a walk were made,
+-- and the path `path` of the input was given. The files that were found before stay.
+pub record TakesOne (path : List ℕ) (calls calls' : List Call) (found found' : List Found)
+    (old new : Report) : Type 0 where
   pub made : List WalkCall
   pub are : calls' ≡ map walked made ++ calls
-  pub gives : Gives made (IsIn found') path
+  pub gives : Gives made (IsIn found') (0 < new.faulty) path
   pub stay : All (Contains found') found
+  pub kept : 0 < old.faulty → 0 < new.faulty

@@ -5,19 +5,19 @@
 --   IsDue calls folders path      a folder was listed, or waits for that
 --   IsVersioned name              a name is that of a folder of version control
 --   Begins calls due path         a path of the command line can be taken
---   Visits calls due folder name   what became of a name in a folder
---   VisitsAll calls due           so for each name of each folder that was listed
+--   Visits calls due told folder name   what became of a name in a folder
+--   VisitsAll calls due told      so for each name of each folder that was listed
 --   IsIn found path id            a file was found
 --   StandsIn files path id        a list of files has it, or one that stands for it
---   Gives calls has path          what became of a path of the input
+--   Gives calls has told path     what became of a path of the input
 --   own_path path                 a path, unless it is empty
 --   paths_after path text, paths_of text   the paths of the input
---   CoversPaths paths old new     a whole walk from the paths of the command line
---   CoversInput paths old new has   one from those of the input
---   MissesNone args text old new has   one from the paths that the arguments name
+--   CoversPaths paths old new told   a whole walk from the paths of the command line
+--   CoversInput paths old new has told   one from those of the input
+--   MissesNone args text old new has told   one from the paths that the arguments name
 --
 -- `calls` are those of a walk, the newest first. `due path` says that a folder was listed or waits
--- for that, and `has path id` that a file was found.
+-- for that, `has path id` that a file was found, and `told` that the walk has a message.
 use Rattle.std.specs.Prelude.{◌≡◌, ◌⊎◌, ℕ, List, [], ◌∷◌, ◌++◌, Bool, true, false, IsUtf8, codes}
 use Rattle.std.specs.Prelude.{string_bytes, map, length, ◌+◌, ◌<◌, ◌^◌, ◌==◌, if◌then◌else◌}
 use Rattle.std.specs.List.{All, Contains}
@@ -26,6 +26,7 @@ use Rattle.ud_replace.specs.declared.node.Lookup.{Lookup}
 use Rattle.ud_replace.specs.declared.node.Lookup.TheVariants.{Present}
 use Rattle.ud_replace.specs.declared.node.Node.{Node}
 use Rattle.ud_replace.specs.declared.node.NodeKind.TheVariants.{File, Folder, Link}
+use Rattle.ud_replace.specs.declared.node.NodeKind.TheVariants.{Other}
 use Rattle.ud_replace.specs.Calls.{Call, walked, WalkCall, met, followed, listed}
 use Rattle.ud_tree.specs.declared.arguments.Arguments.{Arguments}
 use Rattle.ud_tree.specs.declared.walk.Found.{Found}
@@ -58,19 +59,19 @@ pub data Begins (calls : List WalkCall) (due : List ℕ → Type 0) (path : List
   at_link : (node : Node) → Contains calls (met path (Present node)) → node.kind ≡ Link →
       Contains calls (followed path true) → due path → Begins calls due path
 
--- `Visits calls due folder name`: `name` isn't UTF-8. Or it was looked at, and is due if it is a
--- folder, unless that is one of version control.
-pub data Visits (calls : List WalkCall) (due : List ℕ → Type 0) (folder name : List ℕ) :
-    Type 0 where
-  no_text : ¬ (IsUtf8 name) → Visits calls due folder name
+-- `Visits calls due told folder name`: `name` isn't UTF-8, and a message says so. Or it was looked
+-- at, and is due if it is a folder, unless that is one of version control.
+pub data Visits (calls : List WalkCall) (due : List ℕ → Type 0) (told : Type 0)
+    (folder name : List ℕ) : Type 0 where
+  no_text : ¬ (IsUtf8 name) → told → Visits calls due told folder name
   was_met : (answer : Lookup) → Contains calls (met (folder ++ name) answer) →
       ((node : Node) → answer ≡ Present node → node.kind ≡ Folder →
-      IsVersioned name ⊎ due (folder ++ name)) → Visits calls due folder name
+      IsVersioned name ⊎ due (folder ++ name)) → Visits calls due told folder name
 
--- `VisitsAll calls due`: of each folder that was listed, each name was visited.
-abbrev pub VisitsAll : List WalkCall → (List ℕ → Type 0) → Type 0
-VisitsAll calls due = (folder : List ℕ) (names : List (List ℕ)) (answer : Bool) →
-    Contains calls (listed folder names answer) → All (Visits calls due folder) names
+-- `VisitsAll calls due told`: of each folder that was listed, each name was visited.
+abbrev pub VisitsAll : List WalkCall → (List ℕ → Type 0) → Type 0 → Type 0
+VisitsAll calls due told = (folder : List ℕ) (names : List (List ℕ)) (answer : Bool) →
+    Contains calls (listed folder names answer) → All (Visits calls due told folder) names
 
 -- `IsIn found path id`: `found` has a file with this path and identity.
 abbrev pub IsIn : List Found → List ℕ → FileId → Type 0
@@ -81,14 +82,16 @@ abbrev pub StandsIn : List Found → List ℕ → FileId → Type 0
 StandsIn files path id =
     (g : Found) × Contains files g × ((string_bytes g.path ≡ path) ⊎ (g.id ≡ id))
 
--- `Gives calls has path`: `path` isn't UTF-8. Or it was looked at, and was found if it is a regular
--- file.
-pub data Gives (calls : List WalkCall) (has : List ℕ → FileId → Type 0) (path : List ℕ) :
-    Type 0 where
-  no_path_text : ¬ (IsUtf8 path) → Gives calls has path
+-- `Gives calls has told path`: `path` isn't UTF-8, and a message says so. Or it was looked at, and
+-- was found if it is a regular file. If it is something else than a file, a folder and a link, a
+-- message says so.
+pub data Gives (calls : List WalkCall) (has : List ℕ → FileId → Type 0) (told : Type 0)
+    (path : List ℕ) : Type 0 where
+  no_path_text : ¬ (IsUtf8 path) → told → Gives calls has told path
   was_given : (answer : Lookup) → Contains calls (met path answer) →
       ((node : Node) → answer ≡ Present node → node.kind ≡ File → has path node.id) →
-      Gives calls has path
+      ((node : Node) → answer ≡ Present node → node.kind ≡ Other → told) →
+      Gives calls has told path
 
 -- `own_path path`: `path`, unless it is empty.
 abbrev pub own_path : List ℕ → List (List ℕ)
@@ -106,31 +109,31 @@ paths_after path (b ∷ text) = if b == 0 then own_path path ++ paths_after [] t
 abbrev pub paths_of : List ℕ → List (List ℕ)
 paths_of text = paths_after [] text
 
--- `CoversPaths paths old new`: since `old`, only calls of a walk were made. Each of `paths` can be
--- taken. Of each folder that was listed, each name was visited. Each folder that is due was listed,
--- unless there were more calls than a machine counts.
-pub record CoversPaths (paths : List (List ℕ)) (old new : List Call) : Type 0 where
+-- `CoversPaths paths old new told`: since `old`, only calls of a walk were made. Each of `paths`
+-- can be taken. Of each folder that was listed, each name was visited. Each folder that is due was
+-- listed, unless there were more calls than a machine counts.
+pub record CoversPaths (paths : List (List ℕ)) (old new : List Call) (told : Type 0) : Type 0 where
   pub calls : List WalkCall
   pub are : new ≡ map walked calls ++ old
   pub waiting : List (List ℕ)
   pub all_listed : length calls + 1 < 2 ^ 64 → waiting ≡ []
   pub begins : All (Begins calls (IsDue calls waiting)) paths
-  pub visits : VisitsAll calls (IsDue calls waiting)
+  pub visits : VisitsAll calls (IsDue calls waiting) told
 
--- `CoversInput paths old new has`: since `old`, only calls of a walk were made, and each of `paths`
--- was given.
+-- `CoversInput paths old new has told`: since `old`, only calls of a walk were made, and each of
+-- `paths` was given.
 pub record CoversInput (paths : List (List ℕ)) (old new : List Call)
-    (has : List ℕ → FileId → Type 0) : Type 0 where
+    (has : List ℕ → FileId → Type 0) (told : Type 0) : Type 0 where
   pub calls : List WalkCall
   pub are : new ≡ map walked calls ++ old
-  pub gives : All (Gives calls has) paths
+  pub gives : All (Gives calls has told) paths
 
--- `MissesNone args text old new has`: the paths are those of the command line, and they are
+-- `MissesNone args text old new has told`: the paths are those of the command line, and they are
 -- covered. Or they are those of the input `text`, and each was given.
 pub data MissesNone (args : Arguments) (text : List ℕ) (old new : List Call)
-    (has : List ℕ → FileId → Type 0) : Type 0 where
+    (has : List ℕ → FileId → Type 0) (told : Type 0) : Type 0 where
   misses_no_path : args.from_input ≡ false →
-      CoversPaths (map (λ p. string_bytes p) args.paths.items) old new →
-      MissesNone args text old new has
-  misses_no_input : args.from_input ≡ true → CoversInput (paths_of text) old new has →
-      MissesNone args text old new has
+      CoversPaths (map (λ p. string_bytes p) args.paths.items) old new told →
+      MissesNone args text old new has told
+  misses_no_input : args.from_input ≡ true → CoversInput (paths_of text) old new has told →
+      MissesNone args text old new has told

@@ -111,8 +111,9 @@ pub data IsRun (args : Arguments) (given left : Source) (old new : List Call)
       IsRun args given left old new messages streams [] told [] 2
   ran : {shown told last : List ℕ} {status : ℕ} (text : List ℕ) (mid : List Call)
       (files : List Found) → TakesInput args.from_input given left text →
-      MissesNone args text old mid (StandsIn files) → IsWalk old mid files →
-      WalkTells old mid messages → (args.from_input ≡ false → 0 < length files) →
+      MissesNone args text old mid (StandsIn files) (0 < length messages) →
+      IsWalk old mid files → WalkTells old mid messages →
+      (args.from_input ≡ false → 0 < length files) →
       Ends args (length messages) streams mid (names_of files) new shown told last status →
       IsRun args given left old new messages streams shown told last status
 
@@ -137,15 +138,18 @@ abbrev pub IsRunOf : Run → Type 0
 IsRunOf run = IsRun run.args run.given run.left run.old run.new run.messages run.streams
     run.shown run.told run.last run.status
 
--- `IsClean run`: if paths come from the input, it was read whole. A whole walk has no message, and
--- none of its files has an error. The output hasn't failed and is flushed, and the error stream
--- hasn't failed.
+-- `IsClean run`: if paths come from the input, it was read whole. A whole walk missed none of the
+-- paths and has no message, and none of its files has an error. The output hasn't failed and is
+-- flushed, and the error stream hasn't failed.
 pub record IsClean (run : Run) : Type 0 where
   pub mid : List Call
   pub files : List Found
   pub results : List FileResult
   pub is_walk : IsWalk run.old mid files
   pub untold : WalkTells run.old mid []
+  pub text : List ℕ
+  pub misses : MissesNone run.args text run.old mid (StandsIn files) (0 < length run.messages)
+  pub no_message : run.messages ≡ []
   pub each : EachFile (DoesOne run.args) mid (names_of files) run.new results
   pub faultless : faulty_in results ≡ 0
   pub whole : run.args.from_input ≡ true →

@@ -15,8 +15,8 @@
 --   input_message                the message if the input couldn't be read
 --   Stops from_input left messages told   why no file follows a walk, and what is written of that
 --   StopsWalk from_input left calls calls' old new err err'   a walk that no file follows
---   TakesEach given left calls calls' has   the input was read, and each of its paths was given
---   TakesPaths args given left calls calls' has   the same, or paths of the command line are taken
+--   TakesEach given left calls calls' has told   the input was read, and each path was given
+--   TakesPaths args given left calls calls' has told   all paths are taken
 --   FindsFiles args given left calls calls' files old new err err'   a walk that found files
 --
 -- `old` and `new` are the report before and after, or the calls, the newest first. `err` and `err'`
@@ -179,28 +179,29 @@ pub record StopsWalk (from_input : Bool) (left : Source) (calls calls' : List Ca
   pub stops : Stops from_input left messages told
   pub tells : Tells old new err err' (joined messages ++ told)
 
--- `TakesEach given left calls calls' has`: the input was read whole, and each of its paths was
+-- `TakesEach given left calls calls' has told`: the input was read whole, and each of its paths was
 -- given.
 pub record TakesEach (given left : Source) (calls calls' : List Call)
-    (has : List ℕ → FileId → Type 0) : Type 0 where
+    (has : List ℕ → FileId → Type 0) (told : Type 0) : Type 0 where
   pub text : List ℕ
   pub reads : ReadsWhole given left text
-  pub covers : CoversInput (paths_of text) calls calls' has
+  pub covers : CoversInput (paths_of text) calls calls' has told
 
--- `TakesPaths args given left calls calls' has`: the input was read whole, if paths come from it.
--- Since `calls`, a whole walk missed none of the paths.
+-- `TakesPaths args given left calls calls' has told`: the input was read whole, if paths come from
+-- it. Since `calls`, a whole walk missed none of the paths.
 pub record TakesPaths (args : Arguments) (given left : Source) (calls calls' : List Call)
-    (has : List ℕ → FileId → Type 0) : Type 0 where
+    (has : List ℕ → FileId → Type 0) (told : Type 0) : Type 0 where
   pub text : List ℕ
   pub takes : TakesInput args.from_input given left text
-  pub misses : MissesNone args text calls calls' has
+  pub misses : MissesNone args text calls calls' has told
 
 -- `FindsFiles args given left calls calls' files old new err err'`: the paths are taken. Since
 -- `calls`, a whole walk found `files`, at least one if the paths are those of the command line. Its
 -- messages were written and counted.
 pub record FindsFiles (args : Arguments) (given left : Source) (calls calls' : List Call)
     (files : List Found) (old new : Report) (err err' : Stream) : Type 0 where
-  pub paths : TakesPaths args given left calls calls' (StandsIn files)
   pub is_walk : IsWalk calls calls' files
   pub some : args.from_input ≡ false → 0 < length files
   pub reports : ReportsWalk calls calls' old new err err'
+  pub paths : TakesPaths args given left calls calls' (StandsIn files)
+      (0 < length reports.messages)

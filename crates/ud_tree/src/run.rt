@@ -1,6 +1,6 @@
 //! The run over all files of a tree.
 
-ghost use Rattle.std.specs.Prelude.{◌≡◌, ◌++◌, [], map, true, false, IfOk, IfSome, IfNone};
+ghost use Rattle.std.specs.Prelude.{◌≡◌, ◌<◌, ◌++◌, [], map, true, false, IfOk, IfSome, IfNone};
 ghost use Rattle.std.specs.Prelude.{OnErr, OnOk};
 ghost use Rattle.ud_model.specs.answer.Answer.{status_by};
 ghost use Rattle.ud_tree.specs.Messages.{TellsIf, list_message, write_message};
@@ -84,7 +84,7 @@ fn find_files<T: Tree, R: Read, E: Write>(
     report: &mut Report,
     err: &mut Watched<E>,
 ) -> Result<Option<Vec<Found>>, AllocError>
-    ensures files { IfOk result (λ r. IfSome r (λ files.
+    ensures files { report.old.faulty ≡ 0 → IfOk result (λ r. IfSome r (λ files.
         FindsFiles job.now.arguments.now
         (source_of R.remaining input.old) (source_of R.remaining input.new)
         (T.history tree.old) (T.history tree.new)
@@ -127,7 +127,8 @@ fn walk_all<T: Tree, R: Read, E: Write>(
         (stream_of E.contents err.old) (stream_of E.contents err.new) }
     ensures takes { IfOk result (λ all. all ≡ true → TakesPaths job.now.arguments.now
         (source_of R.remaining input.old) (source_of R.remaining input.new)
-        (T.history tree.old) (T.history tree.new) (IsIn walk.new.found.items)) }
+        (T.history tree.old) (T.history tree.new) (IsIn walk.new.found.items)
+        (0 < report.new.faulty)) }
     ensures stops { IfOk result (λ all. all ≡ false → report.old.faulty ≡ 0 →
         StopsWalk job.now.arguments.now.from_input (source_of R.remaining input.new)
         (T.history tree.old) (T.history tree.new) report.old report.new
@@ -162,7 +163,8 @@ fn add_input<T: Tree, R: Read, E: Write>(
         (stream_of E.contents err.old) (stream_of E.contents err.new) }
     ensures takes { IfOk result (λ all. all ≡ true → TakesEach
         (source_of R.remaining input.old) (source_of R.remaining input.new)
-        (T.history tree.old) (T.history tree.new) (IsIn walk.new.found.items)) }
+        (T.history tree.old) (T.history tree.new) (IsIn walk.new.found.items)
+        (0 < report.new.faulty)) }
     ensures stops { IfOk result (λ all. all ≡ false →
         StopsWalk true (source_of R.remaining input.new) (T.history tree.old)
         (T.history tree.new) report.old report.new

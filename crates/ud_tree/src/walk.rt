@@ -1,6 +1,6 @@
 //! The walk over a tree: the files below some paths, each once, in the order of the paths' bytes.
 
-ghost use Rattle.std.specs.Prelude.{◌≡◌, ◌⊎◌, ◌++◌, ◌∷◌, [], IfOk, OnOk, Bool, map};
+ghost use Rattle.std.specs.Prelude.{◌≡◌, ◌⊎◌, ◌<◌, ◌++◌, ◌∷◌, [], IfOk, OnOk, Bool, map};
 ghost use Rattle.std.specs.Prelude.{string_bytes, true, false};
 ghost use Rattle.ud_replace.specs.Calls.{walked, listed};
 ghost use Rattle.std.specs.List.{All, AllPairs, Contains};
@@ -128,7 +128,7 @@ impl<'w> Walk<'w> {
         ensures told { ReportsWalk (T.history tree.old) (T.history tree.new) report.old report.new
             (stream_of E.contents err.old) (stream_of E.contents err.new) }
         ensures takes { OnOk result (TakesOne name.now (T.history tree.old) (T.history tree.new)
-            self.old.found.items self.new.found.items) }
+            self.old.found.items self.new.found.items report.old report.new) }
     {
         let Ok(path) = std::str::from_utf8(name) else {
             report.fault(err, escaped(self.alloc, name)?.as_slice(), NOT_UTF8);
@@ -156,6 +156,8 @@ impl<'w> Walk<'w> {
         node: Node,
     ) -> Result<(), AllocError>
         ensures adds { AddsNode self.old.found.items name.now node self.new.found.items }
+        ensures counted { 0 < report.old.faulty → 0 < report.new.faulty }
+        ensures other { OnOk result (node.kind ≡ NodeKind.Other → 0 < report.new.faulty) }
         ensures is_in { OnOk result (node.kind ≡ NodeKind.File →
             IsIn self.new.found.items name.now node.id) }
         ensures told { TellsGiven name.now node report.old report.new
@@ -223,7 +225,7 @@ impl<'w> Walk<'w> {
         ensures visits { OnOk result (VisitsOne folder.now name.now
             (T.history tree.old) (T.history tree.new)
             (map (λ d. string_bytes d) self.old.folders.items)
-            (map (λ d. string_bytes d) self.new.folders.items)) }
+            (map (λ d. string_bytes d) self.new.folders.items) report.old report.new) }
     {
         let mut path = String::from_str(self.alloc, folder)?;
         let Ok(text) = std::str::from_utf8(name) else {
@@ -271,7 +273,7 @@ impl<'w> Walk<'w> {
             (stream_of E.contents err.old) (stream_of E.contents err.new) }
         ensures enters { OnOk result (Enters folder.now (T.history tree.old) (T.history tree.new)
             (map (λ d. string_bytes d) self.old.folders.items)
-            (map (λ d. string_bytes d) self.new.folders.items)) }
+            (map (λ d. string_bytes d) self.new.folders.items) report.old report.new) }
     {
         let names = self.list_folder(tree, report, err, folder);
         for name in names.as_slice() {
@@ -293,6 +295,7 @@ impl<'w> Walk<'w> {
         ensures told { ReportsNames folder.now (map (λ n. n.items) result.items)
             (T.history tree.old) (T.history tree.new) report.old report.new
             (stream_of E.contents err.old) (stream_of E.contents err.new) }
+        ensures counted { 0 < report.old.faulty → 0 < report.new.faulty }
         ensures lists { (answer : Bool) × (T.history tree.new ≡
             walked (listed folder.now (map (λ n. n.items) result.items) answer)
             ∷ T.history tree.old) }
@@ -322,7 +325,7 @@ impl<'w> Walk<'w> {
             (stream_of E.contents err.old) (stream_of E.contents err.new) }
         ensures exhausts { OnOk result (Exhausts (T.history tree.old) (T.history tree.new)
             (map (λ d. string_bytes d) self.old.folders.items)
-            (map (λ d. string_bytes d) self.new.folders.items)) }
+            (map (λ d. string_bytes d) self.new.folders.items) report.old report.new) }
     {
         'folders: for _entered in 0..u64::MAX {
             let Some(folder) = self.folders.pop() else {

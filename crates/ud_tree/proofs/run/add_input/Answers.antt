@@ -1,6 +1,6 @@
 use Rattle.ud_tree.specs.Streams.{stream_of}
 use Rattle.ud_tree.proofs.WalkLemmas.{finds_none, finds_then}
-use Rattle.std.proofs.Common.{refl, ap, ◌∙◌, map, arith}
+use Rattle.std.proofs.Common.{refl, ap, ◌∙◌, map, arith, ◌<◌}
 use Rattle.ud_tree.specs.Covering.{paths_of}
 use Rattle.ud_tree.proofs.CoverLemmas.{takes_none, takes_at, takes_all_paths}
 use Rattle.ud_tree.specs.WalkMessages.{no_input}
@@ -26,7 +26,7 @@ pub loop-name-init : goal.loop-name-init
 loop-name-init g c = (
   finds_none (g.T.Folder.history c.args.tree.now) c.args.walk.now.found.items,
   walk_none (g.T.Folder.history c.args.tree.now) c.args.report.now (stream_of g.E.Write.contents c.args.err.now),
-  takes_none (g.T.Folder.history c.args.tree.now) c.args.walk.now.found.items,
+  takes_none (g.T.Folder.history c.args.tree.now) c.args.walk.now.found.items (0 < c.args.report.now.faulty),
 )
 
 pub loop-name-preserved : goal.loop-name-preserved

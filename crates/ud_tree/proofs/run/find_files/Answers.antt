@@ -1,7 +1,7 @@
-use Rattle.std.proofs.Common.{refl, sym}
+use Rattle.std.proofs.Common.{refl, sym, ◌<◌, length}
 use Rattle.ud_tree.proofs.WalkLemmas.{walk_found}
 use Rattle.ud_tree.proofs.CoverLemmas.{paths_kept}
-use Rattle.ud_tree.proofs.WalkTellLemmas.{stops_unmatched, some_files, some_unless}
+use Rattle.ud_tree.proofs.WalkTellLemmas.{stops_unmatched, some_files, some_unless, some_told}
 use Rattle.ud_tree.proofs.run.find_files.Goals.{else-is_empty-via-then-is_empty+else-not-job, else-is_empty-via-else-is_empty}
 use Rattle.ud_tree.proofs.run.find_files.Goals as goal
 
@@ -12,12 +12,14 @@ pub returns-then-not-job-clause-stops : goal.returns-then-not-job-clause-stops
 returns-then-not-job-clause-stops g c = λ none. stops_unmatched _ c.if-not-job.true refl c.walk_all.ensures.told c.line.ensures.tells
 
 pub returns-clause-files : goal.returns-clause-files
-returns-clause-files g c = record {
-  paths = paths_kept c.walk_all.new.walk.found.items c.in_ok-files.files.items c.in_ok-files.ensures.kept (c.in_ok-all.ensures.takes c.if-not-all.false);
+returns-clause-files g c = λ none. record {
   is_walk = walk_found c.in_ok-files.files.items c.new-walk.ensures.found c.walk_all.ensures.finds c.in_ok-files.ensures;
   some = elim c.else-is_empty.branch [
     | else-is_empty-via-then-is_empty+else-not-job w ↦ some_unless _ _ w.if-not-job.false
     | else-is_empty-via-else-is_empty w ↦ some_files _ _ _ _ (sym c.in_ok-files.files.ok.0) c.is_empty.ensures w.if-is_empty.false
   ];
   reports = c.walk_all.ensures.told;
+  paths = paths_kept c.walk_all.new.walk.found.items c.in_ok-files.files.items (0 < c.walk_all.new.report.faulty) (0 < length c.walk_all.ensures.told.messages)
+      (λ some. some_told c.args.report.now.faulty c.walk_all.new.report.faulty (length c.walk_all.ensures.told.messages) none c.walk_all.ensures.told.counted some) c.in_ok-files.ensures.kept
+      (c.in_ok-all.ensures.takes c.if-not-all.false);
 }

@@ -12,5 +12,5 @@ returns-in-Ok-None g c = no_files c.args.job.now _ c.new-report.ensures.plain (r
 pub returns : goal.returns
 returns g c =
     ran_from c.args.job.now _ c.as_slice.ensures.value c.new-report.ensures.plain c.new-report.ensures.faultless c.faulty.ensures
-    (rw c.in-Ok-Some.field-0-is at c.in-Ok-Some.ensures.files) refl
+    (rw c.in-Ok-Some.field-0-is at c.in-Ok-Some.ensures.files c.new-report.ensures.faultless) refl
     c.process_all.ensures

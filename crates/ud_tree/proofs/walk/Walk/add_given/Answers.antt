@@ -12,3 +12,6 @@ returns-in-Other-clause-told g c =
 
 pub returns-in-File-clause-is_in : goal.returns-in-File-clause-is_in
 returns-in-File-clause-is_in g c = on_ok_weaker c.push_file.result (λ there kind. there) c.push_file.ensures.is_in
+
+pub returns-in-Other-clause-counted : goal.returns-in-Other-clause-counted
+returns-in-Other-clause-counted g c = λ before. c.fault.ensures.some

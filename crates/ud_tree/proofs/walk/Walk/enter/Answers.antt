@@ -5,7 +5,7 @@ use Rattle.ud_tree.proofs.WalkTellLemmas.{name_listed, names_same, walk_visited}
 use Rattle.ud_tree.proofs.walk.Walk.enter.Goals as goal
 
 pub loop-name-init : goal.loop-name-init
-loop-name-init g c = (c.list_folder-names.ensures.finds, enters_begun (λ n. n.items) _ _ c.args.folder.now _ c.as_slice-name-items.ensures.value c.list_folder-names.ensures.lists, names_same (λ n. n.items) _ _ c.as_slice-name-items.ensures.value c.list_folder-names.ensures.told)
+loop-name-init g c = (c.list_folder-names.ensures.finds, enters_begun (λ n. n.items) _ _ c.args.folder.now _ _ _ c.list_folder-names.ensures.counted c.as_slice-name-items.ensures.value c.list_folder-names.ensures.lists, names_same (λ n. n.items) _ _ c.as_slice-name-items.ensures.value c.list_folder-names.ensures.told)
 
 pub loop-name-preserved : goal.loop-name-preserved
 loop-name-preserved g c = (

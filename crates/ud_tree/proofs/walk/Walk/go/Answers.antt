@@ -10,7 +10,7 @@ pub folders-init : goal.folders-init
 folders-init g c = (
   finds_none (g.T.Folder.history c.args.tree.now) c.args.self.now.found.items,
   walk_none (g.T.Folder.history c.args.tree.now) c.args.report.now (stream_of g.E.Write.contents c.args.err.now),
-  enters_none (g.T.Folder.history c.args.tree.now) (map (λ d. string_bytes d) c.args.self.now.folders.items),
+  enters_none (g.T.Folder.history c.args.tree.now) (map (λ d. string_bytes d) c.args.self.now.folders.items) c.args.report.now,
 )
 
 pub folders-preserved : goal.folders-preserved

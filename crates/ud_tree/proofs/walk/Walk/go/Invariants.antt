@@ -10,4 +10,4 @@ abbrev pub invariant-folders : goal.invariant-folders
 invariant-folders g l =
     Finds (g.T.Folder.history l.fn.tree) (g.T.Folder.history l.tree) l.fn.self.found.items l.self.found.items
     × ReportsWalk (g.T.Folder.history l.fn.tree) (g.T.Folder.history l.tree) l.fn.report l.report (stream_of g.E.Write.contents l.fn.err) (stream_of g.E.Write.contents l.err)
-    × EntersSome l._entered (g.T.Folder.history l.fn.tree) (g.T.Folder.history l.tree) (map (λ d. string_bytes d) l.fn.self.folders.items) (map (λ d. string_bytes d) l.self.folders.items)
+    × EntersSome l._entered (g.T.Folder.history l.fn.tree) (g.T.Folder.history l.tree) (map (λ d. string_bytes d) l.fn.self.folders.items) (map (λ d. string_bytes d) l.self.folders.items) l.fn.report l.report

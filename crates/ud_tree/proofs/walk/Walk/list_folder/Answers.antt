@@ -21,3 +21,6 @@ returns-then-listed-clause-lists g c = (true, c.if-listed.ensures.noted)
 
 pub returns-clause-lists : goal.returns-clause-lists
 returns-clause-lists g c = (false, c.if-listed.ensures.noted)
+
+pub returns-clause-counted : goal.returns-clause-counted
+returns-clause-counted g c = λ before. c.failure.ensures.reports.some

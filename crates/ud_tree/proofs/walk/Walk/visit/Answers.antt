@@ -51,18 +51,18 @@ pub returns-clause-told : goal.returns-clause-told
 returns-clause-told g c = visit_met Unknown _ (λ e. absurd cc) c.in-Unknown.ensures (walk_unmet Unknown _ _ c.as_bytes-in-Unknown.ensures.value c.in-Unknown.ensures c.unknown.ensures)
 
 pub returns-in_default-clause-visits : goal.returns-in_default-clause-visits
-returns-in_default-clause-visits g c = visits_other c.args.folder.now c.args.name.now (g.T.Folder.history c.args.tree.now) _ (c.in_default.ensures.cases.0)
+returns-in_default-clause-visits g c = visits_other c.args.folder.now c.args.name.now (g.T.Folder.history c.args.tree.now) _ c.args.report.now _ (c.in_default.ensures.cases.0) c.fault_in.ensures.some
 
 pub returns-in-Present-clause-visits : goal.returns-in-Present-clause-visits
 returns-in-Present-clause-visits g c =
     on_ok_weaker c.add_node.result
-    (λ w. visits_node c.in-Present.node _ c.args.folder.now c.args.name.now _ _ (cc (c.as_str-whole.ensures.value, c.in_ok-push_str.ensures.bytes, c.in-Ok.ensures.cases.0, c.in_ok-path.ensures.ok)) c.in-Present.ensures w)
+    (λ w. visits_node c.in-Present.node _ c.args.folder.now c.args.name.now _ _ c.args.report.now (cc (c.as_str-whole.ensures.value, c.in_ok-push_str.ensures.bytes, c.in-Ok.ensures.cases.0, c.in_ok-path.ensures.ok)) c.in-Present.ensures w)
     c.add_node.ensures.waits
 
 pub returns-in-Absent-clause-visits : goal.returns-in-Absent-clause-visits
 returns-in-Absent-clause-visits g c =
-    visits_unmet Absent _ c.args.folder.now c.args.name.now _ (λ node e. absurd cc) (cc (c.as_str-whole.ensures.value, c.in_ok-push_str.ensures.bytes, c.in-Ok.ensures.cases.0, c.in_ok-path.ensures.ok)) c.in-Absent.ensures
+    visits_unmet Absent _ c.args.folder.now c.args.name.now _ c.args.report.now c.args.report.now (λ some. some) (λ node e. absurd cc) (cc (c.as_str-whole.ensures.value, c.in_ok-push_str.ensures.bytes, c.in-Ok.ensures.cases.0, c.in_ok-path.ensures.ok)) c.in-Absent.ensures
 
 pub returns-clause-visits : goal.returns-clause-visits
 returns-clause-visits g c =
-    visits_unmet Unknown _ c.args.folder.now c.args.name.now _ (λ node e. absurd cc) (cc (c.as_str-whole.ensures.value, c.in_ok-push_str.ensures.bytes, c.in-Ok.ensures.cases.0, c.in_ok-path.ensures.ok)) c.in-Unknown.ensures
+    visits_unmet Unknown _ c.args.folder.now c.args.name.now _ c.args.report.now _ (λ before. c.unknown.ensures.reports.some) (λ node e. absurd cc) (cc (c.as_str-whole.ensures.value, c.in_ok-push_str.ensures.bytes, c.in-Ok.ensures.cases.0, c.in_ok-path.ensures.ok)) c.in-Unknown.ensures
