@@ -229,7 +229,7 @@ bad.c' 'x\n#else\n'
     check '-n: and the right one' diff -r is src
   fi
   local words
-  for words in '-D1A' '-Udefined' '-iXA' '-x3' '-j0' '-S' '-L' '-n -s' '-r -s' '-DA'; do
+  for words in '-D1A' '-Udefined' '-iXA' '-x3' '-j0' '-S' '-L' '-n -s' '-r -s' '-p -s' '-p -c' '-p -t' '-DA'; do
     # shellcheck disable=SC2086
     tree $words src
     [ "$words" = -DA ] || check "refused: $words" same "$status" 2
@@ -242,7 +242,7 @@ bad.c' 'x\n#else\n'
     tree $words
     check "$words: status" same "$status $(cat "$work/err")" '0 '
     check "$words: usage" grep -q '^usage: unifdef-tree ' "$work/out"
-    check "$words: a line for each option" same "$(sed -n 's/^  -\(.\).*/\1/p' "$work/out" | sort -u | tr -d '\n')" '-0DKUVbcdghijklnqrstwx'
+    check "$words: a line for each option" same "$(sed -n 's/^  -\(.\).*/\1/p' "$work/out" | sort -u | tr -d '\n')" '-0DKUVbcdghijklnpqrstwx'
   done
   (cd "$work/run" && "$TREE" -h > /dev/full 2> /dev/null)
   check '-h: the output can not be written' same "$?" 2
@@ -353,6 +353,120 @@ src/c.c:7: #if A\'
   tree -r -DOTHER=1 -UVMS2 src/none.c
   check '-r: none' same "$(cat "$work/err")" 'unifdef-tree: 0 changed, 1 unchanged, 0 faulty
 unifdef-tree: 0 conditions still name a symbol'
+}
+
+# Makes a file of which each condition that stays has decided operands under -UVMS.
+unpruned='#if defined(UNIX) || defined(VMS)\nx\n#elif defined(VMS) || (defined(A) && !defined(VMS))\ny\n#endif\n#ifdef VMS\nz\n#endif\n'
+pruned='#if defined(UNIX)\nx\n#elif defined(A)\ny\n#endif\n'
+
+# Tests -p alone, and beside each other option. The wanted lines were found by hand.
+prunes() {
+  local before words
+  fresh_tree
+  put src/a.c "$unpruned"
+  put src/only.c '#if X || VMS /* c */\r\n#endif\r\n'
+  put src/same.c '#if X\n#endif\n'
+  before=$(stat -c '%i %y' src/same.c)
+  tree -UVMS src
+  check '-p: without it' holds src/only.c '#if X || VMS /* c */\r\n#endif\r\n'
+  put src/a.c "$unpruned"
+  tree -p -UVMS src
+  check '-p: status' same "$status" 1
+  check '-p: a condition that stays' holds src/a.c "$pruned"
+  check '-p: the line ending and a comment' holds src/only.c '#if X /* c */\r\n#endif\r\n'
+  check '-p: a file that stays' same "$(stat -c '%i %y' src/same.c)" "$before"
+  check '-p: counts' same "$(cat "$work/err")" 'unifdef-tree: 2 changed, 1 unchanged, 0 faulty
+unifdef-tree: 3 conditions edited'
+  check '-p: nothing left over' no_rest
+  tree -p -UVMS src
+  check '-p: a second run' same "$status $(head -n 1 "$work/err")" '0 unifdef-tree: 0 changed, 3 unchanged, 0 faulty'
+  check '-p: a second run: text' holds src/a.c "$pruned"
+  put src/a.c "$unpruned"
+  cp -r src was
+  tree -n -p -UVMS src
+  check '-p -n: status' same "$status" 1
+  check '-p -n: changes nothing' diff -r was src
+  check '-p -n: counts' same "$(cat "$work/err")" 'unifdef-tree: 1 would change, 2 unchanged, 0 faulty
+unifdef-tree: 2 conditions edited'
+  cp "$work/out" diff
+  tree -d -p -UVMS src
+  check '-p -d: the same diff' cmp "$work/out" diff
+  check '-p -d: text' holds src/a.c "$pruned"
+  if has patch; then
+    patch -s -R -p0 -i diff
+    check '-p -d: patch -R' diff -r was src
+    patch -s -p0 -i diff
+    check '-p -n: patch' holds src/a.c "$pruned"
+  fi
+  for words in -b -l; do
+    put src/a.c "$unpruned"
+    tree -p $words -UVMS src
+    check "-p $words" holds src/a.c "$pruned\\n\\n\\n"
+  done
+  put src/a.c "$unpruned"
+  tree -q -p -UVMS src
+  check '-p -q' same "$status $(cat "$work/err")" '1 '
+  for words in '-x0 1' '-x1 0' '-x2 0'; do
+    put src/a.c "$unpruned"
+    tree -p "${words% *}" -UVMS src
+    check "-p ${words% *}" same "$status" "${words#* }"
+  done
+  put src/a.c "$unpruned"
+  ln src/a.c src/b.c
+  tree -p -UVMS src
+  check '-p: several links' same "$status" 2
+  tree -p -n -UVMS src
+  check '-p -n: several links' same "$status" 2
+  check '-p: several links: text' holds src/b.c "$unpruned"
+  tree -p -w -UVMS src
+  check '-p -w' holds src/b.c "$pruned"
+  prunes_by_options
+}
+
+# Tests -p with options that say how conditions are decided, and with those that it refuses.
+prunes_by_options() {
+  local words
+  fresh_tree
+  put src/a.c '#if X && 1 && B\n#endif\n'
+  tree -p -DB=1 src
+  check '-p: a constant' holds src/a.c '#if X && 1\n#endif\n'
+  tree -p -k -DB=1 src
+  check '-p -k' holds src/a.c '#if X\n#endif\n'
+  put src/a.c '#if X && 1 && B\n#endif\n#if X || B\n#endif\n'
+  tree -p -K -UB src
+  check '-p -K' holds src/a.c '#if X && 1 && B\n#endif\n#if X\n#endif\n'
+  put src/a.c "#ifdef A\\n\"'\\n#if X || B\\n#endif\\n#endif\\n#if X || B || A\\n#endif\\n"
+  tree -p -iUA -UB src
+  check '-p -iU' holds src/a.c '#if X\n#endif\n'
+  put src/a.c '#ifndef X\n#if X || B\n#endif\n#endif\n'
+  tree -p -iDA -UB src
+  check '-p -iD' holds src/a.c '#ifndef X\n#if X\n#endif\n#endif\n'
+  put src/a.c "$unpruned"
+  put src/b.txt "$unpruned"
+  tree -p -g '*.txt' -UVMS src
+  check '-p -g: the file' holds src/b.txt "$pruned"
+  check '-p -g: another one' holds src/a.c "$unpruned"
+  printf 'src/a.c\0' > "$work/paths"
+  (cd "$work/run" && "$TREE" -0 -p -UVMS < "$work/paths" > "$work/out" 2> "$work/err")
+  check '-p -0' holds src/a.c "$pruned"
+  # shellcheck disable=SC1003 # The backslash belongs to the line.
+  put src/a.c '#if X || \\\n  VMS\n#endif\n#if!VMS&&X\n#endif\n#if X ? VMS : 1\n#endif\n#if X || VMS + Y\n#endif\n#if F(VMS)\n#endif\n'
+  tree -p -r -UVMS src/a.c
+  check '-p -r: what stays' same "$(cat "$work/err")" 'unifdef-tree: 0 changed, 1 unchanged, 0 faulty
+unifdef-tree: 0 conditions edited
+unifdef-tree: 5 conditions still name a symbol'
+  check '-p -r: the list' same "$(cut -d: -f1,2 "$work/out" | tr '\n' ' ')" 'src/a.c:1 src/a.c:4 src/a.c:6 src/a.c:8 src/a.c:10 '
+  put src/a.c "$unpruned#else\\n"
+  tree -p -UVMS src/a.c
+  check '-p: a faulty file' holds src/a.c "$unpruned#else\\n"
+  check '-p: a faulty file: status' same "$status" 2
+  put src/a.c "$unpruned"
+  for words in "-s:-p and -s don't go together" "-c:-p and -c don't go together: the complement is no C" \
+    "-t:-p and -t don't go together: plain text has no comments"; do
+    tree -p "${words%%:*}" -UVMS src
+    check "-p ${words%%:*}: refused" same "$status $(cat "$work/err")" "2 unifdef-tree: ${words#*:}"
+    check "-p ${words%%:*}: nothing is done" holds src/a.c "$unpruned"
+  done
 }
 
 # Tests that the diffs of -n turn each text into its output, and back: by patch, and by git apply.
@@ -700,6 +814,7 @@ in_folder() {
   refusals
   lists
   remaining
+  prunes
   diffs
   diff_paths
   full_disk

@@ -5,7 +5,7 @@ use std::process::Abort;
 use std::test::Fail;
 use ud_args::plan;
 use ud_faults::{RunFault, SectionFault};
-use ud_replace::{FileId, ReplaceError, Target, Update, replace};
+use ud_replace::{FileId, ReplaceError, Target, TextPlan, Update, replace};
 
 /// A text for which the output is `OUTPUT`.
 const TEXT: &[u8] = b"#ifdef A\nx\n#endif\n";
@@ -73,7 +73,7 @@ fn denies() -> Failures {
     }
 }
 
-/// Replaces a file, and compares what is left.
+/// Replaces a file by its output, and compares what is left.
 fn check(
     rt: &(impl Abort + AllocGlobal),
     text: &[u8],
@@ -84,7 +84,22 @@ fn check(
 ) -> Result<(), Fail> {
     let alloc = rt.alloc();
     let args = [String::from_str(alloc, "-DA")?];
-    let plan = plan(alloc, &args).expect(rt, "the arguments have no fault");
+    let run = plan(alloc, &args).expect(rt, "the arguments have no fault");
+    let plan = TextPlan { run, prunes: false };
+    check_plan(rt, &plan, text, links, write_into, failures, want)
+}
+
+/// Replaces a file as a plan asks, and compares what is left.
+fn check_plan(
+    rt: &(impl Abort + AllocGlobal),
+    plan: &TextPlan,
+    text: &[u8],
+    links: u64,
+    write_into: bool,
+    failures: Failures,
+    want: Left,
+) -> Result<(), Fail> {
+    let alloc = rt.alloc();
     let mut folder = FakeFolder::new(alloc, text.to_vec(alloc)?, links, failures);
     let target = Target {
         name: b"file",
@@ -92,7 +107,7 @@ fn check(
         fresh: b"fresh",
         write_into,
     };
-    let result = replace(alloc, &plan, &mut folder, &target);
+    let result = replace(alloc, plan, &mut folder, &target);
     assert_eq!(rt; result, want.result);
     assert_eq!(rt; folder.calls.as_slice(), want.calls);
     assert_eq!(rt; folder.file.as_slice(), want.file);
@@ -124,6 +139,37 @@ fn only_a_text_with_another_output_is_replaced(rt: HostRuntime) -> Result<(), Fa
         fresh: false,
     };
     check(&rt, b"#endif\n", 1, false, WORKS, faulty)
+}
+
+#[test]
+fn decided_operands_go_if_conditions_are_pruned(rt: HostRuntime) -> Result<(), Fail> {
+    let text = b"#if X || !A\n#endif\n";
+    let unchanged = Left {
+        result: Ok(Update::Unchanged),
+        calls: b"r",
+        file: text,
+        fresh: false,
+    };
+    check(&rt, text, 1, false, WORKS, unchanged)?;
+    let alloc = rt.alloc();
+    let args = [String::from_str(alloc, "-DA")?];
+    let run = plan(alloc, &args).expect(&rt, "the arguments have no fault");
+    let plan = TextPlan { run, prunes: true };
+    let pruned = Left {
+        result: Ok(Update::Replaced),
+        calls: b"rmcaaaaaaaaaaaaagsrln",
+        file: b"#if X\n#endif\n",
+        fresh: false,
+    };
+    check_plan(&rt, &plan, text, 1, false, WORKS, pruned)?;
+    let fault = RunFault::Section(SectionFault::InappropriateEndif { line: 3 });
+    let faulty = Left {
+        result: Err(ReplaceError::Text(fault)),
+        calls: b"r",
+        file: b"#if X || !A\n#endif\n#endif\n",
+        fresh: false,
+    };
+    check_plan(&rt, &plan, faulty.file, 1, false, WORKS, faulty)
 }
 
 #[test]

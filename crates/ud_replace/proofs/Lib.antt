@@ -4,4 +4,5 @@ pub mod RenameLemmas
 mod OutcomeLemmas
 mod TakesLemmas
 mod StepLemmas
+mod TextLemmas
 mod VersionLemmas

@@ -1,13 +1,36 @@
--- A run over a text that was read, into an empty buffer.
-use Rattle.std.proofs.Common.{◌≡◌, ℕ, List, [], Bool, Some, Result, subst}
-use Rattle.ud_model.specs.sections.Items.{Options}
-use Rattle.ud_engine.specs.Finishing.{RunAnswers}
-use Rattle.ud_faults.specs.declared.run.RunFault.{RunFault}
+-- The fate of a file, by the run over its text.
+use Rattle.std.proofs.Common.{◌≡◌, ℕ, List, [], Bool, true, false, Result, Ok, Err, refl, sym, ◌∙◌, subst}
+use Rattle.ud_replace.specs.declared.error.Update.{Update}
+use Rattle.ud_replace.specs.declared.error.Update.TheVariants.{Unchanged}
+use Rattle.ud_replace.specs.declared.error.ReplaceError.{ReplaceError}
+use Rattle.ud_replace.specs.declared.stat.FileStat.{FileStat}
+use Rattle.ud_replace.specs.declared.text_plan.TextRun.{TextRun}
+use Rattle.ud_replace.specs.Calls.{Call}
+use Rattle.ud_replace.specs.Replacing.{Puts, Judges, no_memory, faulty, same, differs}
+use Rattle.ud_replace.specs.TextOutcomes.{TextOptions, RunsOver, FailsOver, over_faulty, over_memory, IsOutputOf, output_of}
 
--- the outcome of a text that a reader gave, for a writer that was empty
-pub answers_for : (o : Options) (input text before left : List ℕ) (r s : Result Bool RunFault) → input ≡ text → before ≡ [] → r ≡ s →
-    RunAnswers o input (Some before) (Some left) r → RunAnswers o text (Some []) (Some left) s
-answers_for o input text before left r s p q e h =
-    subst (λ (u : Result Bool RunFault). RunAnswers o text (Some []) (Some left) u) e
-    (subst (λ (b : List ℕ). RunAnswers o text (Some b) (Some left) r) q
-    (subst (λ (t : List ℕ). RunAnswers o t (Some before) (Some left) r) p h))
+-- A text over which the run failed is left alone.
+pub judges_failed : {o : TextOptions} {into : Bool} {name fresh text : List ℕ} {stat : FileStat} {calls : List Call} {e : ReplaceError} →
+    FailsOver o text e → Judges o into name fresh text stat calls calls (Err e)
+judges_failed (over_faulty r f has is some) = faulty r f has is some refl
+judges_failed over_memory = no_memory refl
+
+-- A text whose output is the text itself is left alone.
+pub judges_same : {o : TextOptions} {into : Bool} {name fresh text before left : List ℕ} {stat : FileStat} {calls : List Call} {ran : TextRun} →
+    RunsOver o text before left ran → ran.differs ≡ false → Judges o into name fresh text stat calls calls (Ok Unchanged)
+judges_same h is = same h.outcome h.runs h.faultless (sym h.differs_is ∙ is) refl
+
+-- A text whose output differs is replaced by it.
+pub judges_differs : {o : TextOptions} {into : Bool} {name fresh text before left output : List ℕ} {stat : FileStat} {old new : List Call} {ran : TextRun} {r : Result Update ReplaceError} →
+    before ≡ [] → RunsOver o text before left ran → ran.differs ≡ true → output ≡ left → Puts into name fresh text output stat old new r →
+    Judges o into name fresh text stat old new r
+judges_differs {o = o} {into = into} {name = name} {fresh = fresh} {text = text} {before = before} {left = left} {stat = stat} {old = old} {new = new} {ran = ran} {r = r} none h is e p =
+    let whole : RunsOver o text [] left ran = subst (λ (b : List ℕ). RunsOver o text b left ran) none h in
+    differs whole.outcome whole.runs whole.faultless (sym whole.differs_is ∙ is)
+    (subst (λ (t : List ℕ). Puts into name fresh text t stat old new r) (e ∙ whole.appended) p)
+
+-- The output that was appended to nothing is that of the text.
+pub is_output : {o : TextOptions} {text before left : List ℕ} {ran : TextRun} {n : ℕ} → before ≡ [] → n ≡ ran.edited → RunsOver o text before left ran → IsOutputOf o text left n
+is_output {o = o} {text = text} {left = left} {ran = ran} none e h =
+    let whole : RunsOver o text [] left ran = subst (λ (b : List ℕ). RunsOver o text b left ran) none h in
+    output_of whole.outcome whole.runs whole.appended (e ∙ whole.edited_is)

@@ -1,15 +1,15 @@
 -- A relation between calls goes on from the calls that the step before made.
-use Rattle.std.proofs.Common.{◌≡◌, ℕ, List, ◌∷◌, Bool, true, false, not, Option, Result, Ok, Err, refl, sym, ◌∙◌, subst, true≢false}
+use Rattle.std.proofs.Common.{◌≡◌, ℕ, List, ◌∷◌, Bool, true, false, not, Result, Ok, Err, refl, sym, ◌∙◌, subst, true≢false}
 use Rattle.std.specs.Prelude.{bytes_eq}
 use Rattle.std.proofs.lemmas.Slice.Eq.{bytes_eq-Decides}
-use Rattle.ud_model.specs.sections.Items.{Options}
 use Rattle.ud_faults.specs.declared.run.RunFault.{RunFault}
 use Rattle.ud_replace.specs.declared.error.Update.{Update}
 use Rattle.ud_replace.specs.declared.error.ReplaceError.{ReplaceError}
 use Rattle.ud_replace.specs.declared.stat.FileStat.{FileStat}
 use Rattle.ud_replace.specs.Calls.{Call, synced, given, renamed}
+use Rattle.ud_replace.specs.TextOutcomes.{TextOptions}
 use Rattle.ud_replace.specs.Filling.{AppendsAll, LooksAgain, Confirms, Fills, filled, not_renamed}
-use Rattle.ud_replace.specs.Replacing.{Overwrites, Renames, Puts, Judges}
+use Rattle.ud_replace.specs.Replacing.{Overwrites, Renames, Judges}
 
 pub looks_from : {name : List ℕ} {stat : FileStat} {old base new : List Call} {b : Bool} → old ≡ base → LooksAgain name stat old new b → LooksAgain name stat base new b
 looks_from {name = name} {stat = stat} {new = new} {b = b} e h = subst (λ (l : List Call). LooksAgain name stat l new b) e h
@@ -30,16 +30,10 @@ pub renames_from : {into : Bool} {name fresh before text : List ℕ} {stat : Fil
 renames_from {into = into} {name = name} {fresh = fresh} {before = before} {text = text} {stat = stat} {new = new} {r = r} e h =
     subst (λ (l : List Call). Renames into name fresh before text stat l new r) e h
 
-pub judges_from : {o : Options} {into : Bool} {name fresh text : List ℕ} {stat : FileStat} {old base new : List Call} {r : Result Update ReplaceError} → old ≡ base →
+pub judges_from : {o : TextOptions} {into : Bool} {name fresh text : List ℕ} {stat : FileStat} {old base new : List Call} {r : Result Update ReplaceError} → old ≡ base →
     Judges o into name fresh text stat old new r → Judges o into name fresh text stat base new r
 judges_from {o = o} {into = into} {name = name} {fresh = fresh} {text = text} {stat = stat} {new = new} {r = r} e h =
     subst (λ (l : List Call). Judges o into name fresh text stat l new r) e h
-
--- the same bytes under another name
-pub puts_output : {into : Bool} {name fresh before text output : List ℕ} {stat : FileStat} {old new : List Call} {r : Result Update ReplaceError} → text ≡ output →
-    Puts into name fresh before text stat old new r → Puts into name fresh before output stat old new r
-puts_output {into = into} {name = name} {fresh = fresh} {before = before} {stat = stat} {old = old} {new = new} {r = r} e h =
-    subst (λ (t : List ℕ). Puts into name fresh before t stat old new r) e h
 
 -- a stream whose failure would be another error hasn't failed
 pub works : (failed : Bool) (r : Result Bool RunFault) (e f : RunFault) → (failed ≡ true → r ≡ Err e) → r ≡ Err f → (f ≡ e → ⊥) → failed ≡ false

@@ -15,12 +15,11 @@
 use Rattle.std.specs.Prelude.{◌≡◌, ◌⊎◌, ℕ, List, [], ◌∷◌, ◌++◌, take, Bool, true, false, ◌||◌}
 use Rattle.std.specs.Prelude.{Option, Some, None, Ok, Err, bytes_eq, if◌then◌else◌}
 use Rattle.std.specs.Prelude.{option_map}
-use Rattle.ud_model.specs.sections.Items.{Options}
-use Rattle.ud_model.specs.answer.Outcomes.{Outcome, HasOutcome}
 use Rattle.ud_replace.specs.declared.stat.FileStat.{FileStat}
 use Rattle.ud_replace.specs.Calls.{Call, was_read, asked, made, appended, given, synced, looked}
 use Rattle.ud_replace.specs.Calls.{renamed, overwrote, removed, walked}
 use Rattle.ud_replace.specs.Filling.{Takes, Confirms}
+use Rattle.ud_replace.specs.TextOutcomes.{TextOptions, TextOutcome, HasTextOutcome}
 
 -- `Files`: the bytes of each file, by its name; `None` if no file has the name.
 abbrev pub Files : Type 0
@@ -81,22 +80,22 @@ pub data EachCall (P : Call → List Call → Type 0) (old : List Call) : List C
       EachCall P old (c ∷ calls)
 
 -- `HasOutput o bytes found`: `found` is the output for `bytes`, which have no fault.
-pub record HasOutput (o : Options) (bytes : List ℕ) (found : Option (List ℕ)) : Type 0 where
-  pub outcome : Outcome
-  pub has : HasOutcome o bytes outcome
+pub record HasOutput (o : TextOptions) (bytes : List ℕ) (found : Option (List ℕ)) : Type 0 where
+  pub outcome : TextOutcome
+  pub has : HasTextOutcome o bytes outcome
   pub no_fault : outcome.fault ≡ None
   pub is_output : found ≡ Some outcome.output
 
 -- `OldOrNew o name first old calls`: each file that there was after `old` has the same bytes after
 -- `calls`; or it is that of `name`, and has the output for them.
-abbrev pub OldOrNew : Options → List ℕ → Files → List Call → List Call → Type 0
+abbrev pub OldOrNew : TextOptions → List ℕ → Files → List Call → List Call → Type 0
 OldOrNew o name first old calls = (n bytes : List ℕ) → content first old n ≡ Some bytes →
     (content first calls n ≡ Some bytes)
     ⊎ ((n ≡ name) × HasOutput o bytes (content first calls n))
 
 -- `StaysOldOrNew o name first old new`: after each call since `old`, each file has its old bytes or
 -- the output for them.
-abbrev pub StaysOldOrNew : Options → List ℕ → Files → List Call → List Call → Type 0
+abbrev pub StaysOldOrNew : TextOptions → List ℕ → Files → List Call → List Call → Type 0
 StaysOldOrNew o name first old new =
     EachCall (λ c earlier. OldOrNew o name first old (c ∷ earlier)) old new
 
@@ -118,11 +117,11 @@ touches (walked w) n = false
 -- allowed to write into it. Then `fresh` was made, and took all of the output for the bytes that
 -- were read. It got the mode and owner of `name`, and its bytes reached the disk. At last `name`
 -- was read again, and it still had the same bytes.
-pub record TookOutput (o : Options) (name fresh : List ℕ) (old calls : List Call) : Type 0 where
+pub record TookOutput (o : TextOptions) (name fresh : List ℕ) (old calls : List Call) : Type 0 where
   pub text : List ℕ
   pub stat : FileStat
-  pub outcome : Outcome
-  pub has : HasOutcome o text outcome
+  pub outcome : TextOutcome
+  pub has : HasTextOutcome o text outcome
   pub no_fault : outcome.fault ≡ None
   pub taken : List Call
   pub took : Takes fresh (made fresh (Ok tt) ∷ asked name true ∷ was_read name text (Some stat) ∷
@@ -132,7 +131,7 @@ pub record TookOutput (o : Options) (name fresh : List ℕ) (old calls : List Ca
 
 -- `TouchesFreshOnly o name fresh old c earlier`: after `earlier`, the call `c` touches no file but
 -- `fresh`. Or it is the rename of `fresh` to `name`, and `fresh` took the whole output.
-abbrev pub TouchesFreshOnly : Options → List ℕ → List ℕ → List Call → Call → List Call → Type 0
+abbrev pub TouchesFreshOnly : TextOptions → List ℕ → List ℕ → List Call → Call → List Call → Type 0
 TouchesFreshOnly o name fresh old c earlier =
     ((n : List ℕ) → touches c n ≡ true → n ≡ fresh)
     ⊎ ((ok : Bool) × (c ≡ renamed fresh name ok) × TookOutput o name fresh old earlier)

@@ -5,15 +5,12 @@
 --   Puts into name fresh before text stat old new r      one of the two
 --   Judges o into name fresh text stat old new r         what follows once the file is read
 --   Replaces o into id name fresh old new r              all calls of `replace`, which returned `r`
---   IsOutputOf o text output                             the output of the outcome of a text
---   Keeps o into id name fresh old new r text output     the same calls, the text and the output
+--   Keeps o into id name fresh old new r text output edited   the same calls, with the output
 --   RenamesAt, PutsAt, JudgesAt, ReplacesAt, KeepsAt     the same of a `Target`
 --
 -- `old` and `new` are the calls before and after, the newest first.
 use Rattle.std.specs.Prelude.{◌≡◌, ◌⊎◌, ℕ, ◌<◌, ◌≤◌, List, ◌∷◌, Bool, true, false}
 use Rattle.std.specs.Prelude.{Some, None, Result, Ok, Err}
-use Rattle.ud_model.specs.sections.Items.{Options}
-use Rattle.ud_model.specs.answer.Outcomes.{Outcome, HasOutcome}
 use Rattle.ud_faults.specs.declared.run.RunFault.{RunFault}
 use Rattle.ud_engine.specs.Finishing.{text_fault_of}
 use Rattle.ud_replace.specs.declared.error.Update.{Update}
@@ -30,6 +27,7 @@ use Rattle.ud_replace.specs.declared.stat.FileStat.{FileStat}
 use Rattle.ud_replace.specs.declared.replacement.Target.{Target}
 use Rattle.ud_replace.specs.Calls.{Call, was_read, asked, made, overwrote, removed}
 use Rattle.ud_replace.specs.Stats.{is_of}
+use Rattle.ud_replace.specs.TextOutcomes.{TextOptions, TextOutcome, HasTextOutcome, IsOutputOf}
 use Rattle.ud_replace.specs.Filling.{Confirms, Fills}
 
 -- `Overwrites name before text stat old new r`: the file was confirmed to have the bytes `before`
@@ -94,20 +92,20 @@ pub data Puts (into : Bool) (name fresh before text : List ℕ) (stat : FileStat
 
 -- `Judges o into name fresh text stat old new r`: no call was made, unless the outcome of `text`
 -- has no fault and differs. Then the file was replaced by the output of that outcome.
-pub data Judges (o : Options) (into : Bool) (name fresh text : List ℕ) (stat : FileStat)
+pub data Judges (o : TextOptions) (into : Bool) (name fresh text : List ℕ) (stat : FileStat)
     (old new : List Call) : Result Update ReplaceError → Type 0 where
   no_memory : new ≡ old → Judges o into name fresh text stat old new (Err OutOfMemory)
-  faulty : (a : Outcome) (f : RunFault) → HasOutcome o text a → a.fault ≡ text_fault_of f →
+  faulty : (a : TextOutcome) (f : RunFault) → HasTextOutcome o text a → a.fault ≡ text_fault_of f →
       ¬ (a.fault ≡ None) → new ≡ old → Judges o into name fresh text stat old new (Err (Text f))
-  same : (a : Outcome) → HasOutcome o text a → a.fault ≡ None → a.differs ≡ false → new ≡ old →
-      Judges o into name fresh text stat old new (Ok Unchanged)
-  differs : {r : Result Update ReplaceError} (a : Outcome) → HasOutcome o text a →
+  same : (a : TextOutcome) → HasTextOutcome o text a → a.fault ≡ None → a.differs ≡ false →
+      new ≡ old → Judges o into name fresh text stat old new (Ok Unchanged)
+  differs : {r : Result Update ReplaceError} (a : TextOutcome) → HasTextOutcome o text a →
       a.fault ≡ None → a.differs ≡ true → Puts into name fresh text a.output stat old new r →
       Judges o into name fresh text stat old new r
 
 -- `Replaces o into id name fresh old new r`: the file was read once, and it was the file `id`. The
 -- rest goes by its text.
-pub data Replaces (o : Options) (into : Bool) (id : FileId) (name fresh : List ℕ)
+pub data Replaces (o : TextOptions) (into : Bool) (id : FileId) (name fresh : List ℕ)
     (old new : List Call) : Result Update ReplaceError → Type 0 where
   unread : (text : List ℕ) → new ≡ was_read name text None ∷ old →
       Replaces o into id name fresh old new (Err Read)
@@ -119,17 +117,15 @@ pub data Replaces (o : Options) (into : Bool) (id : FileId) (name fresh : List �
       Judges o into name fresh text stat (was_read name text (Some stat) ∷ old) new r →
       Replaces o into id name fresh old new r
 
--- `IsOutputOf o text output`: `output` is that of the outcome of `text`.
-pub data IsOutputOf (o : Options) (text output : List ℕ) : Type 0 where
-  output_of : (a : Outcome) → HasOutcome o text a → output ≡ a.output → IsOutputOf o text output
-
--- `Keeps o into id name fresh old new r text output`: the file `id` was read once, and the rest
--- went by its `text`. `output` is that of the outcome of this text.
-pub data Keeps (o : Options) (into : Bool) (id : FileId) (name fresh : List ℕ)
-    (old new : List Call) (r : Result Update ReplaceError) (text output : List ℕ) : Type 0 where
+-- `Keeps o into id name fresh old new r text output edited`: the file `id` was read once, and the
+-- rest went by its `text`. `output` and `edited` are those of the outcome of this text.
+pub data Keeps (o : TextOptions) (into : Bool) (id : FileId) (name fresh : List ℕ)
+    (old new : List Call) (r : Result Update ReplaceError) (text output : List ℕ) (edited : ℕ) :
+    Type 0 where
   keeps : (stat : FileStat) → is_of id stat ≡ true →
       Judges o into name fresh text stat (was_read name text (Some stat) ∷ old) new r →
-      IsOutputOf o text output → Keeps o into id name fresh old new r text output
+      IsOutputOf o text output edited →
+      Keeps o into id name fresh old new r text output edited
 
 -- `RenamesAt target before text stat old new r`: the calls of `Renames` for this target.
 abbrev pub RenamesAt : Target → List ℕ → List ℕ → FileStat → List Call → List Call →
@@ -142,16 +138,16 @@ abbrev pub PutsAt : Target → List ℕ → List ℕ → FileStat → List Call 
 PutsAt t before text = Puts t.write_into t.name.now t.fresh.now before text
 
 -- `JudgesAt o target text stat old new r`: the calls of `Judges` for this target.
-abbrev pub JudgesAt : Options → Target → List ℕ → FileStat → List Call → List Call →
+abbrev pub JudgesAt : TextOptions → Target → List ℕ → FileStat → List Call → List Call →
     Result Update ReplaceError → Type 0
 JudgesAt o t text = Judges o t.write_into t.name.now t.fresh.now text
 
 -- `ReplacesAt o target old new r`: the calls of `Replaces` for this target.
-abbrev pub ReplacesAt : Options → Target → List Call → List Call →
+abbrev pub ReplacesAt : TextOptions → Target → List Call → List Call →
     Result Update ReplaceError → Type 0
 ReplacesAt o t = Replaces o t.write_into t.id t.name.now t.fresh.now
 
--- `KeepsAt o target old new r text output`: the calls of `Keeps` for this target.
-abbrev pub KeepsAt : Options → Target → List Call → List Call → Result Update ReplaceError →
-    List ℕ → List ℕ → Type 0
+-- `KeepsAt o target old new r text output edited`: the calls of `Keeps` for this target.
+abbrev pub KeepsAt : TextOptions → Target → List Call → List Call → Result Update ReplaceError →
+    List ℕ → List ℕ → ℕ → Type 0
 KeepsAt o t = Keeps o t.write_into t.id t.name.now t.fresh.now

@@ -1,7 +1,6 @@
 //! What the calls of `replace` come to: functions without a body, whose contracts are theorems.
 
 ghost use Rattle.std.specs.Prelude.{◌≡◌, ◌∷◌, List, Result, Option, Some, ℕ, false};
-ghost use Rattle.ud_model.specs.sections.Items.{Options};
 ghost use Rattle.ud_replace.specs.declared.error.Update.{Update};
 ghost use Rattle.ud_replace.specs.declared.error.ReplaceError.{ReplaceError};
 ghost use Rattle.ud_replace.specs.declared.node.FileId.{FileId};
@@ -9,12 +8,13 @@ ghost use Rattle.ud_replace.specs.Calls.{Call};
 ghost use Rattle.ud_replace.specs.Replacing.{Replaces};
 ghost use Rattle.ud_replace.specs.Moments.{Files, AreTrue, EachCall, StaysOldOrNew};
 ghost use Rattle.ud_replace.specs.Moments.{TouchesFreshOnly};
+ghost use Rattle.ud_replace.specs.TextOutcomes.{TextOptions};
 
 /// Whatever a folder answers, no call but the rename touches a file other than `fresh`. The rename
 /// comes after `fresh` took the whole output and its bytes reached the disk, and after the file was
 /// read again with the same bytes. Writing into files isn't allowed here.
 pub fn law_one_rename()
-    ensures { (o : Options) (id : FileId) (name fresh : List ℕ) (old new : List Call)
+    ensures { (o : TextOptions) (id : FileId) (name fresh : List ℕ) (old new : List Call)
         (r : Result Update ReplaceError) → Replaces o false id name fresh old new r →
         EachCall (TouchesFreshOnly o name fresh old) old new }
 {}
@@ -23,7 +23,7 @@ pub fn law_one_rename()
 /// call. A process that is killed between two calls leaves such a state. Writing into files isn't
 /// allowed here.
 pub fn law_old_or_new()
-    ensures { (o : Options) (f : Files) (id : FileId) (name fresh : List ℕ) (old new : List Call)
-        (r : Result Update ReplaceError) → Replaces o false id name fresh old new r →
-        AreTrue f new → StaysOldOrNew o name f old new }
+    ensures { (o : TextOptions) (f : Files) (id : FileId) (name fresh : List ℕ)
+        (old new : List Call) (r : Result Update ReplaceError) →
+        Replaces o false id name fresh old new r → AreTrue f new → StaysOldOrNew o name f old new }
 {}

@@ -17,6 +17,8 @@ mod laws;
 mod node;
 mod replacement;
 mod stat;
+mod text_plan;
+mod text_run;
 
 pub use call::{FolderCall, FolderWalk};
 pub use error::{ReplaceError, Update};
@@ -26,3 +28,5 @@ pub use laws::{law_old_or_new, law_one_rename};
 pub use node::{FileId, Lookup, Node, NodeKind};
 pub use replacement::{Target, replace, replace_keeping};
 pub use stat::{FileStat, FileTime, FileVersion};
+pub use text_plan::{TextPlan, TextRun};
+pub use text_run::run_text;

@@ -1,20 +1,21 @@
 //! Replacing one file by the output for it.
 
 ghost use Rattle.std.specs.Prelude.{◌≡◌, ◌<◌, List, [], true, false, is_ok};
-ghost use Rattle.ud_args.specs.Plans.{ForOptionsOf};
 ghost use Rattle.ud_replace.specs.Calls.{Call};
 ghost use Rattle.ud_replace.specs.Filling.{LooksAgain, Confirms, Fills};
 ghost use Rattle.ud_replace.specs.Replacing.{Overwrites, RenamesAt, PutsAt, JudgesAt, ReplacesAt};
-ghost use Rattle.ud_replace.specs.Replacing.{IsOutputOf, KeepsAt};
+ghost use Rattle.ud_replace.specs.Replacing.{KeepsAt};
+ghost use Rattle.ud_replace.specs.TextOutcomes.{TextOptions, IsPlanned, IsOutputOf};
 
 use crate::append::append_all;
 use crate::error::{ReplaceError, Update};
 use crate::folder::{CreateError, Folder};
 use crate::node::FileId;
 use crate::stat::FileStat;
+use crate::text_plan::TextPlan;
+use crate::text_run::run_text;
 use std::alloc::Global;
-use ud_args::Plan;
-use ud_engine::{RunFault, Watched, run};
+use ud_engine::Watched;
 
 /// A file that is to be replaced.
 #[derive(Clone, Copy)]
@@ -73,40 +74,50 @@ struct Before<'a> {
 ///   bytes could be.
 pub fn replace<F: Folder>(
     alloc: Global,
-    plan: &Plan,
+    plan: &TextPlan,
     folder: &mut F,
     target: &Target<'_>,
 ) -> Result<Update, ReplaceError>
-    ensures calls { ForOptionsOf plan.now (λ o. ReplacesAt o target.now (F.history folder.old)
-        (F.history folder.new) result) }
+    ensures calls { (o : TextOptions) → IsPlanned plan.now o → ReplacesAt o target.now
+        (F.history folder.old) (F.history folder.new) result }
 {
     let mut text = Vec::new(alloc);
     let mut out = Watched::new(Vec::<u8>::new(alloc));
-    replace_keeping(alloc, plan, folder, target, &mut text, &mut out)
+    let mut edited = 0;
+    replace_keeping(
+        alloc,
+        plan,
+        folder,
+        target,
+        &mut text,
+        &mut out,
+        &mut edited,
+    )
 }
 
 /// Replaces a file as `replace` does. Leaves its text in `text` and the output for it in `out`,
-/// which are empty before. The output is that of the text that was read, also if the file is
-/// unchanged.
+/// which are empty before, and in `edited` the number of conditions of the output that were edited.
+/// The output is that of the text that was read, also if the file is unchanged.
 ///
 /// # Errors
-/// As `replace`. Then `text` and `out` may have any bytes.
+/// As `replace`. Then `text` and `out` may have any bytes, and `edited` any number.
 pub fn replace_keeping<F: Folder>(
     alloc: Global,
-    plan: &Plan,
+    plan: &TextPlan,
     folder: &mut F,
     target: &Target<'_>,
     text: &mut Vec<u8>,
     out: &mut Watched<Vec<u8>>,
+    edited: &mut usize,
 ) -> Result<Update, ReplaceError>
     requires unread { text.old.items ≡ [] }
     requires empty { out.old.inner.items ≡ [] }
     requires not_failed { out.old.failed ≡ false }
-    ensures calls { ForOptionsOf plan.now (λ o. ReplacesAt o target.now (F.history folder.old)
-        (F.history folder.new) result) }
-    ensures output { ForOptionsOf plan.now (λ o. is_ok result ≡ true → KeepsAt o target.now
-        (F.history folder.old) (F.history folder.new) result text.new.items
-        out.new.inner.items) }
+    ensures calls { (o : TextOptions) → IsPlanned plan.now o → ReplacesAt o target.now
+        (F.history folder.old) (F.history folder.new) result }
+    ensures output { (o : TextOptions) → IsPlanned plan.now o → is_ok result ≡ true →
+        KeepsAt o target.now (F.history folder.old) (F.history folder.new) result text.new.items
+        out.new.inner.items edited.new }
 {
     match folder.read(target.name, text) {
         None => Err(ReplaceError::Read),
@@ -115,33 +126,44 @@ pub fn replace_keeping<F: Folder>(
                 return Err(ReplaceError::ChangedMeanwhile);
             }
             let text = text.as_slice();
-            replace_text(plan, folder, target, &Before { alloc, text, stat }, out)
+            replace_text(
+                plan,
+                folder,
+                target,
+                &Before { alloc, text, stat },
+                out,
+                edited,
+            )
         }
     }
 }
 
 /// Replaces a file whose text was read.
 fn replace_text<F: Folder>(
-    plan: &Plan,
+    plan: &TextPlan,
     folder: &mut F,
     target: &Target<'_>,
     before: &Before<'_>,
     out: &mut Watched<Vec<u8>>,
+    edited: &mut usize,
 ) -> Result<Update, ReplaceError>
     requires empty { out.old.inner.items ≡ [] }
     requires not_failed { out.old.failed ≡ false }
-    ensures calls { ForOptionsOf plan.now (λ o. JudgesAt o target.now before.now.text.now
-        before.now.stat (F.history folder.old) (F.history folder.new) result) }
-    ensures output { ForOptionsOf plan.now (λ o. is_ok result ≡ true →
-        IsOutputOf o before.now.text.now out.new.inner.items) }
+    ensures calls { (o : TextOptions) → IsPlanned plan.now o → JudgesAt o target.now
+        before.now.text.now before.now.stat (F.history folder.old) (F.history folder.new) result }
+    ensures output { (o : TextOptions) → IsPlanned plan.now o → is_ok result ≡ true →
+        IsOutputOf o before.now.text.now out.new.inner.items edited.new }
 {
-    let mut reader = Watched::new(before.text);
-    match run(plan, &mut reader, out) {
-        Ok(false) => Ok(Update::Unchanged),
-        Ok(true) => put(folder, target, before, out.inner().as_slice()),
-        Err(RunFault::Read | RunFault::Write) => Err(ReplaceError::OutOfMemory),
-        Err(RunFault::Text(fault)) => Err(ReplaceError::Text(RunFault::Text(fault))),
-        Err(RunFault::Section(fault)) => Err(ReplaceError::Text(RunFault::Section(fault))),
+    match run_text(before.alloc, plan, before.text, out) {
+        Err(error) => Err(error),
+        Ok(ran) => {
+            *edited = ran.edited;
+            if ran.differs {
+                put(folder, target, before, out.inner().as_slice())
+            } else {
+                Ok(Update::Unchanged)
+            }
+        }
     }
 }
 

@@ -15,7 +15,7 @@ use Rattle.ud_tree.specs.declared.arguments.Arguments.{Arguments}
 use Rattle.ud_tree.specs.declared.arguments.Task.{Task}
 use Rattle.ud_tree.specs.declared.arguments.Task.TheVariants.{Names}
 use Rattle.ud_tree.specs.Fates.{is_changed, is_same, is_faulty}
-use Rattle.ud_tree.specs.Runs.{fate_of, FileResult, Unshown, EachFile, no_file, then_file, changed_in, faulty_in, shown_of, told_of, Counted, names_of}
+use Rattle.ud_tree.specs.Runs.{fate_of, FileResult, Unshown, EachFile, no_file, then_file, changed_in, faulty_in, edited_in, shown_of, told_of, Counted, names_of}
 use Rattle.ud_tree.specs.Statuses.{tree_status}
 use Rattle.ud_tree.specs.Streams.{Stream, Sends, StreamEnds, Source}
 use Rattle.ud_tree.specs.declared.job.Job.{Job}
@@ -47,9 +47,9 @@ told_push results r =
 
 -- No file has been processed yet.
 counted_none : {P : List ℕ → List Call → List Call → FileResult → Type 0} {old : List Call} (counts : Counts) →
-    counts.changed ≡ 0 → counts.unchanged ≡ 0 → counts.faulty ≡ 0 → Counted P old [] old counts [] []
-counted_none counts a b c =
-    record { results = []; each = no_file; counts_are = record { changed = a; unchanged = b; faulty = c }; shown_is = refl; told_is = refl }
+    counts.changed ≡ 0 → counts.unchanged ≡ 0 → counts.faulty ≡ 0 → counts.edited ≡ 0 → Counted P old [] old counts [] []
+counted_none counts a b c d =
+    record { results = []; each = no_file; counts_are = record { changed = a; unchanged = b; faulty = c; edited = λ small. d }; shown_is = refl; told_is = refl }
 
 -- The path of a file more follows those of the files before.
 pub names_push : (files : List Found) (i : ℕ) (f : Found) → i < length files → f ≡ get_or files i f →
@@ -59,6 +59,13 @@ names_push files i f within is =
     ∙ map-append (λ (g : Found). string_bytes g.path) (take i files) (get_or files i f ∷ [])
     ∙ ap (λ (g : Found). names_of (take i files) ++ string_bytes g.path ∷ []) (sym is)
 
+-- The edited conditions of one file more are counted.
+edits_push : (s t b n a : ℕ) → t ≡ s + n → (s < 2 ^ 64 → b ≡ s) → (b + n < 2 ^ 64 → a ≡ b + n) → t < 2 ^ 64 → a ≡ t
+edits_push s t b n a e f g small =
+    let is : b ≡ s = f (omega arith) in
+    let sum : a ≡ b + n = g (omega arith) in
+    omega arith
+
 -- One file more is processed and counted.
 counted_push : {P : List ℕ → List Call → List Call → FileResult → Type 0} {old mid new : List Call} {before : Counts} {shown told : List ℕ}
     (files : List Found) (i : ℕ) (f : Found) (name : List ℕ) (r : FileResult) (after : Counts) → i < length files → f ≡ get_or files i f →
@@ -66,8 +73,9 @@ counted_push : {P : List ℕ → List Call → List Call → FileResult → Type
     after.changed ≡ before.changed + cond (is_changed (fate_of r.update)) 1 0 →
     after.unchanged ≡ before.unchanged + cond (is_same (fate_of r.update)) 1 0 →
     after.faulty ≡ before.faulty + cond (is_faulty (fate_of r.update)) 1 0 →
+    (before.edited + r.edited < 2 ^ 64 → after.edited ≡ before.edited + r.edited) →
     Counted P old (names_of (take (i + 1) files)) new after (shown ++ r.shown) (told ++ r.told)
-counted_push {P = P} {old = old} {mid = mid} {new = new} {before = before} {shown = shown} files i f name r after within is named h p t a b c =
+counted_push {P = P} {old = old} {mid = mid} {new = new} {before = before} {shown = shown} files i f name r after within is named h p t a b c d =
     let named_names : names_of (take i files) ++ name ∷ [] ≡ names_of (take (i + 1) files) =
     ap (λ (n : List ℕ). names_of (take i files) ++ n ∷ []) named ∙ sym (names_push files i f within is) in
     let e : EachFile P old (names_of (take i files) ++ name ∷ []) new (h.results ++ r ∷ []) = then_file h.each p t in
@@ -79,6 +87,7 @@ counted_push {P = P} {old = old} {mid = mid} {new = new} {before = before} {show
         changed = a ∙ ap (λ (n : ℕ). n + cond (is_changed (fate_of r.update)) 1 0) k.changed ∙ sym (count_push is_changed h.results r);
         unchanged = b ∙ ap (λ (n : ℕ). n + cond (is_same (fate_of r.update)) 1 0) k.unchanged ∙ sym (count_push is_same h.results r);
         faulty = c ∙ ap (λ (n : ℕ). n + cond (is_faulty (fate_of r.update)) 1 0) k.faulty ∙ sym (count_push is_faulty h.results r);
+        edited = edits_push (edited_in h.results) (edited_in (h.results ++ r ∷ [])) before.edited r.edited after.edited (sum_by_push (λ (s : FileResult). s.edited) h.results r) k.edited d;
       };
       shown_is = ap (λ (x : List ℕ). x ++ r.shown) h.shown_is ∙ sym (shown_push h.results r);
       told_is = ap (λ (x : List ℕ). x ++ r.told) h.told_is ∙ sym (told_push h.results r);
@@ -93,28 +102,29 @@ counted_all {P = P} {old = old} {new = new} {counts = counts} {shown = shown} {t
 
 -- No file has been processed, and nothing was written.
 pub writes_none : {P : List ℕ → List Call → List Call → FileResult → Type 0} {m : Moment} {r : Report} (counts : Counts) →
-    counts.changed ≡ 0 → counts.unchanged ≡ 0 → counts.faulty ≡ 0 → WritesAll P m [] r m r counts
-writes_none {m = m} counts a b c =
-    record { shown = []; told = []; counted = counted_none counts a b c; sent = sends_none m.out; tells = tells_kept m.err refl refl }
+    counts.changed ≡ 0 → counts.unchanged ≡ 0 → counts.faulty ≡ 0 → counts.edited ≡ 0 → WritesAll P m [] r m r counts
+writes_none {m = m} counts a b c d =
+    record { shown = []; told = []; counted = counted_none counts a b c d; sent = sends_none m.out; tells = tells_kept m.err refl refl }
 
 -- One file more is processed, and what is shown and told of it was written, after the number of
 -- files was shown.
 pub writes_push : {P : List ℕ → List Call → List Call → FileResult → Type 0} {old mid new : Moment} {next : Stream} {r mid_report next_report file_report after_report : Report} {before : Counts}
-    (files : List Found) (i : ℕ) (f : Found) (name : List ℕ) (update : Result Update ReplaceError) (fate : Fate) (after : Counts) → i < length files → f ≡ get_or files i f →
+    (files : List Found) (i : ℕ) (f : Found) (name : List ℕ) (update : Result Update ReplaceError) (edited : ℕ) (fate : Fate) (after : Counts) → i < length files → f ≡ get_or files i f →
     name ≡ string_bytes f.path → WritesAll P old (names_of (take i files)) r mid mid_report before →
     Tells mid_report next_report mid.err next [] → file_report.is_terminal ≡ next_report.is_terminal → file_report.is_shown ≡ next_report.is_shown →
-    WritesOne P name mid.calls new.calls mid.out new.out update → TellsResult name update file_report after_report next new.err → fate ≡ fate_of update →
+    WritesOne P name mid.calls new.calls mid.out new.out update edited → TellsResult name update file_report after_report next new.err → fate ≡ fate_of update →
     after.changed ≡ before.changed + cond (is_changed fate) 1 0 →
     after.unchanged ≡ before.unchanged + cond (is_same fate) 1 0 →
     after.faulty ≡ before.faulty + cond (is_faulty fate) 1 0 →
+    (before.edited + edited < 2 ^ 64 → after.edited ≡ before.edited + edited) →
     WritesAll P old (names_of (take (i + 1) files)) r new after_report after
-writes_push {next = next} files i f name update fate after within is named h progress terminal shown p t e a b c =
+writes_push {next = next} files i f name update edited fate after within is named h progress terminal shown p t e a b c d =
     let quiet = tells_then progress (tells_kept next terminal shown) in
     record {
       shown = h.shown ++ p.shown;
       told = h.told ++ t.told;
-      counted = counted_push files i f name (record { update = update; shown = p.shown; told = t.told }) after within is named h.counted (p.does t.told) t.is_told
-          (rw e at a) (rw e at b) (rw e at c);
+      counted = counted_push files i f name (record { update = update; shown = p.shown; told = t.told; edited = edited }) after within is named h.counted (p.does t.told) t.is_told
+          (rw e at a) (rw e at b) (rw e at c) d;
       sent = sends_then h.sent p.sent;
       tells = tells_then h.tells (tells_then quiet t.tells);
     }
@@ -126,15 +136,15 @@ writes_all files i is h =
     record { shown = h.shown; told = h.told; counted = counted_all files i is h.counted; sent = h.sent; tells = h.tells }
 
 -- A file was processed of which nothing is shown.
-pub writes_unshown : {P : List ℕ → List Call → List Call → Result Update ReplaceError → Type 0} {name : List ℕ} {calls calls' : List Call} {update : Result Update ReplaceError} (out : Stream) →
-    P name calls calls' update → WritesOne (Unshown P) name calls calls' out out update
-writes_unshown out h = record { shown = []; does = λ told. record { does = h; nothing = refl }; sent = sends_none out }
+pub writes_unshown : {P : List ℕ → List Call → List Call → Result Update ReplaceError → Type 0} {name : List ℕ} {calls calls' : List Call} {update : Result Update ReplaceError} (out : Stream) {n : ℕ} → n ≡ 0 →
+    P name calls calls' update → WritesOne (Unshown P) name calls calls' out out update n
+writes_unshown out none h = record { shown = []; does = λ told. record { does = h; nothing = refl; unedited = none }; sent = sends_none out }
 
 -- The task of the arguments does what they ask for.
-pub done_by : (t : Task) (args : Arguments) {name : List ℕ} {calls calls' : List Call} {out out' : Stream} {update : Result Update ReplaceError} →
-    args.task ≡ t → WritesOne (DoesBy t args) name calls calls' out out' update → WritesOne (DoesOne args) name calls calls' out out' update
-done_by t args {name = name} {calls = calls} {calls' = calls'} {out = out} {out' = out'} {update = update} is h =
-    subst (λ (u : Task). WritesOne (DoesBy u args) name calls calls' out out' update) (sym is) h
+pub done_by : (t : Task) (args : Arguments) {name : List ℕ} {calls calls' : List Call} {out out' : Stream} {update : Result Update ReplaceError} {n : ℕ} →
+    args.task ≡ t → WritesOne (DoesBy t args) name calls calls' out out' update n → WritesOne (DoesOne args) name calls calls' out out' update n
+done_by t args {name = name} {calls = calls} {calls' = calls'} {out = out} {out' = out'} {update = update} {n = n} is h =
+    subst (λ (u : Task). WritesOne (DoesBy u args) name calls calls' out out' update n) (sym is) h
 
 -- A list was written, if it is wanted.
 pub writes_list : (args : Arguments) {a b c : Stream} (names rest : List ℕ) → (¬ (args.task ≡ Names) → names ≡ []) → Sends a b names →
@@ -151,13 +161,13 @@ pub ends : (job : Job) (files : List Found) {old mid new : Moment} {listed liste
     TellsIf list_message lost mid_report list_report mid.err listed_err → Sends listed new.out [] → unwritten ≡ new.out.failed → (new.out.failed ≡ false → new.out.unflushed ≡ false) →
     (end : Stream) → TellsIf write_message unwritten list_report end_report listed_err end → TellsEnd job.arguments.now counts faults hidden end_report end new.err →
     new.calls ≡ mid.calls → counts.faulty ≤ faults → (in_walk + (cond lost 1 0 + cond unwritten 1 0) + counts.faulty < 2 ^ 64 → faults ≡ in_walk + (cond lost 1 0 + cond unwritten 1 0) + counts.faulty) →
-    (unheard : Bool) → unheard ≡ new.err.failed → status ≡ tree_status job.arguments.now.task job.arguments.now.plan.settings.exit_mode unheard faults counts.changed → (job.is_terminal ≡ false → IsPlain r) → EndsWriting job in_walk old files new status
+    (unheard : Bool) → unheard ≡ new.err.failed → status ≡ tree_status job.arguments.now.task job.arguments.now.plan.run.settings.exit_mode unheard faults counts.changed → (job.is_terminal ≡ false → IsPlain r) → EndsWriting job in_walk old files new status
 ends job files {old = old} {new = new} {counts = counts} lost unwritten in_walk faults hidden status w l t f failed flushed end u e same few all unheard heard is plain =
     let h = w.counted in
     let args = job.arguments.now in
     let of_output = joined (output_messages lost unwritten) in
     let both = tells_same (sym (output_told lost unwritten)) (tells_then t u) in
-    let last = last_lines args counts.changed counts.unchanged faults hidden e.remaining in
+    let last = last_lines args counts.changed counts.unchanged faults hidden counts.edited e.remaining in
     record {
       shown = w.shown ++ l.listed;
       told = (w.told ++ of_output) ++ last;
@@ -171,12 +181,14 @@ ends job files {old = old} {new = new} {counts = counts} lost unwritten in_walk 
         faults = faults;
         reported = rw (← h.counts_are.faulty) few;
         flushed = flushed;
-        status_is = is ∙ ap (tree_status args.task args.plan.settings.exit_mode unheard faults) h.counts_are.changed
-            ∙ ap (λ (b : Bool). tree_status args.task args.plan.settings.exit_mode b faults (changed_in h.results)) heard;
+        status_is = is ∙ ap (tree_status args.task args.plan.run.settings.exit_mode unheard faults) h.counts_are.changed
+            ∙ ap (λ (b : Bool). tree_status args.task args.plan.run.settings.exit_mode b faults (changed_in h.results)) heard;
         hidden = hidden;
+        edited = counts.edited;
+        edited_is = h.counts_are.edited;
         remaining = e.remaining;
-        last_is = ap (λ (x : ℕ). last_lines args x counts.unchanged faults hidden e.remaining) h.counts_are.changed
-            ∙ ap (λ (x : ℕ). last_lines args (changed_in h.results) x faults hidden e.remaining) h.counts_are.unchanged;
+        last_is = ap (λ (x : ℕ). last_lines args x counts.unchanged faults hidden counts.edited e.remaining) h.counts_are.changed
+            ∙ ap (λ (x : ℕ). last_lines args (changed_in h.results) x faults hidden counts.edited e.remaining) h.counts_are.unchanged;
         is_lost = lost;
         told_is = ap (λ (x : List ℕ). (x ++ of_output) ++ last) h.told_is ∙ ap (λ (b : Bool). (told_of h.results ++ joined (output_messages lost b)) ++ last) failed;
         faults_are = subst (λ (b : Bool). in_walk + length (output_messages lost b) + faulty_in h.results < 2 ^ 64 → faults ≡ in_walk + length (output_messages lost b) + faulty_in h.results) failed
@@ -215,6 +227,8 @@ ends_counted {streams = streams} n m same h = record {
   flushed = h.flushed;
   status_is = h.status_is;
   hidden = h.hidden;
+  edited = h.edited;
+  edited_is = h.edited_is;
   remaining = h.remaining;
   last_is = h.last_is;
   is_lost = h.is_lost;

@@ -48,7 +48,7 @@ pub run_clean : (run : Run) (shown told last : List ℕ) (status : ℕ) → ¬ (
     IsRun run.args run.given run.left run.old run.new run.messages run.streams shown told last status → IsClean run
 run_clean run _ _ _ _ other few (no_run h stops) = absurd (other refl)
 run_clean run shown told last status other few (ran text mid files takes misses w t some h) =
-    let both = none_by_status run.args.task run.args.plan.settings.exit_mode run.streams.unheard h.faults (changed_in h.results) status h.status_is other in
+    let both = none_by_status run.args.task run.args.plan.run.settings.exit_mode run.streams.unheard h.faults (changed_in h.results) status h.status_is other in
     let none : h.faults ≡ 0 = both.0 in
     let fine : faulty_in h.results ≡ 0 = omega (arith, h.reported) in
     let two : length (output_messages h.is_lost run.streams.failed) ≤ 2 = at_most_two h.is_lost run.streams.failed in

@@ -5,7 +5,7 @@ use Rattle.ud_tree.specs.declared.arguments.Arguments.{Arguments}
 use Rattle.ud_tree.specs.declared.counts.Counts.{Counts}
 use Rattle.ud_tree.specs.declared.arguments.Task.TheVariants.{Names}
 use Rattle.ud_tree.specs.Streams.{Stream, Sends}
-use Rattle.ud_tree.specs.Summaries.{line_of, changes_line, files_text, hidden_text, summary, remaining_text, remaining_line, last_lines, TellsEnd, Says}
+use Rattle.ud_tree.specs.Summaries.{line_of, changes_line, files_text, hidden_text, summary, remaining_text, remaining_line, edited_line, edited_text, last_lines, TellsEnd, Says}
 use Rattle.ud_tree.specs.Visible.{visible}
 use Rattle.ud_tree.proofs.StreamLemmas.{sends_none, sends_then, sends_same}
 
@@ -83,20 +83,32 @@ said_unshown {err' = err'} {bytes = bytes} h hidden = subst (λ (s : Stream). Se
 -- A quiet run ends with nothing.
 pub ends_quiet : (args : Arguments) (counts : Counts) (faults hidden : ℕ) (old : Report) (err : Stream) → args.quiet ≡ true → TellsEnd args counts faults hidden old err err
 ends_quiet args counts faults hidden old err quiet =
-    let none : Sends err err (last_lines args counts.changed counts.unchanged faults hidden 0) =
-    sends_same (sym (ap (λ (b : Bool). cond b [] (summary args.task counts.changed counts.unchanged faults hidden ++ remaining_line args.list_remaining 0)) quiet)) (sends_none err) in
+    let none : Sends err err (last_lines args counts.changed counts.unchanged faults hidden counts.edited 0) =
+    sends_same (sym (ap (λ (b : Bool). cond b [] (summary args.task counts.changed counts.unchanged faults hidden ++ edited_line args.plan.prunes counts.edited ++ remaining_line args.list_remaining 0)) quiet)) (sends_none err) in
     record { remaining = 0; told = (err, none); alone = λ e. none }
 
--- Other runs end with the two lines.
-pub ends_told : (args : Arguments) (counts : Counts) (faults hidden remaining : ℕ) {old new : Report} {err mid err' : Stream} → args.quiet ≡ false →
-    Says old new err mid (summary args.task counts.changed counts.unchanged faults hidden) → (new.is_shown ≡ false → Sends mid err' (remaining_line args.list_remaining remaining)) →
+-- The number of edited conditions isn't wanted.
+pub edited_none : (prunes : Bool) (count : ℕ) → prunes ≡ false → edited_line prunes count ≡ []
+edited_none prunes count off = subst (λ (b : Bool). edited_line b count ≡ []) (sym off) refl
+
+-- The line with the number of edited conditions.
+pub edited_told : (prunes : Bool) (count : ℕ) (number text : List ℕ) → prunes ≡ true → number ≡ decimal count → text ≡ edited_text count →
+    line_of (number ++ (text ++ [])) ≡ edited_line prunes count
+edited_told prunes count number text on p q =
+    subst (λ (b : Bool). line_of (number ++ (text ++ [])) ≡ edited_line b count) (sym on)
+    (ap (λ x. line_of (x ++ (text ++ []))) p ∙ ap (λ x. line_of (decimal count ++ (x ++ []))) q ∙ ap (λ x. line_of (decimal count ++ x)) (append-nil (edited_text count)))
+
+-- Other runs end with the three lines.
+pub ends_told : (args : Arguments) (counts : Counts) (faults hidden remaining : ℕ) {old new : Report} (next : Report) {err mid other err' : Stream} → args.quiet ≡ false →
+    Says old new err mid (summary args.task counts.changed counts.unchanged faults hidden) → (new.is_shown ≡ false → Sends mid other (edited_line args.plan.prunes counts.edited)) →
+    (new.is_shown ≡ false → next.is_shown ≡ false) → (next.is_shown ≡ false → Sends other err' (remaining_line args.list_remaining remaining)) →
     TellsEnd args counts faults hidden old err err'
-ends_told args counts faults hidden remaining {err = err} {err' = err'} loud h k =
-    let last = sends_then h.sent (k h.hidden) in
-    let is : summary args.task counts.changed counts.unchanged faults hidden ++ remaining_line args.list_remaining remaining ≡ last_lines args counts.changed counts.unchanged faults hidden remaining =
-    sym (ap (λ (b : Bool). cond b [] (summary args.task counts.changed counts.unchanged faults hidden ++ remaining_line args.list_remaining remaining)) loud) in
+ends_told args counts faults hidden remaining next {err = err} {err' = err'} loud h k l m =
+    let is : summary args.task counts.changed counts.unchanged faults hidden ++ edited_line args.plan.prunes counts.edited ++ remaining_line args.list_remaining remaining ≡
+    last_lines args counts.changed counts.unchanged faults hidden counts.edited remaining =
+    sym (ap (λ (b : Bool). cond b [] (summary args.task counts.changed counts.unchanged faults hidden ++ edited_line args.plan.prunes counts.edited ++ remaining_line args.list_remaining remaining)) loud) in
     record {
       remaining = remaining;
-      told = (h.cleared, sends_same is last);
-      alone = λ e. sends_same is (sends_then (said_unshown h e) (k h.hidden));
+      told = (h.cleared, sends_same is (sends_then (sends_then h.sent (k h.hidden)) (m (l h.hidden))));
+      alone = λ e. sends_same is (sends_then (sends_then (said_unshown h e) (k h.hidden)) (m (l h.hidden)));
     }

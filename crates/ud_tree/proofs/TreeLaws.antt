@@ -8,7 +8,8 @@ use Rattle.std.specs.Ordering.{nat_cmp}
 use Rattle.std.specs.Cmp.Lexicographic.{slice_cmp}
 use Rattle.std.specs.declared.cmp.Ordering.TheVariants.{Less, Equal}
 use Rattle.std.proofs.lemmas.Cmp.{tied_itself, nat_list_cmp_total}
-use Rattle.ud_model.specs.sections.Items.{Options}
+use Rattle.ud_replace.specs.declared.text_plan.TextPlan.{TextPlan}
+use Rattle.ud_replace.specs.TextOutcomes.{TextOptions, IsPlanned}
 use Rattle.ud_replace.specs.declared.error.Update.{Update}
 use Rattle.ud_replace.specs.declared.error.ReplaceError.{ReplaceError}
 use Rattle.ud_replace.specs.Calls.{Call, walked, WalkCall}
@@ -20,9 +21,8 @@ use Rattle.ud_tree.specs.declared.arguments.Arguments.{Arguments}
 use Rattle.ud_tree.specs.declared.arguments.Task.{Task}
 use Rattle.ud_tree.specs.declared.arguments.Task.TheVariants.{Replace, Diff, Names}
 use Rattle.ud_tree.specs.declared.walk.Found.{Found}
-use Rattle.ud_args.specs.Plans.{PlanState}
 use Rattle.ud_tree.specs.Changes.{ReplacesShowing}
-use Rattle.ud_tree.specs.Runs.{ReadsOne, reads, FileResult, Unshown, IsPlanned, ReplacesOne, replaces, no_name, EachFile, no_file, then_file, names_of}
+use Rattle.ud_tree.specs.Runs.{ReadsOne, reads, FileResult, Unshown, ReplacesOne, replaces, no_name, EachFile, no_file, then_file, names_of}
 use Rattle.ud_tree.specs.Shown.{ShowsOne, ListsOne}
 use Rattle.ud_tree.specs.TreeRuns.{DoesBy, IsRun, no_run, ran, Run}
 use Rattle.ud_tree.specs.TreeDiffs.{ShowsAs, ShowsDiffs, no_diff, diffs}
@@ -60,10 +60,10 @@ reads_touch : {P : List ℕ → List Call → List Call → FileResult → Type 
 reads_touch w no_file = no_call
 reads_touch w (then_file {mid = mid} {next = next} {name = name} {result = result} h k t) = each_then (reads_touch w h) (read_touches (w name mid next result k))
 
-shows_touch : {plan : PlanState} {into : Bool} {old : List Call} {names : List (List ℕ)} {new : List Call} {results : List FileResult} → EachFile (ShowsOne plan into) old names new results → EachCall TouchesNothing old new
+shows_touch : {plan : TextPlan} {into : Bool} {old : List Call} {names : List (List ℕ)} {new : List Call} {results : List FileResult} → EachFile (ShowsOne plan into) old names new results → EachCall TouchesNothing old new
 shows_touch h = reads_touch (λ name old new result k. k.reads) h
 
-lists_touch : {plan : PlanState} {old : List Call} {names : List (List ℕ)} {new : List Call} {results : List FileResult} → EachFile (Unshown (ListsOne plan)) old names new results → EachCall TouchesNothing old new
+lists_touch : {plan : TextPlan} {old : List Call} {names : List (List ℕ)} {new : List Call} {results : List FileResult} → EachFile (Unshown (ListsOne plan)) old names new results → EachCall TouchesNothing old new
 lists_touch h = reads_touch (λ name old new result k. k.does.reads) h
 
 reads_by : (args : Arguments) (t : Task) → args.task ≡ t → ¬ (t ≡ Replace) → {old : List Call} {names : List (List ℕ)} {new : List Call} {results : List FileResult} →
@@ -77,29 +77,29 @@ run_reads args given left old new messages streams _ _ _ _ other (no_run h stops
 run_reads args given left old new messages streams shown told last status other (ran text mid files takes misses w t some h) = each_then (each_at w.are (walk_touches w.calls old)) (reads_by args args.task refl other h.each)
 
 -- Replacing a file touches no file but the new one, up to the rename.
-replace_touches : {o : Options} {plan : PlanState} {name : List ℕ} {old new : List Call} {update : Result Update ReplaceError} → IsPlanned plan o →
+replace_touches : {o : TextOptions} {plan : TextPlan} {name : List ℕ} {old new : List Call} {update : Result Update ReplaceError} → IsPlanned plan o →
     ReplacesOne plan false name old new update → EachCall (TouchesFreshOrNone o) old new
 replace_touches {o = o} {name = name} {old = old} {new = new} p (replaces r id fresh is h) =
     each_weaker (λ c earlier t. inr (name, old, subst (λ (f : List ℕ). TouchesFreshOnly o name f old c earlier) is t))
     (one_rename o id name fresh old new r (h o p))
 replace_touches p (no_name is) = each_at is no_call
 
-replaces_touch : {o : Options} {plan : PlanState} {shows : Bool} {old : List Call} {names : List (List ℕ)} {new : List Call} {results : List FileResult} → IsPlanned plan o →
+replaces_touch : {o : TextOptions} {plan : TextPlan} {shows : Bool} {old : List Call} {names : List (List ℕ)} {new : List Call} {results : List FileResult} → IsPlanned plan o →
     EachFile (ReplacesShowing plan false shows) old names new results → EachCall (TouchesFreshOrNone o) old new
 replaces_touch p no_file = no_call
 replaces_touch p (then_file h k t) = each_then (replaces_touch p h) (replace_touches p k.does)
 
-nothing_touched : {o : Options} {old new : List Call} → EachCall TouchesNothing old new → EachCall (TouchesFreshOrNone o) old new
+nothing_touched : {o : TextOptions} {old new : List Call} → EachCall TouchesNothing old new → EachCall (TouchesFreshOrNone o) old new
 nothing_touched h = each_weaker (λ c earlier t. inl t) h
 
-replaces_by : {o : Options} (args : Arguments) (t : Task) → IsPlanned args.plan o → args.write_into ≡ false → {old : List Call} {names : List (List ℕ)} {new : List Call}
+replaces_by : {o : TextOptions} (args : Arguments) (t : Task) → IsPlanned args.plan o → args.write_into ≡ false → {old : List Call} {names : List (List ℕ)} {new : List Call}
     {results : List FileResult} → EachFile (DoesBy t args) old names new results → EachCall (TouchesFreshOrNone o) old new
 replaces_by args Replace p into {old = old} {names = names} {new = new} {results = results} h =
     replaces_touch p (subst (λ (b : Bool). EachFile (ReplacesShowing args.plan b args.show_changes) old names new results) into h)
 replaces_by args Diff p into h = nothing_touched (shows_touch h)
 replaces_by args Names p into h = nothing_touched (lists_touch h)
 
-pub run_renames : (o : Options) (args : Arguments) (given left : Source) (old new : List Call) (messages : List (List ℕ)) (streams : StreamEnds) (shown told last : List ℕ) (status : ℕ) → IsPlanned args.plan o → args.write_into ≡ false →
+pub run_renames : (o : TextOptions) (args : Arguments) (given left : Source) (old new : List Call) (messages : List (List ℕ)) (streams : StreamEnds) (shown told last : List ℕ) (status : ℕ) → IsPlanned args.plan o → args.write_into ≡ false →
     IsRun args given left old new messages streams shown told last status → EachCall (TouchesFreshOrNone o) old new
 run_renames o args given left old new messages streams _ _ _ _ p into (no_run h stops) = nothing_touched (each_at h.are (walk_touches h.calls old))
 run_renames o args given left old new messages streams shown told last status p into (ran text mid files takes misses w m some h) =
@@ -114,29 +114,29 @@ same_after c f n t = untouched c f n (by_test (touches c n) refl)
     by_test true e = absurd (t e)
 
 -- The files after some calls, of which some were replaced: each has its old bytes, or its output.
-abbrev Later : Options → List (List ℕ) → List ℕ → List ℕ → Option (List ℕ) → Type 0
+abbrev Later : TextOptions → List (List ℕ) → List ℕ → List ℕ → Option (List ℕ) → Type 0
 Later o names n bytes found = (found ≡ Some bytes) ⊎ (Contains names n × HasOutput o bytes found)
 
-abbrev OutputIn : Options → Files → List Call → List (List ℕ) → List Call → Type 0
+abbrev OutputIn : TextOptions → Files → List Call → List (List ℕ) → List Call → Type 0
 OutputIn o first old names calls = (n bytes : List ℕ) → content first old n ≡ Some bytes → Later o names n bytes (content first calls n)
 
 -- All moments so far, and the last one.
-record Moments (o : Options) (first : Files) (old : List Call) (names : List (List ℕ)) (new : List Call) : Type 0 where
+record Moments (o : TextOptions) (first : Files) (old : List Call) (names : List (List ℕ)) (new : List Call) : Type 0 where
   each : EachCall (λ (c : Call) (earlier : List Call). OldOrOutput o first old (c ∷ earlier)) old new
   last : OutputIn o first old names new
 
-forget : (o : Options) (first : Files) (old : List Call) (names : List (List ℕ)) (calls : List Call) → OutputIn o first old names calls → OldOrOutput o first old calls
+forget : (o : TextOptions) (first : Files) (old : List Call) (names : List (List ℕ)) (calls : List Call) → OutputIn o first old names calls → OldOrOutput o first old calls
 forget o first old names calls h n bytes e = either (h n bytes e)
   where
     either : Later o names n bytes (content first calls n) → (content first calls n ≡ Some bytes) ⊎ HasOutput o bytes (content first calls n)
     either (inl same) = inl same
     either (inr made) = inr made.1
 
-moments_none : (o : Options) (first : Files) (old : List Call) → Moments o first old [] old
+moments_none : (o : TextOptions) (first : Files) (old : List Call) → Moments o first old [] old
 moments_none o first old = record { each = no_call; last = λ n bytes e. inl e }
 
 -- Calls that touch nothing.
-moments_still : {o : Options} {first : Files} {old mid : List Call} {names : List (List ℕ)} {new : List Call} → Moments o first old names mid → EachCall TouchesNothing mid new → Moments o first old names new
+moments_still : {o : TextOptions} {first : Files} {old mid : List Call} {names : List (List ℕ)} {new : List Call} → Moments o first old names mid → EachCall TouchesNothing mid new → Moments o first old names new
 moments_still m no_call = m
 moments_still {o = o} {first = first} {old = old} {names = names} m (then_call {c = c} {calls = calls} h t) =
     let before = moments_still m h in
@@ -152,7 +152,7 @@ abbrev IsNew : List (List ℕ) → List ℕ → Type 0
 IsNew names name = ¬ (Contains names name)
 
 -- After some files, one call more for the next file.
-moment_more : (o : Options) (first : Files) (old mid calls : List Call) (names : List (List ℕ)) (name : List ℕ) → IsNew names name →
+moment_more : (o : TextOptions) (first : Files) (old mid calls : List Call) (names : List (List ℕ)) (name : List ℕ) → IsNew names name →
     OutputIn o first old names mid → OldOrNew o name first mid calls → OutputIn o first old (names ++ name ∷ []) calls
 moment_more o first old mid calls names name fresh before h n bytes e = either (before n bytes e)
   where
@@ -173,7 +173,7 @@ moment_more o first old mid calls names name fresh before h n bytes e = either (
     either (inr made) = done made.0 made.1 (h n made.1.outcome.output made.1.is_output)
 
 -- After some files, all calls for the next file.
-moments_more : {o : Options} {first : Files} {old mid : List Call} {names : List (List ℕ)} (name : List ℕ) {new : List Call} → IsNew names name → Moments o first old names mid →
+moments_more : {o : TextOptions} {first : Files} {old mid : List Call} {names : List (List ℕ)} (name : List ℕ) {new : List Call} → IsNew names name → Moments o first old names mid →
     EachCall (λ (c : Call) (earlier : List Call). OldOrNew o name first mid (c ∷ earlier)) mid new → Moments o first old (names ++ name ∷ []) new
 moments_more {o = o} {first = first} {old = old} {mid = mid} {names = names} name fresh m no_call =
     record { each = m.each; last = moment_more o first old mid mid names name fresh m.last (λ n bytes e. inl e) }
@@ -207,7 +207,7 @@ last_is_new names name h inside =
     both (at_k ∙ sym at_end)
 
 -- One file more of a run.
-moments_one : {o : Options} {plan : PlanState} {first : Files} {old : List Call} {names : List (List ℕ)} {mid next : List Call} {name : List ℕ} {update : Result Update ReplaceError} → IsPlanned plan o →
+moments_one : {o : TextOptions} {plan : TextPlan} {first : Files} {old : List Call} {names : List (List ℕ)} {mid next : List Call} {name : List ℕ} {update : Result Update ReplaceError} → IsPlanned plan o →
     IsNew names name → ReplacesOne plan false name mid next update → AreTrue first next → (AreTrue first mid → Moments o first old names mid) → Moments o first old (names ++ name ∷ []) next
 moments_one {o = o} {first = first} {mid = mid} {next = next} {name = name} p fresh_name (replaces r id fresh is k) t m =
     let moments = old_or_new o first id name fresh mid next r (k o p) t in
@@ -216,7 +216,7 @@ moments_one {first = first} {name = name} p fresh_name (no_name is) t m =
     moments_more name fresh_name (m (subst (λ (l : List Call). AreTrue first l) is t)) (each_at is no_call)
 
 -- All files of a run.
-moments_all : {o : Options} {plan : PlanState} {shows : Bool} {first : Files} {old start : List Call} {names : List (List ℕ)} {new : List Call} {results : List FileResult} → IsPlanned plan o →
+moments_all : {o : TextOptions} {plan : TextPlan} {shows : Bool} {first : Files} {old start : List Call} {names : List (List ℕ)} {new : List Call} {results : List FileResult} → IsPlanned plan o →
     EachFile (ReplacesShowing plan false shows) start names new results → AllPairs Apart names → AreTrue first new → Moments o first old [] start → Moments o first old names new
 moments_all p no_file apart t m = m
 moments_all p (then_file {names = names} {name = name} h k told) apart t m =
@@ -240,7 +240,7 @@ apart_names (f ∷ files) h i j d below within =
     get_or-map (λ (g : Found). string_bytes g.path) (f ∷ files) j f d in_files in
     λ e. not_before_itself (get_or (f ∷ files) i f) (get_or (f ∷ files) j f) (h i j f below in_files) (sym at_i ∙ e ∙ at_j)
 
-moments_by : {o : Options} (args : Arguments) (t : Task) → IsPlanned args.plan o → args.write_into ≡ false → {first : Files} {old start : List Call} {names : List (List ℕ)} {new : List Call}
+moments_by : {o : TextOptions} (args : Arguments) (t : Task) → IsPlanned args.plan o → args.write_into ≡ false → {first : Files} {old start : List Call} {names : List (List ℕ)} {new : List Call}
     {results : List FileResult} → AllPairs Apart names → AreTrue first new → Moments o first old [] start → EachFile (DoesBy t args) start names new results →
     EachCall (λ (c : Call) (earlier : List Call). OldOrOutput o first old (c ∷ earlier)) old new
 moments_by args Replace p into {start = start} {names = names} {new = new} {results = results} apart t m h =
@@ -248,7 +248,7 @@ moments_by args Replace p into {start = start} {names = names} {new = new} {resu
 moments_by args Diff p into apart t m h = (moments_still m (shows_touch h)).each
 moments_by args Names p into apart t m h = (moments_still m (lists_touch h)).each
 
-pub run_old_or_new : (o : Options) (args : Arguments) (first : Files) (given left : Source) (old new : List Call) (messages : List (List ℕ)) (streams : StreamEnds) (shown told last : List ℕ) (status : ℕ) → IsPlanned args.plan o → args.write_into ≡ false →
+pub run_old_or_new : (o : TextOptions) (args : Arguments) (first : Files) (given left : Source) (old new : List Call) (messages : List (List ℕ)) (streams : StreamEnds) (shown told last : List ℕ) (status : ℕ) → IsPlanned args.plan o → args.write_into ≡ false →
     IsRun args given left old new messages streams shown told last status → AreTrue first new → EachCall (λ (c : Call) (earlier : List Call). OldOrOutput o first old (c ∷ earlier)) old new
 run_old_or_new o args first given left old new messages streams _ _ _ _ p into (no_run h stops) t =
     (moments_still (moments_none o first old) (each_at h.are (walk_touches h.calls old))).each
@@ -257,13 +257,13 @@ run_old_or_new o args first given left old new messages streams shown told last 
     (moments_still (moments_none o first old) (each_at w.are (walk_touches w.calls old))) h.each
 
 -- The diffs of the files of a run, for one choice of options.
-each_shows : {o : Options} {plan : PlanState} {into : Bool} {old : List Call} {names : List (List ℕ)} {new : List Call} {results : List FileResult} → IsPlanned plan o →
+each_shows : {o : TextOptions} {plan : TextPlan} {into : Bool} {old : List Call} {names : List (List ℕ)} {new : List Call} {results : List FileResult} → IsPlanned plan o →
     EachFile (ShowsOne plan into) old names new results → EachFile (ShowsAs o into) old names new results
 each_shows p no_file = no_file
 each_shows {o = o} p (then_file h k t) = then_file (each_shows p h) (k.shows o p) t
 
 -- A run that only shows what would change shows the diffs.
-pub run_shows : (o : Options) (run : Run) → IsPlanned run.args.plan o → run.args.task ≡ Diff → (shown told last : List ℕ) (status : ℕ) → run.shown ≡ shown →
+pub run_shows : (o : TextOptions) (run : Run) → IsPlanned run.args.plan o → run.args.task ≡ Diff → (shown told last : List ℕ) (status : ℕ) → run.shown ≡ shown →
     IsRun run.args run.given run.left run.old run.new run.messages run.streams shown told last status → ShowsDiffs o run
 run_shows o run p diff _ _ _ _ e (no_run h stops) = no_diff (record { calls = h.calls; are = h.are }) e
 run_shows o run p diff shown told last status e (ran text mid files takes misses w m some h) =

@@ -1,30 +1,31 @@
 -- Changes: what is shown of a file that is replaced.
 --
---   KeepsOne o into name old new r text output   a file was replaced, with this text and output
+--   KeepsOne o into name old new r text output edited   a file was replaced, with this output
 --   ShowsChange shows name update text output shown   the diff of a file that was changed
---   ShowsUpdate plan into shows name old new r shown   the same, by the result of replacing it
+--   ShowsUpdate plan into shows name old new r shown edited   the same, by the result
 --   ReplacesShowing plan into shows name old new result   both: it was replaced, and is shown
 --
 -- `old` and `new` are the calls before and after, the newest first.
 use Rattle.std.specs.Prelude.{◌≡◌, ℕ, List, [], Bool, true, Result, Ok, Err}
-use Rattle.ud_model.specs.sections.Items.{Options}
-use Rattle.ud_args.specs.Plans.{PlanState}
 use Rattle.ud_diff.specs.Patching.{IsDiff}
 use Rattle.ud_replace.specs.declared.error.Update.{Update}
 use Rattle.ud_replace.specs.declared.error.ReplaceError.{ReplaceError}
 use Rattle.ud_replace.specs.declared.node.FileId.{FileId}
+use Rattle.ud_replace.specs.declared.text_plan.TextPlan.{TextPlan}
 use Rattle.ud_replace.specs.Calls.{Call}
 use Rattle.ud_replace.specs.Replacing.{Keeps}
+use Rattle.ud_replace.specs.TextOutcomes.{TextOptions, IsPlanned}
 use Rattle.ud_tree.specs.Fates.{is_changed}
 use Rattle.ud_tree.specs.Paths.{fresh_name}
-use Rattle.ud_tree.specs.Runs.{FileResult, IsPlanned, ReplacesOne, fate_of}
+use Rattle.ud_tree.specs.Runs.{FileResult, ReplacesOne, fate_of}
 
--- `KeepsOne o into name old new r text output`: the file `name` was read as `text`, and was
--- replaced by the help of a new one, with the result `r`. `output` is the output for `text`.
-abbrev pub KeepsOne : Options → Bool → List ℕ → List Call → List Call →
-    Result Update ReplaceError → List ℕ → List ℕ → Type 0
-KeepsOne o into name old new r text output =
-    (id : FileId) × Keeps o into id name (fresh_name name) old new r text output
+-- `KeepsOne o into name old new r text output edited`: the file `name` was read as `text`, and was
+-- replaced by the help of a new one, with the result `r`. `output` is the output for `text`, of
+-- which `edited` conditions were edited.
+abbrev pub KeepsOne : TextOptions → Bool → List ℕ → List Call → List Call →
+    Result Update ReplaceError → List ℕ → List ℕ → ℕ → Type 0
+KeepsOne o into name old new r text output edited =
+    (id : FileId) × Keeps o into id name (fresh_name name) old new r text output edited
 
 -- `ShowsChange shows name update text output shown`: nothing is shown of the file `name`. Or its
 -- diff is, which turns `text` into `output`; it is wanted, and the file was changed.
@@ -34,20 +35,21 @@ pub data ShowsChange (shows : Bool) (name : List ℕ) (update : Update) (text ou
   change_shown : {shown : List ℕ} → shows ≡ true → is_changed (fate_of (Ok update)) ≡ true →
       IsDiff name text output shown → ShowsChange shows name update text output shown
 
--- `ShowsUpdate plan into shows name old new r shown`: nothing is shown of the file `name` after an
--- error. Else its diff is, as `ShowsChange` has it, with the text that was read and its output.
-pub data ShowsUpdate (plan : PlanState) (into shows : Bool) (name : List ℕ) (old new : List Call) :
-    Result Update ReplaceError → List ℕ → Type 0 where
-  after_error : {e : ReplaceError} → ShowsUpdate plan into shows name old new (Err e) []
-  after_update : {update : Update} {shown : List ℕ} (text output : List ℕ) →
-      ((o : Options) → IsPlanned plan o →
-      KeepsOne o into name old new (Ok update) text output) →
+-- `ShowsUpdate plan into shows name old new r shown edited`: nothing is shown of the file `name`
+-- after an error. Else its diff is, as `ShowsChange` has it, with the text that was read and its
+-- output, of which `edited` conditions were edited.
+pub data ShowsUpdate (plan : TextPlan) (into shows : Bool) (name : List ℕ) (old new : List Call) :
+    Result Update ReplaceError → List ℕ → ℕ → Type 0 where
+  after_error : {e : ReplaceError} → ShowsUpdate plan into shows name old new (Err e) [] 0
+  after_update : {update : Update} {shown : List ℕ} (text output : List ℕ) (edited : ℕ) →
+      ((o : TextOptions) → IsPlanned plan o →
+      KeepsOne o into name old new (Ok update) text output edited) →
       ShowsChange shows name update text output shown →
-      ShowsUpdate plan into shows name old new (Ok update) shown
+      ShowsUpdate plan into shows name old new (Ok update) shown edited
 
 -- `ReplacesShowing plan into shows name old new result`: the file `name` was replaced, and its diff
 -- is shown if `shows`.
-pub record ReplacesShowing (plan : PlanState) (into shows : Bool) (name : List ℕ)
+pub record ReplacesShowing (plan : TextPlan) (into shows : Bool) (name : List ℕ)
     (old new : List Call) (result : FileResult) : Type 0 where
   pub does : ReplacesOne plan into name old new result.update
-  pub change : ShowsUpdate plan into shows name old new result.update result.shown
+  pub change : ShowsUpdate plan into shows name old new result.update result.shown result.edited

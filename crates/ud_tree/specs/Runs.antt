@@ -2,12 +2,12 @@
 --
 --   ReadsOne name old new   a file was read, and nothing else was asked
 --   fate_of r               what became of a file, by the result of replacing it
---   IsPlanned plan o        `o` has the settings and the symbols of a plan
 --   ReplacesOne plan into name old new update   a file was replaced, or its name took no memory
 --   FileResult              the result of a file, and what is written of it
 --   Unshown P name old new result   `P` holds of a file, of which nothing is written to the output
 --   EachFile P old names new results   `P` holds of each file in turn, and nothing else was asked
 --   changed_in results, same_in results, faulty_in results   the numbers of each fate
+--   edited_in results       the number of edited conditions
 --   CountsAre counts results   these are the counts
 --   shown_of results        what is written of the files to the output
 --   told_of results         what is written of the files to the error stream
@@ -16,19 +16,18 @@
 --
 -- `old` and `new` are the calls before and after, the newest first.
 use Rattle.std.specs.Prelude.{◌≡◌, ℕ, List, [], ◌∷◌, ◌++◌, Bool, Option, Result, Ok, Err, map}
-use Rattle.std.specs.Prelude.{count_by, string_bytes}
+use Rattle.std.specs.Prelude.{count_by, string_bytes, sum_by, ◌<◌, ◌^◌}
 use Rattle.std.specs.List.{flat_map}
-use Rattle.ud_model.specs.sections.Items.{Options}
-use Rattle.ud_cond.specs.symbols.SymbolTable.{TableRepresents}
-use Rattle.ud_args.specs.Plans.{PlanState}
 use Rattle.ud_replace.specs.declared.error.Update.{Update}
 use Rattle.ud_replace.specs.declared.error.Update.TheVariants.{Unchanged, Replaced, WrittenInto}
 use Rattle.ud_replace.specs.declared.error.ReplaceError.{ReplaceError}
 use Rattle.ud_replace.specs.declared.error.ReplaceError.TheVariants.{OutOfMemory}
 use Rattle.ud_replace.specs.declared.node.FileId.{FileId}
 use Rattle.ud_replace.specs.declared.stat.FileStat.{FileStat}
+use Rattle.ud_replace.specs.declared.text_plan.TextPlan.{TextPlan}
 use Rattle.ud_replace.specs.Calls.{Call, was_read}
 use Rattle.ud_replace.specs.Replacing.{Replaces}
+use Rattle.ud_replace.specs.TextOutcomes.{TextOptions, IsPlanned}
 use Rattle.ud_tree.specs.declared.counts.Fate.{Fate}
 use Rattle.ud_tree.specs.declared.counts.Fate.TheVariants.{Changed, Same, Faulty}
 use Rattle.ud_tree.specs.declared.counts.Counts.{Counts}
@@ -49,35 +48,32 @@ fate_of (Ok Replaced) = Changed
 fate_of (Ok WrittenInto) = Changed
 fate_of (Err e) = Faulty
 
--- `IsPlanned plan o`: the options `o` have the settings and the symbols of `plan`.
-pub record IsPlanned (plan : PlanState) (o : Options) : Type 0 where
-  pub settings : o.settings ≡ plan.settings
-  pub table : TableRepresents plan.symbols o.table
-
 -- `ReplacesOne plan into name old new update`: the calls are those that replace the file `name`, by
 -- the help of a new one, and `update` is their result. It is some file that the walk met. Or memory
 -- for the new name couldn't be allocated, and nothing was asked.
-pub data ReplacesOne (plan : PlanState) (into : Bool) (name : List ℕ) (old new : List Call) :
+pub data ReplacesOne (plan : TextPlan) (into : Bool) (name : List ℕ) (old new : List Call) :
     Result Update ReplaceError → Type 0 where
   replaces : (r : Result Update ReplaceError) (id : FileId) (fresh : List ℕ) →
       fresh ≡ fresh_name name →
-      ((o : Options) → IsPlanned plan o → Replaces o into id name fresh old new r) →
+      ((o : TextOptions) → IsPlanned plan o → Replaces o into id name fresh old new r) →
       ReplacesOne plan into name old new r
   no_name : new ≡ old → ReplacesOne plan into name old new (Err OutOfMemory)
 
--- `FileResult`: the result of a file, and the bytes that are written of it to the output and to the
--- error stream.
+-- `FileResult`: the result of a file, the bytes that are written of it to the output and to the
+-- error stream, and the number of conditions of its output that were edited, or would be.
 pub record FileResult : Type 0 where
   pub update : Result Update ReplaceError
   pub shown : List ℕ
   pub told : List ℕ
+  pub edited : ℕ
 
--- `Unshown P name old new result`: `P` holds of the file and its result, and nothing is written of
--- it to the output.
+-- `Unshown P name old new result`: `P` holds of the file and its result. Nothing is written of it
+-- to the output, and no condition is edited.
 pub record Unshown (P : List ℕ → List Call → List Call → Result Update ReplaceError → Type 0)
     (name : List ℕ) (old new : List Call) (result : FileResult) : Type 0 where
   pub does : P name old new result.update
   pub nothing : result.shown ≡ []
+  pub unedited : result.edited ≡ 0
 
 -- `EachFile P old names new results`: `P name mid next result` holds of each file in turn, where
 -- `mid` and `next` are the calls before and after it. Nothing else was asked. What goes to the
@@ -102,11 +98,17 @@ same_in results = count_by (λ r. is_same (fate_of r.update)) results
 abbrev pub faulty_in : List FileResult → ℕ
 faulty_in results = count_by (λ r. is_faulty (fate_of r.update)) results
 
--- `CountsAre counts results`: `counts` has the number of each fate.
+-- `edited_in results`: the number of conditions that were edited, or would be.
+abbrev pub edited_in : List FileResult → ℕ
+edited_in results = sum_by (λ r. r.edited) results
+
+-- `CountsAre counts results`: `counts` has the number of each fate, and of the edited conditions if
+-- that is one that a machine can count.
 pub record CountsAre (counts : Counts) (results : List FileResult) : Type 0 where
   pub changed : counts.changed ≡ changed_in results
   pub unchanged : counts.unchanged ≡ same_in results
   pub faulty : counts.faulty ≡ faulty_in results
+  pub edited : edited_in results < 2 ^ 64 → counts.edited ≡ edited_in results
 
 -- `shown_of results`: what is written of the files to the output, in order.
 abbrev pub shown_of : List FileResult → List ℕ

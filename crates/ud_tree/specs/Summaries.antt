@@ -6,7 +6,8 @@
 --   changes_line word changed unchanged faults   how many files changed, or would
 --   summary task changed unchanged faults hidden   how many files there were of each kind
 --   remaining_line listed count   how many conditions still name a symbol
---   last_lines args changed unchanged faults hidden remaining   both lines, unless the run is quiet
+--   edited_line prunes count   how many conditions were edited
+--   last_lines args changed unchanged faults hidden edited remaining   these lines, unless quiet
 --   TellsEnd args counts faults hidden old err err'   they were written last
 --   EndsWith s bytes          the last bytes that were written to `s`
 --   Says old new err err' bytes   `bytes` were written, after the number of files was removed
@@ -62,16 +63,26 @@ abbrev pub remaining_line : Bool → ℕ → List ℕ
 remaining_line listed count = if count == 0 && not listed then [] else line_of (decimal count ++
     remaining_text count ++ (if listed then [] else codes "; -r lists them"))
 
+-- `edited_text count`: what follows the number of edited conditions.
+abbrev pub edited_text : ℕ → List ℕ
+edited_text count = if count == 1 then codes " condition edited" else codes " conditions edited"
+
+-- `edited_line prunes count`: the line with the number of edited conditions, which is left out if
+-- none is to be.
+abbrev pub edited_line : Bool → ℕ → List ℕ
+edited_line prunes count = if prunes then line_of (decimal count ++ edited_text count) else []
+
 -- `EndsWith s bytes`: the last bytes that were written to `s` are `bytes`, up to its first failure.
 abbrev pub EndsWith : Stream → List ℕ → Type 0
 EndsWith s bytes = (mid : Stream) × Sends mid s bytes
 
--- `last_lines args changed unchanged faults hidden remaining`: the summary, and the line with the
--- number of conditions that still name a symbol; nothing if the run is quiet.
-abbrev pub last_lines : Arguments → ℕ → ℕ → ℕ → ℕ → ℕ → List ℕ
-last_lines args changed unchanged faults hidden remaining = if args.quiet then []
+-- `last_lines args changed unchanged faults hidden edited remaining`: the summary, and the lines
+-- with the numbers of edited conditions and of those that still name a symbol; nothing if the run
+-- is quiet.
+abbrev pub last_lines : Arguments → ℕ → ℕ → ℕ → ℕ → ℕ → ℕ → List ℕ
+last_lines args changed unchanged faults hidden edited remaining = if args.quiet then []
     else summary args.task changed unchanged faults hidden ++
-    remaining_line args.list_remaining remaining
+    edited_line args.plan.prunes edited ++ remaining_line args.list_remaining remaining
 
 -- `TellsEnd args counts faults hidden old err err'`: the last lines were written, with these
 -- numbers and some number of conditions that still name a symbol. Nothing else was, unless a
@@ -80,9 +91,9 @@ pub record TellsEnd (args : Arguments) (counts : Counts) (faults hidden : ℕ) (
     (err err' : Stream) : Type 0 where
   pub remaining : ℕ
   pub told : EndsWith err'
-      (last_lines args counts.changed counts.unchanged faults hidden remaining)
+      (last_lines args counts.changed counts.unchanged faults hidden counts.edited remaining)
   pub alone : old.is_shown ≡ false → Sends err err'
-      (last_lines args counts.changed counts.unchanged faults hidden remaining)
+      (last_lines args counts.changed counts.unchanged faults hidden counts.edited remaining)
 
 -- `Says old new err err' bytes`: `bytes` were written. If a terminal showed the number of files,
 -- that was removed before.

@@ -3,8 +3,8 @@
 --   ShowsAs o into name old new result   a file was read, and its diff is shown
 --   ShowsDiffs o run                     the diffs of the files of a run, in order
 use Rattle.std.specs.Prelude.{◌≡◌, ℕ, List, [], ◌++◌, Bool, false}
-use Rattle.ud_model.specs.sections.Items.{Options}
 use Rattle.ud_replace.specs.Calls.{Call}
+use Rattle.ud_replace.specs.TextOutcomes.{TextOptions}
 use Rattle.ud_tree.specs.declared.walk.Found.{Found}
 use Rattle.ud_tree.specs.Runs.{FileResult, EachFile, shown_of, names_of}
 use Rattle.ud_tree.specs.Shown.{ShowsFile}
@@ -13,12 +13,13 @@ use Rattle.ud_tree.specs.Walks.{WalksOnly, IsWalk}
 
 -- `ShowsAs o into name old new result`: the file `name` was read, and what is shown of it is its
 -- diff if a run would change it.
-abbrev pub ShowsAs : Options → Bool → List ℕ → List Call → List Call → FileResult → Type 0
-ShowsAs o into name old new result = ShowsFile o into name old new result.update result.shown
+abbrev pub ShowsAs : TextOptions → Bool → List ℕ → List Call → List Call → FileResult → Type 0
+ShowsAs o into name old new result =
+    ShowsFile o into name old new result.update result.shown result.edited
 
 -- `ShowsDiffs o run`: no file was read, and nothing is shown. Or a walk found some files, each was
 -- read once, and their diffs are shown in the same order. A list follows, if one is wanted.
-pub data ShowsDiffs (o : Options) (run : Run) : Type 0 where
+pub data ShowsDiffs (o : TextOptions) (run : Run) : Type 0 where
   no_diff : WalksOnly run.old run.new → run.shown ≡ [] → ShowsDiffs o run
   diffs : (mid : List Call) (files : List Found) (results : List FileResult) (listed : List ℕ) →
       IsWalk run.old mid files →

@@ -5,9 +5,9 @@
 --   OldOrOutput o first old calls       each file has its old bytes, or the output for them
 --   LeavesOldOrOutput o first old c earlier   each file has them after the call `c`
 use Rattle.std.specs.Prelude.{◌≡◌, ◌⊎◌, ℕ, List, ◌∷◌, true, Some}
-use Rattle.ud_model.specs.sections.Items.{Options}
 use Rattle.ud_replace.specs.Calls.{Call}
 use Rattle.ud_replace.specs.Moments.{Files, content, HasOutput, touches, TouchesFreshOnly}
+use Rattle.ud_replace.specs.TextOutcomes.{TextOptions}
 use Rattle.ud_tree.specs.Paths.{fresh_name}
 
 -- `TouchesNothing c earlier`: the call `c` touches no file.
@@ -16,7 +16,7 @@ TouchesNothing c earlier = (n : List ℕ) → ¬ (touches c n ≡ true)
 
 -- `TouchesFreshOrNone o c earlier`: the call `c` touches no file. Or it is one that replaces
 -- some file: it touches the new file beside that one alone, or it is the rename.
-abbrev pub TouchesFreshOrNone : Options → Call → List Call → Type 0
+abbrev pub TouchesFreshOrNone : TextOptions → Call → List Call → Type 0
 TouchesFreshOrNone o c earlier =
     TouchesNothing c earlier
     ⊎ ((name : List ℕ) × (start : List Call) ×
@@ -24,11 +24,11 @@ TouchesFreshOrNone o c earlier =
 
 -- `OldOrOutput o first old calls`: each file that there was after `old` has the same bytes after
 -- `calls`, or the output for them.
-abbrev pub OldOrOutput : Options → Files → List Call → List Call → Type 0
+abbrev pub OldOrOutput : TextOptions → Files → List Call → List Call → Type 0
 OldOrOutput o first old calls = (n bytes : List ℕ) → content first old n ≡ Some bytes →
     (content first calls n ≡ Some bytes) ⊎ HasOutput o bytes (content first calls n)
 
 -- `LeavesOldOrOutput o first old c earlier`: after the call `c`, each file that there was after
 -- `old` has its old bytes, or the output for them.
-abbrev pub LeavesOldOrOutput : Options → Files → List Call → Call → List Call → Type 0
+abbrev pub LeavesOldOrOutput : TextOptions → Files → List Call → Call → List Call → Type 0
 LeavesOldOrOutput o first old c earlier = OldOrOutput o first old (c ∷ earlier)

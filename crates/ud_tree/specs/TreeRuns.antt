@@ -26,7 +26,7 @@ use Rattle.ud_tree.specs.declared.report.Report.{Report}
 use Rattle.ud_tree.specs.declared.walk.Found.{Found}
 use Rattle.ud_tree.specs.Changes.{ReplacesShowing}
 use Rattle.ud_tree.specs.Runs.{FileResult, Unshown, EachFile, shown_of, told_of}
-use Rattle.ud_tree.specs.Runs.{changed_in, same_in, faulty_in, names_of}
+use Rattle.ud_tree.specs.Runs.{changed_in, same_in, faulty_in, edited_in, names_of}
 use Rattle.ud_tree.specs.Shown.{ShowsOne, ListsOne}
 use Rattle.ud_tree.specs.Messages.{output_messages}
 use Rattle.ud_tree.specs.Streams.{Sends, StreamEnds, ends_of, Source, TakesInput, ReadsWhole}
@@ -73,12 +73,14 @@ pub record Ends (args : Arguments) (in_walk : ℕ) (streams : StreamEnds)
   pub faults : ℕ
   pub reported : faulty_in results ≤ faults
   pub flushed : streams.failed ≡ false → streams.unflushed ≡ false
-  pub status_is : status ≡ tree_status args.task args.plan.settings.exit_mode streams.unheard
+  pub status_is : status ≡ tree_status args.task args.plan.run.settings.exit_mode streams.unheard
       faults (changed_in results)
   pub hidden : ℕ
+  pub edited : ℕ
+  pub edited_is : edited_in results < 2 ^ 64 → edited ≡ edited_in results
   pub remaining : ℕ
   pub last_is : last ≡ last_lines args (changed_in results) (same_in results) faults hidden
-      remaining
+      edited remaining
   pub is_lost : Bool
   pub told_is : told ≡ told_of results ++ joined (output_messages is_lost streams.failed) ++ last
   pub faults_are :

@@ -2,7 +2,7 @@
 --
 --   Moment                                the calls so far, the output and the error stream
 --   moment history contents reported tree out err   those of a tree and two writers
---   WritesOne P name calls calls' out out' update   a file was processed, and its output written
+--   WritesOne P name calls calls' out out' update edited   a file was processed, and shown
 --   WritesAll P before names report after report' counts   each file in turn was processed
 --   WritesList args out out'              what is listed after the files was written
 use Rattle.std.specs.Prelude.{◌≡◌, ℕ, List, [], Option, Result, false}
@@ -34,14 +34,20 @@ moment history contents reported tree out err = record {
   err = stream_of reported err;
 }
 
--- `WritesOne P name calls calls' out out' update`: `P` holds of a file with this result, and what
--- is shown of it was written. `calls` and `calls'` are the calls before and after it.
+-- `WritesOne P name calls calls' out out' update edited`: `P` holds of a file with this result and
+-- this number of edited conditions, and what is shown of it was written. `calls` and `calls'` are
+-- the calls before and after it.
 pub record WritesOne (P : List ℕ → List Call → List Call → FileResult → Type 0) (name : List ℕ)
-    (calls calls' : List Call) (out out' : Stream) (update : Result Update ReplaceError) :
-    Type 0 where
+    (calls calls' : List Call) (out out' : Stream) (update : Result Update ReplaceError)
+    (edited : ℕ) : Type 0 where
   pub shown : List ℕ
   pub does : (told : List ℕ) →
-      P name calls calls' (record { update = update; shown = shown; told = told })
+      P name calls calls' (record {
+        update = update;
+        shown = shown;
+        told = told;
+        edited = edited;
+      })
   pub sent : Sends out out' shown
 
 -- `WritesAll P before names report after report' counts`: `P` holds of each file in turn, `counts`

@@ -2,6 +2,7 @@
 
 use std::alloc::{AllocError, AllocFailed, Global};
 use ud_args::{Plan, Usage, plan};
+use ud_replace::TextPlan;
 
 /// The task of a run.
 #[derive(Clone, Copy, Debug, PartialEq, Eq)]
@@ -17,8 +18,8 @@ pub enum Task {
 /// The arguments of a run.
 #[derive(Drop)]
 pub struct Arguments {
-    /// The options of unifdef.
-    pub plan: Plan,
+    /// The plan for the text of each file.
+    pub plan: TextPlan,
     /// The patterns of the names of files; none for the usual ones.
     pub patterns: Vec<String>,
     /// The paths.
@@ -77,6 +78,12 @@ pub enum ArgumentFault {
     RemainingAndNames,
     /// `-d` and `-s` together.
     ChangesAndNames,
+    /// `-p` and `-s` together.
+    PruningAndNames,
+    /// `-p` and `-c` together.
+    PruningAndComplement,
+    /// `-p` and `-t` together.
+    PruningAndPlain,
     /// An option after the first path.
     OptionAfterPath(String),
     /// Paths beside `-0`.
@@ -116,6 +123,7 @@ struct Given {
     quiet: bool,
     list_remaining: bool,
     show_changes: bool,
+    prunes: bool,
     has_symbols: bool,
     version: bool,
     help: bool,
@@ -157,6 +165,7 @@ impl Given {
             quiet: false,
             list_remaining: false,
             show_changes: false,
+            prunes: false,
             has_symbols: false,
             version: false,
             help: false,
@@ -230,6 +239,7 @@ impl Given {
             'q' => self.quiet = true,
             'r' => self.list_remaining = true,
             'd' => self.show_changes = true,
+            'p' => self.prunes = true,
             'V' => self.version = true,
             'h' => self.help = true,
             'b' | 'c' | 'K' | 'k' | 'l' | 't' => self.pass_on(letter, "")?,
@@ -293,6 +303,9 @@ impl Given {
         if given.show_changes && given.names {
             return Err(ArgumentFault::ChangesAndNames);
         }
+        if given.prunes && given.names {
+            return Err(ArgumentFault::PruningAndNames);
+        }
         if given.names {
             given.pass_on('s', "")?;
         }
@@ -300,6 +313,12 @@ impl Given {
             Ok(plan) => plan,
             Err(usage) => return Err(given.fault_of(usage)?),
         };
+        if given.prunes && plan.settings().complement {
+            return Err(ArgumentFault::PruningAndComplement);
+        }
+        if given.prunes && plan.settings().plain {
+            return Err(ArgumentFault::PruningAndPlain);
+        }
         if given.from_input && !given.paths.is_empty() {
             return Err(ArgumentFault::PathsAndInput);
         }
@@ -317,7 +336,10 @@ impl Given {
             (false, false) => Task::Replace,
         };
         Arguments {
-            plan,
+            plan: TextPlan {
+                run: plan,
+                prunes: self.prunes,
+            },
             patterns: self.patterns,
             paths: self.paths,
             task,

@@ -14,7 +14,7 @@ use ud_sections::{Complement, Show};
 pub(crate) fn diff_of(job: &Job<'_>, name: &[u8], text: &[u8], output: &[u8]) -> Option<Vec<u8>>
     ensures { IfSome result (λ diff. IsDiff name.now text.now output.now diff.items) }
 {
-    let plan = &job.arguments.plan;
+    let plan = &job.arguments.plan.run;
     let settings = plan.settings();
     let printer = Marked::new(settings.blank);
     let mut marks = Vec::new(job.alloc);

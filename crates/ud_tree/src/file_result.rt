@@ -56,7 +56,7 @@ impl Report {
     {
         match error {
             ReplaceError::Text(fault) => {
-                self.text_fault(err, path, job.arguments.plan.settings(), fault);
+                self.text_fault(err, path, job.arguments.plan.run.settings(), fault);
             }
             ReplaceError::Read => self.failure(err, path, b"Cannot be read", tree.reason()),
             ReplaceError::OutOfMemory => self.fault(err, path, b"Out of memory"),

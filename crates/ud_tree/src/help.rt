@@ -8,7 +8,7 @@ use std::io::Write;
 use ud_io::Watched;
 
 /// A line for each option.
-const OPTIONS: [&[u8]; 23] = [
+const OPTIONS: [&[u8]; 24] = [
     b"  -0            read the paths from standard input, each ended by a null byte",
     b"  -b            leave removed lines blank",
     b"  -c            complement: keep what would be removed, and remove what would be kept",
@@ -23,6 +23,7 @@ const OPTIONS: [&[u8]; 23] = [
     b"  -k            decide constant expressions",
     b"  -l            as -b",
     b"  -n            change nothing, and print a diff of what would change",
+    b"  -p            remove decided operands from the conditions that stay",
     b"  -q            leave out the last lines with the counts",
     b"  -r            list the conditions that still name a symbol of the options",
     b"  -s            change nothing, and count the names in conditions",

@@ -18,7 +18,7 @@ pub struct Job<'a> {
 impl Job<'_> {
     /// Returns the mode in which lines are read.
     pub(crate) fn mode(&self) -> Mode {
-        if self.arguments.plan.settings().plain {
+        if self.arguments.plan.run.settings().plain {
             Mode::Plain
         } else {
             Mode::C

@@ -1,10 +1,9 @@
 //! What the calls of a whole run come to: functions without a body, whose contracts are theorems.
 
 ghost use Rattle.std.specs.Prelude.{◌≡◌, ◌+◌, ◌<◌, ◌^◌, false, length};
-ghost use Rattle.ud_model.specs.sections.Items.{Options};
 ghost use Rattle.ud_replace.specs.Moments.{Files, AreTrue, EachCall};
+ghost use Rattle.ud_replace.specs.TextOutcomes.{TextOptions, IsPlanned};
 ghost use Rattle.ud_tree.specs.declared.arguments.Task.TheVariants.{Replace, Diff};
-ghost use Rattle.ud_tree.specs.Runs.{IsPlanned};
 ghost use Rattle.ud_tree.specs.TreeDiffs.{ShowsDiffs};
 ghost use Rattle.ud_tree.specs.TreeRuns.{Run, IsRunOf, IsClean};
 ghost use Rattle.ud_tree.specs.TreeMoments.{TouchesNothing, TouchesFreshOrNone};
@@ -28,7 +27,7 @@ pub fn law_run_reads()
 /// of the files. Each diff turns the bytes that were read into the whole output for them, and back.
 /// Then come the conditions that still name a symbol, if they are to be listed.
 pub fn law_run_shows()
-    ensures { (o : Options) (run : Run) → IsRunOf run → IsPlanned run.args.plan o →
+    ensures { (o : TextOptions) (run : Run) → IsRunOf run → IsPlanned run.args.plan o →
         run.args.task ≡ Diff → ShowsDiffs o run }
 {}
 
@@ -36,7 +35,7 @@ pub fn law_run_shows()
 /// of the file in hand. Each rename comes after that one took the whole output. Writing into files
 /// isn't allowed here.
 pub fn law_run_renames()
-    ensures { (o : Options) (run : Run) → IsRunOf run → IsPlanned run.args.plan o →
+    ensures { (o : TextOptions) (run : Run) → IsRunOf run → IsPlanned run.args.plan o →
         run.args.write_into ≡ false → EachCall (TouchesFreshOrNone o) run.old run.new }
 {}
 
@@ -44,7 +43,7 @@ pub fn law_run_renames()
 /// call of a run. A process that is killed between two calls leaves such a state. Writing into
 /// files isn't allowed here.
 pub fn law_run_old_or_new()
-    ensures { (o : Options) (first : Files) (run : Run) → IsRunOf run →
+    ensures { (o : TextOptions) (first : Files) (run : Run) → IsRunOf run →
         IsPlanned run.args.plan o → run.args.write_into ≡ false → AreTrue first run.new →
         EachCall (LeavesOldOrOutput o first run.old) run.old run.new }
 {}

@@ -40,14 +40,16 @@ pub(crate) fn process_files<T: Tree, W: Write, E: Write>(
         report.progress(err, done, files.len());
         let name = found.path.as_bytes();
         let file = FileAt { name, id: found.id };
-        let update = process_file(job, tree, file, out, names, report);
+        let mut edited = 0;
+        let update = process_file(job, tree, file, out, names, report, &mut edited);
         report.file_result(err, job, tree, name, update);
-        counts.add(fate_of(update));
+        counts.add(fate_of(update), edited);
     }
     counts
 }
 
-/// Does with a file what the arguments ask for.
+/// Does with a file what the arguments ask for. Leaves in `edited`, which is 0 before, the number
+/// of conditions of its output that were edited, or would be.
 ///
 /// # Errors
 /// As `replace_file`, `show_file` or `list_file`.
@@ -58,16 +60,18 @@ fn process_file<T: Tree, W: Write>(
     out: &mut Watched<W>,
     names: &mut Names,
     report: &mut Report,
+    edited: &mut usize,
 ) -> Result<Update, ReplaceError>
+    requires none { edited.old ≡ 0 }
     ensures writes { WritesOne (DoesOne job.now.arguments.now) file.entry.name.now
         (T.history tree.old) (T.history tree.new) (stream_of W.contents out.old)
-        (stream_of W.contents out.new) result }
+        (stream_of W.contents out.new) result edited.new }
     ensures terminal { report.new.is_terminal ≡ report.old.is_terminal }
     ensures shown { report.new.is_shown ≡ report.old.is_shown }
 {
     match job.arguments.task {
-        Task::Replace => replace_file(job, tree, file, out, report),
-        Task::Diff => show_file(job, tree, file, out, report),
+        Task::Replace => replace_file(job, tree, file, out, report, edited),
+        Task::Diff => show_file(job, tree, file, out, report, edited),
         Task::Names => list_file(job, tree, file, names),
     }
 }

@@ -1,10 +1,10 @@
 //! Replacing one file.
 
 ghost use Rattle.std.specs.Prelude.{◌≡◌, [], true, false, Ok, is_ok};
-ghost use Rattle.ud_model.specs.sections.Items.{Options};
+ghost use Rattle.ud_replace.specs.TextOutcomes.{TextOptions, IsPlanned};
 ghost use Rattle.ud_tree.specs.Changes.{KeepsOne, ReplacesShowing, ShowsChange};
 ghost use Rattle.ud_tree.specs.Fates.{is_changed};
-ghost use Rattle.ud_tree.specs.Runs.{IsPlanned, ReplacesOne, fate_of};
+ghost use Rattle.ud_tree.specs.Runs.{ReplacesOne, fate_of};
 ghost use Rattle.ud_tree.specs.Streams.{stream_of};
 ghost use Rattle.ud_tree.specs.Writing.{WritesOne};
 
@@ -20,7 +20,8 @@ use ud_engine::Watched;
 use ud_replace::{ReplaceError, Target, Update, replace_keeping};
 
 /// Replaces a file, and adds the conditions of its output that still name a symbol to the report.
-/// Writes the diff of a file that was changed, if the arguments ask for it.
+/// Writes the diff of a file that was changed, if the arguments ask for it. Leaves in `edited`,
+/// which is 0 before, the number of conditions of the output that were edited.
 ///
 /// # Errors
 /// As `replace_keeping`. `OutOfMemory` also if memory for the new file's name can't be allocated.
@@ -31,20 +32,25 @@ pub(crate) fn replace_file<T: Tree, W: Write>(
     file: FileAt<'_>,
     out: &mut Watched<W>,
     report: &mut Report,
+    edited: &mut usize,
 ) -> Result<Update, ReplaceError>
+    requires none { edited.old ≡ 0 }
     ensures writes { WritesOne
         (ReplacesShowing job.now.arguments.now.plan job.now.arguments.now.write_into
         job.now.arguments.now.show_changes) file.entry.name.now (T.history tree.old)
-        (T.history tree.new) (stream_of W.contents out.old) (stream_of W.contents out.new) result }
+        (T.history tree.new) (stream_of W.contents out.old) (stream_of W.contents out.new) result
+        edited.new }
     ensures terminal { report.new.is_terminal ≡ report.old.is_terminal }
     ensures shown { report.new.is_shown ≡ report.old.is_shown }
 {
     let mut text = Vec::new(job.alloc);
     let mut output = Watched::new(Vec::<u8>::new(job.alloc));
-    let update = match replace_named(job, tree, file, &mut text, &mut output) {
+    let mut count = 0;
+    let update = match replace_named(job, tree, file, &mut text, &mut output, &mut count) {
         Ok(update) => update,
         Err(error) => return Err(error),
     };
+    *edited = count;
     report.search(job, file.name, output.inner().as_slice());
     let diff = change_of(
         job,
@@ -100,22 +106,24 @@ fn is_change(update: Update) -> bool
 }
 
 /// Replaces a file by one with a name of its own. Its text is left in `text` and the output for it
-/// in `output`, which are empty before.
+/// in `output`, which are empty before, and in `edited` the number of its edited conditions.
 fn replace_named<T: Tree>(
     job: &Job<'_>,
     tree: &mut T,
     file: FileAt<'_>,
     text: &mut Vec<u8>,
     output: &mut Watched<Vec<u8>>,
+    edited: &mut usize,
 ) -> Result<Update, ReplaceError>
     requires unread { text.old.items ≡ [] }
     requires empty { output.old.inner.items ≡ [] }
     requires not_failed { output.old.failed ≡ false }
     ensures replaces { ReplacesOne job.now.arguments.now.plan job.now.arguments.now.write_into
         file.entry.name.now (T.history tree.old) (T.history tree.new) result }
-    ensures keeps { (o : Options) → IsPlanned job.now.arguments.now.plan o → is_ok result ≡ true →
-        KeepsOne o job.now.arguments.now.write_into file.entry.name.now (T.history tree.old)
-        (T.history tree.new) result text.new.items output.new.inner.items }
+    ensures keeps { (o : TextOptions) → IsPlanned job.now.arguments.now.plan o →
+        is_ok result ≡ true → KeepsOne o job.now.arguments.now.write_into file.entry.name.now
+        (T.history tree.old) (T.history tree.new) result text.new.items output.new.inner.items
+        edited.new }
 {
     let name = file.name;
     match fresh_name(job.alloc, name) {
@@ -127,7 +135,15 @@ fn replace_named<T: Tree>(
                 fresh: fresh.as_slice(),
                 write_into: job.arguments.write_into,
             };
-            replace_keeping(job.alloc, &job.arguments.plan, tree, &target, text, output)
+            replace_keeping(
+                job.alloc,
+                &job.arguments.plan,
+                tree,
+                &target,
+                text,
+                output,
+                edited,
+            )
         }
     }
 }

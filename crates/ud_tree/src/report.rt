@@ -159,7 +159,7 @@ impl Report {
         ensures shown { self.new.is_shown ≡ self.old.is_shown }
     {
         if job.arguments.search_remaining() {
-            let symbols = job.arguments.plan.symbols();
+            let symbols = job.arguments.plan.run.symbols();
             let added = self.remaining.add(name, output, job.mode(), symbols);
             self.has_lost |= added.is_err();
         }
@@ -326,7 +326,7 @@ impl Report {
 
 /// How the program is called.
 pub(crate) const USAGE: &[u8] =
-    b"usage: unifdef-tree [-dnqrw0] [-g pattern]... [-bcKklt] [-Dsym[=val]]... [-Usym]...\n                    [-iDsym[=val]]... [-iUsym]... [-xmode] [--] path...\n       unifdef-tree -s [-q0] [-g pattern]... [-t] [--] path...\n       unifdef-tree -h | -V\n";
+    b"usage: unifdef-tree [-dnpqrw0] [-g pattern]... [-bcKklt] [-Dsym[=val]]... [-Usym]...\n                    [-iDsym[=val]]... [-iUsym]... [-xmode] [--] path...\n       unifdef-tree -s [-q0] [-g pattern]... [-t] [--] path...\n       unifdef-tree -h | -V\n";
 
 /// Writes the message of a fault of the arguments.
 pub fn report_argument_fault<E: Write>(alloc: Global, err: &mut Watched<E>, fault: &ArgumentFault) {
@@ -356,6 +356,19 @@ pub fn report_argument_fault<E: Write>(alloc: Global, err: &mut Watched<E>, faul
         ArgumentFault::ChangesAndNames => {
             report_line(alloc, err, &[b"-d and -s don't go together"]);
         }
+        ArgumentFault::PruningAndNames => {
+            report_line(alloc, err, &[b"-p and -s don't go together"]);
+        }
+        ArgumentFault::PruningAndComplement => report_line(
+            alloc,
+            err,
+            &[b"-p and -c don't go together: the complement is no C"],
+        ),
+        ArgumentFault::PruningAndPlain => report_line(
+            alloc,
+            err,
+            &[b"-p and -t don't go together: plain text has no comments"],
+        ),
         ArgumentFault::OptionAfterPath(word) => {
             report_line(alloc, err, &[b"Option after a path: ", word.as_bytes()]);
         }

@@ -10,6 +10,7 @@ ghost use Rattle.ud_tree.specs.Streams.{Sends, stream_of, source_of, ReadsWhole}
 ghost use Rattle.ud_tree.specs.Summaries.{Says, TellsEnd, changes_line, summary};
 ghost use Rattle.ud_tree.specs.Summaries.{files_text, hidden_text};
 ghost use Rattle.ud_tree.specs.Summaries.{remaining_line, remaining_text};
+ghost use Rattle.ud_tree.specs.Summaries.{edited_line, edited_text};
 ghost use Rattle.ud_tree.specs.TreeRuns.{EndsWriting, RunsTree};
 ghost use Rattle.ud_tree.specs.WalkMessages.{FindsFiles, ReportsWalk, StopsWalk};
 ghost use Rattle.ud_tree.specs.WalkMessages.{TakesEach, TakesPaths};
@@ -321,8 +322,8 @@ fn finish_output<W: Write, E: Write>(
     true
 }
 
-/// Writes the last lines, unless the run is quiet: the counts, and how many conditions still name a
-/// symbol.
+/// Writes the last lines, unless the run is quiet: the counts, how many conditions were edited, and
+/// how many still name a symbol.
 fn report_end<E: Write>(
     job: &Job<'_>,
     report: &mut Report,
@@ -338,6 +339,7 @@ fn report_end<E: Write>(
         return;
     }
     report_counts(job.arguments.task, report, err, hidden, counts, faults);
+    report_edited(job.arguments.plan.prunes, report, err, counts.edited);
     report_remaining(job.arguments, report, err);
 }
 
@@ -441,6 +443,31 @@ fn hidden_text(count: usize) -> &'static [u8]
     }
 }
 
+/// Writes how many conditions were edited, if conditions are pruned.
+fn report_edited<E: Write>(prunes: bool, report: &mut Report, err: &mut Watched<E>, count: usize)
+    ensures line { report.old.is_shown ≡ false → Sends (stream_of E.contents err.old)
+        (stream_of E.contents err.new) (edited_line prunes count) }
+    ensures hidden { report.old.is_shown ≡ false → report.new.is_shown ≡ false }
+{
+    if !prunes {
+        return;
+    }
+    let mut digits = Buffer::new();
+    let number = digits.format(count).as_bytes();
+    report.line(err, &[number, edited_text(count)]);
+}
+
+/// Returns what follows the number of edited conditions.
+fn edited_text(count: usize) -> &'static [u8]
+    ensures { result.now ≡ edited_text count }
+{
+    if count == 1 {
+        b" condition edited"
+    } else {
+        b" conditions edited"
+    }
+}
+
 /// Writes how many conditions still name a symbol, if they were listed or if there are some.
 fn report_remaining<E: Write>(arguments: &Arguments, report: &mut Report, err: &mut Watched<E>)
     ensures { report.old.is_shown ≡ false → Sends (stream_of E.contents err.old)
@@ -473,14 +500,16 @@ fn remaining_text(count: usize) -> &'static [u8]
 
 /// Returns the exit status. `unheard` says whether a message couldn't be written.
 fn status(arguments: &Arguments, unheard: bool, faults: usize, changed: usize) -> u8
-    ensures { result ≡ tree_status arguments.now.task arguments.now.plan.settings.exit_mode unheard
+    ensures { result ≡ tree_status arguments.now.task arguments.now.plan.run.settings.exit_mode unheard
         faults changed }
 {
     if unheard || faults > 0 {
         return EXIT_TROUBLE;
     }
     match arguments.task {
-        Task::Replace | Task::Diff => status_by(arguments.plan.settings().exit_mode, changed > 0),
+        Task::Replace | Task::Diff => {
+            status_by(arguments.plan.run.settings().exit_mode, changed > 0)
+        }
         Task::Names => 0,
     }
 }

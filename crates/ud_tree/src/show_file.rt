@@ -17,7 +17,8 @@ use ud_io::Watched;
 use ud_replace::{FileStat, ReplaceError, Update};
 
 /// Writes the diff of a file, and adds the conditions of its output that still name a symbol to the
-/// report. Returns `Replaced` if the file would change.
+/// report. Returns `Replaced` if the file would change. Leaves in `edited`, which is 0 before, the
+/// number of conditions of the output that would be edited.
 ///
 /// Nothing is asked but that the file is read once.
 ///
@@ -30,11 +31,13 @@ pub(crate) fn show_file<T: Tree, W: Write>(
     file: FileAt<'_>,
     out: &mut Watched<W>,
     report: &mut Report,
+    edited: &mut usize,
 ) -> Result<Update, ReplaceError>
+    requires none { edited.old ≡ 0 }
     ensures writes { WritesOne
         (ShowsOne job.now.arguments.now.plan job.now.arguments.now.write_into)
         file.entry.name.now (T.history tree.old) (T.history tree.new)
-        (stream_of W.contents out.old) (stream_of W.contents out.new) result }
+        (stream_of W.contents out.old) (stream_of W.contents out.new) result edited.new }
     ensures terminal { report.new.is_terminal ≡ report.old.is_terminal }
     ensures shown { report.new.is_shown ≡ report.old.is_shown }
 {
@@ -44,7 +47,7 @@ pub(crate) fn show_file<T: Tree, W: Write>(
         Err(error) => return Err(error),
     };
     let name = file.name;
-    if !ran.differs {
+    if !ran.run.differs {
         report.search(job, name, output.inner().as_slice());
         return Ok(Update::Unchanged);
     }
@@ -55,6 +58,7 @@ pub(crate) fn show_file<T: Tree, W: Write>(
     let Some(diff) = diff_of(job, name, ran.text.as_slice(), output.inner().as_slice()) else {
         return Err(ReplaceError::OutOfMemory);
     };
+    *edited = ran.run.edited;
     send(out, diff.as_slice());
     Ok(Update::Replaced)
 }

@@ -13,4 +13,4 @@ returns-in-Diff-clause-writes g c = done_by Diff c.args.job.now.arguments.now c.
 pub returns-in-Names-clause-writes : goal.returns-in-Names-clause-writes
 returns-in-Names-clause-writes g c =
     done_by Names c.args.job.now.arguments.now c.in-Names.is
-    (writes_unshown (stream_of g.W.Write.contents c.args.out.now) c.list_file.ensures)
+    (writes_unshown (stream_of g.W.Write.contents c.args.out.now) c.requires.none c.list_file.ensures)

@@ -1,4 +1,4 @@
-use Rattle.std.proofs.Common.{sym, refl}
+use Rattle.std.proofs.Common.{sym}
 use Rattle.ud_tree.specs.Changes.{nothing_shown, change_shown}
 use Rattle.ud_tree.proofs.replace_file.change_of.Goals as goal
 

@@ -1,5 +1,5 @@
-use Rattle.std.proofs.Common.{[], refl, ap, ◌∙◌}
-use Rattle.ud_tree.specs.Changes.{after_error, after_update}
+use Rattle.std.proofs.Common.{ℕ, [], refl, sym, ap, ◌∙◌, subst, Err}
+use Rattle.ud_tree.specs.Changes.{ShowsUpdate, after_error, after_update}
 use Rattle.ud_tree.specs.Streams.{stream_of}
 use Rattle.ud_tree.proofs.StreamLemmas.{sends_none, sends_same}
 use Rattle.ud_tree.proofs.replace_file.replace_file.Goals as goal
@@ -7,7 +7,11 @@ use Rattle.ud_tree.proofs.replace_file.replace_file.Goals as goal
 pub returns-in-Err-clause-writes : goal.returns-in-Err-clause-writes
 returns-in-Err-clause-writes g c = record {
   shown = [];
-  does = λ told. record { does = c.in-Err.ensures.replaces; change = after_error };
+  does = λ told. record {
+    does = c.in-Err.ensures.replaces;
+    change = subst (λ (n : ℕ). ShowsUpdate c.args.job.now.arguments.now.plan c.args.job.now.arguments.now.write_into c.args.job.now.arguments.now.show_changes c.args.file.name.now
+        (g.T.Folder.history c.args.tree.now) (g.T.Folder.history c.replace_named.new.tree) (Err c.in-Err.error) [] n) (sym c.requires.none) after_error;
+  };
   sent = sends_none (stream_of g.W.Write.contents c.args.out.now);
 }
 
@@ -16,7 +20,7 @@ returns-clause-writes g c = record {
   shown = c.change_of-diff.result.items;
   does = λ told. record {
     does = c.in-Ok.ensures.replaces;
-    change = after_update _ _ (λ o p. c.in-Ok.ensures.keeps o p refl)
+    change = after_update _ _ _ (λ o p. c.in-Ok.ensures.keeps o p refl)
         (rw (c.as_slice-2.ensures.value, c.as_slice-3.ensures.value ∙ ap (λ v. v.items) c.inner-2.ensures) at c.change_of-diff.ensures.change);
   };
   sent = sends_same c.as_slice-4.ensures.value c.send.ensures;

@@ -1,4 +1,4 @@
-use Rattle.std.proofs.Common.{refl, ◌∙◌, subst}
+use Rattle.std.proofs.Common.{refl, ◌∙◌}
 use Rattle.ud_tree.specs.Runs.{replaces, no_name}
 use Rattle.ud_tree.proofs.replace_file.replace_named.Goals as goal
 
@@ -7,8 +7,8 @@ returns-in-Err-clause-replaces g c = no_name refl
 
 pub returns-in-Ok-clause-replaces : goal.returns-in-Ok-clause-replaces
 returns-in-Ok-clause-replaces g c =
-    replaces c.replace_keeping.result c.args.file.id c.as_slice.result.now (c.as_slice.ensures.value ∙ c.in-Ok.ensures) (λ o h. c.replace_keeping.ensures.calls o h.settings h.table)
+    replaces c.replace_keeping.result c.args.file.id c.as_slice.result.now (c.as_slice.ensures.value ∙ c.in-Ok.ensures) (λ o h. c.replace_keeping.ensures.calls o h)
 
 pub returns-in-Ok-clause-keeps : goal.returns-in-Ok-clause-keeps
 returns-in-Ok-clause-keeps g c = λ o h ok.
-    (c.args.file.id, rw (c.as_slice.ensures.value ∙ c.in-Ok.ensures) at (c.replace_keeping.ensures.output o h.settings h.table ok))
+    (c.args.file.id, rw (c.as_slice.ensures.value ∙ c.in-Ok.ensures) at (c.replace_keeping.ensures.output o h ok))

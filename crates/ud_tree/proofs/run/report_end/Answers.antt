@@ -8,4 +8,4 @@ returns-then-job g c =
 
 pub returns : goal.returns
 returns g c =
-    ends_told c.args.job.now.arguments.now c.args.counts c.args.faults c.args.hidden _ c.if-job.false c.report_counts.ensures c.report_remaining.ensures
+    ends_told c.args.job.now.arguments.now c.args.counts c.args.faults c.args.hidden _ c.report_edited.new.report c.if-job.false c.report_counts.ensures c.report_edited.ensures.line c.report_edited.ensures.hidden c.report_remaining.ensures

@@ -17,19 +17,19 @@ returns-then-not-is_of-clause-reads g c = reads _ _ c.in-Some.ensures.noted
 pub returns-then-not-is_of-clause-ran : goal.returns-then-not-is_of-clause-ran
 returns-then-not-is_of-clause-ran g c = λ o p. other_file _ _ c.in-Some.ensures.noted
 
-pub returns-in_err-differs-in-Some-clause-reads : goal.returns-in_err-differs-in-Some-clause-reads
-returns-in_err-differs-in-Some-clause-reads g c = reads _ _ c.in-Some.ensures.noted
+pub returns-in_err-run-in-Some-clause-reads : goal.returns-in_err-run-in-Some-clause-reads
+returns-in_err-run-in-Some-clause-reads g c = reads _ _ c.in-Some.ensures.noted
 
-pub returns-in_err-differs-in-Some-clause-ran : goal.returns-in_err-differs-in-Some-clause-ran
-returns-in_err-differs-in-Some-clause-ran g c = λ o p.
+pub returns-in_err-run-in-Some-clause-ran : goal.returns-in_err-run-in-Some-clause-ran
+returns-in_err-run-in-Some-clause-ran g c = λ o p.
     let e = err_from_is_err_and c.from_residual.result c.from_residual.ensures.1 in
-    rw (e.1, e.2) (fails_after o _ c.in-Some.ensures.noted c.as_slice.ensures.value (c.in_err-differs-in-Some.ensures o p))
+    rw (e.1, e.2) (fails_after o _ c.in-Some.ensures.noted c.as_slice.ensures.value (c.in_err-run-in-Some.ensures o p))
 
-pub returns-in_ok-differs-in-Some-clause-reads : goal.returns-in_ok-differs-in-Some-clause-reads
-returns-in_ok-differs-in-Some-clause-reads g c = reads _ _ c.in-Some.ensures.noted
+pub returns-in_ok-run-in-Some-clause-reads : goal.returns-in_ok-run-in-Some-clause-reads
+returns-in_ok-run-in-Some-clause-reads g c = reads _ _ c.in-Some.ensures.noted
 
-pub returns-in_ok-differs-in-Some-clause-text : goal.returns-in_ok-differs-in-Some-clause-text
-returns-in_ok-differs-in-Some-clause-text g c = c.in-Some.ensures.noted
+pub returns-in_ok-run-in-Some-clause-text : goal.returns-in_ok-run-in-Some-clause-text
+returns-in_ok-run-in-Some-clause-text g c = c.in-Some.ensures.noted
 
-pub returns-in_ok-differs-in-Some-clause-ran : goal.returns-in_ok-differs-in-Some-clause-ran
-returns-in_ok-differs-in-Some-clause-ran g c = λ o p. ran_as o c.as_slice.ensures.value (c.in_ok-differs-in-Some.ensures o p)
+pub returns-in_ok-run-in-Some-clause-ran : goal.returns-in_ok-run-in-Some-clause-ran
+returns-in_ok-run-in-Some-clause-ran g c = λ o p. ran_as o c.as_slice.ensures.value (c.in_ok-run-in-Some.ensures o p)

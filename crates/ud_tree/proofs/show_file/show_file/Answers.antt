@@ -8,22 +8,22 @@ use Rattle.ud_tree.proofs.show_file.show_file.Goals as goal
 
 pub returns-in-Err-clause-writes : goal.returns-in-Err-clause-writes
 returns-in-Err-clause-writes g c =
-    shows_none (stream_of g.W.Write.contents c.args.out.now) c.run_file.ensures.reads (λ o p. faulty (c.in-Err.ensures.ran o p))
+    shows_none (stream_of g.W.Write.contents c.args.out.now) c.requires.none c.run_file.ensures.reads (λ o p. faulty (c.in-Err.ensures.ran o p))
 
 pub returns-in_default-clause-writes : goal.returns-in_default-clause-writes
 returns-in_default-clause-writes g c =
-    shows_none (stream_of g.W.Write.contents c.args.out.now) c.run_file.ensures.reads (λ o p. faulty (no_memory o c.in-Ok.ensures.text))
+    shows_none (stream_of g.W.Write.contents c.args.out.now) c.requires.none c.run_file.ensures.reads (λ o p. faulty (no_memory o c.in-Ok.ensures.text))
 
 pub returns-then-not-ran-clause-writes : goal.returns-then-not-ran-clause-writes
 returns-then-not-ran-clause-writes g c =
-    shows_none (stream_of g.W.Write.contents c.args.out.now) c.run_file.ensures.reads
+    shows_none (stream_of g.W.Write.contents c.args.out.now) c.requires.none c.run_file.ensures.reads
     (λ o p.
     shows_same o _ _ _ _ _ _ _ _ _ (ap (λ v. v.items) c.new-output.ensures.inner ∙ c.new.ensures.items) c.if-not-ran.true c.in-Ok.ensures.text
     (c.in-Ok.ensures.ran o p))
 
 pub returns-then-is_left_alone-clause-writes : goal.returns-then-is_left_alone-clause-writes
 returns-then-is_left_alone-clause-writes g c =
-    shows_none (stream_of g.W.Write.contents c.args.out.now) c.run_file.ensures.reads
+    shows_none (stream_of g.W.Write.contents c.args.out.now) c.requires.none c.run_file.ensures.reads
     (λ o p.
     shows_several o _ _ _ _ _ _ _ _ _ (ap (λ v. v.items) c.new-output.ensures.inner ∙ c.new.ensures.items) c.if-not-ran.false c.in-Ok.ensures.text
     (c.in-Ok.ensures.ran o p) (c.is_left_alone.ensures.left c.if-is_left_alone.true))

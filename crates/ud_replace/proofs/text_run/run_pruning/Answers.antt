@@ -1,0 +1,23 @@
+-- By the run, and the pass over its output.
+use Rattle.std.proofs.Common.{◌≡◌, refl, sym, ap, ◌∙◌, ◌||◌, nat_lt}
+use Rattle.std.proofs.lemmas.Result.{err_from_is_err_and}
+use Rattle.ud_replace.proofs.TextLemmas.{fails_memory, fails_over, runs_pruned}
+use Rattle.ud_replace.proofs.text_run.run_pruning.Goals as goal
+use Rattle.ud_replace.proofs.text_run.run_pruning.Goals.{then-differs, else-differs}
+
+pub returns-in_err-edited-in-Ok : goal.returns-in_err-edited-in-Ok
+returns-in_err-edited-in-Ok c = λ o p.
+    let e = err_from_is_err_and c.from_residual.result c.from_residual.ensures.1 in
+    rw (e.1, e.2) (fails_memory o c.args.text.now (c.in_err-edited-in-Ok.ensures o.run p.settings p.table))
+
+pub returns-in-Ok : goal.returns-in-Ok
+returns-in-Ok c = λ o p.
+    let differs : c.if-differs.result ≡ (c.in-Ok.differs || nat_lt 0 c.in_ok-edited-in-Ok.edited) = elim c.if-differs.branch [
+      | then-differs w ↦ w.result-is ∙ w.if-differs.true ∙ sym (ap (λ b. b || nat_lt 0 c.in_ok-edited-in-Ok.edited) w.if-differs.true)
+      | else-differs w ↦ w.result-is ∙ sym (ap (λ b. b || nat_lt 0 c.in_ok-edited-in-Ok.edited) w.if-differs.false)
+    ] in
+    runs_pruned o _ (p.prunes ∙ c.requires.prunes) differs refl (ap (λ v. v.items) c.new-output.ensures.inner ∙ c.new.ensures.items) (c.in-Ok.ensures o.run p.settings p.table)
+    (c.as_slice.ensures.value ∙ ap (λ v. v.items) c.inner.ensures) (c.in_ok-edited-in-Ok.ensures o.run p.settings p.table)
+
+pub returns : goal.returns
+returns c = λ o p. fails_over o (c.in-Err.ensures o.run p.settings p.table)

@@ -1,0 +1,106 @@
+-- TextOutcomes: the outcome of a text: that of the run over it and, if that is wanted, of the pass
+-- over its output that removes the operands which the symbols decide.
+--
+--   TextOptions               the options of the run, and whether its conditions are pruned
+--   IsPlanned plan o          `o` has the options of a plan
+--   TextOutcome               the output, the fault, whether it differs, and the edited conditions
+--   unpruned a, pruned o a    the outcome of a run, as it is and with pruned conditions
+--   HasTextOutcome o text a   `a` is the outcome of `text`
+--   TextRun                   what a run over a text returns
+--   RunsOver o text old new ran   the output for a text was appended to `old`
+--   error_of f                the error of a file, by the fault of a run over its text
+--   FailsOver o text e        the run over a text failed
+--   IsOutputOf o text output edited   the output of the outcome of a text
+--
+-- Example: under `-UA`, the output for the line `#if A || X` is that line. If conditions are
+-- pruned, it is `#if X`.
+use Rattle.std.specs.Prelude.{◌≡◌, ℕ, List, ◌++◌, Bool, true, false, ◌||◌, Option, None}
+use Rattle.std.specs.Prelude.{nat_lt}
+use Rattle.ud_model.specs.sections.Faults.{Fault}
+use Rattle.ud_model.specs.sections.Items.{Options, rules_of}
+use Rattle.ud_model.specs.answer.Outcomes.{Outcome, HasOutcome}
+use Rattle.ud_cond.specs.symbols.SymbolTable.{TableRepresents}
+use Rattle.ud_faults.specs.declared.run.RunFault.{RunFault}
+use Rattle.ud_faults.specs.declared.run.RunFault.TheVariants.{Text as TextFault, Section}
+use Rattle.ud_faults.specs.declared.run.RunFault.TheVariants.{Read as ReadFault, Write}
+use Rattle.ud_engine.specs.Finishing.{text_fault_of}
+use Rattle.ud_prune.specs.PrunedTexts.{pruned_text, edited_count}
+use Rattle.ud_replace.specs.declared.error.ReplaceError.{ReplaceError}
+use Rattle.ud_replace.specs.declared.error.ReplaceError.TheVariants.{Text, OutOfMemory}
+use Rattle.ud_replace.specs.declared.text_plan.TextPlan.{TextPlan}
+use Rattle.ud_replace.specs.declared.text_plan.TextRun.{TextRun}
+
+-- `TextOptions`: the options of the run over a text, and whether the conditions of its output are
+-- pruned.
+pub record TextOptions : Type 0 where
+  pub run : Options
+  pub prunes : Bool
+
+-- `IsPlanned plan o`: `o` has the settings and the symbols of `plan`, and prunes as it does.
+pub record IsPlanned (plan : TextPlan) (o : TextOptions) : Type 0 where
+  pub settings : o.run.settings ≡ plan.run.settings
+  pub table : TableRepresents plan.run.symbols o.run.table
+  pub prunes : o.prunes ≡ plan.prunes
+
+-- `TextOutcome`: the output for a text, the fault of the text if there is one, whether the output
+-- differs, and how many of its conditions were edited.
+pub record TextOutcome : Type 0 where
+  pub output : List ℕ
+  pub fault : Option Fault
+  pub differs : Bool
+  pub edited : ℕ
+
+-- `unpruned a`: the outcome `a` of a run as it is.
+abbrev pub unpruned : Outcome → TextOutcome
+unpruned a = record { output = a.output; fault = a.fault; differs = a.differs; edited = 0 }
+
+-- `pruned o a`: the outcome `a` of a run without the operands that the options `o` decide. It
+-- differs if `a` does, or if a condition was edited.
+abbrev pub pruned : Options → Outcome → TextOutcome
+pruned o a = record {
+  output = pruned_text o.table (rules_of o.settings) a.output;
+  fault = a.fault;
+  differs = a.differs || nat_lt 0 (edited_count o.table (rules_of o.settings) a.output);
+  edited = edited_count o.table (rules_of o.settings) a.output;
+}
+
+-- `HasTextOutcome o text r`: `r` is the outcome of the run over `text`. If conditions are pruned,
+-- and the text has no fault, it is that outcome with pruned conditions.
+pub data HasTextOutcome (o : TextOptions) (text : List ℕ) : TextOutcome → Type 0 where
+  as_run : {a : Outcome} → o.prunes ≡ false → HasOutcome o.run text a →
+      HasTextOutcome o text (unpruned a)
+  as_faulty : {a : Outcome} → ¬ (a.fault ≡ None) → HasOutcome o.run text a →
+      HasTextOutcome o text (unpruned a)
+  as_pruned : {a : Outcome} → o.prunes ≡ true → a.fault ≡ None → HasOutcome o.run text a →
+      HasTextOutcome o text (pruned o.run a)
+
+-- `RunsOver o text old new ran`: `text` has no fault, and the output for it was appended to the
+-- bytes `old`, which are then `new`. `ran` has whether it differs, and the edited conditions.
+pub record RunsOver (o : TextOptions) (text old new : List ℕ) (ran : TextRun) : Type 0 where
+  pub outcome : TextOutcome
+  pub runs : HasTextOutcome o text outcome
+  pub faultless : outcome.fault ≡ None
+  pub appended : new ≡ old ++ outcome.output
+  pub differs_is : ran.differs ≡ outcome.differs
+  pub edited_is : ran.edited ≡ outcome.edited
+
+-- `error_of f`: the error of a file, by the fault of a run over its text. The text and the output
+-- are in memory, so other faults than the text's mean that memory couldn't be allocated.
+abbrev pub error_of : RunFault → ReplaceError
+error_of (TextFault f) = Text (TextFault f)
+error_of (Section f) = Text (Section f)
+error_of ReadFault = OutOfMemory
+error_of Write = OutOfMemory
+
+-- `FailsOver o text e`: the outcome of `text` has the fault of `e`. Or memory couldn't be
+-- allocated.
+pub data FailsOver (o : TextOptions) (text : List ℕ) : ReplaceError → Type 0 where
+  over_faulty : (outcome : TextOutcome) (f : RunFault) → HasTextOutcome o text outcome →
+      outcome.fault ≡ text_fault_of f → ¬ (outcome.fault ≡ None) → FailsOver o text (Text f)
+  over_memory : FailsOver o text OutOfMemory
+
+-- `IsOutputOf o text output edited`: `output` is that of the outcome of `text`, and `edited` is the
+-- number of its conditions that were edited.
+pub data IsOutputOf (o : TextOptions) (text output : List ℕ) (edited : ℕ) : Type 0 where
+  output_of : (r : TextOutcome) → HasTextOutcome o text r → output ≡ r.output →
+      edited ≡ r.edited → IsOutputOf o text output edited

@@ -1,0 +1,35 @@
+-- UnprunedRuns: the run over a text in memory, before its conditions are pruned.
+--
+--   RunsUnpruned o text old new differs   the output of the run was appended to `old`
+--   FailsUnpruned o text e                the run failed
+--   PrunesInto o text old new edited      a text with pruned conditions was appended to `old`
+use Rattle.std.specs.Prelude.{◌≡◌, ℕ, List, ◌++◌, Bool, None}
+use Rattle.ud_model.specs.sections.Items.{Options, rules_of}
+use Rattle.ud_model.specs.answer.Outcomes.{Outcome, HasOutcome}
+use Rattle.ud_faults.specs.declared.run.RunFault.{RunFault}
+use Rattle.ud_engine.specs.Finishing.{text_fault_of}
+use Rattle.ud_prune.specs.PrunedTexts.{pruned_text, edited_count}
+use Rattle.ud_replace.specs.declared.error.ReplaceError.{ReplaceError}
+use Rattle.ud_replace.specs.declared.error.ReplaceError.TheVariants.{Text, OutOfMemory}
+
+-- `RunsUnpruned o text old new differs`: `text` has no fault, and the output of the run over it was
+-- appended to the bytes `old`, which are then `new`. `differs` says whether some line differs.
+pub record RunsUnpruned (o : Options) (text old new : List ℕ) (differs : Bool) : Type 0 where
+  pub outcome : Outcome
+  pub runs : HasOutcome o text outcome
+  pub faultless : outcome.fault ≡ None
+  pub appended : new ≡ old ++ outcome.output
+  pub differs_is : differs ≡ outcome.differs
+
+-- `FailsUnpruned o text e`: the outcome of the run over `text` has the fault of `e`. Or memory
+-- couldn't be allocated.
+pub data FailsUnpruned (o : Options) (text : List ℕ) : ReplaceError → Type 0 where
+  run_faulty : (outcome : Outcome) (f : RunFault) → HasOutcome o text outcome →
+      outcome.fault ≡ text_fault_of f → ¬ (outcome.fault ≡ None) → FailsUnpruned o text (Text f)
+  no_memory_left : FailsUnpruned o text OutOfMemory
+
+-- `PrunesInto o text old new edited`: `text` was appended to `old` without the operands that the
+-- options decide, and `edited` conditions of it were edited.
+pub record PrunesInto (o : Options) (text old new : List ℕ) (edited : ℕ) : Type 0 where
+  pub appended : new ≡ old ++ pruned_text o.table (rules_of o.settings) text
+  pub edited_is : edited ≡ edited_count o.table (rules_of o.settings) text

@@ -1,0 +1,21 @@
+//! What is to be made of each text, and what was made of one.
+
+use ud_args::Plan;
+
+/// The options of unifdef, and whether the conditions of its output are pruned.
+#[derive(Drop)]
+pub struct TextPlan {
+    /// The plan of the run over a text.
+    pub run: Plan,
+    /// True if the operands that the symbols decide are removed from the conditions of the output.
+    pub prunes: bool,
+}
+
+/// The result for a text without a fault.
+#[derive(Clone, Copy, Debug, PartialEq, Eq)]
+pub struct TextRun {
+    /// True if the output differs.
+    pub differs: bool,
+    /// The number of conditions of the output from which operands were removed.
+    pub edited: usize,
+}

@@ -1,0 +1,126 @@
+//! The run over a text in memory, and the pass over its output.
+
+ghost use Rattle.std.specs.Prelude.{◌≡◌, true, false, MatchResult};
+ghost use Rattle.ud_args.specs.Plans.{ForOptionsOf};
+ghost use Rattle.ud_replace.specs.TextOutcomes.{TextOptions, IsPlanned, RunsOver, FailsOver};
+ghost use Rattle.ud_replace.specs.TextOutcomes.{error_of};
+ghost use Rattle.ud_replace.specs.UnprunedRuns.{RunsUnpruned, FailsUnpruned, PrunesInto};
+
+use crate::error::ReplaceError;
+use crate::text_plan::{TextPlan, TextRun};
+use std::alloc::Global;
+use ud_args::Plan;
+use ud_cond::Rules;
+use ud_engine::{RunFault, Watched, run};
+use ud_io::write_all;
+use ud_prune::prune;
+
+/// Appends the output for a text, as the plan asks.
+///
+/// # Errors
+/// `Text` if the text has a fault: no condition is pruned then, and the output up to the fault was
+/// appended. `OutOfMemory` if memory can't be allocated.
+pub fn run_text(
+    alloc: Global,
+    plan: &TextPlan,
+    text: &[u8],
+    out: &mut Watched<Vec<u8>>,
+) -> Result<TextRun, ReplaceError>
+    requires not_failed { out.old.failed ≡ false }
+    ensures { (o : TextOptions) → IsPlanned plan.now o → MatchResult result
+        (RunsOver o text.now out.old.inner.items out.new.inner.items) (FailsOver o text.now) }
+{
+    if plan.prunes {
+        return run_pruning(alloc, plan, text, out);
+    }
+    let differs = run_unpruned(&plan.run, text, out)?;
+    Ok(TextRun { differs, edited: 0 })
+}
+
+/// Appends the output of the run over a text, with pruned conditions.
+///
+/// # Errors
+/// As `run_text`.
+fn run_pruning(
+    alloc: Global,
+    plan: &TextPlan,
+    text: &[u8],
+    out: &mut Watched<Vec<u8>>,
+) -> Result<TextRun, ReplaceError>
+    requires not_failed { out.old.failed ≡ false }
+    requires prunes { plan.now.prunes ≡ true }
+    ensures { (o : TextOptions) → IsPlanned plan.now o → MatchResult result
+        (RunsOver o text.now out.old.inner.items out.new.inner.items) (FailsOver o text.now) }
+{
+    let mut output = Watched::new(Vec::<u8>::new(alloc));
+    match run_unpruned(&plan.run, text, &mut output) {
+        Ok(differs) => {
+            let edited = append_pruned(alloc, &plan.run, output.inner().as_slice(), out)?;
+            Ok(TextRun {
+                differs: differs || edited > 0,
+                edited,
+            })
+        }
+        Err(error) => {
+            let _appended = write_all(out, output.inner().as_slice());
+            Err(error)
+        }
+    }
+}
+
+/// Appends a text without the operands of its conditions that the symbols decide. Returns how many
+/// conditions were edited.
+///
+/// # Errors
+/// `OutOfMemory` if memory can't be allocated.
+fn append_pruned(
+    alloc: Global,
+    plan: &Plan,
+    text: &[u8],
+    out: &mut Watched<Vec<u8>>,
+) -> Result<usize, ReplaceError>
+    requires not_failed { out.old.failed ≡ false }
+    ensures { ForOptionsOf plan.now (λ o. MatchResult result (PrunesInto o text.now
+        out.old.inner.items out.new.inner.items) (λ e. e ≡ ReplaceError.OutOfMemory)) }
+{
+    let mut pruned = Vec::new(alloc);
+    let settings = plan.settings();
+    let rules = Rules {
+        constants: settings.constants,
+        strict: settings.strict,
+    };
+    let Ok(edited) = prune(text, plan.symbols(), rules, &mut pruned) else {
+        return Err(ReplaceError::OutOfMemory);
+    };
+    if !write_all(out, pruned.as_slice()) {
+        return Err(ReplaceError::OutOfMemory);
+    }
+    Ok(edited)
+}
+
+/// Appends the output of the run over a text. Returns whether some line differs.
+///
+/// # Errors
+/// As `run_text`.
+fn run_unpruned(plan: &Plan, text: &[u8], out: &mut Watched<Vec<u8>>) -> Result<bool, ReplaceError>
+    requires not_failed { out.old.failed ≡ false }
+    ensures { ForOptionsOf plan.now (λ o. MatchResult result
+        (RunsUnpruned o text.now out.old.inner.items out.new.inner.items)
+        (FailsUnpruned o text.now)) }
+{
+    let mut reader = Watched::new(text);
+    match run(plan, &mut reader, out) {
+        Ok(differs) => Ok(differs),
+        Err(fault) => Err(error_of(fault)),
+    }
+}
+
+/// Returns the error of a file whose text was run over in memory.
+fn error_of(fault: RunFault) -> ReplaceError
+    ensures { result ≡ error_of fault }
+{
+    match fault {
+        RunFault::Text(_) | RunFault::Section(_) => ReplaceError::Text(fault),
+        RunFault::Read | RunFault::Write => ReplaceError::OutOfMemory,
+    }
+}
