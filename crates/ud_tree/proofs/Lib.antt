@@ -12,3 +12,4 @@ pub mod RunLemmas
 mod ShownLemmas
 pub mod PickLemmas
 pub mod KeepLemmas
+mod ArgumentLemmas

@@ -1,8 +1,21 @@
 //! The arguments of unifdef-tree(1), read as POSIX XBD 12.2 has it: options first, then paths.
 
-use std::alloc::{AllocError, AllocFailed, Global};
-use ud_args::{Plan, Usage, plan};
+ghost use Rattle.std.specs.Prelude.{◌≡◌, ◌-◌, List, [], true, false, IfOk, IfErr, IfSome, IfNone};
+ghost use Rattle.std.specs.Prelude.{map, string_bytes, codes, get_or};
+ghost use Rattle.ud_args.specs.ParsedSettings.{IsUsageOf};
+ghost use Rattle.ud_model.specs.answer.CommandLine.{parsed_args};
+ghost use Rattle.ud_tree_args.specs.CommandLines.{Parsed, parsed_words, is_fault, has_flag};
+ghost use Rattle.ud_tree_args.specs.CommandLines.{unifdef_words};
+ghost use Rattle.ud_tree_args.specs.GivenWords.{as_parsed, parsed};
+ghost use Rattle.ud_tree.specs.Requests.{IsRequestOf, IsArgumentsOf, IsFaultIn, IsWordFault};
+ghost use Rattle.ud_tree.specs.Requests.{AreFitting, task_of};
+
+use std::alloc::{AllocError, Global};
+use ud_args::{Usage, plan};
 use ud_replace::TextPlan;
+use ud_tree_args::{
+    Given, first_fault, given_by, has_flag, has_symbols, paths, patterns, unifdef_words,
+};
 
 /// The task of a run.
 #[derive(Clone, Copy, Debug, PartialEq, Eq)]
@@ -94,294 +107,211 @@ pub enum ArgumentFault {
     OutOfMemory,
 }
 
-impl From<AllocError> for ArgumentFault {
-    fn from(_error: AllocError) -> ArgumentFault {
-        ArgumentFault::OutOfMemory
-    }
-}
-
-impl<T: Drop> From<AllocFailed<T>> for ArgumentFault {
-    fn from(_error: AllocFailed<T>) -> ArgumentFault {
-        ArgumentFault::OutOfMemory
-    }
-}
-
-/// The arguments that were read so far.
-#[derive(Drop)]
-struct Given {
-    alloc: Global,
-    /// The options of unifdef, each as one word.
-    options: Vec<String>,
-    patterns: Vec<String>,
-    paths: Vec<String>,
-    /// True after `--`.
-    only_paths: bool,
-    diff: bool,
-    names: bool,
-    write_into: bool,
-    from_input: bool,
-    quiet: bool,
-    list_remaining: bool,
-    show_changes: bool,
-    prunes: bool,
-    has_symbols: bool,
-    version: bool,
-    help: bool,
-}
-
 /// Returns what the arguments ask for. They are without the program's name.
 ///
 /// # Errors
-/// The first fault from left to right. Nothing was done.
-pub fn parse_arguments(alloc: Global, words: &[String]) -> Result<Request, ArgumentFault> {
-    let mut given = Given::new(alloc);
-    let mut at = 0usize;
-    for _ in 0..words.len() {
-        let Some(word) = words.get(at) else {
-            break;
-        };
-        let next = match words.get(at.saturating_add(1)) {
-            Some(next) => Some(next.as_str()),
-            None => None,
-        };
-        let taken = given.take(word.as_str(), next)?;
-        at = at.saturating_add(taken);
-    }
-    given.finish()
+/// The first fault of the words from left to right. Else options that don't go together, the first
+/// fault of the options of unifdef, or a fault of the paths. `OutOfMemory` if memory can't be
+/// allocated. Nothing was done.
+pub fn parse_arguments(alloc: Global, words: &[String]) -> Result<Request, ArgumentFault>
+    ensures request { IfOk result (IsRequestOf (parsed_words (map string_bytes words.now))) }
+    ensures fault { IfErr result (IsFaultIn (parsed_words (map string_bytes words.now))) }
+{
+    let Ok(given) = given_by(alloc, words) else {
+        return Err(ArgumentFault::OutOfMemory);
+    };
+    request_of(alloc, given.as_slice())
 }
 
-impl Given {
-    fn new(alloc: Global) -> Given {
-        Given {
-            alloc,
-            options: Vec::new(alloc),
-            patterns: Vec::new(alloc),
-            paths: Vec::new(alloc),
-            only_paths: false,
-            diff: false,
-            names: false,
-            write_into: false,
-            from_input: false,
-            quiet: false,
-            list_remaining: false,
-            show_changes: false,
-            prunes: false,
-            has_symbols: false,
-            version: false,
-            help: false,
-        }
+/// Returns what the options and paths ask for.
+///
+/// # Errors
+/// As `parse_arguments`.
+fn request_of(alloc: Global, given: &[Given<'_>]) -> Result<Request, ArgumentFault>
+    ensures request { IfOk result (IsRequestOf (parsed given.now)) }
+    ensures fault { IfErr result (IsFaultIn (parsed given.now)) }
+{
+    if let Some(fault) = first_fault(given) {
+        return Err(word_fault(alloc, fault));
     }
-
-    /// Takes a word. The word after it is the argument of its last option, if that one needs it.
-    /// Returns how many words were taken.
-    fn take(&mut self, word: &str, next: Option<&str>) -> Result<usize, ArgumentFault> {
-        if self.only_paths {
-            self.add_path(word)?;
-            return Ok(1);
-        }
-        if word == "--" {
-            self.only_paths = true;
-            return Ok(1);
-        }
-        if word == "--help" {
-            self.help = true;
-            return Ok(1);
-        }
-        let mut letters = word.chars();
-        if letters.next() != Some('-') {
-            self.add_path(word)?;
-            return Ok(1);
-        }
-        if !self.paths.is_empty() {
-            return Err(ArgumentFault::OptionAfterPath(self.copy(word)?));
-        }
-        if letters.as_str().is_empty() {
-            self.add_path(word)?;
-            return Ok(1);
-        }
-        self.take_letters(letters.as_str(), next)
+    if has_flag(given, 'h') {
+        return Ok(Request::Help);
     }
-
-    /// Takes the letters of a word with options.
-    fn take_letters(&mut self, word: &str, next: Option<&str>) -> Result<usize, ArgumentFault> {
-        let mut letters = word.chars();
-        for _ in 0..word.len() {
-            let Some(letter) = letters.next() else {
-                break;
-            };
-            if !takes_argument(letter) {
-                self.flag(letter)?;
-                continue;
-            }
-            let rest = letters.as_str();
-            if !rest.is_empty() {
-                self.option(letter, rest)?;
-                return Ok(1);
-            }
-            return match next {
-                None => Err(ArgumentFault::MissingArgument(letter)),
-                Some(argument) => {
-                    self.option(letter, argument)?;
-                    Ok(2)
-                }
-            };
-        }
-        Ok(1)
+    if has_flag(given, 'V') {
+        return Ok(Request::Version);
     }
-
-    /// Takes an option without an argument.
-    fn flag(&mut self, letter: char) -> Result<(), ArgumentFault> {
-        match letter {
-            'n' => self.diff = true,
-            's' => self.names = true,
-            'w' => self.write_into = true,
-            '0' => self.from_input = true,
-            'q' => self.quiet = true,
-            'r' => self.list_remaining = true,
-            'd' => self.show_changes = true,
-            'p' => self.prunes = true,
-            'V' => self.version = true,
-            'h' => self.help = true,
-            'b' | 'c' | 'K' | 'k' | 'l' | 't' => self.pass_on(letter, "")?,
-            _ => return Err(ArgumentFault::UnknownOption(letter)),
-        }
-        Ok(())
-    }
-
-    /// Takes an option with its argument.
-    fn option(&mut self, letter: char, argument: &str) -> Result<(), ArgumentFault> {
-        match letter {
-            'g' => {
-                let pattern = self.copy(argument)?;
-                self.patterns.push(pattern)?;
-                Ok(())
-            }
-            'j' if is_number_of_jobs(argument.as_bytes()) => Ok(()),
-            'j' => Err(ArgumentFault::BadJobs(self.copy(argument)?)),
-            'x' => self.pass_on(letter, argument),
-            _ => {
-                self.has_symbols = true;
-                self.pass_on(letter, argument)
-            }
-        }
-    }
-
-    /// Passes an option on to unifdef.
-    fn pass_on(&mut self, letter: char, argument: &str) -> Result<(), ArgumentFault> {
-        let mut word = self.copy("-")?;
-        word.push(letter)?;
-        word.push_str(argument)?;
-        self.options.push(word)?;
-        Ok(())
-    }
-
-    fn add_path(&mut self, path: &str) -> Result<(), ArgumentFault> {
-        let path = self.copy(path)?;
-        self.paths.push(path)?;
-        Ok(())
-    }
-
-    fn copy(&self, text: &str) -> Result<String, AllocError> {
-        String::from_str(self.alloc, text)
-    }
-
-    /// Returns what all arguments ask for.
-    fn finish(self) -> Result<Request, ArgumentFault> {
-        let mut given = self;
-        if given.help {
-            return Ok(Request::Help);
-        }
-        if given.version {
-            return Ok(Request::Version);
-        }
-        if given.diff && given.names {
-            return Err(ArgumentFault::DiffAndNames);
-        }
-        if given.list_remaining && given.names {
-            return Err(ArgumentFault::RemainingAndNames);
-        }
-        if given.show_changes && given.names {
-            return Err(ArgumentFault::ChangesAndNames);
-        }
-        if given.prunes && given.names {
-            return Err(ArgumentFault::PruningAndNames);
-        }
-        if given.names {
-            given.pass_on('s', "")?;
-        }
-        let plan = match plan(given.alloc, given.options.as_slice()) {
-            Ok(plan) => plan,
-            Err(usage) => return Err(given.fault_of(usage)?),
-        };
-        if given.prunes && plan.settings().complement {
-            return Err(ArgumentFault::PruningAndComplement);
-        }
-        if given.prunes && plan.settings().plain {
-            return Err(ArgumentFault::PruningAndPlain);
-        }
-        if given.from_input && !given.paths.is_empty() {
-            return Err(ArgumentFault::PathsAndInput);
-        }
-        if !given.from_input && given.paths.is_empty() {
-            return Err(ArgumentFault::NoPath);
-        }
-        Ok(Request::Run(given.into_arguments(plan)))
-    }
-
-    /// Returns the arguments with their plan.
-    fn into_arguments(self, plan: Plan) -> Arguments {
-        let task = match (self.diff, self.names) {
-            (true, _) => Task::Diff,
-            (false, true) => Task::Names,
-            (false, false) => Task::Replace,
-        };
-        Arguments {
-            plan: TextPlan {
-                run: plan,
-                prunes: self.prunes,
-            },
-            patterns: self.patterns,
-            paths: self.paths,
-            task,
-            write_into: self.write_into,
-            from_input: self.from_input,
-            quiet: self.quiet,
-            list_remaining: self.list_remaining,
-            show_changes: self.show_changes,
-            has_symbols: self.has_symbols,
-        }
-    }
-
-    /// Returns the fault for one of unifdef's options.
-    fn fault_of(&self, usage: Usage) -> Result<ArgumentFault, AllocError> {
-        Ok(match usage {
-            Usage::BadSymbol { word } => ArgumentFault::BadSymbol(self.option_at(word)?),
-            Usage::BadMode { word } => ArgumentFault::BadMode(self.option_at(word)?),
-            Usage::UnknownOption { letter } => ArgumentFault::UnknownOption(letter),
-            Usage::MissingArgument { letter } => ArgumentFault::MissingArgument(letter),
-            Usage::TooManyFiles => ArgumentFault::NoPath,
-            Usage::OutOfMemory => ArgumentFault::OutOfMemory,
-        })
-    }
-
-    /// Returns one of unifdef's options by its number, counted from 1.
-    fn option_at(&self, number: usize) -> Result<String, AllocError> {
-        match self.options.get(number.saturating_sub(1)) {
-            Some(option) => self.copy(option.as_str()),
-            None => self.copy(""),
-        }
+    match clash(given) {
+        Some(fault) => Err(fault),
+        None => match run_of(alloc, given) {
+            Ok(arguments) => Ok(Request::Run(arguments)),
+            Err(fault) => Err(fault),
+        },
     }
 }
 
-/// Returns whether a letter is an option with an argument.
-fn takes_argument(letter: char) -> bool {
-    matches!(letter, 'D' | 'U' | 'g' | 'i' | 'j' | 'x')
+/// Returns a fault of the words.
+fn word_fault(alloc: Global, fault: Given<'_>) -> ArgumentFault
+    requires { is_fault (as_parsed fault) ≡ true }
+    ensures { IsWordFault (as_parsed fault.entry) result }
+{
+    match fault {
+        Given::Unknown { letter } => ArgumentFault::UnknownOption(letter),
+        Given::MissingArgument { letter } => ArgumentFault::MissingArgument(letter),
+        Given::Late { word } => match String::from_str(alloc, word) {
+            Ok(word) => ArgumentFault::OptionAfterPath(word),
+            Err(_) => ArgumentFault::OutOfMemory,
+        },
+        Given::WithArgument {
+            letter: _,
+            argument,
+        } => match String::from_str(alloc, argument) {
+            Ok(argument) => ArgumentFault::BadJobs(argument),
+            Err(_) => ArgumentFault::OutOfMemory,
+        },
+        Given::Flag { letter: _ } | Given::Path { word: _ } => unreachable!(),
+    }
 }
 
-/// Returns whether an argument of `-j` is a number above 0, without a 0 before it.
-fn is_number_of_jobs(argument: &[u8]) -> bool {
-    match argument.first() {
-        None | Some(b'0') => false,
-        Some(_) => argument.iter().all(u8::is_ascii_digit),
+/// Returns the fault if some options don't go together.
+fn clash(given: &[Given<'_>]) -> Option<ArgumentFault>
+    ensures fault { IfSome result (IsFaultIn (parsed given.now)) }
+    ensures fits { IfNone result (AreFitting (parsed given.now)) }
+{
+    if has_flag(given, 's') {
+        return clash_with_names(given);
+    }
+    if has_flag(given, 'p') {
+        return clash_with_pruning(given);
+    }
+    None
+}
+
+/// Returns the fault of `-s` beside an option that doesn't go with it.
+fn clash_with_names(given: &[Given<'_>]) -> Option<ArgumentFault>
+    requires { has_flag (codes "s") (parsed given.now) ≡ true }
+    ensures fault { IfSome result (IsFaultIn (parsed given.now)) }
+    ensures fits { IfNone result (AreFitting (parsed given.now)) }
+{
+    if has_flag(given, 'n') {
+        return Some(ArgumentFault::DiffAndNames);
+    }
+    if has_flag(given, 'r') {
+        return Some(ArgumentFault::RemainingAndNames);
+    }
+    if has_flag(given, 'd') {
+        return Some(ArgumentFault::ChangesAndNames);
+    }
+    if has_flag(given, 'p') {
+        return Some(ArgumentFault::PruningAndNames);
+    }
+    None
+}
+
+/// Returns the fault of `-p` beside an option that doesn't go with it, where `-s` isn't given.
+fn clash_with_pruning(given: &[Given<'_>]) -> Option<ArgumentFault>
+    requires pruning { has_flag (codes "p") (parsed given.now) ≡ true }
+    requires no_names { has_flag (codes "s") (parsed given.now) ≡ false }
+    ensures fault { IfSome result (IsFaultIn (parsed given.now)) }
+    ensures fits { IfNone result (AreFitting (parsed given.now)) }
+{
+    if has_flag(given, 'c') {
+        return Some(ArgumentFault::PruningAndComplement);
+    }
+    if has_flag(given, 't') {
+        return Some(ArgumentFault::PruningAndPlain);
+    }
+    None
+}
+
+/// Returns the arguments of a run, whose options go together.
+///
+/// # Errors
+/// The first fault of the options of unifdef, or a fault of the paths. `OutOfMemory` if memory
+/// can't be allocated.
+fn run_of(alloc: Global, given: &[Given<'_>]) -> Result<Arguments, ArgumentFault>
+    requires { AreFitting (parsed given.now) }
+    ensures run { IfOk result (IsArgumentsOf (parsed given.now)) }
+    ensures fault { IfErr result (IsFaultIn (parsed given.now)) }
+{
+    let Ok(options) = unifdef_words(alloc, given) else {
+        return Err(ArgumentFault::OutOfMemory);
+    };
+    let run = match plan(alloc, options.as_slice()) {
+        Ok(run) => run,
+        Err(usage) => return Err(option_fault(alloc, options.as_slice(), usage)),
+    };
+    let Ok(patterns) = patterns(alloc, given) else {
+        return Err(ArgumentFault::OutOfMemory);
+    };
+    let Ok(paths) = paths(alloc, given) else {
+        return Err(ArgumentFault::OutOfMemory);
+    };
+    let from_input = has_flag(given, '0');
+    if from_input && !paths.is_empty() {
+        return Err(ArgumentFault::PathsAndInput);
+    }
+    if !from_input && paths.is_empty() {
+        return Err(ArgumentFault::NoPath);
+    }
+    let prunes = has_flag(given, 'p');
+    Ok(Arguments {
+        plan: TextPlan { run, prunes },
+        patterns,
+        paths,
+        task: task_of(given),
+        write_into: has_flag(given, 'w'),
+        from_input,
+        quiet: has_flag(given, 'q'),
+        list_remaining: has_flag(given, 'r'),
+        show_changes: has_flag(given, 'd'),
+        has_symbols: has_symbols(given),
+    })
+}
+
+/// Returns the task.
+fn task_of(given: &[Given<'_>]) -> Task
+    ensures { result ≡ task_of (parsed given.now) }
+{
+    if has_flag(given, 'n') {
+        Task::Diff
+    } else if has_flag(given, 's') {
+        Task::Names
+    } else {
+        Task::Replace
+    }
+}
+
+/// Returns the fault of the options of unifdef.
+fn option_fault(alloc: Global, options: &[String], usage: Usage) -> ArgumentFault
+    ensures { (gs : List Parsed) → map string_bytes options.now ≡ unifdef_words gs →
+        IsUsageOf (parsed_args (map string_bytes options.now)) usage → IsFaultIn gs result }
+{
+    match usage {
+        Usage::BadSymbol { word } => match option_at(alloc, options, word) {
+            Ok(option) => ArgumentFault::BadSymbol(option),
+            Err(_) => ArgumentFault::OutOfMemory,
+        },
+        Usage::BadMode { word } => match option_at(alloc, options, word) {
+            Ok(option) => ArgumentFault::BadMode(option),
+            Err(_) => ArgumentFault::OutOfMemory,
+        },
+        Usage::UnknownOption { letter } => ArgumentFault::UnknownOption(letter),
+        Usage::MissingArgument { letter } => ArgumentFault::MissingArgument(letter),
+        Usage::TooManyFiles => ArgumentFault::NoPath,
+        Usage::OutOfMemory => ArgumentFault::OutOfMemory,
+    }
+}
+
+/// Returns one of the options by its number, counted from 1; the empty word if there is none.
+///
+/// # Errors
+/// Fails if memory runs out.
+fn option_at(alloc: Global, options: &[String], number: usize) -> Result<String, AllocError>
+    ensures { IfOk result (λ word.
+        string_bytes word ≡ get_or (map string_bytes options.now) (number - 1) []) }
+{
+    match options.get(number.saturating_sub(1)) {
+        Some(option) => String::from_str(alloc, option.as_str()),
+        None => String::from_str(alloc, ""),
     }
 }

@@ -1,0 +1,131 @@
+-- Requests: what a command line asks for (unifdef-tree(1)).
+--
+--   task_of gs              the task
+--   AreFitting gs           the options go together
+--   IsArgumentsOf gs args   the arguments of a run
+--   IsRequestOf gs r        the request
+--   IsWordFault g f         the fault of one option or path
+--   IsFaultIn gs f          a fault of the command line
+--
+-- `gs` is what the words of the command line give, one option or path after another.
+use Rattle.std.specs.Prelude.{◌≡◌, ◌⊎◌, ℕ, ◌-◌, List, [], true, false, Some, None, map}
+use Rattle.std.specs.Prelude.{string_bytes, codes, get_or, if◌then◌else◌}
+use Rattle.ud_model.specs.answer.CommandLine.{UsageFault, usage_fault, unknown_option}
+use Rattle.ud_model.specs.answer.CommandLine.{missing_argument, bad_symbol_in, bad_mode_in}
+use Rattle.ud_model.specs.answer.CommandLine.{too_many_files}
+use Rattle.ud_args.specs.Plans.{IsPlanOf}
+use Rattle.ud_tree_args.specs.CommandLines.{Parsed, option, unknown, lacking, late, first_fault}
+use Rattle.ud_tree_args.specs.CommandLines.{has_flag, has_symbols, unifdef_words, patterns_in}
+use Rattle.ud_tree_args.specs.CommandLines.{paths_in}
+use Rattle.ud_tree.specs.declared.arguments.Task.{Task}
+use Rattle.ud_tree.specs.declared.arguments.Task.TheVariants.{Replace, Diff, Names}
+use Rattle.ud_tree.specs.declared.arguments.Arguments.{Arguments}
+use Rattle.ud_tree.specs.declared.arguments.Request.{Request}
+use Rattle.ud_tree.specs.declared.arguments.Request.TheVariants.{Help, Version, Run}
+use Rattle.ud_tree.specs.declared.arguments.ArgumentFault.{ArgumentFault}
+use Rattle.ud_tree.specs.declared.arguments.ArgumentFault.TheVariants.{UnknownOption}
+use Rattle.ud_tree.specs.declared.arguments.ArgumentFault.TheVariants.{MissingArgument, BadSymbol}
+use Rattle.ud_tree.specs.declared.arguments.ArgumentFault.TheVariants.{BadMode, BadJobs}
+use Rattle.ud_tree.specs.declared.arguments.ArgumentFault.TheVariants.{DiffAndNames}
+use Rattle.ud_tree.specs.declared.arguments.ArgumentFault.TheVariants.{RemainingAndNames}
+use Rattle.ud_tree.specs.declared.arguments.ArgumentFault.TheVariants.{ChangesAndNames}
+use Rattle.ud_tree.specs.declared.arguments.ArgumentFault.TheVariants.{PruningAndNames}
+use Rattle.ud_tree.specs.declared.arguments.ArgumentFault.TheVariants.{PruningAndComplement}
+use Rattle.ud_tree.specs.declared.arguments.ArgumentFault.TheVariants.{PruningAndPlain}
+use Rattle.ud_tree.specs.declared.arguments.ArgumentFault.TheVariants.{OptionAfterPath, NoPath}
+use Rattle.ud_tree.specs.declared.arguments.ArgumentFault.TheVariants.{PathsAndInput, OutOfMemory}
+
+-- `task_of gs`: nothing is replaced with `-n`, which shows what would change, and with `-s`, which
+-- lists names.
+abbrev pub task_of : List Parsed → Task
+task_of gs = if has_flag (codes "n") gs then Diff
+    else if has_flag (codes "s") gs then Names else Replace
+
+-- `AreFitting gs`: the options go together: `-s` with none of `-n`, `-r`, `-d` and `-p`, and `-p`
+-- with neither `-c` nor `-t`.
+pub record AreFitting (gs : List Parsed) : Type 0 where
+  pub diff : has_flag (codes "s") gs ≡ true → has_flag (codes "n") gs ≡ false
+  pub remaining : has_flag (codes "s") gs ≡ true → has_flag (codes "r") gs ≡ false
+  pub changes : has_flag (codes "s") gs ≡ true → has_flag (codes "d") gs ≡ false
+  pub pruning : has_flag (codes "s") gs ≡ true → has_flag (codes "p") gs ≡ false
+  pub complement : has_flag (codes "p") gs ≡ true → has_flag (codes "c") gs ≡ false
+  pub plain : has_flag (codes "p") gs ≡ true → has_flag (codes "t") gs ≡ false
+
+-- `IsArgumentsOf gs args`: `args` has what is given: the options of unifdef(1), each other option,
+-- the patterns and the paths. The options go together. Paths are given, or else `-0`.
+pub record IsArgumentsOf (gs : List Parsed) (args : Arguments) : Type 0 where
+  pub fitting : AreFitting gs
+  pub plan : IsPlanOf (unifdef_words gs) args.plan.run
+  pub prunes : args.plan.prunes ≡ has_flag (codes "p") gs
+  pub patterns : map string_bytes args.patterns.items ≡ patterns_in gs
+  pub paths : map string_bytes args.paths.items ≡ paths_in gs
+  pub task : args.task ≡ task_of gs
+  pub write_into : args.write_into ≡ has_flag (codes "w") gs
+  pub from_input : args.from_input ≡ has_flag (codes "0") gs
+  pub quiet : args.quiet ≡ has_flag (codes "q") gs
+  pub list_remaining : args.list_remaining ≡ has_flag (codes "r") gs
+  pub show_changes : args.show_changes ≡ has_flag (codes "d") gs
+  pub has_symbols : args.has_symbols ≡ has_symbols gs
+  pub no_path : has_flag (codes "0") gs ≡ true → paths_in gs ≡ []
+  pub some_path : has_flag (codes "0") gs ≡ false → ¬ (paths_in gs ≡ [])
+
+-- `IsRequestOf gs r`: the words have no fault, and `r` is what they ask for: help with `-h`, the
+-- version with `-V`, and else a run.
+abbrev pub IsRequestOf : List Parsed → Request → Type 0
+IsRequestOf gs Help = (first_fault gs ≡ None) × (has_flag (codes "h") gs ≡ true)
+IsRequestOf gs Version = (first_fault gs ≡ None) × (has_flag (codes "h") gs ≡ false) ×
+    (has_flag (codes "V") gs ≡ true)
+IsRequestOf gs (Run args) = (first_fault gs ≡ None) × (has_flag (codes "h") gs ≡ false) ×
+    (has_flag (codes "V") gs ≡ false) × IsArgumentsOf gs args
+
+-- `IsWordFault g f`: `f` is the fault of the option or path `g`. Or memory ran out.
+abbrev pub IsWordFault : Parsed → ArgumentFault → Type 0
+IsWordFault g (UnknownOption c) = g ≡ unknown c
+IsWordFault g (MissingArgument c) = g ≡ lacking c
+IsWordFault g (BadSymbol w) = ⊥
+IsWordFault g (BadMode w) = ⊥
+IsWordFault g (BadJobs w) = g ≡ option 106 (string_bytes w)
+IsWordFault g DiffAndNames = ⊥
+IsWordFault g RemainingAndNames = ⊥
+IsWordFault g ChangesAndNames = ⊥
+IsWordFault g PruningAndNames = ⊥
+IsWordFault g PruningAndComplement = ⊥
+IsWordFault g PruningAndPlain = ⊥
+IsWordFault g (OptionAfterPath w) = g ≡ late (string_bytes w)
+IsWordFault g PathsAndInput = ⊥
+IsWordFault g NoPath = ⊥
+IsWordFault g OutOfMemory = Unit {0}
+
+-- `AreGiven a b gs`: the flags `a` and `b` are given.
+abbrev pub AreGiven : List ℕ → List ℕ → List Parsed → Type 0
+AreGiven a b gs = (has_flag a gs ≡ true) × (has_flag b gs ≡ true)
+
+-- `HasUsage gs f`: the options of unifdef(1) have the fault `f`.
+abbrev pub HasUsage : List Parsed → UsageFault → Type 0
+HasUsage gs f = usage_fault (unifdef_words gs) ≡ Some f
+
+-- `IsBadWord fault gs w`: the options of unifdef(1) have a fault in the word `w`.
+abbrev pub IsBadWord : (ℕ → UsageFault) → List Parsed → List ℕ → Type 0
+IsBadWord fault gs w = (n : ℕ) × HasUsage gs (fault n) × (w ≡ get_or (unifdef_words gs) (n - 1) [])
+
+-- `IsFaultIn gs f`: `f` is the first fault of the words. Or it is that of two options that don't go
+-- together, of the options of unifdef(1), or of the paths. Or memory ran out.
+abbrev pub IsFaultIn : List Parsed → ArgumentFault → Type 0
+IsFaultIn gs (UnknownOption c) = (first_fault gs ≡ Some (unknown c)) ⊎
+    HasUsage gs (unknown_option c)
+IsFaultIn gs (MissingArgument c) = (first_fault gs ≡ Some (lacking c)) ⊎
+    HasUsage gs (missing_argument c)
+IsFaultIn gs (BadSymbol w) = IsBadWord bad_symbol_in gs (string_bytes w)
+IsFaultIn gs (BadMode w) = IsBadWord bad_mode_in gs (string_bytes w)
+IsFaultIn gs (BadJobs w) = first_fault gs ≡ Some (option 106 (string_bytes w))
+IsFaultIn gs DiffAndNames = AreGiven (codes "n") (codes "s") gs
+IsFaultIn gs RemainingAndNames = AreGiven (codes "r") (codes "s") gs
+IsFaultIn gs ChangesAndNames = AreGiven (codes "d") (codes "s") gs
+IsFaultIn gs PruningAndNames = AreGiven (codes "p") (codes "s") gs
+IsFaultIn gs PruningAndComplement = AreGiven (codes "p") (codes "c") gs
+IsFaultIn gs PruningAndPlain = AreGiven (codes "p") (codes "t") gs
+IsFaultIn gs (OptionAfterPath w) = first_fault gs ≡ Some (late (string_bytes w))
+IsFaultIn gs PathsAndInput = (has_flag (codes "0") gs ≡ true) × ¬ (paths_in gs ≡ [])
+IsFaultIn gs NoPath = ((has_flag (codes "0") gs ≡ false) × (paths_in gs ≡ [])) ⊎
+    HasUsage gs too_many_files
+IsFaultIn gs OutOfMemory = Unit {0}
