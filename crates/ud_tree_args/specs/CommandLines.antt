@@ -13,8 +13,9 @@
 --   paths_in gs         the paths
 --
 -- A word that starts with `-` and is longer has letters of options. A letter's argument is the rest
--- of its word after it, or the whole next word if nothing is left. Each other word is a path, and so
--- is each word after `--`. An option after a path is a fault. The word `--help` is the flag `h`.
+-- of its word after it, or the whole next word if nothing is left. Each other word is a path, and
+-- so is each word after `--`. An option after a path is a fault. The word `--help` is the flag
+-- `h`.
 --
 -- Example: the words `-nDA` and `src` give the flag `n`, the option `D` with `A`, and the path
 -- `src`.

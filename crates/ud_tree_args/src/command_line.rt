@@ -2,8 +2,8 @@
 
 ghost use Rattle.std.specs.Prelude.{◌≡◌, ◌∷◌, IfOk, List, chars, map, string_bytes, None, Some};
 ghost use Rattle.ud_model.specs.answer.CommandLine.{option_letters};
-ghost use Rattle.ud_tree_args.specs.CommandLines.{is_flag, takes_argument, parsed_words, parsed_next};
-ghost use Rattle.ud_tree_args.specs.CommandLines.{option_then, path};
+ghost use Rattle.ud_tree_args.specs.CommandLines.{is_flag, takes_argument, parsed_words};
+ghost use Rattle.ud_tree_args.specs.CommandLines.{parsed_next, option_then, path};
 ghost use Rattle.ud_tree_args.specs.GivenWords.{parsed, letters_of, bytes_of};
 
 use crate::given::Given;

@@ -2,8 +2,9 @@
 
 ghost use Rattle.std.specs.Prelude.{◌≡◌, ◌∷◌, [], IfOk, map, string_bytes, option_map, codes};
 ghost use Rattle.ud_tree_args.specs.CommandLines.{is_fault, is_flag_of, is_job_count, names_symbol};
-ghost use Rattle.ud_tree_args.specs.CommandLines.{has_flag, has_symbols, unifdef_words, first_fault};
-ghost use Rattle.ud_tree_args.specs.CommandLines.{unifdef_word, patterns_in, pattern_of};
+ghost use Rattle.ud_tree_args.specs.CommandLines.{has_flag, has_symbols, first_fault};
+ghost use Rattle.ud_tree_args.specs.CommandLines.{unifdef_word, unifdef_words};
+ghost use Rattle.ud_tree_args.specs.CommandLines.{patterns_in, pattern_of};
 ghost use Rattle.ud_tree_args.specs.CommandLines.{paths_in, path_of, option_word};
 ghost use Rattle.std.specs.Char.{is_ascii_digit};
 ghost use Rattle.std.specs.List.{list_all};
