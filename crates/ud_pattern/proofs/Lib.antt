@@ -1,0 +1,3 @@
+mod SetLemmas
+mod PartLemmas
+mod PlaceLemmas

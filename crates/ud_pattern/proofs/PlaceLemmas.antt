@@ -1,0 +1,151 @@
+-- Places: a pattern matches a name exactly if what follows its first parts matches the rest.
+use Rattle.std.proofs.Common.{◌≡◌, ◌∙◌, ℕ, ◌<◌, ◌≤◌, List, [], ◌∷◌, ◌++◌, length, Bool, true, false, Some, None, refl, sym, ap, subst, arith, append_assoc, ◌+◌, map, drop, get_or}
+use Rattle.std.specs.Prelude.{◌↔◌}
+use Rattle.std.proofs.lemmas.List.{drop_more}
+use Rattle.ud_pattern.specs.Patterns.{after_part, Matches, at_end, star, part, MatchesAny, first_does, later_does}
+use Rattle.ud_pattern.specs.Places.{Parts, no_part, then_part, Reaches, IsShorter, StopsAt}
+use Rattle.ud_pattern.specs.declared.matching.Progress.{Progress}
+use Rattle.ud_pattern.specs.declared.matching.Progress.TheVariants.{Ended, Star}
+use Rattle.ud_pattern.proofs.PartLemmas.{part_alike, part_shorter}
+
+-- A pattern whose first part matches a byte matches a name by its rest.
+part_matches : (q : List ℕ) (b : ℕ) (r name : List ℕ) → after_part q b ≡ Some r → Matches q name →
+    (c : ℕ) × (ms : List ℕ) × (name ≡ c ∷ ms) × Matches r ms
+part_matches _ b r _ e at_end = absurd cc
+part_matches _ b r name e (star bytes rest is m) = absurd cc
+part_matches q b r _ e (part {name = ms} c after is m) = (c, ms, refl, subst (λ (x : List ℕ). Matches x ms) (part_alike q c b after r is e) m)
+
+-- One byte less.
+tail_is : {c d : ℕ} {xs ys : List ℕ} → (c ∷ xs) ≡ (d ∷ ys) → xs ≡ ys
+tail_is e = cc
+
+pub parts_match : {p n q m : List ℕ} → Parts p n q m → Matches p n → Matches q m
+parts_match no_part h = h
+parts_match (then_part {before = q} {after = r} {rest = ms} b steps is) h =
+    let found = part_matches q b r (b ∷ ms) is (parts_match steps h) in
+    subst (λ (x : List ℕ). Matches r x) (sym (tail_is found.2)) found.3
+
+pub match_parts : {p n q m : List ℕ} → Parts p n q m → Matches q m → Matches p n
+match_parts no_part h = h
+match_parts (then_part {after = r} b steps is) h = match_parts steps (part b r is h)
+
+-- The pattern matches some end of the bytes.
+abbrev Somewhere : List ℕ → List ℕ → Type 0
+Somewhere p n = (bytes : List ℕ) × (rest : List ℕ) × (n ≡ bytes ++ rest) × Matches p rest
+
+later_end : (b c : ℕ) (ms bytes rest : List ℕ) → (b ∷ ms) ≡ bytes ++ (c ∷ rest) → (front : List ℕ) × (ms ≡ front ++ rest)
+later_end b c ms [] rest e = ([], tail_is e)
+later_end b c ms (d ∷ bytes) rest e = (bytes ++ c ∷ [], tail_is e ∙ sym (append_assoc bytes (c ∷ []) rest))
+
+-- Parts that match at one place leave more of the name than at a later place.
+somewhere_after : {p n q m : List ℕ} → Parts p n q m → Somewhere p n → Somewhere q m
+somewhere_after no_part h = h
+somewhere_after (then_part {before = q} {after = r} {rest = ms} b steps is) h =
+    let before = somewhere_after steps h in
+    let found = part_matches q b r before.1 is before.3 in
+    let end = later_end b found.0 ms before.0 found.1 (before.2 ∙ ap (λ (x : List ℕ). before.0 ++ x) found.2) in
+    (end.0, found.1, end.1, found.3)
+
+-- What a `*` comes to.
+somewhere_of : (p n : List ℕ) → Matches (42 ∷ p) n → Somewhere p n
+somewhere_of p n (star bytes rest is m) = (bytes, rest, is, m)
+somewhere_of p _ (part {name = ms} b after is m) = absurd cc
+
+of_somewhere : (p n : List ℕ) → Somewhere p n → Matches (42 ∷ p) n
+of_somewhere p n h = star h.0 h.1 h.2 h.3
+
+-- After the parts up to the next `*`, only that one counts.
+pub star_on : {p n : List ℕ} (q m : List ℕ) → Parts p n (42 ∷ q) m → Matches (42 ∷ p) n → Matches (42 ∷ q) m
+star_on {p = p} {n = n} q m steps h =
+    let here = somewhere_after steps (somewhere_of p n h) in
+    let there = somewhere_of q here.1 here.3 in
+    star (here.0 ++ there.0) there.1 (here.2 ∙ ap (λ (x : List ℕ). here.0 ++ x) there.2 ∙ sym (append_assoc here.0 there.0 there.1)) there.3
+
+pub star_back : {p n : List ℕ} (q m : List ℕ) → Parts p n (42 ∷ q) m → Matches (42 ∷ q) m → Matches (42 ∷ p) n
+star_back {n = n} q m steps h = star [] n refl (match_parts steps h)
+
+-- Where the pattern doesn't match, the `*` before it takes one byte more.
+pub star_more : (p : List ℕ) (b : ℕ) (n : List ℕ) → ¬ (Matches p (b ∷ n)) → Matches (42 ∷ p) (b ∷ n) → Matches (42 ∷ p) n
+star_more p b n never h = by_bytes (somewhere_of p (b ∷ n) h)
+  where
+    by_front : (bytes rest : List ℕ) → (b ∷ n) ≡ bytes ++ rest → Matches p rest → Matches (42 ∷ p) n
+    by_front [] rest e m = absurd (never (subst (λ (x : List ℕ). Matches p x) (sym e) m))
+    by_front (c ∷ bytes) rest e m = star bytes rest (tail_is e) m
+
+    by_bytes : Somewhere p (b ∷ n) → Matches (42 ∷ p) n
+    by_bytes s = by_front s.0 s.1 s.2 s.3
+
+pub star_less : (p : List ℕ) (b : ℕ) (n : List ℕ) → Matches (42 ∷ p) n → Matches (42 ∷ p) (b ∷ n)
+star_less p b n h =
+    let s = somewhere_of p n h in
+    star (b ∷ s.0) s.1 (ap (λ (x : List ℕ). b ∷ x) s.2) s.3
+
+pub star_none : (p : List ℕ) → ¬ (Matches p []) → ¬ (Matches (42 ∷ p) [])
+star_none p never h = by_front (somewhere_of p [] h)
+  where
+    by_parts : (bytes rest : List ℕ) → [] ≡ bytes ++ rest → Matches p rest → ⊥
+    by_parts [] rest e m = never (subst (λ (x : List ℕ). Matches p x) (sym e) m)
+    by_parts (c ∷ bytes) rest e m = cc
+
+    by_front : Somewhere p [] → ⊥
+    by_front s = by_parts s.0 s.1 s.2 s.3
+
+-- No part of the pattern matches the first byte of the name, if there is one.
+abbrev pub NoPart : List ℕ → List ℕ → Type 0
+NoPart q [] = Unit {0}
+NoPart q (b ∷ m) = after_part q b ≡ None
+
+ended_as : (q m : List ℕ) (whole : Bool) → NoPart q m → StopsAt q m (Ended whole) → (whole ≡ true) ↔ Matches q m
+ended_as [] [] whole none h = (λ e. at_end, λ m. h)
+ended_as [] (b ∷ m) whole none h = (λ e. absurd cc, no_match)
+  where
+    no_match : Matches [] (b ∷ m) → whole ≡ true
+    no_match (part c after is k) = absurd cc
+ended_as (c ∷ q) m whole none h = (λ e. let wrong : true ≡ false = sym e ∙ h.0 in absurd cc, λ k. absurd (no_match c q m h.1 none k))
+  where
+    no_match : (c : ℕ) (q m : List ℕ) → ¬ (c ≡ 42) → NoPart (c ∷ q) m → Matches (c ∷ q) m → ⊥
+    no_match _ q m other none (star bytes rest is k) = other refl
+    no_match c q _ other none (part b after is k) = cc
+
+parts_shorter : {p n q m : List ℕ} → Parts p n q m → (length q ≤ length p) × (length m ≤ length n)
+parts_shorter no_part = (omega arith, omega arith)
+parts_shorter (then_part {before = q} {after = r} {rest = ms} b steps is) =
+    let before = parts_shorter steps in
+    let less : length r ≤ length q = part_shorter q b r is in
+    (omega arith, omega arith)
+
+-- The parts match up to a place where none does.
+pub reached : {p n : List ℕ} (q m : List ℕ) (at : Progress) → Parts p n q m → NoPart q m → StopsAt q m at → Reaches p n at
+reached q m (Ended whole) steps none h =
+    let same = ended_as q m whole none h in
+    (λ e. match_parts steps (same.0 e), λ k. same.1 (parts_match steps k))
+reached {p = p} {n = n} (c ∷ q) m (Star after rest) steps none h =
+    subst (λ (x : List ℕ). Parts p n (42 ∷ x) rest.now) (sym h.1)
+    (subst (λ (y : List ℕ). Parts p n (42 ∷ q) y) (sym h.2)
+    (subst (λ (d : ℕ). Parts p n (d ∷ q) m) h.0 steps))
+reached [] m (Star after rest) steps none h = absurd h
+
+less_than : (c : ℕ) (q p : List ℕ) → length (c ∷ q) ≤ length p → length q < length p
+less_than c q p h = omega arith
+
+pub shorter : {p n : List ℕ} (q m : List ℕ) (at : Progress) → Parts p n q m → StopsAt q m at → IsShorter p n at
+shorter q m (Ended whole) steps h = tt
+shorter {p = p} {n = n} (c ∷ q) m (Star after rest) steps h =
+    let few = parts_shorter steps in (
+      subst (λ (x : List ℕ). length x < length p) (sym h.1) (less_than c q p few.0),
+      subst (λ (y : List ℕ). length y ≤ length n) (sym h.2) few.1,
+    )
+shorter [] m (Star after rest) steps h = absurd h
+
+-- A pattern that doesn't match leaves the later ones.
+pub any_later : (name p : List ℕ) (ps : List (List ℕ)) → ¬ (Matches p name) → MatchesAny name (p ∷ ps) → MatchesAny name ps
+any_later name p ps never (first_does m) = absurd (never m)
+any_later name p ps never (later_does h) = h
+
+pub any_none : (name : List ℕ) → ¬ (MatchesAny name [])
+any_none name h = elim h [ ]
+
+-- The next pattern comes before those after it.
+pub dropped : {X : Type 0} (g : X → List ℕ) (xs : List X) (i : ℕ) (x : X) → i < length xs → x ≡ get_or xs i x → map g (drop i xs) ≡ g x ∷ map g (drop (i + 1) xs)
+dropped {X = X} g xs i x within is =
+    ap (λ (ys : List X). map g ys) (drop_more xs i x within) ∙ ap (λ (y : X). g y ∷ map g (drop (i + 1) xs)) (sym is)
