@@ -11,5 +11,5 @@ pub mod StatusLaws
 pub mod RunLemmas
 mod ShownLemmas
 pub mod PickLemmas
-pub mod KeepLemmas
 mod ArgumentLemmas
+pub mod KeepLemmas

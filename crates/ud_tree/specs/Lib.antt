@@ -3,6 +3,7 @@ pub mod Paths
 pub mod Statuses
 pub mod Fates
 pub mod Runs
+pub mod Choices
 pub mod Requests
 pub mod Changes
 pub mod Walks

@@ -73,8 +73,8 @@ pub record Ends (args : Arguments) (in_walk : ℕ) (streams : StreamEnds)
   pub faults : ℕ
   pub reported : faulty_in results ≤ faults
   pub flushed : streams.failed ≡ false → streams.unflushed ≡ false
-  pub status_is : status ≡ tree_status args.task args.plan.run.settings.exit_mode streams.unheard
-      faults (changed_in results)
+  pub status_is : status ≡ tree_status args.task args.plan.run.settings.exit_mode
+      streams.unheard faults (changed_in results)
   pub hidden : ℕ
   pub edited : ℕ
   pub edited_is : edited_in results < 2 ^ 64 → edited ≡ edited_in results

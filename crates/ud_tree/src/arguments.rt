@@ -54,9 +54,14 @@ pub struct Arguments {
 }
 
 impl Arguments {
+    ghost use Rattle.std.specs.Prelude.{◌≡◌, ◌&&◌, ◌||◌, not};
+
     /// Returns whether the conditions are searched that still name a symbol: those are listed or
     /// counted.
-    pub(crate) fn search_remaining(&self) -> bool {
+    pub(crate) fn search_remaining(&self) -> bool
+        ensures { result ≡ (self.now.has_symbols &&
+            (self.now.list_remaining || not self.now.quiet)) }
+    {
         self.has_symbols && (self.list_remaining || !self.quiet)
     }
 }

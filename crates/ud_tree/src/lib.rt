@@ -17,7 +17,6 @@ mod list_file;
 mod marked;
 mod names;
 mod paths;
-mod pattern;
 mod patterns;
 mod process_files;
 mod remaining;

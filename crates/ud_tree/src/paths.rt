@@ -1,6 +1,7 @@
 //! Paths: their last names, and names for new files.
 
 ghost use Rattle.std.specs.Prelude.{◌≡◌, ◌≤◌, length, take, IfOk, string_bytes};
+ghost use Rattle.ud_tree.specs.Choices.{is_fresh};
 ghost use Rattle.ud_tree.specs.Covering.{IsFolderPath};
 ghost use Rattle.ud_tree.specs.Paths.{folder_len, fresh_end, fresh_name, last_name};
 
@@ -36,7 +37,9 @@ pub(crate) fn last_name(path: &[u8]) -> &[u8]
 }
 
 /// Returns whether a name is one of those that `fresh_name` gives.
-pub(crate) fn is_fresh(name: &[u8]) -> bool {
+pub(crate) fn is_fresh(name: &[u8]) -> bool
+    ensures { result ≡ is_fresh name.now }
+{
     name.starts_with(FRESH)
 }
 

@@ -1,10 +1,11 @@
 //! The patterns by which files are chosen.
 
-ghost use Rattle.std.specs.Prelude.{◌≡◌, true};
+ghost use Rattle.std.specs.Prelude.{◌≡◌, ◌↔◌, [], true, map, string_bytes};
+ghost use Rattle.ud_tree.specs.Choices.{IsChosen};
 ghost use Rattle.ud_tree.specs.Covering.{IsVersioned};
 
 use crate::paths::is_fresh;
-use crate::pattern::matches;
+use ud_pattern::{matches, matches_any};
 
 /// The patterns of a run without `-g`: sources and headers of C and C++, and those from which
 /// `configure` makes one.
@@ -31,21 +32,22 @@ const USUAL: [&[u8]; 18] = [
 
 /// Returns whether a file of this name is chosen by one of the patterns, or by the usual ones if
 /// there are none. A file that a run made beside another one never is.
-pub(crate) fn chooses(patterns: &[String], name: &[u8]) -> bool {
+pub(crate) fn chooses(patterns: &[String], name: &[u8]) -> bool
+    ensures given { ¬ (patterns.now ≡ []) →
+        (result ≡ true) ↔ IsChosen (map string_bytes patterns.now) name.now }
+{
     if is_fresh(name) {
         return false;
     }
     if patterns.is_empty() {
         return USUAL.iter().any(|pattern| matches(pattern, name));
     }
-    patterns
-        .iter()
-        .any(|pattern| matches(pattern.as_bytes(), name))
+    matches_any(patterns, name)
 }
 
 /// Returns whether a folder of this name is left out: those of version control.
 pub(crate) fn is_left_out(name: &[u8]) -> bool
-    ensures { result ≡ true → IsVersioned name.now }
+    ensures { (result ≡ true) ↔ IsVersioned name.now }
 {
     matches!(name, b".git" | b".hg" | b".svn")
 }

@@ -500,8 +500,8 @@ fn remaining_text(count: usize) -> &'static [u8]
 
 /// Returns the exit status. `unheard` says whether a message couldn't be written.
 fn status(arguments: &Arguments, unheard: bool, faults: usize, changed: usize) -> u8
-    ensures { result ≡ tree_status arguments.now.task arguments.now.plan.run.settings.exit_mode unheard
-        faults changed }
+    ensures { result ≡ tree_status arguments.now.task arguments.now.plan.run.settings.exit_mode
+        unheard faults changed }
 {
     if unheard || faults > 0 {
         return EXIT_TROUBLE;
