@@ -3,7 +3,7 @@ use Rattle.std.proofs.Common.{◌≡◌, ◌∙◌, ℕ, ◌≤◌, List, [], �
 use Rattle.ud_pattern.specs.Patterns.{SetTest, set_after, after_set, after_backslash, after_byte, after_part}
 use Rattle.ud_pattern.proofs.SetLemmas.{ends, set_alike, set_shorter}
 
--- What is there by a test.
+-- The value that is there by a test.
 some_by : (e : Bool) (x r : List ℕ) → cond e (Some x) None ≡ Some r → x ≡ r
 some_by true x r h = cc
 some_by false x r h = absurd cc
@@ -47,7 +47,7 @@ backslash_shorter : (rest : List ℕ) (b : ℕ) (r : List ℕ) → after_backsla
 backslash_shorter [] b r h = as_short 0 [] r (byte_alike 92 [] b r h) (omega arith)
 backslash_shorter (d ∷ rest) b r h = as_short (length (d ∷ rest)) rest r (byte_alike d rest b r h) (omega arith)
 
--- What follows a part is no longer than the pattern.
+-- The pattern after a part is no longer than the pattern.
 pub part_shorter : (p : List ℕ) (b : ℕ) (r : List ℕ) → after_part p b ≡ Some r → length r ≤ length p
 part_shorter [] b r h = absurd cc
 part_shorter (d ∷ rest) b r h = by_kind (d == 42) (d == 63) (d == 91) (d == 92) h

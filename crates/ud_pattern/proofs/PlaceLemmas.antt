@@ -46,7 +46,7 @@ somewhere_after (then_part {before = q} {after = r} {rest = ms} b steps is) h =
     let end = later_end b found.0 ms before.0 found.1 (before.2 ∙ ap (λ (x : List ℕ). before.0 ++ x) found.2) in
     (end.0, found.1, end.1, found.3)
 
--- What a `*` comes to.
+-- A `*` matches some first bytes, and the pattern after it the rest.
 somewhere_of : (p n : List ℕ) → Matches (42 ∷ p) n → Somewhere p n
 somewhere_of p n (star bytes rest is m) = (bytes, rest, is, m)
 somewhere_of p _ (part {name = ms} b after is m) = absurd cc
@@ -64,7 +64,7 @@ star_on {p = p} {n = n} q m steps h =
 pub star_back : {p n : List ℕ} (q m : List ℕ) → Parts p n (42 ∷ q) m → Matches (42 ∷ q) m → Matches (42 ∷ p) n
 star_back {n = n} q m steps h = star [] n refl (match_parts steps h)
 
--- Where the pattern doesn't match, the `*` before it takes one byte more.
+-- The `*` before a pattern that doesn't match takes one byte more.
 pub star_more : (p : List ℕ) (b : ℕ) (n : List ℕ) → ¬ (Matches p (b ∷ n)) → Matches (42 ∷ p) (b ∷ n) → Matches (42 ∷ p) n
 star_more p b n never h = by_bytes (somewhere_of p (b ∷ n) h)
   where

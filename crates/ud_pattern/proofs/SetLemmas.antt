@@ -31,7 +31,7 @@ set_alike (d ∷ rest) b c = by_first (negates d)
     by_first true = opposite_ends (set_from rest b) ∙ within_alike (length rest) true false false rest b c ∙ sym (opposite_ends (set_from rest c))
     by_first false = within_alike (length (d ∷ rest)) true false false (d ∷ rest) b c
 
--- What follows a byte or a range of a set is no longer than what followed its first byte.
+-- The text after a byte or a range of a set is no longer than the text after its first byte.
 pub item_shorter : (rest : List ℕ) → length (item_after rest) ≤ length rest
 item_shorter [] = omega arith
 item_shorter (d ∷ []) = omega arith

@@ -6,10 +6,10 @@
 --   Matches pattern name     the pattern matches the name
 --   MatchesAny name patterns   one of the patterns does
 --
--- A name is bytes. `*` matches any bytes, `?` one byte, and `[..]` one byte of a set, or one that is
--- not in it if `!` or `^` comes first. A `]` that comes first in a set is in it, and `-` between two
--- bytes means all from the first to the second. A bracket without an end is a byte like others, and
--- so is one after a backslash.
+-- A name is bytes. `*` matches any bytes, `?` one byte, and `[..]` one byte of a set, or one that
+-- is not in it if `!` or `^` comes first. A `]` that comes first in a set is in it, and `-` between
+-- two bytes means all from the first to the second. A bracket without an end is a byte like others,
+-- and so is one after a backslash.
 --
 -- Differences from POSIX: there are no classes of characters, `^` means what `!` does, and a period
 -- that comes first isn't special. A backslash in a set is a byte like others.

@@ -1,7 +1,7 @@
 -- Places: how far the parts of a pattern have matched the bytes of a name.
 --
 --   as_test set         whether a set has a byte, as the definitions have it
---   Parts pattern name after rest   the first parts of the pattern match the first bytes of the name
+--   Parts pattern name after rest   the first parts match the first bytes of the name
 --   Reaches pattern name progress   they do so up to a `*`, or the pattern matches or doesn't
 --   IsShorter pattern name progress   what follows is shorter
 --   StopsAt pattern name progress   how a pattern goes on where no part matches

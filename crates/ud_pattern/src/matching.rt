@@ -7,7 +7,7 @@ ghost use Rattle.ud_pattern.specs.Places.{Reaches, IsShorter, StopsAt};
 
 use crate::parts::after_part;
 
-/// How far the parts of a pattern match the bytes of a name.
+/// The place up to which the parts of a pattern match the bytes of a name.
 #[derive(Clone, Copy)]
 pub(crate) enum Progress<'a> {
     /// Up to the end of both, or not.

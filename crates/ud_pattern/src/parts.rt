@@ -5,7 +5,7 @@ ghost use Rattle.ud_pattern.specs.Patterns.{after_part, after_backslash, after_s
 ghost use Rattle.ud_pattern.specs.Patterns.{set_from, item_high, item_after};
 ghost use Rattle.ud_pattern.specs.Places.{as_test};
 
-/// Whether a set has a byte, and the pattern after the set.
+/// The test of a set: whether it has a byte, and the pattern after it.
 #[derive(Clone, Copy)]
 pub(crate) struct SetTest<'a> {
     pub has: bool,
@@ -52,8 +52,8 @@ fn after_set(rest: &[u8], byte: u8) -> Option<&[u8]>
     }
 }
 
-/// Returns whether the set that begins with `text` has a byte, and the pattern after the set; `None`
-/// if the set has no end.
+/// Returns whether the set that begins with `text` has a byte, and the pattern after the set;
+/// `None` if the set has no end.
 fn set_after(text: &[u8], byte: u8) -> Option<SetTest<'_>>
     ensures { option_map as_test result ≡ set_after text.now byte }
 {
@@ -68,8 +68,8 @@ fn set_after(text: &[u8], byte: u8) -> Option<SetTest<'_>>
     set_from(text, byte)
 }
 
-/// Returns whether a set that isn't negated has a byte, and the pattern after the set; `None` if the
-/// set has no end.
+/// Returns whether a set that isn't negated has a byte, and the pattern after the set; `None` if
+/// the set has no end.
 fn set_from(text: &[u8], byte: u8) -> Option<SetTest<'_>>
     ensures { option_map as_test result ≡ set_from text.now byte }
 {
