@@ -4,7 +4,8 @@
 //! `Report` is a fault, and faults are counted. On a terminal, a line with the number of files is
 //! shown during the run, and removed before each message.
 
-ghost use Rattle.std.specs.Prelude.{◌≡◌, ◌+◌, ◌<◌, ◌^◌, [], ◌++◌, false, if◌then◌else◌};
+ghost use Rattle.std.specs.Prelude.{◌≡◌, ◌+◌, ◌<◌, ◌^◌, [], ◌++◌, true, false};
+ghost use Rattle.std.specs.Prelude.{if◌then◌else◌};
 ghost use Rattle.std.specs.List.{flat_map};
 ghost use Rattle.ud_diagnostics.specs.RunMessages.{fault_message};
 ghost use Rattle.ud_replace.specs.Calls.{met};
@@ -149,7 +150,9 @@ impl Report {
     }
 
     /// Returns whether memory ran out for some of what was to be printed.
-    pub(crate) fn has_lost(&self) -> bool {
+    pub(crate) fn has_lost(&self) -> bool
+        ensures { result ≡ self.now.has_lost }
+    {
         self.has_lost
     }
 
@@ -157,6 +160,7 @@ impl Report {
     pub(crate) fn search(&mut self, job: &Job<'_>, name: &[u8], output: &[u8])
         ensures terminal { self.new.is_terminal ≡ self.old.is_terminal }
         ensures shown { self.new.is_shown ≡ self.old.is_shown }
+        ensures kept { self.old.has_lost ≡ true → self.new.has_lost ≡ true }
     {
         if job.arguments.search_remaining() {
             let symbols = job.arguments.plan.run.symbols();
@@ -169,6 +173,7 @@ impl Report {
     pub(crate) fn lose(&mut self)
         ensures terminal { self.new.is_terminal ≡ self.old.is_terminal }
         ensures shown { self.new.is_shown ≡ self.old.is_shown }
+        ensures lost { self.new.has_lost ≡ true }
     {
         self.has_lost = true;
     }

@@ -281,6 +281,7 @@ fn write_lists<W: Write, E: Write>(
         (stream_of W.contents out.new) }
     ensures told { TellsIf list_message result report.old report.new
         (stream_of E.contents err.old) (stream_of E.contents err.new) }
+    ensures whole { result ≡ false → report.old.has_lost ≡ false }
 {
     let mut list = Vec::new(job.alloc);
     let listed = append_names(job, names, &mut list);
