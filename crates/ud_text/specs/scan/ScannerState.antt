@@ -7,6 +7,8 @@
 --                                         reading
 --   ReadsNext mode old line new           the state `new` represents one more reading than `old`
 --   IsNextScan mode old line scan         the scan is that of the next line
+--   StaysAfter state line                 the state represents one more reading, in each mode
+--   IsScanOf state line scan              the scan is that of the next line, in each mode
 --
 -- The scanner's clauses state all of `ScannerRepresents` that a reader needs. A new scanner
 -- represents no readings. A scanner that reads a line represents one more reading, and returns the
@@ -85,4 +87,18 @@ ReadsNext mode old line new =
 abbrev pub IsNextScan : Mode → ScanState → Line → LineScan → Type 0
 IsNextScan mode old line scan =
     (before : List Reading) → ScannerRepresents (scanner_state_of old) before →
+    scan ≡ scan_after before mode line
+
+-- `StaysAfter state line`: if `state` represents some readings, it represents them and that of the
+-- line, in whatever mode the line is read
+abbrev pub StaysAfter : ScannerState → Line → Type 0
+StaysAfter state line =
+    (mode : Mode) → (before : List Reading) → ScannerRepresents state before →
+    ScannerRepresents state (before ++ next_reading before mode line ∷ [])
+
+-- `IsScanOf state line scan`: after readings that `state` represents, the scan is that of the line,
+-- in whatever mode the line is read
+abbrev pub IsScanOf : ScannerState → Line → LineScan → Type 0
+IsScanOf state line scan =
+    (mode : Mode) → (before : List Reading) → ScannerRepresents state before →
     scan ≡ scan_after before mode line

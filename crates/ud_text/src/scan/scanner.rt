@@ -6,7 +6,7 @@
 //! whether the last line joins the next one.
 
 ghost use Rattle.std.specs.Prelude.{◌≡◌, ◌≤◌, ◌||◌, ℕ, List, [], ◌∷◌, ◌++◌, length, true, false};
-ghost use Rattle.std.specs.Prelude.{take, IfSome};
+ghost use Rattle.std.specs.Prelude.{take, IfSome, OnSome};
 ghost use Rattle.std.specs.Borrow.{sem};
 ghost use Rattle.std.specs.List.{position_or_len};
 ghost use Rattle.ud_model.specs.text.Bytes.{is_mark};
@@ -22,7 +22,7 @@ ghost use Rattle.ud_text.specs.scan.LexerViews.{lex_state_of, shown_in};
 ghost use Rattle.ud_text.specs.scan.ScannerState.{ScannerState, ScannerRepresents};
 ghost use Rattle.ud_text.specs.scan.ScannerState.{scanner_state_of, initial_scanner_state};
 ghost use Rattle.ud_text.specs.scan.ScannerState.{scan_with, ends_in_block};
-ghost use Rattle.ud_text.specs.scan.ScannerState.{ReadsNext, IsNextScan};
+ghost use Rattle.ud_text.specs.scan.ScannerState.{ReadsNext, IsNextScan, StaysAfter, IsScanOf};
 ghost use Rattle.ud_text.specs.scan.ScanBorrows.{ScansLine};
 ghost use Rattle.ud_text.specs.bulk.BulkScanning.{AreWholeLines, SkipsText};
 ghost use Rattle.ud_text.specs.bulk.BulkStates.{can_start, continues_line};
@@ -99,6 +99,17 @@ fn initial_state() -> ScanState
             white: true,
         },
         joins: false,
+    }
+}
+
+/// Returns whether the state is that of a C run without lines.
+#[inline(always)]
+fn is_initial(scan_state: ScanState) -> bool
+    ensures { result ≡ true → scanner_state_of scan_state ≡ initial_scanner_state }
+{
+    match scan_state.lexer.state {
+        LexState::Text => scan_state.lexer.white && !scan_state.joins,
+        _ => false,
     }
 }
 
@@ -457,6 +468,35 @@ impl<const N: usize> ScannerOf<N> {
             (before ++ next_reading before mode (as_line line.now) ∷ []) }
     {
         self.scan_state = pass_line(mode, self.scan_state, line);
+    }
+
+    /// Returns the scan of the next line, if the scanner needs no change for it: nothing is carried
+    /// from the lines before, and the line has an ending and no mark (`first_mark`).
+    ///
+    /// The line is then masked unchanged, in either mode. The scanner represents one more reading,
+    /// as after `read`. If the result is `None`, call `read`.
+    #[inline(always)]
+    pub fn read_unmarked<'a>(&self, line: &Line<'a>) -> Option<Scan<'a>>
+        requires one_line { NoNewline line.now.body.now }
+        ensures represents { OnSome result (StaysAfter self.now (as_line line.now)) }
+        ensures value { IfSome result (λ scan.
+            IsScanOf self.now (as_line line.now) (as_scan scan)) }
+        ensures masked { IfSome result (λ scan. scan.masked.now ≡ line.now.body.now) }
+    {
+        if !is_initial(self.scan_state) {
+            return None;
+        }
+        if line.ending.is_empty() || !has_no_mark(line.body) {
+            return None;
+        }
+        Some(Scan {
+            masked: line.body,
+            fresh: true,
+            joins_before: false,
+            joins_after: false,
+            spliced: false,
+            comment: CommentAt::Outside,
+        })
     }
 
     /// Skips text lines in this mode, many at once. Returns how many bytes of `lines` they have: 0,

@@ -10,11 +10,12 @@ use Rattle.ud_model.specs.text.Scans.{Reading}
 use Rattle.ud_model.specs.text.Splicing.{is_spliced, is_empty, content, stays_open, spliced_text, c_run_of}
 use Rattle.ud_model.specs.text.Scanning.{is_block, comment_at, scan_after, next_reading}
 use Rattle.ud_model.specs.aids.LexStates.{LexState, in_text, kind_in_state, fresh_at, state_after_line, white_after_line, Masks}
-use Rattle.ud_model.specs.declared.kind.Mode.TheVariants.{C}
+use Rattle.ud_model.specs.declared.kind.Mode.{Mode}
+use Rattle.ud_model.specs.declared.kind.Mode.TheVariants.{C, Plain}
 use Rattle.ud_model.specs.declared.kind.CommentAt.TheVariants.{Outside}
-use Rattle.ud_text.specs.scan.ScannerState.{ScannerState, ScannerRepresents, initial_scanner_state}
+use Rattle.ud_text.specs.scan.ScannerState.{ScannerState, ScannerRepresents, initial_scanner_state, StaysAfter, IsScanOf}
 use Rattle.ud_text.proofs.lemmas.scan.MaskLemmas.{NoMark, no_mark_before, plain_run}
-use Rattle.ud_text.proofs.lemmas.scan.ScannerLemmas.{scan_carried, represents_code, same_parts}
+use Rattle.ud_text.proofs.lemmas.scan.ScannerLemmas.{scan_carried, represents_code, represents_plain, same_parts}
 
 -- bytes that end in a backslash have a mark
 ends_marked : (prefix : List ℕ) → NoMark (prefix ++ backslash ∷ []) → ⊥
@@ -75,3 +76,19 @@ module _ (scan_state : ScannerState) (before : List Reading) (line : Line) (h : 
       (sym (ap (λ (s : Bool). comment_at s (kind_in_state (state_after_line (stays_open line) in_text))) spliced_is
       ∙ ap (λ (s : Bool). comment_at false (kind_in_state (state_after_line s in_text))) stays_is))
       ∙ sym (scan_carried scan_state before line line.body in_text white h shown)
+
+module _ (scan_state : ScannerState) (initial : scan_state ≡ initial_scanner_state) (line : Line) (count : ℕ) (first : count ≡ position_or_len is_mark line.body)
+    (whole : count ≡ length line.body) (one_line : NoNewline line.body) (some : is_empty line.ending ≡ false) where
+  -- the initial state is carried over the line in each mode
+  pub unmarked_stays : StaysAfter scan_state line
+  unmarked_stays C before h = unmarked_carries scan_state before line h (ap (λ s. s.state) initial) count first whole one_line some scan_state initial
+  unmarked_stays Plain before h =
+      subst (λ (k : ScannerState). ScannerRepresents k (before ++ next_reading before Plain line ∷ [])) (sym initial) (represents_plain before line)
+
+  -- the line is masked unchanged in each mode
+  pub unmarked_scan_of : IsScanOf scan_state line
+      (record { masked = line.body; fresh = true; joins_before = false; joins_after = false; spliced = false; comment = Outside })
+  unmarked_scan_of C before h =
+      unmarked_scan scan_state before line h (ap (λ s. s.state) initial) count first whole one_line some true false (sym (ap (λ s. s.white) initial))
+      (sym (ap (λ s. s.joins) initial))
+  unmarked_scan_of Plain before h = refl
