@@ -3,14 +3,14 @@
 //! An expression is evaluated with signed numbers first, on the fast path if possible. If the
 //! expression has a `u`, its value is the one with 0 as the least number.
 
-ghost use Rattle.std.specs.Prelude.{◌≡◌, ◌≤◌, List, length, option_map, true};
+ghost use Rattle.std.specs.Prelude.{◌≡◌, ◌≤◌, List, length, option_map, true, IfSome};
 ghost use Rattle.ud_model.specs.text.Bytes.{are_word_bytes, is_identifier};
 ghost use Rattle.ud_model.specs.conditions.Table.{Argument};
 ghost use Rattle.ud_model.specs.conditions.Conditions as spec;
 ghost use Rattle.ud_model.specs.declared.limits.TheConstants.{LINE_BYTES};
 ghost use Rattle.ud_cond.specs.symbols.SymbolTable.{TableRepresents};
 ghost use Rattle.ud_cond.specs.CondViews.{as_rules, as_decision};
-ghost use Rattle.ud_cond.specs.expressions.Evaluation.{cond_of_value};
+ghost use Rattle.ud_cond.specs.expressions.Evaluation.{cond_of_value, DecidesFast};
 
 use crate::expressions::fast_path::evaluate_fast;
 use crate::expressions::parsing::evaluate;
@@ -52,9 +52,21 @@ pub(crate) fn cond_of_value(rules: Rules, value: Value) -> Cond
     }
 }
 
-/// Returns the condition of the text of an `#if` or `#elif`. Most texts suit the fast path and
-/// have no `u`.
+/// Returns the condition that the value of a text decides in a scope, if the text suits the fast
+/// path and has no `u`. Most texts do.
 #[inline(never)]
+pub(crate) fn fast_cond(scope: &Scope<'_>, rules: Rules, text: &[u8]) -> Option<Cond>
+    ensures { IfSome result (λ cond. DecidesFast scope.now (as_rules rules) text.now cond) }
+{
+    let value = evaluate_fast(scope, text)?;
+    if value.unsigned {
+        return None;
+    }
+    Some(cond_of_value(rules, value))
+}
+
+/// Returns the condition of the text of an `#if` or `#elif`.
+#[inline(always)]
 fn expression_cond(text: &[u8], symbols: &Symbols, rules: Rules) -> Cond
     requires fits { length text.now ≤ LINE_BYTES }
     ensures { result ≡ spec.expression_cond text.now symbols.now (as_rules rules) }
@@ -64,12 +76,10 @@ fn expression_cond(text: &[u8], symbols: &Symbols, rules: Rules) -> Cond
         strict: rules.strict,
         unsigned: false,
     };
-    if let Some(value) = evaluate_fast(&signed, text) {
-        if !value.unsigned {
-            return cond_of_value(rules, value);
-        }
+    match fast_cond(&signed, rules, text) {
+        Some(cond) => cond,
+        None => general_expression_cond(text, symbols, rules),
     }
-    general_expression_cond(text, symbols, rules)
 }
 
 /// Returns the condition of any text of an `#if` or `#elif`, without the fast path.

@@ -6,8 +6,9 @@
 --   value_meaning table strict u     the value of each part of an expression
 --   value_of_tree table strict u e   the value of a tree
 --   cond_of_value rules v            the condition that a value decides
+--   DecidesFast s rules text cond    the value of a text has no `u`, and decides this condition
 --   step_in, reads_in, reduce_in     a step, a whole text, and a reduction in a scope
-use Rattle.std.specs.Prelude.{ℕ, List, [], Option, Some, None, Bool, true, false, ◌||◌, ◌&&◌, not}
+use Rattle.std.specs.Prelude.{◌≡◌, ℕ, List, [], Option, Some, None, Bool, true, false, ◌||◌, ◌&&◌, not}
 use Rattle.std.specs.Prelude.{if◌then◌else◌}
 use Rattle.std.specs.Borrow.{Bor}
 use Rattle.ud_model.specs.conditions.Table.{Argument, entry_in}
@@ -134,3 +135,11 @@ abbrev pub cond_of_value : Rules → Value → Cond
 cond_of_value rules v =
     if v.calls_undefined || not (rules.constants || v.listed) then Unknown
     else truth_of v.number
+
+-- `DecidesFast s rules text cond`: the text is an expression. Its value in the scope `s` has no
+-- `u`, and decides the condition `cond`.
+pub record DecidesFast (s : Scope) (rules : Rules) (text : List ℕ) (cond : Cond) : Type 0 where
+  pub value : Value
+  pub read : Some value ≡ reads_in s (spec.needs []) text
+  pub signed : value.unsigned ≡ false
+  pub decides : cond ≡ cond_of_value rules value
