@@ -53,14 +53,75 @@ impl LineDecider {
 
     /// Decides the next line. Returns its step.
     ///
+    /// Every section has an `#endif`, and many have an `#else`. Their body is a constant here, so that
+    /// the compiler knows their scan and their directive.
+    ///
     /// # Errors
     /// Fails if the line is faulty.
-    #[inline(always)]
+    #[inline(never)]
     pub(crate) fn decide(
         &mut self,
         line: &Line<'_>,
         symbols: &Symbols,
     ) -> Result<Step, SectionFault>
+        requires within { IsWithinLimits (as_line line.now) }
+        requires one_line { NoNewline line.now.body.now }
+        ensures decides { DecidesNext symbols.now self.old self.new (as_line line.now) result }
+        ensures cursor { IfOk result (λ s. HoldsKeyword s line.now) }
+    {
+        match line.body {
+            b"#endif" => {
+                let known = Line {
+                    body: b"#endif",
+                    ending: line.ending,
+                    number: line.number,
+                };
+                self.decide_unmarked(&known, symbols)
+            }
+            b"#else" => {
+                let known = Line {
+                    body: b"#else",
+                    ending: line.ending,
+                    number: line.number,
+                };
+                self.decide_unmarked(&known, symbols)
+            }
+            _ => self.decide_unmarked(line, symbols),
+        }
+    }
+
+    /// Decides the next line. Its scan is mostly known at once. A copy of the line is passed on, so
+    /// that the line itself needs no memory.
+    ///
+    /// # Errors
+    /// As `decide`.
+    #[inline(always)]
+    fn decide_unmarked(&mut self, line: &Line<'_>, symbols: &Symbols) -> Result<Step, SectionFault>
+        requires within { IsWithinLimits (as_line line.now) }
+        requires one_line { NoNewline line.now.body.now }
+        ensures decides { DecidesNext symbols.now self.old self.new (as_line line.now) result }
+        ensures cursor { IfOk result (λ s. HoldsKeyword s line.now) }
+    {
+        if let Some(scan) = self.scanner.read_unmarked(line) {
+            return self.machine.step(&scan, line, symbols);
+        }
+        let copy = Line {
+            body: line.body,
+            ending: line.ending,
+            number: line.number,
+        };
+        match self.decide_marked(&copy, symbols) {
+            Ok(step) => Ok(step),
+            Err(fault) => Err(fault),
+        }
+    }
+
+    /// Decides the next line, whatever it has and whatever is carried from the lines before.
+    ///
+    /// # Errors
+    /// As `decide`.
+    #[inline(never)]
+    fn decide_marked(&mut self, line: &Line<'_>, symbols: &Symbols) -> Result<Step, SectionFault>
         requires within { IsWithinLimits (as_line line.now) }
         requires one_line { NoNewline line.now.body.now }
         ensures decides { DecidesNext symbols.now self.old self.new (as_line line.now) result }
@@ -97,6 +158,42 @@ impl LineDecider {
     /// Fails if the line is faulty. Nothing is appended.
     #[inline(never)]
     pub(crate) fn list_names<W: Write>(
+        &mut self,
+        line: &Line<'_>,
+        symbols: &Symbols,
+        lister: &mut Lister,
+        pending: &[u8],
+        output: &mut Output,
+        out: &mut Watched<W>,
+    ) -> Result<(), SectionFault>
+        requires within { IsWithinLimits (as_line line.now) }
+        requires one_line { NoNewline line.now.body.now }
+        ensures lists { ListsNext W.contents symbols.now self.old self.new (as_line line.now)
+            lister.old pending.now output.old output.new out.old out.new result }
+        ensures unchanged { OnErr result ((out.new ≡ out.old) × (output.new ≡ output.old)) }
+        ensures stays { lister.new ≡ lister.old }
+    {
+        let Some(scan) = self.scanner.read_unmarked(line) else {
+            return self.list_names_marked(line, symbols, lister, pending, output, out);
+        };
+        if let Err(reason) = self.machine.step(&scan, line, symbols) {
+            return Err(reason);
+        }
+        output.append(pending, out);
+        let around = self.machine.depth().saturating_sub(1);
+        let prefix = lister.prefix(around);
+        let names = Lister::names(&scan);
+        append_names(output, prefix, names, out);
+        Ok(())
+    }
+
+    /// Decides the next line, whatever it has and whatever is carried from the lines before, and
+    /// appends `pending` and its names.
+    ///
+    /// # Errors
+    /// As `list_names`.
+    #[inline(never)]
+    fn list_names_marked<W: Write>(
         &mut self,
         line: &Line<'_>,
         symbols: &Symbols,

@@ -104,9 +104,14 @@ impl<S: Show> LineProcessor<S> {
     {
         match &mut self.lister {
             Some(lister) => {
+                let copy = Line {
+                    body: line.body,
+                    ending: line.ending,
+                    number: line.number,
+                };
                 let listed = self
                     .decider
-                    .list_names(line, symbols, lister, pending, output, out);
+                    .list_names(&copy, symbols, lister, pending, output, out);
                 match listed {
                     Err(fault) => Err(fault),
                     Ok(()) => Ok(true),
@@ -244,7 +249,14 @@ fn append_line<S: Show, W: Write>(
         LineOutput::Whole => false,
         LineOutput::Nothing => append_line_output(line, &[], pending, output, out),
         LineOutput::Ending => append_line_output(line, line.ending, pending, output, out),
-        LineOutput::Parts => append_parts_of(show, line, step, pending, output, out),
+        LineOutput::Parts => {
+            let copy = Line {
+                body: line.body,
+                ending: line.ending,
+                number: line.number,
+            };
+            append_parts_of(show, &copy, step, pending, output, out)
+        }
     }
 }
 
