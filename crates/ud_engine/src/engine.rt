@@ -64,12 +64,16 @@ fn cursor_at<H: LineBuffer>(lines: &Lines<H>, chunk: &[u8], at: usize) -> Cursor
 }
 
 /// Returns whether a line begins with a `#` that may belong to a directive. A try to skip text
-/// lines would mostly stop there.
+/// lines would mostly stop there. Most conditionals have no white space around the `#`.
+#[inline(always)]
 fn begins_conditional(line: &[u8]) -> bool
     ensures { MatchOption (skip_hash line.now) (result ≡ false)
         (λ rest. result ≡ not (is_other_word rest)) }
 {
     match line {
+        [b'#', b'i', b'f', ..] => true,
+        [b'#', b'e', b'n', ..] => true,
+        [b'#', b'e', b'l', ..] => true,
         [b'#', rest @ ..] => !is_other_word(rest),
         _ => false,
     }
