@@ -47,3 +47,22 @@ fn the_first_mark_is_found(rt: HostRuntime) -> Result<(), Fail> {
     assert_eq!(rt; first_mark(b""), 0);
     Ok(())
 }
+
+#[test]
+fn the_scan_of_a_line_without_marks_is_known_at_once(rt: HostRuntime) -> Result<(), Fail> {
+    let line = Line {
+        body: b"#ifdef A",
+        ending: b"\n",
+        number: 1,
+    };
+    let scan = Scan {
+        masked: b"#ifdef A",
+        fresh: true,
+        joins_before: false,
+        joins_after: false,
+        spliced: false,
+        comment: CommentAt::Outside,
+    };
+    assert_eq!(rt; Scanner::new().read_unmarked(&line), Some(scan));
+    Ok(())
+}
