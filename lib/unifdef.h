@@ -2,8 +2,8 @@
  * unifdef.h - removes preprocessor conditionals from C source, in memory
  *
  * unifdef_text does what the program unifdef(1) does, over memory in place of files. A stream does
- * it for a text that comes in chunks. Two more calls are for programs that look at directives
- * themselves. It is proved that what each call writes and returns is that of the definitions of
+ * it for a text that comes in chunks. unifdef_prune edits the conditions that are left. Two more
+ * calls are for programs that look at directives themselves. It is proved that what each call writes and returns is that of the definitions of
  * unifdef(1). The manual page unifdef(3) has examples.
  *
  * Only a stream keeps anything between calls, and no call frees or keeps what it is passed. So any
@@ -11,7 +11,8 @@
  * in a signal handler, or in the forked child of a process with threads, since malloc may not.
  *
  * A thread that calls needs a stack of 1 MiB, for conditions with thousands of operators or
- * parentheses. With less, such a condition ends the process.
+ * parentheses. With less, such a condition ends the process. unifdef_prune needs 2 MiB, and
+ * 8 MiB if a condition has more than 8,192 bytes.
  *
  * A pointer may be null if its length is 0. What a call writes to may not overlap anything else
  * that it is passed.
@@ -156,12 +157,30 @@ int unifdef_finish(struct unifdef_stream *stream, char *message, size_t message_
 /* Closes a stream and frees its memory. Does nothing if it is closed. */
 void unifdef_close(struct unifdef_stream *stream);
 
+/*
+ * Removes from the conditions of a text the operands that words decide. With -UA, "#if A || X"
+ * becomes "#if X". Lines are only made shorter, and a compiler selects the same ones.
+ *
+ * words are those of unifdef_text, of which -D, -U, -iD, -iU, -k and -K count. text may be the
+ * output of unifdef_text for the same words, if it has no fault. It is read as C. What is left goes
+ * to output, and how many bytes that takes to size, which may not be null. It is never longer than
+ * the text. unifdef(3) says which conditions stay.
+ *
+ * Returns 1 if a condition was edited and 0 if none was, or UNIFDEF_TOO_SMALL if output_len is less
+ * than what size says. The bytes that fit are written then. An error is negative, and nothing is
+ * written.
+ */
+int unifdef_prune(const char *words, size_t words_len,
+                  const char *text, size_t text_len,
+                  char *output, size_t output_len, size_t *size);
+
 /* What unifdef_condition returns. */
 #define UNIFDEF_FALSE 0
 #define UNIFDEF_TRUE 1
 #define UNIFDEF_UNKNOWN 2
 
-/* What unifdef_condition, unifdef_names and the calls for a stream return for an error. */
+/* What unifdef_prune, unifdef_condition, unifdef_names and the calls for a stream return for an
+ * error. */
 #define UNIFDEF_BAD_WORDS (-1) /* the words have a fault, or one of them isn't UTF-8 */
 #define UNIFDEF_NO_MEMORY (-2) /* memory was refused */
 #define UNIFDEF_TOO_LONG (-3)  /* the expression is longer than UNIFDEF_LINE_BYTES */

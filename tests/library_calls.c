@@ -157,6 +157,40 @@ static void names(void) {
     allowed = -1;
 }
 
+/* The lines are those of the worked rows of unifdef(3). */
+static void prunes(void) {
+    char out[32];
+    size_t size;
+    const char *text = "#if A || X\n#endif\n", *left = "#if X\n#endif\n";
+    memset(out, '?', sizeof out);
+    check("prune", unifdef_prune("-UA", 3, text, strlen(text), out, sizeof out, &size) == 1 &&
+                       size == strlen(left) && memcmp(out, left, size) == 0 && out[size] == '?');
+    check("prune: nothing", unifdef_prune("-UB", 3, text, strlen(text), out, sizeof out, &size) == 0 &&
+                                size == strlen(text) && memcmp(out, text, size) == 0);
+    memset(out, '?', sizeof out);
+    check("prune: too small", unifdef_prune("-UA", 3, text, strlen(text), out, 5, &size) ==
+                                      UNIFDEF_TOO_SMALL &&
+                                  size == strlen(left) && memcmp(out, "#if X?", 6) == 0);
+    check("prune: null", unifdef_prune(NULL, 0, NULL, 0, NULL, 0, &size) == 0 && size == 0);
+    size = 7;
+    out[0] = '?';
+    check("prune: bad words", unifdef_prune("-q", 2, text, strlen(text), out, sizeof out, &size) ==
+                                      UNIFDEF_BAD_WORDS && size == 7 && out[0] == '?');
+    check("prune: not UTF-8", unifdef_prune("-D\xff", 3, text, strlen(text), out, sizeof out, &size) ==
+                                      UNIFDEF_BAD_WORDS && size == 7 && out[0] == '?');
+    for (long k = 1;; k++) {
+        allowed = k;
+        int pruned = unifdef_prune("-UA", 3, text, strlen(text), out, sizeof out, &size);
+        int all = allowed != 0;
+        allowed = -1;
+        if (all) {
+            check("prune: all of the memory", pruned == 1 && size == strlen(left));
+            break;
+        }
+        check("prune: no memory", pruned == UNIFDEF_NO_MEMORY && size == 7 && out[0] == '?');
+    }
+}
+
 /* Feeds a text in chunks of a length, and takes the output into a short buffer. Returns the status. */
 static int streamed(struct unifdef_stream *stream, const char *text, size_t len, size_t most, char *output,
                     size_t *output_len) {
@@ -326,6 +360,7 @@ int main(void) {
     memory();
     conditions();
     names();
+    prunes();
     streams();
     stream_memory();
     stream_growth();

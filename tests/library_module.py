@@ -119,6 +119,10 @@ def buffers() -> None:
         check(f"an empty {type(empty).__name__}", unifdef.strip(empty, "-DA") == b"")
     check("an expression", unifdef.condition(bytearray(b"A > 1"), "-DA=2") is True)
     check("names", unifdef.names(memoryview(b"A || B")) == [b"A", b"B"])
+    text = bytearray(b"#if A || X\n#endif\n#ifdef A\nx\n#endif\n")
+    check("pruned", unifdef.strip(text, "-UA", prune_conditions=True) == b"#if X\n#endif\n")
+    check("not pruned", unifdef.strip(text, "-UA") == b"#if A || X\n#endif\n")
+    check("pruned of nothing", unifdef.strip(b"", "-UA", prune_conditions=True) == b"")
     with tempfile.TemporaryFile() as file:
         file.write(longer)
         file.flush()

@@ -1,6 +1,6 @@
 /* Calls functions of the library in a thread whose stack has a given size.
  *
- *   library_stack KIB text|feed|condition|names WORD < TEXT
+ *   library_stack KIB text|feed|prune|condition|names WORD < TEXT
  *
  * Prints what is returned. If the stack doesn't suffice, a signal ends the program. `condition` and
  * `names` take the first line after its keyword. */
@@ -24,6 +24,11 @@ static void run_text(void) {
     int status = unifdef_text(words, strlen(words), text, text_len, output, output_len, message,
                               sizeof message, &sizes);
     print(status, sizes.output, sizes.message);
+}
+
+static void run_prune(void) {
+    size_t size = 0;
+    print(unifdef_prune(words, strlen(words), text, text_len, output, output_len, &size), size, 0);
 }
 
 static void run_stream(void) {
@@ -56,6 +61,8 @@ static void *run(void *unused) {
         run_text();
     else if (strcmp(what, "feed") == 0)
         run_stream();
+    else if (strcmp(what, "prune") == 0)
+        run_prune();
     else
         run_expression();
     return NULL;

@@ -27,6 +27,7 @@ SAYS = {
     "ud_text": "lines and scans are the text's",
     "ud_cond": "a condition's value is the definition's",
     "ud_sections": "verdicts are those of the pruned tree",
+    "ud_prune": "the rest of a text is the definition's",
     "ud_args": "a plan is that of the arguments",
     "ud_io": "streams that note a failure",
     "ud_engine": "a run's output is the definition's",

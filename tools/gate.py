@@ -40,7 +40,7 @@ SECONDS = {
     "ud_diagnostics": (51, 0, 13),
     "unifdef": (82, 0, 20),
     "unifdef_cli": (76, 0, 0),
-    "unifdef_c": (171, 0, 30),
+    "unifdef_c": (185, 0, 30),
     "ud_replace": (190, 0, 14),
     "ud_diff": (114, 0, 13),
     "ud_tree": (285, 0, 32),

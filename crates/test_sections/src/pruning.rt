@@ -20,7 +20,7 @@ const CONSTANTS: &str = "-UA -DB -k";
 /// Symbols of some rows.
 const STRICT: &str = "-UA -DB -K";
 
-/// Arguments for the rules and the symbols, a text, what is left of it, and how many conditions are
+/// Arguments for the rules and the symbols, a text, the rest of it, and how many conditions are
 /// edited.
 #[rattlefmt::skip]
 const TEXTS: &[(&str, &[u8], &[u8], usize)] = &[
@@ -72,7 +72,7 @@ const TEXTS: &[(&str, &[u8], &[u8], usize)] = &[
     (SYMBOLS, b"#ifdef A\n#elifdef A\n#ifndef A\n", b"#ifdef A\n#elifdef A\n#ifndef A\n", 0),
 ];
 
-/// Compares what is left of a text after other bytes, and the number of edited conditions.
+/// Compares the rest of a text after other bytes, and the number of edited conditions.
 fn check(
     rt: &impl Abort,
     alloc: Global,

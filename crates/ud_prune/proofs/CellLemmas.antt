@@ -1,4 +1,4 @@
--- Cells: parts of a condition's text, and what is left of them.
+-- Cells: parts of a condition's text, and the rest of them.
 use Rattle.std.proofs.Common.{◌≡◌, ℕ, ◌-◌, List, [], ◌∷◌, ◌++◌, length, map, take, drop, Bool, true, false, not, ◌||◌, if◌then◌else◌, refl, sym, ◌∙◌, ap, subst, append_assoc, append-nil, arith}
 use Rattle.std.proofs.lemmas.List.{take-map, drop-map, map-append}
 use Rattle.std.specs.Prelude.{Result, Ok, Err, IfOk, OnOk}
@@ -25,7 +25,7 @@ cells_back n cells bytes masked a = record {
 pub cells_same : (cells : List Cell) {bytes masked more longer : List ℕ} → bytes ≡ more → masked ≡ longer → AreCells cells bytes masked → AreCells cells more longer
 cells_same cells e f a = record { bytes_are = a.bytes_are ∙ e; shown_are = a.shown_are ∙ f }
 
--- As many bytes are shown as there are cells.
+-- The cells are as many as the bytes that show them.
 pub cells_count : (cells : List Cell) (bytes masked : List ℕ) → AreCells cells bytes masked → length masked ≡ length cells
 cells_count cells bytes masked a = ap (λ (l : List ℕ). length l) (sym a.shown_are) ∙ counted cells
   where
@@ -33,7 +33,7 @@ cells_count cells bytes masked a = ap (λ (l : List ℕ). length l) (sym a.shown
     counted [] = refl
     counted (c ∷ cs) = let h = counted cs in omega (arith, h)
 
--- 2. What is left of a token and the white space before it.
+-- 2. The rest of a token and the white space before it.
 
 module _ (prev operand f : Bool) (flags : List Bool) (cells : List Cell) where
   -- The first token stays or goes, and so does the white space before it.
@@ -104,7 +104,7 @@ same_on b s {xs} {ys} {c} {t} {zs} {ws} e f h = subst (λ (l : List Cell). SameL
 pub same_then : {b s c t d u : List ℕ} {xs ys zs : List Cell} → SameLeft b s xs c t ys → SameLeft c t ys d u zs → SameLeft b s xs d u zs
 same_then p q = record { bytes_are = p.bytes_are ∙ q.bytes_are; shown_are = p.shown_are ∙ q.shown_are }
 
--- What holds of each value holds of the value of a result.
+-- A result has a fact if each of its values has it.
 pub ok_all : {A E B S : Type 0} {R Q : A → Type 0} (r : Result A E) → OnOk r B → OnOk r S → IfOk r R → ((p : A) → B → S → R p → Q p) → IfOk r Q
 ok_all (Ok p) b s x f = f p b s x
 ok_all (Err e) b s x f = tt

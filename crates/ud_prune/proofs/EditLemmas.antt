@@ -158,7 +158,7 @@ module _ (table : List Argument) (rules : Rules) (l : Line) (d : Directive) (i :
         e_is : e ≡ k
         e_is = same_line e k body_same same number_is
 
-        -- The same bytes.
+        -- An edited line with the same bytes stays.
         pub same_bytes : bytes_eq e.body l.body ≡ true → text_of (line_if_read table rules l d) ≡ text_of l
         same_bytes f =
             let q : e.body ≡ l.body = (bytes_eq-Decides e.body l.body).0 f in

@@ -1,4 +1,4 @@
--- Left cells: when what is left of a condition's text takes its place.
+-- Left cells: when the rest of a condition's text takes its place.
 use Rattle.std.proofs.Common.{◌≡◌, ℕ, List, [], ◌∷◌, ◌++◌, length, map, Bool, true, false, not, ◌&&◌, if◌then◌else◌, Option, Some, None, refl, sym, ◌∙◌, ap, ap₂, subst, append-nil, arith}
 use Rattle.std.specs.List.{list_any}
 use Rattle.ud_model.specs.text.Lexemes.{Cell, shown}
@@ -96,7 +96,7 @@ module _ (table : List Argument) (rules : Rules) where
   quote_stays cells h = by_option cells (simplified_cells table rules cells ≡ cells) (without_tree cells) (λ e p.
       stays cells e p (and_false (is_unknown (tree_cond e table rules) && is_undecided table rules (residual table rules e)) (not (list_any is_literal cells)) (ap not h)))
 
-  -- What is left takes the text's place exactly if it is read so, and unknown.
+  -- The rest takes the text's place exactly if it is read so, and unknown.
   module _ (cells : List Cell) (e : Expression) (p : expression_of (map shown cells) ≡ Some e) (unknown : is_unknown (expression_cond (map shown cells) table rules) ≡ true)
       (left_unknown : is_unknown (residual table rules e).cond ≡ true) (no_quote : list_any is_literal cells ≡ false) where
     abbrev left : List Cell

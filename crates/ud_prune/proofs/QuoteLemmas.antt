@@ -112,7 +112,7 @@ quiet_take zero cells q = tt
 quiet_take (suc n) [] q = tt
 quiet_take (suc n) (c ∷ cells) q = (q.0, quiet_take n cells q.1)
 
--- Where a quote is shown, there is a literal.
+-- A literal is there where a quote is shown.
 quote_cell : (k : LexemeKind) (b : ℕ) → IsQuiet k b → is_quote (shown_as k b) ≡ true → is_literal (record { byte = b; kind = k }) ≡ true
 quote_cell literal b q e = refl
 quote_cell single b q e = let f : true ≡ false = sym e ∙ q in cc
@@ -130,7 +130,7 @@ quote_shown (c ∷ cells) q e = by (is_quote (shown c)) (is_literal c) refl refl
     by false false f g k h = k h
     by true false f g k h = let z : false ≡ true = sym g ∙ quote_cell c.kind c.byte q.0 f in cc
 
--- Where no quote is shown, there is no literal.
+-- No literal is there where no quote is shown.
 abbrev IsNoLiteral : LexemeKind → Type 0
 IsNoLiteral literal = ⊥
 IsNoLiteral single = Unit {0}

@@ -1,4 +1,4 @@
--- Pruned texts: what is left of a text of any lines.
+-- Pruned texts: the rest of a text of any lines.
 --
 --   pruned_line r        the simplified line, or the line itself if it is too long
 --   pruned_text bytes    the text of such lines

@@ -1,4 +1,4 @@
-//! What is left of a condition.
+//! The rest of a condition.
 //!
 //! `residual` gives a flag for each token, by which the text that is left is copied. It takes the
 //! place of the text if it has the tokens that are left, and is as undecided as they are.
@@ -27,7 +27,7 @@ use ud_cond::{Rules, Symbols, TokenFlags, condition, residual};
 use ud_model::bytes::is_word_byte;
 use ud_model::{Cond, Kind, LINE_BYTES};
 
-/// What is left of a condition, and the flags of its tokens.
+/// The rest of a condition, and the flags of its tokens.
 #[derive(Drop)]
 pub(crate) struct LeftCondition {
     flags: TokenFlags,
@@ -55,7 +55,7 @@ fn is_unknown(text: &[u8], symbols: &Symbols, rules: Rules) -> bool
     condition(Kind::If, text, symbols, rules).cond == Cond::Unknown
 }
 
-/// Returns whether what is left of a text is read as the tokens with a true flag.
+/// Returns whether the rest of a text is read as the tokens with a true flag.
 fn is_read(text: &[u8], flags: &[bool], left: &[u8]) -> bool
     ensures { (table : List Argument) (rules : SpecRules) (e : Expression) →
         expression_of text.now ≡ Some e → flags.now ≡ keeps table rules e → (cells : List Cell) →
@@ -67,7 +67,7 @@ fn is_read(text: &[u8], flags: &[bool], left: &[u8]) -> bool
     has_tokens(text, flags, left)
 }
 
-/// Returns whether what is left of a text is read so, and is unknown.
+/// Returns whether the rest of a text is read so, and is unknown.
 fn may_stand(text: &[u8], flags: &[bool], left: &[u8], symbols: &Symbols, rules: Rules) -> bool
     requires fits { length left.now ≤ LINE_BYTES }
     ensures { (calls : List Argument) → TableRepresents symbols.now calls → (e : Expression) →
@@ -106,7 +106,7 @@ impl LeftCondition {
         }
     }
 
-    /// Finds what is left of the text of an `#if` or `#elif` without a quote. Returns whether it
+    /// Finds the rest of the text of an `#if` or `#elif` without a quote. Returns whether it
     /// may take the text's place.
     ///
     /// # Errors

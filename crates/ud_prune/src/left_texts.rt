@@ -1,4 +1,4 @@
-//! What is left of a condition's text by the flags of its tokens.
+//! The rest of a condition's text by the flags of its tokens.
 //!
 //! White space after an operand belongs to the token after it, other white space to the token
 //! before it. It stays or goes with that token, but stays if a comment is in it
@@ -52,7 +52,7 @@ fn gap_stays(place: Place<'_>, flag: bool, gap: &[u8]) -> bool
     stays || !are_white(gap)
 }
 
-/// Appends what is left of the first token of a text and of the white space before it. `flag` is
+/// Appends the rest of the first token of a text and of the white space before it. `flag` is
 /// whether the token stays. Returns the place after it. A text without a token stays.
 ///
 /// # Errors
@@ -116,7 +116,7 @@ fn append_rest<'a>(place: Place<'a>, left: &mut LeftText) -> Result<Place<'a>, A
     })
 }
 
-/// Appends what is left of a text by these flags of its tokens.
+/// Appends the rest of a text by these flags of its tokens.
 ///
 /// # Errors
 /// Fails if memory runs out.

@@ -4,10 +4,10 @@
 //! that joins no other line is edited if the edited line, read by itself, is the line that is
 //! meant; else it stays. Bytes are only removed.
 //!
-//! ud_model defines what is left of a condition (`conditions.ResidualTexts`) and of a line
-//! (`output.SimplifiedTexts`). `specs/PrunedTexts.antt` defines what is left of a text of any lines.
-//! `specs/Cells.antt`, `specs/EditedLines.antt` and `specs/Passing.antt` have what the code keeps of
-//! a condition's text, of a line and of a text.
+//! ud_model defines the rest of a condition (`conditions.ResidualTexts`) and of a line
+//! (`output.SimplifiedTexts`). `specs/PrunedTexts.antt` defines the rest of a text of any
+//! lines. `specs/Cells.antt`, `specs/EditedLines.antt` and `specs/Passing.antt` have what the code
+//! keeps of a condition's text, of a line and of a text.
 #![tactic(auto)]
 
 mod cells;

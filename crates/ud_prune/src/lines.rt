@@ -1,4 +1,4 @@
-//! What is left of a line.
+//! The rest of a line.
 //!
 //! The condition of an `#if` or `#elif` that joins no other line is edited. The edited line is then
 //! read by itself. It takes the line's place only if it is the line that is meant.

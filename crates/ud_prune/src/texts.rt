@@ -1,4 +1,4 @@
-//! What is left of a text, line by line.
+//! The rest of a text, line by line.
 
 ghost use Rattle.std.specs.Prelude.{◌≡◌, ◌≤◌, ◌<◌, ◌∷◌, ◌++◌, ℕ, List, [], length, take, IfOk};
 ghost use Rattle.std.specs.Prelude.{OnOk, OnErr, if◌then◌else◌};
@@ -61,7 +61,7 @@ fn append_either(
     out.extend_from_slice(line.ending)
 }
 
-/// Reads a line that the scanner takes, and appends what is left of it. Returns whether it was
+/// Reads a line that the scanner takes, and appends the rest of it. Returns whether it was
 /// edited.
 ///
 /// # Errors
@@ -103,7 +103,7 @@ impl Pass {
         }
     }
 
-    /// Reads a line, and appends what is left of it. Returns whether it was edited.
+    /// Reads a line, and appends the rest of it. Returns whether it was edited.
     ///
     /// # Errors
     /// Fails if memory runs out.
@@ -168,7 +168,7 @@ impl Pass {
         edited
     }
 
-    /// Reads text lines, or one line, and appends what is left of them.
+    /// Reads text lines, or one line, and appends the rest of them.
     ///
     /// # Errors
     /// Fails if memory runs out.

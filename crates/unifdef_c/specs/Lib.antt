@@ -8,3 +8,4 @@ pub mod Streams
 pub mod Handles
 pub mod StreamCalls
 pub mod StreamCourses
+pub mod Prunings

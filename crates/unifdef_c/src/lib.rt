@@ -10,6 +10,7 @@ mod decide;
 mod hand_out;
 mod handle;
 mod laws;
+mod pruning;
 mod raw_box;
 mod stream;
 mod stream_calls;

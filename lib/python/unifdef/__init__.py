@@ -123,11 +123,15 @@ def _run_long(text: memoryview, arguments: tuple[Word, ...]) -> Answer:
     return answer._replace(output=output + answer.output if answer.output else output)
 
 
-def strip(text: ReadableBuffer, *arguments: Word) -> bytes:
+def strip(text: ReadableBuffer, *arguments: Word, prune_conditions: bool = False) -> bytes:
     """Returns the output for `text` with these arguments. Raises `Trouble` if there is a fault.
+
+    With `prune_conditions`, operands that the arguments decide go from the conditions, too.
 
     >>> strip(b"#ifndef A\\nx\\n#endif\\ny\\n", "-DA")
     b'y\\n'
+    >>> strip(b"#if A || X\\n#endif\\n", "-UA", prune_conditions=True)
+    b'#if X\\n#endif\\n'
     >>> strip(b"#ifdef A\\n", "-DA")
     Traceback (most recent call last):
     unifdef.Trouble: unifdef: stdin: 1: Premature EOF (#if line 1)
@@ -138,7 +142,17 @@ def strip(text: ReadableBuffer, *arguments: Word) -> bytes:
     answer = run(text, *arguments)
     if answer.status == TROUBLE:
         raise Trouble(answer, *arguments)
-    return answer.output
+    return _pruned(answer.output, _words(arguments)) if prune_conditions else answer.output
+
+
+def _pruned(text: bytes, words: bytes) -> bytes:
+    """Returns what these words, which have no fault, leave of the conditions of a text."""
+    size = ctypes.c_size_t()
+    output = ctypes.create_string_buffer(max(len(text), 1))
+    pruned = library.unifdef_prune(words, len(words), text, len(text), output, len(output), size)
+    if pruned < 0:
+        raise _ERRORS[pruned](_REASONS[pruned])
+    return ctypes.string_at(output, size.value)
 
 
 class Stream:

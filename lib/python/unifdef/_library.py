@@ -45,6 +45,7 @@ def _loaded() -> ctypes.CDLL:
         ("take", ctypes.c_size_t, [stream, *written, size]),
         ("finish", ctypes.c_int, [stream, *written, size]),
         ("close", None, [stream]),
+        ("prune", ctypes.c_int, [*read, *read, *written, size]),
         ("condition", ctypes.c_int, [*read, *read]),
         ("names", ctypes.c_int, [*read, *written, size]),
         ("version", ctypes.c_int, []),

@@ -1,4 +1,4 @@
--- What is left of the tokens so far was appended.
+-- The rest of the tokens so far was appended.
 use Rattle.std.proofs.Common.{◌≡◌, ◌≤◌, ◌+◌, ℕ, List, length, drop}
 use Rattle.ud_model.specs.text.Lexemes.{Cell}
 use Rattle.ud_model.specs.conditions.ResidualTexts.{left_cells, left_from}

@@ -1,4 +1,4 @@
--- What is left of the lines so far was appended.
+-- The rest of the lines so far was appended.
 use Rattle.std.proofs.Common.{◌≡◌, ◌<◌, ◌≤◌, ◌+◌, ℕ, List, ◌++◌, length}
 use Rattle.ud_model.specs.conditions.Table.{Argument}
 use Rattle.ud_model.specs.output.InsertedLines.{read_as}

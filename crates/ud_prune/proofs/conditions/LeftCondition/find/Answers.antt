@@ -1,4 +1,4 @@
--- The text stays, or what is left of it was found.
+-- The text stays, or the rest of it was found.
 use Rattle.std.proofs.Common.{◌≡◌, ℕ, List, Bool, true, false, not, ◌&&◌, map, length, Some, refl, sym, ◌∙◌, ap, ap₂, subst}
 use Rattle.ud_model.specs.text.Lexemes.{Cell, shown}
 use Rattle.ud_model.specs.conditions.Expressions.{Expression}
