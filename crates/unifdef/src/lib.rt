@@ -11,7 +11,6 @@
 //!   (`RunFault`).
 //! - `Engine` is fed chunk by chunk, and prints by any `Show` of ud_sections. Each `feed` writes
 //!   the output for the whole lines so far before it returns.
-//! - `prune` removes from an output the operands of its conditions that the symbols decide.
 //! - `Watched` wraps a reader or a writer, and records whether a call of it has failed.
 //!
 //! Only `plan`, and with it `tool`, needs memory: that of the symbols. docs/LIBRARY.md has
@@ -26,4 +25,3 @@ pub use running::tool;
 pub use ud_args::{Plan, Usage, input_of, plan};
 pub use ud_diagnostics::EXIT_TROUBLE;
 pub use ud_engine::{Engine, RunFault, Watched, run};
-pub use ud_prune::prune;
