@@ -53,8 +53,8 @@ impl LineDecider {
 
     /// Decides the next line. Returns its step.
     ///
-    /// Every section has an `#endif`, and many have an `#else`. Their body is a constant here, so that
-    /// the compiler knows their scan and their directive.
+    /// Every section has an `#endif`, and many have an `#else`. Their body is a constant here, so
+    /// that the compiler knows their scan and their directive.
     ///
     /// # Errors
     /// Fails if the line is faulty.

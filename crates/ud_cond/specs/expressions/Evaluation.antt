@@ -8,8 +8,8 @@
 --   cond_of_value rules v            the condition that a value decides
 --   DecidesFast s rules text cond    the value of a text has no `u`, and decides this condition
 --   step_in, reads_in, reduce_in     a step, a whole text, and a reduction in a scope
-use Rattle.std.specs.Prelude.{◌≡◌, ℕ, List, [], Option, Some, None, Bool, true, false, ◌||◌, ◌&&◌, not}
-use Rattle.std.specs.Prelude.{if◌then◌else◌}
+use Rattle.std.specs.Prelude.{◌≡◌, ℕ, List, [], Option, Some, None, Bool, true, false, ◌||◌}
+use Rattle.std.specs.Prelude.{◌&&◌, not, if◌then◌else◌}
 use Rattle.std.specs.Borrow.{Bor}
 use Rattle.ud_model.specs.conditions.Table.{Argument, entry_in}
 use Rattle.ud_model.specs.conditions.Constants.{has_u}
