@@ -11,8 +11,8 @@
  * in a signal handler, or in the forked child of a process with threads, since malloc may not.
  *
  * A thread that calls needs a stack of 1 MiB, for conditions with thousands of operators or
- * parentheses. With less, such a condition ends the process. unifdef_prune needs 2 MiB, and
- * 8 MiB if a condition has more than 8,192 bytes.
+ * parentheses. With less, such a condition ends the process. unifdef_prune needs 4 MiB if a
+ * condition has more than 8,192 bytes.
  *
  * A pointer may be null if its length is 0. What a call writes to may not overlap anything else
  * that it is passed.

@@ -89,7 +89,7 @@ fi
 "$cc" "${flags[@]}" -O2 -o "$work/shared" lib/examples/filter.c -Llib -lunifdef
 [ "$(printf '#ifdef A\nx\n#endif\n' | LD_LIBRARY_PATH=lib "$work/shared" -DA)" = x ]
 
-# The deepest inputs with a stack of 1 MiB, and of 8 MiB to prune, as a thread and as a program. Statuses, lengths, messages
+# The deepest inputs with a stack of 1 MiB, and of 4 MiB to prune, as a thread and as a program. Statuses, lengths, messages
 # and output are those with a large stack. A sanitizer takes stack, so none is there.
 "$cc" "${flags[@]}" -O2 -pthread -o "$work/stack" tests/library_stack.c lib/libunifdef.a
 run_shared() { LD_LIBRARY_PATH=lib "$work/shared" "$1" < "$work/in" 2>&1 || echo "status $?"; }
@@ -101,7 +101,7 @@ for kind in $(tests/deep.sh); do
     for call in "${calls[@]}"; do
       "$work/stack" 65536 "$call" "$words" < "$work/in" > "$work/wanted"
       kib=1024
-      [ "$call" != prune ] || kib=8192
+      [ "$call" != prune ] || kib=4096
       "$work/stack" "$kib" "$call" "$words" < "$work/in" | cmp - "$work/wanted" ||
         { echo "library: $call of $kind under $words needs a larger stack"; exit 1; }
     done

@@ -30,12 +30,14 @@ pub(crate) struct Part {
     pub(crate) first: usize,
 }
 
+/// A part without a meaning, of zeros alone: so stacks of such parts are cleared in place, and not
+/// copied.
 impl Default for Part {
     fn default() -> Self {
         Part {
             value: NO_VALUE,
             number: None,
-            cond: Cond::Unknown,
+            cond: Cond::Yes,
             lost: false,
             left_alone: false,
             alone: false,
