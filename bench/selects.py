@@ -1,14 +1,15 @@
 #!/usr/bin/env python3
 """Compares what a compiler selects of C files before and after ./unifdef.
 
-    bench/selects.py [--cc CC] [--unifdef PROGRAM] [--seed N] [--count N] [PATH...]
+    bench/selects.py [--cc CC] [--unifdef PROGRAM] [--prune PROGRAM] [--seed N] [--count N] [PATH..]
 
 The conditional directives of each file stay as they are, with their comments and continuations. The
 default files are the headers of /usr/include. The text of every other line becomes one word of its
 own. Then some symbols of the conditions are chosen at random for options. Each other one is left
 undefined or given a number. The output of `cc -E -P` for the text is compared with that for the
 output of `unifdef`. A text that the compiler rejects is left out, since some `#if` there has no
-value. The status is 1 if any text is selected in another way.
+value. With --prune, so is what that `unifdef-tree` makes of the text by `-p`, and a second run must
+change nothing. The status is 1 if any text is selected in another way, or changed by a second run.
 """
 
 import argparse
@@ -18,6 +19,7 @@ import random
 import re
 import subprocess
 import sys
+import tempfile
 
 CONDITIONAL = re.compile(
     rb"\s*#\s*(if|ifdef|ifndef|elif|elifdef|elifndef|else|endif)(?![A-Za-z0-9_])"
@@ -34,6 +36,8 @@ NOT_CHOSEN = re.compile(
     rb"defined$|__has_|__is_|__STDC|__LINE__|__FILE__|__COUNTER__|__INCLUDE_LEVEL__|"
     rb"__DATE__|__TIME__"
 )
+
+WRONG = ("selected in another way", "changed by a second run")
 
 
 def lexemes(text):
@@ -115,8 +119,41 @@ def selected(cc, arguments, text):
     return run.stdout.split() if run.returncode == 0 else None
 
 
+def pruned(tree, options, text):
+    """Returns the text that `unifdef-tree -p` makes of a text, how many conditions it edits, and
+    whether a second run changes nothing."""
+    with tempfile.TemporaryDirectory() as folder:
+        path = os.path.join(folder, "text.c")
+        with open(path, "wb") as file:
+            file.write(text)
+        runs = [
+            subprocess.run([tree, "-p", *options, "--", path], capture_output=True)
+            for _ in range(2)
+        ]
+        with open(path, "rb") as file:
+            out = file.read()
+    edited = re.search(rb"(\d+) conditions? edited", runs[0].stderr)
+    return out, int(edited[1]) if edited else 0, runs[1].returncode == 0
+
+
+def compare_pruned(job, options, arguments, source, before):
+    """Compares what the compiler selects before and after `unifdef-tree -p`."""
+    path, _, cc, _, tree = job
+    out, edited, settled = pruned(tree, options, source)
+    if not settled:
+        return "changed by a second run", path, shown(options)
+    if edited and selected(cc, arguments, out) != before:
+        return "selected in another way", path, "-p " + shown(options)
+    return ("edited" if edited else ""), path, ""
+
+
+def shown(options):
+    """Returns options as a text."""
+    return b" ".join(map(os.fsencode, options)).decode("latin-1")
+
+
 def compare(job):
-    path, seed, cc, unifdef = job
+    path, seed, cc, unifdef, tree = job
     with open(path, "rb") as file:
         text = file.read()
     rng = random.Random(f"{seed} {path}")
@@ -129,12 +166,13 @@ def compare(job):
     if before is None:
         return "rejected by the compiler", path, ""
     if selected(cc, arguments, run.stdout) != before:
-        return (
-            "selected in another way",
-            path,
-            b" ".join(map(os.fsencode, options)).decode("latin-1"),
-        )
-    return ("changed" if run.returncode else "left as they are"), path, ""
+        return "selected in another way", path, shown(options)
+    how = "changed" if run.returncode else "left as they are"
+    if tree:
+        also, _, told = compare_pruned(job, options, arguments, source, before)
+        how = also if told else f"{how} and {also}" if also else how
+        return how, path, told
+    return how, path, ""
 
 
 def files(paths):
@@ -165,16 +203,18 @@ def jobs_of(args):
 
 
 def main():
-    args = parser_of("Compares what a compiler selects before and after unifdef.").parse_args()
-    jobs = jobs_of(args)
+    parser = parser_of("Compares what a compiler selects before and after unifdef.")
+    parser.add_argument("--prune", help="a unifdef-tree, whose -p is tried too")
+    args = parser.parse_args()
+    jobs = [(*it, args.prune) for it in jobs_of(args)]
     counts = {}
     with multiprocessing.Pool() as pool:
         for how, path, options in pool.imap_unordered(compare, jobs, chunksize=16):
             counts[how] = counts.get(how, 0) + 1
-            if how == "selected in another way":
-                print(f"{path}: selected in another way, seed {args.seed}: {options}", flush=True)
+            if how in WRONG:
+                print(f"{path}: {how}, seed {args.seed}: {options}", flush=True)
     print(f"{len(jobs)} files: " + ", ".join(f"{n} {how}" for how, n in sorted(counts.items())))
-    sys.exit(1 if counts.get("selected in another way") else 0)
+    sys.exit(1 if any(it in counts for it in WRONG) else 0)
 
 
 if __name__ == "__main__":
