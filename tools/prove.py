@@ -57,8 +57,8 @@ OTHER = 60
 # to 1.5.
 KEPT, USUAL = 15, 1.2
 
-# Among how many processors a check is split, if it is one of the longest of the chain. A split check
-# takes half as much time of a processor again.
+# Among how many processors a check is split, if it is one of the longest of the chain. A split
+# check takes half as much time of a processor again.
 SPLIT = {"ud_cond": 2, "ud_engine": 4}
 
 # The memory in bytes that must be free before a crate starts beside another one, and before a check
