@@ -41,6 +41,8 @@ SECONDS = {
     "ud_args": 72,
     "ud_sections": 110,
     "ud_prune": 75,
+    "ud_tree_args": 50,
+    "ud_pattern": 25,
     "ud_engine": 175,
     "ud_diagnostics": 27,
     "unifdef": 43,
