@@ -269,9 +269,11 @@ bench-conditions: kit
 	cd crates/bench_conditions && $(RT) run -- conditions 1 < /dev/null > /dev/null
 	bench/conditions.sh
 
-# Graphviz repeats the name of each node and edge in a comment and a title. The picture's title stays.
+# Graphviz repeats the name of each node and edge in a comment and a title, and ends each in a line
+# of its own. The picture's title stays.
 pictures: DRAW = dot -Tsvg
-pictures: PLAIN = sed -e '/^<!-- .*-->$$/d' -e '0,/^<title>/!{ /^<title>/d }'
+pictures: PLAIN = sed -e '/^<!-- .*-->$$/d' -e '0,/^<title>/!{ /^<title>/d }' | \
+	awk 'NR > 1 && $$0 != "</g>" { print "" } { printf "%s", $$0 } END { print "" }'
 ## draws the pictures in docs and bench
 pictures: unifdef
 	@command -v dot > /dev/null || { echo "make: graphviz's dot is not there" >&2; exit 1; }
