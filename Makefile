@@ -157,7 +157,7 @@ cases: unifdef
 
 ## runs the examples under DIFFERENCES, and the other cases
 ## that say what unifdef 2.10 does, with both programs
-differences: unifdef
+differences: unifdef unifdef-tree
 	@tests/differences.py
 
 ## runs ./unifdef with failing streams, refused memory and a
