@@ -25,3 +25,4 @@ pub mod ResidualSame
 pub mod ReducedTrees
 pub mod StayedChoices
 pub mod OneValue
+pub mod SplicedPieces

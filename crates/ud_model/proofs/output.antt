@@ -77,3 +77,7 @@ pub mod OperandsLeft
 pub mod SimplifiedAnswers
 pub mod ChosenWorlds
 pub mod SimplifiedRuns
+pub mod JoinedPieces
+pub mod LogicalPieces
+pub mod LogicalTexts
+pub mod SimplifiedLogical

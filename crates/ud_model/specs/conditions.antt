@@ -11,4 +11,5 @@ pub mod CValues
 pub mod Residuals
 pub mod Sublists
 pub mod ResidualTexts
+pub mod SplicedTexts
 pub mod Choices

@@ -13,3 +13,4 @@ pub mod PresumedLines
 pub mod SimplifiedTrees
 pub mod SimplifiedTexts
 pub mod LeftOperands
+pub mod SeveralLines

@@ -31,7 +31,7 @@ fewer (with_same p) h = (h.0, fewer p h.1)
 
 module _ (table : List Argument) (rules : Rules) where
   -- An edited line has no newline in its body.
-  edited_body : (l : Line) (d : Directive) → NoNewline l.body → NoNewline (left_line table rules l d).body
+  pub edited_body : (l : Line) (d : Directive) → NoNewline l.body → NoNewline (left_line table rules l d).body
   edited_body l d h =
       let p = content-prefix l in
       let c : NoNewline (content l) = (no_feed_parts (content l) p.0 (subst NoNewline p.1 h)).0 in
@@ -71,10 +71,10 @@ module _ (table : List Argument) (rules : Rules) where
   two_ends false false = inr refl
 
   -- The ending of a line is one of two, or nothing.
-  an_end : (t : List ℕ) → IsEnd (ending_of t) ⊎ (ending_of t ≡ [])
+  pub an_end : (t : List ℕ) → IsEnd (ending_of t) ⊎ (ending_of t ≡ [])
   an_end t = two_ends (ends_with nat_eq t (13 ∷ 10 ∷ [])) (ends_with nat_eq t (10 ∷ []))
 
-  no_end : (t : List ℕ) → NoNewline t → IsEnd (ending_of t) ⊎ (ending_of t ≡ []) → ending_of t ≡ []
+  pub no_end : (t : List ℕ) → NoNewline t → IsEnd (ending_of t) ⊎ (ending_of t ≡ []) → ending_of t ≡ []
   no_end t n (inl h) = absurd (unended t n h)
   no_end t n (inr h) = h
 

@@ -1,0 +1,130 @@
+-- Spliced pieces: what is left of a text with splices has the cells that are left of it without
+-- them.
+use Rattle.std.proofs.Common.{◌≡◌, ℕ, zero, suc, List, [], ◌∷◌, ◌++◌, map, take, drop, Bool, true, false, not, ◌||◌, if◌then◌else◌, refl, ◌∙◌, ap, ap₂, subst}
+use Rattle.ud_model.specs.text.Bytes.{skip_white, are_white}
+use Rattle.ud_model.specs.text.Lexemes.{Cell, shown}
+use Rattle.ud_model.specs.conditions.Tokens.{NextToken, at_end, unreadable, found, next_token}
+use Rattle.ud_model.specs.conditions.ResidualTexts.{gap_left, cells_before, cells_after, token_left, left_by, left_from, ends_operand}
+use Rattle.ud_model.specs.conditions.Sublists.{IsSublist, nothing, without, with_same}
+use Rattle.ud_model.proofs.conditions.ResidualShape.{all_of_it, none_of_it, of_both}
+use Rattle.ud_model.specs.conditions.SplicedTexts.{Piece, cell, splice, cells_among, bytes_among, gap_of, after_gap, token_of, after_token, size_before, white_left, pieces_left, pieces_by, pieces_from}
+
+pub both : (ps qs : List Piece) → cells_among (ps ++ qs) ≡ cells_among ps ++ cells_among qs
+both [] qs = refl
+both (cell c ∷ ps) qs = ap (λ (cs : List Cell). c ∷ cs) (both ps qs)
+both (splice b ∷ ps) qs = both ps qs
+
+gap_cells : (n : ℕ) (ps : List Piece) → cells_among (gap_of n ps) ≡ take n (cells_among ps)
+gap_cells zero [] = refl
+gap_cells (suc n) [] = refl
+gap_cells zero (splice b ∷ ps) = gap_cells zero ps
+gap_cells (suc n) (splice b ∷ ps) = gap_cells (suc n) ps
+gap_cells zero (cell c ∷ ps) = refl
+gap_cells (suc n) (cell c ∷ ps) = ap (λ (cs : List Cell). c ∷ cs) (gap_cells n ps)
+
+gap_rest : (n : ℕ) (ps : List Piece) → cells_among (after_gap n ps) ≡ drop n (cells_among ps)
+gap_rest zero [] = refl
+gap_rest (suc n) [] = refl
+gap_rest zero (splice b ∷ ps) = gap_rest zero ps
+gap_rest (suc n) (splice b ∷ ps) = gap_rest (suc n) ps
+gap_rest zero (cell c ∷ ps) = refl
+gap_rest (suc n) (cell c ∷ ps) = gap_rest n ps
+
+pub token_cells : (n : ℕ) (ps : List Piece) → cells_among (token_of n ps) ≡ take n (cells_among ps)
+token_cells zero ps = refl
+token_cells (suc n) [] = refl
+token_cells (suc n) (splice b ∷ ps) = token_cells (suc n) ps
+token_cells (suc n) (cell c ∷ ps) = ap (λ (cs : List Cell). c ∷ cs) (token_cells n ps)
+
+pub token_rest : (n : ℕ) (ps : List Piece) → cells_among (after_token n ps) ≡ drop n (cells_among ps)
+token_rest zero ps = refl
+token_rest (suc n) [] = refl
+token_rest (suc n) (splice b ∷ ps) = token_rest (suc n) ps
+token_rest (suc n) (cell c ∷ ps) = token_rest n ps
+
+if_cells : (b : Bool) (ps : List Piece) (cs : List Cell) → cells_among ps ≡ cs → cells_among (if b then ps else []) ≡ (if b then cs else [])
+if_cells true ps cs e = e
+if_cells false ps cs e = refl
+
+white_cells : (stays : Bool) (ps : List Piece) (cs : List Cell) → cells_among ps ≡ cs → cells_among (white_left stays ps) ≡ gap_left stays cs
+white_cells stays ps cs e =
+    if_cells (stays || not (are_white (map (λ (c : Cell). c.byte) (cells_among ps)))) ps cs e
+    ∙ ap (λ (xs : List Cell). if stays || not (are_white (map (λ (c : Cell). c.byte) xs)) then cs else []) e
+
+token_both : (f : Bool) (further : Bool → List Piece → List Piece) (more : Bool → List Cell → List Cell) (rest : List ℕ) (o : Bool) (ps : List Piece) (cs : List Cell) →
+    cells_among ps ≡ cs → ((b : Bool) (qs : List Piece) → cells_among (further b qs) ≡ more b (cells_among qs)) → cells_among (pieces_left f further rest o ps) ≡ token_left f more rest o cs
+token_both f further more rest o ps cs e h =
+    both (if f then token_of (size_before rest ps) ps else []) (further o (after_token (size_before rest ps) ps))
+    ∙ ap₂ (λ (a b : List Cell). a ++ b)
+    (if_cells f (token_of (size_before rest ps) ps) (cells_before rest (cells_among ps)) (token_cells (size_before rest ps) ps))
+    (h o (after_token (size_before rest ps) ps) ∙ ap (λ (xs : List Cell). more o xs) (token_rest (size_before rest ps) ps))
+    ∙ ap (λ (xs : List Cell). token_left f more rest o xs) e
+
+by_both : (prev operand f : Bool) (further : Bool → List Piece → List Piece) (more : Bool → List Cell → List Cell) (ps : List Piece) (x : NextToken) →
+    ((b : Bool) (qs : List Piece) → cells_among (further b qs) ≡ more b (cells_among qs)) → cells_among (pieces_by prev operand f further ps x) ≡ left_by prev operand f more (cells_among ps) x
+by_both prev operand f further more ps at_end h = refl
+by_both prev operand f further more ps unreadable h = refl
+by_both prev operand f further more ps (found t rest) h =
+    let n : ℕ = size_before (skip_white (map shown (cells_among ps))) ps in
+    both (white_left (if operand then f else prev) (gap_of n ps)) (pieces_left f further rest (ends_operand t) (after_gap n ps))
+    ∙ ap₂ (λ (a b : List Cell). a ++ b)
+    (white_cells (if operand then f else prev) (gap_of n ps) (cells_before (skip_white (map shown (cells_among ps))) (cells_among ps)) (gap_cells n ps))
+    (token_both f further more rest (ends_operand t) (after_gap n ps) (cells_after (skip_white (map shown (cells_among ps))) (cells_among ps)) (gap_rest n ps) h)
+
+-- The cells that are left are those that are left without splices.
+pub cells_from : (prev operand : Bool) (flags : List Bool) (ps : List Piece) → cells_among (pieces_from prev operand flags ps) ≡ left_from prev operand flags (cells_among ps)
+cells_from prev operand [] ps = refl
+cells_from prev operand (f ∷ flags) ps =
+    by_both prev operand f (λ o qs. pieces_from f o flags qs) (λ o cs. left_from f o flags cs) ps (next_token (map shown (cells_among ps))) (λ o qs. cells_from f o flags qs)
+
+-- Pieces are only removed.
+
+gap_split : (n : ℕ) (ps : List Piece) → gap_of n ps ++ after_gap n ps ≡ ps
+gap_split zero [] = refl
+gap_split (suc n) [] = refl
+gap_split zero (splice b ∷ ps) = ap (λ (qs : List Piece). splice b ∷ qs) (gap_split zero ps)
+gap_split (suc n) (splice b ∷ ps) = ap (λ (qs : List Piece). splice b ∷ qs) (gap_split (suc n) ps)
+gap_split zero (cell c ∷ ps) = refl
+gap_split (suc n) (cell c ∷ ps) = ap (λ (qs : List Piece). cell c ∷ qs) (gap_split n ps)
+
+pub token_split : (n : ℕ) (ps : List Piece) → token_of n ps ++ after_token n ps ≡ ps
+token_split zero ps = refl
+token_split (suc n) [] = refl
+token_split (suc n) (splice b ∷ ps) = ap (λ (qs : List Piece). splice b ∷ qs) (token_split (suc n) ps)
+token_split (suc n) (cell c ∷ ps) = ap (λ (qs : List Piece). cell c ∷ qs) (token_split n ps)
+
+either : (b : Bool) (ps : List Piece) → IsSublist (if b then ps else []) ps
+either true ps = all_of_it ps
+either false ps = none_of_it ps
+
+token_sub : (f : Bool) (further : Bool → List Piece → List Piece) (rest : List ℕ) (o : Bool) (ps : List Piece) → ((b : Bool) (qs : List Piece) → IsSublist (further b qs) qs) → IsSublist (pieces_left f further rest o ps) ps
+token_sub f further rest o ps h =
+    let n : ℕ = size_before rest ps in
+    subst (λ (qs : List Piece). IsSublist (pieces_left f further rest o ps) qs) (token_split n ps) (of_both (either f (token_of n ps)) (h o (after_token n ps)))
+
+by_sub : (prev operand f : Bool) (further : Bool → List Piece → List Piece) (ps : List Piece) (x : NextToken) → ((b : Bool) (qs : List Piece) → IsSublist (further b qs) qs) → IsSublist (pieces_by prev operand f further ps x) ps
+by_sub prev operand f further ps at_end h = all_of_it ps
+by_sub prev operand f further ps unreadable h = all_of_it ps
+by_sub prev operand f further ps (found t rest) h =
+    let n : ℕ = size_before (skip_white (map shown (cells_among ps))) ps in
+    subst (λ (qs : List Piece). IsSublist (pieces_by prev operand f further ps (found t rest)) qs) (gap_split n ps)
+    (of_both
+    (either ((if operand then f else prev) || not (are_white (map (λ (c : Cell). c.byte) (cells_among (gap_of n ps))))) (gap_of n ps))
+    (token_sub f further rest (ends_operand t) (after_gap n ps) h))
+
+-- The pieces that are left are some of the pieces, in their order.
+pub pieces_go : (prev operand : Bool) (flags : List Bool) (ps : List Piece) → IsSublist (pieces_from prev operand flags ps) ps
+pieces_go prev operand [] ps = all_of_it ps
+pieces_go prev operand (f ∷ flags) ps = by_sub prev operand f (λ o qs. pieces_from f o flags qs) ps (next_token (map shown (cells_among ps))) (λ o qs. pieces_go f o flags qs)
+
+bytes_there : (ps : List Piece) (b : List ℕ) (xs : List ℕ) → IsSublist xs (bytes_among ps) → IsSublist xs (b ++ bytes_among ps)
+bytes_there ps [] xs p = p
+bytes_there ps (c ∷ b) xs p = without (bytes_there ps b xs p)
+
+-- So are their bytes.
+pub bytes_go : {xs ps : List Piece} → IsSublist xs ps → IsSublist (bytes_among xs) (bytes_among ps)
+bytes_go nothing = nothing
+bytes_go (without {y = cell c} p) = without (bytes_go p)
+bytes_go (without {ys = ps} {y = splice b} p) = bytes_there ps b _ (bytes_go p)
+bytes_go (with_same {y = cell c} p) = with_same (bytes_go p)
+bytes_go (with_same {y = splice b} p) = of_both (all_of_it b) (bytes_go p)
