@@ -1,11 +1,12 @@
 //! Readers and writers that record a failure, and writing all of some bytes.
 //!
-//! `specs/Watched.antt` defines what one call reads or writes, and `specs/Buffering.antt` which
-//! bytes are still on their way to a writer.
+//! `specs/Watched.antt` defines what one call reads or writes, `specs/Buffering.antt` which bytes
+//! are still on their way to a writer, and `specs/Streams.antt` what becomes of bytes that are sent
+//! to a writer, whether or not it has failed.
 #![tactic(auto)]
 
 mod watched;
 mod write;
 
 pub use watched::Watched;
-pub use write::write_all;
+pub use write::{send, send_parts, write_all};

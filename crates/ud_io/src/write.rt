@@ -1,6 +1,8 @@
-//! Writing all of some bytes.
+//! Writing all of some bytes, or as many as a writer takes before it fails.
 
 ghost use Rattle.std.specs.Prelude.{◌≡◌, [], false, not};
+ghost use Rattle.std.specs.List.{flat_map};
+ghost use Rattle.ud_io.specs.Streams.{Sends, stream_of};
 ghost use Rattle.ud_io.specs.Watched.{AppendsAllOrPrefix};
 
 use crate::watched::Watched;
@@ -26,4 +28,24 @@ pub fn write_all<W: Write>(out: &mut Watched<W>, bytes: &[u8]) -> bool
         }
     }
     true
+}
+
+/// Writes all of `bytes`, unless a write has failed before.
+pub fn send<W: Write>(out: &mut Watched<W>, bytes: &[u8])
+    ensures { Sends (stream_of W.contents out.old) (stream_of W.contents out.new) bytes.now }
+{
+    if out.failed() {
+        return;
+    }
+    write_all(out, bytes);
+}
+
+/// Writes parts in order, until a write fails.
+pub fn send_parts<W: Write>(out: &mut Watched<W>, parts: &[&[u8]])
+    ensures { Sends (stream_of W.contents out.old) (stream_of W.contents out.new)
+        (flat_map (λ p. p.now) parts.now) }
+{
+    for part in parts {
+        send(out, part);
+    }
 }

@@ -1,0 +1,15 @@
+use Rattle.std.proofs.Common.{ℕ, List, [], Bor, arith}
+use Rattle.ud_io.specs.Streams.{stream_of}
+use Rattle.ud_io.proofs.StreamLemmas.{sends_none, sends_part, sends_parts}
+use Rattle.ud_io.proofs.write.send_parts.Goals as goal
+
+pub loop-part-init : goal.loop-part-init
+loop-part-init g c = sends_none (stream_of g.W.Write.contents c.args.out.now)
+
+pub loop-part-preserved : goal.loop-part-preserved
+loop-part-preserved g c =
+    sends_part (λ (p : Bor (List ℕ)). p.now) c.args.parts.now c.loop-part.part-index (record { ref_ptr = (0, 0); now = [] }) c.loop-part-test.true
+    c.loop-part.invariant c.send.ensures
+
+pub returns : goal.returns
+returns g c = sends_parts (λ (p : Bor (List ℕ)). p.now) c.args.parts.now c.loop-part.part-index (omega arith) c.loop-part.invariant

@@ -1,0 +1,44 @@
+-- Streams: what becomes of bytes that are sent to a writer that keeps its own failure.
+--
+--   Stream                          the contents of a writer, and how its calls ended
+--   stream_of contents w            those of the writer `w`
+--   TakesBy failed failed' old ..   what it took, by whether it had failed and has failed
+--   TakesAllBut old new bytes left  the same between two streams: all of `bytes` but `left`
+--   Sends old new bytes             all of `bytes` was written, or a prefix up to a failure
+--
+-- Example: after a write of "ab" that failed behind the "a", the contents are one byte longer, and
+-- the writer has failed. What is sent then is dropped.
+use Rattle.std.specs.Prelude.{◌≡◌, ℕ, List, [], Bool, true, false, Option}
+use Rattle.std.specs.Io.KnownBytes.{Keeps}
+use Rattle.ud_io.specs.Watched.{WatchedState, AppendsPrefix}
+use Rattle.ud_io.specs.Buffering.{AppendsAllBut}
+
+-- `Stream`: the contents of a writer, `None` if it doesn't report them, whether it has failed, and
+-- whether a write was tried since the last flush that succeeded.
+pub record Stream : Type 0 where
+  pub contents : Option (List ℕ)
+  pub failed : Bool
+  pub unflushed : Bool
+
+-- `stream_of contents w`: the contents of the writer `w`, and how its calls ended.
+abbrev pub stream_of : {W : Type 0} → (W → Option (List ℕ)) → WatchedState W → Stream
+stream_of contents w =
+    record { contents = contents w.inner; failed = w.failed; unflushed = w.unflushed }
+
+-- `TakesBy failed failed' old new bytes left`: all of `bytes` but `left` was appended; or, if a
+-- write failed, a prefix of `bytes`; or, if one had failed before, nothing.
+abbrev pub TakesBy : Bool → Bool → Option (List ℕ) → Option (List ℕ) → List ℕ → List ℕ → Type 0
+TakesBy false false old new bytes left = AppendsAllBut old new bytes left
+TakesBy false true old new bytes left = AppendsPrefix old new bytes
+TakesBy true failed old new bytes left = (failed ≡ true) × Keeps old new
+
+-- `TakesAllBut old new bytes left`: `TakesBy` of these streams.
+abbrev pub TakesAllBut : Stream → Stream → List ℕ → List ℕ → Type 0
+TakesAllBut old new bytes left =
+    TakesBy old.failed new.failed old.contents new.contents bytes left
+
+-- `Sends old new bytes`: all of `bytes` was taken. If the writer had failed before, nothing was
+-- done.
+pub record Sends (old new : Stream) (bytes : List ℕ) : Type 0 where
+  pub taken : TakesAllBut old new bytes []
+  pub fused : old.failed ≡ true → new ≡ old
