@@ -20,9 +20,9 @@ use Rattle.ud_engine.specs.Advancing.{Advances, IsCursor, IsNext, slice_between,
 use Rattle.ud_engine.specs.Feeding.{EngineState, IsOpen, EngineRepresentsBuffered}
 use Rattle.ud_engine.specs.ProcessedLines.{PrintsBulk, printed_of}
 use Rattle.ud_engine.specs.DecidedLines.{consumed}
-use Rattle.ud_engine.specs.Sinks.{Sink, TakesAllBut}
+use Rattle.ud_io.specs.Streams.{Stream, TakesAllBut}
 use Rattle.ud_engine.proofs.SkipLemmas.{can_skip_take}
-use Rattle.ud_engine.proofs.SinkLemmas.{sink_buffered}
+use Rattle.ud_io.proofs.StreamLemmas.{stream_buffered}
 use Rattle.ud_engine.proofs.StepLemmas.{between_none, between_more}
 use Rattle.ud_engine.proofs.LinePartLemmas.{before_is, rest_is, split_lines-front_of}
 
@@ -101,7 +101,7 @@ module _ {S : Type 0} (represents : S → List Judged → Type 0) (piece_of : S 
 
 -- Skipped lines in a chunk.
 module _ {S : Type 0} (represents : S → List Judged → Type 0) (piece_of : S → List Judged → Judged → List ℕ) (o : Options) (piece : List Judged → Judged → List ℕ)
-    (text printed : List ℕ) (a b : Sink) (f : EngineState S) (g : List ℕ) (bytes : List ℕ) (from at end : ℕ) (ordered : from ≤ at) (later : at ≤ end) where
+    (text printed : List ℕ) (a b : Stream) (f : EngineState S) (g : List ℕ) (bytes : List ℕ) (from at end : ℕ) (ordered : from ≤ at) (later : at ≤ end) where
   -- Copied lines extend the pending bytes.
   pub run_kept : EngineRepresentsBuffered represents piece_of f o piece (text ++ slice_between bytes at end) (printed ++ slice_between bytes at end) → f.buffered ≡ g →
       Advances represents piece_of f o piece text printed (slice_between bytes at end) a a (g ++ slice_between bytes from at) (f.buffered ++ slice_between bytes from end)
@@ -111,7 +111,7 @@ module _ {S : Type 0} (represents : S → List Judged → Type 0) (piece_of : S 
       record {
         more = slice_between bytes at end;
         taken = taken;
-        sent = subst (λ x. TakesAllBut a a ((g ++ slice_between bytes from at) ++ slice_between bytes at end) x) (sym joined) (sink_buffered a ((g ++ slice_between bytes from at) ++ slice_between bytes at end));
+        sent = subst (λ x. TakesAllBut a a ((g ++ slice_between bytes from at) ++ slice_between bytes at end) x) (sym joined) (stream_buffered a ((g ++ slice_between bytes from at) ++ slice_between bytes at end));
       }
 
   -- Before dropped lines, the pending bytes are appended.
@@ -210,7 +210,7 @@ module _ {S : Type 0} (represents : S → List Judged → Type 0) (piece_of : S 
       (subst (λ k. EngineRepresentsBuffered represents piece_of f o piece (text ++ take passed.count (slice_between bytes at whole)) (printed ++ (if k then take passed.count (slice_between bytes at whole) else [])))
       is lines_taken)
 
-  module _ (a b : Sink) (from : ℕ) (ordered : from ≤ at) where
+  module _ (a b : Stream) (from : ℕ) (ordered : from ≤ at) where
     -- Copied lines extend the pending bytes.
     pub passed_kept : passed.kept ≡ true → f.buffered ≡ e.buffered →
         Advances represents piece_of f o piece text printed (slice_between bytes at (at + passed.count)) a a (e.buffered ++ slice_between bytes from at) (f.buffered ++ slice_between bytes from (at + passed.count))

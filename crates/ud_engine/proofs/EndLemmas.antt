@@ -20,8 +20,8 @@ use Rattle.ud_engine.specs.Finishing.{without_fault, PrintsAll, FinishFault, Fin
 use Rattle.ud_engine.specs.Feeding.{EngineState, EngineRepresentsBuffered, EngineRepresents}
 use Rattle.ud_engine.specs.ProcessedLines.{PrintsLine, differs_in}
 use Rattle.ud_io.specs.Watched.{WatchedState}
-use Rattle.ud_engine.specs.Sinks.{Sink, TakesAllBut}
-use Rattle.ud_engine.proofs.SinkLemmas.{sink_flushed, sink_appends, sink_cut}
+use Rattle.ud_io.specs.Streams.{Stream, TakesAllBut}
+use Rattle.ud_io.proofs.StreamLemmas.{stream_flushed, stream_appends, stream_cut}
 use Rattle.ud_engine.proofs.LinePartLemmas.{before_is, rest_is}
 
 -- An empty rest is no line.
@@ -84,7 +84,7 @@ module _ {S : Type 0} (represents : S → List Judged → Type 0) (piece_of : S 
         (ap (λ n. line_at (suc n) e.lines.held) (sym (before_is represents piece_of o piece e text printed h))
         ∙ sym (ap (λ (k : LinesState). line_at (suc k.before) k.held) closed) ∙ sym is)
 
-    module _ (p : LineProcessor S) (a b c : Sink) (left : List ℕ) (prints : PrintsLine represents piece_of p o piece h.items h.tree l true a b e.buffered left [])
+    module _ (p : LineProcessor S) (a b c : Stream) (left : List ℕ) (prints : PrintsLine represents piece_of p o piece h.items h.tree l true a b e.buffered left [])
         (works : a.failed ≡ false) (flushed : TakesAllBut b c left []) where
       last_goes : HasNoFault o (lines_of text) (h.items ++ next_item o h.items h.tree l ∷ []) prints.tree
       last_goes = record {
@@ -93,10 +93,10 @@ module _ {S : Type 0} (represents : S → List Judged → Type 0) (piece_of : S 
       }
 
       last_sent : TakesAllBut a c prints.more []
-      last_sent = sink_flushed a b c prints.more left (subst (λ x. TakesAllBut a b (x ++ ([] ++ prints.more)) left) fed.written prints.goes) flushed
+      last_sent = stream_flushed a b c prints.more left (subst (λ x. TakesAllBut a b (x ++ ([] ++ prints.more)) left) fed.written prints.goes) flushed
 
       -- The last line is printed, and all output is written.
-      pub last_printed : c.failed ≡ false → PrintsAll represents piece_of p o piece text printed a.bytes c.bytes
+      pub last_printed : c.failed ≡ false → PrintsAll represents piece_of p o piece text printed a.contents c.contents
       last_printed w = record {
         items = h.items ++ next_item o h.items h.tree l ∷ [];
         tree = prints.tree;
@@ -104,18 +104,18 @@ module _ {S : Type 0} (represents : S → List Judged → Type 0) (piece_of : S 
         has = prints.has;
         more = prints.more;
         printed_is = ap (λ x. x ++ prints.more) h.printed_is ∙ sym prints.is_more;
-        appended = sink_appends a.failed c.failed a.bytes c.bytes prints.more works w last_sent;
+        appended = stream_appends a.failed c.failed a.contents c.contents prints.more works w last_sent;
       }
 
       -- A write fails.
-      pub last_cut : c.failed ≡ true → FinishTruncated o piece text printed a.bytes c.bytes
+      pub last_cut : c.failed ≡ true → FinishTruncated o piece text printed a.contents c.contents
       last_cut w = record {
         items = h.items ++ next_item o h.items h.tree l ∷ [];
         tree = prints.tree;
         goes = last_goes;
         more = prints.more;
         printed_is = ap (λ x. x ++ prints.more) h.printed_is ∙ sym prints.is_more;
-        prefix = sink_cut a.failed c.failed a.bytes c.bytes prints.more works w last_sent;
+        prefix = stream_cut a.failed c.failed a.contents c.contents prints.more works w last_sent;
       }
 
     -- The last line is faulty.

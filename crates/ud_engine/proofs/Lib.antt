@@ -1,4 +1,3 @@
-pub mod SinkLemmas
 pub mod NameListingLemmas
 pub mod DeciderLemmas
 pub mod SkipLemmas

@@ -19,28 +19,28 @@ use Rattle.ud_model.proofs.sections.Soundness.{sound_lines, reading_of-item_of}
 use Rattle.ud_model.proofs.sections.Unique.{grows}
 use Rattle.ud_sections.proofs.lemmas.printing.ListingLemmas.{has_condition, LevelsGrow, levels_grow}
 use Rattle.ud_engine.specs.NameLines.{name_line}
-use Rattle.ud_engine.specs.Sinks.{Sink, TakesAllBut}
+use Rattle.ud_io.specs.Streams.{Stream, TakesAllBut}
 use Rattle.ud_engine.specs.DecidedLines.{DeciderRepresents, AreText}
 use Rattle.ud_engine.specs.NameListing.{ListsLine}
 use Rattle.ud_engine.specs.declared.line_decider.LineDecider.{LineDecider}
-use Rattle.ud_engine.proofs.SinkLemmas.{sink_buffered, sink_then, sink_both}
+use Rattle.ud_io.proofs.StreamLemmas.{stream_buffered, stream_then, stream_both}
 
 -- The names before `left` were appended.
-pub record NamesPut (a b : Sink) (prefix : List ℕ) (names left : List (List ℕ)) (old new : List ℕ) : Type 0 where
+pub record NamesPut (a b : Stream) (prefix : List ℕ) (names left : List (List ℕ)) (old new : List ℕ) : Type 0 where
   pub done : List ℕ
   pub are : listed_names prefix names ≡ done ++ listed_names prefix left
   pub sent : TakesAllBut a b (old ++ done) new
 
 -- Before the first name.
-pub none_put : (a : Sink) (prefix : List ℕ) (names left : List (List ℕ)) (old : List ℕ) → left ≡ names → NamesPut a a prefix names left old old
+pub none_put : (a : Stream) (prefix : List ℕ) (names left : List (List ℕ)) (old : List ℕ) → left ≡ names → NamesPut a a prefix names left old old
 none_put a prefix names left old e = record {
   done = [];
   are = ap (listed_names prefix) (sym e);
-  sent = subst (λ x. TakesAllBut a a x old) (sym (append-nil old)) (sink_buffered a old);
+  sent = subst (λ x. TakesAllBut a a x old) (sym (append-nil old)) (stream_buffered a old);
 }
 
 -- One name more is appended.
-pub name_put : (a b c : Sink) (prefix : List ℕ) (names left rest : List (List ℕ)) (name old mid new : List ℕ) → left ≡ name ∷ rest →
+pub name_put : (a b c : Stream) (prefix : List ℕ) (names left rest : List (List ℕ)) (name old mid new : List ℕ) → left ≡ name ∷ rest →
     NamesPut a b prefix names left old mid → TakesAllBut b c (mid ++ name_line prefix name) new → NamesPut a c prefix names rest old new
 name_put a b c prefix names left rest name old mid new e p s = record {
   done = p.done ++ name_line prefix name;
@@ -49,11 +49,11 @@ name_put a b c prefix names left rest name old mid new e p s = record {
       ∙ sym (append_assoc p.done (name_line prefix name) (listed_names prefix rest));
   sent =
       subst (λ x. TakesAllBut a c x new) (append_assoc old p.done (name_line prefix name))
-      (sink_then a b c (old ++ p.done) mid (name_line prefix name) new p.sent s);
+      (stream_then a b c (old ++ p.done) mid (name_line prefix name) new p.sent s);
 }
 
 -- If no name is left, all are appended.
-pub all_put : (a b : Sink) (prefix : List ℕ) (names left : List (List ℕ)) (old new : List ℕ) → left ≡ [] →
+pub all_put : (a b : Stream) (prefix : List ℕ) (names left : List (List ℕ)) (old new : List ℕ) → left ≡ [] →
     NamesPut a b prefix names left old new → TakesAllBut a b (old ++ listed_names prefix names) new
 all_put a b prefix names left old new e p =
     subst (λ x. TakesAllBut a b (old ++ x) new) (sym (p.are ∙ ap (λ ns. p.done ++ listed_names prefix ns) e ∙ append-nil p.done)) p.sent
@@ -154,12 +154,12 @@ module _ (o : Options) (depths : Bool) (xs : List (Item Reading)) (t u : Tree Re
     named = ap₂ listed_names p are
 
     -- The line is read, and its names are appended.
-    pub lists_one : (r : LineDecider) → DeciderRepresents o r (xs ++ next_item o xs t l ∷ []) u → (a b c : Sink) (old mid new pending : List ℕ) →
+    pub lists_one : (r : LineDecider) → DeciderRepresents o r (xs ++ next_item o xs t l ∷ []) u → (a b c : Stream) (old mid new pending : List ℕ) →
         TakesAllBut a b (old ++ pending) mid → TakesAllBut b c (mid ++ listed_names prefix names) new → ListsLine o r xs t l depths a c old new pending
     lists_one r has a b c old mid new pending sent more = record {
       tree = u;
       has = has;
       more = own_text;
       is_more = lists_more o depths xs t u l s v own_names refl;
-      sent = subst (λ x. TakesAllBut a c (old ++ (pending ++ x)) new) named (sink_both a b c old mid new pending (listed_names prefix names) sent more);
+      sent = subst (λ x. TakesAllBut a c (old ++ (pending ++ x)) new) named (stream_both a b c old mid new pending (listed_names prefix names) sent more);
     }

@@ -21,7 +21,7 @@ use Rattle.ud_engine.specs.declared.line_decider.LineDecider.{LineDecider}
 use Rattle.ud_engine.specs.DecidedLines.{DecidesLine}
 use Rattle.ud_engine.specs.NameListing.{ListsMore, ListsLine}
 use Rattle.ud_engine.specs.ProcessedLines.{text_by, differs_in, lister_of, ProcessorRepresents, PrintsMore, IsAppended, ShowsLine, PrintsLine}
-use Rattle.ud_engine.specs.Sinks.{Sink}
+use Rattle.ud_io.specs.Streams.{Stream}
 
 -- Of no lines, none differs.
 pub none_differ : (listing : Listing) (piece : List Judged → Judged → List ℕ) → false ≡ differs_in listing piece [] (closed nothing)
@@ -97,7 +97,7 @@ not_off Depths depths e f = cc
 module _ {S : Type 0} (represents : S → List Judged → Type 0) (piece_of : S → List Judged → Judged → List ℕ) (o : Options)
     (piece : List Judged → Judged → List ℕ) (xs : List (Item Reading)) (t : Tree Reading) (l : Line) where
   -- The line whose names were listed was printed.
-  pub lists_line : (p q : LineProcessor S) (depths : Bool) (old new : Sink) (buffered left pending : List ℕ) → ProcessorRepresents represents piece_of p o piece xs t →
+  pub lists_line : (p q : LineProcessor S) (depths : Bool) (old new : Stream) (buffered left pending : List ℕ) → ProcessorRepresents represents piece_of p o piece xs t →
       p.lister ≡ Some depths → q.lister ≡ p.lister → q.printer ≡ p.printer → q.differs ≡ p.differs →
       ListsLine o q.decider xs t l depths old new buffered left pending → PrintsLine represents piece_of q o piece xs t l true old new buffered left pending
   lists_line p q depths old new buffered left pending h e same_lister same_printer same_differs one =
@@ -122,7 +122,7 @@ module _ {S : Type 0} (represents : S → List Judged → Type 0) (piece_of : S 
       ≡ piece (judged_lines xs (marks t)) (judged_line (next_item o xs t l) one.mark)
   piece_is p r step h one = h.stays (judged_lines xs (marks t)) _ ∙ ap (piece (judged_lines xs (marks t))) one.decided
 
-  pub shows_line : (p q : LineProcessor S) (step : Step) (put : Bool) (old new : Sink) (buffered left pending : List ℕ) → ProcessorRepresents represents piece_of p o piece xs t →
+  pub shows_line : (p q : LineProcessor S) (step : Step) (put : Bool) (old new : Stream) (buffered left pending : List ℕ) → ProcessorRepresents represents piece_of p o piece xs t →
       p.lister ≡ None → q.lister ≡ p.lister → q.differs ≡ (p.differs || put) → DecidesLine o q.decider xs t l step →
       ((before : List Judged) → represents p.printer before → represents q.printer (before ++ record { line = l; verdict = step.verdict; keyword = as_span step.keyword } ∷ [])) →
       ((before : List Judged) → (j : Judged) → piece_of q.printer before j ≡ piece_of p.printer before j) →

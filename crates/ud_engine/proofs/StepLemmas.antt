@@ -20,8 +20,8 @@ use Rattle.ud_faults.specs.declared.run.RunFault.TheVariants.{Section}
 use Rattle.ud_engine.specs.Advancing.{Advances, StepFails, slice_between}
 use Rattle.ud_engine.specs.Feeding.{EngineState, IsOpen, EngineRepresentsBuffered}
 use Rattle.ud_engine.specs.ProcessedLines.{PrintsLine}
-use Rattle.ud_engine.specs.Sinks.{Sink, TakesAllBut}
-use Rattle.ud_engine.proofs.SinkLemmas.{sink_buffered}
+use Rattle.ud_io.specs.Streams.{Stream, TakesAllBut}
+use Rattle.ud_io.proofs.StreamLemmas.{stream_buffered}
 use Rattle.ud_engine.proofs.LinePartLemmas.{before_is, rest_is, split_lines-front_of, parts_behind, line_taken, open_taken, line_next, line_stops}
 
 -- A last line without a newline has none in its body.
@@ -82,7 +82,7 @@ open_refused lines new f h is = record {
 }
 
 module _ {S : Type 0} (represents : S → List Judged → Type 0) (piece_of : S → List Judged → Judged → List ℕ) (o : Options) (piece : List Judged → Judged → List ℕ)
-    (e : EngineState S) (text printed : List ℕ) (h : EngineRepresentsBuffered represents piece_of e o piece text printed) (a b : Sink) (g pending rest : List ℕ) (ge : e.buffered ≡ g) where
+    (e : EngineState S) (text printed : List ℕ) (h : EngineRepresentsBuffered represents piece_of e o piece text printed) (a b : Stream) (g pending rest : List ℕ) (ge : e.buffered ≡ g) where
   -- Bytes without a newline are buffered, and the pending bytes before them are appended.
   pub open_step : (f : EngineState S) (used : ℕ) (whole : Bool) → whole ≡ false → UpToNewline rest used whole → f.symbols ≡ e.symbols → f.printer ≡ e.printer →
       f.lines ≡ record e.lines { held = e.lines.held ++ take used rest; whole = whole } → LinesRepresent f.lines (text ++ take used rest) → f.lines.fault ≡ None →
@@ -178,7 +178,7 @@ take_more_of p at end h =
     ap (λ k. take k p ++ slice_between p at end) (sym n) ∙ sym (between_more p 0 at end (omega arith) h) ∙ ap (λ k. take k p) m
 
 module _ {S : Type 0} (represents : S → List Judged → Type 0) (piece_of : S → List Judged → Judged → List ℕ) (o : Options) (piece : List Judged → Judged → List ℕ)
-    (e : EngineState S) (text printed : List ℕ) (h : EngineRepresentsBuffered represents piece_of e o piece text printed) (a b : Sink) (g : List ℕ) (ge : e.buffered ≡ g)
+    (e : EngineState S) (text printed : List ℕ) (h : EngineRepresentsBuffered represents piece_of e o piece text printed) (a b : Stream) (g : List ℕ) (ge : e.buffered ≡ g)
     (bytes rest : List ℕ) (from at end : ℕ) (rest_from : rest ≡ drop at bytes) (ordered : from ≤ at) (later : at ≤ end)
     (f : EngineState S) (l : Line) (lends : CanBorrow e.lines rest (length (text_of l))) (is : text_of l ≡ take (length (text_of l)) rest) (ends : length (text_of l) ≡ end - at)
     (value : l ≡ line_at (suc e.lines.before) (take (length (text_of l)) rest)) (counted : f.lines ≡ record e.lines { before = e.lines.before + 1 })
@@ -238,7 +238,7 @@ module _ {S : Type 0} (represents : S → List Judged → Type 0) (piece_of : S 
         taken = lent_taken false p;
         sent =
             subst (λ x. TakesAllBut a b ((g ++ slice_between bytes from at) ++ p.more) x) (sym joined)
-            (subst (λ x. TakesAllBut a x ((g ++ slice_between bytes from at) ++ p.more) ((g ++ slice_between bytes from at) ++ p.more)) (sym p.goes.0) (sink_buffered a ((g ++ slice_between bytes from at) ++ p.more)));
+            (subst (λ x. TakesAllBut a x ((g ++ slice_between bytes from at) ++ p.more) ((g ++ slice_between bytes from at) ++ p.more)) (sym p.goes.0) (stream_buffered a ((g ++ slice_between bytes from at) ++ p.more)));
       }
 
   -- The line is faulty.
@@ -253,7 +253,7 @@ module _ {S : Type 0} (represents : S → List Judged → Type 0) (piece_of : S 
 
 -- Bytes that were taken through the line buffer.
 module _ {S : Type 0} (represents : S → List Judged → Type 0) (piece_of : S → List Judged → Judged → List ℕ) (o : Options) (piece : List Judged → Judged → List ℕ)
-    (text printed : List ℕ) (a b : Sink) (bytes rest : List ℕ) (at used : ℕ) (rest_from : rest ≡ drop at bytes) (f : EngineState S) (pending : List ℕ) where
+    (text printed : List ℕ) (a b : Stream) (bytes rest : List ℕ) (at used : ℕ) (rest_from : rest ≡ drop at bytes) (f : EngineState S) (pending : List ℕ) where
   pub held_taken : Advances represents piece_of f o piece text printed (take used rest) a b pending f.buffered →
       Advances represents piece_of f o piece text printed (slice_between bytes at (at + used)) a b pending (f.buffered ++ slice_between bytes (at + used) (at + used))
   held_taken p =

@@ -27,7 +27,7 @@ use Rattle.ud_engine.specs.Feeding.{EngineState, EngineRepresentsBuffered, Fault
 use Rattle.ud_engine.specs.Feeding.{Session, IsBufferedIn}
 use Rattle.ud_engine.specs.FaultEffects.{OutputUnchanged}
 use Rattle.ud_faults.specs.Faults.{limit_of}
-use Rattle.ud_engine.specs.Sinks.{Sink, sink, TakesAllBut}
+use Rattle.ud_io.specs.Streams.{Stream, stream_of, TakesAllBut}
 use Rattle.ud_io.specs.Watched.{WatchedState}
 
 -- `slice_between piece from at`: the bytes of `piece` from the position `from` up to `at`.
@@ -55,7 +55,7 @@ pub record Advances {S : Type 0} (represents : S → List Judged → Type 0) (pi
     List Judged →
     Judged → List ℕ) (e : EngineState S) (o : Options)
     (piece : List Judged → Judged →
-    List ℕ) (text printed : List ℕ) (bytes : List ℕ) (old new : Sink)
+    List ℕ) (text printed : List ℕ) (bytes : List ℕ) (old new : Stream)
     (pending left : List ℕ) : Type 0 where
   pub more : List ℕ
   pub taken : EngineRepresentsBuffered represents piece_of e o piece (text ++ bytes) (printed ++
@@ -74,7 +74,7 @@ StepFails o piece longer printed Write = ⊥
 -- `Takes .. e f s rest pending old new used`: the engine `e` in the session `s` took the first
 -- `used` bytes of `rest`, and is `f` after that. Before the output for them, `pending` is appended.
 abbrev pub Takes : {S : Type 0} → (S → List Judged → Type 0) → (S → List Judged → Judged →
-    List ℕ) → EngineState S → EngineState S → Session → List ℕ → List ℕ → Sink → Sink → ℕ →
+    List ℕ) → EngineState S → EngineState S → Session → List ℕ → List ℕ → Stream → Stream → ℕ →
     Type 0
 Takes represents piece_of e f s rest pending old new used =
     Advances represents piece_of f s.options s.pieces s.text s.printed (take used rest) old new
@@ -91,13 +91,14 @@ abbrev pub TakesPart : {S W : Type 0} → (S → List Judged → Type 0) → (S 
     WatchedState W → WatchedState W → Result ℕ RunFault → Type 0
 TakesPart represents piece_of contents e f rest pending out out' result =
     (s : Session) → IsBufferedIn represents piece_of e s → MatchResult result
-    (Takes represents piece_of e f s rest pending (sink contents out) (sink contents out'))
+    (Takes represents piece_of e f s rest pending (stream_of contents out)
+    (stream_of contents out'))
     (StopsIn s rest)
 
 -- `Steps .. e f s piece at old new next`: the engine `e` in the session `s` took the bytes of the
 -- chunk `piece` from the cursor `at` to the cursor `next`, and is `f` after that.
 abbrev pub Steps : {S : Type 0} → (S → List Judged → Type 0) → (S → List Judged → Judged →
-    List ℕ) → EngineState S → EngineState S → Session → List ℕ → Cursor → Sink → Sink →
+    List ℕ) → EngineState S → EngineState S → Session → List ℕ → Cursor → Stream → Stream →
     Cursor → Type 0
 Steps represents piece_of e f s piece at old new next =
     Advances represents piece_of f s.options s.pieces s.text s.printed
@@ -112,7 +113,7 @@ abbrev pub Moves : {S W : Type 0} → (S → List Judged → Type 0) → (S → 
     WatchedState W → WatchedState W → Result Cursor RunFault → Type 0
 Moves represents piece_of contents e f piece at out out' result =
     (s : Session) → IsBufferedIn represents piece_of e s → MatchResult result
-    (Steps represents piece_of e f s piece at (sink contents out) (sink contents out'))
+    (Steps represents piece_of e f s piece at (stream_of contents out) (stream_of contents out'))
     (StopsIn s (drop at.pos piece))
 
 -- `IsNext room lines piece at next`: `next` is a cursor in `piece`, not before `at`, and less is

@@ -1,5 +1,4 @@
 pub mod NameLines
-pub mod Sinks
 pub mod DecidedLines
 pub mod NameListing
 pub mod ProcessedLines

@@ -19,7 +19,7 @@ use Rattle.ud_engine.specs.declared.line_decider.LineDecider.{LineDecider}
 use Rattle.ud_text.specs.scan.ScannerState.{ScannerState}
 use Rattle.ud_sections.specs.declared.sections.machine.Machine.{Machine}
 use Rattle.ud_engine.specs.DecidedLines.{DeciderRepresents, decider_of}
-use Rattle.ud_engine.specs.Sinks.{Sink, sink, TakesAllBut}
+use Rattle.ud_io.specs.Streams.{Stream, stream_of, TakesAllBut}
 use Rattle.ud_io.specs.Watched.{WatchedState}
 
 -- `ListsMore o xs t l depths tree more`: `more` lists the names of the line `l`, after the items
@@ -34,7 +34,7 @@ ListsMore o xs t l depths tree more =
 -- `buffered`, `pending` and the line's names were appended, but for `left`, which is buffered now.
 pub record ListsLine (o : Options) (r : LineDecider) (xs : List (Item Reading)) (t : Tree Reading)
     (l : Line) (depths : Bool)
-    (old new : Sink) (buffered left pending : List ℕ) : Type 0 where
+    (old new : Stream) (buffered left pending : List ℕ) : Type 0 where
   pub tree : Tree Reading
   pub has : DeciderRepresents o r (xs ++ next_item o xs t l ∷ []) tree
   pub more : List ℕ
@@ -50,7 +50,7 @@ abbrev pub ListsNext : {W T : Type 0} → (W → Option (List ℕ)) → List Arg
 ListsNext contents symbols r new l depths pending buffered left out out' result =
     (o : Options) → (xs : List (Item Reading)) → (t : Tree Reading) →
     TableRepresents symbols o.table → DeciderRepresents o r xs t → MatchResult result
-    (λ done. ListsLine o new xs t l depths (sink contents out) (sink contents out')
+    (λ done. ListsLine o new xs t l depths (stream_of contents out) (stream_of contents out')
     buffered left pending)
     (λ f. FaultOf xs (next_item o xs t l) (fault_of f))
 

@@ -38,7 +38,7 @@ use Rattle.ud_faults.specs.declared.sections.SectionFault.{SectionFault}
 use Rattle.ud_engine.specs.declared.line_processor.LineProcessor.{LineProcessor}
 use Rattle.ud_engine.specs.declared.line_processor.SkippedText.{SkippedText}
 use Rattle.ud_engine.specs.DecidedLines.{DeciderRepresents}
-use Rattle.ud_engine.specs.Sinks.{Sink, sink, TakesAllBut}
+use Rattle.ud_io.specs.Streams.{Stream, stream_of, TakesAllBut}
 use Rattle.ud_io.specs.Watched.{WatchedState}
 
 -- `text_by listing piece xs t`: the output for the items `xs` with the tree `t`: their pieces by
@@ -114,7 +114,7 @@ PrintsMore o piece xs t l tree more =
 -- `IsAppended put old new buffered left pending more own`: if `put`, then `buffered`, `pending` and
 -- the line's output `more` were appended, but for `left`. Else `more` is the line itself, `own`,
 -- and nothing was appended.
-abbrev pub IsAppended : Bool → Sink → Sink → List ℕ → List ℕ → List ℕ → List ℕ → List ℕ → Type 0
+abbrev pub IsAppended : Bool → Stream → Stream → List ℕ → List ℕ → List ℕ → List ℕ → List ℕ → Type 0
 IsAppended true old new buffered left pending more own =
     TakesAllBut old new (buffered ++ (pending ++ more)) left
 IsAppended false old new buffered left pending more own = (new ≡ old) × (left ≡ buffered) ×
@@ -122,7 +122,7 @@ IsAppended false old new buffered left pending more own = (new ≡ old) × (left
 
 -- `ShowsLine put old new buffered left pending piece own`: `IsAppended` with `piece`, where `put`
 -- means that `piece` differs from the line `own`.
-abbrev pub ShowsLine : Bool → Sink → Sink → List ℕ → List ℕ → List ℕ → List ℕ → List ℕ → Type 0
+abbrev pub ShowsLine : Bool → Stream → Stream → List ℕ → List ℕ → List ℕ → List ℕ → List ℕ → Type 0
 ShowsLine put old new buffered left pending piece own = (put ≡ not (bytes_eq piece own)) ×
     IsAppended put old new buffered left pending piece own
 
@@ -132,8 +132,8 @@ abbrev pub ShowsNext : {S W : Type 0} → (S → List Judged → Type 0) → (S 
     List ℕ) → (W → Option (List ℕ)) → S → Judged → List ℕ → List ℕ → List ℕ → WatchedState W →
     WatchedState W → Bool → Type 0
 ShowsNext represents piece_of contents show j pending buffered left out out' put =
-    (before : List Judged) → represents show before → ShowsLine put (sink contents out)
-    (sink contents out') buffered left pending (piece_of show before j) (text_of j.line)
+    (before : List Judged) → represents show before → ShowsLine put (stream_of contents out)
+    (stream_of contents out') buffered left pending (piece_of show before j) (text_of j.line)
 
 -- `IsLeftOf left ending`: the output for a line is nothing or its ending.
 abbrev pub IsLeftOf : List ℕ → List ℕ → Type 0
@@ -146,7 +146,7 @@ pub record PrintsLine {S : Type 0} (represents : S → List Judged → Type 0) (
     List Judged → Judged → List ℕ) (p : LineProcessor S) (o : Options)
     (piece : List Judged → Judged → List ℕ)
     (xs : List (Item Reading)) (t : Tree Reading) (l : Line) (put : Bool)
-    (old new : Sink) (buffered left pending : List ℕ) : Type 0 where
+    (old new : Stream) (buffered left pending : List ℕ) : Type 0 where
   pub tree : Tree Reading
   pub has : ProcessorRepresents represents piece_of p o piece (xs ++ next_item o xs t l ∷ []) tree
   pub more : List ℕ
@@ -194,6 +194,6 @@ PrintsNext represents piece_of contents symbols p q l pending buffered left out 
     (o : Options) → (piece : List Judged → Judged → List ℕ) → (xs : List (Item Reading)) →
     (t : Tree Reading) → TableRepresents symbols o.table →
     ProcessorRepresents represents piece_of p o piece xs t → MatchResult result
-    (λ value. PrintsLine represents piece_of q o piece xs t l (put value) (sink contents out)
-    (sink contents out') buffered left pending)
+    (λ value. PrintsLine represents piece_of q o piece xs t l (put value) (stream_of contents out)
+    (stream_of contents out') buffered left pending)
     (λ f. FaultOf xs (next_item o xs t l) (fault_of f))

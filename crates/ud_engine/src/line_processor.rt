@@ -19,7 +19,7 @@ ghost use Rattle.ud_sections.specs.sections.StepViews.{judged_step, HoldsKeyword
 ghost use Rattle.ud_engine.specs.ProcessedLines.{ShowsLine, IsLeftOf, lister_of, printed_of};
 ghost use Rattle.ud_engine.specs.ProcessedLines.{ShowsNext};
 ghost use Rattle.ud_engine.specs.DecidedLines.{consumed};
-ghost use Rattle.ud_engine.specs.Sinks.{sink};
+ghost use Rattle.ud_io.specs.Streams.{stream_of};
 
 use crate::line_decider::LineDecider;
 use crate::output::Output;
@@ -273,8 +273,8 @@ fn append_line_output<W: Write>(
     out: &mut Watched<W>,
 ) -> bool
     requires left { IsLeftOf left.now line.now.ending.now }
-    ensures { ShowsLine result (sink W.contents out.old) (sink W.contents out.new) output.old
-        output.new pending.now left.now (text_of (as_line line.now)) }
+    ensures { ShowsLine result (stream_of W.contents out.old) (stream_of W.contents out.new)
+        output.old output.new pending.now left.now (text_of (as_line line.now)) }
 {
     if is_line(left, line) {
         return false;

@@ -2,7 +2,7 @@
 
 ghost use Rattle.ud_model.specs.answer.Listing.{listed_names};
 ghost use Rattle.ud_engine.specs.NameLines.{name_line};
-ghost use Rattle.ud_engine.specs.Sinks.{Accepts};
+ghost use Rattle.ud_io.specs.Streams.{Accepts};
 
 use crate::output::Output;
 use std::io::Write;

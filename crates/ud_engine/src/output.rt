@@ -5,12 +5,12 @@
 
 ghost use Rattle.std.specs.Prelude.{◌≡◌, []};
 ghost use Rattle.std.specs.List.{flat_map};
-ghost use Rattle.ud_engine.specs.Sinks.{Accepts};
+ghost use Rattle.ud_io.specs.Streams.{Accepts};
 
 use crate::output_buffer::OutputBuffer;
 use std::io::Write;
 use std::marker::Model;
-use ud_io::{Watched, write_all};
+use ud_io::{Watched, send};
 
 /// The pending output: bytes that are accepted, but not written yet.
 #[derive(Drop)]
@@ -55,7 +55,7 @@ impl Output {
         if self.buffered.try_append(bytes) {
             return;
         }
-        write(bytes, out);
+        send(out, bytes);
     }
 
     /// Appends `parts` in turn.
@@ -73,7 +73,7 @@ impl Output {
         ensures takes { Accepts W.contents self.old self.new out.old out.new [] }
         ensures empty { self.new ≡ [] }
     {
-        write(self.buffered.as_slice(), out);
+        send(out, self.buffered.as_slice());
         self.buffered.clear();
     }
 
@@ -84,18 +84,9 @@ impl Output {
         ensures empty { self.new ≡ [] }
     {
         if self.buffered.is_empty() {
-            return write(bytes, out);
+            return send(out, bytes);
         }
         self.append(bytes, out);
         self.flush(out);
-    }
-}
-
-/// Writes `bytes`, unless the writer has failed.
-fn write<W: Write>(bytes: &[u8], out: &mut Watched<W>)
-    ensures { Accepts W.contents [] [] out.old out.new bytes.now }
-{
-    if !out.failed() {
-        write_all(out, bytes);
     }
 }

@@ -61,6 +61,11 @@ takes_of_working false false a b bytes e s = appends_all_but_all a b bytes [] s 
 takes_of_working false true a b bytes e s = s
 takes_of_working true g a b bytes e s = absurd (true≢false e)
 
+-- The same, after a flush that took no bytes of its own.
+pub takes_after_flush : (f g h : Bool) (a b c : Option (List ℕ)) (x left more last : List ℕ) → TakesBy f g a b (x ++ []) left → TakesBy g h b c (left ++ more) last → TakesBy f h a c (x ++ more) last
+takes_after_flush f g h a b c x left more last s t =
+    takes_then f g h a b c x left more last (subst (λ y. TakesBy f g a b y left) (append-nil x) s) t
+
 -- The bytes of the parts up to one are those before it, and its own.
 flat_map-take : {X : Type 0} (f : X → List ℕ) (xs : List X) (i : ℕ) (d : X) → i < length xs →
     flat_map f (take (i + 1) xs) ≡ flat_map f (take i xs) ++ f (get_or xs i d)
@@ -79,6 +84,36 @@ takes_part p xs i x f g h a b c old rest left k s t =
 pub takes_both : (f g h : Bool) (a b c : Option (List ℕ)) (old mid last x y : List ℕ) → TakesBy f g a b (old ++ x) mid → TakesBy g h b c (mid ++ y) last → TakesBy f h a c (old ++ (x ++ y)) last
 takes_both f g h a b c old mid last x y s t =
     subst (λ z. TakesBy f h a c z last) (append_assoc old x y) (takes_then f g h a b c (old ++ x) mid y last s t)
+
+-- A stream takes nothing, and all bytes are left.
+pub stream_buffered : (a : Stream) (bytes : List ℕ) → TakesAllBut a a bytes bytes
+stream_buffered a bytes = takes_buffered a.failed a.contents bytes
+
+-- Bytes that follow are taken after those before them.
+pub stream_then : (a b c : Stream) (bytes left more last : List ℕ) → TakesAllBut a b bytes left → TakesAllBut b c (left ++ more) last → TakesAllBut a c (bytes ++ more) last
+stream_then a b c bytes left more last s t = takes_then a.failed b.failed c.failed a.contents b.contents c.contents bytes left more last s t
+
+-- A flush takes what was left.
+pub stream_flushed : (a b c : Stream) (bytes left : List ℕ) → TakesAllBut a b bytes left → TakesAllBut b c left [] → TakesAllBut a c bytes []
+stream_flushed a b c bytes left s t =
+    subst (λ x. TakesAllBut a c x []) (append-nil bytes)
+    (stream_then a b c bytes left [] [] s (subst (λ x. TakesAllBut b c x []) (sym (append-nil left)) t))
+
+-- All was appended, if no write has failed.
+pub stream_appends : (f g : Bool) (a b : Option (List ℕ)) (bytes : List ℕ) → f ≡ false → g ≡ false → TakesBy f g a b bytes [] → Appends a b bytes
+stream_appends false false a b bytes e k s = appends_all_but_all a b bytes [] s refl
+stream_appends false true a b bytes e k s = cc
+stream_appends true g a b bytes e k s = cc
+
+-- A prefix was appended, if a write has failed.
+pub stream_cut : (f g : Bool) (a b : Option (List ℕ)) (bytes : List ℕ) → f ≡ false → g ≡ true → TakesBy f g a b bytes [] → AppendsPrefix a b bytes
+stream_cut false true a b bytes e k s = s
+stream_cut false false a b bytes e k s = cc
+stream_cut true g a b bytes e k s = cc
+
+-- Two texts are taken by a stream, one after the other.
+pub stream_both : (a b c : Stream) (old mid last x y : List ℕ) → TakesAllBut a b (old ++ x) mid → TakesAllBut b c (mid ++ y) last → TakesAllBut a c (old ++ (x ++ y)) last
+stream_both a b c old mid last x y s t = takes_both a.failed b.failed c.failed a.contents b.contents c.contents old mid last x y s t
 
 -- Nothing was sent.
 pub sends_none : (s : Stream) → Sends s s []
@@ -109,9 +144,10 @@ pub sends_written : {a b : Stream} {x : List ℕ} → a.failed ≡ false → App
 sends_written {a = a} {b = b} {x = x} works h =
     record { taken = takes_written a.failed b.failed a.contents b.contents x works h; fused = λ e. absurd (true≢false (sym e ∙ works)) }
 
--- What a writer that hadn't failed contains then.
-pub sent_all : {a b : Stream} {x : List ℕ} → a.failed ≡ false → Sends a b x → AppendsAllOrPrefix b.failed a.contents b.contents x
-sent_all {a = a} {b = b} {x = x} works h = takes_of_working a.failed b.failed a.contents b.contents x works h.taken
+-- Bytes that are equal to those sent were written to a writer that hadn't failed.
+pub sent_as : {a b : Stream} {x y : List ℕ} → a.failed ≡ false → x ≡ y → Sends a b x → AppendsAllOrPrefix b.failed a.contents b.contents y
+sent_as {a = a} {b = b} {x = x} works same h =
+    subst (λ (z : List ℕ). AppendsAllOrPrefix b.failed a.contents b.contents z) same (takes_of_working a.failed b.failed a.contents b.contents x works h.taken)
 
 -- One part more was sent.
 pub sends_part : {X : Type 0} (f : X → List ℕ) (xs : List X) (i : ℕ) (d : X) {a b c : Stream} → i < length xs →

@@ -5,10 +5,11 @@
 --   TakesBy failed failed' old ..   what it took, by whether it had failed and has failed
 --   TakesAllBut old new bytes left  the same between two streams: all of `bytes` but `left`
 --   Sends old new bytes             all of `bytes` was written, or a prefix up to a failure
+--   Accepts contents buffered ..    bytes were taken, behind a buffer
 --
 -- Example: after a write of "ab" that failed behind the "a", the contents are one byte longer, and
 -- the writer has failed. What is sent then is dropped.
-use Rattle.std.specs.Prelude.{◌≡◌, ℕ, List, [], Bool, true, false, Option}
+use Rattle.std.specs.Prelude.{◌≡◌, ℕ, List, [], ◌++◌, Bool, true, false, Option}
 use Rattle.std.specs.Io.KnownBytes.{Keeps}
 use Rattle.ud_io.specs.Watched.{WatchedState, AppendsPrefix}
 use Rattle.ud_io.specs.Buffering.{AppendsAllBut}
@@ -42,3 +43,10 @@ TakesAllBut old new bytes left =
 pub record Sends (old new : Stream) (bytes : List ℕ) : Type 0 where
   pub taken : TakesAllBut old new bytes []
   pub fused : old.failed ≡ true → new ≡ old
+
+-- `Accepts contents buffered left out out' bytes`: `bytes` were appended after `buffered`, and
+-- `left` is buffered now, unless the writer has failed.
+abbrev pub Accepts : {W : Type 0} → (W → Option (List ℕ)) → List ℕ → List ℕ → WatchedState W →
+    WatchedState W → List ℕ → Type 0
+Accepts contents buffered left out out' bytes =
+    TakesAllBut (stream_of contents out) (stream_of contents out') (buffered ++ bytes) left

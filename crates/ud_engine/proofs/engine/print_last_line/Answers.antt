@@ -3,7 +3,7 @@ use Rattle.ud_model.specs.text.Lines.{Line, NoNewline}
 use Rattle.ud_text.specs.lines.LinesState.{LinesState}
 use Rattle.ud_model.specs.text.LineViews.{as_line}
 use Rattle.ud_engine.specs.Finishing.{without_fault}
-use Rattle.ud_engine.specs.Sinks.{sink, TakesAllBut}
+use Rattle.ud_io.specs.Streams.{stream_of, TakesAllBut}
 use Rattle.ud_engine.proofs.StepLemmas.{rest_feedless}
 use Rattle.ud_engine.proofs.EndLemmas.{last_printed, last_cut, last_fails}
 use Rattle.ud_engine.proofs.engine.print_last_line.Goals as goal
@@ -25,18 +25,18 @@ pub returns-else-failed-clause-last : goal.returns-else-failed-clause-last
 returns-else-failed-clause-last g c = λ s fed.
     last_printed g.S.Show.represents g.S.Show.piece s.options s.pieces (without_fault c.args.symbols.now c.args.lines.now c.args.printer.now c.args.output.now) s.text s.printed fed (search rules)
     c.close.new.self c.in-Ok-true.ensures.value.1 (as_line c.line.result) c.line.ensures.value
-    c.put_line.new.self (sink g.W.Write.contents c.args.out.now) (sink g.W.Write.contents c.put_line.new.out) (sink g.W.Write.contents c.flush.new.out) c.put_line.new.output
+    c.put_line.new.self (stream_of g.W.Write.contents c.args.out.now) (stream_of g.W.Write.contents c.put_line.new.out) (stream_of g.W.Write.contents c.flush.new.out) c.put_line.new.output
     (c.in-Ok.ensures.prints s.options s.pieces fed.taken.items fed.taken.tree fed.taken.symbols fed.taken.has) c.requires.not_failed
-    (subst (λ x. TakesAllBut (sink g.W.Write.contents c.put_line.new.out) (sink g.W.Write.contents c.flush.new.out) x []) (append-nil c.put_line.new.output)
-    (subst (λ x. TakesAllBut (sink g.W.Write.contents c.put_line.new.out) (sink g.W.Write.contents c.flush.new.out) (c.put_line.new.output ++ []) x) c.flush.ensures.empty c.flush.ensures.takes)) (search rules)
+    (subst (λ x. TakesAllBut (stream_of g.W.Write.contents c.put_line.new.out) (stream_of g.W.Write.contents c.flush.new.out) x []) (append-nil c.put_line.new.output)
+    (subst (λ x. TakesAllBut (stream_of g.W.Write.contents c.put_line.new.out) (stream_of g.W.Write.contents c.flush.new.out) (c.put_line.new.output ++ []) x) c.flush.ensures.empty c.flush.ensures.takes)) (search rules)
 
 pub returns-then-failed-clause-last : goal.returns-then-failed-clause-last
 returns-then-failed-clause-last g c = λ s fed. (
   search rules,
   last_cut g.S.Show.represents g.S.Show.piece s.options s.pieces (without_fault c.args.symbols.now c.args.lines.now c.args.printer.now c.args.output.now) s.text s.printed fed (search rules)
       c.close.new.self c.in-Ok-true.ensures.value.1 (as_line c.line.result) c.line.ensures.value
-      c.put_line.new.self (sink g.W.Write.contents c.args.out.now) (sink g.W.Write.contents c.put_line.new.out) (sink g.W.Write.contents c.flush.new.out) c.put_line.new.output
+      c.put_line.new.self (stream_of g.W.Write.contents c.args.out.now) (stream_of g.W.Write.contents c.put_line.new.out) (stream_of g.W.Write.contents c.flush.new.out) c.put_line.new.output
       (c.in-Ok.ensures.prints s.options s.pieces fed.taken.items fed.taken.tree fed.taken.symbols fed.taken.has) c.requires.not_failed
-      (subst (λ x. TakesAllBut (sink g.W.Write.contents c.put_line.new.out) (sink g.W.Write.contents c.flush.new.out) x []) (append-nil c.put_line.new.output)
-      (subst (λ x. TakesAllBut (sink g.W.Write.contents c.put_line.new.out) (sink g.W.Write.contents c.flush.new.out) (c.put_line.new.output ++ []) x) c.flush.ensures.empty c.flush.ensures.takes)) (search rules),
+      (subst (λ x. TakesAllBut (stream_of g.W.Write.contents c.put_line.new.out) (stream_of g.W.Write.contents c.flush.new.out) x []) (append-nil c.put_line.new.output)
+      (subst (λ x. TakesAllBut (stream_of g.W.Write.contents c.put_line.new.out) (stream_of g.W.Write.contents c.flush.new.out) (c.put_line.new.output ++ []) x) c.flush.ensures.empty c.flush.ensures.takes)) (search rules),
 )

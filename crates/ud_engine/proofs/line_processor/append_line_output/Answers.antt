@@ -1,6 +1,6 @@
 use Rattle.std.proofs.Common.{refl, sym, ap, not, ◌∙◌}
 use Rattle.std.proofs.lemmas.Slice.Eq.{bytes_eq-Decides}
-use Rattle.ud_engine.proofs.SinkLemmas.{takes_both}
+use Rattle.ud_io.proofs.StreamLemmas.{takes_both}
 use Rattle.ud_engine.proofs.line_processor.append_line_output.Goals as goal
 
 pub returns-then-is_line : goal.returns-then-is_line

@@ -1,8 +1,8 @@
 use Rattle.std.proofs.Common.{◌∙◌, ap, not, bytes_eq, subst, ◌++◌, List, ℕ}
 use Rattle.ud_model.specs.text.Lines.{text_of}
 use Rattle.ud_model.specs.text.LineViews.{as_line}
-use Rattle.ud_engine.specs.Sinks.{TakesBy}
-use Rattle.ud_engine.proofs.SinkLemmas.{takes_both}
+use Rattle.ud_io.specs.Streams.{TakesBy}
+use Rattle.ud_io.proofs.StreamLemmas.{takes_both}
 use Rattle.ud_engine.proofs.line_processor.append_parts_of.Goals as goal
 
 pub returns-clause-shows : goal.returns-clause-shows

@@ -1,5 +1,5 @@
 use Rattle.std.proofs.Common.{rules}
-use Rattle.ud_engine.specs.Sinks.{sink}
+use Rattle.ud_io.specs.Streams.{stream_of}
 use Rattle.ud_engine.proofs.NameListingLemmas.{none_put, name_put, all_put}
 use Rattle.ud_engine.proofs.listing.append_names.Goals as goal
 
@@ -7,7 +7,7 @@ pub loop-name-init : goal.loop-name-init
 loop-name-init g c = record {
   can = search rules;
   ends = search rules;
-  put = none_put (sink g.W.Write.contents c.args.out.now) c.args.prefix.now c.args.names _ c.args.output.now c.into_iter-name-iterator.ensures.into_iter_gives;
+  put = none_put (stream_of g.W.Write.contents c.args.out.now) c.args.prefix.now c.args.names _ c.args.output.now c.into_iter-name-iterator.ensures.into_iter_gives;
 }
 
 pub loop-name-preserved : goal.loop-name-preserved
@@ -15,12 +15,12 @@ loop-name-preserved g c = record {
   can = search rules;
   ends = search rules;
   put =
-      name_put (sink g.W.Write.contents c.args.out.now) (sink g.W.Write.contents c.loop-name.out) (sink g.W.Write.contents c.append_name.new.out)
+      name_put (stream_of g.W.Write.contents c.args.out.now) (stream_of g.W.Write.contents c.loop-name.out) (stream_of g.W.Write.contents c.append_name.new.out)
       c.args.prefix.now c.args.names c.loop-name.name-iterator c.next.new.self c.in-Some.name.now c.args.output.now c.loop-name.output c.append_name.new.output
       c.in-Some.ensures.steps c.loop-name.invariant.put c.append_name.ensures;
 }
 
 pub returns : goal.returns
 returns g c =
-    all_put (sink g.W.Write.contents c.args.out.now) (sink g.W.Write.contents c.loop-name.out) c.args.prefix.now c.args.names
+    all_put (stream_of g.W.Write.contents c.args.out.now) (stream_of g.W.Write.contents c.loop-name.out) c.args.prefix.now c.args.names
     c.loop-name.name-iterator c.args.output.now c.loop-name.output c.in-None.ensures.steps.0 c.loop-name.invariant.put

@@ -1,7 +1,7 @@
 use Rattle.std.proofs.Common.{rules, refl, sym, subst, ◌++◌, ◌+◌, arith}
 use Rattle.ud_engine.specs.Advancing.{Advances, IsCursor, slice_between}
 use Rattle.ud_engine.specs.Feeding.{EngineState, EngineRepresentsBuffered}
-use Rattle.ud_engine.specs.Sinks.{sink}
+use Rattle.ud_io.specs.Streams.{stream_of}
 use Rattle.ud_engine.proofs.CursorLemmas.{next_after, passed_kept, passed_dropped}
 use Rattle.ud_engine.proofs.engine.EngineOf.advance_in_bulk.Goals as goal
 
@@ -22,7 +22,7 @@ pub returns-then-skipped-clause-moves : goal.returns-then-skipped-clause-moves
 returns-then-skipped-clause-moves g c = λ s old.
     let h = subst (λ (e : EngineState g.row.S.Denot). EngineRepresentsBuffered g.S.Show.represents g.S.Show.piece e s.options s.pieces s.text s.printed) (sym c.self.view_is) old in
     let place = subst (λ (e : EngineState g.row.S.Denot). IsCursor g.H.LineBuffer.CAPACITY e.lines c.args.chunk.now c.args.cursor) (sym c.self.view_is) c.requires.cursor in
-    let out = sink g.W.Write.contents c.args.out.now in
+    let out = stream_of g.W.Write.contents c.args.out.now in
     let f : EngineState g.row.S.Denot = record { symbols = (g.P.PlanSource.plan c.self.inside.plan).symbols; lines = c.skip_text-skipped.new.lines; printer = c.skip_text-skipped.new.self; buffered = c.self.inside.output; fault = c.self.inside.fault } in
     subst (λ (e : EngineState g.row.S.Denot). Advances g.S.Show.represents g.S.Show.piece f s.options s.pieces s.text s.printed
     (slice_between c.args.chunk.now c.args.cursor.pos (c.args.cursor.pos + c.skip_text-skipped.result.count)) out out
@@ -36,9 +36,9 @@ pub returns-clause-moves : goal.returns-clause-moves
 returns-clause-moves g c = λ s old.
     let h = subst (λ (e : EngineState g.row.S.Denot). EngineRepresentsBuffered g.S.Show.represents g.S.Show.piece e s.options s.pieces s.text s.printed) (sym c.self.view_is) old in
     let place = subst (λ (e : EngineState g.row.S.Denot). IsCursor g.H.LineBuffer.CAPACITY e.lines c.args.chunk.now c.args.cursor) (sym c.self.view_is) c.requires.cursor in
-    let out = sink g.W.Write.contents c.args.out.now in
+    let out = stream_of g.W.Write.contents c.args.out.now in
     let f : EngineState g.row.S.Denot = record { symbols = (g.P.PlanSource.plan c.self.inside.plan).symbols; lines = c.skip_text-skipped.new.lines; printer = c.skip_text-skipped.new.self; buffered = c.append.new.self; fault = c.self.inside.fault } in
-    let now = sink g.W.Write.contents c.append.new.out in
+    let now = stream_of g.W.Write.contents c.append.new.out in
     subst (λ (e : EngineState g.row.S.Denot). Advances g.S.Show.represents g.S.Show.piece f s.options s.pieces s.text s.printed
     (slice_between c.args.chunk.now c.args.cursor.pos (c.args.cursor.pos + c.skip_text-skipped.result.count)) out now
     (e.buffered ++ slice_between c.args.chunk.now c.args.cursor.pending_start c.args.cursor.pos)

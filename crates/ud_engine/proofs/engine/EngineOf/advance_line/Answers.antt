@@ -4,7 +4,7 @@ use Rattle.ud_text.specs.lines.LinesState.{LinesState}
 use Rattle.ud_model.specs.text.LineViews.{as_line}
 use Rattle.ud_engine.specs.Advancing.{Advances, StepFails, IsCursor, slice_between}
 use Rattle.ud_engine.specs.Feeding.{EngineState, EngineRepresentsBuffered}
-use Rattle.ud_engine.specs.Sinks.{sink}
+use Rattle.ud_io.specs.Streams.{stream_of}
 use Rattle.ud_engine.proofs.StepLemmas.{slice_from, lent_put, lent_kept, lent_refused, held_taken}
 use Rattle.ud_engine.proofs.CursorLemmas.{next_after_line}
 use Rattle.ud_engine.proofs.engine.EngineOf.advance_line.Goals as goal
@@ -25,16 +25,16 @@ returns-in-Ok-clause-moves g c = λ s old.
     (record { symbols = (g.P.PlanSource.plan c.self.inside.plan).symbols; lines = l; printer = c.self.inside.printer; buffered = c.self.inside.output; fault = c.self.inside.fault }) s.options s.pieces s.text s.printed)
     (sym c.in_default.ensures.unchanged) h in
     let there = λ (e : EngineState g.row.S.Denot) (n from at : ℕ). Advances g.S.Show.represents g.S.Show.piece e s.options s.pieces s.text s.printed (slice_between c.args.chunk.now c.args.cursor.pos n)
-    (sink g.W.Write.contents c.args.out.now) (sink g.W.Write.contents c.push_line_part.new.out)
+    (stream_of g.W.Write.contents c.args.out.now) (stream_of g.W.Write.contents c.push_line_part.new.out)
     (c.args.self.now.buffered ++ slice_between c.args.chunk.now c.args.cursor.pending_start c.args.cursor.pos) (e.buffered ++ slice_between c.args.chunk.now from at) in
     subst (λ n. there c.push_line_part.new.self n c.cursor_at.result.pending_start n) (sym c.cursor_at.ensures.at)
     (subst (λ n. there c.push_line_part.new.self (c.args.cursor.pos + c.in-Ok.used) n (c.args.cursor.pos + c.in-Ok.used)) (sym c.cursor_at.ensures.from)
-    (held_taken g.S.Show.represents g.S.Show.piece s.options s.pieces s.text s.printed (sink g.W.Write.contents c.args.out.now) (sink g.W.Write.contents c.push_line_part.new.out)
+    (held_taken g.S.Show.represents g.S.Show.piece s.options s.pieces s.text s.printed (stream_of g.W.Write.contents c.args.out.now) (stream_of g.W.Write.contents c.push_line_part.new.out)
     c.args.chunk.now (take (length c.args.chunk.now - c.args.cursor.pos) (drop c.args.cursor.pos c.args.chunk.now)) c.args.cursor.pos c.in-Ok.used
     (slice_from c.args.chunk.now c.args.cursor.pos) c.push_line_part.new.self (c.args.self.now.buffered ++ slice_between c.args.chunk.now c.args.cursor.pending_start c.args.cursor.pos)
     (subst (λ (e : EngineState g.row.S.Denot). Advances g.S.Show.represents g.S.Show.piece c.push_line_part.new.self s.options s.pieces s.text s.printed
     (take c.in-Ok.used (take (length c.args.chunk.now - c.args.cursor.pos) (drop c.args.cursor.pos c.args.chunk.now)))
-    (sink g.W.Write.contents c.args.out.now) (sink g.W.Write.contents c.push_line_part.new.out)
+    (stream_of g.W.Write.contents c.args.out.now) (stream_of g.W.Write.contents c.push_line_part.new.out)
     (e.buffered ++ slice_between c.args.chunk.now c.args.cursor.pending_start c.args.cursor.pos) c.push_line_part.new.self.buffered) c.self.view_is
     (c.in-Ok.ensures.takes s k))))
 
@@ -42,7 +42,7 @@ pub returns-in-Err-print-clause-moves : goal.returns-in-Err-print-clause-moves
 returns-in-Err-print-clause-moves g c = λ s old.
     let h = subst (λ (e : EngineState g.row.S.Denot). EngineRepresentsBuffered g.S.Show.represents g.S.Show.piece e s.options s.pieces s.text s.printed) (sym c.self.view_is) old in
     let len = length-append c.in-Some.line.body.now c.in-Some.line.ending.now in
-    lent_refused g.S.Show.represents g.S.Show.piece s.options s.pieces _ s.text s.printed h (sink g.W.Write.contents c.args.out.now) (sink g.W.Write.contents c.print.new.out)
+    lent_refused g.S.Show.represents g.S.Show.piece s.options s.pieces _ s.text s.printed h (stream_of g.W.Write.contents c.args.out.now) (stream_of g.W.Write.contents c.print.new.out)
     c.args.self.now.buffered (ap (λ (e : EngineState g.row.S.Denot). e.buffered) c.self.view_is) c.args.chunk.now
     (take (length c.args.chunk.now - c.args.cursor.pos) (drop c.args.cursor.pos c.args.chunk.now)) c.args.cursor.pending_start c.args.cursor.pos
     (c.args.cursor.pos + (length c.in-Some.line.body.now + length c.in-Some.line.ending.now)) (slice_from c.args.chunk.now c.args.cursor.pos)
@@ -56,7 +56,7 @@ pub returns-then-put-clause-moves : goal.returns-then-put-clause-moves
 returns-then-put-clause-moves g c = λ s old.
     let h = subst (λ (e : EngineState g.row.S.Denot). EngineRepresentsBuffered g.S.Show.represents g.S.Show.piece e s.options s.pieces s.text s.printed) (sym c.self.view_is) old in
     let len = length-append c.in-Some.line.body.now c.in-Some.line.ending.now in
-    lent_put g.S.Show.represents g.S.Show.piece s.options s.pieces _ s.text s.printed h (sink g.W.Write.contents c.args.out.now) (sink g.W.Write.contents c.print.new.out)
+    lent_put g.S.Show.represents g.S.Show.piece s.options s.pieces _ s.text s.printed h (stream_of g.W.Write.contents c.args.out.now) (stream_of g.W.Write.contents c.print.new.out)
     c.args.self.now.buffered (ap (λ (e : EngineState g.row.S.Denot). e.buffered) c.self.view_is) c.args.chunk.now
     (take (length c.args.chunk.now - c.args.cursor.pos) (drop c.args.cursor.pos c.args.chunk.now)) c.args.cursor.pending_start c.args.cursor.pos
     (c.args.cursor.pos + (length c.in-Some.line.body.now + length c.in-Some.line.ending.now)) (slice_from c.args.chunk.now c.args.cursor.pos)
@@ -70,7 +70,7 @@ pub returns-clause-moves : goal.returns-clause-moves
 returns-clause-moves g c = λ s old.
     let h = subst (λ (e : EngineState g.row.S.Denot). EngineRepresentsBuffered g.S.Show.represents g.S.Show.piece e s.options s.pieces s.text s.printed) (sym c.self.view_is) old in
     let len = length-append c.in-Some.line.body.now c.in-Some.line.ending.now in
-    lent_kept g.S.Show.represents g.S.Show.piece s.options s.pieces _ s.text s.printed h (sink g.W.Write.contents c.args.out.now) (sink g.W.Write.contents c.print.new.out)
+    lent_kept g.S.Show.represents g.S.Show.piece s.options s.pieces _ s.text s.printed h (stream_of g.W.Write.contents c.args.out.now) (stream_of g.W.Write.contents c.print.new.out)
     c.args.self.now.buffered (ap (λ (e : EngineState g.row.S.Denot). e.buffered) c.self.view_is) c.args.chunk.now
     (take (length c.args.chunk.now - c.args.cursor.pos) (drop c.args.cursor.pos c.args.chunk.now)) c.args.cursor.pending_start c.args.cursor.pos
     (c.args.cursor.pos + (length c.in-Some.line.body.now + length c.in-Some.line.ending.now)) (slice_from c.args.chunk.now c.args.cursor.pos)

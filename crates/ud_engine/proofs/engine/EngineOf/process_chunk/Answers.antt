@@ -1,7 +1,7 @@
 use Rattle.std.proofs.Common.{rules, refl, sym, subst, ◌∙◌, ◌++◌, ℕ, [], take, arith}
 use Rattle.ud_engine.specs.Advancing.{Advances, IsCursor, slice_between}
 use Rattle.ud_engine.specs.Feeding.{EngineState, longer}
-use Rattle.ud_engine.specs.Sinks.{sink}
+use Rattle.ud_io.specs.Streams.{stream_of}
 use Rattle.ud_engine.proofs.FeedLemmas.{feed_begins, feed_goes_on, feed_stops, feed_ends, stop_matches, end_matches, unchanged_sent}
 use Rattle.ud_engine.proofs.engine.EngineOf.process_chunk.Goals as goal
 
@@ -10,7 +10,7 @@ loop-cursor-init g c = record {
   place = subst (λ (e : EngineState g.row.S.Denot). IsCursor g.H.LineBuffer.CAPACITY e.lines c.args.chunk.now c.cursor_at-cursor.result) c.self.view_is c.cursor_at-cursor.ensures.cursor;
   fault = refl;
   taken = λ s h.
-      let a = sink g.W.Write.contents c.args.out.now in
+      let a = stream_of g.W.Write.contents c.args.out.now in
       let begun = λ (at from : ℕ). Advances g.S.Show.represents g.S.Show.piece c.args.self.now s.options s.pieces s.text s.printed (take at c.args.chunk.now) a a []
       (c.args.self.now.buffered ++ slice_between c.args.chunk.now from at) in
       subst (λ n. begun n c.cursor_at-cursor.result.pending_start) (sym c.cursor_at-cursor.ensures.at)
@@ -25,7 +25,7 @@ loop-cursor-preserved g c = record {
   taken = λ s h.
       let k = c.loop-cursor.invariant.taken s h in
       feed_goes_on g.S.Show.represents g.S.Show.piece s.options s.pieces s.text s.printed c.loop-cursor.self c.advance.new.self
-      (sink g.W.Write.contents c.args.out.now) (sink g.W.Write.contents c.loop-cursor.out) (sink g.W.Write.contents c.advance.new.out)
+      (stream_of g.W.Write.contents c.args.out.now) (stream_of g.W.Write.contents c.loop-cursor.out) (stream_of g.W.Write.contents c.advance.new.out)
       c.args.chunk.now c.loop-cursor.cursor.pos c.in-Ok.next.pos _ _ (let f = c.in-Ok.ensures.next.forward in omega (arith, f)) k
       (c.in-Ok.ensures.moves (longer s (take c.loop-cursor.cursor.pos c.args.chunk.now) k.more) k.taken);
 }
@@ -35,7 +35,7 @@ returns-in-Err-clause-feeds g c = λ s h.
     let k = c.loop-cursor.invariant.taken s h in
     let pending = slice_between c.args.chunk.now c.loop-cursor.cursor.pending_start c.loop-cursor.cursor.pos in
     feed_stops g.S.Show.represents g.S.Show.piece s.options s.pieces s.text s.printed c.loop-cursor.self
-    (sink g.W.Write.contents c.args.out.now) (sink g.W.Write.contents c.loop-cursor.out) (sink g.W.Write.contents c.end_chunk.new.out) c.args.chunk.now c.loop-cursor.cursor.pos _ k
+    (stream_of g.W.Write.contents c.args.out.now) (stream_of g.W.Write.contents c.loop-cursor.out) (stream_of g.W.Write.contents c.end_chunk.new.out) c.args.chunk.now c.loop-cursor.cursor.pos _ k
     c.requires.not_failed
     (unchanged_sent g.W.Write.contents c.loop-cursor.out c.advance.new.out c.end_chunk.new.out c.loop-cursor.self.buffered c.advance.new.self.buffered pending []
     c.in-Err.fault c.in-Err.ensures.step.output_unchanged c.end_chunk.ensures.written)
@@ -46,7 +46,7 @@ pub returns-clause-feeds : goal.returns-clause-feeds
 returns-clause-feeds g c = λ s h.
     let k = c.loop-cursor.invariant.taken s h in
     feed_ends g.S.Show.represents g.S.Show.piece s.options s.pieces s.text s.printed c.loop-cursor.self
-    (sink g.W.Write.contents c.args.out.now) (sink g.W.Write.contents c.loop-cursor.out) (sink g.W.Write.contents c.end_chunk-2.new.out) c.args.chunk.now c.loop-cursor.cursor.pos _ k
+    (stream_of g.W.Write.contents c.args.out.now) (stream_of g.W.Write.contents c.loop-cursor.out) (stream_of g.W.Write.contents c.end_chunk-2.new.out) c.args.chunk.now c.loop-cursor.cursor.pos _ k
     c.requires.not_failed c.end_chunk-2.ensures.written
     c.end_chunk-2.new.self c.end_chunk-2.ensures.flushed (c.loop-cursor.invariant.fault ∙ h.works) (search rules) c.end_chunk-2.new.out.failed refl _ c.end_chunk-2.result c.end_chunk-2.ensures.ended
 

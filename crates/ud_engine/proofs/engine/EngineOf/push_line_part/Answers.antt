@@ -6,7 +6,7 @@ use Rattle.ud_model.specs.text.LineViews.{as_line}
 use Rattle.ud_faults.specs.declared.text.TextFault.{TextFault}
 use Rattle.ud_text.proofs.lemmas.lines.NewlineLemmas.{up_to_newline-some, whole_newlineless}
 use Rattle.ud_engine.specs.Feeding.{EngineState, EngineRepresentsBuffered}
-use Rattle.ud_engine.specs.Sinks.{sink}
+use Rattle.ud_io.specs.Streams.{stream_of}
 use Rattle.ud_engine.proofs.LinePartLemmas.{limit_stops}
 use Rattle.ud_engine.proofs.StepLemmas.{held_whole, is_within, still_open, open_step, line_step, line_refused}
 use Rattle.ud_engine.proofs.engine.EngineOf.push_line_part.Goals as goal
@@ -25,7 +25,7 @@ invariant_of-self-then-not-taken g c =
 pub returns-then-not-taken-clause-takes : goal.returns-then-not-taken-clause-takes
 returns-then-not-taken-clause-takes g c = λ s old.
     let h = subst (λ (e : EngineState g.row.S.Denot). EngineRepresentsBuffered g.S.Show.represents g.S.Show.piece e s.options s.pieces s.text s.printed) (sym c.self.view_is) old in
-    open_step g.S.Show.represents g.S.Show.piece s.options s.pieces _ s.text s.printed h (sink g.W.Write.contents c.args.out.now) (sink g.W.Write.contents c.append.new.out)
+    open_step g.S.Show.represents g.S.Show.piece s.options s.pieces _ s.text s.printed h (stream_of g.W.Write.contents c.args.out.now) (stream_of g.W.Write.contents c.append.new.out)
     c.args.self.now.buffered c.args.pending.now c.args.rest.now (ap (λ (e : EngineState g.row.S.Denot). e.buffered) c.self.view_is)
     _ c.in-Ok.taken.used c.in-Ok.taken.whole (search rules) c.in-Ok.ensures.used refl refl c.in-Ok.ensures.value (c.in-Ok.ensures.represents s.text h.took) c.in-Ok.ensures.no_fault
     (c.in-Ok.ensures.limits (up_to_newline-some c.args.rest.now c.in-Ok.taken.used c.in-Ok.taken.whole c.in-Ok.ensures.used c.requires.some)) c.append.ensures
@@ -48,7 +48,7 @@ put_line-printed-requires-clause-one_line g c =
 pub returns-in-Err-printed-clause-takes : goal.returns-in-Err-printed-clause-takes
 returns-in-Err-printed-clause-takes g c = λ s old.
     let h = subst (λ (e : EngineState g.row.S.Denot). EngineRepresentsBuffered g.S.Show.represents g.S.Show.piece e s.options s.pieces s.text s.printed) (sym c.self.view_is) old in
-    line_refused g.S.Show.represents g.S.Show.piece s.options s.pieces _ s.text s.printed h (sink g.W.Write.contents c.args.out.now) (sink g.W.Write.contents c.put_line-printed.new.out)
+    line_refused g.S.Show.represents g.S.Show.piece s.options s.pieces _ s.text s.printed h (stream_of g.W.Write.contents c.args.out.now) (stream_of g.W.Write.contents c.put_line-printed.new.out)
     c.args.self.now.buffered c.args.pending.now c.args.rest.now (ap (λ (e : EngineState g.row.S.Denot). e.buffered) c.self.view_is)
     c.take.new.self c.in-Ok.taken.used c.in-Ok.taken.whole (as_line c.line.result) c.in-Err-printed.fault (search rules) c.in-Ok.ensures.used c.in-Ok.ensures.value c.line.ensures.value
     (c.in-Err-printed.ensures.prints s.options s.pieces h.items h.tree (subst (λ x. TableRepresents x s.options.table) (sym c.symbols.ensures) h.symbols) h.has)
@@ -56,7 +56,7 @@ returns-in-Err-printed-clause-takes g c = λ s old.
 pub returns-clause-takes : goal.returns-clause-takes
 returns-clause-takes g c = λ s old.
     let h = subst (λ (e : EngineState g.row.S.Denot). EngineRepresentsBuffered g.S.Show.represents g.S.Show.piece e s.options s.pieces s.text s.printed) (sym c.self.view_is) old in
-    line_step g.S.Show.represents g.S.Show.piece s.options s.pieces _ s.text s.printed h (sink g.W.Write.contents c.args.out.now) (sink g.W.Write.contents c.put_line-printed.new.out)
+    line_step g.S.Show.represents g.S.Show.piece s.options s.pieces _ s.text s.printed h (stream_of g.W.Write.contents c.args.out.now) (stream_of g.W.Write.contents c.put_line-printed.new.out)
     c.args.self.now.buffered c.args.pending.now c.args.rest.now (ap (λ (e : EngineState g.row.S.Denot). e.buffered) c.self.view_is)
     _ c.take.new.self c.in-Ok.taken.used c.in-Ok.taken.whole (as_line c.line.result) (search rules) c.in-Ok.ensures.used refl c.in-Ok.ensures.value c.clear.ensures.value
     (c.clear.ensures.represents _ (c.in-Ok.ensures.represents s.text h.took)) c.in-Ok.ensures.no_fault

@@ -3,7 +3,7 @@ use Rattle.ud_model.specs.sections.Items.{reading_of, mode_after}
 use Rattle.ud_model.specs.sections.Directives.{content_of}
 use Rattle.ud_model.specs.answer.Listing.{names_in_content, depth_prefix}
 use Rattle.ud_model.specs.text.LineViews.{as_line}
-use Rattle.ud_engine.specs.Sinks.{sink}
+use Rattle.ud_io.specs.Streams.{stream_of}
 use Rattle.ud_engine.proofs.DeciderLemmas.{has_next}
 use Rattle.ud_engine.proofs.NameListingLemmas.{lists_one}
 use Rattle.ud_engine.proofs.line_decider.LineDecider.list_names.Goals as goal
@@ -24,5 +24,5 @@ returns-clause-lists g c = λ o xs t represents h.
     (c.names-names.ensures ∙ ap (λ s. names_in_content (content_of s)) scanned) c.prefix-prefix.result.now
     (c.prefix-prefix.ensures.text ∙ ap (depth_prefix c.args.lister.now) (c.saturating_sub-around.ensures ∙ ap (λ n. n - 1) depth))
     _ (has_next o _ xs t (as_line c.args.line.now) mode refl read.tree read.read c.in_default-step.ensures.no_fault.1 (c.in-Some.ensures.represents mode before h.carries))
-    (sink g.W.Write.contents c.args.out.now) (sink g.W.Write.contents c.append.new.out) (sink g.W.Write.contents c.append_names.new.out)
+    (stream_of g.W.Write.contents c.args.out.now) (stream_of g.W.Write.contents c.append.new.out) (stream_of g.W.Write.contents c.append_names.new.out)
     c.args.output.now c.append.new.self c.append_names.new.output c.args.pending.now c.append.ensures c.append_names.ensures

@@ -1,7 +1,7 @@
 use Rattle.std.proofs.Common.{ℕ, List, Bor, [], ◌++◌, sym, subst, append-nil, take_all}
 use Rattle.std.specs.List.{flat_map}
-use Rattle.ud_engine.specs.Sinks.{TakesBy}
-use Rattle.ud_engine.proofs.SinkLemmas.{takes_buffered, takes_part}
+use Rattle.ud_io.specs.Streams.{TakesBy}
+use Rattle.ud_io.proofs.StreamLemmas.{takes_buffered, takes_part}
 use Rattle.ud_engine.proofs.output.Output.append_parts.Goals as goal
 
 pub loop-part-init : goal.loop-part-init

@@ -1,6 +1,6 @@
 use Rattle.std.proofs.Common.{take}
 use Rattle.std.specs.List.{flat_map}
-use Rattle.ud_engine.specs.Sinks.{Accepts}
+use Rattle.ud_io.specs.Streams.{Accepts}
 use Rattle.ud_engine.proofs.output.Output.append_parts.Given as goal
 
 abbrev pub invariant-loop-part : goal.invariant-loop-part

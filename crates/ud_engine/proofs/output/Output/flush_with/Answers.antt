@@ -1,6 +1,6 @@
 use Rattle.std.proofs.Common.{ℕ, List, [], ◌++◌, subst, append-nil}
-use Rattle.ud_engine.specs.Sinks.{TakesBy}
-use Rattle.ud_engine.proofs.SinkLemmas.{takes_then}
+use Rattle.ud_io.specs.Streams.{TakesBy}
+use Rattle.ud_io.proofs.StreamLemmas.{takes_then}
 use Rattle.ud_engine.proofs.output.Output.flush_with.Goals as goal
 
 pub returns-clause-takes : goal.returns-clause-takes
