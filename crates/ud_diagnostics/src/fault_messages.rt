@@ -7,11 +7,10 @@ ghost use Rattle.ud_faults.specs.Faults.{limit_of, fault_of};
 ghost use Rattle.ud_io.specs.Watched.{AppendsAllOrPrefix};
 ghost use Rattle.ud_diagnostics.specs.RunMessages.{fault_message};
 
-use crate::write_parts_all::write_parts;
 use itoa::Buffer;
 use std::io::Write;
 use ud_faults::{RunFault, SectionFault, TextFault};
-use ud_io::Watched;
+use ud_io::{Watched, send_parts};
 
 /// Reports why a run ended. If a write fails, a prefix of the message was written.
 pub(crate) fn report_fault<E: Write>(err: &mut Watched<E>, name: &[u8], fault: RunFault)
@@ -77,7 +76,7 @@ fn report_at<E: Write>(err: &mut Watched<E>, name: &[u8], line: u32, text: &[u8]
 {
     let mut digits = Buffer::new();
     let number = digits.format(line).as_bytes();
-    write_parts(
+    send_parts(
         err,
         &[b"unifdef: ", name, b": ", number, b": ", text, b"\n"],
     );
@@ -94,7 +93,7 @@ fn report_premature_eof<E: Write>(err: &mut Watched<E>, name: &[u8], line: u32, 
     let number = digits.format(line).as_bytes();
     let mut if_digits = Buffer::new();
     let if_number = if_digits.format(if_line).as_bytes();
-    write_parts(
+    send_parts(
         err,
         &[
             b"unifdef: ",
@@ -115,5 +114,5 @@ fn report_on<E: Write>(err: &mut Watched<E>, name: &[u8], text: &[u8])
         (E.contents err.new.inner)
         (about name.now text.now) }
 {
-    write_parts(err, &[b"unifdef: ", name, b": ", text, b"\n"]);
+    send_parts(err, &[b"unifdef: ", name, b": ", text, b"\n"]);
 }

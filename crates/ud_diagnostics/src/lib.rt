@@ -9,7 +9,6 @@
 mod exit;
 mod fault_messages;
 mod usage_messages;
-mod write_parts_all;
 
 pub use exit::{EXIT_TROUBLE, final_result, report_result};
 pub use usage_messages::report_usage;

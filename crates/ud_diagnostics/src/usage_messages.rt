@@ -4,11 +4,10 @@ ghost use Rattle.std.specs.Prelude.{◌≡◌, ◌++◌, false, codes, decimal, 
 ghost use Rattle.ud_io.specs.Watched.{AppendsAllOrPrefix};
 ghost use Rattle.ud_diagnostics.specs.UsageMessages.{usage_text};
 
-use crate::write_parts_all::write_parts;
 use itoa::Buffer;
 use std::io::Write;
 use ud_args::Usage;
-use ud_io::{Watched, write_all};
+use ud_io::{Watched, send_parts, write_all};
 
 /// Reports a fault of the arguments, or that memory couldn't be allocated. If a write fails, a
 /// prefix of the message was written.
@@ -45,7 +44,7 @@ fn report_letter<E: Write>(err: &mut Watched<E>, before: &[u8], letter: char, af
 {
     let mut buffer = [0; 4];
     let bytes = letter.encode_utf8(&mut buffer).as_bytes();
-    write_parts(err, &[before, bytes, after]);
+    send_parts(err, &[before, bytes, after]);
 }
 
 /// Writes a message that ends in the number of an argument, after `text`.
@@ -57,5 +56,5 @@ fn report_number<E: Write>(err: &mut Watched<E>, text: &[u8], word: usize)
 {
     let mut digits = Buffer::new();
     let number = digits.format(word).as_bytes();
-    write_parts(err, &[text, number, b"\n"]);
+    send_parts(err, &[text, number, b"\n"]);
 }

@@ -47,49 +47,12 @@ appends_kept (Some u) None c x p q = absurd p
 appends_kept (Some u) (Some v) None x p q = absurd q
 appends_kept (Some u) (Some v) (Some w) x p q = q ∙ p
 
-pub prefix_of_failed : (failed : Bool) (a b : Option (List ℕ)) (bytes : List ℕ) → failed ≡ true → AppendsPrefix a b bytes → AppendsAllOrPrefix failed a b bytes
-prefix_of_failed true a b bytes e h = h
-prefix_of_failed false a b bytes e h = cc
-
 pub all_or_prefix_same : (failed : Bool) (a b : Option (List ℕ)) (x y : List ℕ) → x ≡ y → AppendsAllOrPrefix failed a b x → AppendsAllOrPrefix failed a b y
 all_or_prefix_same failed a b x y e h = subst (λ z. AppendsAllOrPrefix failed a b z) e h
 
 -- the rest after the first `n` bytes, as a range gives it
 pub range_from : (rest : List ℕ) (n : ℕ) → take (length rest - n) (drop n rest) ≡ drop n rest
 range_from rest n = grind (arith, common_steps)
-
-pub failed_appends_prefix : (failed : Bool) (a b : Option (List ℕ)) (bytes : List ℕ) → failed ≡ true → AppendsAllOrPrefix failed a b bytes → AppendsPrefix a b bytes
-failed_appends_prefix true a b bytes e h = h
-failed_appends_prefix false a b bytes e h = cc
-
-pub working_appends_all : (failed : Bool) (a b : Option (List ℕ)) (bytes : List ℕ) → failed ≡ false → AppendsAllOrPrefix failed a b bytes → Appends a b bytes
-working_appends_all true a b bytes e h = cc
-working_appends_all false a b bytes e h = h
-
--- the bytes of the parts from an index on are those of the part there, and those of the parts after
--- it
-pub flat_map-drop : {X : Type 0} (f : X → List ℕ) (xs : List X) (i : ℕ) (d : X) → i < length xs
-    → flat_map f (drop i xs) ≡ f (get_or xs i d) ++ flat_map f (drop (i + 1) xs)
-flat_map-drop f xs i d h =
-    let at : drop i xs ≡ get_or xs i d ∷ drop (i + 1) xs = rw add-one (drop-cons xs i d h) in
-    ap (flat_map f) at
-
--- one more part is appended
-pub parts_sent : {X : Type 0} (f : X → List ℕ) (xs : List X) (i : ℕ) (d : X) (failed : Bool) (a b c : Option (List ℕ)) → i < length xs
-    → AppendsAllBut a b (flat_map f xs) (flat_map f (drop i xs)) → failed ≡ false → AppendsAllOrPrefix failed b c (f (get_or xs i d))
-    → AppendsAllBut a c (flat_map f xs) (flat_map f (drop (i + 1) xs))
-parts_sent f xs i d failed a b c h s e p =
-    appends_all_but_part a b c (flat_map f xs) (f (get_or xs i d)) (flat_map f (drop (i + 1) xs))
-    (subst (λ r. AppendsAllBut a b (flat_map f xs) r) (flat_map-drop f xs i d h) s) (working_appends_all failed b c (f (get_or xs i d)) e p)
-
--- a write fails within a part
-pub parts_failed : {X : Type 0} (f : X → List ℕ) (xs : List X) (i : ℕ) (d : X) (failed : Bool) (a b c : Option (List ℕ)) → i < length xs
-    → AppendsAllBut a b (flat_map f xs) (flat_map f (drop i xs)) → failed ≡ true → AppendsAllOrPrefix failed b c (f (get_or xs i d))
-    → AppendsAllOrPrefix failed a c (flat_map f xs)
-parts_failed f xs i d failed a b c h s e p =
-    prefix_of_failed failed a c (flat_map f xs) e
-    (appends_all_but_prefix a b c (flat_map f xs) (f (get_or xs i d)) (flat_map f (drop (i + 1) xs))
-    (subst (λ r. AppendsAllBut a b (flat_map f xs) r) (flat_map-drop f xs i d h) s) (failed_appends_prefix failed b c (f (get_or xs i d)) e p))
 
 suffix_nil : (x y : List ℕ) → x ++ y ≡ [] → y ≡ []
 suffix_nil [] y e = e
