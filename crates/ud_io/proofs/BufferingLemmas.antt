@@ -1,9 +1,6 @@
 -- Bytes that are written part by part.
-use Rattle.std.proofs.lemmas.Grind.{common_steps, flat_map-append}
-use Rattle.std.proofs.lemmas.List.{take_more}
-use Rattle.std.proofs.Math.Seq.{drop-cons}
-use Rattle.std.specs.List.{flat_map}
-use Rattle.std.proofs.Common.{◌==◌, ◌≡◌, ◌<◌, ◌+◌, get_or, add-one, ◌-◌, arith, ℕ, List, [], ◌∷◌, ◌++◌, length, take, drop, Bool, true, false, not, Option, Some, None, refl, sym, ap, subst, ◌∙◌, append_assoc, append-nil, take-append-drop}
+use Rattle.std.proofs.lemmas.Grind.{common_steps}
+use Rattle.std.proofs.Common.{◌==◌, ◌≡◌, ◌-◌, arith, ℕ, List, [], ◌∷◌, ◌++◌, length, take, drop, Bool, false, Option, Some, None, refl, sym, ap, subst, ◌∙◌, append_assoc, append-nil, take-append-drop}
 use Rattle.std.specs.Io.KnownBytes.{Appends, Keeps}
 use Rattle.std.proofs.KnownBytes.{Appends-nil, Appends-trans}
 use Rattle.ud_io.specs.Watched.{AppendsPrefix, AppendsAllOrPrefix}
@@ -66,9 +63,6 @@ appends_all_but_empty a b bytes rest s e = suffix_nil s.prefix rest (sym s.joine
 pub empty_len : (rest : List ℕ) → rest ≡ [] → false ≡ (length rest == 0) → ⊥
 empty_len [] e h = absurd cc
 empty_len (b ∷ bs) e h = absurd cc
-
-pub prefix_of_first : (a b : Option (List ℕ)) (x y : List ℕ) → AppendsPrefix a b x → AppendsPrefix a b (x ++ y)
-prefix_of_first a b x y h = appends_all_but_prefix a a b (x ++ y) x y (appends_all_but_none a (x ++ y)) h
 
 -- after the first bytes, a prefix of the second bytes was appended
 pub prefix_of_second : (a b c : Option (List ℕ)) (x y : List ℕ) → Appends a b x → AppendsPrefix b c y → AppendsPrefix a c (x ++ y)
