@@ -26,7 +26,7 @@ use std::io::Write;
 use ud_cond::Symbols;
 use ud_io::Watched;
 use ud_model::Settings;
-use ud_sections::{Lister, Machine, SectionFault, Step, TextPolicy};
+use ud_sections::{Lister, Machine, SectionFault, Step, TextPolicy, directive};
 use ud_text::{Line, LineBuffer, Lines, Scanner, ScannerOf};
 
 /// The most bytes of a short line's body.
@@ -176,13 +176,14 @@ impl LineDecider {
         let Some(scan) = self.scanner.read_unmarked(line) else {
             return self.list_names_marked(line, symbols, lister, pending, output, out);
         };
-        if let Err(reason) = self.machine.step(&scan, line, symbols) {
+        let content = directive(&scan);
+        if let Err(reason) = self.machine.step_by(&scan, content, line, symbols) {
             return Err(reason);
         }
         output.append(pending, out);
         let around = self.machine.depth().saturating_sub(1);
         let prefix = lister.prefix(around);
-        let names = Lister::names(&scan);
+        let names = Lister::names_in(content);
         append_names(output, prefix, names, out);
         Ok(())
     }
@@ -357,12 +358,13 @@ fn list_names_with<const N: usize, W: Write>(
 {
     let mode = machine.mode();
     let scan = scanner.read(mode, line);
-    if let Err(fault) = machine.step(&scan, line, symbols) {
+    let content = directive(&scan);
+    if let Err(fault) = machine.step_by(&scan, content, line, symbols) {
         return Err(fault);
     }
     output.append(pending, out);
     let around = machine.depth().saturating_sub(1);
     let prefix = lister.prefix(around);
-    append_names(output, prefix, Lister::names(&scan), out);
+    append_names(output, prefix, Lister::names_in(content), out);
     Ok(())
 }

@@ -1,9 +1,11 @@
 -- ParsedDirectives: the directive that the program finds on a line, as the definitions have it.
 --
 --   content_found found   a cut keyword, else a directive, else text
+--   IsWithinScan found n  a directive that was found is within the `n` masked bytes of its line
 --
 -- Example: a line on which the program finds no directive is text.
-use Rattle.std.specs.Prelude.{Option, Some, None, Result, Ok, Err}
+use Rattle.std.specs.Prelude.{◌≡◌, ◌+◌, ℕ, length, Option, Some, None, Result, Ok, Err}
+use Rattle.std.specs.Prelude.{IfOk, IfSome}
 use Rattle.ud_model.specs.sections.Directives.{Content, cut_keyword, text}
 use Rattle.ud_model.specs.sections.Directives as model
 use Rattle.ud_sections.specs.declared.directives.Directive.{Directive}
@@ -29,3 +31,9 @@ directive_or_text (Some d) = model.directive (as_directive d)
 abbrev pub content_found : Result (Option Directive) Cut → Content
 content_found (Ok found) = directive_or_text found
 content_found (Err cut) = cut_keyword
+
+-- `IsWithinScan found n`: if a directive was found, its keyword and what follows end the `n` masked
+-- bytes of its line.
+abbrev pub IsWithinScan : Result (Option Directive) Cut → ℕ → Type 0
+IsWithinScan found n =
+    IfOk found (λ o. IfSome o (λ d. d.keyword.at + d.keyword.len + length d.after.now ≡ n))

@@ -25,6 +25,7 @@ use ud_model::{CommentAt, Scan};
 /// # Errors
 /// The line is continued, and its keyword can't be known. After the `#` there is only white space,
 /// or a continuation cuts the line after a single `/` or after what may become a keyword.
+#[inline(always)]
 pub fn directive<'a>(scan: &Scan<'a>) -> Result<Option<Directive<'a>>, Cut>
     ensures value { content_found result ≡ content_of (as_scan scan.now) }
     ensures keyword_within { IfOk result (λ found. IfSome found (λ d.
@@ -39,7 +40,7 @@ pub fn directive<'a>(scan: &Scan<'a>) -> Result<Option<Directive<'a>>, Cut>
 /// Returns what follows the `#` of a line, or `None` if the line is certainly text. Such a line
 /// isn't fresh, or its first byte that isn't white space is no `#`.
 #[inline(always)]
-pub(crate) fn after_hash<'a>(scan: &Scan<'a>) -> Option<&'a [u8]>
+fn after_hash<'a>(scan: &Scan<'a>) -> Option<&'a [u8]>
     ensures none { IfNone result (content_of (as_scan scan.now) ≡ text) }
     ensures some { IfSome result (λ after. skip_white_and_hash scan.now.masked.now ≡
         Some after.now) }
@@ -56,10 +57,7 @@ pub(crate) fn after_hash<'a>(scan: &Scan<'a>) -> Option<&'a [u8]>
 /// # Errors
 /// The errors of `directive`.
 #[inline(always)]
-pub(crate) fn directive_after_hash<'a>(
-    scan: &Scan<'a>,
-    after: &'a [u8],
-) -> Result<Option<Directive<'a>>, Cut>
+fn directive_after_hash<'a>(scan: &Scan<'a>, after: &'a [u8]) -> Result<Option<Directive<'a>>, Cut>
     requires { skip_white_and_hash scan.now.masked.now ≡ Some after.now }
     ensures value { content_found result ≡ content_of (as_scan scan.now) }
     ensures keyword_within { IfOk result (λ found. IfSome found (λ d.

@@ -1,9 +1,11 @@
 //! A lister of the names of conditions, which are printed instead of the text.
 
-ghost use Rattle.std.specs.Prelude.{◌≡◌, ◌+◌, ◌≤◌, ◌++◌, length, Bool};
+ghost use Rattle.std.specs.Prelude.{◌≡◌, ◌+◌, ◌≤◌, ◌++◌, length, Bool, IfOk, IfSome};
+ghost use Rattle.ud_sections.specs.directives.ParsedDirectives.{content_found};
 ghost use Rattle.ud_model.specs.answer.Listing.{depth_prefix};
 
 use crate::directives::parse_directive::directive;
+use crate::directives::{Cut, Directive};
 use crate::printing::append_bytes::append;
 use arrayvec::ArrayVec;
 use itoa::Buffer;
@@ -60,7 +62,17 @@ impl Lister {
         requires fits { length scan.now.masked.now ≤ LINE_BYTES }
         ensures { result ≡ names_in_content (content_of (as_scan scan.now)) }
     {
-        match directive(scan) {
+        Lister::names_in(directive(scan))
+    }
+
+    /// Returns the names in the condition of a line, as `names` does. `content` is what `directive`
+    /// returns for its scan.
+    #[inline(always)]
+    pub fn names_in<'a>(content: Result<Option<Directive<'a>>, Cut>) -> Names<'a>
+        requires fits { IfOk content (λ o. IfSome o (λ d. length d.after.now ≤ LINE_BYTES)) }
+        ensures { result ≡ names_in_content (content_found content.entry) }
+    {
+        match content {
             Ok(Some(found)) if !found.broken => names(found.kind, found.after),
             _ => names(Kind::Endif, &[]),
         }

@@ -11,13 +11,14 @@ ghost use Rattle.std.specs.Prelude.{OnOk, OnErr, None, Some, Ok};
 ghost use Rattle.arrayvec.specs.ArrayVec.{array_vec_len};
 ghost use Rattle.ud_model.specs.text.Scans.{Reading};
 ghost use Rattle.ud_model.specs.sections.Tree.{Item, Tree, closed, nothing, depth};
-ghost use Rattle.ud_model.specs.sections.Directives.{skip_white_and_hash, directive};
+ghost use Rattle.ud_model.specs.sections.Directives.{content_of};
 ghost use Rattle.ud_model.specs.sections.Items.{Options, mode_after, rules_of};
 ghost use Rattle.ud_model.specs.conditions.Table.{Argument};
 ghost use Rattle.ud_model.specs.declared.limits.TheConstants.{LINE_BYTES, OPEN_SECTIONS};
 ghost use Rattle.ud_model.specs.text.LineViews.{as_line, as_scan};
 ghost use Rattle.ud_cond.specs.symbols.SymbolTable.{TableRepresents};
-ghost use Rattle.ud_sections.specs.directives.ParsedDirectives.{as_directive};
+ghost use Rattle.ud_sections.specs.directives.ParsedDirectives.{as_directive, content_found};
+ghost use Rattle.ud_sections.specs.directives.ParsedDirectives.{IsWithinScan};
 ghost use Rattle.ud_sections.specs.sections.ClassifiedLines.{classified};
 ghost use Rattle.ud_sections.specs.sections.Limits.{IsWithinLimits};
 ghost use Rattle.ud_sections.specs.sections.StepViews.{HoldsKeyword};
@@ -25,7 +26,8 @@ ghost use Rattle.ud_sections.specs.sections.StackOps.{applied, innermost_of};
 ghost use Rattle.ud_model.specs.sections.Pruning.{is_removed};
 ghost use Rattle.ud_sections.specs.sections.Checking.{opens_section};
 
-use crate::directives::parse_directive::{after_hash, directive_after_hash};
+use crate::directives::parse_directive::directive;
+use crate::directives::{Cut, Directive};
 use crate::sections::check::{LineContext, check_line};
 use crate::sections::classify_line::{ClassifiedLine, classify, line_kind_of};
 use crate::sections::line_kind::LineKind;
@@ -168,16 +170,49 @@ impl Machine {
             MachineRepresents self.old o xs t → MachineRepresents self.new o xs t) }
         ensures fused { (f : SectionFault) → machine_fault self.old ≡ Some f → result ≡ Err f }
     {
+        self.step_by(scan, directive(scan), line, symbols)
+    }
+
+    /// Decides the next line, as `step` does. `content` is what `directive` returns for `scan`, so
+    /// a caller that needs it too doesn't parse the line again.
+    ///
+    /// # Errors
+    /// As `step`.
+    #[inline(always)]
+    pub fn step_by(
+        &mut self,
+        scan: &Scan<'_>,
+        content: Result<Option<Directive<'_>>, Cut>,
+        line: &Line<'_>,
+        symbols: &Symbols,
+    ) -> Result<Step, SectionFault>
+        requires fits { length scan.now.masked.now ≤ length line.now.body.now }
+        requires within { IsWithinLimits (as_line line.now) }
+        requires content { content_found content ≡ content_of (as_scan scan.now) }
+        requires keyword { IsWithinScan content (length scan.now.masked.now) }
+        ensures represents { StepsNext self.old self.new (as_scan scan.now) (as_line line.now)
+            symbols.now result }
+        ensures finds_fault { FindsFault self.old (as_scan scan.now) (as_line line.now)
+            symbols.now result }
+        ensures keyword_within { IfOk result (λ step. HoldsKeyword step line.now) }
+        ensures no_fault { OnOk result ((machine_fault self.old ≡ None) ×
+            (machine_fault self.new ≡ None)) }
+        ensures records_fault { IfErr result (λ f. self.new ≡ machine_with_fault self.old f) }
+        ensures unchanged { OnErr result ((o : Options) → (xs : List (Item Reading)) →
+            (t : Tree Reading) →
+            MachineRepresents self.old o xs t → MachineRepresents self.new o xs t) }
+        ensures fused { (f : SectionFault) → machine_fault self.old ≡ Some f → result ≡ Err f }
+    {
         if let Some(fault) = self.fault {
             return Err(fault);
         }
-        let Some(after) = after_hash(scan) else {
+        if let Ok(None) = content {
             return Ok(Step {
                 verdict: self.note_text(line.number),
                 keyword: Span { at: 0, len: 0 },
             });
-        };
-        match self.transition(scan, after, line.number, symbols) {
+        }
+        match self.transition(scan, content, line.number, symbols) {
             Ok(next) => {
                 apply(&mut self.open_sections, next.change);
                 self.removed = next.step.verdict.is_removed();
@@ -243,18 +278,19 @@ impl Machine {
         }
     }
 
-    /// Returns the step of the next line and its change of the open sections. `after` follows the
-    /// `#` of the line.
+    /// Returns the step of the next line, which has this content, and its change of the open
+    /// sections.
     #[inline(always)]
-    fn transition<'a>(
+    fn transition(
         &self,
-        scan: &Scan<'a>,
-        after: &'a [u8],
+        scan: &Scan<'_>,
+        content: Result<Option<Directive<'_>>, Cut>,
         number: u32,
         symbols: &Symbols,
     ) -> Result<Transition, SectionFault>
         requires fits { length scan.now.masked.now ≤ LINE_BYTES }
-        requires after_hash { skip_white_and_hash scan.now.masked.now ≡ Some after.now }
+        requires content { content_found content ≡ content_of (as_scan scan.now) }
+        requires keyword { IsWithinScan content (length scan.now.masked.now) }
         ensures value { IsTransition self.now (as_scan scan.now) symbols.now number result }
         ensures keyword_within { IfOk result
             (λ next. next.step.keyword.at + next.step.keyword.len ≤ length
@@ -263,7 +299,7 @@ impl Machine {
         ensures has_space { IfOk result (λ next. IsTrue (opens_section next.change) →
             array_vec_len self.now.open_sections < OPEN_SECTIONS) }
     {
-        let Ok(content) = directive_after_hash(scan, after) else {
+        let Ok(content) = content else {
             // The number of open sections shows that they fit, as the contract says.
             let _depth = self.open_sections.len();
             return Err(SectionFault::Obfuscated { line: number });

@@ -24,7 +24,7 @@ returns-clause-lists g c = λ o xs t represents h.
     let read = c.in_default.ensures.represents o xs t h.read (record { scanned = scanned; represents = represents }) in
     let depth = c.depth.ensures.value o _ read.tree read.read in
     lists_one o c.args.lister.now xs t read.tree (as_line c.args.line.now) h.read.sound read.read.sound _
-    (c.names.ensures ∙ ap (λ s. names_in_content (content_of s)) scanned) c.prefix-prefix.result.now
+    (c.names_in.ensures ∙ ap names_in_content c.directive-content.ensures.value ∙ ap (λ s. names_in_content (content_of s)) scanned) c.prefix-prefix.result.now
     (c.prefix-prefix.ensures.text ∙ ap (depth_prefix c.args.lister.now) (c.saturating_sub-around.ensures ∙ ap (λ n. n - 1) depth))
     _ (has_next o _ xs t (as_line c.args.line.now) c.mode-mode.result mode read.tree read.read c.in_default.ensures.no_fault.1 (c.read.follows.holds-at-none before h.carries))
     (stream_of g.W.Write.contents c.args.out.now) (stream_of g.W.Write.contents c.append.new.out) (stream_of g.W.Write.contents c.append_names.new.out)

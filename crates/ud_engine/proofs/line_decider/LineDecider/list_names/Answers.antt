@@ -18,11 +18,11 @@ returns-clause-lists g c = λ o xs t represents h.
     let mode = mode_after o t in
     let before = map reading_of xs in
     let scanned = c.in-Some.ensures.value mode before h.carries in
-    let read = c.in_default-step.ensures.represents o xs t h.read (record { scanned = scanned; represents = represents }) in
+    let read = c.in_default-step_by.ensures.represents o xs t h.read (record { scanned = scanned; represents = represents }) in
     let depth = c.depth.ensures.value o _ read.tree read.read in
     lists_one o c.args.lister.now xs t read.tree (as_line c.args.line.now) h.read.sound read.read.sound _
-    (c.names-names.ensures ∙ ap (λ s. names_in_content (content_of s)) scanned) c.prefix-prefix.result.now
+    (c.names_in-names.ensures ∙ ap names_in_content c.directive-content.ensures.value ∙ ap (λ s. names_in_content (content_of s)) scanned) c.prefix-prefix.result.now
     (c.prefix-prefix.ensures.text ∙ ap (depth_prefix c.args.lister.now) (c.saturating_sub-around.ensures ∙ ap (λ n. n - 1) depth))
-    _ (has_next o _ xs t (as_line c.args.line.now) mode refl read.tree read.read c.in_default-step.ensures.no_fault.1 (c.in-Some.ensures.represents mode before h.carries))
+    _ (has_next o _ xs t (as_line c.args.line.now) mode refl read.tree read.read c.in_default-step_by.ensures.no_fault.1 (c.in-Some.ensures.represents mode before h.carries))
     (stream_of g.W.Write.contents c.args.out.now) (stream_of g.W.Write.contents c.append.new.out) (stream_of g.W.Write.contents c.append_names.new.out)
     c.args.output.now c.append.new.self c.append_names.new.output c.args.pending.now c.append.ensures c.append_names.ensures

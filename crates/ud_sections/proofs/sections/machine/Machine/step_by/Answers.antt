@@ -1,14 +1,17 @@
-use Rattle.std.proofs.Common.{◌∙◌, ap, sym, refl}
+use Rattle.std.proofs.Common.{◌≡◌, ◌∙◌, ap, sym, refl, rules}
 use Rattle.ud_model.specs.sections.Pruning.{is_removed}
+use Rattle.ud_model.specs.sections.Directives.{text}
 use Rattle.ud_model.specs.text.LineViews.{as_line, as_scan}
+use Rattle.ud_sections.specs.directives.ParsedDirectives.{content_found}
 use Rattle.ud_sections.proofs.lemmas.sections.TransitionLemmas.{turns_well, turns_ill, text_turn}
 use Rattle.ud_sections.proofs.lemmas.sections.MachineLemmas.{reads_line}
-use Rattle.ud_sections.proofs.sections.machine.Machine.step.Goals as goal
+use Rattle.ud_sections.proofs.sections.machine.Machine.step_by.Goals as goal
 
 -- a line that is certainly text, without a look at its keyword
-pub returns-in_default-after_hash-clause-represents : goal.returns-in_default-after_hash-clause-represents
-returns-in_default-after_hash-clause-represents c = λ o xs t h next.
-    let reported = text_turn c.args.self.now o (as_scan c.args.scan.now) (as_line c.args.line.now) c.in_default-after_hash.ensures.none in
+pub returns-in-Ok-None-clause-represents : goal.returns-in-Ok-None-clause-represents
+returns-in-Ok-None-clause-represents c = λ o xs t h next.
+    let found : content_found c.args.content ≡ text = search rules in
+    let reported = text_turn c.args.self.now o (as_scan c.args.scan.now) (as_line c.args.line.now) (sym c.requires.content ∙ found) in
     let same = ap (λ m. m.open_sections.items) c.note_text.ensures.rest in
     rw c.note_text.ensures.value
     (reads_line c.args.self.now _ o xs t (as_line c.args.line.now) _ h
