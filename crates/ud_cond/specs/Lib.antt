@@ -1,4 +1,5 @@
 pub mod symbols
 pub mod CondViews
+pub mod KnownConditions
 pub mod expressions
 pub mod list_names
