@@ -37,14 +37,17 @@ use ud_sections::Show;
 use ud_text::{LineBuffer, Lines, LongLineBuffer, is_other_word};
 
 /// A position in a chunk. The bytes from `pending_start` to `pos` are to be copied to the output.
+///
+/// A step returns a cursor or a fault, and the first fields share their bytes with those of the
+/// fault. They are the ones that seldom change.
 #[derive(Clone, Copy)]
 struct Cursor {
-    pending_start: usize,
-    pos: usize,
-    /// If after `pos`: the end of the whole lines within the limits that follow `pos`.
-    whole_end: usize,
     /// True after a try to skip text lines: the next line is decided by itself.
     bulk_tried: bool,
+    /// If after `pos`: the end of the whole lines within the limits that follow `pos`.
+    whole_end: usize,
+    pending_start: usize,
+    pos: usize,
 }
 
 /// Returns the cursor at `at`, with nothing pending.
