@@ -53,7 +53,7 @@ fn joins_a_neighbor(scan: &Scan<'_>) -> bool
     scan.joins_before || scan.joins_after
 }
 
-/// Returns the decision on a directive that isn't broken. `known` is its condition, if that is known.
+/// Returns the decision on a directive that isn't broken. `known` is its condition, if it is known.
 #[inline(always)]
 fn known_or_condition(
     found: &Directive<'_>,
