@@ -1,8 +1,9 @@
 -- Hunks: lemmas on the hunks of a script.
-use Rattle.std.proofs.Common.{◌≡◌, ℕ, zero, suc, ◌+◌, ◌-◌, ◌<◌, ◌≤◌, Bool, true, false, cond, List, [], ◌∷◌, ◌++◌, length, map, take, drop, get_or, Some, None, refl, sym, ◌∙◌, ap, ap₂, subst, ◌⊎◌, inl, inr, append_assoc, append-nil, arith, filter, position, ltb}
+use Rattle.std.proofs.Common.{◌≡◌, ℕ, suc, ◌+◌, ◌-◌, ◌<◌, ◌≤◌, min, Bool, true, false, cond, List, [], ◌∷◌, ◌++◌, length, map, take, drop, get_or, Some, None, refl, sym, ◌∙◌, ap, ap₂, subst, ◌⊎◌, inl, inr, append_assoc, arith, filter, position, ltb}
 use Rattle.std.specs.List.{flat_map, count_by, position_or_len}
 use Rattle.std.proofs.lemmas.Bool.{cases_lt, lt-ltb}
-use Rattle.std.proofs.lemmas.List.{take-append-drop, take_all, take_rest, length-append, length-drop, length-take, length-take-le, length-map, flat_map_more}
+use Rattle.std.proofs.lemmas.List.{take_rest, length-append, length-drop, length-take, length-take-le, length-map, drop-drop, get_or-drop}
+use Rattle.std.proofs.lemmas.List.Elements.{All-map, All-head, All-tail}
 use Rattle.std.proofs.lemmas.List.Quantifiers.{position-Some}
 use Rattle.std.proofs.lemmas.List.Sums.{length-filter, count_by-le-length, fails_before_first}
 use Rattle.std.proofs.Math.Seq.{take-add}
@@ -11,8 +12,10 @@ use Rattle.ud_diff.specs.declared.line.Sign.TheVariants.{Kept, Removed, Added}
 use Rattle.ud_diff.specs.declared.line.DiffLine.{DiffLine}
 use Rattle.ud_diff.specs.Hunks.{SignedLine, Hunk, old_lines, new_lines, is_old, is_new, is_change}
 use Rattle.ud_diff.specs.DiffTexts.{ranges_text, signed_text, hunk_text}
-use Rattle.ud_diff.specs.Patching.{Turns, nothing, stay, change}
-use Rattle.ud_diff.specs.Scripts.{signed, signed_lines, hunk_of, AppendsHunks, AreKept, IsNextHunk}
+use Rattle.ud_diff.specs.Patching.{Turns, stay, change}
+use Rattle.ud_diff.specs.Contexts.{context, IsKept, AreKept, AreChanges}
+use Rattle.ud_diff.specs.Scripts.{signed, signed_lines, hunk_of, between, gap, BeginsWithChange, IsNextHunk}
+use Rattle.ud_diff.proofs.ContextLemmas.{kept_range, begins_at, between_drop, changes_begin_at}
 use Rattle.ud_diff.proofs.ScriptLemmas.{signed_old-append, signed_new-append}
 
 -- Of a line and others that pass a test, as many pass as bytes are taken of.
@@ -42,17 +45,6 @@ count_old_is ls = sym (length-filter (λ (l : DiffLine). is_old l.sign) ls) ∙ 
 pub count_new_is : (ls : List DiffLine) → count_by (λ (l : DiffLine). is_new l.sign) ls ≡ length (new_lines (signed_lines ls))
 count_new_is ls = sym (length-filter (λ (l : DiffLine). is_new l.sign) ls) ∙ new_filtered ls
 
--- The first lines are kept ones if none of them is a change.
-kept_upto : (ls : List DiffLine) (n : ℕ) → ((k : ℕ) (d : DiffLine) → k < n → is_change (get_or ls k d).sign ≡ false) → AreKept (take n ls)
-kept_upto ls zero h = tt
-kept_upto [] (suc n) h = tt
-kept_upto (l ∷ ls) (suc n) h = (h 0 l (omega arith), kept_upto ls n (λ k d low. h (suc k) d (omega arith)))
-
--- The lines up to the first change are kept ones.
-kept_before : (ls : List DiffLine) (first k : ℕ) → position (λ (l : DiffLine). is_change l.sign) ls ≡ Some first → k ≤ first → AreKept (take k ls)
-kept_before ls first k e h =
-    kept_upto ls k (λ j d low. (position-Some (λ (l : DiffLine). is_change l.sign) ls first d e).2 j (omega arith))
-
 -- A test that gives nothing is false.
 gives_nothing : (b : Bool) (n : ℕ) → cond b (Some n) None ≡ None → b ≡ false
 gives_nothing true n e = cc
@@ -67,42 +59,108 @@ not_below m n e = by_order (cases_lt m n)
     by_order (inr high) = high
 
 -- If no line is a change, all are kept ones.
-pub kept_none : (ls : List DiffLine) → position (λ (l : DiffLine). is_change l.sign) ls ≡ None → AreKept ls
+pub kept_none : (ls : List DiffLine) → position (λ (l : DiffLine). is_change l.sign) ls ≡ None → AreKept (signed_lines ls)
 kept_none ls e =
     let far : length ls ≤ position_or_len (λ (l : DiffLine). is_change l.sign) ls =
     not_below (position_or_len (λ (l : DiffLine). is_change l.sign) ls) (length ls)
     (gives_nothing (ltb (position_or_len (λ (l : DiffLine). is_change l.sign) ls) (length ls)) (position_or_len (λ (l : DiffLine). is_change l.sign) ls) e) in
-    subst AreKept (take_all (length ls) ls (omega arith))
-    (kept_upto ls (length ls) (λ k d low. fails_before_first (λ (l : DiffLine). is_change l.sign) ls k d (omega arith)))
-
--- A hunk that begins before the first change, with some lines.
-pub next_hunk_is : (script : List DiffLine) (from first skipped len : ℕ) → position (λ (l : DiffLine). is_change l.sign) (drop from script) ≡ Some first →
-    skipped ≤ first → 0 < len → len ≤ length (drop skipped (drop from script)) → IsNextHunk script from (from + skipped) (from + skipped + len)
-next_hunk_is script from first skipped len e h some within =
-    let inner : length (drop skipped (drop from script)) ≡ length (drop from script) - skipped = length-drop skipped (drop from script) in
-    let outer : length (drop from script) ≡ length script - from = length-drop from script in
-    let so_many : skipped ≡ from + skipped - from = omega arith in record {
-      after = omega arith;
-      some = omega arith;
-      within = omega arith;
-      kept = subst (λ (n : ℕ). AreKept (take n (drop from script))) so_many (kept_before (drop from script) first skipped e h);
-    }
-
--- A hunk that begins before the first change of the rest of a slice, with some lines.
-pub next_hunk_at : (script : List DiffLine) (from first skipped len : ℕ) →
-    position (λ (l : DiffLine). is_change l.sign) (take (length script - from) (drop from script)) ≡ Some first → skipped ≤ first → 0 < len →
-    len ≤ length (take (length (take (length script - from) (drop from script)) - skipped) (drop skipped (take (length script - from) (drop from script)))) →
-    IsNextHunk script from (from + skipped) (from + skipped + len)
-next_hunk_at script from first skipped len e h some within =
-    next_hunk_is script from first skipped len
-    (subst (λ (xs : List DiffLine). position (λ (l : DiffLine). is_change l.sign) xs ≡ Some first) (take_rest script from) e) h some
-    (subst (λ (xs : List DiffLine). len ≤ length (drop skipped xs)) (take_rest script from)
-    (subst (λ (xs : List DiffLine). len ≤ length xs) (take_rest (take (length script - from) (drop from script)) skipped) within))
+    All-map IsKept signed ls (λ k d low. fails_before_first (λ (l : DiffLine). is_change l.sign) ls k d (omega arith))
 
 -- If the rest of a slice has no change, all its lines are kept ones.
 pub kept_rest : (script : List DiffLine) (from : ℕ) → position (λ (l : DiffLine). is_change l.sign) (take (length script - from) (drop from script)) ≡ None →
-    AreKept (drop from script)
-kept_rest script from e = subst AreKept (take_rest script from) (kept_none (take (length script - from) (drop from script)) e)
+    AreKept (signed_lines (drop from script))
+kept_rest script from e = subst (λ (xs : List DiffLine). AreKept (signed_lines xs)) (take_rest script from) (kept_none (take (length script - from) (drop from script)) e)
+
+-- The lines up to the first change are kept ones.
+kept_before : (script : List DiffLine) (from first : ℕ) → position (λ (l : DiffLine). is_change l.sign) (drop from script) ≡ Some first →
+    AreKept (between from (from + first) script)
+kept_before script from first e =
+    kept_range script from (from + first)
+    (λ k d low high within. let so_far : from + (k - from) ≡ k = omega arith in
+    subst (λ (n : ℕ). is_change (get_or script n d).sign ≡ false) so_far
+    (subst (λ (l : DiffLine). is_change l.sign ≡ false) (get_or-drop from script (k - from) d)
+    ((position-Some (λ (l : DiffLine). is_change l.sign) (drop from script) first d e).2 (k - from) (omega arith))))
+
+-- The rest of the rest of a slice.
+rest_twice : (script : List DiffLine) (from first : ℕ) →
+    take (length (take (length script - from) (drop from script)) - first) (drop first (take (length script - from) (drop from script))) ≡ drop (from + first) script
+rest_twice script from first =
+    take_rest (take (length script - from) (drop from script)) first ∙ ap (drop first) (take_rest script from) ∙ drop-drop first from script
+
+-- The lines from the first change on begin with it.
+begins_from : (ls : List DiffLine) (i : ℕ) → position (λ (l : DiffLine). is_change l.sign) ls ≡ Some i → BeginsWithChange (drop i ls)
+begins_from [] i e = let none : position (λ (l : DiffLine). is_change l.sign) [] ≡ None = refl in cc
+begins_from (l ∷ ls) i e =
+    begins_at (l ∷ ls) i (position-Some (λ (x : DiffLine). is_change x.sign) (l ∷ ls) i l e).0
+    (λ d. (position-Some (λ (x : DiffLine). is_change x.sign) (l ∷ ls) i d e).1)
+
+-- The lines of a slice from the first change on begin with it.
+pub begins_there : (script : List DiffLine) (from first : ℕ) → position (λ (l : DiffLine). is_change l.sign) (take (length script - from) (drop from script)) ≡ Some first →
+    BeginsWithChange (take (length (take (length script - from) (drop from script)) - first) (drop first (take (length script - from) (drop from script))))
+begins_there script from first e =
+    subst BeginsWithChange (sym (take_rest (take (length script - from) (drop from script)) first)) (begins_from (take (length script - from) (drop from script)) first e)
+
+-- The next hunk, from its first change and the number of lines up to its last one.
+next_hunk_is : (script : List DiffLine) (from first n start end : ℕ) → from ≤ length script → position (λ (l : DiffLine). is_change l.sign) (drop from script) ≡ Some first →
+    n ≤ length (drop (from + first) script) → AreChanges (between 0 n (drop (from + first) script)) → AreKept (between n (n + gap) (drop (from + first) script)) →
+    start ≡ from + (first - context) → end ≡ min (length script) (from + first + n + context) → IsNextHunk script from start end
+next_hunk_is script from first n start end inside e within changed later a b =
+    let same : from + first + 0 ≡ from + first = omega arith in
+    let so_many : from + first + (n + gap) ≡ from + first + n + gap = omega arith in
+    let all : length (drop (from + first) script) ≡ length script - (from + first) = length-drop (from + first) script in
+    let here : AreChanges (between (from + first) (from + first + n) script) =
+    subst AreChanges (between_drop script (from + first) 0 n ∙ ap (λ (i : ℕ). between i (from + first + n) script) same) changed in
+    let some : from + first < length script = (changes_begin_at script (from + first) (from + first + n) here).1 in record {
+      first = from + first;
+      last = from + first + n;
+      after = omega arith;
+      within = omega arith;
+      kept = kept_before script from first e;
+      changed = here;
+      later = subst AreKept (between_drop script (from + first) n (n + gap) ∙ ap (λ (i : ℕ). between (from + first + n) i script) so_many) later;
+      starts = a ∙ omega arith;
+      ends = b;
+    }
+
+-- The next hunk, of the rest of a slice.
+pub next_hunk_at : (script : List DiffLine) (from first n start end : ℕ) → from ≤ length script →
+    position (λ (l : DiffLine). is_change l.sign) (take (length script - from) (drop from script)) ≡ Some first →
+    n ≤ length (take (length (take (length script - from) (drop from script)) - first) (drop first (take (length script - from) (drop from script)))) →
+    AreChanges (between 0 n (take (length (take (length script - from) (drop from script)) - first) (drop first (take (length script - from) (drop from script))))) →
+    AreKept (between n (n + gap) (take (length (take (length script - from) (drop from script)) - first) (drop first (take (length script - from) (drop from script))))) →
+    start ≡ from + (first - context) → end ≡ min (length script) (from + first + n + context) → IsNextHunk script from start end
+next_hunk_at script from first n start end inside e within changed later a b =
+    next_hunk_is script from first n start end inside
+    (subst (λ (xs : List DiffLine). position (λ (l : DiffLine). is_change l.sign) xs ≡ Some first) (take_rest script from) e)
+    (subst (λ (xs : List DiffLine). n ≤ length xs) (rest_twice script from first) within)
+    (subst (λ (xs : List DiffLine). AreChanges (between 0 n xs)) (rest_twice script from first) changed)
+    (subst (λ (xs : List DiffLine). AreKept (between n (n + gap) xs)) (rest_twice script from first) later) a b
+
+-- The order of the places of the next hunk.
+pub record NextPlaces (ls : List DiffLine) (at start first last end : ℕ) : Type 0 where
+  pub after : at ≤ start
+  pub before : start ≤ first
+  pub near : first ≤ start + context
+  pub some : first < last
+  pub upto : last ≤ end
+  pub close : end ≤ last + context
+  pub within : end ≤ length ls
+
+pub next_places : (ls : List DiffLine) (at start end : ℕ) (next : IsNextHunk ls at start end) → NextPlaces ls at start next.first next.last end
+next_places ls at start end next =
+    let after = next.after in
+    let within = next.within in
+    let some : next.first < next.last = (changes_begin_at ls next.first next.last next.changed).0 in
+    let starts = next.starts in
+    let ends = next.ends in record {
+      after = omega arith;
+      before = omega arith;
+      near = omega arith;
+      some = some;
+      upto = omega arith;
+      close = omega arith;
+      within = omega arith;
+    }
 
 -- A hunk is appended by its ranges and its lines.
 pub hunk_appended : (o p q : List ℕ) (m n a b : ℕ) (ls : List DiffLine) → p ≡ o ++ ranges_text m a n b → q ≡ p ++ flat_map signed_text (signed_lines ls) →
@@ -131,17 +189,21 @@ abbrev bytes_of : List DiffLine → List (List ℕ)
 bytes_of ls = map (λ (l : DiffLine). l.bytes.now) ls
 
 -- Kept lines are all in the old text.
-kept_old : (ls : List DiffLine) → AreKept ls → old_lines (signed_lines ls) ≡ bytes_of ls
+kept_old : (ls : List DiffLine) → AreKept (signed_lines ls) → old_lines (signed_lines ls) ≡ bytes_of ls
 kept_old [] h = refl
-kept_old (l ∷ ls) h = kept_old_line l.sign l.bytes.now (signed_lines ls) h.0 ∙ ap (λ (xs : List (List ℕ)). l.bytes.now ∷ xs) (kept_old ls h.1)
+kept_old (l ∷ ls) h =
+    kept_old_line l.sign l.bytes.now (signed_lines ls) (All-head IsKept (signed l) (signed_lines ls) h)
+    ∙ ap (λ (xs : List (List ℕ)). l.bytes.now ∷ xs) (kept_old ls (All-tail IsKept (signed l) (signed_lines ls) h))
 
 -- Kept lines are all in the new text.
-kept_new : (ls : List DiffLine) → AreKept ls → new_lines (signed_lines ls) ≡ bytes_of ls
+kept_new : (ls : List DiffLine) → AreKept (signed_lines ls) → new_lines (signed_lines ls) ≡ bytes_of ls
 kept_new [] h = refl
-kept_new (l ∷ ls) h = kept_new_line l.sign l.bytes.now (signed_lines ls) h.0 ∙ ap (λ (xs : List (List ℕ)). l.bytes.now ∷ xs) (kept_new ls h.1)
+kept_new (l ∷ ls) h =
+    kept_new_line l.sign l.bytes.now (signed_lines ls) (All-head IsKept (signed l) (signed_lines ls) h)
+    ∙ ap (λ (xs : List (List ℕ)). l.bytes.now ∷ xs) (kept_new ls (All-tail IsKept (signed l) (signed_lines ls) h))
 
 -- Hunks that turn some lines turn them with kept lines after them.
-turns_kept : (hunks : List Hunk) (xs ys : List DiffLine) → AreKept ys → Turns hunks (old_lines (signed_lines xs)) (new_lines (signed_lines xs)) →
+pub turns_kept : (hunks : List Hunk) (xs ys : List DiffLine) → AreKept (signed_lines ys) → Turns hunks (old_lines (signed_lines xs)) (new_lines (signed_lines xs)) →
     Turns hunks (old_lines (signed_lines (xs ++ ys))) (new_lines (signed_lines (xs ++ ys)))
 turns_kept hunks xs ys kept t =
     subst (λ (o : List (List ℕ)). Turns hunks o (new_lines (signed_lines (xs ++ ys))))
@@ -151,7 +213,7 @@ turns_kept hunks xs ys kept t =
     (stay hunks (old_lines (signed_lines xs)) (new_lines (signed_lines xs)) (bytes_of ys) t))
 
 -- Hunks that turn some lines, and a hunk of further lines, turn them all.
-turns_changed : (hunks : List Hunk) (m n : ℕ) (xs ys : List DiffLine) → m ≡ length (old_lines (signed_lines xs)) → n ≡ length (new_lines (signed_lines xs)) →
+pub turns_changed : (hunks : List Hunk) (m n : ℕ) (xs ys : List DiffLine) → m ≡ length (old_lines (signed_lines xs)) → n ≡ length (new_lines (signed_lines xs)) →
     Turns hunks (old_lines (signed_lines xs)) (new_lines (signed_lines xs)) →
     Turns (hunks ++ hunk_of m n ys ∷ []) (old_lines (signed_lines (xs ++ ys))) (new_lines (signed_lines (xs ++ ys)))
 turns_changed hunks m n xs ys a b t =
@@ -161,72 +223,24 @@ turns_changed hunks m n xs ys a b t =
     (sym (signed_new-append xs ys))
     (change hunks (old_lines (signed_lines xs)) (new_lines (signed_lines xs)) (hunk_of m n ys) t a b))
 
--- Before the first line no hunk is appended.
-pub hunks_none : (bytes : List ℕ) → AppendsHunks [] bytes bytes
-hunks_none bytes = record { hunks = []; printed = sym (append-nil bytes); turns = nothing }
-
--- Kept lines after the last hunk need no other one.
-pub hunks_kept : (xs ys : List DiffLine) (o p : List ℕ) → AreKept ys → AppendsHunks (signed_lines xs) o p → AppendsHunks (signed_lines (xs ++ ys)) o p
-hunks_kept xs ys o p kept h = record { hunks = h.hunks; printed = h.printed; turns = turns_kept h.hunks xs ys kept h.turns }
-
--- A hunk of the next lines is appended.
-hunks_changed : (xs ys : List DiffLine) (m n : ℕ) (o p q : List ℕ) → m ≡ length (old_lines (signed_lines xs)) → n ≡ length (new_lines (signed_lines xs)) →
-    AppendsHunks (signed_lines xs) o p → q ≡ p ++ hunk_text (hunk_of m n ys) → AppendsHunks (signed_lines (xs ++ ys)) o q
-hunks_changed xs ys m n o p q a b h e = record {
-  hunks = h.hunks ++ hunk_of m n ys ∷ [];
-  printed = e ∙ ap (λ (x : List ℕ). x ++ hunk_text (hunk_of m n ys)) h.printed ∙ flat_map_more hunk_text o h.hunks (hunk_of m n ys);
-  turns = turns_changed h.hunks m n xs ys a b h.turns;
-}
-
 -- Kept lines are as many in both texts.
-kept_length_old : (xs ys : List DiffLine) → AreKept ys → length (old_lines (signed_lines (xs ++ ys))) ≡ length (old_lines (signed_lines xs)) + length ys
+pub kept_length_old : (xs ys : List DiffLine) → AreKept (signed_lines ys) → length (old_lines (signed_lines (xs ++ ys))) ≡ length (old_lines (signed_lines xs)) + length ys
 kept_length_old xs ys kept =
     ap length (signed_old-append xs ys) ∙ length-append (old_lines (signed_lines xs)) (old_lines (signed_lines ys))
     ∙ ap (λ (n : ℕ). length (old_lines (signed_lines xs)) + n) (ap length (kept_old ys kept) ∙ length-map ys (λ (l : DiffLine). l.bytes.now))
 
-kept_length_new : (xs ys : List DiffLine) → AreKept ys → length (new_lines (signed_lines (xs ++ ys))) ≡ length (new_lines (signed_lines xs)) + length ys
+pub kept_length_new : (xs ys : List DiffLine) → AreKept (signed_lines ys) → length (new_lines (signed_lines (xs ++ ys))) ≡ length (new_lines (signed_lines xs)) + length ys
 kept_length_new xs ys kept =
     ap length (signed_new-append xs ys) ∙ length-append (new_lines (signed_lines xs)) (new_lines (signed_lines ys))
     ∙ ap (λ (n : ℕ). length (new_lines (signed_lines xs)) + n) (ap length (kept_new ys kept) ∙ length-map ys (λ (l : DiffLine). l.bytes.now))
 
 -- The lines up to a later position.
-upto_later : (ls : List DiffLine) (i j : ℕ) → i ≤ j → take j ls ≡ take i ls ++ take (j - i) (drop i ls)
+pub upto_later : (ls : List DiffLine) (i j : ℕ) → i ≤ j → take j ls ≡ take i ls ++ take (j - i) (drop i ls)
 upto_later ls i j h = let so_many : j ≡ i + (j - i) = omega arith in ap (λ (n : ℕ). take n ls) so_many ∙ take-add i (j - i) ls
 
 -- The number of lines between two positions.
-taken_length : (ls : List DiffLine) (i j : ℕ) → i ≤ j → j ≤ length ls → length (take (j - i) (drop i ls)) ≡ j - i
+pub taken_length : (ls : List DiffLine) (i j : ℕ) → i ≤ j → j ≤ length ls → length (take (j - i) (drop i ls)) ≡ j - i
 taken_length ls i j h within = let all : length (drop i ls) ≡ length ls - i = length-drop i ls in length-take-le (j - i) (drop i ls) (omega arith)
-
--- The numbers of lines up to where the next hunk begins.
-pub skipped_old : (ls : List DiffLine) (at start end : ℕ) → IsNextHunk ls at start end →
-    length (old_lines (signed_lines (take start ls))) ≡ length (old_lines (signed_lines (take at ls))) + (start - at)
-skipped_old ls at start end h =
-    ap (λ (xs : List DiffLine). length (old_lines (signed_lines xs))) (upto_later ls at start h.after)
-    ∙ kept_length_old (take at ls) (take (start - at) (drop at ls)) h.kept
-    ∙ ap (λ (n : ℕ). length (old_lines (signed_lines (take at ls))) + n)
-    (let some = h.some in let within = h.within in taken_length ls at start h.after (omega arith))
-
-pub skipped_new : (ls : List DiffLine) (at start end : ℕ) → IsNextHunk ls at start end →
-    length (new_lines (signed_lines (take start ls))) ≡ length (new_lines (signed_lines (take at ls))) + (start - at)
-skipped_new ls at start end h =
-    ap (λ (xs : List DiffLine). length (new_lines (signed_lines xs))) (upto_later ls at start h.after)
-    ∙ kept_length_new (take at ls) (take (start - at) (drop at ls)) h.kept
-    ∙ ap (λ (n : ℕ). length (new_lines (signed_lines (take at ls))) + n)
-    (let some = h.some in let within = h.within in taken_length ls at start h.after (omega arith))
-
--- The next hunk is appended, with the numbers of lines before it.
-pub hunks_more : (ls : List DiffLine) (at start end m n : ℕ) (o p q : List ℕ) → IsNextHunk ls at start end →
-    AppendsHunks (signed_lines (take at ls)) o p → m ≡ length (old_lines (signed_lines (take at ls))) + (start - at) →
-    n ≡ length (new_lines (signed_lines (take at ls))) + (start - at) →
-    q ≡ p ++ hunk_text (hunk_of m n (take (end - start) (drop start ls))) → AppendsHunks (signed_lines (take end ls)) o q
-hunks_more ls at start end m n o p q next h a b e =
-    let some = next.some in
-    let skipped : AppendsHunks (signed_lines (take start ls)) o p =
-    subst (λ (xs : List DiffLine). AppendsHunks (signed_lines xs) o p) (sym (upto_later ls at start next.after))
-    (hunks_kept (take at ls) (take (start - at) (drop at ls)) o p next.kept h) in
-    subst (λ (xs : List DiffLine). AppendsHunks (signed_lines xs) o q) (sym (upto_later ls start end (omega arith)))
-    (hunks_changed (take start ls) (take (end - start) (drop start ls)) m n o p q
-    (a ∙ sym (skipped_old ls at start end next)) (b ∙ sym (skipped_new ls at start end next)) skipped e)
 
 -- The numbers of lines after a hunk.
 pub counted_old : (ls : List DiffLine) (start end : ℕ) → start ≤ end →
@@ -259,25 +273,6 @@ new_few ls n = let few : count_by (λ (l : DiffLine). is_new l.sign) (take n ls)
     let some : length (take n ls) ≤ n = subst (λ (k : ℕ). k ≤ n) (sym (length-take n ls)) (omega arith) in
     omega (arith, few, some, count_new_is (take n ls))
 
--- Kept lines up to the end need no other hunk.
-pub hunks_all : (ls : List DiffLine) (at : ℕ) (o p : List ℕ) → AreKept (drop at ls) → AppendsHunks (signed_lines (take at ls)) o p → AppendsHunks (signed_lines ls) o p
-hunks_all ls at o p kept h =
-    subst (λ (xs : List DiffLine). AppendsHunks (signed_lines xs) o p) (take-append-drop at ls) (hunks_kept (take at ls) (drop at ls) o p kept h)
-
 -- No more lines are taken than that.
 pub taken_few : (ls : List DiffLine) (n : ℕ) → length (take n ls) ≤ n
 taken_few ls n = subst (λ (k : ℕ). k ≤ n) (sym (length-take n ls)) (omega arith)
-
--- The number of lines of the old text after the next hunk.
-pub after_hunk_old : (ls : List DiffLine) (at start end m k : ℕ) → IsNextHunk ls at start end → m ≡ length (old_lines (signed_lines (take at ls))) →
-    k ≡ count_by (λ (l : DiffLine). is_old l.sign) (take (end - start) (drop start ls)) → m + (start - at) + k ≡ length (old_lines (signed_lines (take end ls)))
-after_hunk_old ls at start end m k next a b =
-    let some = next.some in
-    ap₂ (λ (x y : ℕ). x + y) (ap (λ (x : ℕ). x + (start - at)) a ∙ sym (skipped_old ls at start end next)) b ∙ sym (counted_old ls start end (omega arith))
-
--- The number of lines of the new text after the next hunk.
-pub after_hunk_new : (ls : List DiffLine) (at start end m k : ℕ) → IsNextHunk ls at start end → m ≡ length (new_lines (signed_lines (take at ls))) →
-    k ≡ count_by (λ (l : DiffLine). is_new l.sign) (take (end - start) (drop start ls)) → m + (start - at) + k ≡ length (new_lines (signed_lines (take end ls)))
-after_hunk_new ls at start end m k next a b =
-    let some = next.some in
-    ap₂ (λ (x y : ℕ). x + y) (ap (λ (x : ℕ). x + (start - at)) a ∙ sym (skipped_new ls at start end next)) b ∙ sym (counted_new ls start end (omega arith))

@@ -1,4 +1,6 @@
 mod LineLemmas
 mod ScriptLemmas
+mod ContextLemmas
 mod HunkLemmas
+mod UptoLemmas
 mod PatchLemmas

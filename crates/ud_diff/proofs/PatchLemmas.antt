@@ -1,14 +1,16 @@
 -- Patching: hunks that turn lines into others make these of them, and turned round the first ones.
 use Rattle.std.proofs.Common.{◌≡◌, ℕ, ◌+◌, ◌-◌, Bool, true, List, [], ◌∷◌, ◌++◌, length, map, take, drop, Option, Some, None, refl, sym, ◌∙◌, ap, ap₂, subst, append_assoc, append-nil, arith, if◌then◌else◌, leb, ◌&&◌}
-use Rattle.std.specs.Prelude.{option_and_then, option_map}
+use Rattle.std.specs.Prelude.{option_and_then, option_map, All}
 use Rattle.std.proofs.lemmas.Bool.{le-leb}
 use Rattle.std.proofs.lemmas.List.{map-append, length-append, take_at, drop_at}
 use Rattle.std.proofs.lemmas.Slice.Eq.{bytes_eq-Decides}
+use Rattle.ud_model.specs.text.Lines.{texts_of}
 use Rattle.ud_diff.specs.declared.line.Sign.{Sign}
 use Rattle.ud_diff.specs.declared.line.Sign.TheVariants.{Kept, Removed, Added}
 use Rattle.ud_diff.specs.Hunks.{SignedLine, Hunk, old_lines, new_lines, turned_sign, turned_line, turned}
 use Rattle.ud_diff.specs.DiffTexts.{names_text}
 use Rattle.ud_diff.specs.Patching.{rest_after, is_within, patched_from, patched, Turns, nothing, stay, change, IsDiff}
+use Rattle.ud_diff.specs.Contexts.{HasContext}
 use Rattle.ud_diff.specs.Scripts.{IsScript, AppendsHunks}
 
 -- The hunks, applied to the lines `old`, before which `m` lines come, give the lines `new`, before
@@ -145,4 +147,7 @@ diff_is path old new bytes lines script h = record {
   reversed = ap (patched (map turned h.hunks)) (sym script.new_are)
       ∙ turns_makes (map turned h.hunks) (new_lines lines) (old_lines lines) (turns_back h.hunks (old_lines lines) (new_lines lines) h.turns)
       ∙ ap (λ (x : List (List ℕ)). Some x) script.old_are;
+  in_context = subst (λ (x : List (List ℕ)). All (HasContext x (texts_of new)) h.hunks) script.old_are
+      (subst (λ (x : List (List ℕ)). All (HasContext (old_lines lines) x) h.hunks) script.new_are h.in_context);
+  apart = h.apart;
 }

@@ -1,4 +1,5 @@
 pub mod Hunks
+pub mod Contexts
 pub mod Patching
 pub mod DiffTexts
 pub mod Scripts

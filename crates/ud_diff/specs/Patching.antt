@@ -6,14 +6,17 @@
 --   Turns hunks old new            the hunks turn all of `old` into all of `new`
 --   IsDiff path old new bytes      a diff that turns the text `old` into `new`, and back
 --
+-- What a context is, and when a hunk is before another, is in Contexts.
+--
 -- Example: the hunk before which one line comes, and which removes the line `b` and adds `c`, makes
 -- the lines `a`, `c` of the lines `a`, `b`. Of `a`, `d` it makes nothing.
 use Rattle.std.specs.Prelude.{◌≡◌, ℕ, ◌+◌, ◌-◌, List, [], ◌∷◌, ◌++◌, length, take, drop, map, ◌&&◌}
 use Rattle.std.specs.Prelude.{Option, Some, None, option_and_then, option_map, nat_le, bytes_eq}
-use Rattle.std.specs.Prelude.{if◌then◌else◌, Bool}
+use Rattle.std.specs.Prelude.{if◌then◌else◌, Bool, All, AllPairs}
 use Rattle.ud_model.specs.text.Lines.{texts_of}
 use Rattle.ud_diff.specs.Hunks.{Hunk, old_lines, new_lines, turned}
 use Rattle.ud_diff.specs.DiffTexts.{diff_text}
+use Rattle.ud_diff.specs.Contexts.{HasContext, IsBefore}
 
 -- `rest_after wanted lines`: the lines after `wanted`; none if the lines don't begin with them.
 abbrev pub rest_after : List (List ℕ) → List (List ℕ) → Option (List (List ℕ))
@@ -51,9 +54,12 @@ pub data Turns : List Hunk → List (List ℕ) → List (List ℕ) → Type 0 wh
       Turns (hunks ++ h ∷ []) (old ++ old_lines h.lines) (new ++ new_lines h.lines)
 
 -- `IsDiff path old new bytes`: `bytes` are the printed form of hunks for the file `path`. Applied
--- to the text `old` they give `new`, and turned round and applied to `new` they give `old`.
+-- to the text `old` they give `new`, and turned round and applied to `new` they give `old`. Each
+-- hunk has changes and their contexts, and ends before the later ones begin.
 pub record IsDiff (path old new bytes : List ℕ) : Type 0 where
   pub hunks : List Hunk
   pub printed : bytes ≡ diff_text path hunks
   pub applied : patched hunks (texts_of old) ≡ Some (texts_of new)
   pub reversed : patched (map turned hunks) (texts_of new) ≡ Some (texts_of old)
+  pub in_context : All (HasContext (texts_of old) (texts_of new)) hunks
+  pub apart : AllPairs IsBefore hunks

@@ -1,19 +1,27 @@
 -- Scripts: the lines of two texts with their signs, as far as the texts are read.
 --
---   signed line             a line of the program, as a signed one
---   signed_lines lines      several of them
---   Extends s t             the script `t` has more of the same two texts than `s`
---   IsScript old new lines  `lines` are all lines of the two texts
---   hunk_of m n lines       the hunk of these lines
+--   signed line              a line of the program, as a signed one
+--   signed_lines lines       several of them
+--   Extends s t              the script `t` has more of the same two texts than `s`
+--   IsScript old new lines   `lines` are all lines of the two texts
+--   hunk_of m n lines        the hunk of these lines
 --   AppendsHunks lines old new   hunks that turn the old lines into the new ones are appended
-use Rattle.std.specs.Prelude.{◌≡◌, ℕ, ◌-◌, ◌<◌, ◌≤◌, List, [], ◌∷◌, ◌++◌, map, take, drop, length}
-use Rattle.std.specs.Prelude.{false}
+--   between i j lines        the lines from the position `i` up to `j`
+--   BeginsWithChange lines   the first line is in one text alone
+--   gap                      how many kept lines end a hunk
+--   IsNextHunk lines from start end   where the next changes and their contexts are
+--
+-- Example: a script has ten lines, of which the sixth changes. From its beginning on, the next hunk
+-- begins at the position 2 and ends at 9.
+use Rattle.std.specs.Prelude.{◌≡◌, ℕ, ◌+◌, ◌-◌, ◌*◌, ◌≤◌, List, [], ◌∷◌, ◌++◌, map, take, drop}
+use Rattle.std.specs.Prelude.{length, true, min, max, All, AllPairs}
 use Rattle.ud_model.specs.text.Lines.{texts_of}
 use Rattle.ud_diff.specs.declared.line.DiffLine.{DiffLine}
 use Rattle.ud_diff.specs.declared.script.Script.{Script}
 use Rattle.std.specs.List.{flat_map}
 use Rattle.ud_diff.specs.Hunks.{SignedLine, Hunk, old_lines, new_lines, is_change}
 use Rattle.ud_diff.specs.DiffTexts.{hunk_text}
+use Rattle.ud_diff.specs.Contexts.{context, AreKept, AreChanges, HasContext, IsBefore}
 use Rattle.ud_diff.specs.Patching.{Turns}
 
 -- `signed line`: the line with its sign and its bytes.
@@ -46,21 +54,38 @@ hunk_of old_before new_before lines = record {
 }
 
 -- `AppendsHunks lines old new`: the printed form of hunks is appended to the bytes `old`, which are
--- then `new`. The hunks turn the old ones of the lines into the new ones.
+-- then `new`. The hunks turn the old ones of the lines into the new ones. Each hunk has changes and
+-- their contexts, and ends before the later ones begin.
 pub record AppendsHunks (lines : List SignedLine) (old new : List ℕ) : Type 0 where
   pub hunks : List Hunk
   pub printed : new ≡ old ++ flat_map hunk_text hunks
   pub turns : Turns hunks (old_lines lines) (new_lines lines)
+  pub in_context : All (HasContext (old_lines lines) (new_lines lines)) hunks
+  pub apart : AllPairs IsBefore hunks
 
--- `AreKept lines`: each of the lines is in both texts.
-abbrev pub AreKept : List DiffLine → Type 0
-AreKept [] = Unit {0}
-AreKept (l ∷ ls) = (is_change l.sign ≡ false) × AreKept ls
+-- `between i j lines`: the lines from the position `i` up to `j`.
+abbrev pub between : ℕ → ℕ → List DiffLine → List SignedLine
+between i j lines = signed_lines (take (j - i) (drop i lines))
 
--- `IsNextHunk script from start end`: in the script, the lines from the position `from` up to
--- `start` are kept ones, and some lines are from there up to `end`.
-pub record IsNextHunk (script : List DiffLine) (from start end : ℕ) : Type 0 where
-  pub after : from ≤ start
-  pub some : start < end
-  pub within : end ≤ length script
-  pub kept : AreKept (take (start - from) (drop from script))
+-- `BeginsWithChange lines`: the first line is in one text alone.
+abbrev pub BeginsWithChange : List DiffLine → Type 0
+BeginsWithChange [] = ⊥
+BeginsWithChange (l ∷ ls) = is_change l.sign ≡ true
+
+-- `gap`: how many kept lines end a hunk, one more than two contexts have.
+abbrev pub gap : ℕ
+gap = 2 * context + 1
+
+-- `IsNextHunk lines from start end`: from the position `from` on, the next changes are from `first`
+-- up to `last`. Up to `first` are kept lines, and after `last` is a gap, or kept lines up to the
+-- end. From `start` up to `end` are the changes and their contexts.
+pub record IsNextHunk (lines : List DiffLine) (from start end : ℕ) : Type 0 where
+  pub first : ℕ
+  pub last : ℕ
+  pub after : from ≤ first
+  pub within : last ≤ length lines
+  pub kept : AreKept (between from first lines)
+  pub changed : AreChanges (between first last lines)
+  pub later : AreKept (between last (last + gap) lines)
+  pub starts : start ≡ max from (first - context)
+  pub ends : end ≡ min (length lines) (last + context)

@@ -12,7 +12,8 @@ use std::alloc::{AllocError, Global};
 /// mark for each line of the old text: `SAME` if it stays, `EDITED` if another line comes in its
 /// place, else any other byte.
 ///
-/// Whatever the marks are, the diff turns one text into the other.
+/// Whatever the marks are, the diff turns one text into the other. Its hunks show three kept lines
+/// before changes and after them, and fewer only at the beginning and the end of the texts.
 ///
 /// # Errors
 /// Fails if memory runs out.

@@ -5,8 +5,9 @@ ghost use Rattle.std.specs.Prelude.{MatchOption, IfSome};
 ghost use Rattle.std.specs.List.{count_by, flat_map};
 ghost use Rattle.ud_diff.specs.Hunks.{is_old, is_new, is_change};
 ghost use Rattle.ud_diff.specs.DiffTexts.{signed_text, hunk_text};
+ghost use Rattle.ud_diff.specs.Contexts.{AreKept, AreChanges};
 ghost use Rattle.ud_diff.specs.Scripts.{signed_lines, hunk_of, AppendsHunks};
-ghost use Rattle.ud_diff.specs.Scripts.{AreKept, IsNextHunk};
+ghost use Rattle.ud_diff.specs.Scripts.{between, gap, BeginsWithChange, IsNextHunk};
 
 use crate::line::DiffLine;
 use crate::print::{append_line, append_ranges};
@@ -36,38 +37,42 @@ fn first_change(lines: &[DiffLine<'_>]) -> Option<usize>
     lines.iter().position(|line| line.is_change())
 }
 
-/// Returns how many lines a hunk has that begins here. It ends with the context after the last
-/// change before more kept lines than two contexts have.
-fn hunk_len(lines: &[DiffLine<'_>]) -> usize
-    requires { 0 < length lines.now }
-    ensures some { 0 < result }
+/// Returns how many lines there are from this change up to the last one before more kept lines than
+/// two contexts have.
+fn changes_len(lines: &[DiffLine<'_>]) -> usize
+    requires { BeginsWithChange lines.now }
     ensures within { result ≤ length lines.now }
+    ensures changed { AreChanges (between 0 result lines.now) }
+    ensures later { AreKept (between result (result + gap) lines.now) }
 {
     let mut last = 0usize;
     for (at, line) in lines.iter().enumerate() {
         if line.is_change() {
             last = at + 1;
-        } else if last > 0 && at - last >= 2 * CONTEXT {
+        } else if at - last >= 2 * CONTEXT {
             break;
         }
     }
-    lines.len().min(last.saturating_add(CONTEXT))
+    last
 }
 
 /// Returns where the next hunk begins and ends, from this position on; `None` if no change is left.
 fn next_hunk(script: &[DiffLine<'_>], from: usize) -> Option<(usize, usize)>
     requires { from ≤ length script.now }
-    ensures next { MatchOption result (AreKept (drop from script.now))
+    ensures next { MatchOption result (AreKept (signed_lines (drop from script.now)))
         (λ range. IsNextHunk script.now from range.0 range.1) }
+    ensures after { IfSome result (λ range. from ≤ range.0) }
+    ensures some { IfSome result (λ range. range.0 < range.1) }
+    ensures within { IfSome result (λ range. range.1 ≤ length script.now) }
     ensures fits { IfSome result (λ range. range.1 < 2 ^ 64) }
 {
     let rest = &script[from..];
     let Some(first) = first_change(rest) else {
         return None;
     };
-    let skipped = first.saturating_sub(CONTEXT);
-    let len = hunk_len(&rest[skipped..]);
-    Some((from + skipped, from + skipped + len))
+    let start = from + first.saturating_sub(CONTEXT);
+    let last = from + first + changes_len(&rest[first..]);
+    Some((start, script.len().min(last.saturating_add(CONTEXT))))
 }
 
 /// Appends the lines of a hunk.

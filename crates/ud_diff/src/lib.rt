@@ -3,7 +3,7 @@
 //! `unified_diff` makes it from both texts. Marks say which lines stay; were they wrong, the diff
 //! would have more changes, and still turn one text into the other. `specs/Hunks.antt` and
 //! `specs/Patching.antt` define what hunks are and what they make of a text,
-//! `specs/DiffTexts.antt` how they are printed.
+//! `specs/Contexts.antt` which lines they show, and `specs/DiffTexts.antt` how they are printed.
 #![tactic(auto)]
 
 mod diff;

@@ -1,11 +1,12 @@
 use Rattle.std.proofs.Common.{◌≡◌, ◌≤◌, ◌-◌, length, take}
 use Rattle.ud_diff.specs.Hunks.{old_lines, new_lines}
-use Rattle.ud_diff.specs.Scripts.{signed_lines, AppendsHunks}
+use Rattle.ud_diff.specs.Scripts.{signed_lines}
+use Rattle.ud_diff.proofs.UptoLemmas.{HunksUpto}
 use Rattle.ud_diff.proofs.hunks.append_hunks.Given as goal
 
 abbrev pub invariant-loop-start : goal.invariant-loop-start
 invariant-loop-start l = (l.at ≤ length l.script)
-    × AppendsHunks (signed_lines (take l.at l.script)) l.initial.out.items l.out.items
+    × HunksUpto l.script l.at l.initial.out.items l.out.items
     × (l.old_before ≡ length (old_lines (signed_lines (take l.at l.script))))
     × (l.new_before ≡ length (new_lines (signed_lines (take l.at l.script))))
 
