@@ -1,6 +1,6 @@
 -- Parts of a walk that miss no name, one after another.
 use Rattle.std.proofs.Common.{◌≡◌, ◌⊎◌, inl, inr, ℕ, ◌+◌, ◌<◌, ◌≤◌, ◌^◌, List, [], ◌∷◌, ◌++◌, length, map, take, get_or, Bool, true, Option, Some, Result, refl, sym, ap, ◌∙◌, subst, arith, append_assoc, length-append}
-use Rattle.std.proofs.lemmas.List.{map-append, take_more, take_all}
+use Rattle.std.proofs.lemmas.List.{map-append, append_cancel_right, take_more, take_all}
 use Rattle.std.proofs.lemmas.List.Elements.{All-weaker, All-contains, All-contains_itself, All-nil, All-push, Contains-append_left, Contains-append_right, Contains-append_cases, Contains-push, Contains-push_cases}
 use Rattle.std.specs.List.{All, Contains}
 use Rattle.std.specs.Prelude.{OnOk, Ok, Err, IsUtf8, option_to_list, string_bytes}
@@ -13,6 +13,9 @@ use Rattle.ud_replace.specs.declared.node.FileId.{FileId}
 use Rattle.ud_tree.specs.declared.arguments.Arguments.{Arguments}
 use Rattle.ud_tree.specs.declared.report.Report.{Report}
 use Rattle.ud_tree.specs.declared.walk.Found.{Found}
+use Rattle.ud_tree.specs.declared.walk.Walk.{Walk}
+use Rattle.ud_tree.specs.Catching.{Catches}
+use Rattle.ud_tree.specs.Choices.{IsLeft}
 use Rattle.ud_tree.specs.Covering.{IsFolderPath, WasEntered, IsDue, IsVersioned, Begins, at_file, at_folder, at_link, Visits, no_text, was_met, IsIn, StandsIn, Gives, no_path_text, was_given, paths_of, CoversPaths, CoversInput, MissesNone, misses_no_path, misses_no_input}
 use Rattle.ud_tree.specs.Streams.{Source}
 use Rattle.ud_tree.specs.WalkMessages.{TakesPaths}
@@ -413,17 +416,34 @@ pub starts_at : {X : Type 0} (f : X → List ℕ) (xs : List X) (i : ℕ) (v : X
 starts_at f xs i v path {x = x} {z = z} {a = a} {c = c} {first = first} {s = s} within is named h k =
     subst (λ (ps : List (List ℕ)). StartsSome ps x z a c first s) (sym (one_more f xs i v path within is named)) (starts_more h k)
 
+-- Calls of a walk are the same ones if they leave the same calls.
+same_walked : (xs ys : List WalkCall) → map walked xs ≡ map walked ys → xs ≡ ys
+same_walked [] [] e = refl
+same_walked [] (y ∷ ys) e = cc
+same_walked (x ∷ xs) [] e = cc
+same_walked (x ∷ xs) (y ∷ ys) e =
+    let rest : map walked xs ≡ map walked ys = cc in
+    let later : xs ≡ ys = same_walked xs ys rest in cc
+
+same_calls : (xs ys : List WalkCall) (old : List Call) → map walked xs ++ old ≡ map walked ys ++ old → xs ≡ ys
+same_calls xs ys old e = same_walked xs ys (append_cancel_right (map walked xs) (map walked ys) old e)
+
 -- All paths can be taken, and all folders were entered.
 pub covers_paths : {X : Type 0} (f : X → List ℕ) (xs : List X) (i : ℕ) {x y z : List Call} {a b c : List (List ℕ)} {first r last : Report} → i ≡ length xs → ¬ (0 < r.faulty) → StartsSome (map f (take i xs)) x y a b first r → Exhausts y z b c r last →
-    CoversPaths (map f xs) x z (0 < last.faulty)
+    {w v : Walk} → Catches x z w v → (patterns : List (List ℕ)) → map string_bytes w.patterns.now ≡ patterns →
+    CoversPaths (map f xs) patterns x z (IsIn v.found.items) (0 < last.faulty)
 unfolding explores_then
-covers_paths f xs i {x = x} {y = y} {z = z} {b = b} {c = c} {r = r} all fine h k = record {
+covers_paths f xs i {x = x} {y = y} {z = z} {b = b} {c = c} {r = r} all fine h k {w = w} {v = v} caught patterns are = record {
   calls = ys ++ ws;
   are = (explores_then h.explores k.explores).are;
   waiting = c;
   all_listed = λ few. k.done (fewer few);
   begins = subst (λ l. All (Begins (ys ++ ws) (IsDue (ys ++ ws) c)) (map f l)) (take_all i xs (omega arith)) (by_case h.begins);
   visits = (explores_then h.explores k.explores).visits;
+  taken = λ path node there kind.
+      subst (λ (ps : List (List ℕ)). IsIn v.found.items path node.id ⊎ IsLeft ps path) (ap (map string_bytes) caught.grows.same ∙ are)
+      (caught.taken path node (subst (λ (cs : List WalkCall). Contains cs (met path (Present node)))
+      (same_calls (ys ++ ws) caught.calls x (sym (explores_then h.explores k.explores).are ∙ caught.are)) there) kind);
 }
   where
     ws : List WalkCall
@@ -533,6 +553,11 @@ stands_in found files kept path id h = by_case (All-contains (IsKept files) foun
         by_same (inl same) = inl (same ∙ h.2)
         by_same (inr same) = inr (same ∙ h.3)
 
+-- A file that was found is kept, and one that isn't chosen isn't.
+left_kept : {patterns : List (List ℕ)} (found files : List Found) → All (IsKept files) found → (path : List ℕ) (id : FileId) → IsIn found path id ⊎ IsLeft patterns path → StandsIn files path id ⊎ IsLeft patterns path
+left_kept found files kept path id (inl there) = inl (stands_in found files kept path id there)
+left_kept found files kept path id (inr left) = inr left
+
 -- No path is missed, and the files that were found are kept.
 pub misses_kept : (args : Arguments) (text : List ℕ) {x y : List Call} (found files : List Found) (s t : Type 0) → (s → t) → All (IsKept files) found → MissesNone args text x y (IsIn found) s → MissesNone args text x y (StandsIn files) t
 misses_kept args text found files s t e kept (misses_no_path none h) = misses_no_path none (record {
@@ -542,6 +567,7 @@ misses_kept args text found files s t e kept (misses_no_path none h) = misses_no
   all_listed = h.all_listed;
   begins = h.begins;
   visits = λ folder names answer there. visits_all_within names (λ w here. here) (λ path due. due) e (h.visits folder names answer there);
+  taken = λ path node there kind. left_kept found files kept path node.id (h.taken path node there kind);
 })
 misses_kept args text found files s t e kept (misses_no_input input h) = misses_no_input input (record {
   calls = h.calls;

@@ -6,6 +6,7 @@ pub mod MessageLemmas
 pub mod WalkLemmas
 pub mod WalkTellLemmas
 pub mod CoverLemmas
+pub mod CatchLemmas
 pub mod TreeLaws
 pub mod StatusLaws
 pub mod RunLemmas

@@ -414,7 +414,11 @@ pub paths_given : (args : Arguments) {given left : Source} {calls calls' : List 
 paths_given args input h = record { text = h.text; takes = takes_all input h.reads; misses = misses_no_input input h.covers }
 
 -- The paths of the command line are covered, and nothing was read.
-pub paths_covered : (args : Arguments) {given : Source} {paths : List (String Global)} {calls calls' : List Call} {has : List ℕ → FileId → Type 0} {told : Type 0} → args.from_input ≡ false → CoversPaths (map (λ p. string_bytes p) paths) calls calls' told →
-    paths ≡ args.paths.items → TakesPaths args given given calls calls' has told
-paths_covered args {calls = calls} {calls' = calls'} {told = told} none h are =
-    record { text = []; takes = takes_none none refl; misses = misses_no_path none (subst (λ ps. CoversPaths (map (λ p. string_bytes p) ps) calls calls' told) are h) }
+pub paths_covered : (args : Arguments) {given : Source} {paths : List (String Global)} {calls calls' : List Call} {has : List ℕ → FileId → Type 0} {told : Type 0} → args.from_input ≡ false →
+    CoversPaths (map (λ p. string_bytes p) paths) (map (λ p. string_bytes p) args.patterns.items) calls calls' has told → paths ≡ args.paths.items → TakesPaths args given given calls calls' has told
+paths_covered args {calls = calls} {calls' = calls'} {has = has} {told = told} none h are =
+    record {
+      text = [];
+      takes = takes_none none refl;
+      misses = misses_no_path none (subst (λ ps. CoversPaths (map (λ p. string_bytes p) ps) (map (λ p. string_bytes p) args.patterns.items) calls calls' has told) are h);
+    }

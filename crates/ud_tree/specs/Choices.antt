@@ -2,9 +2,11 @@
 --
 --   is_fresh name            a name that is given to new files
 --   IsChosen patterns name   the file of this name is chosen by the patterns of `-g`
-use Rattle.std.specs.Prelude.{◌≡◌, ℕ, List, Bool, false, codes, nat_eq}
+--   IsLeft patterns path     the file at this path isn't
+use Rattle.std.specs.Prelude.{◌≡◌, ℕ, List, [], Bool, false, codes, nat_eq}
 use Rattle.std.specs.List.{starts_with}
 use Rattle.ud_pattern.specs.Patterns.{MatchesAny}
+use Rattle.ud_tree.specs.Paths.{last_name}
 
 -- `is_fresh name`: the name begins as those of new files do.
 abbrev pub is_fresh : List ℕ → Bool
@@ -13,3 +15,8 @@ is_fresh name = starts_with nat_eq name (codes ".unifdef-tree.")
 -- `IsChosen patterns name`: one of the patterns matches the name, and it is none of a new file.
 abbrev pub IsChosen : List (List ℕ) → List ℕ → Type 0
 IsChosen patterns name = (is_fresh name ≡ false) × MatchesAny name patterns
+
+-- `IsLeft patterns path`: the patterns don't choose the last name of the path. If there are none,
+-- nothing is said of the usual ones.
+abbrev pub IsLeft : List (List ℕ) → List ℕ → Type 0
+IsLeft patterns path = ¬ (patterns ≡ []) → ¬ (IsChosen patterns (last_name path))

@@ -12,7 +12,7 @@
 --   Gives calls has told path     what became of a path of the input
 --   own_path path                 a path, unless it is empty
 --   paths_after path text, paths_of text   the paths of the input
---   CoversPaths paths old new told   a whole walk from the paths of the command line
+--   CoversPaths paths patterns old new has told   a whole walk from those of the command line
 --   CoversInput paths old new has told   one from those of the input
 --   MissesNone args text old new has told   one from the paths that the arguments name
 --
@@ -30,6 +30,7 @@ use Rattle.ud_replace.specs.declared.node.NodeKind.TheVariants.{Other}
 use Rattle.ud_replace.specs.Calls.{Call, walked, WalkCall, met, followed, listed}
 use Rattle.ud_tree.specs.declared.arguments.Arguments.{Arguments}
 use Rattle.ud_tree.specs.declared.walk.Found.{Found}
+use Rattle.ud_tree.specs.Choices.{IsLeft}
 
 -- `IsFolderPath path folder`: `folder` is `path`, with a slash at its end.
 abbrev pub IsFolderPath : List ℕ → List ℕ → Type 0
@@ -109,16 +110,20 @@ paths_after path (b ∷ text) = if b == 0 then own_path path ++ paths_after [] t
 abbrev pub paths_of : List ℕ → List (List ℕ)
 paths_of text = paths_after [] text
 
--- `CoversPaths paths old new told`: since `old`, only calls of a walk were made. Each of `paths`
--- can be taken. Of each folder that was listed, each name was visited. Each folder that is due was
--- listed, unless there were more calls than a machine counts.
-pub record CoversPaths (paths : List (List ℕ)) (old new : List Call) (told : Type 0) : Type 0 where
+-- `CoversPaths paths patterns old new has told`: since `old`, only calls of a walk were made. Each
+-- of `paths` can be taken. Of each folder that was listed, each name was visited. Each folder that
+-- is due was listed, unless there were more calls than a machine counts. Each regular file that was
+-- met was found, or the patterns don't choose it.
+pub record CoversPaths (paths patterns : List (List ℕ)) (old new : List Call)
+    (has : List ℕ → FileId → Type 0) (told : Type 0) : Type 0 where
   pub calls : List WalkCall
   pub are : new ≡ map walked calls ++ old
   pub waiting : List (List ℕ)
   pub all_listed : length calls + 1 < 2 ^ 64 → waiting ≡ []
   pub begins : All (Begins calls (IsDue calls waiting)) paths
   pub visits : VisitsAll calls (IsDue calls waiting) told
+  pub taken : (path : List ℕ) (node : Node) → Contains calls (met path (Present node)) →
+      node.kind ≡ File → has path node.id ⊎ IsLeft patterns path
 
 -- `CoversInput paths old new has told`: since `old`, only calls of a walk were made, and each of
 -- `paths` was given.
@@ -133,7 +138,8 @@ pub record CoversInput (paths : List (List ℕ)) (old new : List Call)
 pub data MissesNone (args : Arguments) (text : List ℕ) (old new : List Call)
     (has : List ℕ → FileId → Type 0) (told : Type 0) : Type 0 where
   misses_no_path : args.from_input ≡ false →
-      CoversPaths (map (λ p. string_bytes p) args.paths.items) old new told →
+      CoversPaths (map (λ p. string_bytes p) args.paths.items)
+      (map (λ p. string_bytes p) args.patterns.items) old new has told →
       MissesNone args text old new has told
   misses_no_input : args.from_input ≡ true → CoversInput (paths_of text) old new has told →
       MissesNone args text old new has told

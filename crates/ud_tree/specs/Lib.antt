@@ -9,6 +9,7 @@ pub mod Changes
 pub mod Walks
 pub mod Covering
 pub mod CoverParts
+pub mod Catching
 pub mod TreeMoments
 pub mod TreeRuns
 pub mod TreeDiffs

@@ -122,6 +122,7 @@ fn walk_all<T: Tree, R: Read, E: Write>(
     report: &mut Report,
     err: &mut Watched<E>,
 ) -> Result<bool, AllocError>
+    requires { walk.old.patterns.now ≡ job.now.arguments.now.patterns.items }
     ensures finds { Finds (T.history tree.old) (T.history tree.new) walk.old.found.items
         walk.new.found.items }
     ensures told { ReportsWalk (T.history tree.old) (T.history tree.new) report.old report.new

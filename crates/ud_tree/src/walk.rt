@@ -4,6 +4,7 @@ ghost use Rattle.std.specs.Prelude.{◌≡◌, ◌⊎◌, ◌<◌, ◌++◌, ◌
 ghost use Rattle.std.specs.Prelude.{string_bytes, true, false};
 ghost use Rattle.ud_replace.specs.Calls.{walked, listed};
 ghost use Rattle.std.specs.List.{All, AllPairs, Contains};
+ghost use Rattle.ud_tree.specs.Catching.{Catches, Grows, IsTaken};
 ghost use Rattle.ud_tree.specs.Covering.{IsIn};
 ghost use Rattle.ud_tree.specs.CoverParts.{AddsFolder, Enters, Exhausts, Starts, TakesOne};
 ghost use Rattle.ud_tree.specs.CoverParts.{VisitsOne, Waits};
@@ -58,6 +59,7 @@ impl<'w> Walk<'w> {
     pub(crate) fn new(alloc: Global, patterns: &'w [String]) -> Walk<'w>
         ensures found { result.found.items ≡ [] }
         ensures folders { result.folders.items ≡ [] }
+        ensures patterns { result.patterns.now ≡ patterns.now }
     {
         Walk {
             alloc,
@@ -85,6 +87,8 @@ impl<'w> Walk<'w> {
         ensures starts { OnOk result (Starts path.now (T.history tree.old) (T.history tree.new)
             (map (λ d. string_bytes d) self.old.folders.items)
             (map (λ d. string_bytes d) self.new.folders.items) report.old report.new) }
+        ensures catches { OnOk result
+            (Catches (T.history tree.old) (T.history tree.new) self.old self.new) }
     {
         let node = match tree.node(path) {
             Lookup::Present(node) => node,
@@ -104,7 +108,7 @@ impl<'w> Walk<'w> {
                 report.fault(err, path.as_bytes(), b"Is a symbolic link");
                 Ok(())
             }
-            NodeKind::File => self.add_file(path, last_name(path.as_bytes()), node.id),
+            NodeKind::File => self.add_file(path, node.id),
             NodeKind::Other => {
                 report.fault(err, path.as_bytes(), b"Is no regular file");
                 Ok(())
@@ -179,6 +183,7 @@ impl<'w> Walk<'w> {
         ensures waits { OnOk result (Waits path.now
             (map (λ d. string_bytes d) self.old.folders.items)
             (map (λ d. string_bytes d) self.new.folders.items)) }
+        ensures grows { OnOk result (Grows self.old self.new) }
     {
         let folder = folder_path(self.alloc, path)?;
         self.folders.push(folder)?;
@@ -186,11 +191,13 @@ impl<'w> Walk<'w> {
     }
 
     /// Adds a file, if its name is chosen.
-    fn add_file(&mut self, path: &str, name: &[u8], id: FileId) -> Result<(), AllocError>
+    fn add_file(&mut self, path: &str, id: FileId) -> Result<(), AllocError>
         ensures adds { Adds self.old.found.items path.now id self.new.found.items }
         ensures folders { self.new.folders.items ≡ self.old.folders.items }
+        ensures grows { OnOk result (Grows self.old self.new) }
+        ensures taken { OnOk result (IsTaken self.new path.now id) }
     {
-        if chooses(self.patterns, name) {
+        if chooses(self.patterns, last_name(path.as_bytes())) {
             self.push_file(path, id)
         } else {
             Ok(())
@@ -202,6 +209,7 @@ impl<'w> Walk<'w> {
         ensures adds { Adds self.old.found.items path.now id self.new.found.items }
         ensures folders { self.new.folders.items ≡ self.old.folders.items }
         ensures is_in { OnOk result (IsIn self.new.found.items path.now id) }
+        ensures grows { OnOk result (Grows self.old self.new) }
     {
         let path = String::from_str(self.alloc, path)?;
         self.found.push(Found { path, id })?;
@@ -226,6 +234,8 @@ impl<'w> Walk<'w> {
             (T.history tree.old) (T.history tree.new)
             (map (λ d. string_bytes d) self.old.folders.items)
             (map (λ d. string_bytes d) self.new.folders.items) report.old report.new) }
+        ensures catches { OnOk result
+            (Catches (T.history tree.old) (T.history tree.new) self.old self.new) }
     {
         let mut path = String::from_str(self.alloc, folder)?;
         let Ok(text) = std::str::from_utf8(name) else {
@@ -251,9 +261,12 @@ impl<'w> Walk<'w> {
         ensures waits { OnOk result (AddsFolder path.now name.now node
             (map (λ d. string_bytes d) self.old.folders.items)
             (map (λ d. string_bytes d) self.new.folders.items)) }
+        ensures grows { OnOk result (Grows self.old self.new) }
+        ensures taken { OnOk result (node.kind ≡ NodeKind.File →
+            IsTaken self.new path.now node.id) }
     {
         match node.kind {
-            NodeKind::File => self.add_file(path, name, node.id),
+            NodeKind::File => self.add_file(path, node.id),
             NodeKind::Folder if !is_left_out(name) => self.add_folder(path),
             NodeKind::Folder | NodeKind::Link | NodeKind::Other => Ok(()),
         }
@@ -274,6 +287,8 @@ impl<'w> Walk<'w> {
         ensures enters { OnOk result (Enters folder.now (T.history tree.old) (T.history tree.new)
             (map (λ d. string_bytes d) self.old.folders.items)
             (map (λ d. string_bytes d) self.new.folders.items) report.old report.new) }
+        ensures catches { OnOk result
+            (Catches (T.history tree.old) (T.history tree.new) self.old self.new) }
     {
         let names = self.list_folder(tree, report, err, folder);
         for name in names.as_slice() {
@@ -326,6 +341,8 @@ impl<'w> Walk<'w> {
         ensures exhausts { OnOk result (Exhausts (T.history tree.old) (T.history tree.new)
             (map (λ d. string_bytes d) self.old.folders.items)
             (map (λ d. string_bytes d) self.new.folders.items) report.old report.new) }
+        ensures catches { OnOk result
+            (Catches (T.history tree.old) (T.history tree.new) self.old self.new) }
     {
         'folders: for _entered in 0..u64::MAX {
             let Some(folder) = self.folders.pop() else {

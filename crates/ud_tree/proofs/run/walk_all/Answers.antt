@@ -1,4 +1,5 @@
-use Rattle.std.proofs.Common.{ℕ, ◌<◌, map, subst, arith}
+use Rattle.std.proofs.Common.{ℕ, ◌<◌, map, refl, ap, subst, arith}
+use Rattle.ud_tree.proofs.CatchLemmas.{grows_same, catches_none, catches_then}
 use Rattle.std.specs.Prelude.{string_bytes}
 use Rattle.ud_tree.proofs.CoverLemmas.{starts_none, starts_at, covers_paths}
 use Rattle.ud_tree.proofs.WalkTellLemmas.{paths_given, paths_covered}
@@ -19,6 +20,7 @@ loop-path-init g c = (
   finds_none (g.T.Folder.history c.args.tree.now) c.args.walk.now.found.items,
   walk_none (g.T.Folder.history c.args.tree.now) c.args.report.now (stream_of g.E.Write.contents c.args.err.now),
   starts_none (g.T.Folder.history c.args.tree.now) (map (λ d. string_bytes d) c.args.walk.now.folders.items) c.args.report.now,
+  catches_none (g.T.Folder.history c.args.tree.now) c.args.walk.now c.args.walk.now (grows_same _ _ refl refl),
 )
 
 pub loop-path-preserved : goal.loop-path-preserved
@@ -26,6 +28,7 @@ loop-path-preserved g c = (
   finds_then c.loop-path.invariant.0 c.start.ensures.finds,
   walk_then c.loop-path.invariant.1 c.start.ensures.told,
   starts_at (λ p. string_bytes p) c.as_slice-path-items.result.now c.loop-path.path-index c.path-item.result c.as_str.result.now c.loop-path-test.true c.path-item.is c.as_str.ensures.value c.loop-path.invariant.2 c.in_ok-start.ensures.starts,
+  catches_then c.loop-path.invariant.3 c.in_ok-start.ensures.catches,
 )
 
 pub returns-in_err-start-clause-finds : goal.returns-in_err-start-clause-finds
@@ -52,5 +55,6 @@ returns-clause-told g c = walk_then c.loop-path.invariant.1 c.go.ensures.told
 pub returns-clause-takes : goal.returns-clause-takes
 returns-clause-takes g c = λ all.
     paths_covered c.args.job.now.arguments.now c.if-job.false
-    (covers_paths (λ p. string_bytes p) c.as_slice-path-items.result.now c.loop-path.path-index (omega arith) (λ some. omega (arith, some, c.faulty.ensures, c.if-faulty-gt0.false)) c.loop-path.invariant.2 c.in_ok-go.ensures.exhausts)
+    (covers_paths (λ p. string_bytes p) c.as_slice-path-items.result.now c.loop-path.path-index (omega arith) (λ some. omega (arith, some, c.faulty.ensures, c.if-faulty-gt0.false)) c.loop-path.invariant.2 c.in_ok-go.ensures.exhausts
+    (catches_then c.loop-path.invariant.3 c.in_ok-go.ensures.catches) _ (ap (map string_bytes) c.requires))
     c.as_slice-path-items.ensures.value

@@ -1,11 +1,17 @@
-use Rattle.std.proofs.Common.{arith}
+use Rattle.std.proofs.Common.{arith, refl}
+use Rattle.ud_tree.proofs.CatchLemmas.{grows_same, catches_listed, catches_then}
 use Rattle.ud_tree.proofs.CoverLemmas.{enters_begun, enters_name, enters_all}
 use Rattle.ud_tree.proofs.WalkLemmas.{finds_then}
 use Rattle.ud_tree.proofs.WalkTellLemmas.{name_listed, names_same, walk_visited}
 use Rattle.ud_tree.proofs.walk.Walk.enter.Goals as goal
 
 pub loop-name-init : goal.loop-name-init
-loop-name-init g c = (c.list_folder-names.ensures.finds, enters_begun (λ n. n.items) _ _ c.args.folder.now _ _ _ c.list_folder-names.ensures.counted c.as_slice-name-items.ensures.value c.list_folder-names.ensures.lists, names_same (λ n. n.items) _ _ c.as_slice-name-items.ensures.value c.list_folder-names.ensures.told)
+loop-name-init g c = (
+  c.list_folder-names.ensures.finds,
+  enters_begun (λ n. n.items) _ _ c.args.folder.now _ _ _ c.list_folder-names.ensures.counted c.as_slice-name-items.ensures.value c.list_folder-names.ensures.lists,
+  names_same (λ n. n.items) _ _ c.as_slice-name-items.ensures.value c.list_folder-names.ensures.told,
+  catches_listed c.args.folder.now _ c.list_folder-names.ensures.lists.0 c.args.self.now c.args.self.now c.list_folder-names.ensures.lists.1 (grows_same _ _ refl refl),
+)
 
 pub loop-name-preserved : goal.loop-name-preserved
 loop-name-preserved g c = (
@@ -15,6 +21,7 @@ loop-name-preserved g c = (
   walk_visited c.loop-name.invariant.2
       (name_listed (λ n. n.items) c.as_slice-name-items.result.now c.loop-name.name-index c.name-item.result c.as_slice.result.now c.loop-name-test.true c.name-item.is c.as_slice.ensures.value)
       c.visit.ensures.told,
+  catches_then c.loop-name.invariant.3 c.in_ok-visit.ensures.catches,
 )
 
 pub returns-in_err-visit-clause-finds : goal.returns-in_err-visit-clause-finds

@@ -2,6 +2,7 @@ use Rattle.std.proofs.Common.{map}
 use Rattle.ud_tree.specs.Streams.{stream_of}
 use Rattle.ud_tree.specs.WalkMessages.{ReportsNames}
 use Rattle.ud_tree.specs.Walks.{Finds}
+use Rattle.ud_tree.specs.Catching.{Catches}
 use Rattle.std.specs.Prelude.{string_bytes}
 use Rattle.ud_tree.proofs.CoverLemmas.{EntersNames}
 use Rattle.ud_tree.proofs.walk.Walk.enter.Given as goal
@@ -11,3 +12,4 @@ invariant-loop-name g l =
     Finds (g.T.Folder.history l.fn.tree) (g.T.Folder.history l.tree) l.fn.self.found.items l.self.found.items
     × EntersNames (λ n. n.items) l.folder l.name-items l.name-index (g.T.Folder.history l.fn.tree) (g.T.Folder.history l.tree) (map (λ d. string_bytes d) l.fn.self.folders.items) (map (λ d. string_bytes d) l.self.folders.items) l.fn.report l.report
     × ReportsNames l.folder (map (λ n. n.items) l.name-items) (g.T.Folder.history l.fn.tree) (g.T.Folder.history l.tree) l.fn.report l.report (stream_of g.E.Write.contents l.fn.err) (stream_of g.E.Write.contents l.err)
+    × Catches (g.T.Folder.history l.fn.tree) (g.T.Folder.history l.tree) l.fn.self l.self

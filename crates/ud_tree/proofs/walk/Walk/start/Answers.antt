@@ -7,7 +7,8 @@ use Rattle.std.proofs.lemmas.Result.{on_ok_weaker}
 use Rattle.ud_replace.specs.declared.node.Lookup.TheVariants.{Present, Absent, Unknown}
 use Rattle.ud_replace.specs.Calls.{Call, walked, met, followed}
 use Rattle.ud_tree.specs.Covering.{at_file, at_folder, at_link}
-use Rattle.ud_tree.proofs.CoverLemmas.{starts_bad, starts_good, met_none, followed_none, waits_same, waits_more, waits_due, on_ok_always}
+use Rattle.ud_tree.proofs.CoverLemmas.{starts_bad, starts_good, met_none, followed_none, waits_same, waits_more, waits_due, on_ok_always, on_ok_both}
+use Rattle.ud_tree.proofs.CatchLemmas.{grows_same, catches_met, catches_node, catches_followed, catches_then}
 use Rattle.ud_tree.proofs.walk.Walk.start.Goals as goal
 
 pub returns-in-Absent-clause-finds : goal.returns-in-Absent-clause-finds
@@ -92,3 +93,34 @@ returns-in-File-clause-starts g c =
 
 pub returns-in-Other-clause-starts : goal.returns-in-Other-clause-starts
 returns-in-Other-clause-starts g c = starts_bad (met c.args.path.now (Present c.in-Present.node) ∷ []) c.args.path.now _ _ _ c.in-Present.ensures (met_none c.args.path.now (Present c.in-Present.node)) c.fault-in-Other.ensures.some
+
+pub returns-in-Absent-clause-catches : goal.returns-in-Absent-clause-catches
+returns-in-Absent-clause-catches g c = catches_met c.args.path.now Absent _ c.args.self.now c.in-Absent.ensures (grows_same _ _ refl refl) (λ node e kind. cc)
+
+pub returns-in-Unknown-clause-catches : goal.returns-in-Unknown-clause-catches
+returns-in-Unknown-clause-catches g c = catches_met c.args.path.now Unknown _ c.args.self.now c.in-Unknown.ensures (grows_same _ _ refl refl) (λ node e kind. cc)
+
+pub returns-in-Folder-clause-catches : goal.returns-in-Folder-clause-catches
+returns-in-Folder-clause-catches g c =
+    on_ok_weaker c.add_folder.result (λ h. catches_node c.args.path.now c.in-Present.node _ _ c.in-Present.ensures h (λ kind. let is = c.in-Folder.is in cc)) c.add_folder.ensures.grows
+
+pub returns-in-Link-clause-catches : goal.returns-in-Link-clause-catches
+returns-in-Link-clause-catches g c =
+    on_ok_weaker c.add_folder-in-Link.result
+    (λ h. catches_then (catches_node c.args.path.now c.in-Present.node c.args.self.now c.args.self.now c.in-Present.ensures (grows_same _ _ refl refl) (λ kind. let is = c.in-Link.is in cc))
+    (catches_followed c.args.path.now true _ _ c.if-leads_to_folder.ensures h))
+    c.add_folder-in-Link.ensures.grows
+
+pub returns-in-Link-2-clause-catches : goal.returns-in-Link-2-clause-catches
+returns-in-Link-2-clause-catches g c =
+    catches_then (catches_node c.args.path.now c.in-Present.node c.args.self.now c.args.self.now c.in-Present.ensures (grows_same _ _ refl refl) (λ kind. let is = c.in-Link.is in cc))
+    (catches_followed c.args.path.now false _ _ c.if-leads_to_folder.ensures (grows_same _ _ refl refl))
+
+pub returns-in-File-clause-catches : goal.returns-in-File-clause-catches
+returns-in-File-clause-catches g c =
+    on_ok_weaker c.add_file.result (λ both. catches_node c.args.path.now c.in-Present.node _ _ c.in-Present.ensures both.0 (λ kind. both.1))
+    (on_ok_both _ _ c.add_file.result c.add_file.ensures.grows c.add_file.ensures.taken)
+
+pub returns-in-Other-clause-catches : goal.returns-in-Other-clause-catches
+returns-in-Other-clause-catches g c =
+    catches_node c.args.path.now c.in-Present.node c.args.self.now c.args.self.now c.in-Present.ensures (grows_same _ _ refl refl) (λ kind. let is = c.in-Other.is in cc)

@@ -4,8 +4,9 @@ use Rattle.ud_tree.specs.Streams.{stream_of}
 use Rattle.ud_tree.specs.WalkMessages.{is_no_text, is_gone}
 use Rattle.ud_tree.proofs.WalkTellLemmas.{met_at, visit_none, visit_met, walk_none, walk_met, walk_unmet, walk_remark}
 use Rattle.std.proofs.lemmas.Result.{on_ok_weaker}
-use Rattle.ud_tree.proofs.CoverLemmas.{visits_other, visits_unmet, visits_node}
+use Rattle.ud_tree.proofs.CoverLemmas.{visits_other, visits_unmet, visits_node, on_ok_both}
 use Rattle.ud_replace.specs.declared.node.Lookup.TheVariants.{Present, Absent, Unknown}
+use Rattle.ud_tree.proofs.CatchLemmas.{grows_same, catches_none, catches_met, catches_node}
 use Rattle.ud_tree.proofs.walk.Walk.visit.Goals as goal
 
 pub returns-in_err-path-clause-finds : goal.returns-in_err-path-clause-finds
@@ -66,3 +67,17 @@ returns-in-Absent-clause-visits g c =
 pub returns-clause-visits : goal.returns-clause-visits
 returns-clause-visits g c =
     visits_unmet Unknown _ c.args.folder.now c.args.name.now _ c.args.report.now _ (λ before. c.unknown.ensures.reports.some) (λ node e. absurd cc) (cc (c.as_str-whole.ensures.value, c.in_ok-push_str.ensures.bytes, c.in-Ok.ensures.cases.0, c.in_ok-path.ensures.ok)) c.in-Unknown.ensures
+
+pub returns-in_default-clause-catches : goal.returns-in_default-clause-catches
+returns-in_default-clause-catches g c = catches_none (g.T.Folder.history c.args.tree.now) c.args.self.now c.args.self.now (grows_same _ _ refl refl)
+
+pub returns-in-Present-clause-catches : goal.returns-in-Present-clause-catches
+returns-in-Present-clause-catches g c =
+    on_ok_weaker c.add_node.result (λ both. catches_node _ c.in-Present.node _ _ c.in-Present.ensures both.0 both.1)
+    (on_ok_both _ _ c.add_node.result c.add_node.ensures.grows c.add_node.ensures.taken)
+
+pub returns-in-Absent-clause-catches : goal.returns-in-Absent-clause-catches
+returns-in-Absent-clause-catches g c = catches_met _ Absent c.args.self.now c.args.self.now c.in-Absent.ensures (grows_same _ _ refl refl) (λ node e kind. cc)
+
+pub returns-clause-catches : goal.returns-clause-catches
+returns-clause-catches g c = catches_met _ Unknown c.args.self.now c.args.self.now c.in-Unknown.ensures (grows_same _ _ refl refl) (λ node e kind. cc)

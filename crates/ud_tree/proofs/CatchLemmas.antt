@@ -1,0 +1,121 @@
+-- Parts of a walk that take each regular file that they meet, one after another.
+use Rattle.std.proofs.Common.{◌≡◌, ◌⊎◌, inl, inr, ℕ, List, [], ◌∷◌, ◌++◌, map, Bool, true, false, refl, sym, ap, ◌∙◌, subst, arith, append_assoc}
+use Rattle.std.proofs.lemmas.List.{map-append}
+use Rattle.std.proofs.lemmas.List.Elements.{All-weaker, All-contains, All-contains_itself, Contains-append_left, Contains-append_cases, Contains-push_cases}
+use Rattle.std.specs.List.{All, Contains}
+use Rattle.std.specs.Prelude.{string_bytes}
+use Rattle.ud_replace.specs.declared.node.Lookup.{Lookup}
+use Rattle.ud_replace.specs.declared.node.Lookup.TheVariants.{Present}
+use Rattle.ud_replace.specs.declared.node.Node.{Node}
+use Rattle.ud_replace.specs.declared.node.NodeKind.TheVariants.{File}
+use Rattle.ud_replace.specs.declared.node.FileId.{FileId}
+use Rattle.ud_replace.specs.Calls.{Call, walked, WalkCall, met, followed, listed}
+use Rattle.ud_tree.specs.declared.walk.Found.{Found}
+use Rattle.ud_tree.specs.declared.walk.Walk.{Walk}
+use Rattle.ud_tree.specs.Choices.{IsChosen, IsLeft}
+use Rattle.ud_tree.specs.Paths.{last_name}
+use Rattle.ud_tree.specs.Catching.{IsTaken, Grows, Catches}
+
+-- A walk whose patterns and files are the same.
+pub grows_same : (w v : Walk) → v.patterns.now ≡ w.patterns.now → v.found.items ≡ w.found.items → Grows w v
+grows_same w v same found = record {
+  same = same;
+  stay = subst (λ (fs : List Found). All (Contains fs) w.found.items) (sym found) (All-contains_itself w.found.items);
+}
+
+-- A walk that has one file more.
+pub grows_pushed : (w v : Walk) (f : Found) → v.patterns.now ≡ w.patterns.now → v.found.items ≡ w.found.items ++ f ∷ [] → Grows w v
+grows_pushed w v f same found = record {
+  same = same;
+  stay = subst (λ (fs : List Found). All (Contains fs) w.found.items) (sym found)
+      (All-weaker (Contains w.found.items) (Contains (w.found.items ++ f ∷ [])) (λ g there. Contains-append_left w.found.items (f ∷ []) g there) w.found.items
+      (All-contains_itself w.found.items));
+}
+
+grows_then : (u w v : Walk) → Grows u w → Grows w v → Grows u v
+grows_then u w v h k = record {
+  same = k.same ∙ h.same;
+  stay = All-weaker (Contains w.found.items) (Contains v.found.items) (λ f there. All-contains (Contains v.found.items) w.found.items f k.stay there) u.found.items h.stay;
+}
+
+-- A file that was taken stays so.
+taken_later : (w v : Walk) → Grows w v → (path : List ℕ) (id : FileId) → IsTaken w path id → IsTaken v path id
+taken_later w v h path id (inl there) = inl (there.0, All-contains (Contains v.found.items) w.found.items there.0 h.stay there.1, there.2, there.3)
+taken_later w v h path id (inr left) = inr (subst (λ ps. IsLeft (map string_bytes ps) path) (sym h.same) left)
+
+-- A file whose name isn't chosen is taken.
+pub taken_left : (w : Walk) (path : List ℕ) (id : FileId) (chosen : Bool) (name : List ℕ) → (¬ (map string_bytes w.patterns.now ≡ []) → IsChosen (map string_bytes w.patterns.now) name → chosen ≡ true) →
+    chosen ≡ false → name ≡ last_name path → IsTaken w path id
+taken_left w path id chosen name h is named = inr (λ some here.
+    let wrong : true ≡ false = sym (h some (subst (IsChosen (map string_bytes w.patterns.now)) (sym named) here)) ∙ is in absurd (elim_wrong wrong))
+  where
+    elim_wrong : true ≡ false → ⊥
+    elim_wrong e = cc
+
+-- Nothing was asked.
+pub catches_none : (calls : List Call) (w v : Walk) → Grows w v → Catches calls calls w v
+catches_none calls w v h = record { calls = []; are = refl; grows = h; taken = λ path node there kind. absurd (omega (arith, there.1)) }
+
+-- A list of one call has no other.
+only_call : (w x : WalkCall) → Contains (w ∷ []) x → w ≡ x
+only_call w x h = by_case (Contains-push_cases [] w x h)
+  where
+    by_case : Contains [] x ⊎ (w ≡ x) → w ≡ x
+    by_case (inl none) = absurd (omega (arith, none.1))
+    by_case (inr is) = is
+
+-- One call was made, which met no regular file, or one that is taken.
+pub catches_met : (at : List ℕ) (answer : Lookup) {old new : List Call} (w v : Walk) → new ≡ walked (met at answer) ∷ old → Grows w v →
+    ((node : Node) → answer ≡ Present node → node.kind ≡ File → IsTaken v at node.id) → Catches old new w v
+catches_met at answer w v is h taken = record {
+  calls = met at answer ∷ [];
+  are = is;
+  grows = h;
+  taken = λ path node there kind. let e : met at answer ≡ met path (Present node) = only_call (met at answer) (met path (Present node)) there in
+      let named : at ≡ path = cc in
+      let seen : answer ≡ Present node = cc in
+      subst (λ (p : List ℕ). IsTaken v p node.id) named (taken node seen kind);
+}
+
+-- A node was met, and is taken if it is a regular file.
+pub catches_node : (at : List ℕ) (node : Node) {old new : List Call} (w v : Walk) → new ≡ walked (met at (Present node)) ∷ old → Grows w v →
+    (node.kind ≡ File → IsTaken v at node.id) → Catches old new w v
+catches_node at node w v is h taken = catches_met at (Present node) w v is h seen
+  where
+    seen : (n : Node) → Present node ≡ Present n → n.kind ≡ File → IsTaken v at n.id
+    seen n e kind =
+        let same : node ≡ n = cc in
+        subst (λ (m : Node). IsTaken v at m.id) same (taken (ap (λ (m : Node). m.kind) same ∙ kind))
+
+-- A link was followed.
+pub catches_followed : (at : List ℕ) (answer : Bool) {old new : List Call} (w v : Walk) → new ≡ walked (followed at answer) ∷ old → Grows w v → Catches old new w v
+catches_followed at answer w v is h = record {
+  calls = followed at answer ∷ [];
+  are = is;
+  grows = h;
+  taken = λ path node there kind. let e : followed at answer ≡ met path (Present node) = only_call (followed at answer) (met path (Present node)) there in cc;
+}
+
+-- A folder was listed.
+pub catches_listed : (folder : List ℕ) (names : List (List ℕ)) (answer : Bool) {old new : List Call} (w v : Walk) → new ≡ walked (listed folder names answer) ∷ old → Grows w v →
+    Catches old new w v
+catches_listed folder names answer w v is h = record {
+  calls = listed folder names answer ∷ [];
+  are = is;
+  grows = h;
+  taken = λ path node there kind. let e : listed folder names answer ≡ met path (Present node) = only_call (listed folder names answer) (met path (Present node)) there in cc;
+}
+
+-- One part after another.
+pub catches_then : {old mid new : List Call} {u w v : Walk} → Catches old mid u w → Catches mid new w v → Catches old new u v
+catches_then {old = old} {u = u} {w = w} {v = v} h k = record {
+  calls = k.calls ++ h.calls;
+  are = k.are ∙ ap (λ (l : List Call). map walked k.calls ++ l) h.are ∙ sym (append_assoc (map walked k.calls) (map walked h.calls) old)
+      ∙ ap (λ (l : List Call). l ++ old) (sym (map-append walked k.calls h.calls));
+  grows = grows_then u w v h.grows k.grows;
+  taken = λ path node there kind. by_case path node kind (Contains-append_cases k.calls h.calls (met path (Present node)) there);
+}
+  where
+    by_case : (path : List ℕ) (node : Node) → node.kind ≡ File → Contains k.calls (met path (Present node)) ⊎ Contains h.calls (met path (Present node)) → IsTaken v path node.id
+    by_case path node kind (inl now) = k.taken path node now kind
+    by_case path node kind (inr before) = taken_later w v k.grows path node.id (h.taken path node before kind)
