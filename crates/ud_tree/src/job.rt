@@ -16,8 +16,13 @@ pub struct Job<'a> {
 }
 
 impl Job<'_> {
+    ghost use Rattle.std.specs.Prelude.{◌≡◌};
+    ghost use Rattle.ud_model.specs.sections.Items.{mode_by};
+
     /// Returns the mode in which lines are read.
-    pub(crate) fn mode(&self) -> Mode {
+    pub(crate) fn mode(&self) -> Mode
+        ensures { result ≡ mode_by self.now.arguments.now.plan.run.settings.plain }
+    {
         if self.arguments.plan.run.settings().plain {
             Mode::Plain
         } else {

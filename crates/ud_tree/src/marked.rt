@@ -13,8 +13,12 @@ pub(crate) struct Marked {
 }
 
 impl Marked {
+    ghost use Rattle.std.specs.Prelude.{◌≡◌};
+
     /// Returns the printer at the beginning of a text.
-    pub(crate) fn new(blank: bool) -> Marked {
+    pub(crate) fn new(blank: bool) -> Marked
+        ensures { result.blank ≡ blank }
+    {
         Marked { blank }
     }
 }
