@@ -1,0 +1,4 @@
+pub mod NameLemmas
+pub mod ConditionLemmas
+pub mod TextLemmas
+pub mod SearchLemmas

@@ -1,0 +1,5 @@
+pub mod Conditions
+pub mod ListedNames
+pub mod Reasons
+pub mod RemainingLists
+pub mod Searches
