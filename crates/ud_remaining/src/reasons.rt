@@ -67,13 +67,16 @@ fn has_false(flags: &[bool]) -> bool
     flags.iter().any(|flag| !*flag)
 }
 
-/// Returns why an unknown `#if` or `#elif` stays. Leaves in `flags` some flags.
-fn why_expression(text: &[u8], symbols: &Symbols, rules: Rules, flags: &mut TokenFlags) -> Reason
+/// Returns why an unknown `#if` or `#elif` stays. The flags are a local of this function, so that
+/// no other one clears their memory.
+#[inline(never)]
+fn why_expression(text: &[u8], symbols: &Symbols, rules: Rules) -> Reason
     requires fits { length text.now ≤ LINE_BYTES }
     ensures { (calls : List Argument) → TableRepresents symbols.now calls →
         result ≡ spec.why_tree calls (as_rules rules) (expression_of text.now) }
 {
-    if residual(text, symbols, rules, flags).is_none() {
+    let mut flags = TokenFlags::new();
+    if residual(text, symbols, rules, &mut flags).is_none() {
         return Reason::NotUnderstood;
     }
     if has_false(flags.as_slice()) {
@@ -86,32 +89,20 @@ fn why_expression(text: &[u8], symbols: &Symbols, rules: Rules, flags: &mut Toke
     }
 }
 
-/// Returns why an unknown condition stays. Leaves in `flags` some flags.
-fn why_unknown(
-    kind: Kind,
-    text: &[u8],
-    symbols: &Symbols,
-    rules: Rules,
-    flags: &mut TokenFlags,
-) -> Reason
+/// Returns why an unknown condition stays.
+fn why_unknown(kind: Kind, text: &[u8], symbols: &Symbols, rules: Rules) -> Reason
     requires fits { length text.now ≤ LINE_BYTES }
     ensures { (calls : List Argument) → TableRepresents symbols.now calls →
         result ≡ spec.why_unknown calls (as_rules rules) (test_of kind) text.now }
 {
     match kind.test() {
-        Test::Nonzero => why_expression(text, symbols, rules, flags),
+        Test::Nonzero => why_expression(text, symbols, rules),
         Test::Defined | Test::Undefined | Test::Nothing => Reason::NotUnderstood,
     }
 }
 
-/// Returns why a condition stays that names a symbol. Leaves in `flags` some flags.
-pub(crate) fn why_stays(
-    begun: &Begun<'_>,
-    after: &[u8],
-    symbols: &Symbols,
-    rules: Rules,
-    flags: &mut TokenFlags,
-) -> Reason
+/// Returns why a condition stays that names a symbol.
+pub(crate) fn why_stays(begun: &Begun<'_>, after: &[u8], symbols: &Symbols, rules: Rules) -> Reason
     ensures { (calls : List Argument) → TableRepresents symbols.now calls →
         result ≡ spec.why_stays calls (as_rules rules) (as_condition begun.now after.now) }
 {
@@ -119,7 +110,7 @@ pub(crate) fn why_stays(
         return Reason::SeveralLines;
     }
     if is_unknown(begun.kind, after, symbols, rules) {
-        why_unknown(begun.kind, after, symbols, rules, flags)
+        why_unknown(begun.kind, after, symbols, rules)
     } else {
         Reason::Decided
     }

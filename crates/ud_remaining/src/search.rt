@@ -20,9 +20,12 @@ use crate::listing::Listing;
 use crate::names::has_listed;
 use crate::reasons::why_stays;
 use std::alloc::{AllocError, Global};
-use ud_cond::{Symbols, TokenFlags};
+use ud_cond::Symbols;
 use ud_model::{LINE_BYTES, Line, Mode};
 use ud_text::{Scanner, ScannerOf, line_in};
+
+/// The most bytes of a short line's body.
+const SHORT_LINE_BYTES: usize = 1024;
 
 /// A search for the conditions of texts that still name a symbol, and those that were found.
 #[derive(Drop)]
@@ -32,10 +35,9 @@ pub(crate) struct Search {
     pub(crate) count: usize,
     /// A line for each condition: the file, the line's number, and its text.
     pub(crate) list: Vec<u8>,
-    scanner: Scanner,
+    scanner: ScannerOf<SHORT_LINE_BYTES>,
     /// The text of the current condition, with that of the lines that its line joins.
     after: Vec<u8>,
-    flags: TokenFlags,
 }
 
 /// A place in a text, at the beginning of a line.
@@ -65,6 +67,38 @@ fn count_newlines(text: &[u8]) -> usize
     text.iter().filter(|byte| **byte == b'\n').count()
 }
 
+/// Reads a line that the scanner takes, and takes its text if it is of a condition. `after` is the
+/// text of that condition.
+///
+/// # Errors
+/// Fails if memory runs out.
+fn take_by<'t, const N: usize>(
+    scanner: &mut ScannerOf<N>,
+    mode: Mode,
+    place: Place<'t>,
+    line: &Line<'t>,
+    after: &mut Vec<u8>,
+) -> Result<Taken<'t>, AllocError>
+    requires room { length line.now.body.now ≤ N }
+    requires fits { length line.now.body.now ≤ LINE_BYTES }
+    requires one_line { NoNewline line.now.body.now }
+    ensures represents { OnOk result ((before : List Reading) →
+        ScannerRepresents scanner.old before → ScannerRepresents scanner.new
+        (before ++ next_reading before mode (as_line line.now) ∷ [])) }
+    ensures taken { IfOk result (λ t. (before : List Reading) →
+        ScannerRepresents scanner.old before →
+        IsTaken (begun_as place.entry.begun after.old.items)
+        (reading_at mode (as_line line.now) (scan_after before mode (as_line line.now))
+        place.entry.number) (begun_as t.begun after.new.items) t.goes_on) }
+{
+    let scan = scanner.read(mode, line);
+    let begun = take_line(place.begun, &scan, line, place.number, after)?;
+    Ok(Taken {
+        begun,
+        goes_on: scan.joins_after,
+    })
+}
+
 impl Search {
     /// Returns a search that has found no conditions.
     pub(crate) fn new(alloc: Global, listing: Listing) -> Search
@@ -76,9 +110,8 @@ impl Search {
             listing,
             count: 0,
             list: Vec::new(alloc),
-            scanner: Scanner::new(),
+            scanner: ScannerOf::new(),
             after: Vec::new(alloc),
-            flags: TokenFlags::new(),
         }
     }
 
@@ -102,7 +135,7 @@ impl Search {
             Listing::Listed => append_line(list, name, begun.number, begun.body),
             Listing::Explained(rules) => {
                 let after = self.after.as_slice();
-                let reason = why_stays(&begun, after, symbols, rules, &mut self.flags);
+                let reason = why_stays(&begun, after, symbols, rules);
                 append_reason(list, name, begun.number, reason, begun.body)
             }
         }
@@ -165,12 +198,43 @@ impl Search {
                 goes_on: false,
             });
         }
-        let scan = self.scanner.read(mode, line);
-        let begun = take_line(place.begun, &scan, line, place.number, &mut self.after)?;
-        Ok(Taken {
-            begun,
-            goes_on: scan.joins_after,
-        })
+        if line.body.len() > SHORT_LINE_BYTES {
+            return self.take_long_line(mode, place, line);
+        }
+        take_by(&mut self.scanner, mode, place, line, &mut self.after)
+    }
+
+    /// Reads a line that is longer than `SHORT_LINE_BYTES`, as `take_line`. The scanner for it is a
+    /// local of this function, so that shorter lines don't clear its memory.
+    ///
+    /// # Errors
+    /// Fails if memory runs out.
+    #[inline(never)]
+    fn take_long_line<'t>(
+        &mut self,
+        mode: Mode,
+        place: Place<'t>,
+        line: &Line<'t>,
+    ) -> Result<Taken<'t>, AllocError>
+        requires fits { length line.now.body.now ≤ LINE_BYTES }
+        requires one_line { NoNewline line.now.body.now }
+        ensures list { self.new.list.items ≡ self.old.list.items }
+        ensures count { self.new.count ≡ self.old.count }
+        ensures listing { self.new.listing ≡ self.old.listing }
+        ensures represents { OnOk result ((before : List Reading) →
+            ScannerRepresents self.old.scanner before → ScannerRepresents self.new.scanner
+            (before ++ next_reading before mode (as_line line.now) ∷ [])) }
+        ensures taken { IfOk result (λ t. (before : List Reading) →
+            ScannerRepresents self.old.scanner before →
+            IsTaken (begun_as place.entry.begun self.old.after.items)
+            (reading_at mode (as_line line.now) (scan_after before mode (as_line line.now))
+            place.entry.number) (begun_as t.begun self.new.after.items) t.goes_on) }
+    {
+        let mut scanner = Scanner::new();
+        scanner.copy_state_of(&self.scanner);
+        let taken = take_by(&mut scanner, mode, place, line, &mut self.after)?;
+        self.scanner.copy_state_of(&scanner);
+        Ok(taken)
     }
 
     /// Skips text lines, if no condition goes on.
