@@ -455,7 +455,24 @@ prunes_by_options() {
   check '-p -r: what stays' same "$(cat "$work/err")" 'unifdef-tree: 0 changed, 1 unchanged, 0 faulty
 unifdef-tree: 0 conditions edited
 unifdef-tree: 5 conditions still name a symbol'
-  check '-p -r: the list' same "$(cut -d: -f1,2 "$work/out" | tr '\n' ' ')" 'src/a.c:1 src/a.c:4 src/a.c:6 src/a.c:8 src/a.c:10 '
+  # shellcheck disable=SC1003 # The backslash belongs to the line.
+  check '-p -r: why each stays' same "$(cat "$work/out")" 'src/a.c:1: over several lines: #if X || \
+src/a.c:4: its rest would be misread: #if!VMS&&X
+src/a.c:6: not understood: #if X ? VMS : 1
+src/a.c:8: an operand is unknown: #if X || VMS + Y
+src/a.c:10: among arguments of a call: #if F(VMS)'
+  tree -r -UVMS src/a.c
+  check '-r: without -p' same "$(head -n 2 "$work/out" | tail -n 1)" 'src/a.c:4: #if!VMS&&X'
+  put src/b.c '#if X\n#endif\n#if VMS && X\n#elif F(VMS) || VMS\n#endif\n/*\n*/ #ifdef X VMS\n#elifdef VMS -1\n#endif\n'
+  tree -p -r -K -UVMS src/b.c
+  check '-p -r -K: why each stays' same "$(cat "$work/out")" 'src/b.c:3: an operand is unknown: #if VMS && X
+src/b.c:4: among arguments of a call: #elif F(VMS)
+src/b.c:7: over several lines: */ #ifdef X VMS
+src/b.c:8: not understood: #elifdef VMS -1'
+  put src/b.c '#ifdef A\n#if VMS /* q */\n#endif\n#endif\n'
+  tree -p -r -iDA -UVMS src/b.c
+  check '-p -r: of plain text' same "$(cat "$work/out")" 'src/b.c:1: decided as C: #if VMS /* q */'
+  rm src/b.c
   put src/a.c "$unpruned#else\\n"
   tree -p -UVMS src/a.c
   check '-p: a faulty file' holds src/a.c "$unpruned#else\\n"

@@ -4,6 +4,7 @@ pub mod Statuses
 pub mod Fates
 pub mod Runs
 pub mod Choices
+pub mod Remainders
 pub mod Requests
 pub mod Changes
 pub mod Walks

@@ -1,5 +1,8 @@
 //! What all files of a run share.
 
+ghost use Rattle.std.specs.Prelude.{◌≡◌};
+ghost use Rattle.ud_tree.specs.Remainders.{mode_of};
+
 use crate::arguments::Arguments;
 use std::alloc::Global;
 use ud_model::Mode;
@@ -16,12 +19,9 @@ pub struct Job<'a> {
 }
 
 impl Job<'_> {
-    ghost use Rattle.std.specs.Prelude.{◌≡◌};
-    ghost use Rattle.ud_model.specs.sections.Items.{mode_by};
-
     /// Returns the mode in which lines are read.
     pub(crate) fn mode(&self) -> Mode
-        ensures { result ≡ mode_by self.now.arguments.now.plan.run.settings.plain }
+        ensures { result ≡ mode_of self.now.arguments.now }
     {
         if self.arguments.plan.run.settings().plain {
             Mode::Plain

@@ -19,7 +19,6 @@ mod names;
 mod paths;
 mod patterns;
 mod process_files;
-mod remaining;
 mod replace_file;
 mod report;
 mod run;

@@ -11,22 +11,24 @@ ghost use Rattle.ud_diagnostics.specs.RunMessages.{fault_message};
 ghost use Rattle.ud_replace.specs.Calls.{met};
 ghost use Rattle.ud_tree.specs.Messages.{IsPlain, Tells, TellsText, fault_line, locked_line};
 ghost use Rattle.ud_tree.specs.Messages.{ReportsFailure, ReportsOne};
+ghost use Rattle.ud_tree.specs.Remainders.{listing_of, Finds};
 ghost use Rattle.ud_tree.specs.Streams.{Sends, stream_of};
 ghost use Rattle.ud_tree.specs.Summaries.{Says, line_of};
 ghost use Rattle.ud_tree.specs.WalkMessages.{ReportsRefusal};
 
-use crate::arguments::ArgumentFault;
+use crate::arguments::{ArgumentFault, Arguments};
 use crate::job::Job;
 use crate::paths::{FRESH, folder, fresh_end};
-use crate::remaining::Remaining;
 use crate::send::{send, send_parts, send_visible, send_visible_parts};
 use itoa::Buffer;
 use std::alloc::Global;
 use std::io::{self, Write};
+use ud_cond::Rules;
 use ud_diagnostics::report_result;
 use ud_faults::RunFault;
 use ud_io::Watched;
 use ud_model::Settings;
+use ud_remaining::{Listing, Remaining};
 use ud_replace::Lookup;
 
 /// The number of files after which the line on the terminal is shown again.
@@ -92,6 +94,24 @@ fn without_code(text: &str) -> &str {
     }
 }
 
+/// Returns what is kept of the conditions that still name a symbol: their number, and if they are
+/// wanted a line for each one. Under `-p` the line says why the condition stays.
+fn listing_of(arguments: &Arguments) -> Listing
+    ensures { result ≡ listing_of arguments.now }
+{
+    if !arguments.list_remaining {
+        return Listing::Counted;
+    }
+    if !arguments.plan.prunes {
+        return Listing::Listed;
+    }
+    let settings = arguments.plan.run.settings();
+    Listing::Explained(Rules {
+        constants: settings.constants,
+        strict: settings.strict,
+    })
+}
+
 /// The messages of a run so far, which were written to an error stream.
 #[derive(Drop)]
 pub(crate) struct Report {
@@ -119,7 +139,7 @@ impl Report {
             is_terminal: job.is_terminal,
             is_shown: false,
             faulty: 0,
-            remaining: Remaining::new(job.alloc, job.arguments.list_remaining),
+            remaining: Remaining::new(job.alloc, listing_of(job.arguments)),
             has_lost: false,
         }
     }
@@ -141,7 +161,7 @@ impl Report {
     /// Writes the list of conditions that still name a symbol, if it is wanted.
     pub(crate) fn write_remaining<W: Write>(&self, job: &Job<'_>, out: &mut Watched<W>)
         ensures { Sends (stream_of W.contents out.old) (stream_of W.contents out.new)
-            (if job.now.arguments.now.list_remaining then self.now.remaining.list.items else []) }
+            (if job.now.arguments.now.list_remaining then self.now.remaining.list else []) }
     {
         if !job.arguments.list_remaining {
             return;
@@ -160,12 +180,18 @@ impl Report {
     pub(crate) fn search(&mut self, job: &Job<'_>, name: &[u8], output: &[u8])
         ensures terminal { self.new.is_terminal ≡ self.old.is_terminal }
         ensures shown { self.new.is_shown ≡ self.old.is_shown }
-        ensures kept { self.old.has_lost ≡ true → self.new.has_lost ≡ true }
+        ensures finds { Finds job.now.arguments.now name.now output.now self.old self.new }
     {
-        if job.arguments.search_remaining() {
-            let symbols = job.arguments.plan.run.symbols();
-            let added = self.remaining.add(name, output, job.mode(), symbols);
-            self.has_lost |= added.is_err();
+        if !job.arguments.search_remaining() {
+            return;
+        }
+        let symbols = job.arguments.plan.run.symbols();
+        if self
+            .remaining
+            .add(name, output, job.mode(), symbols)
+            .is_err()
+        {
+            self.has_lost = true;
         }
     }
 

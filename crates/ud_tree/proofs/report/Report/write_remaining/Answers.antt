@@ -6,8 +6,8 @@ use Rattle.ud_tree.proofs.report.Report.write_remaining.Goals as goal
 
 pub returns-then-not-job : goal.returns-then-not-job
 returns-then-not-job g c =
-    sends_same (ap (λ (b : Bool). cond b c.args.self.now.remaining.list.items []) (sym c.if-not-job.true)) (sends_none (stream_of g.W.Write.contents c.args.out.now))
+    sends_same (ap (λ (b : Bool). cond b c.args.self.now.remaining.list []) (sym c.if-not-job.true)) (sends_none (stream_of g.W.Write.contents c.args.out.now))
 
 pub returns : goal.returns
 returns g c =
-    sends_same (c.list.ensures ∙ ap (λ (b : Bool). cond b c.args.self.now.remaining.list.items []) (sym c.if-not-job.false)) c.send.ensures
+    sends_same (c.list.ensures ∙ ap (λ (b : Bool). cond b c.args.self.now.remaining.list []) (sym c.if-not-job.false)) c.send.ensures
