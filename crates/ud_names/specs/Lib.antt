@@ -1,0 +1,4 @@
+pub mod NameTables
+pub mod UnlistedConditions
+pub mod UnlistedLines
+pub mod RowViews
