@@ -229,7 +229,7 @@ bad.c' 'x\n#else\n'
     check '-n: and the right one' diff -r is src
   fi
   local words
-  for words in '-D1A' '-Udefined' '-iXA' '-x3' '-j0' '-S' '-L' '-n -s' '-r -s' '-p -s' '-p -c' '-p -t' '-DA'; do
+  for words in '-D1A' '-Udefined' '-iXA' '-x3' '-j0' '-S' '-L' '-n -s' '-d -s' '-p -s' '-p -c' '-p -t' '-DA'; do
     # shellcheck disable=SC2086
     tree $words src
     [ "$words" = -DA ] || check "refused: $words" same "$status" 2
@@ -304,6 +304,25 @@ lists() {
   check '-s: status' same "$status" 2
   check '-s: names' same "$(tr -s ' ' < "$work/out")" $' 3 A\n 1 B\n 1 C'
   check '-s: what is not listed' has_line "$work/err" 'unifdef-tree: 2 files listed, 1 faulty; 3 conditions could not be listed'
+  tree -s -r src
+  # shellcheck disable=SC1003 # The backslash belongs to the line.
+  check '-s -r: what is not listed, and the names' same "$(tr -s ' ' < "$work/out")" 'src/b.h:1: #if A && \
+src/b.h:3: #elif E ? 1 : 2
+src/b.h:5: #ifdef X Y
+ 3 A
+ 1 B
+ 1 C'
+  check '-s -r: their number' has_line "$work/err" 'unifdef-tree: 2 files listed, 1 faulty; 3 conditions could not be listed'
+  check '-s -r: nothing else' same "$(grep -c 'names a symbol' "$work/err")" 0
+  rm src/*.h
+  put src/crlf.h '/*\n#if (\n*/ #if (\r\n#if 1 / 0\n#elif 08\n#elifdef A B \\\n\n#endif\n#else \\\n\n#endif x\n'
+  tree -s -r src
+  # shellcheck disable=SC1003 # The backslash belongs to the line.
+  check '-s -r: comments, constants and returns' same "$(cat "$work/out")" 'src/crlf.h:3: */ #if (
+src/crlf.h:5: #elif 08
+src/crlf.h:6: #elifdef A B \'
+  tree -s -r -t src
+  check '-s -r -t: plain text' same "$(grep -c . "$work/out")" 3
   rm src/*.h
   put src/b.h '#ifdef X Y\n#endif\n'
   tree -s src

@@ -9,7 +9,7 @@
 --
 -- `gs` is what the words of the command line give, one option or path after another.
 use Rattle.std.specs.Prelude.{◌≡◌, ◌⊎◌, ℕ, ◌-◌, List, [], true, false, Some, None, map}
-use Rattle.std.specs.Prelude.{string_bytes, codes, get_or, if◌then◌else◌}
+use Rattle.std.specs.Prelude.{string_bytes, codes, get_or, if◌then◌else◌, not, ◌&&◌}
 use Rattle.ud_model.specs.answer.CommandLine.{UsageFault, usage_fault, unknown_option}
 use Rattle.ud_model.specs.answer.CommandLine.{missing_argument, bad_symbol_in, bad_mode_in}
 use Rattle.ud_model.specs.answer.CommandLine.{too_many_files}
@@ -27,7 +27,6 @@ use Rattle.ud_tree.specs.declared.arguments.ArgumentFault.TheVariants.{UnknownOp
 use Rattle.ud_tree.specs.declared.arguments.ArgumentFault.TheVariants.{MissingArgument, BadSymbol}
 use Rattle.ud_tree.specs.declared.arguments.ArgumentFault.TheVariants.{BadMode, BadJobs}
 use Rattle.ud_tree.specs.declared.arguments.ArgumentFault.TheVariants.{DiffAndNames}
-use Rattle.ud_tree.specs.declared.arguments.ArgumentFault.TheVariants.{RemainingAndNames}
 use Rattle.ud_tree.specs.declared.arguments.ArgumentFault.TheVariants.{ChangesAndNames}
 use Rattle.ud_tree.specs.declared.arguments.ArgumentFault.TheVariants.{PruningAndNames}
 use Rattle.ud_tree.specs.declared.arguments.ArgumentFault.TheVariants.{PruningAndComplement}
@@ -41,18 +40,19 @@ abbrev pub task_of : List Parsed → Task
 task_of gs = if has_flag (codes "n") gs then Diff
     else if has_flag (codes "s") gs then Names else Replace
 
--- `AreFitting gs`: the options go together: `-s` with none of `-n`, `-r`, `-d` and `-p`, and `-p`
--- with neither `-c` nor `-t`.
+-- `AreFitting gs`: the options go together: `-s` with none of `-n`, `-d` and `-p`, and `-p` with
+-- neither `-c` nor `-t`.
 pub record AreFitting (gs : List Parsed) : Type 0 where
   pub diff : has_flag (codes "s") gs ≡ true → has_flag (codes "n") gs ≡ false
-  pub remaining : has_flag (codes "s") gs ≡ true → has_flag (codes "r") gs ≡ false
   pub changes : has_flag (codes "s") gs ≡ true → has_flag (codes "d") gs ≡ false
   pub pruning : has_flag (codes "s") gs ≡ true → has_flag (codes "p") gs ≡ false
   pub complement : has_flag (codes "p") gs ≡ true → has_flag (codes "c") gs ≡ false
   pub plain : has_flag (codes "p") gs ≡ true → has_flag (codes "t") gs ≡ false
 
 -- `IsArgumentsOf gs args`: `args` has what is given: the options of unifdef(1), each other option,
--- the patterns and the paths. The options go together. Paths are given, or else `-0`.
+-- the patterns and the paths. `-r` asks for the conditions that still name a symbol, and beside
+-- `-s` for those whose names can't be listed. The options go together. Paths are given, or else
+-- `-0`.
 pub record IsArgumentsOf (gs : List Parsed) (args : Arguments) : Type 0 where
   pub fitting : AreFitting gs
   pub plan : IsPlanOf (unifdef_words gs) args.plan.run
@@ -63,7 +63,9 @@ pub record IsArgumentsOf (gs : List Parsed) (args : Arguments) : Type 0 where
   pub write_into : args.write_into ≡ has_flag (codes "w") gs
   pub from_input : args.from_input ≡ has_flag (codes "0") gs
   pub quiet : args.quiet ≡ has_flag (codes "q") gs
-  pub list_remaining : args.list_remaining ≡ has_flag (codes "r") gs
+  pub list_remaining : args.list_remaining ≡
+      (has_flag (codes "r") gs && not (has_flag (codes "s") gs))
+  pub list_hidden : args.list_hidden ≡ (has_flag (codes "r") gs && has_flag (codes "s") gs)
   pub show_changes : args.show_changes ≡ has_flag (codes "d") gs
   pub has_symbols : args.has_symbols ≡ has_symbols gs
   pub no_path : has_flag (codes "0") gs ≡ true → paths_in gs ≡ []
@@ -86,7 +88,6 @@ IsWordFault g (BadSymbol w) = ⊥
 IsWordFault g (BadMode w) = ⊥
 IsWordFault g (BadJobs w) = g ≡ option 106 (string_bytes w)
 IsWordFault g DiffAndNames = ⊥
-IsWordFault g RemainingAndNames = ⊥
 IsWordFault g ChangesAndNames = ⊥
 IsWordFault g PruningAndNames = ⊥
 IsWordFault g PruningAndComplement = ⊥
@@ -119,7 +120,6 @@ IsFaultIn gs (BadSymbol w) = IsBadWord bad_symbol_in gs (string_bytes w)
 IsFaultIn gs (BadMode w) = IsBadWord bad_mode_in gs (string_bytes w)
 IsFaultIn gs (BadJobs w) = first_fault gs ≡ Some (option 106 (string_bytes w))
 IsFaultIn gs DiffAndNames = AreGiven (codes "n") (codes "s") gs
-IsFaultIn gs RemainingAndNames = AreGiven (codes "r") (codes "s") gs
 IsFaultIn gs ChangesAndNames = AreGiven (codes "d") (codes "s") gs
 IsFaultIn gs PruningAndNames = AreGiven (codes "p") (codes "s") gs
 IsFaultIn gs PruningAndComplement = AreGiven (codes "p") (codes "c") gs

@@ -47,6 +47,8 @@ pub struct Arguments {
     pub quiet: bool,
     /// True if the conditions are listed that still name a symbol.
     pub list_remaining: bool,
+    /// True if the conditions are listed whose names can't be.
+    pub list_hidden: bool,
     /// True if the diff of each file that is changed is printed.
     pub show_changes: bool,
     /// True if some option names a symbol.
@@ -92,8 +94,6 @@ pub enum ArgumentFault {
     BadJobs(String),
     /// `-n` and `-s` together.
     DiffAndNames,
-    /// `-r` and `-s` together.
-    RemainingAndNames,
     /// `-d` and `-s` together.
     ChangesAndNames,
     /// `-p` and `-s` together.
@@ -200,9 +200,6 @@ fn clash_with_names(given: &[Given<'_>]) -> Option<ArgumentFault>
     if has_flag(given, 'n') {
         return Some(ArgumentFault::DiffAndNames);
     }
-    if has_flag(given, 'r') {
-        return Some(ArgumentFault::RemainingAndNames);
-    }
     if has_flag(given, 'd') {
         return Some(ArgumentFault::ChangesAndNames);
     }
@@ -259,6 +256,8 @@ fn run_of(alloc: Global, given: &[Given<'_>]) -> Result<Arguments, ArgumentFault
         return Err(ArgumentFault::NoPath);
     }
     let prunes = has_flag(given, 'p');
+    let names = has_flag(given, 's');
+    let lists = has_flag(given, 'r');
     Ok(Arguments {
         plan: TextPlan { run, prunes },
         patterns,
@@ -267,7 +266,8 @@ fn run_of(alloc: Global, given: &[Given<'_>]) -> Result<Arguments, ArgumentFault
         write_into: has_flag(given, 'w'),
         from_input,
         quiet: has_flag(given, 'q'),
-        list_remaining: has_flag(given, 'r'),
+        list_remaining: lists && !names,
+        list_hidden: lists && names,
         show_changes: has_flag(given, 'd'),
         has_symbols: has_symbols(given),
     })

@@ -15,7 +15,6 @@ mod job;
 mod laws;
 mod list_file;
 mod marked;
-mod names;
 mod paths;
 mod patterns;
 mod process_files;

@@ -3,14 +3,15 @@
 ghost use Rattle.ud_tree.specs.Shown.{ListsOne};
 
 use crate::job::Job;
-use crate::names::Names;
 use crate::run_file::run_file;
 use crate::tree::Tree;
 use crate::walk::FileAt;
 use ud_engine::Watched;
+use ud_names::Names;
 use ud_replace::{ReplaceError, Update};
 
-/// Adds the names of a file to `names`. If its text has a fault, the names up to the fault count.
+/// Adds the names of a file to `names`, and its conditions whose names can't be listed. If its text
+/// has a fault, the names up to the fault count.
 ///
 /// Nothing is asked but that the file is read once.
 ///
@@ -32,7 +33,8 @@ pub(crate) fn list_file<T: Tree>(
         Ok(ran) => ran,
         Err(error) => return Err(error),
     };
-    if added.is_err() || names.add_hidden(ran.text.as_slice(), job.mode()).is_err() {
+    let counted = names.add_hidden(file.name, ran.text.as_slice(), job.mode());
+    if added.is_err() || counted.is_err() {
         return Err(ReplaceError::OutOfMemory);
     }
     Ok(Update::Unchanged)

@@ -10,7 +10,6 @@ use crate::counts::Counts;
 use crate::file_result::fate_of;
 use crate::job::Job;
 use crate::list_file::list_file;
-use crate::names::Names;
 use crate::replace_file::replace_file;
 use crate::report::Report;
 use crate::show_file::show_file;
@@ -18,6 +17,7 @@ use crate::tree::Tree;
 use crate::walk::{FileAt, Found};
 use std::io::Write;
 use ud_engine::Watched;
+use ud_names::Names;
 use ud_replace::{ReplaceError, Update};
 
 /// Does with each file in turn what the arguments ask for, and reports its fault. Returns what

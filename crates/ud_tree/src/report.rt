@@ -357,7 +357,7 @@ impl Report {
 
 /// How the program is called.
 pub(crate) const USAGE: &[u8] =
-    b"usage: unifdef-tree [-dnpqrw0] [-g pattern]... [-bcKklt] [-Dsym[=val]]... [-Usym]...\n                    [-iDsym[=val]]... [-iUsym]... [-xmode] [--] path...\n       unifdef-tree -s [-q0] [-g pattern]... [-t] [--] path...\n       unifdef-tree -h | -V\n";
+    b"usage: unifdef-tree [-dnpqrw0] [-g pattern]... [-bcKklt] [-Dsym[=val]]... [-Usym]...\n                    [-iDsym[=val]]... [-iUsym]... [-xmode] [--] path...\n       unifdef-tree -s [-qr0] [-g pattern]... [-t] [--] path...\n       unifdef-tree -h | -V\n";
 
 /// Writes the message of a fault of the arguments.
 pub fn report_argument_fault<E: Write>(alloc: Global, err: &mut Watched<E>, fault: &ArgumentFault) {
@@ -381,9 +381,6 @@ pub fn report_argument_fault<E: Write>(alloc: Global, err: &mut Watched<E>, faul
             report_line(alloc, err, &[b"Bad number of jobs: ", word.as_bytes()]);
         }
         ArgumentFault::DiffAndNames => report_line(alloc, err, &[b"-n and -s don't go together"]),
-        ArgumentFault::RemainingAndNames => {
-            report_line(alloc, err, &[b"-r and -s don't go together"]);
-        }
         ArgumentFault::ChangesAndNames => {
             report_line(alloc, err, &[b"-d and -s don't go together"]);
         }

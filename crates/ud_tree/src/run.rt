@@ -3,6 +3,7 @@
 ghost use Rattle.std.specs.Prelude.{◌≡◌, ◌<◌, ◌++◌, [], map, true, false, IfOk, IfSome, IfNone};
 ghost use Rattle.std.specs.Prelude.{OnErr, OnOk};
 ghost use Rattle.ud_model.specs.answer.Answer.{status_by};
+ghost use Rattle.ud_names.specs.NameTables.{names_in, Tabulates};
 ghost use Rattle.ud_tree.specs.Messages.{TellsIf, list_message, write_message};
 ghost use Rattle.ud_tree.specs.Statuses.{tree_status};
 ghost use Rattle.ud_tree.specs.Covering.{IsIn, own_path, paths_of};
@@ -20,7 +21,6 @@ ghost use Rattle.ud_tree.specs.Writing.{WritesList, moment};
 use crate::arguments::{Arguments, Task};
 use crate::counts::Counts;
 use crate::job::Job;
-use crate::names::Names;
 use crate::process_files::process_files;
 use crate::report::Report;
 use crate::send::{flush, send};
@@ -31,6 +31,7 @@ use std::alloc::{AllocError, Global};
 use std::io::{Read, Write};
 use ud_engine::Watched;
 use ud_model::ExitMode;
+use ud_names::Names;
 
 /// The status of a fault, of any kind.
 const EXIT_TROUBLE: u8 = 2;
@@ -257,7 +258,7 @@ fn process_all<T: Tree, W: Write, E: Write>(
         (moment T.history W.contents E.contents tree.new out.new err.new) result }
 {
     let mut report = Report::new(job);
-    let mut names = Names::new(job.alloc);
+    let mut names = Names::new(job.alloc, job.arguments.list_hidden);
     let counts = process_files(job, tree, files, out, &mut names, &mut report, err);
     let list_fault = write_lists(job, out, &mut report, err, &names);
     let out_fault = finish_output(out, &mut report, err);
@@ -269,8 +270,8 @@ fn process_all<T: Tree, W: Write, E: Write>(
     status(job.arguments, err.failed(), faults, counts.changed)
 }
 
-/// Writes the names that were counted, and the conditions that still name a symbol. Returns true
-/// after a fault, which was reported.
+/// Writes the names that were counted, after the conditions that couldn't be listed, and the
+/// conditions that still name a symbol. Returns true after a fault, which was reported.
 fn write_lists<W: Write, E: Write>(
     job: &Job<'_>,
     out: &mut Watched<W>,
@@ -295,14 +296,27 @@ fn write_lists<W: Write, E: Write>(
     true
 }
 
-/// Appends the names that were counted, if they are to be listed. Returns false if memory ran out.
+/// Appends the names that were counted, if they are to be listed, after the conditions that
+/// couldn't be. Returns false if memory ran out.
 fn append_names(job: &Job<'_>, names: &Names, list: &mut Vec<u8>) -> bool
     ensures { ¬ (job.now.arguments.now.task ≡ Task.Names) → list.new.items ≡ list.old.items }
 {
     match job.arguments.task {
-        Task::Names => names.append_to(list).is_ok(),
+        Task::Names => append_lists(names, list).is_ok(),
         Task::Replace | Task::Diff => true,
     }
+}
+
+/// Appends the conditions that couldn't be listed, if they are wanted, and the names.
+///
+/// # Errors
+/// Fails if memory runs out.
+fn append_lists(names: &Names, list: &mut Vec<u8>) -> Result<(), AllocError>
+    ensures { OnOk result (Tabulates (names_in names.now.list.items)
+        (list.old.items ++ names.now.hidden_list.items) list.new.items) }
+{
+    list.extend_from_slice(names.hidden_list())?;
+    names.append_to(list)
 }
 
 /// Flushes the output. Returns true after a fault, which was reported.

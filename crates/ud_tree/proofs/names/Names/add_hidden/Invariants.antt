@@ -1,5 +1,0 @@
-use Rattle.std.proofs.Common.{◌≡◌, false}
-use Rattle.ud_tree.proofs.names.Names.add_hidden.Given as goal
-
-abbrev pub invariant-loop : goal.invariant-loop
-invariant-loop l = (l.lines.whole ≡ false) × (l.lines.closed ≡ false)
