@@ -40,7 +40,7 @@ SOURCES := crates.txt HANDLES \
 .PHONY: faults fail-alloc tree-test
 .PHONY: install uninstall dist deb packages-test manuals around bench bench-text
 .PHONY: lib lib-test install-lib uninstall-lib deb-lib
-.PHONY: bench-conditions pictures trees selects lines lines-test hostile fronts clean
+.PHONY: bench-library bench-conditions pictures trees selects lines lines-test hostile fronts clean
 
 ## proves the crates side by side, and builds ./unifdef
 all: build
@@ -257,14 +257,17 @@ manuals:
 ## tries everything around the programs that is quick
 around: manuals cases examples manual-examples differences faults lines-test tree-test lib-test packages-test
 
-## measures speed (bench/README.md): the next two
-bench: bench-text bench-conditions
+## measures speed (bench/README.md): the next three
+bench: bench-text bench-library bench-conditions
 
 ## measures ./unifdef beside the released program
 bench-text: unifdef
 	bench/run.sh
 
 ## measures how fast conditions are decided
+bench-library: unifdef lib
+	python3 bench/library.py ./unifdef lib/libunifdef.so
+
 bench-conditions: kit
 	cd crates/bench_conditions && $(RT) run -- conditions 1 < /dev/null > /dev/null
 	bench/conditions.sh

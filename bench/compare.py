@@ -8,17 +8,15 @@ with the first program. The status is 1 if its memory isn't below MOST_KIB.
 
 import hashlib
 import os
-import re
 import shutil
 import statistics
-import subprocess
 import sys
 from concurrent.futures import ThreadPoolExecutor
 from pathlib import Path
 from typing import NamedTuple
 
 import texts
-from measure import finished, peak
+from measure import counted, finished, peak
 
 BYTES = int(os.environ.get("BENCH_BYTES", "20000000"))
 RUNS = int(os.environ.get("BENCH_RUNS", "5"))
@@ -48,8 +46,8 @@ def heading(title, *cells):
 
 
 def cases(work, programs):
-    source, headers, crlf, comments = (
-        work / name for name in ("source.c", "headers.h", "crlf.h", "comments")
+    source, headers, crlf, comments, real = (
+        work / name for name in ("source.c", "headers.h", "crlf.h", "comments", "comments.c")
     )
     if SOURCES:
         source.write_bytes(texts.files(SOURCES, "*.c", BYTES, list(programs.values())))
@@ -66,6 +64,9 @@ def cases(work, programs):
     yield Case("C headers with CRLF, 50 symbols", crlf, texts.c_words(50))
     comments.write_bytes(texts.COMMENTS * (BYTES // len(texts.COMMENTS)))
     yield Case("comments, 50 symbols", comments, texts.c_words(50))
+    if SOURCES:
+        real.write_bytes(texts.comments_of(source.read_bytes(), BYTES))
+        yield Case("comments of C source, 50 symbols", real, texts.c_words(50))
     for symbols in (50, 1000):
         conditionals = work / f"conditionals{symbols}"
         conditionals.write_bytes(texts.conditionals(BYTES, symbols))
@@ -115,13 +116,6 @@ def speeds(measures, programs, title, output):
         ratios = [f"{times[name] / times[first]:.2f}" for name in others]
         same = [] if output == NOWHERE else ["the same" if len(outputs) == 1 else "differs"]
         row(case.name, f"{case.text.stat().st_size:,}", *rates, *ratios, *same)
-
-
-def counted(command, text):
-    """Returns the number of instructions of a run."""
-    valgrind = ["valgrind", "--tool=callgrind", "--callgrind-out-file=/dev/null"]
-    run = subprocess.run([*valgrind, *command], input=text, capture_output=True)
-    return int(re.search(rb"Collected : (\d+)", run.stderr).group(1))
 
 
 def instructions(measures, programs):

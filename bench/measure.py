@@ -42,6 +42,13 @@ def peak(command, source):
     return child.wait(), most
 
 
+def counted(command, text):
+    """Returns the number of instructions of a run on a text, by valgrind's callgrind."""
+    valgrind = ["valgrind", "--tool=callgrind", "--callgrind-out-file=/dev/null"]
+    run = subprocess.run([*valgrind, *command], input=text, capture_output=True)
+    return int(re.search(rb"Collected : (\d+)", run.stderr).group(1))
+
+
 if __name__ == "__main__":
     outcomes = [finished(sys.argv[3:], sys.argv[2], os.devnull) for _ in range(int(sys.argv[1]))]
     if any(status for status, _ in outcomes):
