@@ -5,9 +5,9 @@ use Rattle.ud_faults.specs.declared.run.RunFault.{RunFault}
 use Rattle.ud_replace.specs.declared.error.ReplaceError.{ReplaceError}
 use Rattle.ud_replace.specs.declared.error.ReplaceError.TheVariants.{Text, ReadOnly, Write}
 use Rattle.ud_tree.specs.declared.report.Report.{Report}
-use Rattle.ud_tree.specs.Streams.{Stream, Sends}
+use Rattle.ud_io.specs.Streams.{Stream, Sends}
 use Rattle.ud_tree.specs.Messages.{IsFailureOf, IsMessageOf, list_message, write_message, output_messages, Tells, TellsText, ReportsFailure, TellsError}
-use Rattle.ud_tree.proofs.StreamLemmas.{sends_none, sends_then}
+use Rattle.ud_io.proofs.StreamLemmas.{sends_none, sends_then}
 
 -- The report changed in nothing that the error stream shows, and nothing was written.
 pub tells_kept : {a b : Report} (s : Stream) → b.is_terminal ≡ a.is_terminal → b.is_shown ≡ a.is_shown → Tells a b s s []

@@ -17,7 +17,8 @@ use Rattle.ud_tree.specs.declared.arguments.Task.TheVariants.{Names}
 use Rattle.ud_tree.specs.Fates.{is_changed, is_same, is_faulty}
 use Rattle.ud_tree.specs.Runs.{fate_of, FileResult, Unshown, EachFile, no_file, then_file, changed_in, faulty_in, edited_in, shown_of, told_of, Counted, names_of}
 use Rattle.ud_tree.specs.Statuses.{tree_status}
-use Rattle.ud_tree.specs.Streams.{Stream, Sends, StreamEnds, Source}
+use Rattle.ud_tree.specs.Streams.{StreamEnds, Source}
+use Rattle.ud_io.specs.Streams.{Stream, Sends}
 use Rattle.ud_tree.specs.declared.job.Job.{Job}
 use Rattle.ud_tree.specs.declared.report.Report.{Report}
 use Rattle.ud_tree.specs.Messages.{IsTold, IsPlain, Tells, TellsResult, TellsIf, list_message, write_message, output_messages}
@@ -28,7 +29,7 @@ use Rattle.ud_tree.specs.Walks.{IsWalk}
 use Rattle.ud_tree.specs.WalkMessages.{joined, StopsWalk, FindsFiles}
 use Rattle.ud_tree.specs.Writing.{Moment, WritesOne, WritesAll, WritesList}
 use Rattle.ud_tree.specs.TreeRuns.{DoesBy, DoesOne, DoesJob, Ends, EndsWriting, no_run, ran, RunsTree}
-use Rattle.ud_tree.proofs.StreamLemmas.{sends_none, sends_then, sends_same}
+use Rattle.ud_io.proofs.StreamLemmas.{sends_none, sends_then, sends_same}
 
 -- One file more is counted, if its fate passes the test.
 pub count_push : (p : Fate → Bool) (results : List FileResult) (r : FileResult) →

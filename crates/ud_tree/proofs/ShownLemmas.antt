@@ -12,9 +12,9 @@ use Rattle.ud_replace.specs.Calls.{Call, was_read}
 use Rattle.ud_replace.specs.TextOutcomes.{TextOptions, IsPlanned, RunsOver, FailsOver, over_memory}
 use Rattle.ud_tree.specs.Runs.{ReadsOne}
 use Rattle.ud_tree.specs.Shown.{WasRead, Fails, fails_over, HasDiff, ShowsFile, same, several, changed, ShowsOne, ListsFile, names_listed}
-use Rattle.ud_tree.specs.Streams.{Stream}
+use Rattle.ud_io.specs.Streams.{Stream}
 use Rattle.ud_tree.specs.Writing.{WritesOne}
-use Rattle.ud_tree.proofs.StreamLemmas.{sends_none}
+use Rattle.ud_io.proofs.StreamLemmas.{sends_none}
 
 -- A file was read, and the run over its text failed.
 pub fails_after : (o : TextOptions) (name : List ℕ) {text seen : List ℕ} {stat : FileStat} {calls calls' : List Call} {e : ReplaceError} → calls' ≡ was_read name text (Some stat) ∷ calls →

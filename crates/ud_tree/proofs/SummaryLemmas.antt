@@ -4,10 +4,10 @@ use Rattle.ud_tree.specs.declared.report.Report.{Report}
 use Rattle.ud_tree.specs.declared.arguments.Arguments.{Arguments}
 use Rattle.ud_tree.specs.declared.counts.Counts.{Counts}
 use Rattle.ud_tree.specs.declared.arguments.Task.TheVariants.{Names}
-use Rattle.ud_tree.specs.Streams.{Stream, Sends}
+use Rattle.ud_io.specs.Streams.{Stream, Sends}
 use Rattle.ud_tree.specs.Summaries.{line_of, changes_line, files_text, hidden_text, summary, remaining_text, remaining_line, edited_line, edited_text, last_lines, TellsEnd, Says}
 use Rattle.ud_tree.specs.Visible.{visible}
-use Rattle.ud_tree.proofs.StreamLemmas.{sends_none, sends_then, sends_same}
+use Rattle.ud_io.proofs.StreamLemmas.{sends_none, sends_then, sends_same}
 
 -- A line was written in three parts.
 pub line_sent : {a b c d : Stream} (text : List ℕ) → Sends a b (codes "unifdef-tree: ") → Sends b c (visible text) → Sends c d (codes "\n") → Sends a d (line_of text)

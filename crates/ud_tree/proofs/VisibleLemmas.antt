@@ -8,9 +8,9 @@ use Rattle.ud_diagnostics.specs.RunMessages.{fault_message}
 use Rattle.ud_faults.specs.declared.run.RunFault.{RunFault}
 use Rattle.ud_tree.specs.declared.report.Report.{Report}
 use Rattle.ud_tree.specs.Messages.{is_visible, is_raw, Tells, TellsText}
-use Rattle.ud_tree.specs.Streams.{Stream, Sends}
+use Rattle.ud_io.specs.Streams.{Stream, Sends}
 use Rattle.ud_tree.specs.Visible.{visible, visible_byte}
-use Rattle.ud_tree.proofs.StreamLemmas.{sends_same}
+use Rattle.ud_io.proofs.StreamLemmas.{sends_same, sent_as}
 
 -- Visible parts are the visible bytes of all parts.
 pub visible_parts : {X : Type 0} (f : X → List ℕ) (ps : List X) → flat_map (λ p. visible (f p)) ps ≡ visible (flat_map f ps)
@@ -36,7 +36,7 @@ appended_whole failed o p h works first now k = sends_same (appended_all failed 
 
 -- The contents are all that was written to an empty buffer.
 pub written_all : {s t : Stream} {x y : List ℕ} → Sends s t x → s.failed ≡ false → t.failed ≡ false → s.contents ≡ Some [] → t.contents ≡ Some y → y ≡ x
-written_all {s = s} {t = t} h was works first now = appended_all t.failed s.contents t.contents (h.appended was) works first now
+written_all {s = s} {t = t} h was works first now = appended_all t.failed s.contents t.contents (sent_as was refl h) works first now
 
 -- The message of a fault of a text was written, with the visible name.
 pub text_visible : {a b : Report} {s t : Stream} (name shown : List ℕ) (f : RunFault) → shown ≡ visible name → Tells a b s t (fault_message shown f) → TellsText name f a b s t

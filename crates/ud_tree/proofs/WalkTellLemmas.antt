@@ -15,7 +15,8 @@ use Rattle.ud_replace.specs.Calls.{Call, walked, WalkCall, met, followed, listed
 use Rattle.ud_tree.specs.declared.report.Report.{Report}
 use Rattle.ud_tree.specs.Paths.{folder_len, fresh_end, fresh_name}
 use Rattle.ud_tree.specs.Messages.{locked_line, fault_line, IsFailureOf, no_reason, with_reason, Tells, ReportsOne, ReportsFailure}
-use Rattle.ud_tree.specs.Streams.{Stream, Source, takes_all, takes_none}
+use Rattle.ud_tree.specs.Streams.{Source, takes_all, takes_none}
+use Rattle.ud_io.specs.Streams.{Stream}
 use Rattle.std.specs.Prelude.{string_bytes}
 use Rattle.ud_tree.specs.declared.arguments.Arguments.{Arguments}
 use Rattle.ud_tree.specs.Covering.{CoversPaths, misses_no_path, misses_no_input}

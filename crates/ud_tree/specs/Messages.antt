@@ -31,7 +31,7 @@ use Rattle.ud_replace.specs.declared.error.ReplaceError.TheVariants.{ChangedMean
 use Rattle.ud_replace.specs.declared.error.ReplaceError.TheVariants.{Write, NotRenamed}
 use Rattle.ud_tree.specs.declared.report.Report.{Report}
 use Rattle.ud_tree.specs.Paths.{fresh_name}
-use Rattle.ud_tree.specs.Streams.{Stream, Sends}
+use Rattle.ud_io.specs.Streams.{Stream, Sends}
 use Rattle.ud_tree.specs.Summaries.{line_of}
 use Rattle.ud_tree.specs.Visible.{visible}
 

@@ -1,8 +1,5 @@
--- Streams: what is written to a writer, up to its first failure, and what is read of the input.
+-- Streams: how the two streams of a run ended, and what is read of the input.
 --
---   Stream                  the contents of a writer, and what its calls came to
---   stream_of contents w    those of the writer `w`
---   Sends old new bytes     `bytes` were written, until a write failed
 --   StreamEnds              what the calls of the output and of the error stream came to
 --   ends_of out err         those of two writers
 --   Source                  what a reader still has, and whether it has failed
@@ -11,26 +8,8 @@
 --   TakesInput from_input old new text   the input was read, if paths come from it
 use Rattle.std.specs.Prelude.{◌≡◌, ℕ, List, [], Bool, true, false, Option}
 use Rattle.std.specs.Io.KnownBytes.{Consumes, IsAtEnd}
-use Rattle.ud_io.specs.Watched.{WatchedState, AppendsAllOrPrefix}
-
--- `Stream`: the contents of a writer, `None` if it doesn't report them, whether it has failed, and
--- whether a write was tried since the last flush that succeeded.
-pub record Stream : Type 0 where
-  pub contents : Option (List ℕ)
-  pub failed : Bool
-  pub unflushed : Bool
-
--- `stream_of contents w`: the contents of the writer `w`, and what its calls came to.
-abbrev pub stream_of : {W : Type 0} → (W → Option (List ℕ)) → WatchedState W → Stream
-stream_of contents w =
-    record { contents = contents w.inner; failed = w.failed; unflushed = w.unflushed }
-
--- `Sends old new bytes`: all of `bytes` was appended, or a prefix of it if the writer has failed
--- now. If it had failed before, nothing was done.
-pub record Sends (old new : Stream) (bytes : List ℕ) : Type 0 where
-  pub appended : old.failed ≡ false →
-      AppendsAllOrPrefix new.failed old.contents new.contents bytes
-  pub fused : old.failed ≡ true → new ≡ old
+use Rattle.ud_io.specs.Watched.{WatchedState}
+use Rattle.ud_io.specs.Streams.{Stream}
 
 -- `StreamEnds`: whether the output has failed, whether it is unflushed, and whether the error
 -- stream has failed.

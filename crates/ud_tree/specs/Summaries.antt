@@ -18,7 +18,7 @@ use Rattle.ud_tree.specs.declared.arguments.Task.TheVariants.{Replace, Diff, Nam
 use Rattle.ud_tree.specs.declared.arguments.Arguments.{Arguments}
 use Rattle.ud_tree.specs.declared.counts.Counts.{Counts}
 use Rattle.ud_tree.specs.declared.report.Report.{Report}
-use Rattle.ud_tree.specs.Streams.{Stream, Sends}
+use Rattle.ud_io.specs.Streams.{Stream, Sends}
 use Rattle.ud_tree.specs.Visible.{visible}
 
 -- `line_of text`: the program's name, `text` with its control bytes made visible, and a newline.

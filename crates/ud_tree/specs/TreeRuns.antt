@@ -29,7 +29,8 @@ use Rattle.ud_tree.specs.Runs.{FileResult, Unshown, EachFile, shown_of, told_of}
 use Rattle.ud_tree.specs.Runs.{changed_in, same_in, faulty_in, edited_in, names_of}
 use Rattle.ud_tree.specs.Shown.{ShowsOne, ListsOne}
 use Rattle.ud_tree.specs.Messages.{output_messages}
-use Rattle.ud_tree.specs.Streams.{Sends, StreamEnds, ends_of, Source, TakesInput, ReadsWhole}
+use Rattle.ud_tree.specs.Streams.{StreamEnds, ends_of, Source, TakesInput, ReadsWhole}
+use Rattle.ud_io.specs.Streams.{Sends}
 use Rattle.ud_tree.specs.Summaries.{last_lines, EndsWith}
 use Rattle.ud_tree.specs.Writing.{Moment, WritesAll}
 use Rattle.ud_tree.specs.Covering.{StandsIn, MissesNone}

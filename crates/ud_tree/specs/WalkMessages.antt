@@ -31,7 +31,8 @@ use Rattle.ud_replace.specs.Calls.{Call, walked, WalkCall, met, followed, listed
 use Rattle.ud_tree.specs.declared.report.Report.{Report}
 use Rattle.ud_tree.specs.declared.walk.Found.{Found}
 use Rattle.ud_tree.specs.Messages.{fault_line, IsFailureOf, Tells, ReportsOne}
-use Rattle.ud_tree.specs.Streams.{Stream, Source, TakesInput, ReadsWhole}
+use Rattle.ud_tree.specs.Streams.{Source, TakesInput, ReadsWhole}
+use Rattle.ud_io.specs.Streams.{Stream}
 use Rattle.ud_tree.specs.declared.arguments.Arguments.{Arguments}
 use Rattle.ud_replace.specs.declared.node.FileId.{FileId}
 use Rattle.ud_tree.specs.Covering.{CoversInput, paths_of, StandsIn, MissesNone}

@@ -16,7 +16,7 @@ use Rattle.ud_tree.specs.declared.counts.Counts.{Counts}
 use Rattle.ud_tree.specs.declared.report.Report.{Report}
 use Rattle.ud_tree.specs.Messages.{Tells}
 use Rattle.ud_tree.specs.Runs.{FileResult, Counted}
-use Rattle.ud_tree.specs.Streams.{Stream, stream_of, Sends}
+use Rattle.ud_io.specs.Streams.{Stream, stream_of, Sends}
 
 -- `Moment`: the calls so far, the newest first, the output and the error stream.
 pub record Moment : Type 0 where

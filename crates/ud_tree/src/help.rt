@@ -3,9 +3,9 @@
 ghost use Rattle.std.specs.Prelude.{◌≡◌, not};
 
 use crate::report::USAGE;
-use crate::send::{flush, send, send_parts};
+use crate::send::flush;
 use std::io::Write;
-use ud_io::Watched;
+use ud_io::{Watched, send, send_parts};
 
 /// A line for each option.
 const OPTIONS: [&[u8]; 24] = [

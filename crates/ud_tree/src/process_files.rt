@@ -1,7 +1,7 @@
 //! Processing all files of a run.
 
 ghost use Rattle.std.specs.Prelude.{◌≡◌};
-ghost use Rattle.ud_tree.specs.Streams.{stream_of};
+ghost use Rattle.ud_io.specs.Streams.{stream_of};
 ghost use Rattle.ud_tree.specs.TreeRuns.{DoesJob, DoesOne};
 ghost use Rattle.ud_tree.specs.Writing.{WritesOne, moment};
 

@@ -5,18 +5,18 @@ ghost use Rattle.ud_replace.specs.TextOutcomes.{TextOptions, IsPlanned};
 ghost use Rattle.ud_tree.specs.Changes.{KeepsOne, ReplacesShowing, ShowsChange};
 ghost use Rattle.ud_tree.specs.Fates.{is_changed};
 ghost use Rattle.ud_tree.specs.Runs.{ReplacesOne, fate_of};
-ghost use Rattle.ud_tree.specs.Streams.{stream_of};
+ghost use Rattle.ud_io.specs.Streams.{stream_of};
 ghost use Rattle.ud_tree.specs.Writing.{WritesOne};
 
 use crate::file_diff::diff_of;
 use crate::job::Job;
 use crate::paths::fresh_name;
 use crate::report::Report;
-use crate::send::send;
 use crate::tree::Tree;
 use crate::walk::FileAt;
 use std::io::Write;
 use ud_engine::Watched;
+use ud_io::send;
 use ud_replace::{ReplaceError, Target, Update, replace_keeping};
 
 /// Replaces a file, and adds the conditions of its output that still name a symbol to the report.

@@ -1,32 +1,12 @@
-//! Writing to a stream, until a write fails.
+//! Writing what people read, with each control byte made visible.
 
 ghost use Rattle.std.specs.Prelude.{◌≡◌, ◌<◌, [], not, true, false};
 ghost use Rattle.std.specs.List.{flat_map};
-ghost use Rattle.ud_tree.specs.Streams.{Sends, stream_of};
+ghost use Rattle.ud_io.specs.Streams.{Sends, stream_of};
 ghost use Rattle.ud_tree.specs.Visible.{hex_digit, visible, visible_byte};
 
 use std::io::Write;
-use ud_io::{Watched, write_all};
-
-/// Writes all of `bytes`, unless a write has failed before.
-pub(crate) fn send<W: Write>(out: &mut Watched<W>, bytes: &[u8])
-    ensures { Sends (stream_of W.contents out.old) (stream_of W.contents out.new) bytes.now }
-{
-    if out.failed() {
-        return;
-    }
-    write_all(out, bytes);
-}
-
-/// Writes parts in order, until a write fails.
-pub(crate) fn send_parts<W: Write>(out: &mut Watched<W>, parts: &[&[u8]])
-    ensures { Sends (stream_of W.contents out.old) (stream_of W.contents out.new)
-        (flat_map (λ p. p.now) parts.now) }
-{
-    for part in parts {
-        send(out, part);
-    }
-}
+use ud_io::{Watched, send};
 
 /// Returns the hexadecimal digit of a number below 16.
 #[tactic(auto, unfolding(crate::specs::Visible::hex_digit))]

@@ -2,18 +2,17 @@
 
 ghost use Rattle.std.specs.Prelude.{◌≡◌, ◌⊎◌, ◌<◌, ◌≤◌, true, false};
 ghost use Rattle.ud_tree.specs.Shown.{ShowsOne};
-ghost use Rattle.ud_tree.specs.Streams.{stream_of};
+ghost use Rattle.ud_io.specs.Streams.{stream_of};
 ghost use Rattle.ud_tree.specs.Writing.{WritesOne};
 
 use crate::file_diff::diff_of;
 use crate::job::Job;
 use crate::report::Report;
 use crate::run_file::run_file;
-use crate::send::send;
 use crate::tree::Tree;
 use crate::walk::FileAt;
 use std::io::Write;
-use ud_io::Watched;
+use ud_io::{Watched, send};
 use ud_replace::{FileStat, ReplaceError, Update};
 
 /// Writes the diff of a file, and adds the conditions of its output that still name a symbol to the

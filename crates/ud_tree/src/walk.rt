@@ -8,7 +8,7 @@ ghost use Rattle.ud_tree.specs.Catching.{Catches, Grows, IsTaken};
 ghost use Rattle.ud_tree.specs.Covering.{IsIn};
 ghost use Rattle.ud_tree.specs.CoverParts.{AddsFolder, Enters, Exhausts, Starts, TakesOne};
 ghost use Rattle.ud_tree.specs.CoverParts.{VisitsOne, Waits};
-ghost use Rattle.ud_tree.specs.Streams.{stream_of};
+ghost use Rattle.ud_io.specs.Streams.{stream_of};
 ghost use Rattle.ud_tree.specs.WalkMessages.{ReportsNames, ReportsWalk, TellsGiven, VisitTells};
 ghost use Rattle.ud_tree.specs.Walks.{Adds, AddsNode, ArePicked, Finds, IsBefore, IsFileList};
 ghost use Rattle.ud_tree.specs.Walks.{IsKept};

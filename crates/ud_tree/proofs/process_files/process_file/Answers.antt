@@ -1,5 +1,5 @@
 use Rattle.ud_tree.specs.declared.arguments.Task.TheVariants.{Replace, Diff, Names}
-use Rattle.ud_tree.specs.Streams.{stream_of}
+use Rattle.ud_io.specs.Streams.{stream_of}
 use Rattle.ud_tree.proofs.RunLemmas.{done_by, writes_unshown}
 use Rattle.ud_tree.proofs.process_files.process_file.Goals as goal
 

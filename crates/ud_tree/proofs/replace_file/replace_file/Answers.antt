@@ -1,7 +1,7 @@
 use Rattle.std.proofs.Common.{ℕ, [], refl, sym, ap, ◌∙◌, subst, Err}
 use Rattle.ud_tree.specs.Changes.{ShowsUpdate, after_error, after_update}
-use Rattle.ud_tree.specs.Streams.{stream_of}
-use Rattle.ud_tree.proofs.StreamLemmas.{sends_none, sends_same}
+use Rattle.ud_io.specs.Streams.{stream_of}
+use Rattle.ud_io.proofs.StreamLemmas.{sends_none, sends_same}
 use Rattle.ud_tree.proofs.replace_file.replace_file.Goals as goal
 
 pub returns-in-Err-clause-writes : goal.returns-in-Err-clause-writes

@@ -1,5 +1,5 @@
 use Rattle.std.proofs.Common.{◌∙◌, ℕ, List, Some, sym, ap}
-use Rattle.ud_tree.proofs.StreamLemmas.{sends_same}
+use Rattle.ud_io.proofs.StreamLemmas.{sends_same}
 use Rattle.ud_tree.proofs.VisibleLemmas.{written_all}
 use Rattle.ud_tree.proofs.report.report_line.Goals as goal
 

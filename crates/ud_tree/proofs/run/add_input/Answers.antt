@@ -1,4 +1,4 @@
-use Rattle.ud_tree.specs.Streams.{stream_of}
+use Rattle.ud_io.specs.Streams.{stream_of}
 use Rattle.ud_tree.proofs.WalkLemmas.{finds_none, finds_then}
 use Rattle.std.proofs.Common.{refl, ap, ◌∙◌, map, arith, ◌<◌}
 use Rattle.ud_tree.specs.Covering.{paths_of}

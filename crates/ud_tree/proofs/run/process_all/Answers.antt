@@ -1,5 +1,5 @@
 use Rattle.std.proofs.Common.{refl, arith}
-use Rattle.ud_tree.specs.Streams.{stream_of}
+use Rattle.ud_io.specs.Streams.{stream_of}
 use Rattle.ud_tree.proofs.RunLemmas.{ends, faults_added}
 use Rattle.ud_tree.proofs.run.process_all.Goals as goal
 

@@ -1,7 +1,7 @@
 -- By whether conditions are pruned.
 use Rattle.std.proofs.Common.{sym, ◌∙◌}
-use Rattle.ud_tree.specs.Streams.{stream_of}
-use Rattle.ud_tree.proofs.StreamLemmas.{sends_none, sends_same}
+use Rattle.ud_io.specs.Streams.{stream_of}
+use Rattle.ud_io.proofs.StreamLemmas.{sends_none, sends_same}
 use Rattle.ud_tree.proofs.SummaryLemmas.{said_unshown, edited_none, edited_told}
 use Rattle.ud_tree.proofs.run.report_edited.Goals as goal
 

@@ -1,4 +1,4 @@
-use Rattle.ud_tree.specs.Streams.{stream_of}
+use Rattle.ud_io.specs.Streams.{stream_of}
 use Rattle.ud_tree.proofs.SummaryLemmas.{ends_quiet, ends_told}
 use Rattle.ud_tree.proofs.run.report_end.Goals as goal
 

@@ -1,8 +1,8 @@
 -- By whether the conditions are listed, and by their number.
 use Rattle.std.proofs.Common.{sym, ap, ◌∙◌, decimal}
-use Rattle.ud_tree.specs.Streams.{stream_of}
+use Rattle.ud_io.specs.Streams.{stream_of}
 use Rattle.ud_tree.specs.Summaries.{remaining_text}
-use Rattle.ud_tree.proofs.StreamLemmas.{sends_none, sends_same}
+use Rattle.ud_io.proofs.StreamLemmas.{sends_none, sends_same}
 use Rattle.ud_tree.proofs.SummaryLemmas.{said_unshown, remaining_none, remaining_listed, remaining_told}
 use Rattle.ud_tree.proofs.run.report_remaining.Goals as goal
 

@@ -4,7 +4,7 @@ use Rattle.std.specs.Prelude.{string_bytes}
 use Rattle.ud_tree.proofs.CoverLemmas.{starts_none, starts_at, covers_paths}
 use Rattle.ud_tree.proofs.WalkTellLemmas.{paths_given, paths_covered}
 use Rattle.std.proofs.lemmas.Result.{IfOk-weaker}
-use Rattle.ud_tree.specs.Streams.{stream_of}
+use Rattle.ud_io.specs.Streams.{stream_of}
 use Rattle.ud_tree.proofs.WalkLemmas.{finds_none, finds_then}
 use Rattle.ud_tree.proofs.WalkTellLemmas.{walk_none, walk_then, stops_bad, stops_by}
 use Rattle.ud_tree.proofs.run.walk_all.Goals as goal

@@ -1,4 +1,4 @@
-use Rattle.ud_tree.specs.Streams.{stream_of}
+use Rattle.ud_io.specs.Streams.{stream_of}
 use Rattle.ud_tree.specs.WalkMessages.{ReportsWalk}
 use Rattle.ud_tree.specs.Walks.{Finds}
 use Rattle.ud_tree.specs.Catching.{Catches}

@@ -1,8 +1,8 @@
 use Rattle.std.proofs.Common.{refl, ◌∙◌}
 use Rattle.ud_tree.proofs.RunLemmas.{writes_list}
-use Rattle.ud_tree.specs.Streams.{stream_of}
+use Rattle.ud_io.specs.Streams.{stream_of}
 use Rattle.ud_tree.proofs.MessageLemmas.{tells_kept}
-use Rattle.ud_tree.proofs.StreamLemmas.{sends_same}
+use Rattle.ud_io.proofs.StreamLemmas.{sends_same}
 use Rattle.ud_tree.proofs.run.write_lists.Goals as goal
 
 pub returns-then-not-has_lost-clause-writes : goal.returns-then-not-has_lost-clause-writes

@@ -1,6 +1,6 @@
 use Rattle.std.proofs.Common.{[], sym, ◌∙◌}
-use Rattle.ud_tree.specs.Streams.{stream_of}
-use Rattle.ud_tree.proofs.StreamLemmas.{sends_failed, sends_flushed}
+use Rattle.ud_io.specs.Streams.{stream_of}
+use Rattle.ud_io.proofs.StreamLemmas.{sends_failed, sends_flushed}
 use Rattle.ud_tree.proofs.send.flush.Goals as goal
 
 pub returns-then-failed-clause-sent : goal.returns-then-failed-clause-sent

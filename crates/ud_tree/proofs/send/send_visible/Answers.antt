@@ -1,7 +1,7 @@
 use Rattle.std.proofs.Common.{arith}
-use Rattle.ud_tree.specs.Streams.{stream_of}
+use Rattle.ud_io.specs.Streams.{stream_of}
 use Rattle.ud_tree.specs.Visible.{visible_byte}
-use Rattle.ud_tree.proofs.StreamLemmas.{sends_none, sends_part, sends_parts}
+use Rattle.ud_io.proofs.StreamLemmas.{sends_none, sends_part, sends_parts}
 use Rattle.ud_tree.proofs.VisibleLemmas.{visible_sent}
 use Rattle.ud_tree.proofs.send.send_visible.Goals as goal
 

@@ -1,7 +1,7 @@
 use Rattle.std.proofs.Common.{ℕ, List, [], Bor, arith}
-use Rattle.ud_tree.specs.Streams.{stream_of}
+use Rattle.ud_io.specs.Streams.{stream_of}
 use Rattle.ud_tree.specs.Visible.{visible}
-use Rattle.ud_tree.proofs.StreamLemmas.{sends_none, sends_part, sends_parts, sends_same}
+use Rattle.ud_io.proofs.StreamLemmas.{sends_none, sends_part, sends_parts, sends_same}
 use Rattle.ud_tree.proofs.VisibleLemmas.{visible_parts}
 use Rattle.ud_tree.proofs.send.send_visible_parts.Goals as goal
 

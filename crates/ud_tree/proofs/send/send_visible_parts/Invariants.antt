@@ -1,6 +1,6 @@
 use Rattle.std.proofs.Common.{take}
 use Rattle.std.specs.List.{flat_map}
-use Rattle.ud_tree.specs.Streams.{Sends, stream_of}
+use Rattle.ud_io.specs.Streams.{Sends, stream_of}
 use Rattle.ud_tree.specs.Visible.{visible}
 use Rattle.ud_tree.proofs.send.send_visible_parts.Given as goal
 

@@ -1,9 +1,9 @@
 -- By the run over the file's text, and the diff of text and output.
 use Rattle.std.proofs.Common.{ap, ◌∙◌}
 use Rattle.ud_tree.specs.Shown.{faulty}
-use Rattle.ud_tree.specs.Streams.{stream_of}
+use Rattle.ud_io.specs.Streams.{stream_of}
 use Rattle.ud_tree.proofs.ShownLemmas.{no_memory, shows_none, shows_same, shows_several, shows_changed}
-use Rattle.ud_tree.proofs.StreamLemmas.{sends_same}
+use Rattle.ud_io.proofs.StreamLemmas.{sends_same}
 use Rattle.ud_tree.proofs.show_file.show_file.Goals as goal
 
 pub returns-in-Err-clause-writes : goal.returns-in-Err-clause-writes

@@ -1,5 +1,5 @@
 use Rattle.std.proofs.Common.{ap}
-use Rattle.ud_tree.specs.Streams.{stream_of}
+use Rattle.ud_io.specs.Streams.{stream_of}
 use Rattle.ud_tree.proofs.MessageLemmas.{cleared_tells}
 use Rattle.ud_tree.proofs.report.Report.line.Goals as goal
 

@@ -1,5 +1,5 @@
 use Rattle.std.proofs.Common.{◌∙◌, ℕ, List, Some, sym, ap}
-use Rattle.ud_tree.specs.Streams.{stream_of}
+use Rattle.ud_io.specs.Streams.{stream_of}
 use Rattle.ud_tree.proofs.MessageLemmas.{cleared_tells}
 use Rattle.ud_tree.proofs.VisibleLemmas.{text_raw, text_visible, written_all}
 use Rattle.ud_tree.proofs.report.Report.text_fault.Goals as goal

@@ -1,7 +1,7 @@
 -- By whether the list is wanted.
 use Rattle.std.proofs.Common.{[], Bool, cond, sym, ap, ◌∙◌}
-use Rattle.ud_tree.specs.Streams.{stream_of}
-use Rattle.ud_tree.proofs.StreamLemmas.{sends_none, sends_same}
+use Rattle.ud_io.specs.Streams.{stream_of}
+use Rattle.ud_io.proofs.StreamLemmas.{sends_none, sends_same}
 use Rattle.ud_tree.proofs.report.Report.write_remaining.Goals as goal
 
 pub returns-then-not-job : goal.returns-then-not-job

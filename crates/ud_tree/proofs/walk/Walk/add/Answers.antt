@@ -1,6 +1,6 @@
 use Rattle.std.proofs.Common.{refl, sym}
 use Rattle.ud_tree.proofs.WalkLemmas.{finds_none, finds_call, finds_node}
-use Rattle.ud_tree.specs.Streams.{stream_of}
+use Rattle.ud_io.specs.Streams.{stream_of}
 use Rattle.ud_tree.specs.WalkMessages.{is_no_text}
 use Rattle.ud_tree.proofs.WalkTellLemmas.{walk_none, walk_given, walk_unmet, walk_remark, reported}
 use Rattle.ud_replace.specs.declared.node.Lookup.TheVariants.{Absent, Unknown}

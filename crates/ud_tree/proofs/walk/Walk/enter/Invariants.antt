@@ -1,5 +1,5 @@
 use Rattle.std.proofs.Common.{map}
-use Rattle.ud_tree.specs.Streams.{stream_of}
+use Rattle.ud_io.specs.Streams.{stream_of}
 use Rattle.ud_tree.specs.WalkMessages.{ReportsNames}
 use Rattle.ud_tree.specs.Walks.{Finds}
 use Rattle.ud_tree.specs.Catching.{Catches}

@@ -1,4 +1,4 @@
-use Rattle.ud_tree.specs.Streams.{stream_of}
+use Rattle.ud_io.specs.Streams.{stream_of}
 use Rattle.std.proofs.Common.{map, arith, refl}
 use Rattle.ud_tree.proofs.CatchLemmas.{grows_same, catches_none, catches_then}
 use Rattle.std.specs.Prelude.{string_bytes}

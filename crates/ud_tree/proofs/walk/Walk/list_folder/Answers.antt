@@ -1,5 +1,5 @@
 use Rattle.std.proofs.Common.{true, false}
-use Rattle.ud_tree.specs.Streams.{stream_of}
+use Rattle.ud_io.specs.Streams.{stream_of}
 use Rattle.ud_tree.proofs.WalkLemmas.{finds_call}
 use Rattle.ud_tree.proofs.WalkTellLemmas.{walk_listed, walk_unread}
 use Rattle.ud_tree.proofs.walk.Walk.list_folder.Goals as goal

@@ -1,5 +1,5 @@
 use Rattle.ud_tree.proofs.WalkLemmas.{finds_call, finds_file, finds_same, finds_then}
-use Rattle.ud_tree.specs.Streams.{stream_of}
+use Rattle.ud_io.specs.Streams.{stream_of}
 use Rattle.ud_tree.proofs.WalkTellLemmas.{walk_met, walk_followed, walk_unmet, walk_link, walk_other, other_kind, walk_then, reported}
 use Rattle.std.proofs.Common.{ap, ◌∙◌, [], ◌∷◌, refl, true, false, arith, List}
 use Rattle.std.specs.Prelude.{string_bytes}

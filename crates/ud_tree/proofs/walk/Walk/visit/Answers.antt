@@ -1,6 +1,6 @@
 use Rattle.ud_tree.proofs.WalkLemmas.{finds_none, finds_call, finds_node}
 use Rattle.std.proofs.Common.{refl}
-use Rattle.ud_tree.specs.Streams.{stream_of}
+use Rattle.ud_io.specs.Streams.{stream_of}
 use Rattle.ud_tree.specs.WalkMessages.{is_no_text, is_gone}
 use Rattle.ud_tree.proofs.WalkTellLemmas.{met_at, visit_none, visit_met, walk_none, walk_met, walk_unmet, walk_remark}
 use Rattle.std.proofs.lemmas.Result.{on_ok_weaker}
