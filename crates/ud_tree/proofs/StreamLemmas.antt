@@ -1,15 +1,10 @@
 -- Bytes that are read one after another, up to the end.
-use Rattle.std.proofs.Common.{◌≡◌, ℕ, ◌<◌, ◌≤◌, ◌+◌, List, [], ◌∷◌, ◌++◌, length, get_or, take, Bool, true, false, Option, Some, refl, sym, ap, ◌∙◌, subst, true≢false, append-nil, length-append, arith}
-use Rattle.std.specs.Io.KnownBytes.{Appends, Keeps, Consumes}
-use Rattle.std.proofs.KnownBytes.{Appends-nil, Appends-trans, Consumes-trans}
-use Rattle.ud_io.specs.Watched.{AppendsPrefix, AppendsAllOrPrefix, ReadsOnce}
-use Rattle.std.specs.List.{flat_map}
-use Rattle.std.proofs.lemmas.Grind.{flat_map-append}
-use Rattle.std.proofs.lemmas.List.{take_more, take_all}
+use Rattle.std.proofs.Common.{◌≡◌, ℕ, ◌<◌, ◌≤◌, ◌+◌, List, [], ◌++◌, length, take, false, Option, Some, sym, ap, ◌∙◌, subst, append-nil, length-append, arith}
+use Rattle.std.specs.Io.KnownBytes.{Consumes}
+use Rattle.std.proofs.KnownBytes.{Consumes-trans}
+use Rattle.ud_io.specs.Watched.{ReadsOnce}
 use Rattle.std.proofs.Math.ListN.{length-take}
-use Rattle.ud_io.proofs.BufferingLemmas.{appends_kept, prefix_of_first, prefix_of_second}
 use Rattle.ud_tree.specs.Streams.{Source, ReadsWhole}
-use Rattle.ud_io.specs.Streams.{Stream, Sends}
 
 -- Some more bytes were read, and appended to the text.
 pub reads_more : (a b c : Option (List ℕ)) (count : ℕ) (buf text : List ℕ) {more : List ℕ} → more ≡ text ++ take count buf → Consumes a b text → Consumes b c (take count buf) → Consumes a c more
