@@ -26,6 +26,10 @@ const ACCESS: u32 = 0o777;
 /// The bits of a mode that `chmod` sets.
 const MODE: u32 = 0o7777;
 
+/// The most bytes that are reserved before a file is read. A file that is larger, or says so, takes
+/// more as it is read.
+const MOST_RESERVED: u64 = 16 << 20;
+
 /// The files of a runtime.
 #[derive(Drop)]
 pub struct Disk<'r, R: Files> {
@@ -132,6 +136,9 @@ fn read_file<R: Files>(files: &R, name: &[u8], text: &mut Vec<u8>) -> io::Result
     if !same_file(&file.metadata()?, &found) {
         return Err(other_file());
     }
+    // Beside the file's bytes there is room to see that it has ended, so it takes two reads.
+    let expected = stat.version.size.min(MOST_RESERVED) as usize;
+    text.reserve_exact(expected + 1)?;
     file.read_to_end(text)?;
     Ok(stat)
 }
