@@ -104,15 +104,6 @@ pub record ChangesUpto (ls : List DiffLine) (at last : ℕ) : Type 0 where
   pub kept : KeptAt ls last at
   pub changed : 0 < at → AreChanges (between 0 last ls)
 
--- Before the first line.
-pub changes_none : (ls : List DiffLine) → ChangesUpto ls 0 0
-changes_none ls = record {
-  reached = omega arith;
-  near = omega arith;
-  kept = λ k d low high within. absurd (omega arith);
-  changed = λ some. absurd (omega arith);
-}
-
 -- A change is one of them.
 pub changes_more : (ls : List DiffLine) (at last : ℕ) (d : DiffLine) → at < length ls → is_change (get_or ls at d).sign ≡ true → ChangesUpto ls at last →
     ChangesUpto ls (at + 1) (at + 1)

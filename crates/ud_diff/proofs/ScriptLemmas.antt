@@ -30,15 +30,6 @@ signed_old-append xs ys = ap old_lines (map-append signed xs ys) ∙ old_lines-a
 pub signed_new-append : (xs ys : List DiffLine) → new_lines (signed_lines (xs ++ ys)) ≡ new_lines (signed_lines xs) ++ new_lines (signed_lines ys)
 signed_new-append xs ys = ap new_lines (map-append signed xs ys) ∙ new_lines-append (signed_lines xs) (signed_lines ys)
 
--- A script with the same lines and rests is extended by nothing.
-pub extends_same : (s t : Script) → t.lines.items ≡ s.lines.items → t.old_rest.now ≡ s.old_rest.now → t.new_rest.now ≡ s.new_rest.now → Extends s t
-extends_same s t lines old new = record {
-  taken = [];
-  lines = lines ∙ sym (append-nil s.lines.items);
-  old = ap texts_of (sym old);
-  new = ap texts_of (sym new);
-}
-
 -- A script that is extended twice is extended.
 pub extends_twice : (s t u : Script) → Extends s t → Extends t u → Extends s u
 extends_twice s t u a b = record {
@@ -50,36 +41,6 @@ extends_twice s t u a b = record {
   new = a.new ∙ ap (λ (ls : List (List ℕ)). new_lines (signed_lines a.taken) ++ ls) b.new
       ∙ sym (append_assoc (new_lines (signed_lines a.taken)) (new_lines (signed_lines b.taken)) (texts_of u.new_rest.now))
       ∙ sym (ap (λ (ls : List (List ℕ)). ls ++ texts_of u.new_rest.now) (signed_new-append a.taken b.taken));
-}
-
--- A script is extended by a removed line.
-pub extends_removed : (s t : Script) (d : DiffLine) → d.sign ≡ Removed → t.lines.items ≡ s.lines.items ++ d ∷ [] →
-    texts_of s.old_rest.now ≡ d.bytes.now ∷ texts_of t.old_rest.now → t.new_rest.now ≡ s.new_rest.now → Extends s t
-extends_removed s t d is lines old new = record {
-  taken = d ∷ [];
-  lines = lines;
-  old = old ∙ sym (ap (λ (x : Sign). old_lines (record { sign = x; bytes = d.bytes.now } ∷ []) ++ texts_of t.old_rest.now) is);
-  new = ap texts_of (sym new) ∙ sym (ap (λ (x : Sign). new_lines (record { sign = x; bytes = d.bytes.now } ∷ []) ++ texts_of t.new_rest.now) is);
-}
-
--- A script is extended by an added line.
-pub extends_added : (s t : Script) (d : DiffLine) → d.sign ≡ Added → t.lines.items ≡ s.lines.items ++ d ∷ [] →
-    t.old_rest.now ≡ s.old_rest.now → texts_of s.new_rest.now ≡ d.bytes.now ∷ texts_of t.new_rest.now → Extends s t
-extends_added s t d is lines old new = record {
-  taken = d ∷ [];
-  lines = lines;
-  old = ap texts_of (sym old) ∙ sym (ap (λ (x : Sign). old_lines (record { sign = x; bytes = d.bytes.now } ∷ []) ++ texts_of t.old_rest.now) is);
-  new = new ∙ sym (ap (λ (x : Sign). new_lines (record { sign = x; bytes = d.bytes.now } ∷ []) ++ texts_of t.new_rest.now) is);
-}
-
--- A script is extended by a kept line.
-pub extends_kept : (s t : Script) (d : DiffLine) → d.sign ≡ Kept → t.lines.items ≡ s.lines.items ++ d ∷ [] →
-    texts_of s.old_rest.now ≡ d.bytes.now ∷ texts_of t.old_rest.now → texts_of s.new_rest.now ≡ d.bytes.now ∷ texts_of t.new_rest.now → Extends s t
-extends_kept s t d is lines old new = record {
-  taken = d ∷ [];
-  lines = lines;
-  old = old ∙ sym (ap (λ (x : Sign). old_lines (record { sign = x; bytes = d.bytes.now } ∷ []) ++ texts_of t.old_rest.now) is);
-  new = new ∙ sym (ap (λ (x : Sign). new_lines (record { sign = x; bytes = d.bytes.now } ∷ []) ++ texts_of t.new_rest.now) is);
 }
 
 -- An empty text has no lines.

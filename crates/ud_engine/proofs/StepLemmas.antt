@@ -56,10 +56,6 @@ still_open lines mid rest used whole e h to is short =
           (no_newline-append lines.held (take used rest) h.no_newline (no_newline-take used rest all.1));
     }
 
--- The rest of a chunk fits after the bytes that were taken.
-pub has_room : (room : ℕ) (lines new : LinesState) (left used : ℕ) → HasCapacity room lines left → used ≤ left → length new.held ≤ length lines.held + used → HasCapacity room new (left - used)
-has_room room lines new left used has within few = λ small. let h = has small in omega (arith, h, within, few)
-
 -- After a whole line, nothing is buffered.
 pub open_again : (lines mid new : LinesState) (rest : List ℕ) (used : ℕ) (whole : Bool) → IsOpen lines →
     mid ≡ record lines { held = lines.held ++ take used rest; whole = whole } → new ≡ record mid { held = []; whole = false; before = mid.before + 1 } → IsOpen new
@@ -69,16 +65,6 @@ open_again lines mid new rest used whole h is cleared = record {
   limit = ap (λ (l : LinesState). l.last_line) cleared ∙ ap (λ (l : LinesState). l.last_line) is ∙ h.limit;
   short = let z = ap (λ (l : LinesState). length l.held) cleared in omega (arith, z);
   no_newline = subst (λ (x : List ℕ). NoNewline x) (sym (ap (λ (l : LinesState). l.held) cleared)) tt;
-}
-
--- A fault leaves the buffered bytes.
-pub open_refused : (lines new : LinesState) (f : _) → IsOpen lines → new ≡ record lines { fault = f } → IsOpen new
-open_refused lines new f h is = record {
-  part = ap (λ (l : LinesState). l.whole) is ∙ h.part;
-  goes_on = ap (λ (l : LinesState). l.closed) is ∙ h.goes_on;
-  limit = ap (λ (l : LinesState). l.last_line) is ∙ h.limit;
-  short = let z = ap (λ (l : LinesState). length l.held) is in let s = h.short in omega (arith, z, s);
-  no_newline = subst (λ (x : List ℕ). NoNewline x) (sym (ap (λ (l : LinesState). l.held) is)) h.no_newline;
 }
 
 module _ {S : Type 0} (represents : S → List Judged → Type 0) (piece_of : S → List Judged → Judged → List ℕ) (o : Options) (piece : List Judged → Judged → List ℕ)

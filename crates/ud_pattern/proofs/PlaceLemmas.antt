@@ -51,9 +51,6 @@ somewhere_of : (p n : List ℕ) → Matches (42 ∷ p) n → Somewhere p n
 somewhere_of p n (star bytes rest is m) = (bytes, rest, is, m)
 somewhere_of p _ (part {name = ms} b after is m) = absurd cc
 
-of_somewhere : (p n : List ℕ) → Somewhere p n → Matches (42 ∷ p) n
-of_somewhere p n h = star h.0 h.1 h.2 h.3
-
 -- After the parts up to the next `*`, only that one counts.
 pub star_on : {p n : List ℕ} (q m : List ℕ) → Parts p n (42 ∷ q) m → Matches (42 ∷ p) n → Matches (42 ∷ q) m
 star_on {p = p} {n = n} q m steps h =
@@ -79,16 +76,6 @@ pub star_less : (p : List ℕ) (b : ℕ) (n : List ℕ) → Matches (42 ∷ p) n
 star_less p b n h =
     let s = somewhere_of p n h in
     star (b ∷ s.0) s.1 (ap (λ (x : List ℕ). b ∷ x) s.2) s.3
-
-pub star_none : (p : List ℕ) → ¬ (Matches p []) → ¬ (Matches (42 ∷ p) [])
-star_none p never h = by_front (somewhere_of p [] h)
-  where
-    by_parts : (bytes rest : List ℕ) → [] ≡ bytes ++ rest → Matches p rest → ⊥
-    by_parts [] rest e m = never (subst (λ (x : List ℕ). Matches p x) (sym e) m)
-    by_parts (c ∷ bytes) rest e m = cc
-
-    by_front : Somewhere p [] → ⊥
-    by_front s = by_parts s.0 s.1 s.2 s.3
 
 -- No part of the pattern matches the first byte of the name, if there is one.
 abbrev pub NoPart : List ℕ → List ℕ → Type 0

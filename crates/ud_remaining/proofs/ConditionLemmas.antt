@@ -10,18 +10,8 @@ pub taken_fitting : (p : Option Condition) (r : Reading) → fits r.line ≡ tru
 taken_fitting None r e = ap (λ (b : Bool). if b then condition_by r (content_of r.scan) else None) e
 taken_fitting (Some c) r e = ap (λ (b : Bool). Some (with_text c (if b then r.scan.masked else []))) e
 
--- A line that is too long adds nothing.
-pub taken_long : (p : Option Condition) (r : Reading) → fits r.line ≡ false → p ≡ taken p r
-taken_long None r e = sym (ap (λ (b : Bool). if b then condition_by r (content_of r.scan) else None) e)
-taken_long (Some c) r e =
-    ap (λ (x : List ℕ). Some (record c { after = x })) (sym (append-nil c.after))
-    ∙ sym (ap (λ (b : Bool). Some (with_text c (if b then r.scan.masked else []))) e)
-
 pub joins_fitting : (r : Reading) → fits r.line ≡ true → r.scan.joins_after ≡ joins_next r
 joins_fitting r e = sym (ap (λ (b : Bool). b && r.scan.joins_after) e)
-
-pub joins_long : (r : Reading) → fits r.line ≡ false → false ≡ joins_next r
-joins_long r e = sym (ap (λ (b : Bool). b && r.scan.joins_after) e)
 
 -- A line more.
 pub one_line : (p : Option Condition) (r : Reading) (rs : List Reading) → rest_from p true (r ∷ rs) ≡ rest_from (taken p r) (joins_next r) rs

@@ -29,9 +29,6 @@ use Rattle.ud_remaining.proofs.TextLemmas.{after, still_whole, read_texts, numbe
 abbrev pub Goes : List Reading → List Condition → Option Condition → Bool → Type 0
 Goes before found p goes_on = (rs : List Reading) → conditions_in false (before ++ rs) ≡ found ++ rest_from p goes_on rs
 
-pub goes_at_start : Goes [] [] None true
-goes_at_start = λ rs. refl
-
 pub goes_by_line : (before : List Reading) (found : List Condition) (p : Option Condition) (r : Reading) → Goes before found p true → Goes (before ++ r ∷ []) found (taken p r) (joins_next r)
 goes_by_line before found p r h = λ rs.
     ap (λ (x : List Reading). conditions_in false x) (append_assoc before (r ∷ []) rs) ∙ h (r ∷ rs) ∙ ap (λ (x : List Condition). found ++ x) (one_line p r rs)

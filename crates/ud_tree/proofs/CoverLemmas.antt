@@ -360,10 +360,6 @@ enters_more count {x = x} {y = y} {z = z} {f = f} {g = g} {h = h} {b = b} {c = c
         let some : l.entered.2.0 < length l.explores.made = l.entered.2.1 in
         omega (arith, both, some, k.many)
 
--- No folder waits any more.
-pub exhausts_none : {X : Type 0} (name : X → List ℕ) (xs : List X) {count : ℕ} {x y : List Call} {f : List (List ℕ)} {a b : Report} → xs ≡ [] → EntersSome count x y f (map name xs) a b → Exhausts x y f (map name xs) a b
-exhausts_none name xs none k = record { explores = k.explores; done = λ few. ap (map name) none }
-
 -- Folders were entered as often as a machine counts.
 pub exhausts_count : {count : ℕ} {x y : List Call} {f g : List (List ℕ)} {a b : Report} → 2 ^ 64 ≤ count + 1 → EntersSome count x y f g a b → Exhausts x y f g a b
 exhausts_count many k = record { explores = k.explores; done = λ few. absurd (omega (arith, many, few, k.many)) }

@@ -55,10 +55,6 @@ same_key a b e =
     equal Equal e = refl
     equal Greater e = absurd (true≢false (sym e))
 
--- The order of paths.
-path_cmp : Found → Found → Ordering
-path_cmp f g = slice_cmp nat_cmp (string_bytes f.path) (string_bytes g.path)
-
 -- If a file isn't before another one, which isn't before a third, it isn't before that.
 not_before_then : (f g h : Found) → ¬ (IsBefore g f) → ¬ (IsBefore h g) → ¬ (IsBefore h f)
 not_before_then f g h a b c = by_order (slice_cmp nat_cmp (string_bytes g.path) (string_bytes h.path)) refl

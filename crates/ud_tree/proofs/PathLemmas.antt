@@ -10,11 +10,6 @@ pub folder_len-append : (path : List ℕ) (b : ℕ) →
 folder_len-append [] b = grind arith
 folder_len-append (a ∷ path) b = grind (arith, folder_len-append path b)
 
--- The last slash is in the path.
-pub folder_len-le : (path : List ℕ) → folder_len path ≤ length path
-folder_len-le [] = omega arith
-folder_len-le (a ∷ path) = grind (arith, folder_len-le path)
-
 -- A slash at `i` ends the folder there.
 pub folder_len_slash : (path : List ℕ) (i : ℕ) → i < length path → get_or path i 0 ≡ 47 →
     folder_len (take (i + 1) path) ≡ i + 1

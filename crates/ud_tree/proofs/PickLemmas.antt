@@ -25,14 +25,6 @@ use Rattle.ud_tree.proofs.KeepLemmas.{same_key, kept_later}
 abbrev pub OldOrThis : Found → List Found → Found → Type 0
 OldOrThis found files f = Contains files f ⊎ (f ≡ found)
 
--- No file was added.
-pub kept_files : (found : Found) (files : List Found) → All (OldOrThis found files) files
-kept_files found files = All-weaker (Contains files) (OldOrThis found files) (λ f h. inl h) files (All-contains_itself files)
-
--- One file was added.
-pub grown_files : (found : Found) (files : List Found) → All (OldOrThis found files) (files ++ found ∷ [])
-grown_files found files = All-push (OldOrThis found files) files found (kept_files found files) (inr refl)
-
 -- A file after the last of some ascending files comes after them all.
 pub after_last : (files : List Found) (last found : Found) → AllPairs IsBefore files → 0 < length files → last ≡ get_or files (length files - 1) last → IsBefore last found →
     All (λ f. IsBefore f found) files

@@ -113,9 +113,3 @@ walk_found {before = before} {found = found} files none h l = record {
 
     met_each : (f : Found) → Contains found f → WasMet h.calls f
     met_each f inside = only_met f (All-contains (Origin h.calls before) found f h.each inside)
-
--- A file was appended, or not.
-pub adds_pushed : (before after : List Found) (b : Bool) (f : Found) (path : List ℕ) (id : FileId) → string_bytes f.path ≡ path → f.id ≡ id →
-    after ≡ cond b (before ++ f ∷ []) before → Adds before path id after
-adds_pushed before after true f path id named same is = adds_one f named same is
-adds_pushed before after false f path id named same is = adds_none is

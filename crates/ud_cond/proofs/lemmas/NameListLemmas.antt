@@ -48,9 +48,6 @@ none_by : (o : Option Expression) → is_some o ≡ false → names_in_tree o �
 none_by None e = refl
 none_by (Some t) e = absurd (cc)
 
-pub names-none : (text : List ℕ) → is_some (expression_of text) ≡ false → names_in_tree (expression_of text) ≡ []
-names-none text s = none_by (expression_of text) s
-
 some_map : {A B : Type 0} (f : A → B) (o : Option A) → is_some (option_map f o) ≡ is_some o
 some_map f None = refl
 some_map f (Some x) = refl

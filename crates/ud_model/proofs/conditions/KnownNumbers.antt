@@ -29,11 +29,6 @@ pub agrees_number : (u : Bool) (n : ℤ) (c : Number) → Agrees u n c → numbe
 agrees_number u n (signed z) a = a.0
 agrees_number u n (unsigned k) a = a.0
 
--- It is in range.
-pub agrees_fits : (u : Bool) (n : ℤ) (c : Number) → Agrees u n c → fits u n ≡ true
-agrees_fits u n (signed z) a = a.1
-agrees_fits u n (unsigned k) a = a.1
-
 fit_by : (b : Bool) (u : Bool) (z n : ℤ) → fits u z ≡ b → (if b then Some z else None) ≡ Some n → (z ≡ n) × (fits u n ≡ true)
 fit_by true u z n f e = let q : z ≡ n = same_Some z n e in (q, rw q at f)
 fit_by false u z n f e = absurd (none-some n e)
@@ -50,9 +45,6 @@ as_natural n c k e p = subst (λ x. Agrees true n x) (sym e) (p.0, p.1, refl)
 
 fits_one : (u : Bool) → fits u (pos 1) ≡ true
 fits_one u = refl
-
-fits_zero : (u : Bool) → fits u (pos 0) ≡ true
-fits_zero u = refl
 
 -- A test that decides a fact gives the truth of the fact.
 pub truth_agrees : (Holds : Type 0) (u b : Bool) (n : ℤ) (c : Number) → Decides b Holds → Some (truth b) ≡ Some n → IsTruth Holds c → Agrees u n c

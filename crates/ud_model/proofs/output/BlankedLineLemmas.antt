@@ -158,9 +158,6 @@ formed_tail : (t : List ℕ) (ts : List (List ℕ)) → AreFormed (t ∷ ts) →
 formed_tail t [] f = tt
 formed_tail t (u ∷ ts) f = f.1
 
-formed_keep : (t u : List ℕ) (ts us : List (List ℕ)) → AreFormed (t ∷ u ∷ us) → AreFormed ts → AreFormed (t ∷ ts)
-formed_keep t u ts us f g = formed_more t ts f.0 g
-
 -- A prefix of numbered lines is formed.
 pub front_formed : (n : ℕ) (us : List (List ℕ)) (ls later : List Line) → AreFormed us → numbered_from n us ≡ ls ++ later →
     (ts : List (List ℕ)) × AreFormed ts × (ls ≡ numbered_from n ts)

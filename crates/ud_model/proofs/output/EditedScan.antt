@@ -162,12 +162,6 @@ shown_step in_line m b h = from_line (b == newline) (m ++ (if b == newline then 
 shown_step (in_literal q) m b h = from_literal q (b == newline) (b == q) (b == backslash) (m ++ b ∷ []) (quote_before m b h)
 shown_step (at_backslash q) m b h = from_backslash q (b == newline) (m ++ b ∷ []) (quote_before m b h)
 
-quoted_all : (bytes : List ℕ) (w : LexState) (m : List ℕ) → Quoted w m → Quoted (place_after w bytes) (masked_after w m bytes)
-quoted_all [] w m h = h
-quoted_all (b ∷ bytes) w m h =
-    let n : List ℕ = (if opens_comment w b then blank_last m else m) ++ masked_byte w b ∷ [] in
-    quoted_all bytes (next_state w b) n (shown_quoted (next_state w b) n (shown_step w m b h))
-
 -- After a byte at least, an open literal's quote or a slash is shown.
 pub shown_all : (b : ℕ) (bytes : List ℕ) (w : LexState) (m : List ℕ) → Quoted w m → Shown (place_after w (b ∷ bytes)) (masked_after w m (b ∷ bytes))
 shown_all b [] w m h = shown_step w m b h

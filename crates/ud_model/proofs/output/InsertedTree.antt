@@ -50,9 +50,6 @@ alike_item : (o : Options) (r s : Reading) → IsSame r s → ItemAlike (item_of
 alike_item o r s k =
     subst (λ (c : Content). ItemAlike (item_of o r) (item_by o s c)) (ap content_of (sym k.scanned)) (alike_by o r s (content_of r.scan) k)
 
-plain_line : List ℕ → Scan
-plain_line b = record { masked = b; fresh = true; joins_before = false; joins_after = false; spliced = false; comment = (plain_scan (record { body = b; ending = []; number = 0 })).comment }
-
 lone_scan : (d : Reading) (b : List ℕ) → d.line.body ≡ b → IsLone d → content_of d.scan ≡ content_of (plain_scan (record { body = b; ending = []; number = 0 }))
 lone_scan d b e k = ap content_of k ∙ ap (λ (x : List ℕ). content_of (plain_scan (record { body = x; ending = []; number = 0 }))) e
 

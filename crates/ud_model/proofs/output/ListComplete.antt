@@ -167,9 +167,6 @@ module _ (o : Options) (n : NoneIgnores o.table) where
       ∙ ap₂ (λ (m : Mode) (rs : List Reading). next_reading rs m l) (mode_is s) (read_so s))
       ∙ sym (read_more (the_mode o) (map line_of xs) l) ∙ ap (λ (ls : List Line). read_in (the_mode o) ls) (sym (lines_with_next o xs t l))
 
-abbrev names_read : Reading → List (List ℕ)
-names_read r = names_in_content (content_of r.scan)
-
 module _ (o p : Options) (input : List ℕ) (same : p.settings ≡ o.settings) (n : NoneIgnores o.table) where
   abbrev Told : Reading → Type 0
   Told r = NamesRead (Alike o.table p.table) r

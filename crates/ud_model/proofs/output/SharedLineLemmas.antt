@@ -46,13 +46,6 @@ reads_too o p plain rules table {input = input} a = by_reading a
         (each_all (Alike o.table p.table) known (names_in_content (content_of (read_after xs (mode_after o t) s.faulty).scan))))
     by_reading (ends xs t g) = ends xs t (record { sound = sound_alike o p plain rules g.sound (names xs); are = g.are })
 
-kept_piece : (v : Verdict) (j : Judged) → is_removed v ≡ false → j.verdict ≡ v → piece_alone false (complemented j) ≡ []
-kept_piece Keep j e h = ap (λ (u : Verdict). piece_alone false (complemented (record { line = j.line; verdict = u; keyword = j.keyword }))) h
-kept_piece Remove j e h = cc
-kept_piece ToIf j e h = ap (λ (u : Verdict). piece_alone false (complemented (record { line = j.line; verdict = u; keyword = j.keyword }))) h
-kept_piece ToElse j e h = ap (λ (u : Verdict). piece_alone false (complemented (record { line = j.line; verdict = u; keyword = j.keyword }))) h
-kept_piece ToEndif j e h = ap (λ (u : Verdict). piece_alone false (complemented (record { line = j.line; verdict = u; keyword = j.keyword }))) h
-
 -- The case of one more line, by whether it is removed.
 share_one : (v : Verdict) (j : Judged) (js : List Judged) (a b : List ℕ) → j.verdict ≡ v → ShareLines js a b →
     ShareLines (j ∷ js) (piece_alone false j ++ a) (piece_alone false (complemented j) ++ b)

@@ -6,11 +6,6 @@ use Rattle.std.proofs.lemmas.Bool.Decides.{nat_tests}
 use Rattle.ud_model.specs.text.Bytes.{is_white, is_word_byte, are_white, are_word_bytes, is_digit, is_identifier, leading_word, skip_word, skip_white}
 use Rattle.std.proofs.Common.{◌&&◌, one-add, get_or, sym}
 
--- `all` with `is_white` tests each byte for white space.
-pub list_all-white : (bytes : List ℕ) → list_all (λ b. is_white b) bytes ≡ are_white bytes
-list_all-white [] = refl
-list_all-white (b ∷ bs) = ap (λ t. is_white b && t) (list_all-white bs)
-
 -- `all` with `is_word_byte` tests each byte for a word byte.
 pub list_all-word : (bytes : List ℕ) → list_all (λ b. is_word_byte b) bytes ≡ are_word_bytes bytes
 list_all-word [] = refl

@@ -229,10 +229,6 @@ texts_of-formed (l ∷ m ∷ ls) (whole, rest) =
 pub lines_are : (t : List ℕ) (ls : List (List ℕ)) → AreLines t ls → ls ≡ texts_of t
 lines_are t ls h = texts_of-formed ls h.formed ∙ ap texts_of (sym h.joined)
 
--- A text has its lines in one way.
-pub lines_unique : (t : List ℕ) (ls ms : List (List ℕ)) → AreLines t ls → AreLines t ms → ls ≡ ms
-lines_unique t ls ms h k = lines_are t ls h ∙ sym (lines_are t ms k)
-
 -- A line is its body and its ending.
 pub body-ending : (l : List ℕ) → take (length l - length (ending_of l)) l ++ ending_of l ≡ l
 body-ending l =
@@ -257,11 +253,6 @@ text_of-line_at n l = body-ending l
 pub map-numbered_from : (n : ℕ) (ls : List (List ℕ)) → map text_of (numbered_from n ls) ≡ ls
 map-numbered_from n [] = refl
 map-numbered_from n (l ∷ ls) = ap₂ (λ (x : List ℕ) (xs : List (List ℕ)). x ∷ xs) (text_of-line_at n l) (map-numbered_from (suc n) ls)
-
--- Numbering keeps the number of lines.
-pub length-numbered_from : (n : ℕ) (ls : List (List ℕ)) → length (numbered_from n ls) ≡ length ls
-length-numbered_from n [] = refl
-length-numbered_from n (l ∷ ls) = ap (λ (k : ℕ). suc k) (length-numbered_from (suc n) ls)
 
 -- The lines after these are numbered on from them.
 pub numbered_from-append : (n : ℕ) (xs ys : List (List ℕ)) → numbered_from n (xs ++ ys) ≡ numbered_from n xs ++ numbered_from (n + length xs) ys
@@ -316,12 +307,3 @@ number_is t prefix l later e = number_at 1 (texts_of t) prefix l later e ∙ ome
 -- The lines of a text have its bytes.
 pub map-lines_of : (t : List ℕ) → map text_of (lines_of t) ≡ texts_of t
 map-lines_of t = map-numbered_from 1 (texts_of t)
-
--- The ending of a line is an ending.
-pub ending_is : (l : List ℕ) → is_ending (ending_of l) ≡ true
-ending_is l = by_tests (ends_with nat_eq l (13 ∷ 10 ∷ [])) (ends_with nat_eq l (10 ∷ []))
-  where
-    by_tests : (a b : Bool) → is_ending (if a then 13 ∷ 10 ∷ [] else if b then 10 ∷ [] else []) ≡ true
-    by_tests true b = refl
-    by_tests false true = refl
-    by_tests false false = refl

@@ -95,16 +95,6 @@ leads_end t n s r Nothing f h = h
 pub none_lead : (t : List Argument) (s : ℕ) (paths : List Path) → paths ≡ [] → AllLead t s paths
 none_lead t s paths e i low = absurd (let none : length paths ≡ 0 = ap length e in omega (arith, none, low))
 
--- One path more.
-pub lead_more : (t : List Argument) (s : ℕ) (paths : List Path) (p : Path) → AllLead t s paths → LeadsTo t (name_at t (length paths)) s p → AllLead t s (paths ++ p ∷ [])
-lead_more t s paths p h new i low = elim (cases_lt i (length paths)) [
-  | inl below ↦ subst (λ q. LeadsTo t (name_at t i) s q) (sym (get_or_append_left paths (p ∷ []) Nothing i below)) (h i below)
-  | inr above ↦
-      let same : length paths ≡ i = omega (arith, low, above, length-append paths (p ∷ [])) in
-      subst (λ k. LeadsTo t (name_at t k) s (get_or (paths ++ p ∷ []) k Nothing)) same
-      (subst (λ q. LeadsTo t (name_at t (length paths)) s q) (sym (get_or-append_seam paths p [] Nothing)) new)
-]
-
 -- The text of a row is that of its name.
 pub own_text : (rows : List Argument) → AreSorted rows → (i : ℕ) → i < length rows → defined_text rows (name_at rows i) ≡ (get_or rows i no_row).entry.value
 own_text rows sorted i low =

@@ -73,17 +73,6 @@ sign_read bytes white h why =
     by_reason (inl e) = ap (λ (o : Bool). white && not o) e ∙ and-false white
     by_reason (inr e) = ap (λ (o : Bool). o && not (is_other_word bytes)) e
 
--- a quote begins a literal
-pub quote_read : (q : ℕ) (white : Bool) → is_quote q ≡ true → LiteralFront white q (q ∷ [])
-quote_read q white e = by_quote (q == 34) (q == 39) refl refl e
-  where
-    by_quote : (t u : Bool) → (q == 34) ≡ t → (q == 39) ≡ u → (t || u) ≡ true → LiteralFront white q (q ∷ [])
-    by_quote true u f g h = subst (λ (n : ℕ). LiteralFront white n (n ∷ [])) (sym (eqb-true q 34 f))
-        (record { spliced = false; leads = ap (λ (v : Bool). record { state = in_literal 34; white = v; spliced = false }) (and-false white); quiet = (refl, tt); no_newline = (refl, tt); no_comment = (refl, tt) })
-    by_quote false true f g h = subst (λ (n : ℕ). LiteralFront white n (n ∷ [])) (sym (eqb-true q 39 g))
-        (record { spliced = false; leads = ap (λ (v : Bool). record { state = in_literal 39; white = v; spliced = false }) (and-false white); quiet = (refl, tt); no_newline = (refl, tt); no_comment = (refl, tt) })
-    by_quote false false f g h = cc
-
 stops_white : (p : LexState) (c : Bool) (b : ℕ) (rest : List ℕ) → (b == newline) ≡ false → stops_bulk (record { state = p; white = false; spliced = c }) b rest ≡ false
 stops_white p c b rest e = rw e (by_sign (b == number_sign) p)
   where

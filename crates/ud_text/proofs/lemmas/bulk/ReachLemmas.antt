@@ -279,9 +279,3 @@ closes bytes at end low high h f e = record {
       ap (λ (n : ℕ). take 2 (drop n bytes)) last
       ∙ two_at bytes (end - 1) star slash (omega (arith, low, high)) (pair_is (get_or bytes (end - 1) 0) (get_or bytes end 0) f) (ap (λ (n : ℕ). get_or bytes n 0) next ∙ e));
 }
-
--- Bytes that begin with two bytes are at least two.
-pub two_long : (l : List ℕ) (a b : ℕ) → take 2 l ≡ a ∷ b ∷ [] → 2 ≤ length l
-two_long [] a b e = cc
-two_long (x ∷ []) a b e = cc
-two_long (x ∷ y ∷ l) a b e = omega arith

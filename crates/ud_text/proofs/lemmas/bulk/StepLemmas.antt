@@ -157,19 +157,6 @@ comment_spans (a ∷ b ∷ l) k e f h g m white =
         unspliced (slash ∷ slash ∷ take k l) k (let e : length (take k l) ≡ k = length-take-le k l (omega arith) in omega (arith, e))
         (ap₂ may_splice (byte k (omega arith)) (byte (suc k) (omega arith) ∙ ap (λ (n : ℕ). get_or (a ∷ b ∷ l) n 0) (sym next)) ∙ m)
 
-pair_more_suc : (l : List ℕ) (at : ℕ) → suc at < length l → NoStarPair (take (suc at) l) → is_star_pair (get_or l at 0) (get_or l (suc at) 0) ≡ false → NoStarPair (take (suc (suc at)) l)
-pair_more_suc [] at h f e = absurd (omega arith)
-pair_more_suc (a ∷ []) at h f e = absurd (omega arith)
-pair_more_suc (a ∷ b ∷ l) zero h f e = (e, tt)
-pair_more_suc (a ∷ b ∷ l) (suc at) h f e = (f.0, pair_more_suc (b ∷ l) at (omega arith) f.1 e)
-
--- one more byte, which makes no pair with the one before it
-pub pair_more : (l : List ℕ) (at : ℕ) → at + 1 < length l → NoStarPair (take (at + 1) l) → is_star_pair (get_or l at 0) (get_or l (at + 1) 0) ≡ false → NoStarPair (take (at + 1 + 1) l)
-pair_more l at h f e =
-    let two : suc (suc at) ≡ at + 1 + 1 = omega arith in
-    subst (λ (n : ℕ). NoStarPair (take n l)) two
-    (pair_more_suc l at (omega arith) (subst (λ (n : ℕ). NoStarPair (take n l)) (add-one at) f) (ap (λ (n : ℕ). is_star_pair (get_or l at 0) (get_or l n 0)) (sym (add-one at)) ∙ e))
-
 -- a byte that isn't white, and white space after it, decide whether the line is white
 pub shows_found : (bytes : List ℕ) (at : ℕ) (begins : Bool) → 0 < at → at ≤ length bytes → are_white (drop at bytes) ≡ true →
     is_white (get_or bytes (at - 1) 0) ≡ false → IsWhiteAfter bytes begins (get_or bytes (at - 1) 0 == newline)

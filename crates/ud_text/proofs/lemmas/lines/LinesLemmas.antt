@@ -85,14 +85,3 @@ represent_rest l text part h = ap (λ (q : SplitLines). q.rest) (represent_part 
 -- a line has bytes, if bytes are appended to it
 longer : (held chunk : List ℕ) (used : ℕ) → used ≤ length chunk → 0 < used → 0 < length (held ++ take used chunk)
 longer held chunk used within some = simp (length-append, length-take) (omega arith)
-
--- a prefix of a chunk, taken or not, belongs to the buffered line, which is then the last one
-pub texts_of-more : (l : LinesState) (text chunk : List ℕ) (used : ℕ) (whole : Bool) → l.whole ≡ false → UpToNewline chunk used whole → 0 < used → (h : LinesRepresent l text) →
-    texts_of (text ++ take used chunk) ≡ h.consumed ++ (l.held ++ take used chunk) ∷ []
-unfolding represent_take
-texts_of-more l text chunk used true part to some h =
-    texts_of-represented (record l { held = l.held ++ take used chunk; whole = true }) (text ++ take used chunk)
-    (longer l.held chunk used to.within some) (represent_take l text chunk used true part to h)
-texts_of-more l text chunk used false part to some h =
-    texts_of-represented (record l { held = l.held ++ take used chunk; whole = false }) (text ++ take used chunk)
-    (longer l.held chunk used to.within some) (represent_take l text chunk used false part to h)
