@@ -38,6 +38,8 @@ SAYS = {
     "ud_diff": "a diff turns a text into the other",
     "ud_tree_args": "options and paths are the words'",
     "ud_pattern": "a match is one by POSIX's rules",
+    "ud_remaining": "a list of conditions is the definition's",
+    "ud_names": "a table of names is the definition's",
     "ud_tree": "a run over a tree asks for no more",
     "unifdef_tree_cli": "main opens the tree",
 }

@@ -38,6 +38,8 @@ SECONDS = {
     "ud_prune": (150, 0, 14),
     "ud_tree_args": (80, 0, 10),
     "ud_pattern": (40, 0, 9),
+    "ud_remaining": (90, 0, 14),
+    "ud_names": (80, 0, 10),
     "ud_engine": (332, 0, 24),
     "ud_diagnostics": (51, 0, 13),
     "unifdef": (82, 0, 20),

@@ -43,6 +43,8 @@ SECONDS = {
     "ud_prune": 75,
     "ud_tree_args": 50,
     "ud_pattern": 25,
+    "ud_remaining": 50,
+    "ud_names": 45,
     "ud_engine": 175,
     "ud_diagnostics": 27,
     "unifdef": 43,

@@ -18,11 +18,11 @@ KeptAt ls i j = (k : ℕ) (d : DiffLine) → i ≤ k → k < j → k < length ls
 between_at : (ls : List DiffLine) (i n k : ℕ) (d : DiffLine) → k < n → get_or (take n (drop i ls)) k d ≡ get_or ls (i + k) d
 between_at ls i n k d low = get_or-take n (drop i ls) k d low ∙ get_or-drop i ls k d
 
--- How many lines are between two positions, at most.
+-- The lines between two positions are no more than the difference.
 between_few : (ls : List DiffLine) (i n : ℕ) → length (take n (drop i ls)) ≡ min n (length ls - i)
 between_few ls i n = length-take n (drop i ls) ∙ ap (λ (k : ℕ). min n k) (length-drop i ls)
 
--- How many lines are between two positions of the script.
+-- The lines between two positions of the script are as many as the difference.
 pub length-between : (ls : List DiffLine) (i j : ℕ) → i ≤ j → j ≤ length ls → length (between i j ls) ≡ j - i
 length-between ls i j h within =
     let few : length (take (j - i) (drop i ls)) ≡ min (j - i) (length ls - i) = between_few ls i (j - i) in
@@ -87,7 +87,7 @@ changes_begin_at ls i j h =
           ((changes_begin (between i j ls) h).1 (signed d)),
     )
 
--- Where a line is a change, kept lines end before it.
+-- Kept lines end before a change.
 pub change_far : (ls : List DiffLine) (i j first : ℕ) → KeptAt ls i j → i ≤ first → first < length ls →
     ((d : DiffLine) → is_change (get_or ls first d).sign ≡ true) → j ≤ first
 change_far [] i j first kept low within is = absurd (omega arith)
@@ -128,7 +128,7 @@ changes_more ls at last d within is h = record {
         let zero_is : at ≡ 0 = omega arith in
         subst (λ (n : ℕ). AreChanges (between n (at + 1) ls)) zero_is (subst AreChanges (sym (between_one ls at d within)) (one (signed (get_or ls at d)) is))
 
--- Where lines begin with a change, the first one isn't kept.
+-- The first of lines that begin with a change isn't kept.
 begins_first : (ls : List DiffLine) (d : DiffLine) → BeginsWithChange ls → is_change (get_or ls 0 d).sign ≡ false → ⊥
 begins_first [] d h is = h
 begins_first (l ∷ ls) d h is = false≢true (sym is ∙ h)

@@ -57,7 +57,7 @@ after_hunk_new ls at start end m k next a b =
     let places : NextPlaces ls at start next.first next.last end = next_places ls at start end next in
     ap₂ (λ (x y : ℕ). x + y) (ap (λ (x : ℕ). x + (start - at)) a ∙ sym (skipped_new ls at start end next)) b ∙ sym (counted_new ls start end (omega arith))
 
--- Where the next hunk ends in both texts.
+-- The next hunk ends there in both texts.
 ends_old : (ls : List DiffLine) (at start end m n : ℕ) → IsNextHunk ls at start end → m ≡ old_upto ls at + (start - at) →
     old_end (hunk_of m n (take (end - start) (drop start ls))) ≡ old_upto ls end
 ends_old ls at start end m n next a =

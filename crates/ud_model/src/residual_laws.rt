@@ -92,7 +92,7 @@ pub fn law_residual_text()
         simplified_cells table rules cells }
 {}
 
-/// What is left of a text with splices has the cells that are left of it without them.
+/// A text with splices keeps the cells that it keeps without them.
 ///
 /// Pieces are only removed, and none moves (C11 5.1.1.2, phase 2).
 pub fn law_spliced_text()

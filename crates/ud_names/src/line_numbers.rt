@@ -3,8 +3,8 @@
 ghost use Rattle.std.specs.Prelude.{◌≡◌, ◌≤◌, ◌-◌, ◌==◌, ℕ, length, drop, take, count_by};
 ghost use Rattle.ud_names.specs.UnlistedLines.{AreCounted, newlines, number_at};
 
-/// How many lines of a text end before some byte. So later lines are numbered without counting from
-/// the start again.
+/// The number of lines of a text that end before some byte. So later lines are numbered without
+/// counting from the start again.
 #[derive(Clone, Copy)]
 pub(crate) struct LineNumbers {
     /// The index of the byte.

@@ -49,7 +49,7 @@ module _ (table : List Argument) where
   abbrev pub remaining_count : Mode → List ℕ → ℕ
   remaining_count mode bytes = named_count (conditions_of mode bytes)
 
--- What is kept of the conditions of some texts: their number, and the list.
+-- The number of the conditions of some texts, and the list.
 pub record RemainingState : Type 0 where
   pub listing : Listing
   pub count : ℕ

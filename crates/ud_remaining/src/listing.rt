@@ -1,8 +1,8 @@
-//! What is kept of conditions.
+//! Whether conditions are counted, listed or explained.
 
 use ud_cond::Rules;
 
-/// What is kept of the conditions.
+/// The result of a search for conditions.
 #[derive(Clone, Copy)]
 pub enum Listing {
     /// Their number.

@@ -27,7 +27,7 @@ pub(crate) enum Reason {
     Decided,
     /// It isn't understood.
     NotUnderstood,
-    /// What is left of it would be read as something else.
+    /// The rest of it would be read as something else.
     Misread,
     /// It names symbols among the arguments of calls alone.
     InArguments,

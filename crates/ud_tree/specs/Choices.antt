@@ -17,6 +17,6 @@ abbrev pub IsChosen : List (List ℕ) → List ℕ → Type 0
 IsChosen patterns name = (is_fresh name ≡ false) × MatchesAny name patterns
 
 -- `IsLeft patterns path`: the patterns don't choose the last name of the path. If there are none,
--- nothing is said of the usual ones.
+-- the usual ones choose, and this allows any path.
 abbrev pub IsLeft : List (List ℕ) → List ℕ → Type 0
 IsLeft patterns path = ¬ (patterns ≡ []) → ¬ (IsChosen patterns (last_name path))

@@ -1,6 +1,6 @@
 -- Remainders: the conditions that still name a symbol of the options.
 --
---   listing_of args   what is kept of them
+--   listing_of args   whether they are counted, listed or explained
 --   mode_of args      the mode in which the lines of an output are read
 --   is_searched args  they are listed or counted
 --   Finds args name output old new   those of an output were added to a report
@@ -25,8 +25,8 @@ rules_of args = record {
   strict = args.plan.run.settings.strict;
 }
 
--- `listing_of args`: what is kept of the conditions that still name a symbol: their number, and
--- under `-r` a line for each one. Under `-p` the line says why the condition stays.
+-- `listing_of args`: the conditions that still name a symbol are counted, and under `-r` there is a
+-- line for each one. Under `-p` the line says why the condition stays.
 abbrev pub listing_of : Arguments → Listing
 listing_of args =
     if args.list_remaining then (if args.plan.prunes then Explained (rules_of args) else Listed)

@@ -94,8 +94,8 @@ fn without_code(text: &str) -> &str {
     }
 }
 
-/// Returns what is kept of the conditions that still name a symbol: their number, and if they are
-/// wanted a line for each one. Under `-p` the line says why the condition stays.
+/// Returns whether the conditions that still name a symbol are counted or listed. Under `-p` each
+/// line of the list says why the condition stays.
 fn listing_of(arguments: &Arguments) -> Listing
     ensures { result ≡ listing_of arguments.now }
 {
@@ -191,7 +191,7 @@ impl Report {
             .add(name, output, job.mode(), symbols)
             .is_err()
         {
-            self.has_lost = true;
+            self.lose();
         }
     }
 

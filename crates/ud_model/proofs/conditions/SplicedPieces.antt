@@ -1,5 +1,4 @@
--- Spliced pieces: what is left of a text with splices has the cells that are left of it without
--- them.
+-- Spliced pieces: a text with splices keeps the cells that it keeps without them.
 use Rattle.std.proofs.Common.{◌≡◌, ℕ, zero, suc, List, [], ◌∷◌, ◌++◌, map, take, drop, Bool, true, false, not, ◌||◌, if◌then◌else◌, refl, ◌∙◌, ap, ap₂, subst}
 use Rattle.ud_model.specs.text.Bytes.{skip_white, are_white}
 use Rattle.ud_model.specs.text.Lexemes.{Cell, shown}

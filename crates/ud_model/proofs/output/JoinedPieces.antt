@@ -1,4 +1,5 @@
--- Joined pieces: the lines of a text of pieces form one line, whose body is the bytes of its cells.
+-- Joined pieces: the lines of a text with splices form one line, whose body is the bytes of its
+-- cells.
 use Rattle.std.proofs.Common.{◌≡◌, ◌≢◌, ℕ, suc, ◌+◌, ◌-◌, List, [], ◌∷◌, ◌++◌, length, map, take, Bool, true, false, not, ◌&&◌, if◌then◌else◌, nat_eq, ◌⊎◌, inl, inr, refl, sym, ◌∙◌, ap, ap₂, subst, append_assoc, append-nil, length-append, ne_eqb, arith}
 use Rattle.std.specs.List.{ends_with, concat, flat_map}
 use Rattle.std.proofs.lemmas.Bool.Decides.{Decides-eqb}
@@ -189,7 +190,7 @@ forms n acc (splice b ∷ ps) e pre body p s i q u =
       body_is = ap₂ (λ (x y : List ℕ). x ++ y) t.1 r.body_is;
     }
 
--- The lines of a text of pieces form one line.
+-- The lines of a text with splices form one line.
 pub lines_form : (ps : List Piece) (e : List ℕ) → AreSpliced ps → IsEnd e → ending_of (map byte_of (cells_among ps) ++ e) ≡ e → ends_with nat_eq (map byte_of (cells_among ps)) (92 ∷ []) ≡ false →
     IsSplicedGroup (lines_of (bytes_among ps ++ e)) e × (flat_map content (lines_of (bytes_among ps ++ e)) ≡ map byte_of (cells_among ps))
 lines_form ps e s i q u =

@@ -1,5 +1,5 @@
--- Logical pieces: the pieces of a logical line are the line, and what is left of them forms the line
--- that is left of the line that they form.
+-- Logical pieces: the pieces of a logical line are the line, and those that stay form the line that
+-- stays of the line that they form.
 use Rattle.std.proofs.Common.{◌≡◌, ◌≢◌, ℕ, suc, ◌-◌, List, [], ◌∷◌, ◌++◌, length, map, take, drop, Bool, true, false, not, ◌&&◌, if◌then◌else◌, nat_eq, inl, inr, Option, Some, None, refl, sym, ◌∙◌, ap, ap₂, subst, append_assoc, append-nil}
 use Rattle.std.specs.List.{ends_with, concat}
 use Rattle.std.proofs.lemmas.List.{take_at, drop_at, take-append-drop, map-append, drop-map, take-map}

@@ -68,7 +68,7 @@ last_push [] l = refl
 last_push (k ∷ []) l = refl
 last_push (k ∷ m ∷ ls) l = last_push (m ∷ ls) l
 
--- What is_joinable says.
+-- The lines `ls` are joinable, fact by fact.
 record IsJoinable (ls : List Line) : Type 0 where
   pub spliced : are_spliced ls ≡ true
   pub keeps : keeps_ending (one_line ls) ≡ true
@@ -249,7 +249,7 @@ module _ (table : List Argument) (rules : Rules) where
         ap (λ (us : List (List ℕ)). left_texts table rules (read_in C (numbered_from 1 us))) (own_texts x c)
         ∙ last_stays table rules c.joins c.last (unjoined_stays c.run c.last refl refl c.joins h) ∙ sym c.is
 
-  -- What becomes of a logical line.
+  -- A logical line as it is read, joined and simplified.
   record Point (x : List ℕ) : Type 0 where
     pub pruned : Closed (simplified_logical table rules x)
     pub joined : Closed (joined_logical x)

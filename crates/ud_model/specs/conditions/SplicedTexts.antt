@@ -1,5 +1,5 @@
--- Spliced texts: the text of a condition over several lines, with its splices, and what is left of
--- it.
+-- Spliced texts: the text of a condition over several lines, with its splices, and the part of it
+-- that stays.
 -- C11 5.1.1.2, phase 2: each backslash before a newline is deleted, with the newline.
 --
 --   Piece                    a cell of the text, or a splice
@@ -7,7 +7,7 @@
 --   bytes_among pieces       the bytes of the pieces, in order
 --   gap_of n pieces          the first `n` cells, with the splices before, between and behind them
 --   token_of n pieces        the first `n` cells, with the splices before and between them
---   left_pieces flags pieces the pieces of the text of a condition that are left by these flags
+--   left_pieces flags pieces the pieces of a condition's text that are left by these flags
 --
 -- A splice in a token belongs to the token, and each other one to the white space that it is in,
 -- which may have no byte. It is removed with that, else it stays. So the cells that are left are
