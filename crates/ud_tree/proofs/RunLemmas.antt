@@ -1,5 +1,5 @@
 -- One file more of a run.
-use Rattle.std.proofs.Common.{◌≡◌, ℕ, ◌+◌, ◌<◌, ◌≤◌, List, [], ◌∷◌, ◌++◌, length, get_or, take, cond, refl, sym, ap, ◌∙◌, subst, append-nil, Bool, true, false, Result, min, ◌-◌, ◌^◌, arith}
+use Rattle.std.proofs.Common.{◌≡◌, ℕ, ◌+◌, ◌<◌, ◌≤◌, List, [], ◌∷◌, ◌++◌, length, get_or, take, cond, refl, sym, ap, ◌∙◌, subst, append-nil, append_assoc, Bool, true, false, Result, min, ◌-◌, ◌^◌, arith}
 use mir.Val.{bool_byte}
 use Rattle.std.proofs.lemmas.List.{take_more, take_all, map-append}
 use Rattle.std.proofs.lemmas.List.Sums.{sum_by_push}
@@ -15,7 +15,7 @@ use Rattle.ud_tree.specs.declared.arguments.Arguments.{Arguments}
 use Rattle.ud_tree.specs.declared.arguments.Task.{Task}
 use Rattle.ud_tree.specs.declared.arguments.Task.TheVariants.{Names}
 use Rattle.ud_tree.specs.Fates.{is_changed, is_same, is_faulty}
-use Rattle.ud_tree.specs.Runs.{fate_of, FileResult, Unshown, EachFile, no_file, then_file, changed_in, faulty_in, edited_in, shown_of, told_of, Counted, names_of}
+use Rattle.ud_tree.specs.Runs.{fate_of, FileResult, Unshown, EachFile, no_file, then_file, changed_in, faulty_in, edited_in, shown_of, told_of, Counted, names_of, nothing_listed, listed_of}
 use Rattle.ud_tree.specs.Statuses.{tree_status}
 use Rattle.ud_tree.specs.Streams.{StreamEnds, Source}
 use Rattle.ud_io.specs.Streams.{Stream, Sends}
@@ -27,7 +27,12 @@ use Rattle.ud_tree.proofs.MessageLemmas.{tells_kept, tells_then, tells_same, out
 use Rattle.ud_tree.specs.Covering.{StandsIn, MissesNone}
 use Rattle.ud_tree.specs.Walks.{IsWalk}
 use Rattle.ud_tree.specs.WalkMessages.{joined, StopsWalk, FindsFiles}
-use Rattle.ud_tree.specs.Writing.{Moment, WritesOne, WritesAll, WritesList}
+use Rattle.ud_names.specs.declared.names.Names.{Names as NameLists}
+use Rattle.ud_names.specs.NameTables.{names_in, Tabulates}
+use Rattle.ud_replace.specs.declared.text_plan.TextPlan.{TextPlan}
+use Rattle.ud_tree.specs.Lists.{Adds, ListsInto}
+use Rattle.ud_tree.specs.Shown.{ListsOne}
+use Rattle.ud_tree.specs.Writing.{Moment, WritesOne, ProcessesOne, WritesAll, WritesList}
 use Rattle.ud_tree.specs.TreeRuns.{DoesBy, DoesOne, DoesJob, Ends, EndsWriting, no_run, ran, RunsTree}
 use Rattle.ud_io.proofs.StreamLemmas.{sends_none, sends_then, sends_same}
 
@@ -94,81 +99,125 @@ counted_push {P = P} {old = old} {mid = mid} {new = new} {before = before} {show
       told_is = ap (λ (x : List ℕ). x ++ r.told) h.told_is ∙ sym (told_push h.results r);
     }
 
--- All files are processed and counted.
-counted_all : {P : List ℕ → List Call → List Call → FileResult → Type 0} {old new : List Call} {counts : Counts} {shown told : List ℕ} (files : List Found) (i : ℕ) →
-    i ≡ length files → Counted P old (names_of (take i files)) new counts shown told → Counted P old (names_of files) new counts shown told
-counted_all {P = P} {old = old} {new = new} {counts = counts} {shown = shown} {told = told} files i is h =
-    let whole : take i files ≡ files = take_all i files (omega arith) in
-    subst (λ (fs : List Found). Counted P old (names_of fs) new counts shown told) whole h
+-- Nothing was added.
+pub adds_none : (lists : NameLists) → Adds lists lists nothing_listed
+adds_none lists = record {
+  names = sym (append-nil lists.list.items);
+  hidden = λ small. omega arith;
+  hidden_list = sym (append-nil lists.hidden_list.items);
+  lists = refl;
+}
+
+-- What is listed of one file more was added.
+adds_push : {old mid new : NameLists} (results : List FileResult) (r : FileResult) → Adds old mid (listed_of results) → Adds mid new r.listed → Adds old new (listed_of (results ++ r ∷ []))
+adds_push {old = old} {mid = mid} {new = new} results r h k = record {
+  names = k.names ∙ ap (λ (x : List ℕ). x ++ r.listed.names) h.names ∙ append_assoc old.list.items (listed_of results).names r.listed.names
+      ∙ ap (λ (x : List ℕ). old.list.items ++ x)
+      (sym (flat_map-append (λ (s : FileResult). s.listed.names) results (r ∷ []) ∙ ap (λ (x : List ℕ). (listed_of results).names ++ x) (append-nil r.listed.names)));
+  hidden = added (listed_of results).hidden (listed_of (results ++ r ∷ [])).hidden (sum_by_push (λ (s : FileResult). s.listed.hidden) results r) h.hidden k.hidden;
+  hidden_list = k.hidden_list ∙ ap (λ (x : List ℕ). x ++ r.listed.hidden_list) h.hidden_list ∙ append_assoc old.hidden_list.items (listed_of results).hidden_list r.listed.hidden_list
+      ∙ ap (λ (x : List ℕ). old.hidden_list.items ++ x)
+      (sym (flat_map-append (λ (s : FileResult). s.listed.hidden_list) results (r ∷ []) ∙ ap (λ (x : List ℕ). (listed_of results).hidden_list ++ x) (append-nil r.listed.hidden_list)));
+  lists = k.lists ∙ h.lists;
+}
+  where
+    added : (s t : ℕ) → t ≡ s + r.listed.hidden → (old.hidden + s < 2 ^ 64 → mid.hidden ≡ old.hidden + s) → (mid.hidden + r.listed.hidden < 2 ^ 64 → new.hidden ≡ mid.hidden + r.listed.hidden) →
+        old.hidden + t < 2 ^ 64 → new.hidden ≡ old.hidden + t
+    added s t e f g small =
+        let is : mid.hidden ≡ old.hidden + s = f (omega (arith, e, small)) in
+        let sum : new.hidden ≡ mid.hidden + r.listed.hidden = g (omega (arith, e, small, is)) in
+        omega (arith, e, is, sum)
 
 -- No file has been processed, and nothing was written.
-pub writes_none : {P : List ℕ → List Call → List Call → FileResult → Type 0} {m : Moment} {r : Report} (counts : Counts) →
-    counts.changed ≡ 0 → counts.unchanged ≡ 0 → counts.faulty ≡ 0 → counts.edited ≡ 0 → WritesAll P m [] r m r counts
-writes_none {m = m} counts a b c d =
-    record { shown = []; told = []; counted = counted_none counts a b c d; sent = sends_none m.out; tells = tells_kept m.err refl refl }
+pub writes_none : {P : List ℕ → List Call → List Call → FileResult → Type 0} {m : Moment} {r : Report} (lists : NameLists) (counts : Counts) →
+    counts.changed ≡ 0 → counts.unchanged ≡ 0 → counts.faulty ≡ 0 → counts.edited ≡ 0 → WritesAll P m [] r m r counts lists lists
+unfolding counted_none
+writes_none {m = m} lists counts a b c d =
+    record { shown = []; told = []; counted = counted_none counts a b c d; sent = sends_none m.out; tells = tells_kept m.err refl refl; adds = adds_none lists }
 
 -- One file more is processed, and what is shown and told of it was written, after the number of
 -- files was shown.
 pub writes_push : {P : List ℕ → List Call → List Call → FileResult → Type 0} {old mid new : Moment} {next : Stream} {r mid_report next_report file_report after_report : Report} {before : Counts}
+    {lists mid_lists new_lists : NameLists}
     (files : List Found) (i : ℕ) (f : Found) (name : List ℕ) (update : Result Update ReplaceError) (edited : ℕ) (fate : Fate) (after : Counts) → i < length files → f ≡ get_or files i f →
-    name ≡ string_bytes f.path → WritesAll P old (names_of (take i files)) r mid mid_report before →
+    name ≡ string_bytes f.path → WritesAll P old (names_of (take i files)) r mid mid_report before lists mid_lists →
     Tells mid_report next_report mid.err next [] → file_report.is_terminal ≡ next_report.is_terminal → file_report.is_shown ≡ next_report.is_shown →
-    WritesOne P name mid.calls new.calls mid.out new.out update edited → TellsResult name update file_report after_report next new.err → fate ≡ fate_of update →
+    ProcessesOne P name mid.calls new.calls mid.out new.out update edited mid_lists new_lists → TellsResult name update file_report after_report next new.err → fate ≡ fate_of update →
     after.changed ≡ before.changed + cond (is_changed fate) 1 0 →
     after.unchanged ≡ before.unchanged + cond (is_same fate) 1 0 →
     after.faulty ≡ before.faulty + cond (is_faulty fate) 1 0 →
     (before.edited + edited < 2 ^ 64 → after.edited ≡ before.edited + edited) →
-    WritesAll P old (names_of (take (i + 1) files)) r new after_report after
+    WritesAll P old (names_of (take (i + 1) files)) r new after_report after lists new_lists
+unfolding counted_push
 writes_push {next = next} files i f name update edited fate after within is named h progress terminal shown p t e a b c d =
     let quiet = tells_then progress (tells_kept next terminal shown) in
+    let w = p.writes in
+    let result : FileResult = record { update = update; shown = w.shown; told = t.told; edited = edited; listed = p.listed } in
     record {
-      shown = h.shown ++ p.shown;
+      shown = h.shown ++ w.shown;
       told = h.told ++ t.told;
-      counted = counted_push files i f name (record { update = update; shown = p.shown; told = t.told; edited = edited }) after within is named h.counted (p.does t.told) t.is_told
-          (rw e at a) (rw e at b) (rw e at c) d;
-      sent = sends_then h.sent p.sent;
+      counted = counted_push files i f name result after within is named h.counted (w.does t.told) t.is_told (rw e at a) (rw e at b) (rw e at c) d;
+      sent = sends_then h.sent w.sent;
       tells = tells_then h.tells (tells_then quiet t.tells);
+      adds = adds_push h.counted.results result h.adds p.adds;
     }
 
 -- All files are processed, and what is shown and told of them was written.
-pub writes_all : {P : List ℕ → List Call → List Call → FileResult → Type 0} {old new : Moment} {r s : Report} {counts : Counts} (files : List Found) (i : ℕ) →
-    i ≡ length files → WritesAll P old (names_of (take i files)) r new s counts → WritesAll P old (names_of files) r new s counts
-writes_all files i is h =
-    record { shown = h.shown; told = h.told; counted = counted_all files i is h.counted; sent = h.sent; tells = h.tells }
+pub writes_all : {P : List ℕ → List Call → List Call → FileResult → Type 0} {old new : Moment} {r s : Report} {counts : Counts} {lists lists' : NameLists} (files : List Found) (i : ℕ) →
+    i ≡ length files → WritesAll P old (names_of (take i files)) r new s counts lists lists' → WritesAll P old (names_of files) r new s counts lists lists'
+writes_all {P = P} {old = old} {new = new} {r = r} {s = s} {counts = counts} {lists = lists} {lists' = lists'} files i is h =
+    let whole : take i files ≡ files = take_all i files (omega arith) in
+    subst (λ (fs : List Found). WritesAll P old (names_of fs) r new s counts lists lists') whole h
 
 -- A file was processed of which nothing is shown.
-pub writes_unshown : {P : List ℕ → List Call → List Call → Result Update ReplaceError → Type 0} {name : List ℕ} {calls calls' : List Call} {update : Result Update ReplaceError} (out : Stream) {n : ℕ} → n ≡ 0 →
-    P name calls calls' update → WritesOne (Unshown P) name calls calls' out out update n
-writes_unshown out none h = record { shown = []; does = λ told. record { does = h; nothing = refl; unedited = none }; sent = sends_none out }
+pub lists_unshown : {plan : TextPlan} {lists : Bool} {name : List ℕ} {calls calls' : List Call} {old new : NameLists} {update : Result Update ReplaceError} (out : Stream) {n : ℕ} → n ≡ 0 →
+    ListsInto plan lists name calls calls' old new update → ProcessesOne (Unshown (ListsOne plan lists)) name calls calls' out out update n old new
+lists_unshown out none h = record {
+  listed = h.listed;
+  writes = record { shown = []; does = λ told. record { does = h.does; nothing = refl; unedited = none }; sent = sends_none out };
+  adds = h.adds;
+}
+
+-- A file was processed of which nothing is listed.
+pub unlisted_one : {P : List ℕ → List Call → List Call → FileResult → Type 0} {name : List ℕ} {calls calls' : List Call} {out out' : Stream} {update : Result Update ReplaceError} {n : ℕ} (lists : NameLists) →
+    WritesOne P name calls calls' out out' update n nothing_listed → ProcessesOne P name calls calls' out out' update n lists lists
+unlisted_one lists h = record { listed = nothing_listed; writes = h; adds = adds_none lists }
 
 -- The task of the arguments does what they ask for.
-pub done_by : (t : Task) (args : Arguments) {name : List ℕ} {calls calls' : List Call} {out out' : Stream} {update : Result Update ReplaceError} {n : ℕ} →
-    args.task ≡ t → WritesOne (DoesBy t args) name calls calls' out out' update n → WritesOne (DoesOne args) name calls calls' out out' update n
-done_by t args {name = name} {calls = calls} {calls' = calls'} {out = out} {out' = out'} {update = update} {n = n} is h =
-    subst (λ (u : Task). WritesOne (DoesBy u args) name calls calls' out out' update n) (sym is) h
+pub done_by : (t : Task) (args : Arguments) {name : List ℕ} {calls calls' : List Call} {out out' : Stream} {update : Result Update ReplaceError} {n : ℕ} {lists lists' : NameLists} →
+    args.task ≡ t → ProcessesOne (DoesBy t args) name calls calls' out out' update n lists lists' → ProcessesOne (DoesOne args) name calls calls' out out' update n lists lists'
+done_by t args {name = name} {calls = calls} {calls' = calls'} {out = out} {out' = out'} {update = update} {n = n} {lists = lists} {lists' = lists'} is h =
+    subst (λ (u : Task). ProcessesOne (DoesBy u args) name calls calls' out out' update n lists lists') (sym is) h
 
 -- A list was written, if it is wanted.
-pub writes_list : (args : Arguments) {a b c : Stream} (names rest : List ℕ) → (¬ (args.task ≡ Names) → names ≡ []) → Sends a b names →
-    Sends b c (cond args.list_remaining rest []) → WritesList args a c
-writes_list args names rest none h k = record {
+pub writes_list : (args : Arguments) (lists : NameLists) (lost : Bool) {a b c : Stream} (names rest : List ℕ) → (¬ (args.task ≡ Names) → names ≡ []) →
+    (args.task ≡ Names → lost ≡ false → Tabulates (names_in lists.list.items) lists.hidden_list.items names) → Sends a b names →
+    Sends b c (cond args.list_remaining rest []) → WritesList args lists lost a c
+writes_list args lists lost names rest none table h k = record {
   listed = names ++ cond args.list_remaining rest [];
+  table = λ is off whole.
+      subst (λ (x : List ℕ). Tabulates (names_in lists.list.items) lists.hidden_list.items x)
+      (sym (append-nil names) ∙ ap (λ (b : Bool). names ++ cond b rest []) (sym off)) (table is whole);
   is_wanted = λ other off. ap (λ (x : List ℕ). x ++ cond args.list_remaining rest []) (none other) ∙ ap (λ (b : Bool). cond b rest []) off;
   sent = sends_then h k;
 }
 
 -- The run ends with the status of its counts.
-pub ends : (job : Job) (files : List Found) {old mid new : Moment} {listed listed_err : Stream} {r mid_report list_report end_report : Report} {counts : Counts} (lost unwritten : Bool) (in_walk faults hidden status : ℕ) →
-    DoesJob job files old r mid mid_report counts → WritesList job.arguments.now mid.out listed →
+pub ends : (job : Job) (files : List Found) {old mid new : Moment} {listed listed_err : Stream} {r mid_report list_report end_report : Report} {counts : Counts} (lost unwritten : Bool) (in_walk faults hidden status : ℕ) (start lists : NameLists) →
+    start.list.items ≡ [] → start.hidden ≡ 0 → start.hidden_list.items ≡ [] → hidden ≡ lists.hidden →
+    DoesJob job files old r mid mid_report counts start lists → WritesList job.arguments.now lists lost mid.out listed →
     TellsIf list_message lost mid_report list_report mid.err listed_err → Sends listed new.out [] → unwritten ≡ new.out.failed → (new.out.failed ≡ false → new.out.unflushed ≡ false) →
     (end : Stream) → TellsIf write_message unwritten list_report end_report listed_err end → TellsEnd job.arguments.now counts faults hidden end_report end new.err →
     new.calls ≡ mid.calls → counts.faulty ≤ faults → (in_walk + (cond lost 1 0 + cond unwritten 1 0) + counts.faulty < 2 ^ 64 → faults ≡ in_walk + (cond lost 1 0 + cond unwritten 1 0) + counts.faulty) →
     (unheard : Bool) → unheard ≡ new.err.failed → status ≡ tree_status job.arguments.now.task job.arguments.now.plan.run.settings.exit_mode unheard faults counts.changed → (job.is_terminal ≡ false → IsPlain r) → EndsWriting job in_walk old files new status
-ends job files {old = old} {new = new} {counts = counts} lost unwritten in_walk faults hidden status w l t f failed flushed end u e same few all unheard heard is plain =
+ends job files {old = old} {new = new} {counts = counts} lost unwritten in_walk faults hidden status start lists no_name none no_condition hidden_now w l t f failed flushed end u e same few all unheard heard is plain =
     let h = w.counted in
     let args = job.arguments.now in
     let of_output = joined (output_messages lost unwritten) in
     let both = tells_same (sym (output_told lost unwritten)) (tells_then t u) in
     let last = last_lines args counts.changed counts.unchanged faults hidden counts.edited e.remaining in
+    let all_names : lists.list.items ≡ (listed_of h.results).names = w.adds.names ∙ ap (λ (x : List ℕ). x ++ (listed_of h.results).names) no_name in
+    let all_hidden : lists.hidden_list.items ≡ (listed_of h.results).hidden_list = w.adds.hidden_list ∙ ap (λ (x : List ℕ). x ++ (listed_of h.results).hidden_list) no_condition in
     record {
       shown = w.shown ++ l.listed;
       told = (w.told ++ of_output) ++ last;
@@ -178,6 +227,10 @@ ends job files {old = old} {new = new} {counts = counts} lost unwritten in_walk 
         each = subst (λ (calls : List Call). EachFile (DoesOne args) old.calls (names_of files) calls h.results) (sym same) h.each;
         listed = l.listed;
         is_wanted = l.is_wanted;
+        is_lost = lost;
+        table = λ is off whole.
+            subst (λ (x : List ℕ). Tabulates (names_in x) (listed_of h.results).hidden_list l.listed) all_names
+            (subst (λ (x : List ℕ). Tabulates (names_in lists.list.items) x l.listed) all_hidden (l.table is off whole));
         shown_is = ap (λ (x : List ℕ). x ++ l.listed) h.shown_is;
         faults = faults;
         reported = rw (← h.counts_are.faulty) few;
@@ -185,12 +238,12 @@ ends job files {old = old} {new = new} {counts = counts} lost unwritten in_walk 
         status_is = is ∙ ap (tree_status args.task args.plan.run.settings.exit_mode unheard faults) h.counts_are.changed
             ∙ ap (λ (b : Bool). tree_status args.task args.plan.run.settings.exit_mode b faults (changed_in h.results)) heard;
         hidden = hidden;
+        hidden_is = λ small. let sum = w.adds.hidden (omega (arith, none, small)) in omega (arith, hidden_now, none, sum);
         edited = counts.edited;
         edited_is = h.counts_are.edited;
         remaining = e.remaining;
         last_is = ap (λ (x : ℕ). last_lines args x counts.unchanged faults hidden counts.edited e.remaining) h.counts_are.changed
             ∙ ap (λ (x : ℕ). last_lines args (changed_in h.results) x faults hidden counts.edited e.remaining) h.counts_are.unchanged;
-        is_lost = lost;
         told_is = ap (λ (x : List ℕ). (x ++ of_output) ++ last) h.told_is ∙ ap (λ (b : Bool). (told_of h.results ++ joined (output_messages lost b)) ++ last) failed;
         faults_are = subst (λ (b : Bool). in_walk + length (output_messages lost b) + faulty_in h.results < 2 ^ 64 → faults ≡ in_walk + length (output_messages lost b) + faulty_in h.results) failed
             (rw (output_count lost unwritten, ← h.counts_are.faulty) all);
@@ -222,17 +275,19 @@ ends_counted {streams = streams} n m same h = record {
   each = h.each;
   listed = h.listed;
   is_wanted = h.is_wanted;
+  is_lost = h.is_lost;
+  table = h.table;
   shown_is = h.shown_is;
   faults = h.faults;
   reported = h.reported;
   flushed = h.flushed;
   status_is = h.status_is;
   hidden = h.hidden;
+  hidden_is = h.hidden_is;
   edited = h.edited;
   edited_is = h.edited_is;
   remaining = h.remaining;
   last_is = h.last_is;
-  is_lost = h.is_lost;
   told_is = h.told_is;
   faults_are = faults_counted n m (length (output_messages h.is_lost streams.failed)) (faulty_in h.results) h.faults same h.faults_are;
 }

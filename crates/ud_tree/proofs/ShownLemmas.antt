@@ -1,5 +1,6 @@
 -- Shown: lemmas on a run over a text that was read.
-use Rattle.std.proofs.Common.{◌≡◌, ◌⊎◌, ℕ, ◌<◌, ◌≤◌, List, [], ◌∷◌, ◌∙◌, Bool, true, false, Some, Result, Ok, Err, sym, subst}
+use Rattle.std.proofs.Common.{◌≡◌, ◌⊎◌, ℕ, ◌<◌, ◌≤◌, List, [], ◌∷◌, ◌++◌, ◌∙◌, Bool, true, false, if◌then◌else◌, Some, Result, Ok, Err, refl, sym, ap, subst, append-nil}
+use Rattle.std.proofs.lemmas.Bool.{true≢false}
 use Rattle.ud_diff.specs.Patching.{IsDiff}
 use Rattle.ud_replace.specs.declared.error.Update.{Update}
 use Rattle.ud_replace.specs.declared.error.Update.TheVariants.{Unchanged, Replaced}
@@ -10,8 +11,9 @@ use Rattle.ud_replace.specs.declared.text_plan.TextPlan.{TextPlan}
 use Rattle.ud_replace.specs.declared.text_plan.TextRun.{TextRun}
 use Rattle.ud_replace.specs.Calls.{Call, was_read}
 use Rattle.ud_replace.specs.TextOutcomes.{TextOptions, IsPlanned, RunsOver, FailsOver, over_memory}
-use Rattle.ud_tree.specs.Runs.{ReadsOne}
-use Rattle.ud_tree.specs.Shown.{WasRead, Fails, fails_over, HasDiff, ShowsFile, same, several, changed, ShowsOne, ListsFile, names_listed}
+use Rattle.ud_model.specs.declared.kind.Mode.{Mode}
+use Rattle.ud_tree.specs.Runs.{ReadsOne, nothing_listed}
+use Rattle.ud_tree.specs.Shown.{WasRead, Fails, fails_over, HasDiff, ShowsFile, same, several, changed, ShowsOne, listed_by, ListsFile, names_listed}
 use Rattle.ud_io.specs.Streams.{Stream}
 use Rattle.ud_tree.specs.Writing.{WritesOne}
 use Rattle.ud_io.proofs.StreamLemmas.{sends_none}
@@ -33,10 +35,20 @@ from_nothing {o = o} {text = text} {output = output} {ran = ran} e h = subst (λ
 pub no_memory : (o : TextOptions) {name text : List ℕ} {stat : FileStat} {calls calls' : List Call} → WasRead name text stat calls calls' → Fails o name calls calls' OutOfMemory
 no_memory o {text = text} {stat = stat} was = fails_over text stat was over_memory
 
--- A file was read, and its names count.
-pub lists : (o : TextOptions) {name text old output : List ℕ} {ran : TextRun} {stat : FileStat} {calls calls' : List Call} →
-    old ≡ [] → WasRead name text stat calls calls' → RunsOver o text old output ran → ListsFile o name calls calls' (Ok Unchanged)
-lists o {text = text} {output = output} {ran = ran} {stat = stat} e was h = names_listed text output ran stat was (from_nothing e h)
+-- What is listed of a file that was read.
+pub lists : (o : TextOptions) (mode : Mode) (hides : Bool) {name text old output : List ℕ} {ran : TextRun} {stat : FileStat} {calls calls' : List Call} →
+    old ≡ [] → WasRead name text stat calls calls' → RunsOver o text old output ran → ListsFile o mode hides name calls calls' (Ok Unchanged) (listed_by mode hides name text output)
+lists o mode hides {text = text} {output = output} {ran = ran} {stat = stat} e was h = names_listed text output ran stat was (from_nothing e h)
+
+-- A list was added, or nothing.
+pub added : (b : Bool) (old more : List ℕ) → (if b then old ++ more else old) ≡ old ++ (if b then more else [])
+added true old more = refl
+added false old more = sym (append-nil old)
+
+-- A whole list was added.
+pub all_added : (b : Bool) (old more all : List ℕ) → b ≡ true → more ≡ all → (if b then old ++ more else old) ≡ old ++ all
+all_added true old more all is whole = ap (λ (x : List ℕ). old ++ x) whole
+all_added false old more all is whole = absurd (true≢false (sym is))
 
 -- The diff of a text and its output is the diff of the outcome.
 pub has_diff : (o : TextOptions) (name text output seen diff : List ℕ) (ran : TextRun) → RunsOver o text [] output ran → ran.differs ≡ true → seen ≡ output →
@@ -52,7 +64,7 @@ has_diff o name text output seen diff ran h e p is = record {
 
 -- Nothing was written of a file.
 pub shows_none : {plan : TextPlan} {into : Bool} {name : List ℕ} {calls calls' : List Call} {update : Result Update ReplaceError} (out : Stream) {n : ℕ} → n ≡ 0 → ReadsOne name calls calls' →
-    ((o : TextOptions) → IsPlanned plan o → ShowsFile o into name calls calls' update [] 0) → WritesOne (ShowsOne plan into) name calls calls' out out update n
+    ((o : TextOptions) → IsPlanned plan o → ShowsFile o into name calls calls' update [] 0) → WritesOne (ShowsOne plan into) name calls calls' out out update n nothing_listed
 shows_none {into = into} {name = name} {calls = calls} {calls' = calls'} {update = update} out none read h = record {
   shown = [];
   does = λ told. record { reads = read; shows = λ o p. subst (λ (k : ℕ). ShowsFile o into name calls calls' update [] k) (sym none) (h o p) };

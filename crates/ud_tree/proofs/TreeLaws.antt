@@ -63,7 +63,7 @@ reads_touch w (then_file {mid = mid} {next = next} {name = name} {result = resul
 shows_touch : {plan : TextPlan} {into : Bool} {old : List Call} {names : List (List ℕ)} {new : List Call} {results : List FileResult} → EachFile (ShowsOne plan into) old names new results → EachCall TouchesNothing old new
 shows_touch h = reads_touch (λ name old new result k. k.reads) h
 
-lists_touch : {plan : TextPlan} {old : List Call} {names : List (List ℕ)} {new : List Call} {results : List FileResult} → EachFile (Unshown (ListsOne plan)) old names new results → EachCall TouchesNothing old new
+lists_touch : {plan : TextPlan} {lists : Bool} {old : List Call} {names : List (List ℕ)} {new : List Call} {results : List FileResult} → EachFile (Unshown (ListsOne plan lists)) old names new results → EachCall TouchesNothing old new
 lists_touch h = reads_touch (λ name old new result k. k.does.reads) h
 
 reads_by : (args : Arguments) (t : Task) → args.task ≡ t → ¬ (t ≡ Replace) → {old : List Call} {names : List (List ℕ)} {new : List Call} {results : List FileResult} →

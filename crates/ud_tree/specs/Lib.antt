@@ -17,6 +17,7 @@ pub mod TreeDiffs
 pub mod Summaries
 pub mod Messages
 pub mod Shown
+pub mod Lists
 pub mod WalkMessages
 pub mod Streams
 pub mod Writing

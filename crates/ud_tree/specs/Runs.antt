@@ -3,7 +3,8 @@
 --   ReadsOne name old new   a file was read, and nothing else was asked
 --   fate_of r               what became of a file, by the result of replacing it
 --   ReplacesOne plan into name old new update   a file was replaced, or its name took no memory
---   FileResult              the result of a file, and what is written of it
+--   Listed, nothing_listed  what is listed of a file
+--   FileResult              the result of a file, and what is written and listed of it
 --   Unshown P name old new result   `P` holds of a file, of which nothing is written to the output
 --   EachFile P old names new results   `P` holds of each file in turn, and nothing else was asked
 --   changed_in results, same_in results, faulty_in results   the numbers of each fate
@@ -11,6 +12,7 @@
 --   CountsAre counts results   these are the counts
 --   shown_of results        what is written of the files to the output
 --   told_of results         what is written of the files to the error stream
+--   listed_of results       what is listed of the files
 --   Counted P old names new counts shown told   each file in turn, with the numbers of each fate
 --   names_of files          the paths of the files that the walk found
 --
@@ -59,19 +61,33 @@ pub data ReplacesOne (plan : TextPlan) (into : Bool) (name : List ℕ) (old new 
       ReplacesOne plan into name old new r
   no_name : new ≡ old → ReplacesOne plan into name old new (Err OutOfMemory)
 
+-- `Listed`: what is listed of a file: the list of its names, the number of its conditions whose
+-- names can't be listed, and the list of these conditions.
+pub record Listed : Type 0 where
+  pub names : List ℕ
+  pub hidden : ℕ
+  pub hidden_list : List ℕ
+
+-- `nothing_listed`: nothing is listed of a file.
+abbrev pub nothing_listed : Listed
+nothing_listed = record { names = []; hidden = 0; hidden_list = [] }
+
 -- `FileResult`: the result of a file, the bytes that are written of it to the output and to the
--- error stream, and the number of conditions of its output that were edited, or would be.
+-- error stream, the number of conditions of its output that were edited, or would be, and what is
+-- listed of it.
 pub record FileResult : Type 0 where
   pub update : Result Update ReplaceError
   pub shown : List ℕ
   pub told : List ℕ
   pub edited : ℕ
+  pub listed : Listed
 
--- `Unshown P name old new result`: `P` holds of the file and its result. Nothing is written of it
--- to the output, and no condition is edited.
-pub record Unshown (P : List ℕ → List Call → List Call → Result Update ReplaceError → Type 0)
+-- `Unshown P name old new result`: `P` holds of the file, its result, and what is listed of it.
+-- Nothing else is written of it to the output, and no condition is edited.
+pub record Unshown
+    (P : List ℕ → List Call → List Call → Result Update ReplaceError → Listed → Type 0)
     (name : List ℕ) (old new : List Call) (result : FileResult) : Type 0 where
-  pub does : P name old new result.update
+  pub does : P name old new result.update result.listed
   pub nothing : result.shown ≡ []
   pub unedited : result.edited ≡ 0
 
@@ -117,6 +133,14 @@ shown_of results = flat_map (λ r. r.shown) results
 -- `told_of results`: what is written of the files to the error stream, in order.
 abbrev pub told_of : List FileResult → List ℕ
 told_of results = flat_map (λ r. r.told) results
+
+-- `listed_of results`: what is listed of the files, in order.
+abbrev pub listed_of : List FileResult → Listed
+listed_of results = record {
+  names = flat_map (λ r. r.listed.names) results;
+  hidden = sum_by (λ r. r.listed.hidden) results;
+  hidden_list = flat_map (λ r. r.listed.hidden_list) results;
+}
 
 -- `Counted P old names new counts shown told`: `P` holds of each file in turn, and `counts` has the
 -- numbers of their fates. `shown` and `told` are written of them.

@@ -5,12 +5,15 @@
 --   HasDiff o name text diff edited  the diff of a text and its output
 --   ShowsFile o into name calls calls' update shown edited   a file was read, and its diff shown
 --   ShowsOne plan into name calls calls' result   the same for all options of a plan
---   ListsFile o name calls calls' update   a file was read, and its names count
---   ListsOne plan name calls calls' update   the same for all options of a plan
+--   listed_by mode lists name text output   what is listed of a file with these bytes
+--   ListsFile o mode lists name calls calls' update listed   a file was read, and this is listed
+--   ListsOne plan lists name calls calls' update listed   the same for all options of a plan
 --
 -- `calls` and `calls'` are the calls before and after, the newest first.
 use Rattle.std.specs.Prelude.{◌≡◌, ◌⊎◌, ℕ, ◌<◌, ◌≤◌, List, [], ◌∷◌, Bool, true, false}
-use Rattle.std.specs.Prelude.{Some, None, Result, Ok, Err}
+use Rattle.std.specs.Prelude.{Some, None, Result, Ok, Err, length, if◌then◌else◌}
+use Rattle.ud_model.specs.sections.Items.{mode_by}
+use Rattle.ud_model.specs.declared.kind.Mode.{Mode}
 use Rattle.ud_diff.specs.Patching.{IsDiff}
 use Rattle.ud_replace.specs.declared.error.Update.{Update}
 use Rattle.ud_replace.specs.declared.error.Update.TheVariants.{Unchanged, Replaced}
@@ -23,7 +26,8 @@ use Rattle.ud_replace.specs.declared.text_plan.TextRun.{TextRun}
 use Rattle.ud_replace.specs.Calls.{Call, was_read}
 use Rattle.ud_replace.specs.TextOutcomes.{TextOptions, IsPlanned, TextOutcome, HasTextOutcome}
 use Rattle.ud_replace.specs.TextOutcomes.{RunsOver, FailsOver}
-use Rattle.ud_tree.specs.Runs.{FileResult, ReadsOne}
+use Rattle.ud_names.specs.UnlistedConditions.{unlisted_in, unlisted_text}
+use Rattle.ud_tree.specs.Runs.{FileResult, ReadsOne, Listed}
 
 -- `WasRead name text stat old new`: the file `name` was read, and nothing else was asked. Its bytes
 -- are `text`, and `stat` was known of it before.
@@ -79,19 +83,34 @@ pub record ShowsOne (plan : TextPlan) (into : Bool) (name : List ℕ) (calls cal
   pub shows : (o : TextOptions) → IsPlanned plan o →
       ShowsFile o into name calls calls' result.update result.shown result.edited
 
--- `ListsFile o name calls calls' update`: the file `name` was read, its text has no fault, and the
--- result is `Unchanged`. Or `Fails` is true of the error.
-pub data ListsFile (o : TextOptions) (name : List ℕ) (calls calls' : List Call) :
-    Result Update ReplaceError → Type 0 where
-  unlisted : {e : ReplaceError} → Fails o name calls calls' e →
-      ListsFile o name calls calls' (Err e)
+-- `listed_by mode lists name text output`: what is listed of the file `name` with these bytes, by
+-- the output for them: its names, and its conditions whose names can't be listed, which are counted
+-- and, if `lists`, listed.
+abbrev pub listed_by : Mode → Bool → List ℕ → List ℕ → List ℕ → Listed
+listed_by mode lists name text output = record {
+  names = output;
+  hidden = length (unlisted_in mode text);
+  hidden_list = if lists then unlisted_text name mode text else [];
+}
+
+-- `ListsFile o mode lists name calls calls' update listed`: the file `name` was read, its text has
+-- no fault, the result is `Unchanged`, and this is listed. Or `Fails` is true of the error. Then
+-- no condition is listed, and some bytes are the names up to the fault: nothing is said of them.
+pub data ListsFile (o : TextOptions) (mode : Mode) (lists : Bool) (name : List ℕ)
+    (calls calls' : List Call) : Result Update ReplaceError → Listed → Type 0 where
+  unlisted : {e : ReplaceError} (names : List ℕ) → Fails o name calls calls' e →
+      ListsFile o mode lists name calls calls' (Err e)
+      (record { names = names; hidden = 0; hidden_list = [] })
   names_listed : (text output : List ℕ) (ran : TextRun) (stat : FileStat) →
       WasRead name text stat calls calls' → RunsOver o text [] output ran →
-      ListsFile o name calls calls' (Ok Unchanged)
+      ListsFile o mode lists name calls calls' (Ok Unchanged)
+      (listed_by mode lists name text output)
 
--- `ListsOne plan name calls calls' update`: the file `name` was read once. Its result is that of
--- the text that was read, for the options of the plan.
-pub record ListsOne (plan : TextPlan) (name : List ℕ) (calls calls' : List Call)
-    (update : Result Update ReplaceError) : Type 0 where
+-- `ListsOne plan lists name calls calls' update listed`: the file `name` was read once. Its result,
+-- and what is listed of it, are those of the text that was read, for the options of the plan. The
+-- lines are read in the mode of the plan.
+pub record ListsOne (plan : TextPlan) (lists : Bool) (name : List ℕ) (calls calls' : List Call)
+    (update : Result Update ReplaceError) (listed : Listed) : Type 0 where
   pub reads : ReadsOne name calls calls'
-  pub lists : (o : TextOptions) → IsPlanned plan o → ListsFile o name calls calls' update
+  pub lists_file : (o : TextOptions) → IsPlanned plan o →
+      ListsFile o (mode_by plan.run.settings.plain) lists name calls calls' update listed

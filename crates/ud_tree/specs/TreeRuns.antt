@@ -3,7 +3,7 @@
 --   DoesBy task args name old new result   what a task does with a file
 --   DoesOne args name old new result       what the arguments ask for is done with a file
 --   Ends args in_walk streams old names new shown told last status   all files are processed
---   DoesJob job files before report after report' counts   the same for all files
+--   DoesJob job files before report after report' counts lists lists'   the same for all files
 --   EndsWriting job in_walk before files after status   the same, and all was written
 --   IsRun args given left old new messages streams shown told last status   a whole run
 --   Run, IsRunOf run                           its arguments, calls, output and status
@@ -25,7 +25,9 @@ use Rattle.ud_tree.specs.declared.job.Job.{Job}
 use Rattle.ud_tree.specs.declared.report.Report.{Report}
 use Rattle.ud_tree.specs.declared.walk.Found.{Found}
 use Rattle.ud_tree.specs.Changes.{ReplacesShowing}
-use Rattle.ud_tree.specs.Runs.{FileResult, Unshown, EachFile, shown_of, told_of}
+use Rattle.ud_names.specs.declared.names.Names.{Names as NameLists}
+use Rattle.ud_names.specs.NameTables.{names_in, Tabulates}
+use Rattle.ud_tree.specs.Runs.{FileResult, Unshown, EachFile, shown_of, told_of, listed_of}
 use Rattle.ud_tree.specs.Runs.{changed_in, same_in, faulty_in, edited_in, names_of}
 use Rattle.ud_tree.specs.Shown.{ShowsOne, ListsOne}
 use Rattle.ud_tree.specs.Messages.{output_messages}
@@ -43,26 +45,30 @@ use Rattle.ud_tree.specs.Statuses.{tree_status}
 abbrev pub DoesBy : Task → Arguments → List ℕ → List Call → List Call → FileResult → Type 0
 DoesBy Replace args = ReplacesShowing args.plan args.write_into args.show_changes
 DoesBy Diff args = ShowsOne args.plan args.write_into
-DoesBy Names args = Unshown (ListsOne args.plan)
+DoesBy Names args = Unshown (ListsOne args.plan args.list_hidden)
 
 -- `DoesOne args name old new result`: what the arguments ask for is done with the file `name`.
 abbrev pub DoesOne : Arguments → List ℕ → List Call → List Call → FileResult → Type 0
 DoesOne args = DoesBy args.task args
 
--- `DoesJob job files before report after report' counts`: what the arguments ask for is done with
--- each file in turn, and what is shown and told of them was written.
-abbrev pub DoesJob : Job → List Found → Moment → Report → Moment → Report → Counts → Type 0
-DoesJob job files before report after report' counts =
+-- `DoesJob job files before report after report' counts lists lists'`: what the arguments ask for
+-- is done with each file in turn, what is shown and told of them was written, and what is listed
+-- of them was added to `lists`.
+abbrev pub DoesJob : Job → List Found → Moment → Report → Moment → Report → Counts → NameLists →
+    NameLists → Type 0
+DoesJob job files before report after report' counts lists lists' =
     WritesAll (DoesOne job.arguments.now) before (names_of files) report after report'
-    counts
+    counts lists lists'
 
 -- `Ends args in_walk streams old names new shown told last status`: it is done with each file in
--- turn. What is shown of them comes first, and then a list, if one is wanted. The output has failed
--- or is flushed. The status is that of some number of faults, at least one for each faulty file,
--- and of the number of changed files. It is 2 if the error stream has failed. The last lines have
--- the same numbers. The messages of the faulty files come first, then those about the output, which
--- has one if it has failed, and then the last lines. There is one fault for each message, and for
--- each of the walk.
+-- turn. What is shown of them comes first, and then a list, if one is wanted. If names are listed,
+-- that is the table of the names of all files, after their conditions whose names can't be listed,
+-- unless some was lost for want of memory, of which there is a message. The output has failed or is
+-- flushed. The status is that of some number of faults, at least one for each faulty file, and of
+-- the number of changed files. It is 2 if the error stream has failed. The last lines have the same
+-- numbers, and that of the conditions whose names can't be listed. The messages of the faulty files
+-- come first, then those about the output, which has one if it has failed, and then the last lines.
+-- There is one fault for each message, and for each of the walk.
 pub record Ends (args : Arguments) (in_walk : ℕ) (streams : StreamEnds)
     (old : List Call) (names : List (List ℕ)) (new : List Call) (shown told last : List ℕ)
     (status : ℕ) : Type 0 where
@@ -70,6 +76,9 @@ pub record Ends (args : Arguments) (in_walk : ℕ) (streams : StreamEnds)
   pub each : EachFile (DoesOne args) old names new results
   pub listed : List ℕ
   pub is_wanted : ¬ (args.task ≡ Names) → args.list_remaining ≡ false → listed ≡ []
+  pub is_lost : Bool
+  pub table : args.task ≡ Names → args.list_remaining ≡ false → is_lost ≡ false →
+      Tabulates (names_in (listed_of results).names) (listed_of results).hidden_list listed
   pub shown_is : shown ≡ shown_of results ++ listed
   pub faults : ℕ
   pub reported : faulty_in results ≤ faults
@@ -77,12 +86,12 @@ pub record Ends (args : Arguments) (in_walk : ℕ) (streams : StreamEnds)
   pub status_is : status ≡ tree_status args.task args.plan.run.settings.exit_mode
       streams.unheard faults (changed_in results)
   pub hidden : ℕ
+  pub hidden_is : (listed_of results).hidden < 2 ^ 64 → hidden ≡ (listed_of results).hidden
   pub edited : ℕ
   pub edited_is : edited_in results < 2 ^ 64 → edited ≡ edited_in results
   pub remaining : ℕ
   pub last_is : last ≡ last_lines args (changed_in results) (same_in results) faults hidden
       edited remaining
-  pub is_lost : Bool
   pub told_is : told ≡ told_of results ++ joined (output_messages is_lost streams.failed) ++ last
   pub faults_are :
       in_walk + length (output_messages is_lost streams.failed) + faulty_in results < 2 ^ 64 →

@@ -2,20 +2,26 @@
 --
 --   Moment                                the calls so far, the output and the error stream
 --   moment history contents reported tree out err   those of a tree and two writers
---   WritesOne P name calls calls' out out' update edited   a file was processed, and shown
---   WritesAll P before names report after report' counts   each file in turn was processed
---   WritesList args out out'              what is listed after the files was written
-use Rattle.std.specs.Prelude.{◌≡◌, ℕ, List, [], Option, Result, false}
+--   WritesOne P name calls calls' out out' update edited listed   a file was processed, and shown
+--   ProcessesOne P name calls calls' out out' update edited lists lists'
+--                                         the same, and what is listed of it was added
+--   WritesAll P before names report after report' counts lists lists'
+--                                         each file in turn was processed
+--   WritesList args names lost out out'   what is listed after the files was written
+use Rattle.std.specs.Prelude.{◌≡◌, ℕ, List, [], Option, Result, Bool, false}
 use Rattle.ud_io.specs.Watched.{WatchedState}
 use Rattle.ud_replace.specs.declared.error.Update.{Update}
 use Rattle.ud_replace.specs.declared.error.ReplaceError.{ReplaceError}
+use Rattle.ud_names.specs.declared.names.Names.{Names as NameLists}
+use Rattle.ud_names.specs.NameTables.{names_in, Tabulates}
 use Rattle.ud_replace.specs.Calls.{Call}
 use Rattle.ud_tree.specs.declared.arguments.Arguments.{Arguments}
 use Rattle.ud_tree.specs.declared.arguments.Task.TheVariants.{Names}
 use Rattle.ud_tree.specs.declared.counts.Counts.{Counts}
 use Rattle.ud_tree.specs.declared.report.Report.{Report}
 use Rattle.ud_tree.specs.Messages.{Tells}
-use Rattle.ud_tree.specs.Runs.{FileResult, Counted}
+use Rattle.ud_tree.specs.Lists.{Adds}
+use Rattle.ud_tree.specs.Runs.{FileResult, Counted, Listed, listed_of}
 use Rattle.ud_io.specs.Streams.{Stream, stream_of, Sends}
 
 -- `Moment`: the calls so far, the newest first, the output and the error stream.
@@ -34,12 +40,12 @@ moment history contents reported tree out err = record {
   err = stream_of reported err;
 }
 
--- `WritesOne P name calls calls' out out' update edited`: `P` holds of a file with this result and
--- this number of edited conditions, and what is shown of it was written. `calls` and `calls'` are
--- the calls before and after it.
+-- `WritesOne P name calls calls' out out' update edited listed`: `P` holds of a file with this
+-- result, this number of edited conditions, and what is listed of it. What is shown of it was
+-- written. `calls` and `calls'` are the calls before and after it.
 pub record WritesOne (P : List ℕ → List Call → List Call → FileResult → Type 0) (name : List ℕ)
     (calls calls' : List Call) (out out' : Stream) (update : Result Update ReplaceError)
-    (edited : ℕ) : Type 0 where
+    (edited : ℕ) (listed : Listed) : Type 0 where
   pub shown : List ℕ
   pub does : (told : List ℕ) →
       P name calls calls' (record {
@@ -47,23 +53,39 @@ pub record WritesOne (P : List ℕ → List Call → List Call → FileResult �
         shown = shown;
         told = told;
         edited = edited;
+        listed = listed;
       })
   pub sent : Sends out out' shown
 
--- `WritesAll P before names report after report' counts`: `P` holds of each file in turn, `counts`
--- has the numbers of their fates, and what is shown and told of them was written in this order.
+-- `ProcessesOne P name calls calls' out out' update edited lists lists'`: the same, and what is
+-- listed of the file was added to `lists`.
+pub record ProcessesOne (P : List ℕ → List Call → List Call → FileResult → Type 0) (name : List ℕ)
+    (calls calls' : List Call) (out out' : Stream) (update : Result Update ReplaceError)
+    (edited : ℕ) (lists lists' : NameLists) : Type 0 where
+  pub listed : Listed
+  pub writes : WritesOne P name calls calls' out out' update edited listed
+  pub adds : Adds lists lists' listed
+
+-- `WritesAll P before names report after report' counts lists lists'`: `P` holds of each file in
+-- turn, `counts` has the numbers of their fates, and what is shown and told of them was written in
+-- this order. What is listed of them was added to `lists`.
 pub record WritesAll (P : List ℕ → List Call → List Call → FileResult → Type 0)
     (before : Moment) (names : List (List ℕ)) (report : Report) (after : Moment)
-    (report' : Report) (counts : Counts) : Type 0 where
+    (report' : Report) (counts : Counts) (lists lists' : NameLists) : Type 0 where
   pub shown : List ℕ
   pub told : List ℕ
   pub counted : Counted P before.calls names after.calls counts shown told
   pub sent : Sends before.out after.out shown
   pub tells : Tells report report' before.err after.err told
+  pub adds : Adds lists lists' (listed_of counted.results)
 
--- `WritesList args out out'`: a list was written: nothing, unless names or the conditions that
--- still name a symbol are to be listed.
-pub record WritesList (args : Arguments) (out out' : Stream) : Type 0 where
+-- `WritesList args names lost out out'`: a list was written: nothing, unless names or the
+-- conditions that still name a symbol are to be listed. Names are listed by a table of them, after
+-- the conditions whose names can't be, unless some of that was lost for want of memory.
+pub record WritesList (args : Arguments) (names : NameLists) (lost : Bool) (out out' : Stream) :
+    Type 0 where
   pub listed : List ℕ
+  pub table : args.task ≡ Names → args.list_remaining ≡ false → lost ≡ false →
+      Tabulates (names_in names.list.items) names.hidden_list.items listed
   pub is_wanted : ¬ (args.task ≡ Names) → args.list_remaining ≡ false → listed ≡ []
   pub sent : Sends out out' listed

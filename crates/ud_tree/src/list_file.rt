@@ -1,6 +1,7 @@
 //! Listing the names of one file.
 
-ghost use Rattle.ud_tree.specs.Shown.{ListsOne};
+ghost use Rattle.std.specs.Prelude.{◌≡◌};
+ghost use Rattle.ud_tree.specs.Lists.{ListsInto};
 
 use crate::job::Job;
 use crate::run_file::run_file;
@@ -23,8 +24,9 @@ pub(crate) fn list_file<T: Tree>(
     file: FileAt<'_>,
     names: &mut Names,
 ) -> Result<Update, ReplaceError>
-    ensures { ListsOne job.now.arguments.now.plan file.entry.name.now
-        (T.history tree.old) (T.history tree.new) result }
+    requires lists { names.old.lists_hidden ≡ job.now.arguments.now.list_hidden }
+    ensures { ListsInto job.now.arguments.now.plan job.now.arguments.now.list_hidden
+        file.entry.name.now (T.history tree.old) (T.history tree.new) names.old names.new result }
 {
     let mut listed = Watched::new(Vec::<u8>::new(job.alloc));
     let ran = run_file(job, tree, file, &mut listed);
@@ -33,9 +35,11 @@ pub(crate) fn list_file<T: Tree>(
         Ok(ran) => ran,
         Err(error) => return Err(error),
     };
-    let counted = names.add_hidden(file.name, ran.text.as_slice(), job.mode());
-    if added.is_err() || counted.is_err() {
+    if added.is_err() {
         return Err(ReplaceError::OutOfMemory);
     }
-    Ok(Update::Unchanged)
+    match names.add_hidden(file.name, ran.text.as_slice(), job.mode()) {
+        Ok(()) => Ok(Update::Unchanged),
+        Err(_) => Err(ReplaceError::OutOfMemory),
+    }
 }

@@ -3,7 +3,7 @@
 ghost use Rattle.std.specs.Prelude.{◌≡◌};
 ghost use Rattle.ud_io.specs.Streams.{stream_of};
 ghost use Rattle.ud_tree.specs.TreeRuns.{DoesJob, DoesOne};
-ghost use Rattle.ud_tree.specs.Writing.{WritesOne, moment};
+ghost use Rattle.ud_tree.specs.Writing.{ProcessesOne, moment};
 
 use crate::arguments::Task;
 use crate::counts::Counts;
@@ -31,9 +31,11 @@ pub(crate) fn process_files<T: Tree, W: Write, E: Write>(
     report: &mut Report,
     err: &mut Watched<E>,
 ) -> Counts
+    requires { names.old.lists_hidden ≡ job.now.arguments.now.list_hidden }
     ensures { DoesJob job.now files.now
         (moment T.history W.contents E.contents tree.old out.old err.old) report.old
-        (moment T.history W.contents E.contents tree.new out.new err.new) report.new result }
+        (moment T.history W.contents E.contents tree.new out.new err.new) report.new result
+        names.old names.new }
 {
     let mut counts = Counts::new();
     for (done, found) in files.iter().enumerate() {
@@ -63,9 +65,10 @@ fn process_file<T: Tree, W: Write>(
     edited: &mut usize,
 ) -> Result<Update, ReplaceError>
     requires none { edited.old ≡ 0 }
-    ensures writes { WritesOne (DoesOne job.now.arguments.now) file.entry.name.now
+    requires lists { names.old.lists_hidden ≡ job.now.arguments.now.list_hidden }
+    ensures writes { ProcessesOne (DoesOne job.now.arguments.now) file.entry.name.now
         (T.history tree.old) (T.history tree.new) (stream_of W.contents out.old)
-        (stream_of W.contents out.new) result edited.new }
+        (stream_of W.contents out.new) result edited.new names.old names.new }
     ensures terminal { report.new.is_terminal ≡ report.old.is_terminal }
     ensures shown { report.new.is_shown ≡ report.old.is_shown }
 {

@@ -4,7 +4,7 @@ ghost use Rattle.std.specs.Prelude.{◌≡◌, [], true, false, Ok, is_ok};
 ghost use Rattle.ud_replace.specs.TextOutcomes.{TextOptions, IsPlanned};
 ghost use Rattle.ud_tree.specs.Changes.{KeepsOne, ReplacesShowing, ShowsChange};
 ghost use Rattle.ud_tree.specs.Fates.{is_changed};
-ghost use Rattle.ud_tree.specs.Runs.{ReplacesOne, fate_of};
+ghost use Rattle.ud_tree.specs.Runs.{ReplacesOne, fate_of, nothing_listed};
 ghost use Rattle.ud_io.specs.Streams.{stream_of};
 ghost use Rattle.ud_tree.specs.Writing.{WritesOne};
 
@@ -39,7 +39,7 @@ pub(crate) fn replace_file<T: Tree, W: Write>(
         (ReplacesShowing job.now.arguments.now.plan job.now.arguments.now.write_into
         job.now.arguments.now.show_changes) file.entry.name.now (T.history tree.old)
         (T.history tree.new) (stream_of W.contents out.old) (stream_of W.contents out.new) result
-        edited.new }
+        edited.new nothing_listed }
     ensures terminal { report.new.is_terminal ≡ report.old.is_terminal }
     ensures shown { report.new.is_shown ≡ report.old.is_shown }
 {

@@ -281,8 +281,8 @@ fn write_lists<W: Write, E: Write>(
     err: &mut Watched<E>,
     names: &Names,
 ) -> bool
-    ensures writes { WritesList job.now.arguments.now (stream_of W.contents out.old)
-        (stream_of W.contents out.new) }
+    ensures writes { WritesList job.now.arguments.now names.now result
+        (stream_of W.contents out.old) (stream_of W.contents out.new) }
     ensures told { TellsIf list_message result report.old report.new
         (stream_of E.contents err.old) (stream_of E.contents err.new) }
     ensures whole { result ≡ false → report.old.has_lost ≡ false }
@@ -301,7 +301,11 @@ fn write_lists<W: Write, E: Write>(
 /// Appends the names that were counted, if they are to be listed, after the conditions that
 /// couldn't be. Returns false if memory ran out.
 fn append_names(job: &Job<'_>, names: &Names, list: &mut Vec<u8>) -> bool
-    ensures { ¬ (job.now.arguments.now.task ≡ Task.Names) → list.new.items ≡ list.old.items }
+    ensures other { ¬ (job.now.arguments.now.task ≡ Task.Names) →
+        list.new.items ≡ list.old.items }
+    ensures names { result ≡ true → job.now.arguments.now.task ≡ Task.Names →
+        Tabulates (names_in names.now.list.items)
+        (list.old.items ++ names.now.hidden_list.items) list.new.items }
 {
     match job.arguments.task {
         Task::Names => append_lists(names, list).is_ok(),

@@ -1,6 +1,7 @@
 //! Showing what would change of one file.
 
 ghost use Rattle.std.specs.Prelude.{◌≡◌, ◌⊎◌, ◌<◌, ◌≤◌, true, false};
+ghost use Rattle.ud_tree.specs.Runs.{nothing_listed};
 ghost use Rattle.ud_tree.specs.Shown.{ShowsOne};
 ghost use Rattle.ud_io.specs.Streams.{stream_of};
 ghost use Rattle.ud_tree.specs.Writing.{WritesOne};
@@ -36,7 +37,8 @@ pub(crate) fn show_file<T: Tree, W: Write>(
     ensures writes { WritesOne
         (ShowsOne job.now.arguments.now.plan job.now.arguments.now.write_into)
         file.entry.name.now (T.history tree.old) (T.history tree.new)
-        (stream_of W.contents out.old) (stream_of W.contents out.new) result edited.new }
+        (stream_of W.contents out.old) (stream_of W.contents out.new) result edited.new
+        nothing_listed }
     ensures terminal { report.new.is_terminal ≡ report.old.is_terminal }
     ensures shown { report.new.is_shown ≡ report.old.is_shown }
 {

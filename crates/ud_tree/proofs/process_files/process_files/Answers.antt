@@ -1,17 +1,19 @@
-use Rattle.std.proofs.Common.{arith}
+use Rattle.std.proofs.Common.{◌∙◌, arith}
 use Rattle.ud_tree.proofs.RunLemmas.{writes_none, writes_push, writes_all}
 use Rattle.ud_tree.proofs.process_files.process_files.Goals as goal
 
 pub loop-done-init : goal.loop-done-init
 loop-done-init g c = record {
   counted = omega arith;
-  written = writes_none c.new-counts.result c.new-counts.ensures.changed c.new-counts.ensures.unchanged c.new-counts.ensures.faulty
+  lists = c.requires;
+  written = writes_none c.args.names.now c.new-counts.result c.new-counts.ensures.changed c.new-counts.ensures.unchanged c.new-counts.ensures.faulty
       c.new-counts.ensures.edited;
 }
 
 pub loop-done-preserved : goal.loop-done-preserved
 loop-done-preserved g c = record {
   counted = omega arith;
+  lists = c.process_file-update.ensures.writes.adds.lists ∙ c.loop-done.invariant.lists;
   written = writes_push c.args.files.now c.loop-done.done c.index-files-done.result c.as_bytes-name.result.now c.process_file-update.result c.process_file-update.new.edited c.fate_of.result c.add.new.self c.loop-done-test.true
       c.index-files-done.is c.as_bytes-name.ensures.value c.loop-done.invariant.written c.progress.ensures c.process_file-update.ensures.terminal c.process_file-update.ensures.shown
       c.process_file-update.ensures.writes c.file_result.ensures c.fate_of.ensures c.add.ensures.changed c.add.ensures.unchanged c.add.ensures.faulty c.add.ensures.edited;

@@ -1,0 +1,30 @@
+-- Lists: what the program keeps of the names of files.
+--
+--   Adds old new listed   what is listed of some files was added to `old`, which is then `new`
+--   ListsInto plan lists name calls calls' old new update   a file was read, and this was added
+--
+-- `calls` and `calls'` are the calls before and after, the newest first.
+use Rattle.std.specs.Prelude.{◌≡◌, ℕ, ◌+◌, ◌<◌, ◌^◌, List, ◌++◌, Bool, Result}
+use Rattle.ud_names.specs.declared.names.Names.{Names}
+use Rattle.ud_replace.specs.declared.error.Update.{Update}
+use Rattle.ud_replace.specs.declared.error.ReplaceError.{ReplaceError}
+use Rattle.ud_replace.specs.declared.text_plan.TextPlan.{TextPlan}
+use Rattle.ud_replace.specs.Calls.{Call}
+use Rattle.ud_tree.specs.Runs.{Listed}
+use Rattle.ud_tree.specs.Shown.{ListsOne}
+
+-- `Adds old new listed`: the names and the conditions were added. They are counted if their number
+-- is one that a machine can count.
+pub record Adds (old new : Names) (listed : Listed) : Type 0 where
+  pub names : new.list.items ≡ old.list.items ++ listed.names
+  pub hidden : old.hidden + listed.hidden < 2 ^ 64 → new.hidden ≡ old.hidden + listed.hidden
+  pub hidden_list : new.hidden_list.items ≡ old.hidden_list.items ++ listed.hidden_list
+  pub lists : new.lists_hidden ≡ old.lists_hidden
+
+-- `ListsInto plan lists name calls calls' old new update`: what is listed of the file `name` was
+-- added to `old`.
+pub record ListsInto (plan : TextPlan) (lists : Bool) (name : List ℕ) (calls calls' : List Call)
+    (old new : Names) (update : Result Update ReplaceError) : Type 0 where
+  pub listed : Listed
+  pub does : ListsOne plan lists name calls calls' update listed
+  pub adds : Adds old new listed
