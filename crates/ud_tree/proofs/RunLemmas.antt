@@ -108,7 +108,7 @@ adds_none lists = record {
   lists = refl;
 }
 
--- What is listed of one file more was added.
+-- One file more was listed, and its names and conditions were added.
 adds_push : {old mid new : NameLists} (results : List FileResult) (r : FileResult) → Adds old mid (listed_of results) → Adds mid new r.listed → Adds old new (listed_of (results ++ r ∷ []))
 adds_push {old = old} {mid = mid} {new = new} results r h k = record {
   names = k.names ∙ ap (λ (x : List ℕ). x ++ r.listed.names) h.names ∙ append_assoc old.list.items (listed_of results).names r.listed.names

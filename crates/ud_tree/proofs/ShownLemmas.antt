@@ -35,7 +35,7 @@ from_nothing {o = o} {text = text} {output = output} {ran = ran} e h = subst (λ
 pub no_memory : (o : TextOptions) {name text : List ℕ} {stat : FileStat} {calls calls' : List Call} → WasRead name text stat calls calls' → Fails o name calls calls' OutOfMemory
 no_memory o {text = text} {stat = stat} was = fails_over text stat was over_memory
 
--- What is listed of a file that was read.
+-- The list of a file that was read.
 pub lists : (o : TextOptions) (mode : Mode) (hides : Bool) {name text old output : List ℕ} {ran : TextRun} {stat : FileStat} {calls calls' : List Call} →
     old ≡ [] → WasRead name text stat calls calls' → RunsOver o text old output ran → ListsFile o mode hides name calls calls' (Ok Unchanged) (listed_by mode hides name text output)
 lists o mode hides {text = text} {output = output} {ran = ran} {stat = stat} e was h = names_listed text output ran stat was (from_nothing e h)

@@ -95,7 +95,7 @@ listed_by mode lists name text output = record {
 
 -- `ListsFile o mode lists name calls calls' update listed`: the file `name` was read, its text has
 -- no fault, the result is `Unchanged`, and this is listed. Or `Fails` is true of the error. Then
--- no condition is listed, and some bytes are the names up to the fault: nothing is said of them.
+-- no condition is listed, and the names up to the fault may be any bytes.
 pub data ListsFile (o : TextOptions) (mode : Mode) (lists : Bool) (name : List ℕ)
     (calls calls' : List Call) : Result Update ReplaceError → Listed → Type 0 where
   unlisted : {e : ReplaceError} (names : List ℕ) → Fails o name calls calls' e →
