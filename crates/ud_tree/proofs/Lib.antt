@@ -12,5 +12,6 @@ pub mod StatusLaws
 pub mod RunLemmas
 mod ShownLemmas
 pub mod PickLemmas
+pub mod RemainderLemmas
 mod ArgumentLemmas
 pub mod KeepLemmas

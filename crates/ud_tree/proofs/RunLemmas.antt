@@ -15,7 +15,9 @@ use Rattle.ud_tree.specs.declared.arguments.Arguments.{Arguments}
 use Rattle.ud_tree.specs.declared.arguments.Task.{Task}
 use Rattle.ud_tree.specs.declared.arguments.Task.TheVariants.{Names}
 use Rattle.ud_tree.specs.Fates.{is_changed, is_same, is_faulty}
-use Rattle.ud_tree.specs.Runs.{fate_of, FileResult, Unshown, EachFile, no_file, then_file, changed_in, faulty_in, edited_in, shown_of, told_of, Counted, names_of, nothing_listed, listed_of}
+use Rattle.ud_tree.specs.Runs.{fate_of, FileResult, Unshown, EachFile, no_file, then_file, changed_in, faulty_in, edited_in, shown_of, told_of, Counted, names_of, nothing_listed, listed_of, Output, outputs_of}
+use Rattle.ud_tree.specs.Remainders.{FindsAll, listing_of, mode_of, texts_of, count_of}
+use Rattle.ud_tree.proofs.RemainderLemmas.{finds_none, finds_then, finds_same}
 use Rattle.ud_tree.specs.Statuses.{tree_status}
 use Rattle.ud_tree.specs.Streams.{StreamEnds, Source}
 use Rattle.ud_io.specs.Streams.{Stream, Sends}
@@ -29,6 +31,7 @@ use Rattle.ud_tree.specs.Walks.{IsWalk}
 use Rattle.ud_tree.specs.WalkMessages.{joined, StopsWalk, FindsFiles}
 use Rattle.ud_names.specs.declared.names.Names.{Names as NameLists}
 use Rattle.ud_names.specs.NameTables.{names_in, Tabulates}
+use Rattle.ud_remaining.specs.RemainingLists.{RemainingState}
 use Rattle.ud_replace.specs.declared.text_plan.TextPlan.{TextPlan}
 use Rattle.ud_tree.specs.Lists.{Adds, ListsInto}
 use Rattle.ud_tree.specs.Shown.{ListsOne}
@@ -129,30 +132,38 @@ adds_push {old = old} {mid = mid} {new = new} results r h k = record {
         omega (arith, e, is, sum)
 
 -- No file has been processed, and nothing was written.
-pub writes_none : {P : List ℕ → List Call → List Call → FileResult → Type 0} {m : Moment} {r : Report} (lists : NameLists) (counts : Counts) →
-    counts.changed ≡ 0 → counts.unchanged ≡ 0 → counts.faulty ≡ 0 → counts.edited ≡ 0 → WritesAll P m [] r m r counts lists lists
+pub writes_none : {args : Arguments} {P : List ℕ → List Call → List Call → FileResult → Type 0} {m : Moment} {r : Report} (lists : NameLists) (counts : Counts) →
+    counts.changed ≡ 0 → counts.unchanged ≡ 0 → counts.faulty ≡ 0 → counts.edited ≡ 0 → WritesAll args P m [] r m r counts lists lists
 unfolding counted_none
 writes_none {m = m} lists counts a b c d =
-    record { shown = []; told = []; counted = counted_none counts a b c d; sent = sends_none m.out; tells = tells_kept m.err refl refl; adds = adds_none lists }
+    record { shown = []; told = []; counted = counted_none counts a b c d; sent = sends_none m.out; tells = tells_kept m.err refl refl; adds = adds_none lists; finds = finds_none refl (λ lost. lost) }
+
+-- The conditions of the output for one file more were added.
+finds_push : {args : Arguments} {a b c : Report} (results : List FileResult) (r : FileResult) → FindsAll args (outputs_of results) a b → FindsAll args r.outputs b c →
+    FindsAll args (outputs_of (results ++ r ∷ [])) a c
+finds_push results r h k =
+    finds_same
+    (ap (λ (x : List Output). outputs_of results ++ x) (sym (append-nil r.outputs)) ∙ sym (flat_map-append (λ (s : FileResult). s.outputs) results (r ∷ [])))
+    (finds_then (outputs_of results) r.outputs h k)
 
 -- One file more is processed, and what is shown and told of it was written, after the number of
 -- files was shown.
-pub writes_push : {P : List ℕ → List Call → List Call → FileResult → Type 0} {old mid new : Moment} {next : Stream} {r mid_report next_report file_report after_report : Report} {before : Counts}
+pub writes_push : {args : Arguments} {P : List ℕ → List Call → List Call → FileResult → Type 0} {old mid new : Moment} {next : Stream} {r mid_report next_report file_report after_report : Report} {before : Counts}
     {lists mid_lists new_lists : NameLists}
     (files : List Found) (i : ℕ) (f : Found) (name : List ℕ) (update : Result Update ReplaceError) (edited : ℕ) (fate : Fate) (after : Counts) → i < length files → f ≡ get_or files i f →
-    name ≡ string_bytes f.path → WritesAll P old (names_of (take i files)) r mid mid_report before lists mid_lists →
-    Tells mid_report next_report mid.err next [] → file_report.is_terminal ≡ next_report.is_terminal → file_report.is_shown ≡ next_report.is_shown →
-    ProcessesOne P name mid.calls new.calls mid.out new.out update edited mid_lists new_lists → TellsResult name update file_report after_report next new.err → fate ≡ fate_of update →
+    name ≡ string_bytes f.path → WritesAll args P old (names_of (take i files)) r mid mid_report before lists mid_lists →
+    FindsAll args [] mid_report next_report → FindsAll args [] file_report after_report → Tells mid_report next_report mid.err next [] → file_report.is_terminal ≡ next_report.is_terminal → file_report.is_shown ≡ next_report.is_shown →
+    ProcessesOne args P name mid.calls new.calls mid.out new.out update edited mid_lists new_lists next_report file_report → TellsResult name update file_report after_report next new.err → fate ≡ fate_of update →
     after.changed ≡ before.changed + cond (is_changed fate) 1 0 →
     after.unchanged ≡ before.unchanged + cond (is_same fate) 1 0 →
     after.faulty ≡ before.faulty + cond (is_faulty fate) 1 0 →
     (before.edited + edited < 2 ^ 64 → after.edited ≡ before.edited + edited) →
-    WritesAll P old (names_of (take (i + 1) files)) r new after_report after lists new_lists
+    WritesAll args P old (names_of (take (i + 1) files)) r new after_report after lists new_lists
 unfolding counted_push
-writes_push {next = next} files i f name update edited fate after within is named h progress terminal shown p t e a b c d =
+writes_push {next = next} files i f name update edited fate after within is named h before_it after_it progress terminal shown p t e a b c d =
     let quiet = tells_then progress (tells_kept next terminal shown) in
     let w = p.writes in
-    let result : FileResult = record { update = update; shown = w.shown; told = t.told; edited = edited; listed = p.listed } in
+    let result : FileResult = record { update = update; shown = w.shown; told = t.told; edited = edited; listed = p.listed; outputs = w.outputs } in
     record {
       shown = h.shown ++ w.shown;
       told = h.told ++ t.told;
@@ -160,57 +171,69 @@ writes_push {next = next} files i f name update edited fate after within is name
       sent = sends_then h.sent w.sent;
       tells = tells_then h.tells (tells_then quiet t.tells);
       adds = adds_push h.counted.results result h.adds p.adds;
+      finds = finds_push h.counted.results result h.finds (finds_then [] w.outputs before_it (finds_same (append-nil w.outputs) (finds_then w.outputs [] w.finds after_it)));
     }
 
 -- All files are processed, and what is shown and told of them was written.
-pub writes_all : {P : List ℕ → List Call → List Call → FileResult → Type 0} {old new : Moment} {r s : Report} {counts : Counts} {lists lists' : NameLists} (files : List Found) (i : ℕ) →
-    i ≡ length files → WritesAll P old (names_of (take i files)) r new s counts lists lists' → WritesAll P old (names_of files) r new s counts lists lists'
-writes_all {P = P} {old = old} {new = new} {r = r} {s = s} {counts = counts} {lists = lists} {lists' = lists'} files i is h =
+pub writes_all : {args : Arguments} {P : List ℕ → List Call → List Call → FileResult → Type 0} {old new : Moment} {r s : Report} {counts : Counts} {lists lists' : NameLists} (files : List Found) (i : ℕ) →
+    i ≡ length files → WritesAll args P old (names_of (take i files)) r new s counts lists lists' → WritesAll args P old (names_of files) r new s counts lists lists'
+writes_all {args = args} {P = P} {old = old} {new = new} {r = r} {s = s} {counts = counts} {lists = lists} {lists' = lists'} files i is h =
     let whole : take i files ≡ files = take_all i files (omega arith) in
-    subst (λ (fs : List Found). WritesAll P old (names_of fs) r new s counts lists lists') whole h
+    subst (λ (fs : List Found). WritesAll args P old (names_of fs) r new s counts lists lists') whole h
 
 -- A file was processed of which nothing is shown.
-pub lists_unshown : {plan : TextPlan} {lists : Bool} {name : List ℕ} {calls calls' : List Call} {old new : NameLists} {update : Result Update ReplaceError} (out : Stream) {n : ℕ} → n ≡ 0 →
-    ListsInto plan lists name calls calls' old new update → ProcessesOne (Unshown (ListsOne plan lists)) name calls calls' out out update n old new
+pub lists_unshown : {args : Arguments} {r : Report} {plan : TextPlan} {lists : Bool} {name : List ℕ} {calls calls' : List Call} {old new : NameLists} {update : Result Update ReplaceError} (out : Stream) {n : ℕ} → n ≡ 0 →
+    ListsInto plan lists name calls calls' old new update → ProcessesOne args (Unshown (ListsOne plan lists)) name calls calls' out out update n old new r r
 lists_unshown out none h = record {
   listed = h.listed;
-  writes = record { shown = []; does = λ told. record { does = h.does; nothing = refl; unedited = none }; sent = sends_none out };
+  writes = record { shown = []; outputs = []; does = λ told. record { does = h.does; nothing = refl; unedited = none; no_output = refl }; sent = sends_none out; finds = finds_none refl (λ lost. lost) };
   adds = h.adds;
 }
 
 -- A file was processed of which nothing is listed.
-pub unlisted_one : {P : List ℕ → List Call → List Call → FileResult → Type 0} {name : List ℕ} {calls calls' : List Call} {out out' : Stream} {update : Result Update ReplaceError} {n : ℕ} (lists : NameLists) →
-    WritesOne P name calls calls' out out' update n nothing_listed → ProcessesOne P name calls calls' out out' update n lists lists
+pub unlisted_one : {args : Arguments} {r r' : Report} {P : List ℕ → List Call → List Call → FileResult → Type 0} {name : List ℕ} {calls calls' : List Call} {out out' : Stream} {update : Result Update ReplaceError} {n : ℕ} (lists : NameLists) →
+    WritesOne args P name calls calls' out out' update n nothing_listed r r' → ProcessesOne args P name calls calls' out out' update n lists lists r r'
 unlisted_one lists h = record { listed = nothing_listed; writes = h; adds = adds_none lists }
 
 -- The task of the arguments does what they ask for.
-pub done_by : (t : Task) (args : Arguments) {name : List ℕ} {calls calls' : List Call} {out out' : Stream} {update : Result Update ReplaceError} {n : ℕ} {lists lists' : NameLists} →
-    args.task ≡ t → ProcessesOne (DoesBy t args) name calls calls' out out' update n lists lists' → ProcessesOne (DoesOne args) name calls calls' out out' update n lists lists'
-done_by t args {name = name} {calls = calls} {calls' = calls'} {out = out} {out' = out'} {update = update} {n = n} {lists = lists} {lists' = lists'} is h =
-    subst (λ (u : Task). ProcessesOne (DoesBy u args) name calls calls' out out' update n lists lists') (sym is) h
+pub done_by : (t : Task) (args : Arguments) {name : List ℕ} {calls calls' : List Call} {out out' : Stream} {update : Result Update ReplaceError} {n : ℕ} {lists lists' : NameLists} {r r' : Report} →
+    args.task ≡ t → ProcessesOne args (DoesBy t args) name calls calls' out out' update n lists lists' r r' → ProcessesOne args (DoesOne args) name calls calls' out out' update n lists lists' r r'
+done_by t args {name = name} {calls = calls} {calls' = calls'} {out = out} {out' = out'} {update = update} {n = n} {lists = lists} {lists' = lists'} {r = r} {r' = r'} is h =
+    subst (λ (u : Task). ProcessesOne args (DoesBy u args) name calls calls' out out' update n lists lists' r r') (sym is) h
 
 -- A list was written, if it is wanted.
 pub writes_list : (args : Arguments) (lists : NameLists) (lost : Bool) {a b c : Stream} (names rest : List ℕ) → (¬ (args.task ≡ Names) → names ≡ []) →
     (args.task ≡ Names → lost ≡ false → Tabulates (names_in lists.list.items) lists.hidden_list.items names) → Sends a b names →
-    Sends b c (cond args.list_remaining rest []) → WritesList args lists lost a c
+    Sends b c (cond args.list_remaining rest []) → WritesList args lists rest lost a c
 writes_list args lists lost names rest none table h k = record {
   listed = names ++ cond args.list_remaining rest [];
   table = λ is off whole.
       subst (λ (x : List ℕ). Tabulates (names_in lists.list.items) lists.hidden_list.items x)
       (sym (append-nil names) ∙ ap (λ (b : Bool). names ++ cond b rest []) (sym off)) (table is whole);
   is_wanted = λ other off. ap (λ (x : List ℕ). x ++ cond args.list_remaining rest []) (none other) ∙ ap (λ (b : Bool). cond b rest []) off;
+  remains = λ other on. ap (λ (x : List ℕ). x ++ cond args.list_remaining rest []) (none other) ∙ ap (λ (b : Bool). cond b rest []) on;
   sent = sends_then h k;
 }
+
+-- The number after none.
+counted_from : {old new : ℕ} (n : ℕ) → old ≡ 0 → (old + n < 2 ^ 64 → new ≡ old + n) → n < 2 ^ 64 → new ≡ n
+counted_from n none h small = let sum = h (omega (arith, none, small)) in omega (arith, none, sum)
+
+-- Nothing is listed, whether a list is wanted or not.
+by_list : (b : Bool) {wanted : Bool} {listed : List ℕ} → wanted ≡ b → (wanted ≡ false → listed ≡ []) → (wanted ≡ true → listed ≡ []) → listed ≡ []
+by_list true is off on = on is
+by_list false is off on = off is
 
 -- The run ends with the status of its counts.
 pub ends : (job : Job) (files : List Found) {old mid new : Moment} {listed listed_err : Stream} {r mid_report list_report end_report : Report} {counts : Counts} (lost unwritten : Bool) (in_walk faults hidden status : ℕ) (start lists : NameLists) →
     start.list.items ≡ [] → start.hidden ≡ 0 → start.hidden_list.items ≡ [] → hidden ≡ lists.hidden →
-    DoesJob job files old r mid mid_report counts start lists → WritesList job.arguments.now lists lost mid.out listed →
+    r.remaining ≡ record { listing = listing_of job.arguments.now; count = 0; list = [] } → (lost ≡ false → mid_report.has_lost ≡ false) → end_report.remaining ≡ mid_report.remaining →
+    DoesJob job files old r mid mid_report counts start lists → WritesList job.arguments.now lists mid_report.remaining.list lost mid.out listed →
     TellsIf list_message lost mid_report list_report mid.err listed_err → Sends listed new.out [] → unwritten ≡ new.out.failed → (new.out.failed ≡ false → new.out.unflushed ≡ false) →
     (end : Stream) → TellsIf write_message unwritten list_report end_report listed_err end → TellsEnd job.arguments.now counts faults hidden end_report end new.err →
     new.calls ≡ mid.calls → counts.faulty ≤ faults → (in_walk + (cond lost 1 0 + cond unwritten 1 0) + counts.faulty < 2 ^ 64 → faults ≡ in_walk + (cond lost 1 0 + cond unwritten 1 0) + counts.faulty) →
     (unheard : Bool) → unheard ≡ new.err.failed → status ≡ tree_status job.arguments.now.task job.arguments.now.plan.run.settings.exit_mode unheard faults counts.changed → (job.is_terminal ≡ false → IsPlain r) → EndsWriting job in_walk old files new status
-ends job files {old = old} {new = new} {counts = counts} lost unwritten in_walk faults hidden status start lists no_name none no_condition hidden_now w l t f failed flushed end u e same few all unheard heard is plain =
+ends job files {old = old} {new = new} {counts = counts} lost unwritten in_walk faults hidden status start lists no_name none no_condition hidden_now no_remainder whole_report same_remainder w l t f failed flushed end u e same few all unheard heard is plain =
     let h = w.counted in
     let args = job.arguments.now in
     let of_output = joined (output_messages lost unwritten) in
@@ -231,6 +254,11 @@ ends job files {old = old} {new = new} {counts = counts} lost unwritten in_walk 
         table = λ is off whole.
             subst (λ (x : List ℕ). Tabulates (names_in x) (listed_of h.results).hidden_list l.listed) all_names
             (subst (λ (x : List ℕ). Tabulates (names_in lists.list.items) x l.listed) all_hidden (l.table is off whole));
+        remains = λ other on whole wanted calls represents.
+            l.remains other on ∙ (w.finds.added (whole_report whole) wanted calls represents).list_is
+            ∙ ap (λ (s : RemainingState). s.list ++ texts_of calls s.listing (mode_of args) (outputs_of h.results)) no_remainder;
+        unsearched = λ other off. by_list args.list_remaining refl (l.is_wanted other)
+            (λ on. l.remains other on ∙ ap (λ (s : RemainingState). s.list) (w.finds.same off ∙ no_remainder));
         shown_is = ap (λ (x : List ℕ). x ++ l.listed) h.shown_is;
         faults = faults;
         reported = rw (← h.counts_are.faulty) few;
@@ -242,6 +270,11 @@ ends job files {old = old} {new = new} {counts = counts} lost unwritten in_walk 
         edited = counts.edited;
         edited_is = h.counts_are.edited;
         remaining = e.remaining;
+        remaining_is = λ whole wanted calls represents small.
+            e.remaining_is ∙ ap (λ (s : RemainingState). s.count) same_remainder
+            ∙ counted_from (count_of calls (mode_of args) (outputs_of h.results)) (ap (λ (s : RemainingState). s.count) no_remainder)
+            (w.finds.added (whole_report whole) wanted calls represents).count_is small;
+        none_remains = λ off. e.remaining_is ∙ ap (λ (s : RemainingState). s.count) (same_remainder ∙ w.finds.same off ∙ no_remainder);
         last_is = ap (λ (x : ℕ). last_lines args x counts.unchanged faults hidden counts.edited e.remaining) h.counts_are.changed
             ∙ ap (λ (x : ℕ). last_lines args (changed_in h.results) x faults hidden counts.edited e.remaining) h.counts_are.unchanged;
         told_is = ap (λ (x : List ℕ). (x ++ of_output) ++ last) h.told_is ∙ ap (λ (b : Bool). (told_of h.results ++ joined (output_messages lost b)) ++ last) failed;
@@ -277,6 +310,8 @@ ends_counted {streams = streams} n m same h = record {
   is_wanted = h.is_wanted;
   is_lost = h.is_lost;
   table = h.table;
+  remains = h.remains;
+  unsearched = h.unsearched;
   shown_is = h.shown_is;
   faults = h.faults;
   reported = h.reported;
@@ -287,6 +322,8 @@ ends_counted {streams = streams} n m same h = record {
   edited = h.edited;
   edited_is = h.edited_is;
   remaining = h.remaining;
+  remaining_is = h.remaining_is;
+  none_remains = h.none_remains;
   last_is = h.last_is;
   told_is = h.told_is;
   faults_are = faults_counted n m (length (output_messages h.is_lost streams.failed)) (faulty_in h.results) h.faults same h.faults_are;

@@ -83,9 +83,9 @@ said_unshown {err' = err'} {bytes = bytes} h hidden = subst (λ (s : Stream). Se
 -- A quiet run ends with nothing.
 pub ends_quiet : (args : Arguments) (counts : Counts) (faults hidden : ℕ) (old : Report) (err : Stream) → args.quiet ≡ true → TellsEnd args counts faults hidden old err err
 ends_quiet args counts faults hidden old err quiet =
-    let none : Sends err err (last_lines args counts.changed counts.unchanged faults hidden counts.edited 0) =
-    sends_same (sym (ap (λ (b : Bool). cond b [] (summary args.task counts.changed counts.unchanged faults hidden ++ edited_line args.plan.prunes counts.edited ++ remaining_line args.list_remaining 0)) quiet)) (sends_none err) in
-    record { remaining = 0; told = (err, none); alone = λ e. none }
+    let none : Sends err err (last_lines args counts.changed counts.unchanged faults hidden counts.edited old.remaining.count) =
+    sends_same (sym (ap (λ (b : Bool). cond b [] (summary args.task counts.changed counts.unchanged faults hidden ++ edited_line args.plan.prunes counts.edited ++ remaining_line args.list_remaining old.remaining.count)) quiet)) (sends_none err) in
+    record { remaining = old.remaining.count; remaining_is = refl; told = (err, none); alone = λ e. none }
 
 -- The number of edited conditions isn't wanted.
 pub edited_none : (prunes : Bool) (count : ℕ) → prunes ≡ false → edited_line prunes count ≡ []
@@ -99,16 +99,17 @@ edited_told prunes count number text on p q =
     (ap (λ x. line_of (x ++ (text ++ []))) p ∙ ap (λ x. line_of (decimal count ++ (x ++ []))) q ∙ ap (λ x. line_of (decimal count ++ x)) (append-nil (edited_text count)))
 
 -- Other runs end with the three lines.
-pub ends_told : (args : Arguments) (counts : Counts) (faults hidden remaining : ℕ) {old new : Report} (next : Report) {err mid other err' : Stream} → args.quiet ≡ false →
+pub ends_told : (args : Arguments) (counts : Counts) (faults hidden remaining : ℕ) {old new : Report} (next : Report) {err mid other err' : Stream} → args.quiet ≡ false → remaining ≡ old.remaining.count →
     Says old new err mid (summary args.task counts.changed counts.unchanged faults hidden) → (new.is_shown ≡ false → Sends mid other (edited_line args.plan.prunes counts.edited)) →
     (new.is_shown ≡ false → next.is_shown ≡ false) → (next.is_shown ≡ false → Sends other err' (remaining_line args.list_remaining remaining)) →
     TellsEnd args counts faults hidden old err err'
-ends_told args counts faults hidden remaining next {err = err} {err' = err'} loud h k l m =
+ends_told args counts faults hidden remaining next {err = err} {err' = err'} loud same h k l m =
     let is : summary args.task counts.changed counts.unchanged faults hidden ++ edited_line args.plan.prunes counts.edited ++ remaining_line args.list_remaining remaining ≡
     last_lines args counts.changed counts.unchanged faults hidden counts.edited remaining =
     sym (ap (λ (b : Bool). cond b [] (summary args.task counts.changed counts.unchanged faults hidden ++ edited_line args.plan.prunes counts.edited ++ remaining_line args.list_remaining remaining)) loud) in
     record {
       remaining = remaining;
+      remaining_is = same;
       told = (h.cleared, sends_same is (sends_then (sends_then h.sent (k h.hidden)) (m (l h.hidden))));
       alone = λ e. sends_same is (sends_then (sends_then (said_unshown h e) (k h.hidden)) (m (l h.hidden)));
     }

@@ -4,9 +4,15 @@
 --   mode_of args      the mode in which the lines of an output are read
 --   is_searched args  they are listed or counted
 --   Finds args name output old new   those of an output were added to a report
+--   texts_of table listing mode outputs   the list of them in some outputs
+--   count_of table mode outputs   how many there are in some outputs
+--   AddsOutputs table mode outputs old new   those of some outputs were counted, and listed
+--   FindsAll args outputs old new   those of some outputs were added to a report
 --
 -- Example: under `-r` and `-p` there is a line for each, with the reason why it stays.
-use Rattle.std.specs.Prelude.{◌≡◌, ℕ, List, Bool, true, false, not, ◌&&◌, ◌||◌, if◌then◌else◌}
+use Rattle.std.specs.Prelude.{◌≡◌, ℕ, ◌+◌, ◌<◌, ◌^◌, List, ◌++◌, sum_by}
+use Rattle.std.specs.List.{flat_map}
+use Rattle.std.specs.Prelude.{Bool, true, false, not, ◌&&◌, ◌||◌, if◌then◌else◌}
 use Rattle.ud_model.specs.conditions.Table.{Argument}
 use Rattle.ud_model.specs.sections.Items.{mode_by}
 use Rattle.ud_model.specs.declared.kind.Mode.{Mode}
@@ -14,9 +20,11 @@ use Rattle.ud_cond.specs.symbols.SymbolTable.{TableRepresents}
 use Rattle.ud_cond.specs.declared.conditions.Rules.{Rules}
 use Rattle.ud_remaining.specs.declared.listing.Listing.{Listing}
 use Rattle.ud_remaining.specs.declared.listing.Listing.TheVariants.{Counted, Listed, Explained}
-use Rattle.ud_remaining.specs.RemainingLists.{AddsAll}
+use Rattle.ud_remaining.specs.RemainingLists.{AddsAll, RemainingState}
+use Rattle.ud_remaining.specs.RemainingLists.{remaining_text, remaining_count}
 use Rattle.ud_tree.specs.declared.arguments.Arguments.{Arguments}
 use Rattle.ud_tree.specs.declared.report.Report.{Report}
+use Rattle.ud_tree.specs.Runs.{Output}
 
 -- `rules_of args`: the options for expressions.
 abbrev pub rules_of : Arguments → Rules
@@ -48,4 +56,31 @@ pub record Finds (args : Arguments) (name output : List ℕ) (old new : Report) 
   pub added : new.has_lost ≡ false → is_searched args ≡ true → (calls : List Argument) →
       TableRepresents args.plan.run.symbols calls →
       AddsAll calls (mode_of args) name output old.remaining new.remaining
+  pub same : is_searched args ≡ false → new.remaining ≡ old.remaining
+
+-- `texts_of table listing mode outputs`: the list of the conditions of the outputs, in order.
+abbrev pub texts_of : List Argument → Listing → Mode → List Output → List ℕ
+texts_of table listing mode outputs =
+    flat_map (λ o. remaining_text table listing mode o.name o.bytes) outputs
+
+-- `count_of table mode outputs`: how many conditions of the outputs name a listed symbol.
+abbrev pub count_of : List Argument → Mode → List Output → ℕ
+count_of table mode outputs = sum_by (λ o. remaining_count table mode o.bytes) outputs
+
+-- `AddsOutputs table mode outputs old new`: the conditions of the outputs that name a listed symbol
+-- were counted, unless the count is at its limit, and listed.
+pub record AddsOutputs (table : List Argument) (mode : Mode) (outputs : List Output)
+    (old new : RemainingState) : Type 0 where
+  pub list_is : new.list ≡ old.list ++ texts_of table old.listing mode outputs
+  pub count_is : old.count + count_of table mode outputs < 2 ^ 64 →
+      new.count ≡ old.count + count_of table mode outputs
+  pub listing_is : new.listing ≡ old.listing
+
+-- `FindsAll args outputs old new`: the conditions of the outputs that still name a symbol were
+-- added to the report, if they are wanted. If memory ran out, the report has it.
+pub record FindsAll (args : Arguments) (outputs : List Output) (old new : Report) : Type 0 where
+  pub kept : old.has_lost ≡ true → new.has_lost ≡ true
+  pub added : new.has_lost ≡ false → is_searched args ≡ true → (calls : List Argument) →
+      TableRepresents args.plan.run.symbols calls →
+      AddsOutputs calls (mode_of args) outputs old.remaining new.remaining
   pub same : is_searched args ≡ false → new.remaining ≡ old.remaining

@@ -4,6 +4,7 @@
 --   fate_of r               what became of a file, by the result of replacing it
 --   ReplacesOne plan into name old new update   a file was replaced, or its name took no memory
 --   Listed, nothing_listed  what is listed of a file
+--   Output, made name bytes   the output for a file
 --   FileResult              the result of a file, and what is written and listed of it
 --   Unshown P name old new result   `P` holds of a file, of which nothing is written to the output
 --   EachFile P old names new results   `P` holds of each file in turn, and nothing else was asked
@@ -13,6 +14,7 @@
 --   shown_of results        what is written of the files to the output
 --   told_of results         what is written of the files to the error stream
 --   listed_of results       what is listed of the files
+--   outputs_of results      the outputs for the files
 --   Counted P old names new counts shown told   each file in turn, with the numbers of each fate
 --   names_of files          the paths of the files that the walk found
 --
@@ -72,24 +74,36 @@ pub record Listed : Type 0 where
 abbrev pub nothing_listed : Listed
 nothing_listed = record { names = []; hidden = 0; hidden_list = [] }
 
+-- `Output`: the name of a file, and the output for it.
+pub record Output : Type 0 where
+  pub name : List ℕ
+  pub bytes : List ℕ
+
+-- `made name bytes`: `bytes` is the output for the file `name`.
+abbrev pub made : List ℕ → List ℕ → List Output
+made name bytes = record { name = name; bytes = bytes } ∷ []
+
 -- `FileResult`: the result of a file, the bytes that are written of it to the output and to the
--- error stream, the number of conditions of its output that were edited, or would be, and what is
--- listed of it.
+-- error stream, the number of conditions of its output that were edited, or would be, what is
+-- listed of it, and the output for it, of which there is none after an error.
 pub record FileResult : Type 0 where
   pub update : Result Update ReplaceError
   pub shown : List ℕ
   pub told : List ℕ
   pub edited : ℕ
   pub listed : Listed
+  pub outputs : List Output
 
 -- `Unshown P name old new result`: `P` holds of the file, its result, and what is listed of it.
--- Nothing else is written of it to the output, and no condition is edited.
+-- Nothing else is written of it to the output. It has no output of its own, and no condition is
+-- edited.
 pub record Unshown
     (P : List ℕ → List Call → List Call → Result Update ReplaceError → Listed → Type 0)
     (name : List ℕ) (old new : List Call) (result : FileResult) : Type 0 where
   pub does : P name old new result.update result.listed
   pub nothing : result.shown ≡ []
   pub unedited : result.edited ≡ 0
+  pub no_output : result.outputs ≡ []
 
 -- `EachFile P old names new results`: `P name mid next result` holds of each file in turn, where
 -- `mid` and `next` are the calls before and after it. Nothing else was asked. What goes to the
@@ -141,6 +155,10 @@ listed_of results = record {
   hidden = sum_by (λ r. r.listed.hidden) results;
   hidden_list = flat_map (λ r. r.listed.hidden_list) results;
 }
+
+-- `outputs_of results`: the outputs for the files, in order.
+abbrev pub outputs_of : List FileResult → List Output
+outputs_of results = flat_map (λ r. r.outputs) results
 
 -- `Counted P old names new counts shown told`: `P` holds of each file in turn, and `counts` has the
 -- numbers of their fates. `shown` and `told` are written of them.

@@ -3,7 +3,8 @@
 --   WasRead name text stat old new   a file was read, and `text` are its bytes
 --   Fails o name calls calls' e      a file couldn't be read, or the run over its text failed
 --   HasDiff o name text diff edited  the diff of a text and its output
---   ShowsFile o into name calls calls' update shown edited   a file was read, and its diff shown
+--   ShowsFile o into name calls calls' update shown edited outputs   a file was read, and its diff
+--                                    shown
 --   ShowsOne plan into name calls calls' result   the same for all options of a plan
 --   listed_by mode lists name text output   what is listed of a file with these bytes
 --   ListsFile o mode lists name calls calls' update listed   a file was read, and this is listed
@@ -27,7 +28,7 @@ use Rattle.ud_replace.specs.Calls.{Call, was_read}
 use Rattle.ud_replace.specs.TextOutcomes.{TextOptions, IsPlanned, TextOutcome, HasTextOutcome}
 use Rattle.ud_replace.specs.TextOutcomes.{RunsOver, FailsOver}
 use Rattle.ud_names.specs.UnlistedConditions.{unlisted_in, unlisted_text}
-use Rattle.ud_tree.specs.Runs.{FileResult, ReadsOne, Listed}
+use Rattle.ud_tree.specs.Runs.{FileResult, ReadsOne, Listed, Output, made}
 
 -- `WasRead name text stat old new`: the file `name` was read, and nothing else was asked. Its bytes
 -- are `text`, and `stat` was known of it before.
@@ -55,33 +56,34 @@ pub record HasDiff (o : TextOptions) (name text diff : List ℕ) (edited : ℕ) 
   pub is_diff : IsDiff name text outcome.output diff
   pub edited_is : edited ≡ outcome.edited
 
--- `ShowsFile o into name calls calls' update shown edited`: the file `name` was read. If its output
--- differs, its diff is shown, and the result is `Replaced`. If it doesn't, nothing is shown, and
--- the result is `Unchanged`. Nothing is shown either of a file with several links, which a run
--- leaves alone unless `into`, or if `Fails` is true of the error.
+-- `ShowsFile o into name calls calls' update shown edited outputs`: the file `name` was read. If
+-- its output differs, its diff is shown, and the result is `Replaced`. If it doesn't, nothing is
+-- shown, and the result is `Unchanged`. Nothing is shown either of a file with several links, which
+-- a run leaves alone unless `into`, or if `Fails` is true of the error. Then there is no output.
 pub data ShowsFile (o : TextOptions) (into : Bool) (name : List ℕ) (calls calls' : List Call) :
-    Result Update ReplaceError → List ℕ → ℕ → Type 0 where
+    Result Update ReplaceError → List ℕ → ℕ → List Output → Type 0 where
   faulty : {e : ReplaceError} → Fails o name calls calls' e →
-      ShowsFile o into name calls calls' (Err e) [] 0
+      ShowsFile o into name calls calls' (Err e) [] 0 []
   several : (text output : List ℕ) (stat : FileStat) (ran : TextRun) →
       WasRead name text stat calls calls' → RunsOver o text [] output ran →
       ran.differs ≡ true → 1 < stat.links → into ≡ false →
-      ShowsFile o into name calls calls' (Err SeveralLinks) [] 0
+      ShowsFile o into name calls calls' (Err SeveralLinks) [] 0 []
   same : (text output : List ℕ) (stat : FileStat) (ran : TextRun) →
       WasRead name text stat calls calls' → RunsOver o text [] output ran →
-      ran.differs ≡ false → ShowsFile o into name calls calls' (Ok Unchanged) [] 0
-  changed : (text diff : List ℕ) (edited : ℕ) (stat : FileStat) →
+      ran.differs ≡ false →
+      ShowsFile o into name calls calls' (Ok Unchanged) [] 0 (made name output)
+  changed : (text output diff : List ℕ) (edited : ℕ) (stat : FileStat) →
       WasRead name text stat calls calls' → (stat.links ≤ 1) ⊎ (into ≡ true) →
-      HasDiff o name text diff edited →
-      ShowsFile o into name calls calls' (Ok Replaced) diff edited
+      (h : HasDiff o name text diff edited) → output ≡ h.outcome.output →
+      ShowsFile o into name calls calls' (Ok Replaced) diff edited (made name output)
 
--- `ShowsOne plan into name calls calls' result`: the file `name` was read once. Its result, and
--- what is shown of it, are those of the text that was read, for the options of the plan.
+-- `ShowsOne plan into name calls calls' result`: the file `name` was read once. Its result, what is
+-- shown of it, and its output, are those of the text that was read, for the options of the plan.
 pub record ShowsOne (plan : TextPlan) (into : Bool) (name : List ℕ) (calls calls' : List Call)
     (result : FileResult) : Type 0 where
   pub reads : ReadsOne name calls calls'
   pub shows : (o : TextOptions) → IsPlanned plan o →
-      ShowsFile o into name calls calls' result.update result.shown result.edited
+      ShowsFile o into name calls calls' result.update result.shown result.edited result.outputs
 
 -- `listed_by mode lists name text output`: what is listed of the file `name` with these bytes, by
 -- the output for them: its names, and its conditions whose names can't be listed, which are counted

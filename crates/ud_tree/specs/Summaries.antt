@@ -85,11 +85,12 @@ last_lines args changed unchanged faults hidden edited remaining = if args.quiet
     edited_line args.plan.prunes edited ++ remaining_line args.list_remaining remaining
 
 -- `TellsEnd args counts faults hidden old err err'`: the last lines were written, with these
--- numbers and some number of conditions that still name a symbol. Nothing else was, unless a
--- terminal showed the number of files.
+-- numbers and that of the conditions that still name a symbol, which the report has. Nothing else
+-- was, unless a terminal showed the number of files.
 pub record TellsEnd (args : Arguments) (counts : Counts) (faults hidden : ℕ) (old : Report)
     (err err' : Stream) : Type 0 where
   pub remaining : ℕ
+  pub remaining_is : remaining ≡ old.remaining.count
   pub told : EndsWith err'
       (last_lines args counts.changed counts.unchanged faults hidden counts.edited remaining)
   pub alone : old.is_shown ≡ false → Sends err err'

@@ -16,6 +16,8 @@
 -- `told` is to be written to the error stream after the walk, and `last` last.
 use Rattle.std.specs.Prelude.{◌≡◌, ℕ, ◌+◌, ◌≤◌, ◌<◌, ◌^◌, List, [], ◌++◌, length}
 use Rattle.std.specs.Prelude.{Bool, true, false}
+use Rattle.ud_model.specs.conditions.Table.{Argument}
+use Rattle.ud_cond.specs.symbols.SymbolTable.{TableRepresents}
 use Rattle.ud_replace.specs.Calls.{Call}
 use Rattle.ud_tree.specs.declared.arguments.Task.{Task}
 use Rattle.ud_tree.specs.declared.arguments.Task.TheVariants.{Replace, Diff, Names}
@@ -27,7 +29,9 @@ use Rattle.ud_tree.specs.declared.walk.Found.{Found}
 use Rattle.ud_tree.specs.Changes.{ReplacesShowing}
 use Rattle.ud_names.specs.declared.names.Names.{Names as NameLists}
 use Rattle.ud_names.specs.NameTables.{names_in, Tabulates}
+use Rattle.ud_tree.specs.Remainders.{is_searched, listing_of, mode_of, texts_of, count_of}
 use Rattle.ud_tree.specs.Runs.{FileResult, Unshown, EachFile, shown_of, told_of, listed_of}
+use Rattle.ud_tree.specs.Runs.{outputs_of}
 use Rattle.ud_tree.specs.Runs.{changed_in, same_in, faulty_in, edited_in, names_of}
 use Rattle.ud_tree.specs.Shown.{ShowsOne, ListsOne}
 use Rattle.ud_tree.specs.Messages.{output_messages}
@@ -57,18 +61,21 @@ DoesOne args = DoesBy args.task args
 abbrev pub DoesJob : Job → List Found → Moment → Report → Moment → Report → Counts → NameLists →
     NameLists → Type 0
 DoesJob job files before report after report' counts lists lists' =
-    WritesAll (DoesOne job.arguments.now) before (names_of files) report after report'
-    counts lists lists'
+    WritesAll job.arguments.now (DoesOne job.arguments.now) before (names_of files) report after
+    report' counts lists lists'
 
 -- `Ends args in_walk streams old names new shown told last status`: it is done with each file in
 -- turn. What is shown of them comes first, and then a list, if one is wanted. If names are listed,
 -- that is the table of the names of all files, after their conditions whose names can't be listed,
--- unless some was lost for want of memory, of which there is a message. The output has failed or is
--- flushed. The status is that of some number of faults, at least one for each faulty file, and of
--- the number of changed files. It is 2 if the error stream has failed. The last lines have the same
--- numbers, and that of the conditions whose names can't be listed. The messages of the faulty files
--- come first, then those about the output, which has one if it has failed, and then the last lines.
--- There is one fault for each message, and for each of the walk.
+-- unless some was lost for want of memory, of which there is a message. If they aren't, but the
+-- conditions that still name a symbol are, that is the list of those of all outputs, unless some
+-- was lost. There is no line if no option names a symbol. The output has failed or is flushed. The
+-- status is that of some number of faults, at least one for each faulty file, and of the number of
+-- changed files. It is 2 if the error stream has failed. The last lines have the same numbers, that
+-- of the conditions whose names can't be listed, and that of the conditions of all outputs that
+-- still name a symbol. The messages of the faulty files come first, then those about the output,
+-- which has one if it has failed, and then the last lines. There is one fault for each message, and
+-- for each of the walk.
 pub record Ends (args : Arguments) (in_walk : ℕ) (streams : StreamEnds)
     (old : List Call) (names : List (List ℕ)) (new : List Call) (shown told last : List ℕ)
     (status : ℕ) : Type 0 where
@@ -79,6 +86,11 @@ pub record Ends (args : Arguments) (in_walk : ℕ) (streams : StreamEnds)
   pub is_lost : Bool
   pub table : args.task ≡ Names → args.list_remaining ≡ false → is_lost ≡ false →
       Tabulates (names_in (listed_of results).names) (listed_of results).hidden_list listed
+  pub remains : ¬ (args.task ≡ Names) → args.list_remaining ≡ true → is_lost ≡ false →
+      is_searched args ≡ true → (calls : List Argument) →
+      TableRepresents args.plan.run.symbols calls →
+      listed ≡ texts_of calls (listing_of args) (mode_of args) (outputs_of results)
+  pub unsearched : ¬ (args.task ≡ Names) → is_searched args ≡ false → listed ≡ []
   pub shown_is : shown ≡ shown_of results ++ listed
   pub faults : ℕ
   pub reported : faulty_in results ≤ faults
@@ -90,6 +102,11 @@ pub record Ends (args : Arguments) (in_walk : ℕ) (streams : StreamEnds)
   pub edited : ℕ
   pub edited_is : edited_in results < 2 ^ 64 → edited ≡ edited_in results
   pub remaining : ℕ
+  pub remaining_is : is_lost ≡ false → is_searched args ≡ true → (calls : List Argument) →
+      TableRepresents args.plan.run.symbols calls →
+      count_of calls (mode_of args) (outputs_of results) < 2 ^ 64 →
+      remaining ≡ count_of calls (mode_of args) (outputs_of results)
+  pub none_remains : is_searched args ≡ false → remaining ≡ 0
   pub last_is : last ≡ last_lines args (changed_in results) (same_in results) faults hidden
       edited remaining
   pub told_is : told ≡ told_of results ++ joined (output_messages is_lost streams.failed) ++ last

@@ -2,13 +2,14 @@
 --
 --   Moment                                the calls so far, the output and the error stream
 --   moment history contents reported tree out err   those of a tree and two writers
---   WritesOne P name calls calls' out out' update edited listed   a file was processed, and shown
---   ProcessesOne P name calls calls' out out' update edited lists lists'
+--   WritesOne args P name calls calls' out out' update edited listed report report'
+--                                         a file was processed, and shown
+--   ProcessesOne args P name calls calls' out out' update edited lists lists' report report'
 --                                         the same, and what is listed of it was added
---   WritesAll P before names report after report' counts lists lists'
+--   WritesAll args P before names report after report' counts lists lists'
 --                                         each file in turn was processed
---   WritesList args names lost out out'   what is listed after the files was written
-use Rattle.std.specs.Prelude.{◌≡◌, ℕ, List, [], Option, Result, Bool, false}
+--   WritesList args names rest lost out out'   what is listed after the files was written
+use Rattle.std.specs.Prelude.{◌≡◌, ℕ, List, [], Option, Result, Bool, true, false}
 use Rattle.ud_io.specs.Watched.{WatchedState}
 use Rattle.ud_replace.specs.declared.error.Update.{Update}
 use Rattle.ud_replace.specs.declared.error.ReplaceError.{ReplaceError}
@@ -21,7 +22,8 @@ use Rattle.ud_tree.specs.declared.counts.Counts.{Counts}
 use Rattle.ud_tree.specs.declared.report.Report.{Report}
 use Rattle.ud_tree.specs.Messages.{Tells}
 use Rattle.ud_tree.specs.Lists.{Adds}
-use Rattle.ud_tree.specs.Runs.{FileResult, Counted, Listed, listed_of}
+use Rattle.ud_tree.specs.Remainders.{FindsAll}
+use Rattle.ud_tree.specs.Runs.{FileResult, Counted, Listed, listed_of, Output, outputs_of}
 use Rattle.ud_io.specs.Streams.{Stream, stream_of, Sends}
 
 -- `Moment`: the calls so far, the newest first, the output and the error stream.
@@ -40,13 +42,16 @@ moment history contents reported tree out err = record {
   err = stream_of reported err;
 }
 
--- `WritesOne P name calls calls' out out' update edited listed`: `P` holds of a file with this
--- result, this number of edited conditions, and what is listed of it. What is shown of it was
--- written. `calls` and `calls'` are the calls before and after it.
-pub record WritesOne (P : List ℕ → List Call → List Call → FileResult → Type 0) (name : List ℕ)
+-- `WritesOne args P name calls calls' out out' update edited listed report report'`: `P` holds of a
+-- file with this result, this number of edited conditions, and what is listed of it. What is shown
+-- of it was written, and the conditions of its output that still name a symbol were added to the
+-- report. `calls` and `calls'` are the calls before and after it.
+pub record WritesOne (args : Arguments)
+    (P : List ℕ → List Call → List Call → FileResult → Type 0) (name : List ℕ)
     (calls calls' : List Call) (out out' : Stream) (update : Result Update ReplaceError)
-    (edited : ℕ) (listed : Listed) : Type 0 where
+    (edited : ℕ) (listed : Listed) (report report' : Report) : Type 0 where
   pub shown : List ℕ
+  pub outputs : List Output
   pub does : (told : List ℕ) →
       P name calls calls' (record {
         update = update;
@@ -54,22 +59,27 @@ pub record WritesOne (P : List ℕ → List Call → List Call → FileResult �
         told = told;
         edited = edited;
         listed = listed;
+        outputs = outputs;
       })
   pub sent : Sends out out' shown
+  pub finds : FindsAll args outputs report report'
 
--- `ProcessesOne P name calls calls' out out' update edited lists lists'`: the same, and what is
--- listed of the file was added to `lists`.
-pub record ProcessesOne (P : List ℕ → List Call → List Call → FileResult → Type 0) (name : List ℕ)
+-- `ProcessesOne args P name calls calls' out out' update edited lists lists' report report'`: the
+-- same, and what is listed of the file was added to `lists`.
+pub record ProcessesOne (args : Arguments)
+    (P : List ℕ → List Call → List Call → FileResult → Type 0) (name : List ℕ)
     (calls calls' : List Call) (out out' : Stream) (update : Result Update ReplaceError)
-    (edited : ℕ) (lists lists' : NameLists) : Type 0 where
+    (edited : ℕ) (lists lists' : NameLists) (report report' : Report) : Type 0 where
   pub listed : Listed
-  pub writes : WritesOne P name calls calls' out out' update edited listed
+  pub writes : WritesOne args P name calls calls' out out' update edited listed report report'
   pub adds : Adds lists lists' listed
 
--- `WritesAll P before names report after report' counts lists lists'`: `P` holds of each file in
--- turn, `counts` has the numbers of their fates, and what is shown and told of them was written in
--- this order. What is listed of them was added to `lists`.
-pub record WritesAll (P : List ℕ → List Call → List Call → FileResult → Type 0)
+-- `WritesAll args P before names report after report' counts lists lists'`: `P` holds of each file
+-- in turn, `counts` has the numbers of their fates, and what is shown and told of them was written
+-- in this order. What is listed of them was added to `lists`, and the conditions of their outputs
+-- that still name a symbol to the report.
+pub record WritesAll (args : Arguments)
+    (P : List ℕ → List Call → List Call → FileResult → Type 0)
     (before : Moment) (names : List (List ℕ)) (report : Report) (after : Moment)
     (report' : Report) (counts : Counts) (lists lists' : NameLists) : Type 0 where
   pub shown : List ℕ
@@ -78,14 +88,17 @@ pub record WritesAll (P : List ℕ → List Call → List Call → FileResult �
   pub sent : Sends before.out after.out shown
   pub tells : Tells report report' before.err after.err told
   pub adds : Adds lists lists' (listed_of counted.results)
+  pub finds : FindsAll args (outputs_of counted.results) report report'
 
--- `WritesList args names lost out out'`: a list was written: nothing, unless names or the
+-- `WritesList args names rest lost out out'`: a list was written: nothing, unless names or the
 -- conditions that still name a symbol are to be listed. Names are listed by a table of them, after
--- the conditions whose names can't be, unless some of that was lost for want of memory.
-pub record WritesList (args : Arguments) (names : NameLists) (lost : Bool) (out out' : Stream) :
-    Type 0 where
+-- the conditions whose names can't be, unless some of that was lost for want of memory. The list of
+-- the conditions that still name a symbol is `rest`.
+pub record WritesList (args : Arguments) (names : NameLists) (rest : List ℕ) (lost : Bool)
+    (out out' : Stream) : Type 0 where
   pub listed : List ℕ
   pub table : args.task ≡ Names → args.list_remaining ≡ false → lost ≡ false →
       Tabulates (names_in names.list.items) names.hidden_list.items listed
   pub is_wanted : ¬ (args.task ≡ Names) → args.list_remaining ≡ false → listed ≡ []
+  pub remains : ¬ (args.task ≡ Names) → args.list_remaining ≡ true → listed ≡ rest
   pub sent : Sends out out' listed

@@ -34,8 +34,10 @@ impl Report {
         path: &[u8],
         update: Result<Update, ReplaceError>,
     )
-        ensures { TellsResult path.now update self.old self.new (stream_of E.contents err.old)
+        ensures tells { TellsResult path.now update self.old self.new (stream_of E.contents err.old)
             (stream_of E.contents err.new) }
+        ensures remaining { self.new.remaining ≡ self.old.remaining }
+        ensures lost { self.new.has_lost ≡ self.old.has_lost }
     {
         if let Err(error) = update {
             self.file_error(err, job, tree, path, error);
@@ -51,8 +53,10 @@ impl Report {
         path: &[u8],
         error: ReplaceError,
     )
-        ensures { TellsError path.now error self.old self.new (stream_of E.contents err.old)
+        ensures tells { TellsError path.now error self.old self.new (stream_of E.contents err.old)
             (stream_of E.contents err.new) }
+        ensures remaining { self.new.remaining ≡ self.old.remaining }
+        ensures lost { self.new.has_lost ≡ self.old.has_lost }
     {
         match error {
             ReplaceError::Text(fault) => {

@@ -66,9 +66,10 @@ fn process_file<T: Tree, W: Write>(
 ) -> Result<Update, ReplaceError>
     requires none { edited.old ≡ 0 }
     requires lists { names.old.lists_hidden ≡ job.now.arguments.now.list_hidden }
-    ensures writes { ProcessesOne (DoesOne job.now.arguments.now) file.entry.name.now
-        (T.history tree.old) (T.history tree.new) (stream_of W.contents out.old)
-        (stream_of W.contents out.new) result edited.new names.old names.new }
+    ensures writes { ProcessesOne job.now.arguments.now (DoesOne job.now.arguments.now)
+        file.entry.name.now (T.history tree.old) (T.history tree.new) (stream_of W.contents out.old)
+        (stream_of W.contents out.new) result edited.new names.old names.new
+        report.old report.new }
     ensures terminal { report.new.is_terminal ≡ report.old.is_terminal }
     ensures shown { report.new.is_shown ≡ report.old.is_shown }
 {

@@ -35,11 +35,11 @@ pub(crate) fn replace_file<T: Tree, W: Write>(
     edited: &mut usize,
 ) -> Result<Update, ReplaceError>
     requires none { edited.old ≡ 0 }
-    ensures writes { WritesOne
+    ensures writes { WritesOne job.now.arguments.now
         (ReplacesShowing job.now.arguments.now.plan job.now.arguments.now.write_into
         job.now.arguments.now.show_changes) file.entry.name.now (T.history tree.old)
         (T.history tree.new) (stream_of W.contents out.old) (stream_of W.contents out.new) result
-        edited.new nothing_listed }
+        edited.new nothing_listed report.old report.new }
     ensures terminal { report.new.is_terminal ≡ report.old.is_terminal }
     ensures shown { report.new.is_shown ≡ report.old.is_shown }
 {
@@ -76,6 +76,8 @@ fn change_of(
 ) -> Vec<u8>
     ensures change { ShowsChange job.now.arguments.now.show_changes name.now update text.now
         output.now result.items }
+    ensures remaining { report.new.remaining ≡ report.old.remaining }
+    ensures lost { report.old.has_lost ≡ true → report.new.has_lost ≡ true }
     ensures terminal { report.new.is_terminal ≡ report.old.is_terminal }
     ensures shown { report.new.is_shown ≡ report.old.is_shown }
 {

@@ -133,6 +133,8 @@ impl Report {
     pub(crate) fn new(job: &Job<'_>) -> Report
         ensures plain { job.now.is_terminal ≡ false → IsPlain result }
         ensures faultless { result.faulty ≡ 0 }
+        ensures remaining { result.remaining ≡
+            record { listing = listing_of job.now.arguments.now; count = 0; list = [] } }
     {
         Report {
             alloc: job.alloc,
@@ -199,6 +201,7 @@ impl Report {
     pub(crate) fn lose(&mut self)
         ensures terminal { self.new.is_terminal ≡ self.old.is_terminal }
         ensures shown { self.new.is_shown ≡ self.old.is_shown }
+        ensures remaining { self.new.remaining ≡ self.old.remaining }
         ensures lost { self.new.has_lost ≡ true }
     {
         self.has_lost = true;
@@ -210,6 +213,8 @@ impl Report {
         ensures hidden { self.new.is_shown ≡ false }
         ensures unshown { self.old.is_shown ≡ false → err.new ≡ err.old }
         ensures faults { self.new.faulty ≡ self.old.faulty }
+        ensures remaining { self.new.remaining ≡ self.old.remaining }
+        ensures lost { self.new.has_lost ≡ self.old.has_lost }
     {
         if !self.is_shown {
             return;
@@ -220,8 +225,10 @@ impl Report {
 
     /// Shows on a terminal how many of the files are done.
     pub(crate) fn progress<E: Write>(&mut self, err: &mut Watched<E>, done: usize, all: usize)
-        ensures { Tells self.old self.new (stream_of E.contents err.old)
+        ensures tells { Tells self.old self.new (stream_of E.contents err.old)
             (stream_of E.contents err.new) [] }
+        ensures remaining { self.new.remaining ≡ self.old.remaining }
+        ensures lost { self.new.has_lost ≡ self.old.has_lost }
     {
         if !self.is_terminal {
             return;
@@ -242,6 +249,8 @@ impl Report {
         ensures tells { Tells self.old self.new (stream_of E.contents err.old)
             (stream_of E.contents err.new) (line_of (flat_map (λ p. p.now) parts.now)) }
         ensures faults { self.new.faulty ≡ self.old.faulty }
+        ensures remaining { self.new.remaining ≡ self.old.remaining }
+        ensures lost { self.new.has_lost ≡ self.old.has_lost }
     {
         self.clear(err);
         report_line(self.alloc, err, parts);
@@ -254,6 +263,8 @@ impl Report {
         ensures counted { self.old.faulty + 1 < 2 ^ 64 →
             self.new.faulty ≡ self.old.faulty + 1 }
         ensures some { 0 < self.new.faulty }
+        ensures remaining { self.new.remaining ≡ self.old.remaining }
+        ensures lost { self.new.has_lost ≡ self.old.has_lost }
     {
         self.faulty = self.faulty.saturating_add(1);
         self.line(err, &[path, b": ", text]);
@@ -276,8 +287,10 @@ impl Report {
 
     /// Writes the fault of a file beside which there is one of another run.
     pub(crate) fn locked<E: Write>(&mut self, err: &mut Watched<E>, path: &[u8])
-        ensures { Tells self.old self.new (stream_of E.contents err.old)
+        ensures tells { Tells self.old self.new (stream_of E.contents err.old)
             (stream_of E.contents err.new) (locked_line path.now) }
+        ensures remaining { self.new.remaining ≡ self.old.remaining }
+        ensures lost { self.new.has_lost ≡ self.old.has_lost }
     {
         self.faulty = self.faulty.saturating_add(1);
         self.line(
@@ -294,8 +307,10 @@ impl Report {
         text: &[u8],
         reason: Option<io::Error>,
     )
-        ensures { ReportsFailure path.now text.now self.old self.new
+        ensures tells { ReportsFailure path.now text.now self.old self.new
             (stream_of E.contents err.old) (stream_of E.contents err.new) }
+        ensures remaining { self.new.remaining ≡ self.old.remaining }
+        ensures lost { self.new.has_lost ≡ self.old.has_lost }
     {
         match reason {
             None => self.fault(err, path, text),
@@ -340,8 +355,10 @@ impl Report {
         settings: Settings,
         fault: RunFault,
     )
-        ensures { TellsText path.now fault self.old self.new (stream_of E.contents err.old)
+        ensures tells { TellsText path.now fault self.old self.new (stream_of E.contents err.old)
             (stream_of E.contents err.new) }
+        ensures remaining { self.new.remaining ≡ self.old.remaining }
+        ensures lost { self.new.has_lost ≡ self.old.has_lost }
     {
         self.faulty = self.faulty.saturating_add(1);
         self.clear(err);

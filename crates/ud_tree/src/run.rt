@@ -281,11 +281,13 @@ fn write_lists<W: Write, E: Write>(
     err: &mut Watched<E>,
     names: &Names,
 ) -> bool
-    ensures writes { WritesList job.now.arguments.now names.now result
+    ensures writes { WritesList job.now.arguments.now names.now
+        report.old.remaining.list result
         (stream_of W.contents out.old) (stream_of W.contents out.new) }
     ensures told { TellsIf list_message result report.old report.new
         (stream_of E.contents err.old) (stream_of E.contents err.new) }
     ensures whole { result ≡ false → report.old.has_lost ≡ false }
+    ensures remaining { report.new.remaining ≡ report.old.remaining }
 {
     let mut list = Vec::new(job.alloc);
     let listed = append_names(job, names, &mut list);
@@ -334,6 +336,7 @@ fn finish_output<W: Write, E: Write>(
     ensures sent { Sends (stream_of W.contents out.old) (stream_of W.contents out.new) [] }
     ensures failed { result ≡ out.new.failed }
     ensures flushed { out.new.failed ≡ false → out.new.unflushed ≡ false }
+    ensures remaining { report.new.remaining ≡ report.old.remaining }
     ensures told { TellsIf write_message result report.old report.new
         (stream_of E.contents err.old) (stream_of E.contents err.new) }
 {
@@ -374,9 +377,10 @@ fn report_counts<E: Write>(
     counts: Counts,
     faults: usize,
 )
-    ensures { Says report.old report.new (stream_of E.contents err.old)
+    ensures says { Says report.old report.new (stream_of E.contents err.old)
         (stream_of E.contents err.new)
         (summary task counts.changed counts.unchanged faults hidden) }
+    ensures remaining { report.new.remaining ≡ report.old.remaining }
 {
     match task {
         Task::Replace => report_changes(report, err, b" changed, ", counts, faults),
@@ -393,9 +397,10 @@ fn report_changes<E: Write>(
     counts: Counts,
     faults: usize,
 )
-    ensures { Says report.old report.new (stream_of E.contents err.old)
+    ensures says { Says report.old report.new (stream_of E.contents err.old)
         (stream_of E.contents err.new)
         (changes_line word.now counts.changed counts.unchanged faults) }
+    ensures remaining { report.new.remaining ≡ report.old.remaining }
 {
     let (mut first, mut second, mut third) = (Buffer::new(), Buffer::new(), Buffer::new());
     let changed = first.format(counts.changed).as_bytes();
@@ -422,9 +427,10 @@ fn report_listed<E: Write>(
     counts: Counts,
     faults: usize,
 )
-    ensures { Says report.old report.new (stream_of E.contents err.old)
+    ensures says { Says report.old report.new (stream_of E.contents err.old)
         (stream_of E.contents err.new)
         (summary Task.Names counts.changed counts.unchanged faults hidden) }
+    ensures remaining { report.new.remaining ≡ report.old.remaining }
 {
     let (mut first, mut second, mut third) = (Buffer::new(), Buffer::new(), Buffer::new());
     let listed = first.format(counts.unchanged).as_bytes();
@@ -470,6 +476,7 @@ fn report_edited<E: Write>(prunes: bool, report: &mut Report, err: &mut Watched<
     ensures line { report.old.is_shown ≡ false → Sends (stream_of E.contents err.old)
         (stream_of E.contents err.new) (edited_line prunes count) }
     ensures hidden { report.old.is_shown ≡ false → report.new.is_shown ≡ false }
+    ensures remaining { report.new.remaining ≡ report.old.remaining }
 {
     if !prunes {
         return;

@@ -24,7 +24,8 @@ use ud_replace::{FileStat, ReplaceError, Update};
 ///
 /// # Errors
 /// As `run_file`. `OutOfMemory` also if memory for the diff can't be allocated. `SeveralLinks` if
-/// the file would change, and a run would only write into it, which isn't allowed.
+/// the file would change, and a run would only write into it, which isn't allowed. No condition is
+/// added to the report then.
 pub(crate) fn show_file<T: Tree, W: Write>(
     job: &Job<'_>,
     tree: &mut T,
@@ -34,11 +35,11 @@ pub(crate) fn show_file<T: Tree, W: Write>(
     edited: &mut usize,
 ) -> Result<Update, ReplaceError>
     requires none { edited.old ≡ 0 }
-    ensures writes { WritesOne
+    ensures writes { WritesOne job.now.arguments.now
         (ShowsOne job.now.arguments.now.plan job.now.arguments.now.write_into)
         file.entry.name.now (T.history tree.old) (T.history tree.new)
         (stream_of W.contents out.old) (stream_of W.contents out.new) result edited.new
-        nothing_listed }
+        nothing_listed report.old report.new }
     ensures terminal { report.new.is_terminal ≡ report.old.is_terminal }
     ensures shown { report.new.is_shown ≡ report.old.is_shown }
 {
@@ -55,11 +56,11 @@ pub(crate) fn show_file<T: Tree, W: Write>(
     if is_left_alone(&ran.stat, job.arguments.write_into) {
         return Err(ReplaceError::SeveralLinks);
     }
-    report.search(job, name, output.inner().as_slice());
     let Some(diff) = diff_of(job, name, ran.text.as_slice(), output.inner().as_slice()) else {
         return Err(ReplaceError::OutOfMemory);
     };
     *edited = ran.run.edited;
+    report.search(job, name, output.inner().as_slice());
     send(out, diff.as_slice());
     Ok(Update::Replaced)
 }

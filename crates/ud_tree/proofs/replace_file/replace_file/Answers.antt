@@ -1,5 +1,7 @@
 use Rattle.std.proofs.Common.{ℕ, [], refl, sym, ap, ◌∙◌, subst, Err}
 use Rattle.ud_tree.specs.Changes.{ShowsUpdate, after_error, after_update}
+use Rattle.ud_tree.specs.Runs.{made}
+use Rattle.ud_tree.proofs.RemainderLemmas.{finds_none, finds_output, finds_then}
 use Rattle.ud_io.specs.Streams.{stream_of}
 use Rattle.ud_io.proofs.StreamLemmas.{sends_none, sends_same}
 use Rattle.ud_tree.proofs.replace_file.replace_file.Goals as goal
@@ -7,21 +9,25 @@ use Rattle.ud_tree.proofs.replace_file.replace_file.Goals as goal
 pub returns-in-Err-clause-writes : goal.returns-in-Err-clause-writes
 returns-in-Err-clause-writes g c = record {
   shown = [];
+  outputs = [];
   does = λ told. record {
     does = c.in-Err.ensures.replaces;
     change = subst (λ (n : ℕ). ShowsUpdate c.args.job.now.arguments.now.plan c.args.job.now.arguments.now.write_into c.args.job.now.arguments.now.show_changes c.args.file.name.now
-        (g.T.Folder.history c.args.tree.now) (g.T.Folder.history c.replace_named.new.tree) (Err c.in-Err.error) [] n) (sym c.requires.none) after_error;
+        (g.T.Folder.history c.args.tree.now) (g.T.Folder.history c.replace_named.new.tree) (Err c.in-Err.error) [] n []) (sym c.requires.none) after_error;
   };
   sent = sends_none (stream_of g.W.Write.contents c.args.out.now);
+  finds = finds_none refl (λ lost. lost);
 }
 
 pub returns-clause-writes : goal.returns-clause-writes
 returns-clause-writes g c = record {
   shown = c.change_of-diff.result.items;
+  outputs = made c.args.file.name.now c.as_slice.result.now;
   does = λ told. record {
     does = c.in-Ok.ensures.replaces;
-    change = after_update _ _ _ (λ o p. c.in-Ok.ensures.keeps o p refl)
-        (rw (c.as_slice-2.ensures.value, c.as_slice-3.ensures.value ∙ ap (λ v. v.items) c.inner-2.ensures) at c.change_of-diff.ensures.change);
+    change = after_update _ _ _ (λ o p. rw (← (c.as_slice.ensures.value ∙ ap (λ v. v.items) c.inner.ensures)) at (c.in-Ok.ensures.keeps o p refl))
+        (rw (c.as_slice-2.ensures.value, c.as_slice-3.ensures.value ∙ ap (λ v. v.items) c.inner-2.ensures, ← (c.as_slice.ensures.value ∙ ap (λ v. v.items) c.inner.ensures)) at c.change_of-diff.ensures.change);
   };
   sent = sends_same c.as_slice-4.ensures.value c.send.ensures;
+  finds = finds_then (made c.args.file.name.now c.as_slice.result.now) [] (finds_output c.search.ensures.finds) (finds_none c.change_of-diff.ensures.remaining c.change_of-diff.ensures.lost);
 }

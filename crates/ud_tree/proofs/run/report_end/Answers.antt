@@ -1,3 +1,4 @@
+use Rattle.std.proofs.Common.{ap, ◌∙◌}
 use Rattle.ud_io.specs.Streams.{stream_of}
 use Rattle.ud_tree.proofs.SummaryLemmas.{ends_quiet, ends_told}
 use Rattle.ud_tree.proofs.run.report_end.Goals as goal
@@ -8,4 +9,5 @@ returns-then-job g c =
 
 pub returns : goal.returns
 returns g c =
-    ends_told c.args.job.now.arguments.now c.args.counts c.args.faults c.args.hidden _ c.report_edited.new.report c.if-job.false c.report_counts.ensures c.report_edited.ensures.line c.report_edited.ensures.hidden c.report_remaining.ensures
+    ends_told c.args.job.now.arguments.now c.args.counts c.args.faults c.args.hidden _ c.report_edited.new.report c.if-job.false
+    (ap (λ s. s.count) (c.report_edited.ensures.remaining ∙ c.report_counts.ensures.remaining)) c.report_counts.ensures.says c.report_edited.ensures.line c.report_edited.ensures.hidden c.report_remaining.ensures

@@ -1,5 +1,7 @@
 -- By the run over the file's text, and the diff of text and output.
-use Rattle.std.proofs.Common.{ap, ◌∙◌}
+use Rattle.std.proofs.Common.{ap, ◌∙◌, refl, sym}
+use Rattle.ud_tree.specs.Runs.{made}
+use Rattle.ud_tree.proofs.RemainderLemmas.{finds_none, finds_output, finds_same}
 use Rattle.ud_tree.specs.Shown.{faulty}
 use Rattle.ud_io.specs.Streams.{stream_of}
 use Rattle.ud_tree.proofs.ShownLemmas.{no_memory, shows_none, shows_same, shows_several, shows_changed}
@@ -8,34 +10,38 @@ use Rattle.ud_tree.proofs.show_file.show_file.Goals as goal
 
 pub returns-in-Err-clause-writes : goal.returns-in-Err-clause-writes
 returns-in-Err-clause-writes g c =
-    shows_none (stream_of g.W.Write.contents c.args.out.now) c.requires.none c.run_file.ensures.reads (λ o p. faulty (c.in-Err.ensures.ran o p))
+    shows_none (stream_of g.W.Write.contents c.args.out.now) c.requires.none c.run_file.ensures.reads (λ o p. faulty (c.in-Err.ensures.ran o p)) (finds_none refl (λ lost. lost))
 
 pub returns-in_default-clause-writes : goal.returns-in_default-clause-writes
 returns-in_default-clause-writes g c =
-    shows_none (stream_of g.W.Write.contents c.args.out.now) c.requires.none c.run_file.ensures.reads (λ o p. faulty (no_memory o c.in-Ok.ensures.text))
+    shows_none (stream_of g.W.Write.contents c.args.out.now) c.requires.none c.run_file.ensures.reads (λ o p. faulty (no_memory o c.in-Ok.ensures.text)) (finds_none refl (λ lost. lost))
 
 pub returns-then-not-ran-clause-writes : goal.returns-then-not-ran-clause-writes
 returns-then-not-ran-clause-writes g c =
     shows_none (stream_of g.W.Write.contents c.args.out.now) c.requires.none c.run_file.ensures.reads
     (λ o p.
-    shows_same o _ _ _ _ _ _ _ _ _ (ap (λ v. v.items) c.new-output.ensures.inner ∙ c.new.ensures.items) c.if-not-ran.true c.in-Ok.ensures.text
-    (c.in-Ok.ensures.ran o p))
+    shows_same o _ _ _ _ _ _ _ _ _ (c.as_slice.ensures.value ∙ ap (λ v. v.items) c.inner.ensures) (ap (λ v. v.items) c.new-output.ensures.inner ∙ c.new.ensures.items) c.if-not-ran.true c.in-Ok.ensures.text
+    (c.in-Ok.ensures.ran o p)) (finds_output c.search.ensures.finds)
 
 pub returns-then-is_left_alone-clause-writes : goal.returns-then-is_left_alone-clause-writes
 returns-then-is_left_alone-clause-writes g c =
     shows_none (stream_of g.W.Write.contents c.args.out.now) c.requires.none c.run_file.ensures.reads
     (λ o p.
     shows_several o _ _ _ _ _ _ _ _ _ (ap (λ v. v.items) c.new-output.ensures.inner ∙ c.new.ensures.items) c.if-not-ran.false c.in-Ok.ensures.text
-    (c.in-Ok.ensures.ran o p) (c.is_left_alone.ensures.left c.if-is_left_alone.true))
+    (c.in-Ok.ensures.ran o p) (c.is_left_alone.ensures.left c.if-is_left_alone.true)) (finds_none refl (λ lost. lost))
 
 pub returns-clause-writes : goal.returns-clause-writes
 returns-clause-writes g c = record {
   shown = c.in-Some.diff.items;
+  outputs = made c.args.file.name.now c.as_slice-3.result.now;
   does = λ told. record {
     reads = c.run_file.ensures.reads;
     shows = λ o p. shows_changed o _ _ _ _ _ _ _ _ _ _ _ _ (ap (λ v. v.items) c.new-output.ensures.inner ∙ c.new.ensures.items) c.if-not-ran.false
-        c.in-Ok.ensures.text (c.in-Ok.ensures.ran o p) (c.is_left_alone.ensures.replaced c.if-is_left_alone.false) c.as_slice-3.ensures.value
-        (c.as_slice-4.ensures.value ∙ ap (λ v. v.items) c.inner-3.ensures) c.in-Some.ensures;
+        c.in-Ok.ensures.text (c.in-Ok.ensures.ran o p) (c.is_left_alone.ensures.replaced c.if-is_left_alone.false) c.as_slice-2.ensures.value
+        (c.as_slice-3.ensures.value ∙ ap (λ v. v.items) c.inner-2.ensures) c.in-Some.ensures;
   };
   sent = sends_same c.as_slice-5.ensures.value c.send.ensures;
+  finds = finds_same
+      (ap (λ x. made c.args.file.name.now x) (c.as_slice-4.ensures.value ∙ ap (λ v. v.items) c.inner-3.ensures ∙ sym (c.as_slice-3.ensures.value ∙ ap (λ v. v.items) c.inner-2.ensures)))
+      (finds_output c.search-2.ensures.finds);
 }

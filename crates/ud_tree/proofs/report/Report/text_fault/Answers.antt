@@ -4,13 +4,13 @@ use Rattle.ud_tree.proofs.MessageLemmas.{cleared_tells}
 use Rattle.ud_tree.proofs.VisibleLemmas.{text_raw, text_visible, written_all}
 use Rattle.ud_tree.proofs.report.Report.text_fault.Goals as goal
 
-pub returns-then-failed : goal.returns-then-failed
-returns-then-failed g c =
+pub returns-then-failed-clause-tells : goal.returns-then-failed-clause-tells
+returns-then-failed-clause-tells g c =
     text_raw c.args.path.now c.args.fault
     (cleared_tells {a = c.args.self.now} c.clear.ensures.terminal c.clear.ensures.hidden (λ e. ap (λ w. stream_of g.E.Write.contents w) (c.clear.ensures.unshown e)) c.report_text.ensures)
 
-pub returns : goal.returns
-returns g c =
+pub returns-clause-tells : goal.returns-clause-tells
+returns-clause-tells g c =
     text_visible c.args.path.now c.as_slice.result.now c.args.fault
     (written_all c.send_visible.ensures c.new-name.ensures.failed (sym c.failed.ensures ∙ c.if-failed.false)
     (ap (λ v. Some v.items) c.new-name.ensures.inner ∙ ap (λ (x : List ℕ). Some x) c.new.ensures.items)
