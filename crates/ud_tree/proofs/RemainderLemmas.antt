@@ -65,6 +65,6 @@ finds_then xs ys h k = record {
   same = λ off. k.same off ∙ h.same off;
 }
 
--- The same outputs.
+-- Equal outputs are found alike.
 pub finds_same : {args : Arguments} {a b : Report} {xs ys : List Output} → xs ≡ ys → FindsAll args xs a b → FindsAll args ys a b
 finds_same {args = args} {a = a} {b = b} e h = subst (λ (os : List Output). FindsAll args os a b) e h
