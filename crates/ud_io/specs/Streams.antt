@@ -5,9 +5,9 @@
 --   TakesBy failed failed' old ..   what it took, by whether it had failed and has failed
 --   TakesAllBut old new bytes left  the same between two streams: all of `bytes` but `left`
 --   Sends old new bytes             all of `bytes` was written, or a prefix up to a failure
---   Accepts contents buffered ..    bytes were taken, behind a buffer
+--   Accepts contents buffered ..    bytes were taken, after those of a buffer
 --
--- Example: after a write of "ab" that failed behind the "a", the contents are one byte longer, and
+-- Example: after a write of "ab" that failed after the "a", the contents are one byte longer, and
 -- the writer has failed. What is sent then is dropped.
 use Rattle.std.specs.Prelude.{◌≡◌, ℕ, List, [], ◌++◌, Bool, true, false, Option}
 use Rattle.std.specs.Io.KnownBytes.{Keeps}

@@ -5,7 +5,7 @@
 --   Piece                    a cell of the text, or a splice
 --   cells_among pieces       the cells among the pieces
 --   bytes_among pieces       the bytes of the pieces, in order
---   gap_of n pieces          the first `n` cells, with the splices before, between and behind them
+--   gap_of n pieces          the first `n` cells, with the splices before, between and after them
 --   token_of n pieces        the first `n` cells, with the splices before and between them
 --   left_pieces flags pieces the pieces of a condition's text that are left by these flags
 --
@@ -38,7 +38,7 @@ bytes_among [] = []
 bytes_among (cell c ∷ pieces) = c.byte ∷ bytes_among pieces
 bytes_among (splice bytes ∷ pieces) = bytes ++ bytes_among pieces
 
--- `gap_of n pieces`: the first `n` cells, with the splices before, between and behind them.
+-- `gap_of n pieces`: the first `n` cells, with the splices before, between and after them.
 abbrev pub gap_of : ℕ → List Piece → List Piece
 gap_of n [] = []
 gap_of n (splice bytes ∷ pieces) = splice bytes ∷ gap_of n pieces
