@@ -124,16 +124,17 @@ lib-test: lib
 	@tests/library.sh
 
 ## runs the merge gate: every proof from nothing, the edits
-## that the prover must refuse, the tests and stored runs.
-## RT_JOBS=N runs N checks side by side; all lines go to
-## gate.log
+## of definitions and laws that the prover must refuse, the
+## tests and stored runs. RT_JOBS=N runs N checks side by
+## side; all lines go to gate.log
 check: kit
 	@RT='$(RT)' tools/gate.py
 
-## tries the second edits, which the gate leaves out, many
-## in one check; CRATES='NAME ..' those of some crates
+## tries a wrong edit of each public function, which the
+## prover must refuse, many in one check; CRATES='NAME ..'
+## those of some crates, EDITS=--all further ones too
 edits: edits-test
-	@RT='$(RT)' tools/edits.py $(CRATES)
+	@RT='$(RT)' tools/edits.py $(EDITS) $(CRATES)
 
 ## tries the tool that tries edits, in a minute
 edits-test: kit

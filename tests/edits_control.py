@@ -5,7 +5,6 @@ The wrong ones are to be refused. The right ones change a body and keep its cont
 caller of a function with a wrong edit. So each is to be proved, although all are checked together.
 One edit doesn't compile, and nothing is proved or refused of a crate that has it.
 """
-import argparse
 import os
 import sys
 import tempfile
@@ -111,16 +110,15 @@ def write_edits(folder, edits):
 
 
 def main():
-    options = argparse.Namespace(alone=False, jobs=None)
     with tempfile.TemporaryDirectory(prefix="edits-control-") as top:
         crate = f"{top}/crates/control"
         write(f"{top}/crates.txt", "control:\n")
         write(f"{top}/HANDLES", "Handles allowed: none.\n")
         write(f"{crate}/src/lib.rt", SOURCE)
-        write_edits(f"{crate}/must-fail", {**WRONG, **RIGHT, **BROKEN})
+        write_edits(f"{crate}/must-fail-first", {**WRONG, **RIGHT, **BROKEN})
         write_edits(f"{crate}/must-fail-second", UNREADABLE)
-        found = run(top, "control", [], ["must-fail"], options)
-        unread = edits_of(top, "control", ["must-fail", "must-fail-second"])[1]
+        found = run(top, "control", [], ["must-fail-first"], False)
+        unread = edits_of(top, "control", ["must-fail-first", "must-fail-second"])[1]
     wanted = {REFUSED: sorted(WRONG), PROVED: sorted(RIGHT), BAD: sorted(BROKEN)}
     if {it: sorted(names) for it, names in found.items()} != wanted or len(unread) != 2:
         return "edits-test: FAILED: not exactly the wrong edits are refused"

@@ -1,12 +1,13 @@
 #!/usr/bin/env python3
 """Tries wrong edits of the crates, many in one check: the prover must refuse each (`make edits`).
 
-    tools/edits.py [--all] [--alone] [--jobs N] [CRATE ..]     RT is Rattle's command
-    tools/edits.py --read                                      reads all edits, and tries none
+    tools/edits.py [--all] [--alone] [CRATE ..]     RT is Rattle's command
+    tools/edits.py --read                           reads all edits, and tries none
 
-The edits are those of `must-fail-second`, and with --all those of `must-fail` too. The crates are
-proved first, where they aren't (tools/prove.py). Then each is copied, and only the copy is edited.
-`rt check` runs there over what the proof kept.
+The edits are those of `must-fail-first`, and with --all those of `must-fail-second` and `must-fail`
+too. The crates are proved first, where they aren't (tools/prove.py). Then each is copied, and only
+the copy is edited. `rt check` runs there over what the proof kept, in as many crates at once as
+tools/gate.py proves.
 
 Edits of different functions are checked together. Callers rest on a contract and never on a body,
 so the goals of a function fail only for its own edit. An edit is refused if such a goal fails: an
@@ -21,9 +22,9 @@ of a crate have one name.
 """
 import argparse
 import collections
+import concurrent.futures
 import os
 import re
-import resource
 import shutil
 import signal
 import subprocess
@@ -33,15 +34,17 @@ import time
 
 sys.dont_write_bytecode = True
 
-from prove import HERE, RT, Build, at_or_below, libraries
+from gate import jobs
+from prove import HERE, RT, Build, at_or_below, expected, libraries
 
 REFUSED, PROVED, BAD = "refused", "PROVED", "BAD EDIT"
 
 # The line on which a function begins. `const fn` is left out: a type may rest on the body.
 FUNCTION = re.compile(r'( *)(?:pub(?:\([a-z: ]+\))? )?(?:unsafe )?(?:extern "C" )?fn (\w+)')
 
-# The folders of edits of a crate: those of the gate, and the second ones.
-FOLDERS = ["must-fail", "must-fail-second"]
+# The folders of edits of a crate: those that `.ci/run` tries by this tool, further ones, and those
+# that `rt ci` tries.
+FOLDERS = ["must-fail-first", "must-fail-second", "must-fail"]
 
 # A failed obligation, an error in what is written of a function's proof, and any error.
 OBLIGATION = re.compile(r"note: (?:\./)?(src/\S+?\.rt):(\d+):\d+: (?=.*is not proved that)")
@@ -118,12 +121,46 @@ class Edit:
         return (texts, changed if only_bodies else set()) if self.pairs else None
 
 
+class Checks:
+    """The checks that run, all of which can be stopped."""
+
+    def __init__(self):
+        self.running, self.is_stopped = set(), False
+
+    def run(self, folder):
+        """Returns the status of a check, what it prints, and its seconds of a processor."""
+        how = {"cwd": folder, "errors": "replace", "start_new_session": True}
+        how |= {"stdin": subprocess.DEVNULL, "stdout": subprocess.PIPE, "stderr": subprocess.STDOUT}
+        with subprocess.Popen([RT, "check", "--jobs", "1"], **how) as check:
+            self.running.add(check)
+            if self.is_stopped:
+                self.stop()
+            said = check.stdout.read().rstrip().split("\n")
+            _, status, used = os.wait4(check.pid, 0)
+            check.returncode = os.waitstatus_to_exitcode(status)
+            self.running.remove(check)
+        if self.is_stopped:
+            sys.exit("edits: stopped")
+        return check.returncode, said, used.ru_utime + used.ru_stime
+
+    def stop(self):
+        """Ends all checks and all that they started."""
+        self.is_stopped = True
+        for check in list(self.running):
+            try:
+                os.killpg(check.pid, signal.SIGTERM)
+            except ProcessLookupError:
+                pass
+
+
+CHECKS = Checks()
+
+
 class Room:
     """A copy of a crate and of those below it, with what earlier checks kept of the crate."""
 
-    def __init__(self, place, top, crate, below, jobs):
-        self.folder, self.jobs = f"{place}/crates/{crate}", jobs
-        self.checks = self.processor = 0
+    def __init__(self, place, top, crate, below):
+        self.folder, self.checks, self.processor = f"{place}/crates/{crate}", 0, 0
         shutil.copy2(f"{top}/HANDLES", place)
         with open(f"{top}/crates.txt", encoding="utf-8") as lines:
             kept = [it for it in lines if re.match(r"\w*", it)[0] in (*below, crate)]
@@ -154,28 +191,14 @@ class Room:
     def check(self, texts):
         """Returns the status of a check with these texts, and the lines that it prints."""
         own = {path: self.read(path) for path in texts}
-        before = resource.getrusage(resource.RUSAGE_CHILDREN)
         self.write(texts)
-        run = subprocess.Popen(
-            [RT, "check", *self.jobs],
-            cwd=self.folder,
-            stdin=subprocess.DEVNULL,
-            stdout=subprocess.PIPE,
-            stderr=subprocess.STDOUT,
-            errors="replace",
-            start_new_session=True,
-        )
         try:
-            said = run.communicate()[0].rstrip().split("\n")
+            status, said, processor = CHECKS.run(self.folder)
         finally:
-            if run.poll() is None:
-                os.killpg(run.pid, signal.SIGTERM)
-                run.wait()
             self.write(own)
-        after = resource.getrusage(resource.RUSAGE_CHILDREN)
-        self.processor += after.ru_utime + after.ru_stime - before.ru_utime - before.ru_stime
+        self.processor += processor
         self.checks += 1
-        return run.returncode, said
+        return status, said
 
 
 class Batch:
@@ -294,28 +317,50 @@ def edits_of(top, crate, folders):
     return good, bad
 
 
-def run(top, crate, below, folders, options):
+def say(*lines):
+    """Prints lines, whole ones also if other crates are tried at the same time."""
+    sys.stdout.write("".join(f"{it}\n" for it in lines))
+    sys.stdout.flush()
+
+
+def run(top, crate, below, folders, alone):
     """Tries the edits of a crate, and returns their names by verdict."""
     found, begin = {REFUSED: [], PROVED: [], BAD: []}, time.monotonic()
     edits, bad = edits_of(top, crate, folders)
-    jobs = ["--jobs", str(options.jobs)] if options.jobs else []
     with tempfile.TemporaryDirectory(prefix="edits-") as place:
-        room = Room(place, top, crate, below, jobs)
+        room = Room(place, top, crate, below)
         status, said = room.check({})
         if status:
-            print("\n".join(said))
+            say(*said)
             sys.exit(f"edits: {crate} isn't proved without an edit, so its edits show nothing")
         first = room.processor
-        for name, verdict, reason in try_edits(room, edits, options.alone):
+        for name, verdict, reason in try_edits(room, edits, alone):
             found[verdict].append(name)
             by = "a name is missing: " if NAME.search(reason) else ""
-            print(f"{verdict:8} {crate}/{name}: {by}{reason[:160]}", flush=True)
-    print(*bad, sep="\n", end="\n" if bad else "")
+            say(f"{verdict:8} {crate}/{name}: {by}{reason[:160]}")
+    say(*bad)
     found[BAD] += bad
     spent = f"{first:.0f} s + {room.processor - first:.0f} s of a processor"
     clock = f"{time.monotonic() - begin:.0f} s of the clock"
-    print(f"edits: {crate}: {len(edits)} in {room.checks - 1} checks, {spent}, {clock}", flush=True)
+    say(f"edits: {crate}: {len(edits)} in {room.checks - 1} checks, {spent}, {clock}")
     return found
+
+
+def run_all(crates, used, folders, alone):
+    """Tries the edits of crates side by side, and returns how many there are of each verdict."""
+    order = sorted(crates, key=lambda it: -expected(it) * len(edits_of(HERE, it, folders)[0]))
+    count = dict.fromkeys((REFUSED, PROVED, BAD), 0)
+    with concurrent.futures.ThreadPoolExecutor(jobs()) as pool:
+        try:
+            below = {it: at_or_below(it, used)[:-1] for it in order}
+            runs = [pool.submit(run, HERE, it, below[it], folders, alone) for it in order]
+            for it in concurrent.futures.as_completed(runs):
+                count = {verdict: count[verdict] + len(it.result()[verdict]) for verdict in count}
+        except BaseException:
+            pool.shutdown(wait=False, cancel_futures=True)
+            CHECKS.stop()
+            raise
+    return count
 
 
 def read_all(used):
@@ -334,21 +379,17 @@ def main():
     parser.add_argument("crates", nargs="*")
     for flag in ("--all", "--alone", "--read"):
         parser.add_argument(flag, action="store_true")
-    parser.add_argument("--jobs", type=int)
     options, used = parser.parse_args(), libraries()
     if options.read:
         return read_all(used)
     unknown = [it for it in options.crates if it not in used]
     if unknown:
         return f"edits: crates.txt has no crate {unknown[0]}"
-    folders = FOLDERS if options.all else FOLDERS[1:]
+    folders = FOLDERS if options.all else FOLDERS[:1]
     crates = [it for it in options.crates or used if sum(map(len, edits_of(HERE, it, folders)))]
-    if not Build(crates).run():
+    if not Build(crates, split={}).run():
         return 1
-    count = dict.fromkeys((REFUSED, PROVED, BAD), 0)
-    for crate in crates:
-        found = run(HERE, crate, at_or_below(crate, used)[:-1], folders, options)
-        count = {verdict: count[verdict] + len(found[verdict]) for verdict in count}
+    count = run_all(crates, used, folders, options.alone)
     bad = f", {count[BAD]} can't be tried" if count[BAD] else ""
     print(f"{count[REFUSED]} refused, {count[PROVED]} proved{bad}")
     return 1 if count[PROVED] or count[BAD] else 0

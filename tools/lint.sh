@@ -1,7 +1,7 @@
 #!/usr/bin/env bash
 # Checks the version, the manuals by mandoc, the scripts by shellcheck and flake8, the language of
 # comments and pages by tools/style.py, the names in pages by tools/names.py, how much there is to read
-# by tools/reading.py, and by tools/edits.py that each edit of must-fail and must-fail-second can be
+# by tools/reading.py, and by tools/edits.py that each edit that the prover must refuse can be
 # applied. A linter that isn't there is left out.
 set -u
 cd "$(dirname "$0")/.." || exit 1

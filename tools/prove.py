@@ -210,10 +210,10 @@ class Run:
 
 
 class Build:
-    """All checks of one build."""
+    """All checks of one build. `split` says among how many processors a check may be split."""
 
-    def __init__(self, crates):
-        self.used, self.left = libraries(), []
+    def __init__(self, crates, split=None):
+        self.used, self.left, self.split = libraries(), [], SPLIT if split is None else split
         for crate in crates:
             if crate not in self.used:
                 sys.exit(f"prove: crates.txt has no crate {crate}")
@@ -247,9 +247,10 @@ class Build:
 
     def jobs_of(self, crate):
         """Returns among how many processors a check that starts now is split: those that no other
-        check can use, if it is one of the longest, or two if nothing can run beside it."""
+        check can use, if it is one of the longest, or two if nothing can run beside it. Without any
+        to split, none is."""
         others = self.busy() + len(self.ready())
-        most = SPLIT.get(crate, 1 if others else 2)
+        most = self.split.get(crate, 1 if others or not self.split else 2)
         if most > 1 and free_memory() < FREE_FOR_ALL:
             return 1
         return max(min(most, self.processors - others), 1)
