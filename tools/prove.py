@@ -30,36 +30,36 @@ HERE = os.path.dirname(os.path.dirname(os.path.realpath(__file__)))
 RT = os.environ.get("RT", "rt")
 CPU = os.environ.get("UNIFDEF_CPU", "")
 
-# How long each crate takes alone on 4 processors, for the order and the estimate. Nothing else
-# depends on these seconds.
+# How long each crate takes on 4 quiet processors, where it is split as below, for the order and the
+# estimate. Nothing else depends on these seconds.
 SECONDS = {
-    "ud_model": 60,
-    "ud_io": 16,
-    "ud_faults": 18,
-    "ud_cond": 130,
-    "ud_text": 122,
-    "ud_args": 72,
-    "ud_sections": 110,
-    "ud_prune": 75,
+    "ud_model": 95,
+    "ud_io": 18,
+    "ud_faults": 25,
+    "ud_cond": 249,
+    "ud_text": 194,
+    "ud_args": 80,
+    "ud_sections": 108,
+    "ud_prune": 90,
     "ud_tree_args": 50,
-    "ud_pattern": 25,
-    "ud_remaining": 50,
-    "ud_names": 45,
-    "ud_engine": 175,
-    "ud_diagnostics": 27,
-    "unifdef": 43,
-    "unifdef_cli": 68,
-    "unifdef_c": 60,
-    "ud_replace": 100,
-    "ud_diff": 60,
-    "ud_tree": 150,
+    "ud_pattern": 16,
+    "ud_remaining": 90,
+    "ud_names": 85,
+    "ud_engine": 130,
+    "ud_diagnostics": 28,
+    "unifdef": 45,
+    "unifdef_cli": 62,
+    "unifdef_c": 130,
+    "ud_replace": 90,
+    "ud_diff": 70,
+    "ud_tree": 240,
+    "unifdef_tree_cli": 60,
 }
 OTHER = 60
 
 # A check that takes no more seconds found its work kept, and says nothing of how fast this machine
-# is. Before a check says something, a second takes USUAL ones. The machines that were tried took 1
-# to 1.5.
-KEPT, USUAL = 15, 1.2
+# is. Before a check says something, a second takes USUAL ones.
+KEPT, USUAL = 15, 1
 
 # Among how many processors a check is split, if it is one of the longest of the chain. A split
 # check takes half as much time of a processor again.
