@@ -1,7 +1,8 @@
 -- The output for a text grows line by line.
-use Rattle.std.proofs.Common.{◌≡◌, ◌∙◌, List, ℕ, [], ◌∷◌, ◌++◌, Bool, true, false, not, ◌||◌, bytes_eq, refl, ap, sym, append_assoc, append-nil}
+use Rattle.std.proofs.Common.{◌≡◌, ◌∙◌, List, ℕ, [], ◌∷◌, ◌++◌, Bool, false, not, ◌||◌, bytes_eq, refl, ap, sym, append_assoc, append-nil}
 use Rattle.std.specs.List.{concat}
 use Rattle.std.proofs.lemmas.List.Folds.{concat-append}
+use Rattle.std.proofs.Math.Bool.{or-false, or_assoc}
 use Rattle.ud_model.specs.text.Lines.{text_of}
 use Rattle.ud_model.specs.sections.Pruning.{is_removed}
 use Rattle.ud_model.specs.answer.Printing.{Judged, last_removed, pieces_by, some_other}
@@ -33,18 +34,10 @@ pub differ-more : (piece : List Judged → Judged → List ℕ) (before js : Lis
     some_other (pieces_by piece before (js ++ j ∷ [])) (js ++ j ∷ [])
     ≡ (some_other (pieces_by piece before js) js || not (bytes_eq (piece (before ++ js) j) (text_of j.line)))
 differ-more piece before [] j =
-    ap (λ (ks : List Judged). not (bytes_eq (piece ks j) (text_of j.line)) || false) (sym (append-nil before)) ∙ or_false (not (bytes_eq (piece (before ++ []) j) (text_of j.line)))
-  where
-    or_false : (b : Bool) → (b || false) ≡ b
-    or_false true = refl
-    or_false false = refl
+    ap (λ (ks : List Judged). not (bytes_eq (piece ks j) (text_of j.line)) || false) (sym (append-nil before)) ∙ or-false (not (bytes_eq (piece (before ++ []) j) (text_of j.line)))
 differ-more piece before (k ∷ js) j =
     ap (λ (d : Bool). not (bytes_eq (piece before k) (text_of k.line)) || d)
     (differ-more piece (before ++ k ∷ []) js j
     ∙ ap (λ (ks : List Judged). some_other (pieces_by piece (before ++ k ∷ []) js) js || not (bytes_eq (piece ks j) (text_of j.line))) (append_assoc before (k ∷ []) js))
-    ∙ or_or (not (bytes_eq (piece before k) (text_of k.line))) (some_other (pieces_by piece (before ++ k ∷ []) js) js)
-    (not (bytes_eq (piece (before ++ k ∷ js) j) (text_of j.line)))
-  where
-    or_or : (a b c : Bool) → (a || (b || c)) ≡ ((a || b) || c)
-    or_or true b c = refl
-    or_or false b c = refl
+    ∙ sym (or_assoc (not (bytes_eq (piece before k) (text_of k.line))) (some_other (pieces_by piece (before ++ k ∷ []) js) js)
+    (not (bytes_eq (piece (before ++ k ∷ js) j) (text_of j.line))))

@@ -1,7 +1,7 @@
 -- Choice values: what a choice of numbers gives an expression is one of the values that C may give it.
-use Rattle.std.proofs.Common.{◌≡◌, ℕ, List, [], ◌∷◌, Bool, true, false, ◌||◌, ◌==◌, if◌then◌else◌, Option, Some, None, refl, sym, ◌∙◌, ap, subst, inl, inr, ◌⊎◌, ℤ, pos, negsuc, neg_ℤ}
+use Rattle.std.proofs.Common.{◌≡◌, ℕ, List, [], ◌∷◌, Bool, true, false, ◌==◌, if◌then◌else◌, Option, Some, None, refl, sym, ◌∙◌, ap, subst, inl, inr, ◌⊎◌, ℤ, pos, negsuc, neg_ℤ}
 use Rattle.std.proofs.lemmas.Option.{none-some}
-use Rattle.std.proofs.lemmas.Bool.{false≢true}
+use Rattle.std.proofs.lemmas.Bool.{false≢true, or_left, or_right}
 use Rattle.ud_model.specs.conditions.Table.{Argument, Entry, entry_in}
 use Rattle.ud_model.specs.conditions.Constants.{is_constant}
 use Rattle.ud_model.specs.conditions.Symbols.{resolve}
@@ -64,14 +64,6 @@ pub name_less : (table : List Argument) (u v : Bool) (n : List ℕ) → (v ≡ t
 unfolding name_value
 name_less table u v n h z e = entry_less u v (resolve table n) (entry_in table n) h z e
 
-left_u : (a b u : Bool) → ((a || b) ≡ true → u ≡ true) → a ≡ true → u ≡ true
-left_u true b u f e = f refl
-left_u false b u f e = absurd (false≢true e)
-
-right_u : (a b u : Bool) → ((a || b) ≡ true → u ≡ true) → b ≡ true → u ≡ true
-right_u true b u f e = f refl
-right_u false b u f e = f e
-
 zero_or_one : (b : Bool) → (signed (truth b) ≡ signed (pos 0)) ⊎ (signed (truth b) ≡ signed (pos 1))
 zero_or_one true = inr refl
 zero_or_one false = inl refl
@@ -99,13 +91,13 @@ module _ (table : List Argument) (u : Bool) where
   value_may a (of_defined {n = n} {p = p} {b = b}) v = defined_may n p b a
   value_may a (of_unary d g) v = may.of_unary (value_may a d v) g
   value_may h (of_binary {a = a} {b = b} d f g) v =
-      may.of_binary (value_may h.0 d (left_u (has_unsigned table a) (has_unsigned table b) u v)) (value_may h.1 f (right_u (has_unsigned table a) (has_unsigned table b) u v)) g
-  value_may h (of_and_left {a = a} {b = b} d z) v = may.of_and_left (value_may h.0 d (left_u (has_unsigned table a) (has_unsigned table b) u v)) z
+      may.of_binary (value_may h.0 d (λ e. v (or_left (has_unsigned table a) (has_unsigned table b) e))) (value_may h.1 f (λ e. v (or_right (has_unsigned table a) (has_unsigned table b) e))) g
+  value_may h (of_and_left {a = a} {b = b} d z) v = may.of_and_left (value_may h.0 d (λ e. v (or_left (has_unsigned table a) (has_unsigned table b) e))) z
   value_may h (of_and_both {a = a} {b = b} d z f t) v =
-      may.of_and_both (value_may h.0 d (left_u (has_unsigned table a) (has_unsigned table b) u v)) z (value_may h.1 f (right_u (has_unsigned table a) (has_unsigned table b) u v)) t
-  value_may h (of_or_left {a = a} {b = b} d z) v = may.of_or_left (value_may h.0 d (left_u (has_unsigned table a) (has_unsigned table b) u v)) z
+      may.of_and_both (value_may h.0 d (λ e. v (or_left (has_unsigned table a) (has_unsigned table b) e))) z (value_may h.1 f (λ e. v (or_right (has_unsigned table a) (has_unsigned table b) e))) t
+  value_may h (of_or_left {a = a} {b = b} d z) v = may.of_or_left (value_may h.0 d (λ e. v (or_left (has_unsigned table a) (has_unsigned table b) e))) z
   value_may h (of_or_both {a = a} {b = b} d z f t) v =
-      may.of_or_both (value_may h.0 d (left_u (has_unsigned table a) (has_unsigned table b) u v)) z (value_may h.1 f (right_u (has_unsigned table a) (has_unsigned table b) u v)) t
+      may.of_or_both (value_may h.0 d (λ e. v (or_left (has_unsigned table a) (has_unsigned table b) e))) z (value_may h.1 f (λ e. v (or_right (has_unsigned table a) (has_unsigned table b) e))) t
   value_may a (of_parens d) v = may.of_parens (value_may a d v)
 
 -- The value by an allowed choice is one that C may give the whole expression.

@@ -88,7 +88,7 @@ by_name : (o : Option (List ℕ)) (table : List Argument) → (ifdef_decision o 
 by_name None table e = refl
 by_name (Some n) table e = by_entry (entry_in table n) e
 
-negated_unknown : (c : Cond) → negate c ≡ Unknown → c ≡ Unknown
+pub negated_unknown : (c : Cond) → negate c ≡ Unknown → c ≡ Unknown
 negated_unknown Yes e = cc
 negated_unknown No e = cc
 negated_unknown Unknown e = refl

@@ -7,7 +7,7 @@
 use Rattle.std.proofs.Common.{◌≡◌, ℕ, ◌^◌, ◌<◌, ◌≤◌, Bool, true, false, not, ◌&&◌, ◌||◌, if◌then◌else◌, List, [], ◌∷◌, Option, Some, None, is_some, ◌==◌, refl, sym, ◌∙◌, ap, subst, inl, inr, arith, ℤ, pos, negsuc, neg_ℤ, nat_lt}
 use Rattle.std.specs.Int.{cast_unsigned}
 use Rattle.std.proofs.lemmas.Option.{none-some, same_Some}
-use Rattle.std.proofs.lemmas.Bool.{false≢true}
+use Rattle.std.proofs.lemmas.Bool.{false≢true, or_left, or_right}
 use Rattle.std.proofs.lemmas.Bool.Decides.{Decides-ltb}
 use mir.Syntax.{w64}
 use Rattle.ud_model.specs.conditions.Table.{Argument, Entry, entry_in}
@@ -216,14 +216,6 @@ or_both_known strict u None (Some b) x y c f g z t n e =
     true_truth (IsZero y → ⊥) u n c t (λ h. false≢true (sym p.0 ∙ (zero_agrees u b y (g b refl)).1 h)) p.1
 or_both_known strict u None None x y c f g z t n e = absurd (none-some n e)
 
-left_u : (a b u : Bool) → ((a || b) ≡ true → u ≡ true) → a ≡ true → u ≡ true
-left_u true b u f e = f refl
-left_u false b u f e = absurd (false≢true e)
-
-right_u : (a b u : Bool) → ((a || b) ≡ true → u ≡ true) → b ≡ true → u ≡ true
-right_u true b u f e = f refl
-right_u false b u f e = f e
-
 module _ (table : List Argument) (strict u : Bool) where
   -- Each known value of a tree agrees with each C value that it may have.
   pub known : {e : Expression} {c : Number} → CValue table u e c → (has_unsigned table e ≡ true → u ≡ true) → Knows u (number_of table strict u e) c
@@ -236,17 +228,17 @@ module _ (table : List Argument) (strict u : Bool) where
   known (of_unary {o = o} {a = a} {x = x} {c = c} d g) v = unary_known u o (number_of table strict u a) x c (known d v) g
   known (of_binary {o = o} {a = a} {b = b} {x = x} {y = y} {c = c} d f g) v =
       binary_known strict u o (number_of table strict u a) (number_of table strict u b) x y c
-      (known d (left_u (has_unsigned table a) (has_unsigned table b) u v)) (known f (right_u (has_unsigned table a) (has_unsigned table b) u v)) g
+      (known d (λ e. v (or_left (has_unsigned table a) (has_unsigned table b) e))) (known f (λ e. v (or_right (has_unsigned table a) (has_unsigned table b) e))) g
   known (of_and_left {a = a} {b = b} {x = x} d z) v =
-      and_left_known strict u (number_of table strict u a) (number_of table strict u b) x (known d (left_u (has_unsigned table a) (has_unsigned table b) u v)) z
+      and_left_known strict u (number_of table strict u a) (number_of table strict u b) x (known d (λ e. v (or_left (has_unsigned table a) (has_unsigned table b) e))) z
   known (of_and_both {a = a} {b = b} {x = x} {y = y} {c = c} d z f t) v =
       and_both_known strict u (number_of table strict u a) (number_of table strict u b) x y c
-      (known d (left_u (has_unsigned table a) (has_unsigned table b) u v)) (known f (right_u (has_unsigned table a) (has_unsigned table b) u v)) z t
+      (known d (λ e. v (or_left (has_unsigned table a) (has_unsigned table b) e))) (known f (λ e. v (or_right (has_unsigned table a) (has_unsigned table b) e))) z t
   known (of_or_left {a = a} {b = b} {x = x} d z) v =
-      or_left_known strict u (number_of table strict u a) (number_of table strict u b) x (known d (left_u (has_unsigned table a) (has_unsigned table b) u v)) z
+      or_left_known strict u (number_of table strict u a) (number_of table strict u b) x (known d (λ e. v (or_left (has_unsigned table a) (has_unsigned table b) e))) z
   known (of_or_both {a = a} {b = b} {x = x} {y = y} {c = c} d z f t) v =
       or_both_known strict u (number_of table strict u a) (number_of table strict u b) x y c
-      (known d (left_u (has_unsigned table a) (has_unsigned table b) u v)) (known f (right_u (has_unsigned table a) (has_unsigned table b) u v)) z t
+      (known d (λ e. v (or_left (has_unsigned table a) (has_unsigned table b) e))) (known f (λ e. v (or_right (has_unsigned table a) (has_unsigned table b) e))) z t
   known (of_parens d) v = known d v
 
 -- A known value is the C value, whatever the open names are.

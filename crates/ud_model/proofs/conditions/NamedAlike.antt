@@ -18,13 +18,8 @@ use Rattle.ud_model.specs.declared.cond.Cond.{Cond}
 use Rattle.ud_model.specs.declared.kind.Kind.{Kind}
 use Rattle.ud_model.specs.declared.kind.Test.{Test}
 use Rattle.ud_model.specs.declared.kind.Test.TheVariants.{Nonzero, Defined, Undefined, Nothing}
-use Rattle.ud_model.proofs.conditions.SymbolLemmas.{end_found, end_is}
 use Rattle.ud_model.proofs.output.Each.{Each, each_parts}
-
-same_by : {A : Type 0} (o p : Option A) → ((x : A) → o ≡ Some x → p ≡ Some x) → ((x : A) → p ≡ Some x → o ≡ Some x) → o ≡ p
-same_by (Some x) p f g = sym (f x refl)
-same_by None None f g = refl
-same_by None (Some x) f g = g x refl
+use Rattle.ud_model.proofs.conditions.SymbolLemmas.{end_found, end_is, same_by}
 
 module _ (t u : List Argument) where
   -- The tables have the same entry for the name, and for each to which it leads.

@@ -1,6 +1,7 @@
 -- Residual read: a simplified text is read as the residual of its tree, and cells are only removed.
 use Rattle.std.proofs.Common.{◌≡◌, ℕ, zero, suc, ◌-◌, Bool, true, false, not, ◌&&◌, ◌||◌, if◌then◌else◌, List, [], ◌∷◌, ◌++◌, length, map, take, drop, Option, Some, None, bytes_eq, refl, sym, ◌∙◌, ap, ap₂, subst, inl, inr, ◌⊎◌}
 use Rattle.std.proofs.lemmas.Slice.Eq.{bytes_eq-Decides}
+use Rattle.std.proofs.lemmas.Bool.{and_parts}
 use Rattle.ud_model.specs.text.Bytes.{skip_white, are_white}
 use Rattle.ud_model.specs.text.Lexemes.{Cell, shown}
 use Rattle.ud_model.specs.conditions.Table.{Argument}
@@ -44,14 +45,6 @@ read_off Remainder = refl
 read_off Not = refl
 read_off Complement = refl
 
-pub left_true : (a b : Bool) → (a && b) ≡ true → a ≡ true
-left_true true b e = refl
-left_true false b e = cc
-
-pub right_true : (a b : Bool) → (a && b) ≡ true → b ≡ true
-right_true true b e = e
-right_true false b e = cc
-
 flags_same : (a b : Bool) → same_flag a b ≡ true → a ≡ b
 flags_same true true e = refl
 flags_same false false e = refl
@@ -64,7 +57,7 @@ operators_same o p e = sym (read_off o) ∙ ap (λ w. operator_in (leading_token
 tokens_alike : (t u : Token) → same_token t u ≡ true → t ≡ u
 tokens_alike (number w) (number v) e = ap number ((bytes_eq-Decides w v).0 e)
 tokens_alike (name n a) (name m b) e =
-    ap₂ name ((bytes_eq-Decides n m).0 (left_true (bytes_eq n m) (same_flag a b) e)) (flags_same a b (right_true (bytes_eq n m) (same_flag a b) e))
+    ap₂ name ((bytes_eq-Decides n m).0 (and_parts (bytes_eq n m) (same_flag a b) e).0) (flags_same a b (and_parts (bytes_eq n m) (same_flag a b) e).1)
 tokens_alike defined defined e = refl
 tokens_alike (operator o) (operator p) e = ap operator (operators_same o p e)
 tokens_alike opening opening e = refl
@@ -103,7 +96,7 @@ tokens_alike closing opening e = cc
 lists_alike : (ts us : List Token) → same_tokens ts us ≡ true → ts ≡ us
 lists_alike [] [] e = refl
 lists_alike (t ∷ ts) (u ∷ us) e =
-    ap₂ (λ x xs. x ∷ xs) (tokens_alike t u (left_true (same_token t u) (same_tokens ts us) e)) (lists_alike ts us (right_true (same_token t u) (same_tokens ts us) e))
+    ap₂ (λ x xs. x ∷ xs) (tokens_alike t u (and_parts (same_token t u) (same_tokens ts us) e).0) (lists_alike ts us (and_parts (same_token t u) (same_tokens ts us) e).1)
 lists_alike [] (u ∷ us) e = cc
 lists_alike (t ∷ ts) [] e = cc
 
@@ -120,7 +113,7 @@ module _ (table : List Argument) (rules : Rules) where
   pub written_left : (e : Expression) (cells : List Cell) → expression_of (map shown cells) ≡ Some e → (left : List Cell) → is_read table rules e left ≡ true → expression_of (map shown left) ≡ Some (rest_of e)
   written_left e cells p left q =
       let w : IsWritten (map shown cells) e = expression_is (map shown cells) e p in
-      let f : tokens_of (map shown left) ≡ Some (spelling (rest_of e)) = found_are (tokens_of (map shown left)) (spelling (rest_of e)) (right_true (not (begins_word left)) (are_tokens (tokens_of (map shown left)) (spelling (rest_of e))) q) in
+      let f : tokens_of (map shown left) ≡ Some (spelling (rest_of e)) = found_are (tokens_of (map shown left)) (spelling (rest_of e)) (and_parts (not (begins_word left)) (are_tokens (tokens_of (map shown left)) (spelling (rest_of e))) q).1 in
       expression_only (map shown left) (rest_of e) (precedence_stays table rules e 1 w.0, tokens_of_are (map shown left) (spelling (rest_of e)) f)
 
   -- The simplified text is the text itself, or is read as the residual.
@@ -132,7 +125,7 @@ module _ (table : List Argument) (rules : Rules) where
     where
       by : (b : Bool) → (may_go table rules e cells && is_read table rules e (left_cells (keeps table rules e) cells)) ≡ b →
           ((if b then left_cells (keeps table rules e) cells else cells) ≡ cells) ⊎ (expression_of (map shown (if b then left_cells (keeps table rules e) cells else cells)) ≡ Some (rest_of e))
-      by true q = inr (written_left e cells p (left_cells (keeps table rules e) cells) (right_true (may_go table rules e cells) (is_read table rules e (left_cells (keeps table rules e) cells)) q))
+      by true q = inr (written_left e cells p (left_cells (keeps table rules e) cells) (and_parts (may_go table rules e cells) (is_read table rules e (left_cells (keeps table rules e) cells)) q).1)
       by false q = inl refl
 
   -- A text without a tree stays.

@@ -1,16 +1,18 @@
 -- Residual shape: the residual of an expression has only undecided operands, and is its own
 -- residual.
 use Rattle.std.proofs.Common.{◌≡◌, ℕ, ◌+◌, ◌≤◌, Bool, true, false, ◌&&◌, if◌then◌else◌, List, [], ◌∷◌, ◌++◌, refl, sym, ◌∙◌, ap, ap₂, arith}
+use Rattle.std.proofs.lemmas.Bool.{and_parts}
 use Rattle.ud_model.specs.conditions.Table.{Argument}
 use Rattle.ud_model.specs.conditions.Tokens.{operator, opening, closing}
 use Rattle.ud_model.specs.conditions.Expressions.{Expression, constant, named, is_defined, unary, binary, parens, precedence, spelling, HasPrecedence}
-use Rattle.ud_model.specs.conditions.Conditions.{Rules, tree_cond, negate}
+use Rattle.ud_model.specs.conditions.Conditions.{Rules, tree_cond}
 use Rattle.ud_model.specs.conditions.Residuals.{Residual, is_unit, is_unknown, settled, joined, negated, stands_alone, enclosed, residual, operands, is_undecided, simplified, AreUndecided}
 use Rattle.ud_model.specs.conditions.Sublists.{IsSublist, nothing, without, with_same}
 use Rattle.ud_model.specs.declared.cond.Cond.{Cond}
 use Rattle.ud_model.specs.declared.cond.Cond.TheVariants.{Yes, No, Unknown}
 use Rattle.ud_model.specs.declared.operator.Operator.{Operator}
 use Rattle.ud_model.specs.declared.operator.Operator.TheVariants.{Or, And, Not}
+use Rattle.ud_model.proofs.conditions.DecidedConditions.{negated_unknown}
 
 -- 1. Sublists.
 
@@ -90,10 +92,6 @@ any_precedence (unary o a) j k s h = h
 any_precedence (binary o a b) j k s h = cc
 any_precedence (parens a) j k s h = h
 
-and_true : (a b : Bool) → (a && b) ≡ true → b ≡ true
-and_true true b e = e
-and_true false b e = cc
-
 joined_precedence : (b d : Bool) (o : Operator) (c : Cond) (x y : Residual) (k : ℕ) → k ≤ precedence o → HasPrecedence (precedence o) x.tree → HasPrecedence (precedence o + 1) y.tree →
     HasPrecedence k (if b then record y { lost = true } else if d then record x { lost = true } else record { cond = c; tree = binary o x.tree y.tree; lost = false }).tree
 joined_precedence true d o c x y k l p q = looser y.tree (precedence o + 1) k (omega arith) q
@@ -101,7 +99,7 @@ joined_precedence false true o c x y k l p q = looser x.tree (precedence o) k l 
 joined_precedence false false o c x y k l p q = (l, p, q)
 
 enclosed_precedence : (b : Bool) (x : Residual) (k : ℕ) → (x.lost && stands_alone x.tree) ≡ b → HasPrecedence 1 x.tree → HasPrecedence k (if b then x else record x { tree = parens x.tree }).tree
-enclosed_precedence true x k e p = any_precedence x.tree 1 k (and_true x.lost (stands_alone x.tree) e) p
+enclosed_precedence true x k e p = any_precedence x.tree 1 k (and_parts x.lost (stands_alone x.tree) e).1 p
 enclosed_precedence false x k e p = p
 
 module _ (table : List Argument) (rules : Rules) where
@@ -203,11 +201,6 @@ both_unknown_or Yes Yes p q e = cc
 both_unknown_or Yes Unknown p q e = cc
 both_unknown_or Unknown Yes p q e = cc
 
-unknown_negated : (c : Cond) → negate c ≡ Unknown → c ≡ Unknown
-unknown_negated Unknown e = refl
-unknown_negated Yes e = cc
-unknown_negated No e = cc
-
 module _ (table : List Argument) (rules : Rules) where
   abbrev Alike : Residual → Type 0
   Alike x = x.cond ≡ Unknown → AreUndecided table rules (operands x.tree)
@@ -238,7 +231,7 @@ module _ (table : List Argument) (rules : Rules) where
 
   -- Each operand that is left is unknown by itself.
   pub operands_undecided : (e : Expression) → rules.strict ≡ false → Alike (residual table rules e)
-  operands_undecided (unary Not a) s h = operands_undecided a s (unknown_negated (left table rules a).cond h)
+  operands_undecided (unary Not a) s h = operands_undecided a s (negated_unknown (left table rules a).cond h)
   operands_undecided (binary And a b) s h =
       and_alike (is_unit And (left table rules a).cond) (is_unit And (left table rules b).cond) (left table rules a) (left table rules b) s refl refl (operands_undecided a s) (operands_undecided b s) h
   operands_undecided (binary Or a b) s h =

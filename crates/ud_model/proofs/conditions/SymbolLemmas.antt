@@ -221,7 +221,7 @@ ends_over : (t u : List Argument) → SaySame t u → (n v : List ℕ) → resol
 unfolding resolve
 ends_over t u f n v e = ends_soon u (length t) n v (ends_more (length t) (length t) t u (same_follows_same t u f) n v (omega arith) e)
 
-same_by : {A : Type 0} (o p : Option A) → ((x : A) → o ≡ Some x → p ≡ Some x) → ((x : A) → p ≡ Some x → o ≡ Some x) → o ≡ p
+pub same_by : {A : Type 0} (o p : Option A) → ((x : A) → o ≡ Some x → p ≡ Some x) → ((x : A) → p ≡ Some x → o ≡ Some x) → o ≡ p
 same_by (Some x) p f g = sym (f x refl)
 same_by None None f g = refl
 same_by None (Some x) f g = g x refl

@@ -2,12 +2,13 @@
 -- least.
 use Rattle.std.proofs.Common.{◌≡◌, ℕ, zero, suc, ◌<◌, ◌≤◌, ◌==◌, List, [], ◌∷◌, length, drop, slice_index, Bool, true, false, not, ◌&&◌, if◌then◌else◌, Option, Some, None, bytes_eq, codes, option_map, refl, sym, ◌∙◌, ap, subst, arith, length-drop}
 use Rattle.std.proofs.lemmas.Option.{none-some, same_Some}
-use Rattle.ud_model.specs.text.Bytes.{is_white, is_digit, is_word_byte, skip_white, leading_word, skip_word, starts_with_byte}
+use Rattle.ud_model.specs.text.Bytes.{is_digit, is_word_byte, skip_white, leading_word, skip_word, starts_with_byte}
 use Rattle.ud_model.specs.conditions.Constants.{is_constant}
 use Rattle.ud_model.specs.conditions.Tokens.{Token, number, name, defined, operator, NextToken, at_end, unreadable, found, after_matching_paren, with_arguments, name_token, has_exponent_sign, word_token, one_or_two_bytes, punctuator, leading_token, next_token, AreTokens}
 use Rattle.ud_model.specs.aids.Parsing.{prepend_token, tokens_in, tokens_of}
 use Rattle.ud_model.specs.declared.operator.Operator.{Operator}
 use Rattle.ud_model.specs.declared.operator.Operator.TheVariants.{Or, And, BitOr, BitAnd, NotEqual, Less, LessEqual, Greater, GreaterEqual, Not}
+use Rattle.ud_model.proofs.text.ByteLemmas.{length-skip_white}
 
 -- The rest after the token has fewer bytes than `k`.
 abbrev pub Shorter : ℕ → NextToken → Type 0
@@ -44,10 +45,6 @@ length_either k false x y p q = q
 drop_one_most : (t : List ℕ) → length (drop 1 t) ≤ length t
 drop_one_most t = rw length-drop (omega arith)
 
-past_white_most : (t : List ℕ) → length (skip_white t) ≤ length t
-past_white_most [] = omega arith
-past_white_most (b ∷ t) = let h : length (skip_white t) ≤ length t = past_white_most t in length_either (suc (length t)) (is_white b) (skip_white t) (b ∷ t) (omega arith) (omega arith)
-
 past_word_most : (t : List ℕ) → length (skip_word t) ≤ length t
 past_word_most [] = omega arith
 past_word_most (b ∷ t) = let h : length (skip_word t) ≤ length t = past_word_most t in length_either (suc (length t)) (is_word_byte b) (skip_word t) (b ∷ t) (omega arith) (omega arith)
@@ -70,7 +67,7 @@ with_shorter k j w (Some rest) l p = omega arith
 
 name_shorter : (k : ℕ) (w rest : List ℕ) → length rest < k → Shorter k (name_token w rest)
 name_shorter k w rest l =
-    let h : length (skip_white rest) ≤ length rest = past_white_most rest in
+    let h : length (skip_white rest) ≤ length rest = length-skip_white rest in
     let g : length (drop 1 (skip_white rest)) ≤ length (skip_white rest) = drop_one_most (skip_white rest) in
     shorter_either k (starts_with_byte 40 (skip_white rest)) (with_arguments w (after_matching_paren 0 (drop 1 (skip_white rest)))) (found (name w false) rest)
     (with_shorter k (length (drop 1 (skip_white rest))) w (after_matching_paren 0 (drop 1 (skip_white rest))) (omega arith) (behind_within 0 (drop 1 (skip_white rest)))) l
@@ -122,7 +119,7 @@ front_shorter (b ∷ t) = front_by b t (is_word_byte b) refl
 
 next_shorter : (text : List ℕ) → Shorter (length text) (next_token text)
 unfolding next_token
-next_shorter text = shorter_more (length (skip_white text)) (length text) (leading_token (skip_white text)) (past_white_most text) (front_shorter (skip_white text))
+next_shorter text = shorter_more (length (skip_white text)) (length text) (leading_token (skip_white text)) (length-skip_white text) (front_shorter (skip_white text))
 
 -- The rest after a token is shorter than the text.
 pub shorter : (text rest : List ℕ) (t : Token) → next_token text ≡ found t rest → length rest < length text

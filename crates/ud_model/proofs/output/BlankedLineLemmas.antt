@@ -4,7 +4,7 @@ use Rattle.std.specs.List.{concat}
 use Rattle.ud_model.specs.text.Lines.{Line, line_at, lines_of, texts_of, numbered_from, ending_of, IsWhole, IsUnterminated, AreWhole, AreFormed, whole_lines, partial_line, last_line}
 use Rattle.ud_model.specs.text.Scans.{Reading}
 use Rattle.ud_model.specs.sections.Directives.{Span}
-use Rattle.ud_model.specs.sections.Tree.{Item, Tree, lines}
+use Rattle.ud_model.specs.sections.Tree.{Item, Tree}
 use Rattle.ud_model.specs.sections.Pruning.{marks}
 use Rattle.ud_model.specs.sections.Items.{Options, line_of}
 use Rattle.ud_model.specs.sections.Faults.{Fault}
@@ -17,12 +17,13 @@ use Rattle.ud_model.specs.declared.settings.Listing.TheVariants.{Off}
 use Rattle.ud_model.specs.declared.verdict.Verdict.{Verdict}
 use Rattle.ud_model.specs.declared.verdict.Verdict.TheVariants.{Keep, Remove, ToIf, ToElse, ToEndif}
 use Rattle.ud_model.proofs.text.LinesLemmas.{are_whole, lines_exist, text_of-line_at}
-use Rattle.ud_model.proofs.output.Formed.{IsLeft, ending_none, whole_ending, IsEnd, whole_piece, unended_piece, formed_more, left_line}
+use Rattle.ud_model.proofs.output.Formed.{IsLeft, ending_none, whole_ending, IsEnd, whole_piece, unended_piece, formed_more, left_line, end_is_some}
 use Rattle.ud_model.proofs.output.Each.{Each}
 use Rattle.ud_model.proofs.output.OutputPieces.{output_lines}
-use Rattle.ud_model.proofs.answer.Onward.{judged_all}
+use Rattle.ud_model.proofs.output.RereadStep.{goes_or_left}
+use Rattle.ud_model.proofs.answer.Onward.{judged_all, read_lines}
 use Rattle.ud_model.proofs.sections.Stays.{length_marks}
-use Rattle.ud_model.proofs.sections.Soundness.{sound_lines, one_run}
+use Rattle.ud_model.proofs.sections.Soundness.{one_run}
 
 -- 1. The pieces.
 
@@ -38,13 +39,6 @@ blank_pieces c n before [] = refl
 blank_pieces c n before (j ∷ js) = ap₂ (λ (p : List ℕ) (ps : List (List ℕ)). p ∷ ps) (blank_piece c n before j) (blank_pieces c n (before ++ j ∷ []) js)
 
 -- 2. The lines that they are.
-
-goes_or_left : (v : Verdict) → (v ≡ Remove) ⊎ IsLeft v
-goes_or_left Remove = inl refl
-goes_or_left Keep = inr tt
-goes_or_left ToIf = inr tt
-goes_or_left ToElse = inr tt
-goes_or_left ToEndif = inr tt
 
 -- A line that is left is printed by its verdict.
 left_alone : (v : Verdict) (k : Span) (l : Line) → IsLeft v → piece_alone true (record { line = l; verdict = v; keyword = k }) ≡ piece_by v k l
@@ -177,14 +171,10 @@ pub lines_read : {o : Options} {input : List ℕ} {xs : List (Item Reading)} {t 
 lines_read {input = input} (stops xs t f s) = front_formed 1 (texts_of input) (map line_of xs) (s.faulty ∷ s.later) (lines_exist input).formed s.are
 lines_read {input = input} (ends xs t g) = (texts_of input, (lines_exist input).formed, sym g.are)
 
-pub reads_lines : {o : Options} {input : List ℕ} {xs : List (Item Reading)} {t : Tree Reading} {f : Option Fault} → ReadsAs o input xs t f → lines t ≡ xs
-reads_lines (stops xs t f s) = sound_lines s.sound
-reads_lines (ends xs t g) = sound_lines g.sound
-
 -- Each judged line is the line that was read.
 pub judged_read : {o : Options} {input : List ℕ} {xs : List (Item Reading)} {t : Tree Reading} {f : Option Fault} → ReadsAs o input xs t f →
     map (λ (j : Judged). j.line) (judged_lines xs (marks t)) ≡ map line_of xs
-judged_read {xs = xs} {t = t} a = judged_all xs (marks t) (length_marks true t ∙ ap (λ (ys : List (Item Reading)). length ys) (reads_lines a))
+judged_read {xs = xs} {t = t} a = judged_all xs (marks t) (length_marks true t ∙ ap (λ (ys : List (Item Reading)). length ys) (read_lines a))
 
 pub blanked_places : (o : Options) (input : List ℕ) {xs : List (Item Reading)} {t : Tree Reading} {f : Option Fault} {r : Outcome} → o.settings.blank ≡ true → o.settings.listing ≡ Off →
     ReadsAs o input xs t f → HasOutcome o input r → AreBlankedLines o.settings.complement (judged_lines xs (marks t)) (lines_of r.output)
@@ -210,10 +200,6 @@ same_endings no_line h = refl
 same_endings (one_line j k js ks p r) h = ap₂ (λ (e : List ℕ) (es : List (List ℕ)). e ∷ es) p.ending (same_endings r h.1)
 same_endings (lost_line j e b) h = absurd (h.0 e)
 
-some_end : (e : List ℕ) → IsEnd e → e ≢ []
-some_end e (inl h) = λ q. let p : 13 ∷ 10 ∷ [] ≡ [] = sym h ∙ q in cc
-some_end e (inr h) = λ q. let p : 10 ∷ [] ≡ [] = sym h ∙ q in cc
-
 all_ended : (n : ℕ) (ts : List (List ℕ)) (js : List Judged) → AreWhole ts → map (λ (j : Judged). j.line) js ≡ numbered_from n ts → Each Ended js
 all_ended n [] [] w e = tt
 all_ended n [] (j ∷ js) w e = cc
@@ -221,7 +207,7 @@ all_ended n (t ∷ ts) [] w e = tt
 all_ended n (t ∷ ts) (j ∷ js) w e =
     let p : j.line ≡ line_at n t = cc in
     let q : map (λ (j : Judged). j.line) js ≡ numbered_from (suc n) ts = cc in
-    (subst (λ (l : Line). l.ending ≢ []) (sym p) (some_end (ending_of t) (whole_ending t w.0)), all_ended (suc n) ts js w.1 q)
+    (subst (λ (l : Line). l.ending ≢ []) (sym p) (end_is_some (ending_of t) (whole_ending t w.0)), all_ended (suc n) ts js w.1 q)
 
 endings_of : (js : List Judged) → map (λ (j : Judged). j.line.ending) js ≡ map (λ (l : Line). l.ending) (map (λ (j : Judged). j.line) js)
 endings_of [] = refl

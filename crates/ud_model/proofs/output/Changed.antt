@@ -31,6 +31,7 @@ use Rattle.ud_model.proofs.sections.Soundness.{sound_lines}
 use Rattle.ud_model.proofs.output.KeywordSizes.{HasWord, HasKeyword, has_keyword}
 use Rattle.ud_model.proofs.output.Sizes.{out, whole, Fits, Loose, fits-append, loose_fits, fits_loose, loose_closed, fits_one, loose_one, fits_none, fits_all, fits_differs}
 use Rattle.ud_model.proofs.output.Edits.{is_past, Moves, opener_moves, endif_past, KeepsOrGoes, endif_keeps, if_keeps, removed_size, keeps_size, AtMost, edited_size, turned_size}
+use Rattle.ud_model.proofs.answer.Onward.{judged_more}
 
 -- Each line has one mark.
 module _ {L : Type 0} where
@@ -51,14 +52,6 @@ module _ {L : Type 0} where
     as_many_elifs kept (elif es o ns) =
         let a = as_many_elifs kept es in let b = as_many_nodes (kept && is_kept (conds_of_elifs es) o.cond) ns in simp length-append (omega (arith, a, b))
 
--- Lines and further ones, with their marks.
-pub judged_lines-append : (xs ys : List (Item Reading)) (ms ns : List Mark) → length xs ≡ length ms →
-    judged_lines (xs ++ ys) (ms ++ ns) ≡ judged_lines xs ms ++ judged_lines ys ns
-judged_lines-append [] ys [] ns e = refl
-judged_lines-append [] ys (m ∷ ms) ns e = absurd (omega arith)
-judged_lines-append (x ∷ xs) ys [] ns e = absurd (omega arith)
-judged_lines-append (x ∷ xs) ys (m ∷ ms) ns e = ap (λ (js : List Judged). judged_line x m ∷ js) (judged_lines-append xs ys ms ns (omega arith))
-
 module _ (blank : Bool) where
   abbrev f : Judged → List ℕ
   f j = piece_alone blank j
@@ -74,16 +67,16 @@ module _ (blank : Bool) where
 
   items_then : (xs ys : List (Item Reading)) (ms ns : List Mark) → length xs ≡ length ms → ItemsFit xs ms → ItemsFit ys ns → ItemsFit (xs ++ ys) (ms ++ ns)
   items_then xs ys ms ns e a b =
-      subst (Fits f) (sym (judged_lines-append xs ys ms ns e)) (fits-append f (judged_lines xs ms) (judged_lines ys ns) a b)
+      subst (Fits f) (sym (judged_more xs ys ms ns e)) (fits-append f (judged_lines xs ms) (judged_lines ys ns) a b)
 
   held_then : (h : Bool) (xs ys : List (Item Reading)) (ms ns : List Mark) → length xs ≡ length ms → Held h xs ms → ItemsFit ys ns → Held h (xs ++ ys) (ms ++ ns)
   held_then false xs ys ms ns e a b = items_then xs ys ms ns e a b
   held_then true xs ys ms ns e a b =
-      subst (Loose f) (sym (judged_lines-append xs ys ms ns e)) (loose_fits f (judged_lines xs ms) (judged_lines ys ns) a b)
+      subst (Loose f) (sym (judged_more xs ys ms ns e)) (loose_fits f (judged_lines xs ms) (judged_lines ys ns) a b)
 
   then_loose : (xs ys : List (Item Reading)) (ms ns : List Mark) → length xs ≡ length ms → ItemsFit xs ms → Loose f (judged_lines ys ns) → Loose f (judged_lines (xs ++ ys) (ms ++ ns))
   then_loose xs ys ms ns e a b =
-      subst (Loose f) (sym (judged_lines-append xs ys ms ns e)) (fits_loose f (judged_lines xs ms) (judged_lines ys ns) a b)
+      subst (Loose f) (sym (judged_more xs ys ms ns e)) (fits_loose f (judged_lines xs ms) (judged_lines ys ns) a b)
 
   keeps_mark : (kept : Bool) (v : Verdict) → KeepsOrGoes v → KeepsOrGoes (marked kept v).verdict
   keeps_mark true v h = h
@@ -142,7 +135,7 @@ module _ (blank : Bool) where
   endif_step true false xs ms x v e w k h a = items_then xs (x ∷ []) ms (marked true v ∷ []) e a (one_fits x true v k)
   endif_step true true xs ms x v e w k h a =
       subst (λ (u : Verdict). ItemsFit (xs ++ x ∷ []) (ms ++ marked true u ∷ [])) (sym (h refl))
-      (subst (Fits f) (sym (judged_lines-append xs (x ∷ []) ms (marked true Remove ∷ []) e))
+      (subst (Fits f) (sym (judged_more xs (x ∷ []) ms (marked true Remove ∷ []) e))
       (loose_closed f (judged_lines xs ms) (judged_line x (marked true Remove)) a (closing_size x w)))
 
   more_long : (xs : List (Item Reading)) (ms : List Mark) (x : Item Reading) (m : Mark) → length xs ≡ length ms → length (xs ++ x ∷ []) ≡ length (ms ++ m ∷ [])

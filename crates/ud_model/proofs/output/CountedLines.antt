@@ -24,10 +24,10 @@ use Rattle.ud_model.proofs.text.LinesLemmas.{numbered_from-next, text_of-line_at
 use Rattle.ud_model.proofs.answer.PrintingLemmas.{printed-more}
 use Rattle.ud_model.proofs.answer.Onward.{judged_more}
 use Rattle.ud_model.proofs.sections.Soundness.{reading_of-item_of}
-use Rattle.ud_model.proofs.output.Formed.{IsLeft, IsEnd, ending_none, whole_ending, whole_piece, unended_piece}
+use Rattle.ud_model.proofs.output.Formed.{IsLeft, IsEnd, ending_none, whole_ending, whole_piece, unended_piece, end_is_some}
 use Rattle.ud_model.proofs.output.Heeding.{ReadIn, none_read, one_read}
 use Rattle.ud_model.proofs.output.LeavesOff.{LeavesOff, HasEnd, nowhere, readings_last}
-use Rattle.ud_model.proofs.output.LoneLines.{IsQuiet, number_quiet, quiet_whole, says_number, says_quiet, end_is_some, quiet_line}
+use Rattle.ud_model.proofs.output.LoneLines.{IsQuiet, number_quiet, quiet_whole, says_number, says_quiet, quiet_line}
 use Rattle.ud_model.proofs.output.OutputPieces.{line_in, LeftOne, left_one}
 use Rattle.ud_model.proofs.output.PrintedPruned.{printed-append}
 use Rattle.ud_model.proofs.output.RereadLaws.{item_bytes}

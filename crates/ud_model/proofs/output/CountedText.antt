@@ -26,7 +26,7 @@ use Rattle.ud_model.proofs.output.Each.{Each, each_parts, each_both}
 use Rattle.ud_model.proofs.output.Heeding.{ReadIn, none_read, one_read, the_mode}
 use Rattle.ud_model.proofs.output.LeavesOff.{readings_last}
 use Rattle.ud_model.proofs.output.OutputPieces.{all_formed, all_pieces, output_lines}
-use Rattle.ud_model.proofs.output.RereadChain.{AllButLast, IsInner, ends_before, lines_end, next_is, line_last}
+use Rattle.ud_model.proofs.output.RereadChain.{AllButLast, IsInner, ends_before, lines_end, next_is}
 use Rattle.ud_model.proofs.output.RereadLaws.{plain_output, left_piece, item_bytes}
 use Rattle.ud_model.proofs.output.Rereads.{IsLine}
 use Rattle.ud_model.proofs.output.SharedLineLemmas.{reads_too}
@@ -68,8 +68,8 @@ module _ (o : Options) (p : IsPlain o) (b n : Bool) (some : (b || n) ≡ true) w
   inside : {xs : List (Item Reading)} {t : Tree Reading} → AreFaultless o xs t → Each IsInner (map line_of xs) → InOrder 1 (map line_of xs) → The xs t
   inside no_lines h i = first_state o (the_mode o) b n some
   inside (one_more xs t s l u e w) h i =
-      let k : Each IsInner (map line_of xs) × Each IsInner (l ∷ []) = each_parts IsInner (map line_of xs) (l ∷ []) (subst (Each IsInner) (line_last o p xs t l) h) in
-      let c : InOrder 1 (map line_of xs) × (l.number ≡ 1 + length (map line_of xs)) = order_last 1 (map line_of xs) l (subst (InOrder 1) (line_last o p xs t l) i) in
+      let k : Each IsInner (map line_of xs) × Each IsInner (l ∷ []) = each_parts IsInner (map line_of xs) (l ∷ []) (subst (Each IsInner) (lines_with_next o xs t l) h) in
+      let c : InOrder 1 (map line_of xs) × (l.number ≡ 1 + length (map line_of xs)) = order_last 1 (map line_of xs) l (subst (InOrder 1) (lines_with_next o xs t l) i) in
       let same : next_item o xs t l ≡ item_of o (read_after xs (the_mode o) l) = next_is o p xs t l s in
       subst (λ (x : Item Reading). The (xs ++ x ∷ []) u) (sym same)
       (next_state o (the_mode o) b n some xs t (sound_lines s) (inside s k.0 c.0) l u (c.1 ∙ ap (λ (d : ℕ). 1 + d) (order_map xs) ∙ omega arith) (few xs t l w)
@@ -78,8 +78,8 @@ module _ (o : Options) (p : IsPlain o) (b n : Bool) (some : (b || n) ≡ true) w
   to_the_end : {xs : List (Item Reading)} {t : Tree Reading} → AreFaultless o xs t → AllButLast (map line_of xs) → InOrder 1 (map line_of xs) → End xs t
   to_the_end no_lines h i = done o (the_mode o) b n some [] _ (first_state o (the_mode o) b n some)
   to_the_end (one_more xs t s l u e w) h i =
-      let k : Each IsInner (map line_of xs) × IsLine l = ends_before (map line_of xs) l (subst AllButLast (line_last o p xs t l) h) in
-      let c : InOrder 1 (map line_of xs) × (l.number ≡ 1 + length (map line_of xs)) = order_last 1 (map line_of xs) l (subst (InOrder 1) (line_last o p xs t l) i) in
+      let k : Each IsInner (map line_of xs) × IsLine l = ends_before (map line_of xs) l (subst AllButLast (lines_with_next o xs t l) h) in
+      let c : InOrder 1 (map line_of xs) × (l.number ≡ 1 + length (map line_of xs)) = order_last 1 (map line_of xs) l (subst (InOrder 1) (lines_with_next o xs t l) i) in
       let same : next_item o xs t l ≡ item_of o (read_after xs (the_mode o) l) = next_is o p xs t l s in
       subst (λ (x : Item Reading). End (xs ++ x ∷ []) u) (sym same)
       (next_done o (the_mode o) b n some xs t (sound_lines s) (inside s k.0 c.0) l u (c.1 ∙ ap (λ (d : ℕ). 1 + d) (order_map xs) ∙ omega arith) (few xs t l w)

@@ -1,6 +1,6 @@
 -- The bytes before a directive's keyword, and the keyword itself.
 use Rattle.std.proofs.Common.{◌≡◌, ◌≢◌, ℕ, suc, ◌+◌, ◌==◌, List, [], ◌∷◌, ◌++◌, length, Bool, true, false, not, ◌&&◌, ◌||◌, Some, refl, sym, ◌∙◌, ap, ap₂, subst, append_assoc, arith, length-append, eqb-true, ◌⊎◌, inl, inr}
-use Rattle.std.proofs.lemmas.Bool.{and_parts, not-true}
+use Rattle.std.proofs.lemmas.Bool.{and_parts, not-true, or_cases}
 use Rattle.ud_model.specs.text.Bytes.{number_sign, slash, space, newline, is_quote, is_white, are_white}
 use Rattle.ud_model.specs.text.Scans.{Scan}
 use Rattle.ud_model.specs.sections.Directives.{Directive, directive, content_of, kind_of, is_continued_outside_comment}
@@ -10,7 +10,7 @@ use Rattle.ud_model.proofs.output.Each.{Each}
 use Rattle.ud_model.proofs.output.EditedScan.{has_quote, ends_in_slash}
 use Rattle.ud_model.proofs.output.KeywordPlace.{IsInert}
 use Rattle.ud_model.proofs.sections.Keywords.{each_keyword}
-use Rattle.ud_model.proofs.sections.SplitLines.{either, directive_is}
+use Rattle.ud_model.proofs.sections.SplitLines.{directive_is}
 
 -- Each byte is white space.
 abbrev pub IsWhite : ℕ → Type 0
@@ -57,7 +57,7 @@ directive_front scan d e =
 
 -- A property of each byte that is white.
 pub each_white : (P : ℕ → Type 0) → P 32 → P 9 → P 11 → P 12 → P 13 → (b : ℕ) → is_white b ≡ true → P b
-each_white P p q r s t b e = go (either ((b == 32) || (b == 9) || (b == 11) || (b == 12)) (b == 13) e)
+each_white P p q r s t b e = go (or_cases ((b == 32) || (b == 9) || (b == 11) || (b == 12)) (b == 13) e)
   where
     at : (n : ℕ) → P n → (b == n) ≡ true → P b
     at n h f = subst P (sym (eqb-true b n f)) h
@@ -67,15 +67,15 @@ each_white P p q r s t b e = go (either ((b == 32) || (b == 9) || (b == 11) || (
     go4 (inr f) = at 9 q f
 
     go3 : (((b == 32) || (b == 9)) ≡ true) ⊎ (b == 11 ≡ true) → P b
-    go3 (inl f) = go4 (either (b == 32) (b == 9) f)
+    go3 (inl f) = go4 (or_cases (b == 32) (b == 9) f)
     go3 (inr f) = at 11 r f
 
     go2 : (((b == 32) || (b == 9) || (b == 11)) ≡ true) ⊎ (b == 12 ≡ true) → P b
-    go2 (inl f) = go3 (either ((b == 32) || (b == 9)) (b == 11) f)
+    go2 (inl f) = go3 (or_cases ((b == 32) || (b == 9)) (b == 11) f)
     go2 (inr f) = at 12 s f
 
     go : (((b == 32) || (b == 9) || (b == 11) || (b == 12)) ≡ true) ⊎ (b == 13 ≡ true) → P b
-    go (inl f) = go2 (either ((b == 32) || (b == 9) || (b == 11)) (b == 12) f)
+    go (inl f) = go2 (or_cases ((b == 32) || (b == 9) || (b == 11)) (b == 12) f)
     go (inr f) = at 13 t f
 
 -- The byte begins no comment and no literal.

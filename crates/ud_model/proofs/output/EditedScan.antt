@@ -1,6 +1,7 @@
 -- The scan of an edited line: before the keyword of a directive no comment and no literal is open.
 -- So another keyword in its place changes nothing of what follows.
 use Rattle.std.proofs.Common.{◌≡◌, ℕ, ◌==◌, List, [], ◌∷◌, ◌++◌, Bool, true, false, ◌||◌, if◌then◌else◌, refl, sym, ◌∙◌, ap, append-nil, append_assoc, ◌⊎◌, inl, inr}
+use Rattle.std.proofs.Math.Bool.{or-true, or_assoc}
 use Rattle.ud_model.specs.text.Bytes.{slash, star, space, newline, backslash, is_quote}
 use Rattle.ud_model.specs.aids.LexStates.{LexState, in_text, at_slash, in_block, at_star, in_line, in_literal, at_backslash, next_state, opens_comment, masked_byte, stays_white, blank_last}
 use Rattle.ud_model.proofs.text.LexStateLemmas.{blank_last-last}
@@ -68,11 +69,7 @@ ends_in_slash (b ∷ c ∷ bs) = ends_in_slash (c ∷ bs)
 
 quote-append : (m n : List ℕ) → has_quote (m ++ n) ≡ (has_quote m || has_quote n)
 quote-append [] n = refl
-quote-append (b ∷ m) n = ap (λ (t : Bool). is_quote b || t) (quote-append m n) ∙ or_assoc (is_quote b) (has_quote m) (has_quote n)
-  where
-    or_assoc : (x y z : Bool) → (x || (y || z)) ≡ ((x || y) || z)
-    or_assoc true y z = refl
-    or_assoc false y z = refl
+quote-append (b ∷ m) n = ap (λ (t : Bool). is_quote b || t) (quote-append m n) ∙ sym (or_assoc (is_quote b) (has_quote m) (has_quote n))
 
 slash-last : (m : List ℕ) (b : ℕ) → ends_in_slash (m ++ b ∷ []) ≡ (b == slash)
 slash-last [] b = refl
@@ -109,11 +106,7 @@ shown_quoted (in_literal q) m h = h
 shown_quoted (at_backslash q) m h = h
 
 quote_behind : (m : List ℕ) (b : ℕ) → is_quote b ≡ true → has_quote (m ++ b ∷ []) ≡ true
-quote_behind m b e = quote-append m (b ∷ []) ∙ ap (λ (t : Bool). has_quote m || (t || false)) e ∙ or_true (has_quote m)
-  where
-    or_true : (t : Bool) → (t || true) ≡ true
-    or_true true = refl
-    or_true false = refl
+quote_behind m b e = quote-append m (b ∷ []) ∙ ap (λ (t : Bool). has_quote m || (t || false)) e ∙ or-true (has_quote m)
 
 quote_before : (m : List ℕ) (b : ℕ) → has_quote m ≡ true → has_quote (m ++ b ∷ []) ≡ true
 quote_before m b e = quote-append m (b ∷ []) ∙ ap (λ (t : Bool). t || has_quote (b ∷ [])) e

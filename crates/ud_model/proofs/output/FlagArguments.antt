@@ -1,7 +1,8 @@
 -- A flag before other arguments sets its setting, and what these give stays.
-use Rattle.std.proofs.Common.{◌≡◌, ℕ, List, ◌∷◌, Bool, true, false, ◌||◌, None, codes, refl, ◌∙◌, ap, ap₂}
+use Rattle.std.proofs.Common.{◌≡◌, ℕ, List, ◌∷◌, Bool, true, false, None, codes, refl, ◌∙◌, ap, ap₂}
 use Rattle.std.specs.Str.{chars}
 use Rattle.std.specs.List.{filter_map}
+use Rattle.std.proofs.Math.Bool.{or-true}
 use Rattle.ud_model.specs.conditions.Table.{Argument}
 use Rattle.ud_model.specs.sections.Items.{Options}
 use Rattle.ud_model.specs.answer.CommandLine.{ParsedArg, flag, parsed_from, parsed_args, has_flag, listing_by, settings_in, argument_in, options_of, first_fault, usage_fault, operand_in, name_or_stdin, display_name}
@@ -82,16 +83,12 @@ no_fault_with_c args e = no_fault_first args (codes "-c" ∷ args) 99 (first_c a
 pub name_with_c : (args : List (List ℕ)) → display_name (codes "-c" ∷ args) ≡ display_name args
 name_with_c args = ap (λ (gs : List ParsedArg). name_or_stdin (operand_in gs)) (first_c args) ∙ name_same (after_flag args)
 
-or_true : (b : Bool) → (b || true) ≡ true
-or_true true = refl
-or_true false = refl
-
 pub keeps_with_n : (args : List (List ℕ)) → usage_fault args ≡ None → KeepsNumbers args (codes "-n" ∷ args)
 keeps_with_n args e =
     record {
       blank = (options_of args).settings.blank;
       renumber = true;
-      given = or_true (options_of args).settings.blank;
+      given = or-true (options_of args).settings.blank;
       options = renumbers args;
       no_fault = no_fault_first args (codes "-n" ∷ args) 110 (first_n args) e;
     }

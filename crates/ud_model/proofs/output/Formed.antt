@@ -7,13 +7,14 @@ use Rattle.std.proofs.lemmas.Bool.Decides.{Decides-eqb}
 use Rattle.std.proofs.lemmas.Slice.Eq.{ends_is}
 use Rattle.std.proofs.lemmas.List.{take-append-drop, take_at, same_from_push}
 use Rattle.ud_model.specs.text.Lines.{NoNewline, IsWhole, IsUnterminated, AreFormed, ending_of, Line, line_at}
+use Rattle.ud_model.specs.text.Splicing.{is_empty}
 use Rattle.ud_model.specs.sections.Directives.{Span}
 use Rattle.ud_model.specs.answer.Printing.{opener_keyword, piece_by}
 use Rattle.ud_model.specs.declared.verdict.Verdict.{Verdict}
 use Rattle.ud_model.specs.declared.verdict.Verdict.TheVariants.{Keep, Remove, ToIf, ToElse, ToEndif}
 use Rattle.ud_model.proofs.output.ByLength.{each_length}
 use Rattle.ud_model.proofs.text.Pushes.{ByPush, none, push, by_push}
-use Rattle.ud_model.proofs.text.LinesLemmas.{no_newline-append, body-ending}
+use Rattle.ud_model.proofs.text.LinesLemmas.{no_newline-append, body-ending, some_front}
 
 pub no_feed_parts : (p q : List ℕ) → NoNewline (p ++ q) → NoNewline p × NoNewline q
 no_feed_parts [] q h = (tt, h)
@@ -25,6 +26,14 @@ no_feed_cut n t h = no_feed_parts (take n t) (drop n t) (subst NoNewline (sym (t
 -- The ending of a whole line.
 abbrev pub IsEnd : List ℕ → Type 0
 IsEnd e = (e ≡ 13 ∷ 10 ∷ []) ⊎ (e ≡ 10 ∷ [])
+
+pub end_some : (e : List ℕ) → IsEnd e → is_empty e ≡ false
+end_some e (inl h) = ap (λ (x : List ℕ). is_empty x) h
+end_some e (inr h) = ap (λ (x : List ℕ). is_empty x) h
+
+pub end_is_some : (e : List ℕ) → IsEnd e → e ≢ []
+end_is_some e (inl h) = λ q. let p : 13 ∷ 10 ∷ [] ≡ [] = sym h ∙ q in cc
+end_is_some e (inr h) = λ q. let p : 10 ∷ [] ≡ [] = sym h ∙ q in cc
 
 -- A whole line has an ending.
 pub whole_ending : (l : List ℕ) → IsWhole l → IsEnd (ending_of l)
@@ -111,10 +120,6 @@ not_nil : (a w : List ℕ) (c : ℕ) → a ++ (c ∷ w) ≢ []
 not_nil [] w c e = cc
 not_nil (x ∷ a) w c e = cc
 
-nil_front : (a b : List ℕ) → a ≢ [] → a ++ b ≢ []
-nil_front [] b n e = n refl
-nil_front (x ∷ a) b n e = cc
-
 -- The piece of an unended line that is left is an unended line.
 pub unended_piece : (v : Verdict) (k : Span) (n : ℕ) (t : List ℕ) → IsLeft v → IsUnterminated t → IsUnterminated (piece_by v k (line_at n t))
 unfolding edited_body
@@ -122,20 +127,20 @@ unended_piece Keep k n t h (s, w) = (subst (λ (x : List ℕ). x ≢ []) (sym (b
 unended_piece Remove k n t h w = absurd h
 unended_piece ToIf k n t h (s, w) =
     let p : NoNewline (body_of t) × NoNewline (ending_of t) = no_feed_parts (body_of t) (ending_of t) (subst NoNewline (sym (body-ending t)) w) in (
-      nil_front ((take k.at (body_of t) ++ opener_keyword k.len) ++ drop (k.at + k.len) (body_of t)) (ending_of t)
-          (nil_front (take k.at (body_of t) ++ opener_keyword k.len) (drop (k.at + k.len) (body_of t))
+      some_front ((take k.at (body_of t) ++ opener_keyword k.len) ++ drop (k.at + k.len) (body_of t)) (ending_of t)
+          (some_front (take k.at (body_of t) ++ opener_keyword k.len) (drop (k.at + k.len) (body_of t))
           (each_length (λ w. take k.at (body_of t) ++ w ≢ []) (not_nil (take k.at (body_of t)) (codes "fdef  ") 105) (not_nil (take k.at (body_of t)) (codes "fndef  ") 105)
           (not_nil (take k.at (body_of t)) (codes "f  ") 105) k.len)),
       no_newline-append ((take k.at (body_of t) ++ opener_keyword k.len) ++ drop (k.at + k.len) (body_of t)) (ending_of t) (edited_no_feed ToIf k (body_of t) p.0) p.1,
     )
 unended_piece ToElse k n t h (s, w) =
     let p : NoNewline (body_of t) × NoNewline (ending_of t) = no_feed_parts (body_of t) (ending_of t) (subst NoNewline (sym (body-ending t)) w) in (
-      nil_front (take k.at (body_of t) ++ codes "else") (ending_of t) (not_nil (take k.at (body_of t)) (codes "lse") 101),
+      some_front (take k.at (body_of t) ++ codes "else") (ending_of t) (not_nil (take k.at (body_of t)) (codes "lse") 101),
       no_newline-append (take k.at (body_of t) ++ codes "else") (ending_of t) (edited_no_feed ToElse k (body_of t) p.0) p.1,
     )
 unended_piece ToEndif k n t h (s, w) =
     let p : NoNewline (body_of t) × NoNewline (ending_of t) = no_feed_parts (body_of t) (ending_of t) (subst NoNewline (sym (body-ending t)) w) in (
-      nil_front (take k.at (body_of t) ++ codes "endif") (ending_of t) (not_nil (take k.at (body_of t)) (codes "ndif") 101),
+      some_front (take k.at (body_of t) ++ codes "endif") (ending_of t) (not_nil (take k.at (body_of t)) (codes "ndif") 101),
       no_newline-append (take k.at (body_of t) ++ codes "endif") (ending_of t) (edited_no_feed ToEndif k (body_of t) p.0) p.1,
     )
 

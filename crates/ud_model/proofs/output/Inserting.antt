@@ -22,10 +22,10 @@ use Rattle.ud_model.proofs.text.LinesLemmas.{numbered_from-next}
 use Rattle.ud_model.proofs.text.Pushes.{push_not_nil}
 use Rattle.ud_model.proofs.text.ScanLaws.{place_after, white_after}
 use Rattle.ud_model.proofs.sections.Soundness.{reading_of-item_of}
-use Rattle.ud_model.proofs.output.Formed.{IsLeft}
+use Rattle.ud_model.proofs.output.Formed.{IsLeft, end_is_some}
 use Rattle.ud_model.proofs.output.Heeding.{ReadIn, none_read, one_read}
 use Rattle.ud_model.proofs.output.LeavesOff.{LeavesOff, nowhere, kept_scan, leaves_next, leaves_anew}
-use Rattle.ud_model.proofs.output.LoneLines.{IsQuiet, lone_scan, end_is_some}
+use Rattle.ud_model.proofs.output.LoneLines.{IsQuiet, lone_scan}
 use Rattle.ud_model.proofs.output.RereadStep.{plain_run}
 
 -- 1. Items that are read of the same lines are the same.

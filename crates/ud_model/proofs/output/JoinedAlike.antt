@@ -3,6 +3,7 @@
 -- A position between lines is kept if all groups around it are. `before` means that the position
 -- before a line is kept, and `after` that the one after it is.
 use Rattle.std.proofs.Common.{◌≡◌, List, [], ◌∷◌, ◌++◌, Bool, true, false, not, ◌&&◌, ◌||◌, IsTrue, refl, sym, ◌∙◌, ap, subst, append-nil, append_assoc}
+use Rattle.std.proofs.lemmas.Bool.{or_left, or_right}
 use Rattle.ud_model.specs.declared.cond.Cond.{Cond}
 use Rattle.ud_model.specs.declared.cond.Cond.TheVariants.{Yes, No, Unknown}
 use Rattle.ud_model.specs.declared.verdict.Verdict.{Verdict}
@@ -125,28 +126,12 @@ marked_text false = refl
 -- A directive that isn't obfuscated keeps its rest, and joins no line before it that is removed.
 spoiled_parts : (span joins removed : Bool) (v : Verdict) → (span && true && (not (keeps_rest v) || (joins && removed))) ≡ false →
     span ≡ true → IsTrue (keeps_rest v) × ((joins ≡ true) → removed ≡ false)
-spoiled_parts true joins removed Keep e p = (refl, λ q. by_and joins removed q e)
-  where
-    by_and : (a b : Bool) → a ≡ true → (a && b) ≡ false → b ≡ false
-    by_and true b q e = e
-    by_and false b q e = cc
-spoiled_parts true joins removed ToIf e p = (refl, λ q. by_and joins removed q e)
-  where
-    by_and : (a b : Bool) → a ≡ true → (a && b) ≡ false → b ≡ false
-    by_and true b q e = e
-    by_and false b q e = cc
+spoiled_parts true joins removed Keep e p = (refl, λ q. ap (λ (b : Bool). b && removed) (sym q) ∙ e)
+spoiled_parts true joins removed ToIf e p = (refl, λ q. ap (λ (b : Bool). b && removed) (sym q) ∙ e)
 spoiled_parts true joins removed Remove e p = cc
 spoiled_parts true joins removed ToElse e p = cc
 spoiled_parts true joins removed ToEndif e p = cc
 spoiled_parts false joins removed v e p = cc
-
-or_left : (a b : Bool) → a ≡ true → (a || b) ≡ true
-or_left true b e = refl
-or_left false b e = cc
-
-or_right : (a b : Bool) → b ≡ true → (a || b) ≡ true
-or_right true b e = refl
-or_right false b e = e
 
 -- The case of a directive that spans lines, if all groups around its section are kept.
 kept_directive : (r : Reading) (removed : Bool) (v : Verdict) → (is_spanning r.scan && true && (not (keeps_rest v) || (r.scan.joins_before && removed))) ≡ false →

@@ -1,10 +1,11 @@
 -- Joined pieces: the lines of a text with splices form one line, whose body is the bytes of its
 -- cells.
-use Rattle.std.proofs.Common.{◌≡◌, ◌≢◌, ℕ, suc, ◌+◌, ◌-◌, List, [], ◌∷◌, ◌++◌, length, map, take, Bool, true, false, not, ◌&&◌, if◌then◌else◌, nat_eq, ◌⊎◌, inl, inr, refl, sym, ◌∙◌, ap, ap₂, subst, append_assoc, append-nil, length-append, ne_eqb, arith}
+use Rattle.std.proofs.Common.{◌≡◌, ◌≢◌, ℕ, suc, ◌+◌, ◌-◌, List, [], ◌∷◌, ◌++◌, length, map, take, Bool, true, false, not, ◌&&◌, if◌then◌else◌, nat_eq, ◌⊎◌, inl, inr, refl, sym, ◌∙◌, ap, ap₂, subst, append_assoc, append-nil, length-append, arith}
 use Rattle.std.specs.List.{ends_with, concat, flat_map}
 use Rattle.std.proofs.lemmas.Bool.Decides.{Decides-eqb}
 use Rattle.std.proofs.lemmas.Slice.Eq.{ends_is, bytes_eq-Decides}
 use Rattle.std.proofs.lemmas.List.{take_at, same_from_push}
+use Rattle.std.proofs.lemmas.Bool.{false_from_ne_true}
 use Rattle.ud_model.specs.text.Bytes.{newline, carriage_return, backslash}
 use Rattle.ud_model.specs.text.Lexemes.{Cell}
 use Rattle.ud_model.specs.text.Lines.{Line, NoNewline, IsWhole, AreFormed, text_of, ending_of, line_at, numbered_from, lines_of}
@@ -12,6 +13,7 @@ use Rattle.ud_model.specs.text.Splicing.{is_empty, is_spliced, content}
 use Rattle.ud_model.specs.conditions.SplicedTexts.{Piece, cell, splice, cells_among, bytes_among}
 use Rattle.ud_model.specs.output.SimplifiedTexts.{keeps_ending}
 use Rattle.ud_model.proofs.text.LinesLemmas.{no_newline-append}
+use Rattle.ud_model.proofs.text.ScanLaws.{not_empty}
 use Rattle.ud_model.proofs.output.Formed.{IsEnd, ended, formed_more}
 use Rattle.ud_model.proofs.output.OutputPieces.{output_lines}
 use Rattle.ud_model.proofs.output.SimplifiedLines.{byte_of}
@@ -45,10 +47,6 @@ line_of_pieces pieces ending = record {
 
 -- 1. Endings.
 
-never : (b : Bool) → (b ≡ true → ⊥) → b ≡ false
-never true h = absurd (h refl)
-never false h = refl
-
 ends : (s p front : List ℕ) → s ≡ front ++ p → ends_with nat_eq s p ≡ true
 ends s p front e = (ends_is Decides-eqb s p (ends_with nat_eq s p) refl).1 front e
 
@@ -65,7 +63,7 @@ lf_end : (s front : List ℕ) → s ≡ front ++ 10 ∷ [] → ends_with nat_eq 
 lf_end s front e n = ap₂ (λ (a b : Bool). end_by a b) n (ends s (10 ∷ []) front e)
 
 not_crlf : (front s : List ℕ) (x : ℕ) → x ≢ 13 → s ≡ front ++ x ∷ 10 ∷ [] → ends_with nat_eq s (13 ∷ 10 ∷ []) ≡ false
-not_crlf front s x n e = never (ends_with nat_eq s (13 ∷ 10 ∷ [])) (λ t.
+not_crlf front s x n e = false_from_ne_true (ends_with nat_eq s (13 ∷ 10 ∷ [])) (λ t.
     let f : List ℕ = take (length s - 2) s in
     let q : front ++ x ∷ 10 ∷ [] ≡ f ++ 13 ∷ 10 ∷ [] = sym e ∙ ends_back s (13 ∷ 10 ∷ []) t in
     let p = same_from_push (front ++ x ∷ []) (f ++ 13 ∷ []) 10 10 (append_assoc front (x ∷ []) (10 ∷ []) ∙ q ∙ sym (append_assoc f (13 ∷ []) (10 ∷ []))) in
@@ -103,7 +101,7 @@ spliced_there n acc b (inr h) =
 keeps_end : (pre acc e body : List ℕ) → body ≡ pre ++ acc → IsEnd e → ending_of (body ++ e) ≡ e → ending_of (acc ++ e) ≡ e
 keeps_end pre acc e body p (inl h) q = crlf_end (acc ++ e) acc (ap (λ (x : List ℕ). acc ++ x) h) ∙ sym h
 keeps_end pre acc e body p (inr h) q =
-    lf_end (acc ++ e) acc (ap (λ (x : List ℕ). acc ++ x) h) (never (ends_with nat_eq (acc ++ e) (13 ∷ 10 ∷ [])) (λ t.
+    lf_end (acc ++ e) acc (ap (λ (x : List ℕ). acc ++ x) h) (false_from_ne_true (ends_with nat_eq (acc ++ e) (13 ∷ 10 ∷ [])) (λ t.
     let f : List ℕ = take (length (acc ++ e) - 2) (acc ++ e) in
     let r : body ++ e ≡ (pre ++ f) ++ 13 ∷ 10 ∷ [] =
     ap (λ (x : List ℕ). x ++ e) p ∙ append_assoc pre acc e ∙ ap (λ (x : List ℕ). pre ++ x) (ends_back (acc ++ e) (13 ∷ 10 ∷ []) t) ∙ sym (append_assoc pre f (13 ∷ 10 ∷ [])) in
@@ -112,7 +110,7 @@ keeps_end pre acc e body p (inr h) q =
     ∙ sym h
 
 unspliced_end : (pre acc body : List ℕ) → body ≡ pre ++ acc → ends_with nat_eq body (92 ∷ []) ≡ false → ends_with nat_eq acc (92 ∷ []) ≡ false
-unspliced_end pre acc body p n = never (ends_with nat_eq acc (92 ∷ [])) (λ t.
+unspliced_end pre acc body p n = false_from_ne_true (ends_with nat_eq acc (92 ∷ [])) (λ t.
     let f : List ℕ = take (length acc - 1) acc in
     let r : ends_with nat_eq body (92 ∷ []) ≡ true = ends body (92 ∷ []) (pre ++ f) (p ∙ ap (λ (x : List ℕ). pre ++ x) (ends_back acc (92 ∷ []) t) ∙ sym (append_assoc pre f (92 ∷ []))) in
     let s : true ≡ false = sym r ∙ n in
@@ -213,10 +211,6 @@ unspliced_body true true h g = cc
 unspliced_body true false h g = cc
 unspliced_body false b h g = refl
 
-some_ending : (e : List ℕ) → e ≢ [] → is_empty e ≡ false
-some_ending [] n = absurd (n refl)
-some_ending (b ∷ e) n = ne_eqb (suc (length e)) 0 (λ h. omega arith)
-
 module _ (ps : List Piece) (e : List ℕ) (s : AreSpliced ps) (k : keeps_ending (line_of_pieces ps e) ≡ true) (n : e ≢ []) (u : is_spliced (line_of_pieces ps e) ≡ false) where
   keeps : ending_of (map byte_of (cells_among ps) ++ e) ≡ e
   keeps = (bytes_eq-Decides (ending_of (map byte_of (cells_among ps) ++ e)) e).0 k
@@ -224,7 +218,7 @@ module _ (ps : List Piece) (e : List ℕ) (s : AreSpliced ps) (k : keeps_ending 
   formed_lines : IsSplicedGroup (lines_of (bytes_among ps ++ e)) e × (flat_map content (lines_of (bytes_among ps ++ e)) ≡ map byte_of (cells_among ps))
   formed_lines =
       lines_form ps e s (an_end e (map byte_of (cells_among ps) ++ e) n keeps) keeps
-      (unspliced_body (ends_with nat_eq (map byte_of (cells_among ps)) (92 ∷ [])) (is_empty e) u (some_ending e n))
+      (unspliced_body (ends_with nat_eq (map byte_of (cells_among ps)) (92 ∷ [])) (is_empty e) u (not_empty e n))
 
   pub group_of_lines : IsSplicedGroup (lines_of (bytes_among ps ++ e)) e
   group_of_lines = formed_lines.0

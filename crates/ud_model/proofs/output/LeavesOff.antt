@@ -2,6 +2,7 @@
 use Rattle.std.proofs.Common.{◌≡◌, ◌≢◌, ℕ, List, [], ◌∷◌, ◌++◌, map, Bool, true, false, refl, sym, ◌∙◌, ap, ap₂, subst, if◌then◌else◌, ◌==◌, ◌&&◌, ◌⊎◌, inl, inr, eqb-true}
 use Rattle.std.proofs.Math.Bool.{and-false}
 use Rattle.std.proofs.lemmas.List.{map-append}
+use Rattle.std.proofs.lemmas.Bool.{or_cases}
 use Rattle.ud_model.specs.text.Bytes.{is_white, is_quote, slash, star, newline, backslash}
 use Rattle.ud_model.specs.text.Lines.{Line}
 use Rattle.ud_model.specs.text.Scans.{Reading, plain_scan}
@@ -15,12 +16,11 @@ use Rattle.ud_model.specs.declared.kind.Mode.TheVariants.{C, Plain}
 use Rattle.ud_model.proofs.sections.Soundness.{reading_of-item_of}
 use Rattle.ud_model.proofs.text.ScanLaws.{place_after, white_after, scan_from, scan_after_run-from, LexesTo-append, joins_after-code, starts_anew}
 use Rattle.ud_model.proofs.output.ExchangedScan.{Sane}
-use Rattle.ud_model.proofs.sections.SplitLines.{either}
 use Rattle.ud_model.proofs.text.ScanLemmas.{kind_at_place, joined_run_last, LexesTo-close, run_of_last}
 use Rattle.ud_model.proofs.text.LexStateLemmas.{LexesTo-nil}
 
 quote_dark : (b : ℕ) → is_quote b ≡ true → ((b == slash) ≡ false) × ((b == newline) ≡ false) × (is_white b ≡ false)
-quote_dark b e = go (either (b == 34) (b == 39) e)
+quote_dark b e = go (or_cases (b == 34) (b == 39) e)
   where
     at : (n : ℕ) → ((n == slash) ≡ false) × ((n == newline) ≡ false) × (is_white n ≡ false) → (b == n) ≡ true → ((b == slash) ≡ false) × ((b == newline) ≡ false) × (is_white b ≡ false)
     at n h f = subst (λ (c : ℕ). ((c == slash) ≡ false) × ((c == newline) ≡ false) × (is_white c ≡ false)) (sym (eqb-true b n f)) h

@@ -3,6 +3,7 @@
 use Rattle.std.proofs.Common.{◌≡◌, ◌≢◌, ℕ, suc, ◌-◌, List, [], ◌∷◌, ◌++◌, length, map, take, drop, Bool, true, false, not, ◌&&◌, if◌then◌else◌, nat_eq, inl, inr, Option, Some, None, refl, sym, ◌∙◌, ap, ap₂, subst, append_assoc, append-nil}
 use Rattle.std.specs.List.{ends_with, concat}
 use Rattle.std.proofs.lemmas.List.{take_at, drop_at, take-append-drop, map-append, drop-map, take-map}
+use Rattle.std.proofs.lemmas.Bool.{not-true, and_parts}
 use Rattle.ud_model.specs.text.Lines.{Line, NoNewline, AreWhole, text_of, numbered_from, lines_of}
 use Rattle.ud_model.specs.text.Splicing.{is_empty, is_spliced, content}
 use Rattle.ud_model.specs.text.Lexemes.{Cell, shown}
@@ -28,22 +29,14 @@ use Rattle.ud_model.proofs.output.JoinedPieces.{ends_back, group_of_lines, body_
 
 -- 1. Lines.
 
-not_so : (a : Bool) → not a ≡ true → a ≡ false
-not_so true e = cc
-not_so false e = refl
-
-pub both_so : (a b : Bool) → (a && b) ≡ true → (a ≡ true) × (b ≡ true)
-both_so true b e = (refl, e)
-both_so false b e = cc
-
 -- Lines that are spliced form a group.
 pub are_group : (ls : List Line) → are_spliced ls ≡ true → IsSplicedGroup ls (last_ending ls) × (is_empty (last_ending ls) ≡ false)
 are_group [] e = cc
 are_group (l ∷ []) e =
-    let p : (not (is_spliced l) ≡ true) × (not (is_empty l.ending) ≡ true) = both_so (not (is_spliced l)) (not (is_empty l.ending)) e in
-    ((not_so (is_spliced l) p.0, refl), not_so (is_empty l.ending) p.1)
+    let p : (not (is_spliced l) ≡ true) × (not (is_empty l.ending) ≡ true) = and_parts (not (is_spliced l)) (not (is_empty l.ending)) e in
+    ((not-true (is_spliced l) p.0, refl), not-true (is_empty l.ending) p.1)
 are_group (l ∷ m ∷ ls) e =
-    let p : (is_spliced l ≡ true) × (are_spliced (m ∷ ls) ≡ true) = both_so (is_spliced l) (are_spliced (m ∷ ls)) e in
+    let p : (is_spliced l ≡ true) × (are_spliced (m ∷ ls) ≡ true) = and_parts (is_spliced l) (are_spliced (m ∷ ls)) e in
     let q = are_group (m ∷ ls) p.1 in
     ((p.0, q.0), q.1)
 
@@ -72,7 +65,7 @@ content_by l b e = ap (λ (a : Bool). if a then take (length l.body - 1) l.body 
 -- A spliced line ends in a backslash.
 spliced_body : (l : Line) → is_spliced l ≡ true → l.body ≡ content l ++ 92 ∷ []
 spliced_body l e =
-    ends_back l.body (92 ∷ []) (both_so (ends_with nat_eq l.body (92 ∷ [])) (not (is_empty l.ending)) e).0
+    ends_back l.body (92 ∷ []) (and_parts (ends_with nat_eq l.body (92 ∷ [])) (not (is_empty l.ending)) e).0
     ∙ ap (λ (x : List ℕ). x ++ 92 ∷ []) (sym (content_by l true e))
 
 pub joined_tidy : (ls : List Line) → Each IsTidy ls → NoNewline (joined_body ls)

@@ -1,8 +1,9 @@
 -- Logical texts: the logical lines of a text, each as a text of its own, and what is simplified of
 -- the text, logical line by logical line.
-use Rattle.std.proofs.Common.{◌≡◌, ◌≢◌, ℕ, ◌+◌, List, [], ◌∷◌, ◌++◌, length, map, Bool, true, false, not, ◌&&◌, ◌||◌, if◌then◌else◌, inl, inr, refl, sym, ◌∙◌, ap, ap₂, append_assoc, append-nil}
+use Rattle.std.proofs.Common.{◌≡◌, ◌≢◌, ℕ, ◌+◌, List, [], ◌∷◌, ◌++◌, length, map, Bool, true, false, not, ◌&&◌, if◌then◌else◌, inl, refl, sym, ◌∙◌, ap, ap₂, append_assoc, append-nil}
 use Rattle.std.specs.List.{concat}
 use Rattle.std.proofs.lemmas.List.{map-append}
+use Rattle.std.proofs.lemmas.Bool.{or_right}
 use Rattle.ud_model.specs.text.Lines.{Line, IsWhole, AreWhole, AreFormed, text_of, line_at, numbered_from, texts_of, split_lines}
 use Rattle.ud_model.specs.text.Scans.{Scan, Reading, is_spanning}
 use Rattle.ud_model.specs.text.Splicing.{is_empty, c_run_of}
@@ -20,7 +21,7 @@ use Rattle.ud_model.proofs.text.Pushes.{ByPush, none as nothing_pushed, push, by
 use Rattle.ud_model.proofs.text.ScanBytes.{scan_after-same, bare}
 use Rattle.ud_model.proofs.text.ScanLaws.{readings_alone, readings_after-append, joins_after-code}
 use Rattle.ud_model.proofs.text.ScanLemmas.{run_of_last}
-use Rattle.ud_model.proofs.output.Formed.{IsEnd, whole_ending}
+use Rattle.ud_model.proofs.output.Formed.{whole_ending, end_is_some}
 use Rattle.ud_model.proofs.output.InsertedText.{read_more}
 
 pub concat-append : (xs ys : List (List ℕ)) → concat (xs ++ ys) ≡ concat xs ++ concat ys
@@ -175,12 +176,8 @@ module _ (table : List Argument) (rules : Rules) where
     whole_last [] t w = w.0
     whole_last (s ∷ ts) t w = whole_last ts t w.1
 
-    not_nil : (e : List ℕ) → IsEnd e → e ≢ []
-    not_nil e (inl h) q = let r : 13 ∷ 10 ∷ [] ≡ [] = sym h ∙ q in cc
-    not_nil e (inr h) q = let r : 10 ∷ [] ≡ [] = sym h ∙ q in cc
-
     has_ending : last_line.ending ≢ []
-    has_ending = not_nil last_line.ending (whole_ending c.last (whole_last c.run c.last c.whole))
+    has_ending = end_is_some last_line.ending (whole_ending c.last (whole_last c.run c.last c.whole))
 
     abbrev later : List Line
     later = numbered_from (1 + length (lines_in c)) (texts_of rest)
@@ -215,10 +212,6 @@ module _ (table : List Argument) (rules : Rules) where
       by false e g = refl
       by true e g = cc
 
-  or_true : (a b : Bool) → b ≡ true → (a || b) ≡ true
-  or_true true b e = refl
-  or_true false b e = e
-
   joined_not_lone : (scan : Scan) (l : Line) → is_spanning scan ≡ true → is_lone scan l ≡ false
   joined_not_lone scan l e = ap (λ (b : Bool). not b && not (is_empty l.ending)) e
 
@@ -232,7 +225,7 @@ module _ (table : List Argument) (rules : Rules) where
       let j : s.joins_after ≡ true =
       joins_after-code (c_run_of rs) l ∙ ap (λ (ls : List Line). joins (ls ++ l ∷ [])) (run_read (by_push (numbered_from 1 run))) ∙ ap joins (sym (numbered_from-append 1 run (t ∷ []))) ∙ e in
       let k : left_text (next_reading rs C l) ≡ t =
-      ap text_of (stays_by s l (content_of s) (joined_not_lone s l (or_true s.joins_before s.joins_after j))) ∙ text_of-line_at (1 + length run) t in
+      ap text_of (stays_by s l (content_of s) (joined_not_lone s l (or_right s.joins_before s.joins_after j))) ∙ text_of-line_at (1 + length run) t in
       ap left_texts (one_read_more 1 run t) ∙ texts_push rs (next_reading rs C l) ∙ ap₂ (λ (a b : List ℕ). a ++ b) (run_stays p) k
       ∙ sym (concat-append run (t ∷ []) ∙ ap (λ (y : List ℕ). concat run ++ y) (append-nil t))
 

@@ -18,7 +18,7 @@ use Rattle.ud_model.specs.answer.Printing.{number_line, ending_or_newline}
 use Rattle.ud_model.specs.declared.kind.Mode.{Mode}
 use Rattle.ud_model.specs.declared.kind.Mode.TheVariants.{C, Plain}
 use Rattle.ud_model.proofs.output.Each.{Each, each_both}
-use Rattle.ud_model.proofs.output.Formed.{IsEnd, EndsIn, ending_both, ending_feed}
+use Rattle.ud_model.proofs.output.Formed.{IsEnd, EndsIn, ending_both, ending_feed, end_some}
 use Rattle.ud_model.proofs.output.LeavesOff.{LeavesOff}
 use Rattle.ud_model.proofs.text.LinesLemmas.{no_newline-append}
 use Rattle.ud_model.proofs.text.ScanLaws.{place_after, masked_after, scan_from, scan_after_run-from}
@@ -130,14 +130,6 @@ spliced_not l q = go (ends_with nat_eq l.body (backslash ∷ [])) refl
     go true e =
         absurd (ends_quiet backslash (λ k. let p : true ≡ false = k.no_backslash in cc) l.body q.quiet
         (take (length l.body - 1) l.body, (ends_is Decides-eqb l.body (backslash ∷ []) (ends_with nat_eq l.body (backslash ∷ [])) refl).0 e))
-
-end_some : (e : List ℕ) → IsEnd e → is_empty e ≡ false
-end_some e (inl h) = ap (λ (x : List ℕ). is_empty x) h
-end_some e (inr h) = ap (λ (x : List ℕ). is_empty x) h
-
-pub end_is_some : (e : List ℕ) → IsEnd e → e ≢ []
-end_is_some e (inl h) = λ q. let p : 13 ∷ 10 ∷ [] ≡ [] = sym h ∙ q in cc
-end_is_some e (inr h) = λ q. let p : 10 ∷ [] ≡ [] = sym h ∙ q in cc
 
 module _ (l : Line) (q : IsQuiet l) where
   all_content : content l ≡ l.body

@@ -2,6 +2,7 @@
 use Rattle.std.proofs.Common.{◌≡◌, ℕ, ◌+◌, ◌-◌, ◌≤◌, List, [], ◌∷◌, ◌++◌, length, map, take, drop, Bool, true, false, not, ◌&&◌, Option, Some, None, if◌then◌else◌, refl, sym, ◌∙◌, ap, subst, ◌⊎◌, inl, inr, arith, length-append}
 use Rattle.std.specs.List.{list_any}
 use Rattle.std.proofs.lemmas.List.{drop-map, length-map, take-append-drop}
+use Rattle.std.proofs.lemmas.Bool.{cases_Bool, and_from, not_from_false, and_parts, not-true, or_parts}
 use Rattle.ud_model.specs.text.Lines.{Line}
 use Rattle.ud_model.specs.text.Scans.{Scan, Reading, is_spanning}
 use Rattle.ud_model.specs.text.Splicing.{is_spliced, content, is_empty}
@@ -23,9 +24,9 @@ use Rattle.ud_model.proofs.text.ScanBytes.{bytes-content_cells}
 use Rattle.ud_model.proofs.conditions.ResidualRead.{cells_go, written_left}
 use Rattle.ud_model.proofs.conditions.ReducedTrees.{fixed_reduced}
 use Rattle.ud_model.proofs.output.Each.{Pairs, no_pair, pair}
-use Rattle.ud_model.proofs.output.SimplifiedLines.{both_true, not_true, byte_of, option_is, after_is}
+use Rattle.ud_model.proofs.output.SimplifiedLines.{byte_of, option_is, after_is}
 use Rattle.ud_model.proofs.output.SimplifiedLineTexts.{lines_left}
-use Rattle.ud_model.proofs.output.SimplifiedReadings.{ReadingSimplified, reading_stays, reading_edited, alone_before, alone_after, readings_simplified}
+use Rattle.ud_model.proofs.output.SimplifiedReadings.{ReadingSimplified, reading_stays, reading_edited, readings_simplified}
 use Rattle.ud_model.proofs.output.SimplifiedAgain.{unspliced, line_stays}
 
 -- 1. Sublists of the same length.
@@ -39,19 +40,6 @@ sub_same : {A : Type 0} {xs ys : List A} → IsSublist xs ys → length xs ≡ l
 sub_same nothing e = refl
 sub_same (without p) e = let h = sub_fewer p in absurd (omega (arith, h, e))
 sub_same (with_same {y = y} p) e = ap (λ zs. y ∷ zs) (sub_same p (omega (arith, e)))
-
-bool_is : (b : Bool) → (b ≡ true) ⊎ (b ≡ false)
-bool_is true = inl refl
-bool_is false = inr refl
-
-both_are : (a b : Bool) → a ≡ true → b ≡ true → (a && b) ≡ true
-both_are true true p q = refl
-both_are true false p q = cc
-both_are false b p q = cc
-
-not_false : (a : Bool) → a ≡ false → not a ≡ true
-not_false true e = cc
-not_false false e = refl
 
 is_some : {A : Type 0} {x y : A} → ◌≡◌ {A = Option A} (Some x) (Some y) → x ≡ y
 is_some e = cc
@@ -89,13 +77,13 @@ module _ (table : List Argument) (rules : Rules) where
 
     module _ (lone : is_lone r.scan r.line ≡ true) where
       joins_none : is_spanning r.scan ≡ false
-      joins_none = not_true (is_spanning r.scan) (both_true (not (is_spanning r.scan)) (not (is_empty r.line.ending)) lone).0
+      joins_none = not-true (is_spanning r.scan) (and_parts (not (is_spanning r.scan)) (not (is_empty r.line.ending)) lone).0
 
       scan_is : r.scan ≡ scan_after [] C r.line
-      scan_is = alone (alone_before r.scan.joins_before r.scan.joins_after joins_none)
+      scan_is = alone (or_parts r.scan.joins_before r.scan.joins_after joins_none).0
 
       unspliced_line : is_spliced r.line ≡ false
-      unspliced_line = unspliced r.line (ap (λ (s : Scan). s.joins_after) (sym scan_is) ∙ alone_after r.scan.joins_before r.scan.joins_after joins_none)
+      unspliced_line = unspliced r.line (ap (λ (s : Scan). s.joins_after) (sym scan_is) ∙ (or_parts r.scan.joins_before r.scan.joins_after joins_none).1)
 
       text_is : map shown cells ≡ d.after
       text_is = after_is table rules r.line r.scan d scan_is has
@@ -109,13 +97,13 @@ module _ (table : List Argument) (rules : Rules) where
             is_read_alone table rules r.line d ≡ true → IsReduced table rules e
         unfolding simplified_cells
         reduced g q u z =
-            let a : left_cells_of table rules r.line d ≡ cells = all_left r.line d unspliced_line (same_now (both_are (is_lone r.scan r.line) (is_read_alone table rules r.line d) lone z)) in
+            let a : left_cells_of table rules r.line d ≡ cells = all_left r.line d unspliced_line (same_now (and_from (is_lone r.scan r.line) (is_read_alone table rules r.line d) lone z)) in
             let b : left_cells_of table rules r.line d ≡ left_cells (keeps table rules e) cells =
             ap (λ o. simplified_by table rules o cells) tree_is
-            ∙ ap (λ (t : Bool). if t then left_cells (keeps table rules e) cells else cells) (both_are (may_go table rules e cells) (is_read table rules e (left_cells (keeps table rules e) cells)) g q) in
+            ∙ ap (λ (t : Bool). if t then left_cells (keeps table rules e) cells else cells) (and_from (may_go table rules e cells) (is_read table rules e (left_cells (keeps table rules e) cells)) g q) in
             let w : expression_of (map shown (left_cells (keeps table rules e) cells)) ≡ Some (residual table rules e).tree = written_left table rules e cells tree_is (left_cells (keeps table rules e) cells) q in
             let f : (residual table rules e).tree ≡ e = is_some (sym w ∙ ap (λ (cs : List Cell). expression_of (map shown cs)) (sym b ∙ a) ∙ tree_is) in
-            fixed_reduced table rules e f (both_true (is_unknown (residual table rules e).cond) (is_unknown (tree_cond (residual table rules e).tree table rules)) u).0
+            fixed_reduced table rules e f (and_parts (is_unknown (residual table rules e).cond) (is_unknown (tree_cond (residual table rules e).tree table rules)) u).0
 
         by_line : may_go table rules e cells ≡ true → is_read table rules e (left_cells (keeps table rules e) cells) ≡ true → is_undecided table rules (residual table rules e) ≡ true →
             (is_read_alone table rules r.line d ≡ true) ⊎ (is_read_alone table rules r.line d ≡ false) → Reason
@@ -124,31 +112,31 @@ module _ (table : List Argument) (rules : Rules) where
 
         by_rest : may_go table rules e cells ≡ true → is_undecided table rules (residual table rules e) ≡ true →
             (is_read table rules e (left_cells (keeps table rules e) cells) ≡ true) ⊎ (is_read table rules e (left_cells (keeps table rules e) cells) ≡ false) → Reason
-        by_rest g u (inl q) = by_line g q u (bool_is (is_read_alone table rules r.line d))
+        by_rest g u (inl q) = by_line g q u (cases_Bool (is_read_alone table rules r.line d))
         by_rest g u (inr q) = inl (rest_misread e p q)
 
         by_quote : is_unknown (tree_cond e table rules) ≡ true → is_undecided table rules (residual table rules e) ≡ true → (list_any is_literal cells ≡ true) ⊎ (list_any is_literal cells ≡ false) → Reason
         by_quote k u (inl q) = inl (has_quote q)
         by_quote k u (inr q) =
             by_rest
-            (both_are (is_unknown (tree_cond e table rules) && is_undecided table rules (residual table rules e)) (not (list_any is_literal cells))
-            (both_are (is_unknown (tree_cond e table rules)) (is_undecided table rules (residual table rules e)) k u) (not_false (list_any is_literal cells) q))
-            u (bool_is (is_read table rules e (left_cells (keeps table rules e) cells)))
+            (and_from (is_unknown (tree_cond e table rules) && is_undecided table rules (residual table rules e)) (not (list_any is_literal cells))
+            (and_from (is_unknown (tree_cond e table rules)) (is_undecided table rules (residual table rules e)) k u) (not_from_false (list_any is_literal cells) q))
+            u (cases_Bool (is_read table rules e (left_cells (keeps table rules e) cells)))
 
         by_residual : is_unknown (tree_cond e table rules) ≡ true → (is_undecided table rules (residual table rules e) ≡ true) ⊎ (is_undecided table rules (residual table rules e) ≡ false) → Reason
-        by_residual k (inl u) = by_quote k u (bool_is (list_any is_literal cells))
+        by_residual k (inl u) = by_quote k u (cases_Bool (list_any is_literal cells))
         by_residual k (inr u) = inl (rest_decided e p u)
 
         by_cond : (is_unknown (tree_cond e table rules) ≡ true) ⊎ (is_unknown (tree_cond e table rules) ≡ false) → Reason
-        by_cond (inl k) = by_residual k (bool_is (is_undecided table rules (residual table rules e)))
+        by_cond (inl k) = by_residual k (cases_Bool (is_undecided table rules (residual table rules e)))
         by_cond (inr k) = inl (decided e p k)
 
       by_tree : (expression_of d.after ≡ None) ⊎ ((e : Expression) × (expression_of d.after ≡ Some e)) → Reason
       by_tree (inl n) = inl (not_understood n)
-      by_tree (inr (e, p)) = by_cond e p (bool_is (is_unknown (tree_cond e table rules)))
+      by_tree (inr (e, p)) = by_cond e p (cases_Bool (is_unknown (tree_cond e table rules)))
 
     reason : Reason
-    reason = by (bool_is (is_lone r.scan r.line))
+    reason = by (cases_Bool (is_lone r.scan r.line))
       where
         by : (is_lone r.scan r.line ≡ true) ⊎ (is_lone r.scan r.line ≡ false) → Reason
         by (inl l) = by_tree l (option_is (expression_of d.after))

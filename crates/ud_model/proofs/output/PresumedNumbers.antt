@@ -2,6 +2,7 @@
 use Rattle.std.proofs.Common.{◌≡◌, ℕ, suc, ◌+◌, ◌%◌, ◌<◌, ◌≤◌, ◌^◌, List, [], ◌∷◌, ◌++◌, Bool, true, false, not, ◌&&◌, Option, Some, None, is_some, if◌then◌else◌, codes, decimal, inl, inr, ◌⊎◌, refl, sym, ◌∙◌, ap, subst, append_assoc, ne_eqb, arith}
 use Rattle.std.proofs.lemmas.Fmt.{decimal_by_steps, decimal_injective}
 use Rattle.std.proofs.lemmas.List.{same_from_push}
+use Rattle.std.proofs.lemmas.Bool.{and_parts}
 use Rattle.ud_model.specs.text.Bytes.{is_white, skip_white}
 use Rattle.ud_model.specs.text.Scans.{Scan, Reading, plain_scan}
 use Rattle.ud_model.specs.answer.Printing.{Judged}
@@ -115,10 +116,6 @@ Right js ss n = (ps : List Presumed) (sure : Bool) (m : ℕ) → Presumes ss ps 
 right_further : (js : List Judged) (j : Judged) (ss : List Reading) (n : ℕ) → Right js ss n → Right (js ++ j ∷ []) ss n
 right_further js j ss n h ps sure m p = let k = h ps sure m p in (k.0, further js j ps k.1)
 
-both_true : (a b : Bool) → (a && b) ≡ true → a ≡ true
-both_true true b e = refl
-both_true false b e = cc
-
 -- A line that is no `#line`.
 right_line : (js : List Judged) (ss : List Reading) (d : Reading) (n : ℕ) → line_operand d.scan ≡ None → Right js ss n →
     ((k : ℕ) → k ≡ n → IsInserted d ⊎ IsLineFor js d k) → Right js (ss ++ d ∷ []) (suc n)
@@ -126,7 +123,7 @@ right_line js ss d n none h is ps sure m p = by_last (last_by p ss d refl)
   where
     by_last : {qs : List Presumed} {b : Bool} {k : ℕ} → LastLine ss d qs b k → (b ≡ true → k ≡ suc n) × HaveInputNumbers js qs
     by_last (passed {ps = qs} {sure = b} {n = k} q) =
-        let r = h qs b k q in (λ e. ap (λ (i : ℕ). suc i) (r.0 (both_true b (not (is_some (line_operand d.scan))) e)), r.1)
+        let r = h qs b k q in (λ e. ap (λ (i : ℕ). suc i) (r.0 (and_parts b (not (is_some (line_operand d.scan))) e).0), r.1)
     by_last (processed {ps = qs} {sure = b} {n = k} q e) =
         let r = h qs b k q in (λ f. ap (λ (i : ℕ). suc i) (r.0 f), have_both js qs (record { line = d; number = k; sure = b }) r.1 (λ f. is k (r.0 f)))
     by_last (obeyed {ps = qs} {sure = b} {n = k} q i g) = let e : None ≡ Some (decimal i) = sym none ∙ g.operand in cc

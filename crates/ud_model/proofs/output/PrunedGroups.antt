@@ -1,6 +1,7 @@
 -- The pruned tree is what the table leaves of each section and its groups.
 use Rattle.std.proofs.Common.{◌≡◌, List, [], ◌∷◌, ◌++◌, Bool, true, false, not, ◌&&◌, Some, None, if◌then◌else◌, refl, sym, ◌∙◌, ap, ap₂, subst, append_assoc, append-nil}
 use Rattle.std.specs.Prelude.{◌↔◌}
+use Rattle.std.proofs.lemmas.Bool.{both_ways}
 use Rattle.ud_model.specs.declared.cond.Cond.{Cond}
 use Rattle.ud_model.specs.declared.cond.Cond.TheVariants.{Yes, No, Unknown}
 use Rattle.ud_model.specs.declared.verdict.Verdict.{Verdict}
@@ -306,9 +307,6 @@ abbrev lines_in : {M : Type 0} → List (Group M) → List (Item M)
 lines_in [] = []
 lines_in (g ∷ gs) = (g.opener ∷ lines_of_nodes g.nodes) ++ lines_in gs
 
-not_both : (b : Bool) → b ≡ true → b ≡ false → ⊥
-not_both b e f = let g : true ≡ false = sym e ∙ f in cc
-
 module _ {M : Type 0} where
   lines_last : (gs : List (Group M)) (g : Group M) → lines_in (gs ++ g ∷ []) ≡ (lines_in gs ++ g.opener ∷ []) ++ lines_of_nodes g.nodes
   lines_last [] g = append-nil (g.opener ∷ lines_of_nodes g.nodes)
@@ -340,8 +338,8 @@ module _ {L : Type 0} where
     same_nodes (text_stays {l = l} p) (text_stays q) = ap (λ (xs : List (Item (Edited L))). xs ++ text_line (edited Keep l) ∷ []) (same_nodes p q)
     same_nodes (gives_way_to {ps = ps} {qs = ms} w p f) (gives_way_to {ps = qs} {qs = ns} v q g) =
         lines_then ps ms ∙ ap₂ (λ (x y : List (Item (Edited L))). x ++ y) (same_nodes p q) (same_first f g) ∙ sym (lines_then qs ns)
-    same_nodes (gives_way_to w p f) (section_stays v q a e) = absurd (not_both _ w v)
-    same_nodes (section_stays v q a e) (gives_way_to w p f) = absurd (not_both _ w v)
+    same_nodes (gives_way_to w p f) (section_stays v q a e) = absurd (both_ways _ v w)
+    same_nodes (section_stays v q a e) (gives_way_to w p f) = absurd (both_ways _ v w)
     same_nodes (section_stays {ps = ps} {hs = hs} {k = k} w p a e) (section_stays {ps = qs} {hs = js} {k = j} v q b f) =
         join3 (lines_of_nodes ps) (lines_of_nodes qs) (lines_of_groups hs) (lines_of_groups js) (endif_line k ∷ []) (endif_line j ∷ [])
         (same_nodes p q) (sym (groups_lines_in hs) ∙ same_kept a b ∙ groups_lines_in js) (sym e ∙ f)
@@ -349,15 +347,15 @@ module _ {L : Type 0} where
     same_first : {gs : List (Group L)} {ps qs : Nodes (Edited L)} → AreOfFirst gs ps → AreOfFirst gs qs → lines_of_nodes ps ≡ lines_of_nodes qs
     same_first no_group no_group = refl
     same_first (of_later e f) (of_later d g) = same_first f g
-    same_first (of_later e f) (of_this d q) = absurd (not_both _ d e)
-    same_first (of_this e p) (of_later d g) = absurd (not_both _ e d)
+    same_first (of_later e f) (of_this d q) = absurd (both_ways _ e d)
+    same_first (of_this e p) (of_later d g) = absurd (both_ways _ d e)
     same_first (of_this e p) (of_this d q) = same_nodes p q
 
     same_kept : {all : List Cond} {gs : List (Group L)} {hs js : List (Group (Edited L))} → AreKept all gs hs → AreKept all gs js → lines_in hs ≡ lines_in js
     same_kept no_groups no_groups = refl
     same_kept (without e a) (without d b) = same_kept a b
-    same_kept (without e a) (with_this d o q b) = absurd (not_both _ d e)
-    same_kept (with_this e o p a) (without d b) = absurd (not_both _ e d)
+    same_kept (without e a) (with_this d o q b) = absurd (both_ways _ e d)
+    same_kept (with_this e o p a) (without d b) = absurd (both_ways _ d e)
     same_kept (with_this {h = h} {hs = hs} e o p a) (with_this {h = j} {hs = js} d m q b) =
         join3 (h.opener ∷ []) (j.opener ∷ []) (lines_of_nodes h.nodes) (lines_of_nodes j.nodes) (lines_in hs) (lines_in js) (sym o ∙ m) (same_nodes p q) (same_kept a b)
 

@@ -1,6 +1,5 @@
 -- Reading an output again, line by line: the output for all lines.
-use Rattle.std.proofs.Common.{◌≡◌, ◌≢◌, ℕ, suc, List, [], ◌∷◌, ◌++◌, map, refl, sym, ◌∙◌, ap, subst, ◌⊎◌, inl, inr}
-use Rattle.std.proofs.lemmas.List.{map-append}
+use Rattle.std.proofs.Common.{◌≡◌, ℕ, suc, List, [], ◌∷◌, ◌++◌, map, refl, sym, ◌∙◌, ap, subst, inl}
 use Rattle.ud_model.specs.text.Lines.{Line, ending_of, numbered_from, AreFormed}
 use Rattle.ud_model.specs.text.Scans.{Reading}
 use Rattle.ud_model.specs.sections.Tree.{Item, Tree, lines}
@@ -9,9 +8,9 @@ use Rattle.ud_model.specs.sections.Faults.{AreFaultless, no_lines, one_more, Non
 use Rattle.ud_model.specs.output.Rereading.{IsPlain}
 use Rattle.ud_model.specs.declared.kind.Mode.{Mode}
 use Rattle.ud_model.proofs.output.Each.{Each, each_parts}
-use Rattle.ud_model.proofs.output.Formed.{whole_ending}
+use Rattle.ud_model.proofs.output.Formed.{whole_ending, end_is_some}
 use Rattle.ud_model.proofs.output.Heeding.{the_mode, one_mode, sound_heed}
-use Rattle.ud_model.proofs.sections.Soundness.{reading_of-next, sound_lines}
+use Rattle.ud_model.proofs.sections.Soundness.{sound_lines, lines_with_next}
 use Rattle.ud_model.proofs.output.LeavesOff.{HasEnd}
 use Rattle.ud_model.proofs.output.Rereads.{Again, Between, IsLine, start}
 use Rattle.ud_model.proofs.output.RereadStep.{step}
@@ -31,15 +30,11 @@ ends_before [] l h = (tt, h)
 ends_before (k ∷ []) l h = ((h.0, tt), h.1)
 ends_before (k ∷ m ∷ ls) l h = let r : Each IsInner (m ∷ ls) × IsLine l = ends_before (m ∷ ls) l h.1 in ((h.0, r.0), r.1)
 
-some_end : (e : List ℕ) → (e ≡ 13 ∷ 10 ∷ []) ⊎ (e ≡ 10 ∷ []) → e ≢ []
-some_end e (inl h) = λ q. let p : 13 ∷ 10 ∷ [] ≡ [] = sym h ∙ q in cc
-some_end e (inr h) = λ q. let p : 10 ∷ [] ≡ [] = sym h ∙ q in cc
-
 -- The lines of a text are so.
 pub lines_end : (n : ℕ) (ts : List (List ℕ)) → AreFormed ts → AllButLast (numbered_from n ts)
 lines_end n [] f = tt
 lines_end n (t ∷ []) f = (n, t, refl, f)
-lines_end n (t ∷ u ∷ ts) f = ((some_end (ending_of t) (whole_ending t f.0), (n, t, refl, inl f.0)), lines_end (suc n) (u ∷ ts) f.1)
+lines_end n (t ∷ u ∷ ts) f = ((end_is_some (ending_of t) (whole_ending t f.0), (n, t, refl, inl f.0)), lines_end (suc n) (u ∷ ts) f.1)
 
 module _ (o : Options) (p : IsPlain o) where
   pub next_is : (xs : List (Item Reading)) (t : Tree Reading) (l : Line) → AreFaultless o xs t → next_item o xs t l ≡ item_of o (read_after xs (the_mode o) l)
@@ -53,13 +48,10 @@ module _ (o : Options) (p : IsPlain o) where
       subst (λ (x : Item Reading). (zs : List (Item Reading)) × Again o (the_mode o) (xs ++ x ∷ []) u zs × (HasEnd l → Between o (the_mode o) (xs ++ x ∷ []) u zs)) (sym (next_is xs t l s))
       (step o (the_mode o) xs t (sound_lines s) ys b l u i (e ∙ ap (λ (x : Item Reading). xs ++ x ∷ []) (next_is xs t l s)) (subst (λ (x : Item Reading). NoneHolds xs x cases) (next_is xs t l s) n))
 
-  pub line_last : (xs : List (Item Reading)) (t : Tree Reading) (l : Line) → map line_of (xs ++ next_item o xs t l ∷ []) ≡ map line_of xs ++ l ∷ []
-  line_last xs t l = map-append line_of xs (next_item o xs t l ∷ []) ∙ ap (λ k. map line_of xs ++ k ∷ []) (reading_of-next o xs t l)
-
   between : (xs : List (Item Reading)) (t : Tree Reading) → AreFaultless o xs t → Each IsInner (map line_of xs) → (ys : List (Item Reading)) × Between o (the_mode o) xs t ys
   between _ _ no_lines h = ([], start o (the_mode o))
   between _ _ (one_more xs t s l u e n) h =
-      let k : Each IsInner (map line_of xs) × Each IsInner (l ∷ []) = each_parts IsInner (map line_of xs) (l ∷ []) (subst (Each IsInner) (line_last xs t l) h) in
+      let k : Each IsInner (map line_of xs) × Each IsInner (l ∷ []) = each_parts IsInner (map line_of xs) (l ∷ []) (subst (Each IsInner) (lines_with_next o xs t l) h) in
       let b : (ys : List (Item Reading)) × Between o (the_mode o) xs t ys = between xs t s k.0 in
       let z : (zs : List (Item Reading)) × Again o (the_mode o) (xs ++ next_item o xs t l ∷ []) u zs × (HasEnd l → Between o (the_mode o) (xs ++ next_item o xs t l ∷ []) u zs) =
       one_step xs t s b.0 b.1 l u k.1.0.1 e n in
@@ -69,7 +61,7 @@ module _ (o : Options) (p : IsPlain o) where
   pub again : (xs : List (Item Reading)) (t : Tree Reading) → AreFaultless o xs t → AllButLast (map line_of xs) → (ys : List (Item Reading)) × Again o (the_mode o) xs t ys
   again _ _ no_lines h = ([], (start o (the_mode o)).again)
   again _ _ (one_more xs t s l u e n) h =
-      let k : Each IsInner (map line_of xs) × IsLine l = ends_before (map line_of xs) l (subst AllButLast (line_last xs t l) h) in
+      let k : Each IsInner (map line_of xs) × IsLine l = ends_before (map line_of xs) l (subst AllButLast (lines_with_next o xs t l) h) in
       let b : (ys : List (Item Reading)) × Between o (the_mode o) xs t ys = between xs t s k.0 in
       let z : (zs : List (Item Reading)) × Again o (the_mode o) (xs ++ next_item o xs t l ∷ []) u zs × (HasEnd l → Between o (the_mode o) (xs ++ next_item o xs t l ∷ []) u zs) =
       one_step xs t s b.0 b.1 l u k.1 e n in

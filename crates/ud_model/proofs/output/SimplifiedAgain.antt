@@ -2,6 +2,7 @@
 use Rattle.std.proofs.Common.{◌≡◌, ℕ, ◌-◌, List, [], ◌∷◌, ◌++◌, length, map, take, drop, Bool, true, false, Some, None, if◌then◌else◌, refl, sym, ◌∙◌, ap, ap₂, subst, ◌⊎◌, inl, inr}
 use Rattle.std.specs.List.{concat}
 use Rattle.std.proofs.lemmas.List.{drop-map, take-append-drop}
+use Rattle.std.proofs.lemmas.Bool.{or_parts}
 use Rattle.ud_model.specs.text.Lines.{Line, text_of}
 use Rattle.ud_model.specs.text.Scans.{Scan, Reading}
 use Rattle.ud_model.specs.text.Splicing.{is_spliced, content, spliced_text, spliced_part}
@@ -25,12 +26,12 @@ use Rattle.ud_model.proofs.conditions.ResidualAgain.{residual_stays}
 use Rattle.ud_model.proofs.output.Each.{Pairs, no_pair, pair}
 use Rattle.ud_model.proofs.output.SimplifiedLines.{byte_of, option_is, after_is}
 use Rattle.ud_model.proofs.output.SimplifiedLineTexts.{lines_left}
-use Rattle.ud_model.proofs.output.SimplifiedReadings.{IsLeft, ReadingSimplified, reading_stays, reading_edited, alone_before, alone_after, readings_simplified}
+use Rattle.ud_model.proofs.output.SimplifiedReadings.{IsLeft, ReadingSimplified, reading_stays, reading_edited, readings_simplified}
 
 -- A line that doesn't join the next one has no splice.
 pub unspliced : (l : Line) → (scan_after_run [] l).joins_after ≡ false → is_spliced l ≡ false
 unspliced l h =
-    alone_before (is_spliced l) (is_block (kind_at_end (spliced_text [] ++ spliced_part l))) (sym (joins_last [] l) ∙ sym (joins_after-code [] l) ∙ h)
+    (or_parts (is_spliced l) (is_block (kind_at_end (spliced_text [] ++ spliced_part l))) (sym (joins_last [] l) ∙ sym (joins_after-code [] l) ∙ h)).0
 
 module _ (table : List Argument) (rules : Rules) where
   -- A line of which all cells are left is the line.
@@ -52,7 +53,7 @@ module _ (table : List Argument) (rules : Rules) where
         ap₂ (λ (k : Line) (x : Scan). line_by table rules x k (content_of x)) l c ∙ i.simplified
 
     pub lone : is_spliced r.line ≡ false
-    lone = unspliced r.line (ap (λ (x : Scan). x.joins_after) (sym i.before) ∙ alone_after r.scan.joins_before r.scan.joins_after i.edited.lone)
+    lone = unspliced r.line (ap (λ (x : Scan). x.joins_after) (sym i.before) ∙ (or_parts r.scan.joins_before r.scan.joins_after i.edited.lone).1)
 
     still_lone : is_spliced s.line ≡ false
     still_lone = unspliced s.line (ap (λ (k : Line). (scan_after_run [] k).joins_after) i.line ∙ i.edited.alone)

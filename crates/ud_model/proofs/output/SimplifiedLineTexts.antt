@@ -1,7 +1,7 @@
 -- The lines of a simplified text are the simplified lines.
-use Rattle.std.proofs.Common.{◌≡◌, ℕ, suc, ◌+◌, ◌-◌, List, [], ◌∷◌, ◌++◌, length, map, take, Bool, true, false, refl, sym, ◌∙◌, ap, ap₂, subst, ◌⊎◌, inl, inr, arith, length-append, if◌then◌else◌, nat_eq}
+use Rattle.std.proofs.Common.{◌≡◌, ℕ, suc, ◌-◌, List, [], ◌∷◌, ◌++◌, length, map, take, Bool, true, false, refl, sym, ◌∙◌, ap, ap₂, subst, ◌⊎◌, inl, inr, if◌then◌else◌, nat_eq}
 use Rattle.std.specs.List.{ends_with}
-use Rattle.std.proofs.lemmas.List.{map-append, drop-map, take_at}
+use Rattle.std.proofs.lemmas.List.{map-append, drop-map}
 use Rattle.ud_model.specs.text.Lines.{Line, NoNewline, IsWhole, IsUnterminated, AreFormed, text_of, ending_of, line_at, numbered_from, lines_of, texts_of}
 use Rattle.ud_model.specs.text.Scans.{Scan, Reading}
 use Rattle.ud_model.specs.text.Splicing.{content}
@@ -21,6 +21,7 @@ use Rattle.ud_model.proofs.output.InsertedText.{read_more}
 use Rattle.ud_model.proofs.output.Formed.{IsEnd, whole_ending, ended, whole_body, no_feed_parts, no_feed_cut}
 use Rattle.ud_model.proofs.output.OutputPieces.{output_lines}
 use Rattle.ud_model.proofs.output.SimplifiedLines.{byte_of, Becomes, it_stays, it_changes, becomes}
+use Rattle.ud_model.proofs.output.JoinedPieces.{cut_there}
 use Rattle.ud_model.proofs.conditions.ResidualRead.{cells_go}
 
 -- Cells that are left have no newline.
@@ -39,9 +40,6 @@ module _ (table : List Argument) (rules : Rules) where
       subst NoNewline (drop-map byte_of (keyword_end d) (content_cells [] l)) (no_feed_cut (keyword_end d) (map byte_of (content_cells [] l)) (subst NoNewline (sym (bytes-content_cells [] l)) c)).1 in
       no_newline-append (take (keyword_end d) l.body) (map byte_of (left_cells_of table rules l d)) (no_feed_cut (keyword_end d) l.body h).0
       (fewer (cells_go table rules (condition_cells l d)) f)
-
-  cut_there : (b e : List ℕ) → take (length (b ++ e) - length e) (b ++ e) ≡ b
-  cut_there b e = take_at b e (length (b ++ e) - length e) (let a : length (b ++ e) ≡ length b + length e = length-append b e in omega (arith, a))
 
   -- A line with its own ending is the line of its bytes.
   own_line : (k : Line) → ending_of (text_of k) ≡ k.ending → k ≡ line_at k.number (text_of k)

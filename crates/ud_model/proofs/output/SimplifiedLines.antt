@@ -1,8 +1,9 @@
 -- Simplified lines: each line of a simplified text is that of the text, or stands alone and has the
 -- residual of its condition.
-use Rattle.std.proofs.Common.{◌≡◌, ◌≢◌, ℕ, ◌+◌, List, [], ◌∷◌, ◌++◌, length, map, drop, Bool, true, false, not, ◌&&◌, ◌||◌, Option, Some, None, if◌then◌else◌, bytes_eq, refl, sym, ◌∙◌, ap, ap₂, ◌⊎◌, inl, inr, arith, append_assoc, length-append}
+use Rattle.std.proofs.Common.{◌≡◌, ◌≢◌, ℕ, ◌+◌, List, [], ◌∷◌, ◌++◌, length, map, drop, Bool, true, false, not, ◌&&◌, Option, Some, None, if◌then◌else◌, bytes_eq, refl, sym, ◌∙◌, ap, ap₂, ◌⊎◌, inl, inr, arith, append_assoc, length-append}
 use Rattle.std.proofs.lemmas.List.{drop-map, drop_at}
 use Rattle.std.proofs.lemmas.Slice.Eq.{bytes_eq-Decides}
+use Rattle.std.proofs.lemmas.Bool.{or_parts, and_parts, not-true}
 use Rattle.ud_model.specs.text.Bytes.{number_sign}
 use Rattle.ud_model.specs.text.Lines.{Line, text_of, ending_of}
 use Rattle.ud_model.specs.text.Scans.{Scan, Reading, is_spanning}
@@ -26,17 +27,6 @@ use Rattle.ud_model.specs.declared.kind.Mode.TheVariants.{C}
 use Rattle.ud_model.proofs.text.ScanBytes.{masked-content_cells}
 use Rattle.ud_model.proofs.sections.SplitLines.{directive_is}
 use Rattle.ud_model.proofs.conditions.ResidualRead.{read_as, untouched}
-
-pub both_true : (a b : Bool) → (a && b) ≡ true → (a ≡ true) × (b ≡ true)
-both_true true b e = (refl, e)
-both_true false b e = cc
-
-pub not_true : (a : Bool) → not a ≡ true → a ≡ false
-not_true true e = cc
-not_true false e = refl
-
-same_bytes : (xs ys : List ℕ) → bytes_eq xs ys ≡ true → xs ≡ ys
-same_bytes xs ys e = (bytes_eq-Decides xs ys).0 e
 
 not_empty : (e : List ℕ) → is_empty e ≡ false → e ≢ []
 not_empty e h q = let p : is_empty e ≡ true = ap is_empty q in let r : true ≡ false = sym p ∙ h in cc
@@ -97,8 +87,8 @@ module _ (table : List Argument) (rules : Rules) where
 
   the_condition : (kind : Kind) (after : List ℕ) (c : Content) → has_condition kind after c ≡ true → (d : Directive) × (c ≡ directive d) × SameIf kind d.kind × (d.after ≡ after)
   the_condition kind after (directive d) e =
-      let p : (same_if kind d.kind ≡ true) × (bytes_eq d.after after ≡ true) = both_true (same_if kind d.kind) (bytes_eq d.after after) e in
-      (d, refl, same_kind kind d.kind p.0, same_bytes d.after after p.1)
+      let p : (same_if kind d.kind ≡ true) × (bytes_eq d.after after ≡ true) = and_parts (same_if kind d.kind) (bytes_eq d.after after) e in
+      (d, refl, same_kind kind d.kind p.0, (bytes_eq-Decides d.after after).0 p.1)
   the_condition kind after cut_keyword e = cc
   the_condition kind after text e = cc
 
@@ -106,18 +96,18 @@ module _ (table : List Argument) (rules : Rules) where
   edited l scan d h e =
       let k : Line = left_line table rules l d in
       let s : Scan = scan_after_run [] k in
-      let p : (is_lone scan l ≡ true) × ((keeps_ending k && is_read_back table rules l d s) ≡ true) = both_true (is_lone scan l) (keeps_ending k && is_read_back table rules l d s) e in
-      let q : (keeps_ending k ≡ true) × (is_read_back table rules l d s ≡ true) = both_true (keeps_ending k) (is_read_back table rules l d s) p.1 in
-      let r : (not (is_spanning scan) ≡ true) × (not (is_empty l.ending) ≡ true) = both_true (not (is_spanning scan)) (not (is_empty l.ending)) p.0 in
+      let p : (is_lone scan l ≡ true) × ((keeps_ending k && is_read_back table rules l d s) ≡ true) = and_parts (is_lone scan l) (keeps_ending k && is_read_back table rules l d s) e in
+      let q : (keeps_ending k ≡ true) × (is_read_back table rules l d s ≡ true) = and_parts (keeps_ending k) (is_read_back table rules l d s) p.1 in
+      let r : (not (is_spanning scan) ≡ true) × (not (is_empty l.ending) ≡ true) = and_parts (not (is_spanning scan)) (not (is_empty l.ending)) p.0 in
       let t : (not s.joins_after ≡ true) × (has_condition d.kind (map shown (left_cells_of table rules l d)) (content_of s) ≡ true) =
-      both_true (not s.joins_after) (has_condition d.kind (map shown (left_cells_of table rules l d)) (content_of s)) q.1 in
+      and_parts (not s.joins_after) (has_condition d.kind (map shown (left_cells_of table rules l d)) (content_of s)) q.1 in
       let c = the_condition d.kind (map shown (left_cells_of table rules l d)) (content_of s) t.1 in
       record {
         has = h;
-        lone = not_true (is_spanning scan) r.0;
-        some = not_empty l.ending (not_true (is_empty l.ending) r.1);
-        ends = same_bytes (ending_of (text_of k)) l.ending q.0;
-        alone = not_true s.joins_after t.0;
+        lone = not-true (is_spanning scan) r.0;
+        some = not_empty l.ending (not-true (is_empty l.ending) r.1);
+        ends = (bytes_eq-Decides (ending_of (text_of k)) l.ending).0 q.0;
+        alone = not-true s.joins_after t.0;
         now = c.0;
         has_now = c.1;
         kind = c.2;
@@ -172,17 +162,12 @@ module _ (table : List Argument) (rules : Rules) where
   first_of _ _ after both_if = (refl, refl)
   first_of _ _ after both_elif = (refl, refl)
 
-  spans : (a b : Bool) → (a || b) ≡ false → (a ≡ false) × (b ≡ false)
-  spans false false e = (refl, refl)
-  spans true b e = cc
-  spans false true e = cc
-
   -- The edited line has the residual of the condition.
   pub line_simplified : (l k : Reading) (d : Directive) → IsEdited l.line l.scan d → l.scan ≡ scan_after [] C l.line →
       k.scan ≡ scan_after_run [] (left_line table rules l.line d) → LineSimplified table rules l k
   line_simplified l k d i e f =
       conditions l k (condition_cells l.line d)
-      (shown_by l.scan d (content_of l.scan) i.has (spans l.scan.joins_before l.scan.joins_after i.lone).1
+      (shown_by l.scan d (content_of l.scan) i.has (or_parts l.scan.joins_before l.scan.joins_after i.lone).1
       ∙ (first_of d.kind i.now.kind d.after i.kind).0 ∙ ap expression_of (sym (after_is l.line l.scan d e i.has)))
       (shown_by k.scan i.now (content_of k.scan) (ap content_of f ∙ i.has_now) (ap (λ (s : Scan). s.joins_after) f ∙ i.alone)
       ∙ (first_of d.kind i.now.kind i.now.after i.kind).1 ∙ ap expression_of i.after)

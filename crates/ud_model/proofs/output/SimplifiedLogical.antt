@@ -2,6 +2,8 @@
 use Rattle.std.proofs.Common.{◌≡◌, ℕ, suc, ◌+◌, ◌-◌, take, List, [], ◌∷◌, ◌++◌, length, map, Bool, true, false, not, ◌&&◌, ◌||◌, if◌then◌else◌, ◌⊎◌, inl, inr, refl, sym, ◌∙◌, ap, ap₂, subst, append_assoc, append-nil, bytes_eq}
 use Rattle.std.specs.List.{concat}
 use Rattle.std.proofs.lemmas.Slice.Eq.{bytes_eq-Decides}
+use Rattle.std.proofs.lemmas.Bool.{and_parts, not-true, false_from_ne_true}
+use Rattle.std.proofs.Math.Bool.{and-false}
 use Rattle.ud_model.specs.text.Bytes.{newline}
 use Rattle.ud_model.specs.text.Lines.{Line, NoNewline, IsUnterminated, AreWhole, AreFormed, text_of, ending_of, line_at, numbered_from, lines_of, texts_of, split_lines}
 use Rattle.ud_model.specs.text.Scans.{Scan, is_spanning}
@@ -22,9 +24,8 @@ use Rattle.ud_model.proofs.text.ScanLaws.{joins_before-code, joins_after-code}
 use Rattle.ud_model.proofs.text.ScanLemmas.{joins_last}
 use Rattle.ud_model.proofs.conditions.ResidualShape.{all_of_it, of_both}
 use Rattle.ud_model.proofs.output.Each.{Each, each_parts}
-use Rattle.ud_model.proofs.output.Formed.{IsEnd, ended}
+use Rattle.ud_model.proofs.output.Formed.{IsEnd, ended, end_some}
 use Rattle.ud_model.proofs.output.SimplifiedLineTexts.{an_end, no_end, edited_body}
-use Rattle.ud_model.proofs.output.SimplifiedLines.{both_true, not_true}
 use Rattle.ud_model.proofs.output.SimplifiedAgain.{unspliced, text_again}
 use Rattle.ud_model.proofs.output.JoinedPieces.{own_line, cut_there, IsSplicedGroup}
 use Rattle.ud_model.proofs.output.LogicalPieces.{are_group, IsTidy, tidy_lines, joined_tidy, content_by, edited_bytes, edited_spliced, edited_line}
@@ -61,7 +62,7 @@ group_joins ls a s =
 last_tidy : (ls : List Line) → Each IsTidy ls → are_spliced ls ≡ true → IsEnd (last_ending ls)
 last_tidy [] t a = cc
 last_tidy (l ∷ []) t a = t.0.ending
-last_tidy (l ∷ m ∷ ls) t a = last_tidy (m ∷ ls) t.1 (both_true (is_spliced l) (are_spliced (m ∷ ls)) a).1
+last_tidy (l ∷ m ∷ ls) t a = last_tidy (m ∷ ls) t.1 (and_parts (is_spliced l) (are_spliced (m ∷ ls)) a).1
 
 last_push : (ls : List Line) (l : Line) → last_ending (ls ++ l ∷ []) ≡ l.ending
 last_push [] l = refl
@@ -77,28 +78,20 @@ record IsJoinable (ls : List Line) : Type 0 where
 joinable : (ls : List Line) → is_joinable ls ≡ true → IsJoinable ls
 joinable ls e =
     let n : Bool = not (scan_after_run [] (one_line ls)).joins_after in
-    let p = both_true (are_spliced ls && keeps_ending (one_line ls)) n e in
-    let q = both_true (are_spliced ls) (keeps_ending (one_line ls)) p.0 in
-    record { spliced = q.0; keeps = q.1; ends = not_true (scan_after_run [] (one_line ls)).joins_after p.1 }
+    let p = and_parts (are_spliced ls && keeps_ending (one_line ls)) n e in
+    let q = and_parts (are_spliced ls) (keeps_ending (one_line ls)) p.0 in
+    record { spliced = q.0; keeps = q.1; ends = not-true (scan_after_run [] (one_line ls)).joins_after p.1 }
 
 joinable_so : (ls : List Line) → IsJoinable ls → is_joinable ls ≡ true
 joinable_so ls j =
     ap₂ (λ (a b : Bool). a && b) (ap₂ (λ (a b : Bool). a && b) j.spliced j.keeps) (ap not j.ends)
 
-some_end : (e : List ℕ) → IsEnd e → is_empty e ≡ false
-some_end e (inl h) = ap is_empty h
-some_end e (inr h) = ap is_empty h
-
 same_so : (a b : List ℕ) → a ≡ b → bytes_eq a b ≡ true
 same_so a b e = (bytes_eq-Decides a b).1 e
 
-refuted : (b : Bool) → (b ≡ true → ⊥) → b ≡ false
-refuted true h = absurd (h refl)
-refuted false h = refl
-
 -- Lines that join the next one aren't joinable.
 joins_on : (ls : List Line) → joins ls ≡ true → is_joinable ls ≡ false
-joins_on ls h = refuted (is_joinable ls) (λ e.
+joins_on ls h = false_from_ne_true (is_joinable ls) (λ e.
     let j : IsJoinable ls = joinable ls e in
     let r : true ≡ false = sym h ∙ group_joins ls j.spliced (unspliced (one_line ls) j.ends) ∙ sym (joins_after-code [] (one_line ls)) ∙ j.ends in
     cc)
@@ -136,10 +129,6 @@ some_joins t ts j = by (t ∷ ts) j refl
     by _ none e = cc
     by _ (more u p h) e = h
 
-and_false : (a : Bool) → (a && false) ≡ false
-and_false true = refl
-and_false false = refl
-
 module _ (table : List Argument) (rules : Rules) where
   -- A logical line that goes on at the end of the text.
   record Open (x : List ℕ) : Type 0 where
@@ -171,11 +160,11 @@ module _ (table : List Argument) (rules : Rules) where
       let s : Scan = scan_after_run (numbered_from 1 run) l in
       record {
         one = ap (λ (us : List (List ℕ)). logical_from [] us) e ∙ pass j (t ∷ []) ∙ ap (λ (b : Bool). if b then logical_from ts [] else concat ts ∷ []) h;
-        unjoined = ap (λ (us : List (List ℕ)). is_joinable (numbered_from 1 us)) e ∙ refuted (is_joinable (numbered_from 1 ts)) (λ g.
+        unjoined = ap (λ (us : List (List ℕ)). is_joinable (numbered_from 1 us)) e ∙ false_from_ne_true (is_joinable (numbered_from 1 ts)) (λ g.
             let r : true ≡ false = sym (ap is_empty q) ∙ (are_group (numbered_from 1 ts) (joinable (numbered_from 1 ts) g).spliced).1 in
             cc);
         stays = ap (λ (us : List (List ℕ)). left_texts table rules (read_in C (numbered_from 1 us))) e
-            ∙ last_stays table rules j t (ap (λ (x : List ℕ). not (is_spanning s) && not (is_empty x)) n ∙ and_false (not (is_spanning s)));
+            ∙ last_stays table rules j t (ap (λ (x : List ℕ). not (is_spanning s) && not (is_empty x)) n ∙ and-false (not (is_spanning s)));
       }
 
   at_end : (run : List (List ℕ)) → Joins run → AreFormed run → Logical (last_text run)
@@ -221,7 +210,7 @@ module _ (table : List Argument) (rules : Rules) where
     lone_joinable : (l : Line) → l.number ≡ 1 → IsTidy l → ending_of (text_of l) ≡ l.ending → joins (l ∷ []) ≡ false → IsJoinable (l ∷ [])
     lone_joinable l n t k h =
         let s : is_spliced l ≡ false = unspliced l (joins_after-code [] l ∙ h) in
-        let e : is_empty l.ending ≡ false = some_end l.ending t.ending in
+        let e : is_empty l.ending ≡ false = end_some l.ending t.ending in
         let i : one_line (l ∷ []) ≡ l = ap₂ (λ (b : List ℕ) (m : ℕ). record { body = b; ending = l.ending; number = m }) (append-nil (content l) ∙ content_by l false s) (sym n) in
         record {
           spliced = ap₂ (λ (a b : Bool). not a && not b) s e;
@@ -290,18 +279,18 @@ module _ (table : List Argument) (rules : Rules) where
   wholes n [] f a = tt
   wholes n (t ∷ []) (inl w) a = (w, tt)
   wholes n (t ∷ []) (inr u) a =
-      let p : not (is_empty (ending_of t)) ≡ true = (both_true (not (is_spliced (line_at n t))) (not (is_empty (ending_of t))) a).1 in
+      let p : not (is_empty (ending_of t)) ≡ true = (and_parts (not (is_spliced (line_at n t))) (not (is_empty (ending_of t))) a).1 in
       let q : false ≡ true = ap (λ (x : List ℕ). not (is_empty x)) (sym (no_end table rules t u.1 (an_end table rules t))) ∙ p in
       cc
-  wholes n (t ∷ v ∷ ts) f a = (f.0, wholes (suc n) (v ∷ ts) f.1 (both_true (is_spliced (line_at n t)) (are_spliced (numbered_from (suc n) (v ∷ ts))) a).1)
+  wholes n (t ∷ v ∷ ts) f a = (f.0, wholes (suc n) (v ∷ ts) f.1 (and_parts (is_spliced (line_at n t)) (are_spliced (numbered_from (suc n) (v ∷ ts))) a).1)
 
   abbrev IsSpliced : Line → Type 0
   IsSpliced l = is_spliced l ≡ true
 
   front_spliced : (xs : List Line) (l : Line) → are_spliced (xs ++ l ∷ []) ≡ true → Each IsSpliced xs
   front_spliced [] l a = tt
-  front_spliced (k ∷ []) l a = ((both_true (is_spliced k) (are_spliced (l ∷ [])) a).0, tt)
-  front_spliced (k ∷ m ∷ xs) l a = let p = both_true (is_spliced k) (are_spliced (m ∷ (xs ++ l ∷ []))) a in (p.0, front_spliced (m ∷ xs) l p.1)
+  front_spliced (k ∷ []) l a = ((and_parts (is_spliced k) (are_spliced (l ∷ [])) a).0, tt)
+  front_spliced (k ∷ m ∷ xs) l a = let p = and_parts (is_spliced k) (are_spliced (m ∷ (xs ++ l ∷ []))) a in (p.0, front_spliced (m ∷ xs) l p.1)
 
   joins_from : {run : List (List ℕ)} → ByPush run → Each IsSpliced (numbered_from 1 run) → Joins run
   joins_from nothing_pushed h = none
@@ -388,13 +377,13 @@ module _ (table : List Argument) (rules : Rules) where
       left = edited_text table rules here d
 
       alone : is_read_alone table rules whole_line d ≡ true
-      alone = (both_true (is_lone its_scan whole_line) (is_read_alone table rules whole_line d) m).1
+      alone = (and_parts (is_lone its_scan whole_line) (is_read_alone table rules whole_line d) m).1
 
       rest_keeps : keeps_ending rest ≡ true
-      rest_keeps = (both_true (keeps_ending rest) (is_read_back table rules whole_line d (scan_after_run [] rest)) alone).0
+      rest_keeps = (and_parts (keeps_ending rest) (is_read_back table rules whole_line d (scan_after_run [] rest)) alone).0
 
       rest_ends : (scan_after_run [] rest).joins_after ≡ false
-      rest_ends = by (scan_after_run [] rest).joins_after _ ((both_true (keeps_ending rest) (is_read_back table rules whole_line d (scan_after_run [] rest)) alone).1)
+      rest_ends = by (scan_after_run [] rest).joins_after _ (and_parts (keeps_ending rest) (is_read_back table rules whole_line d (scan_after_run [] rest)) alone).1
         where
           by : (a b : Bool) → (not a && b) ≡ true → a ≡ false
           by true b e = cc

@@ -1,7 +1,8 @@
 -- Simplified readings: line for line, a simplified text is read as the text, with the residuals of
 -- its conditions.
-use Rattle.std.proofs.Common.{◌≡◌, ◌≢◌, ℕ, List, [], ◌∷◌, ◌++◌, map, Bool, true, false, ◌||◌, refl, sym, ◌∙◌, ap, subst, ◌⊎◌, inl, inr, append-nil}
+use Rattle.std.proofs.Common.{◌≡◌, ◌≢◌, ℕ, List, [], ◌∷◌, ◌++◌, map, false, refl, sym, ◌∙◌, ap, subst, ◌⊎◌, inl, inr, append-nil}
 use Rattle.std.proofs.lemmas.List.{map-append, same_from_push}
+use Rattle.std.proofs.lemmas.Bool.{or_parts}
 use Rattle.ud_model.specs.text.Lines.{Line, lines_of, texts_of}
 use Rattle.ud_model.specs.text.Scans.{Scan, Reading}
 use Rattle.ud_model.specs.text.Splicing.{c_run_of}
@@ -65,14 +66,6 @@ ends_alike (other_line {before = before} {after = after} p l k s t) b =
 
 -- 2. Lines.
 
-pub alone_before : (a c : Bool) → (a || c) ≡ false → a ≡ false
-alone_before false c e = refl
-alone_before true c e = cc
-
-pub alone_after : (a c : Bool) → (a || c) ≡ false → c ≡ false
-alone_after false c e = e
-alone_after true c e = cc
-
 module _ (table : List Argument) (rules : Rules) where
   -- `s` is the reading of the edited line, which has the residual of the condition of `d`.
   pub record IsLeft (r s : Reading) (d : Directive) : Type 0 where
@@ -114,14 +107,14 @@ module _ (table : List Argument) (rules : Rules) where
   }
   next_by before after p l b _ q (it_changes d i) =
       let k : Line = left_line table rules l d in
-      let x : Begins before = b (alone_before (scan_after before C l).joins_before (scan_after before C l).joins_after i.lone) in
+      let x : Begins before = b (or_parts (scan_after before C l).joins_before (scan_after before C l).joins_after i.lone).0 in
       let y : Begins after = ends_alike p x in
       let e : scan_after before C l ≡ scan_after [] C l = scanned_alone before l x in
       record {
         reading = reading_edited d (record { edited = i; line = refl; simplified = q; before = e; after = scanned_alone after k y });
         alike =
             other_line p l k
-            (record { begins = x; alone = ap (λ (s : Scan). s.joins_after) (sym e) ∙ alone_after (scan_after before C l).joins_before (scan_after before C l).joins_after i.lone; has_ending = i.some })
+            (record { begins = x; alone = ap (λ (s : Scan). s.joins_after) (sym e) ∙ (or_parts (scan_after before C l).joins_before (scan_after before C l).joins_after i.lone).1; has_ending = i.some })
             (record { begins = y; alone = i.alone; has_ending = i.some });
       }
 

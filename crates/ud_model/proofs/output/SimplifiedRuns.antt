@@ -1,5 +1,6 @@
 -- Simplified runs: a run over the simplified output copies it.
 use Rattle.std.proofs.Common.{◌≡◌, ◌≢◌, ℕ, suc, ◌≤◌, max, List, [], ◌∷◌, ◌++◌, length, map, Bool, true, false, not, ◌&&◌, None, if◌then◌else◌, refl, sym, ◌∙◌, ap, ap₂, subst, arith}
+use Rattle.std.proofs.lemmas.Bool.{or_parts}
 use Rattle.ud_model.specs.text.Lines.{Line, text_of, lines_of}
 use Rattle.ud_model.specs.text.Scans.{Scan, Reading}
 use Rattle.ud_model.specs.text.Splicing.{is_spliced, spliced_text, spliced_part}
@@ -43,7 +44,7 @@ use Rattle.ud_model.proofs.output.SimplifiedLineTexts.{lines_left}
 use Rattle.ud_model.proofs.output.SimplifiedTree.{Like, GroupsLike, ElifsLike, simplified_tree}
 use Rattle.ud_model.proofs.output.InsertedTree.{items}
 use Rattle.ud_model.proofs.output.SimplifiedLines.{SameIf, both_if, both_elif, becomes, after_is}
-use Rattle.ud_model.proofs.output.SimplifiedReadings.{IsLeft, ReadingSimplified, reading_stays, reading_edited, alone_after, readings_simplified}
+use Rattle.ud_model.proofs.output.SimplifiedReadings.{IsLeft, ReadingSimplified, reading_stays, reading_edited, readings_simplified}
 use Rattle.ud_model.proofs.output.SimplifiedAgain.{lone}
 use Rattle.ud_model.proofs.output.SimplifiedBytes.{line_bytes}
 use Rattle.ud_model.proofs.output.OperandsLeft.{sub_fewer}
@@ -118,7 +119,7 @@ out_of_comment : (l : Line) → (scan_after_run [] l).joins_after ≡ false → 
 out_of_comment l h =
     ap is_in_block (comment-code l)
     ∙ no_block (is_spliced l) (kind_at_end (spliced_text [] ++ spliced_part l))
-    (alone_after (is_spliced l) (is_block (kind_at_end (spliced_text [] ++ spliced_part l))) (sym (joins_last [] l) ∙ sym (joins_after-code [] l) ∙ h))
+    (or_parts (is_spliced l) (is_block (kind_at_end (spliced_text [] ++ spliced_part l))) (sym (joins_last [] l) ∙ sym (joins_after-code [] l) ∙ h)).1
 
 module _ (table : List Argument) (rules : Rules) where
   uncut_left : (r s : Reading) → ReadingSimplified table rules r s → is_cut (content_of r.scan) ≡ false → is_cut (content_of s.scan) ≡ false

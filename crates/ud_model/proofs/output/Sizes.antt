@@ -5,6 +5,7 @@ use Rattle.std.specs.List.{concat}
 use Rattle.std.proofs.lemmas.List.{map-append}
 use Rattle.std.proofs.lemmas.List.Folds.{concat-append}
 use Rattle.std.proofs.lemmas.Slice.Eq.{bytes_eq-Decides}
+use Rattle.std.proofs.Math.Bool.{and_assoc}
 use Rattle.ud_model.specs.text.Lines.{text_of}
 use Rattle.ud_model.specs.answer.Printing.{Judged, some_other}
 
@@ -113,11 +114,8 @@ pub fits_all : (f : Judged → List ℕ) (js : List Judged) → ((j : Judged) �
 fits_all f [] h = fits_none f
 fits_all f (j ∷ js) h = fits-append f (j ∷ []) js (fits_one f j (h j)) (fits_all f js h)
 
-eq_true : (a b : List ℕ) → bytes_eq a b ≡ true → a ≡ b
-eq_true a b e = (bytes_eq-Decides a b).0 e
-
 unequal : (a b : List ℕ) → length a < length b → bytes_eq a b ≡ false
-unequal a b h = go (bytes_eq a b) (λ e. eq_true a b e)
+unequal a b h = go (bytes_eq a b) (λ e. (bytes_eq-Decides a b).0 e)
   where
     go : (t : Bool) → (t ≡ true → a ≡ b) → t ≡ false
     go false d = refl
@@ -133,11 +131,7 @@ none_other : (f : Judged → List ℕ) (js : List Judged) → some_other (map f 
 none_other f [] e = refl
 none_other f (j ∷ js) e =
     let s : (bytes_eq (f j) (whole j) ≡ true) × (some_other (map f js) js ≡ false) = or_false_parts (bytes_eq (f j) (whole j)) (some_other (map f js) js) e in
-    ap₂ (λ (a b : List ℕ). a ++ b) (eq_true (f j) (whole j) s.0) (none_other f js s.1)
-
-and_assoc : (a b c : Bool) → ((a && b) && c) ≡ (a && (b && c))
-and_assoc true b c = refl
-and_assoc false b c = refl
+    ap₂ (λ (a b : List ℕ). a ++ b) ((bytes_eq-Decides (f j) (whole j)).0 s.0) (none_other f js s.1)
 
 -- Texts are compared part by part, if the first parts have one length.
 bytes_eq-append : (a b c d : List ℕ) → length a ≡ length b → bytes_eq (a ++ c) (b ++ d) ≡ (bytes_eq a b && bytes_eq c d)

@@ -24,11 +24,11 @@ use Rattle.ud_model.proofs.sections.Unique.{grows}
 use Rattle.ud_model.proofs.sections.Stays.{marks_more, length_marks}
 use Rattle.ud_model.proofs.sections.Soundness.{reading_of-item_of, lines_with_next, sound_lines, one_run}
 use Rattle.ud_model.proofs.output.BlankedLineLemmas.{judged_read}
-use Rattle.ud_model.proofs.output.Changed.{judged_lines-append}
 use Rattle.ud_model.proofs.output.Each.{Pairs, no_pair, pair, pairs_both}
 use Rattle.ud_model.proofs.output.KeywordSizes.{HasSize, least, content_size}
 use Rattle.ud_model.proofs.output.SharedLineLemmas.{printed_lone}
 use Rattle.ud_model.proofs.output.StrictTrees.{LooserTree, none_open, loose_grows, loose_ignoring, text_mark, removed_loose}
+use Rattle.ud_model.proofs.answer.Onward.{judged_more}
 
 -- 1. One line more.
 
@@ -127,11 +127,11 @@ marked_more a b k an_endif h =
       keeps = record { line = refl; keyword = refl; text = λ e. absurd (omega (arith, e, h)) };
     }
 
-judged_more : (xs : List (Item Reading)) (t u : Tree Reading) (x : Item Reading) (m : Mark) → lines t ≡ xs → marks u ≡ marks t ++ m ∷ [] →
+judged_grown : (xs : List (Item Reading)) (t u : Tree Reading) (x : Item Reading) (m : Mark) → lines t ≡ xs → marks u ≡ marks t ++ m ∷ [] →
     judged_lines (xs ++ x ∷ []) (marks u) ≡ judged_lines xs (marks t) ++ judged_line x m ∷ []
-judged_more xs t u x m q e =
+judged_grown xs t u x m q e =
     ap (λ (ms : List Mark). judged_lines (xs ++ x ∷ []) ms) e
-    ∙ judged_lines-append xs (x ∷ []) (marks t) (m ∷ []) (sym (length_marks true t ∙ ap (λ (ys : List (Item Reading)). length ys) q))
+    ∙ judged_more xs (x ∷ []) (marks t) (m ∷ []) (sym (length_marks true t ∙ ap (λ (ys : List (Item Reading)). length ys) q))
 
 -- 2. As many lines with and without `-K`.
 
@@ -166,8 +166,8 @@ module _ (o : Options) where
         readings = map-append reading_of xs (x ∷ [])
             ∙ ap₂ (λ (zs : List Reading) (z : Reading). zs ++ z ∷ []) k.readings (reading_of-item_of with_k r ∙ e ∙ sym (reading_of-item_of o s))
             ∙ sym (map-append reading_of ys (y ∷ []));
-        judged = subst (λ (js : List Judged). Pairs KeepsAsMuch js (judged_lines (xs ++ x ∷ []) (marks t2))) (sym (judged_more ys u u2 y m.without (sound_lines b) m.marks_without))
-            (subst (λ (ks : List Judged). Pairs KeepsAsMuch (judged_lines ys (marks u) ++ judged_line y m.without ∷ []) ks) (sym (judged_more xs t t2 x m.with (sound_lines a) m.marks_with))
+        judged = subst (λ (js : List Judged). Pairs KeepsAsMuch js (judged_lines (xs ++ x ∷ []) (marks t2))) (sym (judged_grown ys u u2 y m.without (sound_lines b) m.marks_without))
+            (subst (λ (ks : List Judged). Pairs KeepsAsMuch (judged_lines ys (marks u) ++ judged_line y m.without ∷ []) ks) (sym (judged_grown xs t t2 x m.with (sound_lines a) m.marks_with))
             (pairs_both KeepsAsMuch k.judged (pair m.keeps no_pair)));
       }
 
@@ -209,7 +209,7 @@ front o ls (push {xs = ms} l p) _ _ (one_more ys u b k v d m) e =
       sound = f.sound;
       are = f.are;
       rest = f.rest ++ judged_line y n.0 ∷ [];
-      judged = judged_more ys u v y n.0 (sound_lines b) n.1 ∙ ap (λ (js : List Judged). js ++ judged_line y n.0 ∷ []) f.judged
+      judged = judged_grown ys u v y n.0 (sound_lines b) n.1 ∙ ap (λ (js : List Judged). js ++ judged_line y n.0 ∷ []) f.judged
           ∙ append_assoc (judged_lines f.items (marks f.tree)) f.rest (judged_line y n.0 ∷ []);
     }
 

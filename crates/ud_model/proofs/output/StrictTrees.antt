@@ -1,6 +1,7 @@
 -- The trees of a text with and without `-K`: the same sections are open, and a group that is kept
 -- without is kept with `-K`.
 use Rattle.std.proofs.Common.{◌≡◌, List, [], ◌∷◌, ◌++◌, Bool, true, false, not, ◌&&◌, ◌||◌, refl, sym, ◌∙◌, ap, ap₂, append_assoc}
+use Rattle.std.proofs.lemmas.Bool.{and_parts}
 use Rattle.ud_model.specs.text.Scans.{Reading}
 use Rattle.ud_model.specs.sections.Tree.{Item, Opener, Nodes, Elifs, Head, Tree, nothing, text, section, first, elif, if_head, elif_head, else_head, closed, open_section, text_line, opener_of_elifs, opener_of_head, is_ignoring}
 use Rattle.ud_model.specs.sections.Pruning.{Mark, marked, is_false, any_true, is_kept, is_inside_kept, conds_of_elifs, is_removed, marks}
@@ -99,16 +100,11 @@ abbrev pub kept_at_end : Bool → Tree Reading → Bool
 kept_at_end kept (closed ns) = kept
 kept_at_end kept (open_section ns h t) = kept_at_end (kept && is_inside_kept h) t
 
-two_parts : (a b : Bool) → (a && b) ≡ true → (a ≡ true) × (b ≡ true)
-two_parts true true e = (refl, refl)
-two_parts true false e = cc
-two_parts false b e = cc
-
 -- The end of a text that is kept without `-K` is kept with it.
 pub end_loose : {t u : Tree Reading} → LooserTree t u → (a b : Bool) → (b ≡ true → a ≡ true) → kept_at_end b u ≡ true → kept_at_end a t ≡ true
 end_loose none_open a b h e = h e
 end_loose (one_open {h = k} {k = l} s t) a b h e =
-    end_loose t (a && is_inside_kept k) (b && is_inside_kept l) (λ f. let q = two_parts b (is_inside_kept l) f in ap₂ (λ (x y : Bool). x && y) (h q.0) (inside_loose s q.1)) e
+    end_loose t (a && is_inside_kept k) (b && is_inside_kept l) (λ f. let q = and_parts b (is_inside_kept l) f in ap₂ (λ (x y : Bool). x && y) (h q.0) (inside_loose s q.1)) e
 
 -- 3. The mark of a text line.
 

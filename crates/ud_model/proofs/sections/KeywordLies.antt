@@ -1,19 +1,15 @@
 -- The position of a keyword is within the masked line, and so within the line's body.
 use Rattle.std.proofs.Common.{◌≡◌, ℕ, suc, ◌+◌, ◌≤◌, ◌==◌, List, [], ◌∷◌, length, Bool, true, false, Option, Some, None, if◌then◌else◌, refl, subst, arith}
-use Rattle.ud_model.specs.text.Bytes.{skip_white, leading_word, skip_word, is_white, is_word_byte}
+use Rattle.ud_model.specs.text.Bytes.{skip_white, leading_word, skip_word, is_word_byte}
 use Rattle.ud_model.specs.text.Scans.{Scan}
 use Rattle.ud_model.specs.sections.Directives.{Content, cut_keyword, directive, text, content_of, skip_white_and_hash, skip_hash, has_split_keyword, content_after_hash, directive_at, kind_of}
 use Rattle.ud_model.specs.answer.Printing.{keyword_in}
 use Rattle.ud_model.specs.declared.kind.Kind.{Kind}
+use Rattle.ud_model.proofs.text.ByteLemmas.{length-skip_white}
 
 white_one : (w : Bool) (b : ℕ) (bs rest : List ℕ) → length rest ≤ length bs → length (if w then rest else b ∷ bs) ≤ suc (length bs)
 white_one true b bs rest h = omega (arith, h)
 white_one false b bs rest h = omega arith
-
--- The rest after leading white space is no longer than the text.
-pub past_white_le : (t : List ℕ) → length (skip_white t) ≤ length t
-past_white_le [] = omega arith
-past_white_le (b ∷ bs) = white_one (is_white b) b bs (skip_white bs) (past_white_le bs)
 
 word_one : (w : Bool) (b : ℕ) (bs word rest : List ℕ) → length word + length rest ≡ length bs →
     length (if w then b ∷ word else []) + length (if w then rest else b ∷ bs) ≡ suc (length bs)
@@ -51,8 +47,8 @@ lies_fresh scan false rest k h = tt
 lies_behind : (scan : Scan) (sign : Option (List ℕ)) → skip_white_and_hash scan.masked ≡ sign → Lies (length scan.masked) (content_after_hash scan sign)
 lies_behind scan None e = tt
 lies_behind scan (Some rest) e =
-    let a = past_white_le rest in
-    let b = past_white_le scan.masked in
+    let a = length-skip_white rest in
+    let b = length-skip_white scan.masked in
     let c = sign_le (skip_white scan.masked) rest e in
     lies_fresh scan scan.fresh (skip_white rest) (kind_of (leading_word (skip_white rest))) (omega (arith, a, b, c))
 

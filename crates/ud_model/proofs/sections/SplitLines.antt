@@ -1,7 +1,7 @@
 -- The content of a line, by the parts of its masked line.
 use Rattle.std.proofs.Common.{◌≡◌, ◌≢◌, ℕ, suc, ◌+◌, ◌-◌, ◌==◌, List, [], ◌∷◌, ◌++◌, length, Bool, true, false, not, ◌&&◌, ◌||◌, Option, Some, None, if◌then◌else◌, bytes_eq, refl, sym, ◌∙◌, ap, ap₂, subst, append-nil, arith, length-append, eqb-true, ◌⊎◌, inl, inr}
 use Rattle.std.specs.Prelude.{◌↔◌}
-use Rattle.std.proofs.lemmas.Bool.{and_parts, not-true}
+use Rattle.std.proofs.lemmas.Bool.{and_parts, not-true, or_cases, or_right, and_from}
 use Rattle.std.proofs.lemmas.Slice.Eq.{bytes_eq-Decides}
 use Rattle.ud_model.specs.text.Bytes.{number_sign, slash, is_white, is_word_byte, are_white, are_word_bytes, skip_white, leading_word, skip_word}
 use Rattle.ud_model.specs.text.Scans.{Scan}
@@ -105,18 +105,6 @@ computed p masked h =
       rest = w.1;
     }
 
--- If one of two facts is true, the first or the second is.
-pub either : (a b : Bool) → (a || b) ≡ true → (a ≡ true) ⊎ (b ≡ true)
-either true b e = inl refl
-either false b e = inr e
-
-or_last : (a b : Bool) → b ≡ true → (a || b) ≡ true
-or_last true b e = refl
-or_last false b e = e
-
-and_both : (a b : Bool) → a ≡ true → b ≡ true → (a && b) ≡ true
-and_both a b e f = ap₂ (λ (x y : Bool). x && y) e f
-
 -- If all are word bytes, nothing is left after the longest word.
 no_rest : (word rest : List ℕ) → are_word_bytes (word ++ rest) ≡ true → first_is is_word_byte rest ≡ false → rest ≡ []
 no_rest [] [] h n = refl
@@ -137,7 +125,7 @@ module _ (scan : Scan) (p : DirectiveParts) where
   ends_by [] (b ∷ rest) e f h n m =
       let q : (is_continued_outside_comment scan ≡ true) × ((bytes_eq (b ∷ rest) (47 ∷ []) || is_keyword_prefix (b ∷ rest)) ≡ true) =
       and_parts (is_continued_outside_comment scan) (bytes_eq (b ∷ rest) (47 ∷ []) || is_keyword_prefix (b ∷ rest)) m in
-      by_case q.0 (either (bytes_eq (b ∷ rest) (47 ∷ [])) (is_keyword_prefix (b ∷ rest)) q.1)
+      by_case q.0 (or_cases (bytes_eq (b ∷ rest) (47 ∷ [])) (is_keyword_prefix (b ∷ rest)) q.1)
     where
       by_case : is_continued_outside_comment scan ≡ true → (bytes_eq (b ∷ rest) (47 ∷ []) ≡ true) ⊎ (is_keyword_prefix (b ∷ rest) ≡ true) → EndsInKeyword scan p
       by_case c (inl s) = slash_follows e (f ∙ (bytes_eq-Decides (b ∷ rest) (47 ∷ [])).0 s) c
@@ -146,7 +134,7 @@ module _ (scan : Scan) (p : DirectiveParts) where
   ends_by (b ∷ word) rest e f h n m =
       let q : (is_continued_outside_comment scan ≡ true) × ((bytes_eq (b ∷ (word ++ rest)) (47 ∷ []) || is_keyword_prefix (b ∷ (word ++ rest))) ≡ true) =
       and_parts (is_continued_outside_comment scan) (bytes_eq (b ∷ (word ++ rest)) (47 ∷ []) || is_keyword_prefix (b ∷ (word ++ rest))) m in
-      by_case q.0 (either (bytes_eq (b ∷ (word ++ rest)) (47 ∷ [])) (is_keyword_prefix (b ∷ (word ++ rest))) q.1)
+      by_case q.0 (or_cases (bytes_eq (b ∷ (word ++ rest)) (47 ∷ [])) (is_keyword_prefix (b ∷ (word ++ rest))) q.1)
     where
       by_case : is_continued_outside_comment scan ≡ true → (bytes_eq (b ∷ (word ++ rest)) (47 ∷ []) ≡ true) ⊎ (is_keyword_prefix (b ∷ (word ++ rest)) ≡ true) → EndsInKeyword scan p
       by_case c (inl s) =
@@ -165,8 +153,8 @@ module _ (scan : Scan) (p : DirectiveParts) where
   word_may : (word : List ℕ) → word ≢ [] → are_word_bytes word ≡ true → is_prefix_of_keyword word ≡ true → is_continued_outside_comment scan ≡ true → may_split_keyword scan word ≡ true
   word_may [] n h e c = absurd (n refl)
   word_may (b ∷ word) n h e c =
-      and_both (is_continued_outside_comment scan) (bytes_eq (b ∷ word) (47 ∷ []) || is_keyword_prefix (b ∷ word)) c
-      (or_last (bytes_eq (b ∷ word) (47 ∷ [])) (is_keyword_prefix (b ∷ word)) (and_both (are_word_bytes (b ∷ word)) (is_prefix_of_keyword (b ∷ word)) h e))
+      and_from (is_continued_outside_comment scan) (bytes_eq (b ∷ word) (47 ∷ []) || is_keyword_prefix (b ∷ word)) c
+      (or_right (bytes_eq (b ∷ word) (47 ∷ [])) (is_keyword_prefix (b ∷ word)) (and_from (are_word_bytes (b ∷ word)) (is_prefix_of_keyword (b ∷ word)) h e))
 
   from_ends : AreParts p scan.masked → EndsInKeyword scan p → may_split_keyword scan (p.word ++ p.rest) ≡ true
   from_ends h (nothing_follows e f) = ap₂ (λ (w r : List ℕ). may_split_keyword scan (w ++ r)) e f
@@ -178,9 +166,6 @@ module _ (scan : Scan) (p : DirectiveParts) where
   abbrev splits : Bool
   splits = scan.fresh && scan.joins_after && not (is_in_line scan.comment) && may_split_keyword scan (p.word ++ p.rest)
 
-  not-false_is : (t : Bool) → t ≡ false → not t ≡ true
-  not-false_is t e = ap not e
-
   to_split : AreParts p scan.masked → splits ≡ true → IsSplitKeyword scan p
   to_split h e =
       let a = and_parts (scan.fresh && scan.joins_after && not (is_in_line scan.comment)) (may_split_keyword scan (p.word ++ p.rest)) e in
@@ -190,8 +175,8 @@ module _ (scan : Scan) (p : DirectiveParts) where
 
   from_split : AreParts p scan.masked → IsSplitKeyword scan p → splits ≡ true
   from_split h s =
-      and_both (scan.fresh && scan.joins_after && not (is_in_line scan.comment)) (may_split_keyword scan (p.word ++ p.rest))
-      (and_both (scan.fresh && scan.joins_after) (not (is_in_line scan.comment)) (and_both scan.fresh scan.joins_after s.fresh s.joins) (ap not s.no_line_comment))
+      and_from (scan.fresh && scan.joins_after && not (is_in_line scan.comment)) (may_split_keyword scan (p.word ++ p.rest))
+      (and_from (scan.fresh && scan.joins_after) (not (is_in_line scan.comment)) (and_from scan.fresh scan.joins_after s.fresh s.joins) (ap not s.no_line_comment))
       (from_ends h s.ends)
 
   -- The content of a line with these parts, by three choices.

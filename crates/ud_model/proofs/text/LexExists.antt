@@ -1,14 +1,10 @@
 -- Lexemes: each text has some.
 use Rattle.std.proofs.Common.{◌≡◌, ◌≢◌, ℕ, zero, suc, ◌+◌, ◌≤◌, ◌==◌, List, [], ◌∷◌, ◌++◌, length, Bool, true, false, ◌&&◌, ◌||◌, ◌⊎◌, inl, inr, refl, sym, ◌∙◌, ap, ap₂, subst, append_assoc, append-nil, arith, length-append}
-use Rattle.std.proofs.lemmas.Bool.{eqb-true, cases_eq}
+use Rattle.std.proofs.lemmas.Bool.{eqb-true, cases_eq, and_parts}
 use Rattle.ud_model.specs.text.Bytes.{slash, star, backslash, is_quote, starts_with_byte}
 use Rattle.ud_model.specs.text.Lines.{NoNewline}
 use Rattle.ud_model.specs.text.Lexemes.{LexemeKind, block_comment, line_comment, literal, single, Lexeme, NoClose, IsLineEnd, IsLiteralBody, nothing, plain, passed, IsLexeme, closed_comment, open_comment, to_line_end, closed_literal, open_literal, open_at_backslash, single_byte, AreLexemes}
 use Rattle.ud_model.proofs.text.LexLemmas.{some_bytes}
-
-true_parts : (a b : Bool) → (a && b) ≡ true → (a ≡ true) × (b ≡ true)
-true_parts true b e = (refl, e)
-true_parts false b e = cc
 
 -- A text that begins with this byte is the byte and the rest.
 begins_is : (b : ℕ) (u : List ℕ) → starts_with_byte b u ≡ true → (rest : List ℕ) × (u ≡ b ∷ rest)
@@ -30,7 +26,7 @@ comment_end (a ∷ u) = by_close ((a == star) && starts_with_byte slash u) refl 
   where
     by_close : (t : Bool) → ((a == star) && starts_with_byte slash u) ≡ t → CommentEnd u → CommentEnd (a ∷ u)
     by_close true e later =
-        let p : ((a == star) ≡ true) × (starts_with_byte slash u ≡ true) = true_parts (a == star) (starts_with_byte slash u) e in
+        let p : ((a == star) ≡ true) × (starts_with_byte slash u ≡ true) = and_parts (a == star) (starts_with_byte slash u) e in
         let b : (rest : List ℕ) × (u ≡ slash ∷ rest) = begins_is slash u p.1 in
         closes [] b.0 (ap₂ (λ (n : ℕ) (l : List ℕ). n ∷ l) (eqb-true a star p.0) b.1) (refl, tt)
     by_close false e (runs_on n) = runs_on (e, n)

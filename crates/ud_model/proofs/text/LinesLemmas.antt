@@ -6,7 +6,7 @@ use Rattle.std.proofs.lemmas.Bool.{cases_eq}
 use Rattle.std.proofs.lemmas.Bool.Decides.{Decides-eqb}
 use Rattle.std.proofs.lemmas.Slice.Eq.{ends_is}
 pub use Rattle.ud_model.specs.text.Lines.{AreWhole}
-use Rattle.ud_model.specs.text.Lines.{NoNewline, IsWhole, AreFormed, AreLines, SplitLines, AreSplitLines, prepend_byte, prepend_to_first, split_lines, whole_lines, partial_line, last_line, texts_of, ending_of, is_ending, Line, text_of, line_at, numbered_from, lines_of}
+use Rattle.ud_model.specs.text.Lines.{NoNewline, IsWhole, AreFormed, AreLines, SplitLines, AreSplitLines, prepend_byte, prepend_to_first, split_lines, whole_lines, partial_line, last_line, texts_of, ending_of, Line, text_of, line_at, numbered_from, lines_of}
 
 -- A byte that isn't a newline goes before the first part.
 pub prepend_byte-other : (b : ℕ) (p : SplitLines) → b ≢ 10 → prepend_byte b p ≡ prepend_to_first b p.whole p.rest

@@ -79,7 +79,7 @@ ended in_line e = (refl, λ white. refl)
 ended (in_literal q) e = (refl, λ white. refl)
 ended (at_backslash q) e = (refl, λ white. refl)
 
-not_empty : (bytes : List ℕ) → bytes ≢ [] → is_empty bytes ≡ false
+pub not_empty : (bytes : List ℕ) → bytes ≢ [] → is_empty bytes ≡ false
 not_empty [] some = absurd (some refl)
 not_empty (b ∷ bytes) some = ne_eqb (length (b ∷ bytes)) 0 (λ e. omega arith)
 

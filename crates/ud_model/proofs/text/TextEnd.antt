@@ -1,6 +1,7 @@
 -- The end of a text lies in its last lexeme, if that is open.
-use Rattle.std.proofs.Common.{◌≡◌, ◌≢◌, ℕ, ◌==◌, List, [], ◌∷◌, ◌++◌, Bool, true, false, ◌&&◌, ◌||◌, ◌⊎◌, inl, inr, refl, sym, ◌∙◌, ap, ap₂, subst, append_assoc, append-nil, arith}
+use Rattle.std.proofs.Common.{◌≡◌, ◌≢◌, ℕ, ◌==◌, List, [], ◌∷◌, ◌++◌, Bool, true, false, ◌||◌, ◌⊎◌, inl, inr, refl, sym, ◌∙◌, ap, ap₂, subst, append_assoc, append-nil, arith}
 use Rattle.std.specs.Prelude.{◌↔◌}
+use Rattle.std.proofs.Math.Bool.{and-false}
 use Rattle.ud_model.specs.text.Bytes.{newline, slash, star, backslash, space, is_quote}
 use Rattle.ud_model.specs.text.Lines.{Line, NoNewline}
 use Rattle.ud_model.specs.text.Scans.{Reading}
@@ -42,11 +43,7 @@ behind_piece before k bytes rest p =
 
 not_close_spaced : (inside : List ℕ) → NoClose inside → NoClose (spaced inside)
 not_close_spaced [] n = (refl, tt)
-not_close_spaced (a ∷ []) n = (by_star (a == star), (refl, tt))
-  where
-    by_star : (t : Bool) → (t && false) ≡ false
-    by_star true = refl
-    by_star false = refl
+not_close_spaced (a ∷ []) n = (and-false (a == star), (refl, tt))
 not_close_spaced (a ∷ b ∷ inside) n = (n.0, not_close_spaced (b ∷ inside) n.1)
 
 no_newline_space : space ≢ newline
@@ -94,11 +91,7 @@ ends bytes (to_line_end inside e n at_end) = is_open (each_line_comment inside e
 ends bytes (closed_literal q inside h e i) = has_ended (closed_literal q inside h e i)
 ends bytes (open_literal q inside h e i at_end) = is_open (unclosed_literal q inside h e i)
 ends bytes (open_at_backslash q inside h e i at_end) = is_open (unclosed_at_backslash q inside h e i)
-ends bytes (single_byte b e h f) = has_ended (single_byte b e h (by_slash (b == slash)))
-  where
-    by_slash : (t : Bool) → (t && false) ≡ false
-    by_slash true = refl
-    by_slash false = refl
+ends bytes (single_byte b e h f) = has_ended (single_byte b e h (and-false (b == slash)))
 
 -- A lexeme before another one stays if the text goes on.
 stays : {k : LexemeKind} (bytes : List ℕ) (b : ℕ) (rest more : List ℕ) → IsLexeme bytes (b ∷ rest) k → IsLexeme bytes (b ∷ rest ++ more) k
