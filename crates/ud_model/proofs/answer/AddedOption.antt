@@ -61,9 +61,8 @@ waits_same n m (c ∷ cs) = go (is_flag c) (takes_argument c) (waits_same n m cs
     go : (f t : Bool) → (letters_give n cs).waits ≡ (letters_give m cs).waits →
         (if f then then_gives (flag c) (letters_give n cs) else if t then option_gives c n cs else then_gives (unknown c) (letters_give n cs)).waits
         ≡ (if f then then_gives (flag c) (letters_give m cs) else if t then option_gives c m cs else then_gives (unknown c) (letters_give m cs)).waits
-    go true t e = e
     go false true e = by_rest cs
-    go false false e = e
+    go _ _ e = e
 
 -- what these arguments give from the place n on, and then come the arguments after them
 pub record Splits (n : ℕ) (before : List (List ℕ)) : Type 0 where

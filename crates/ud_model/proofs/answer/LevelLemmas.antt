@@ -11,21 +11,17 @@ module _ {L : Type 0} where
   -- group.
   levels-complete : (n : ℕ) (h : Head L) (b : Nodes L) → levels_of_groups n (complete h b) ≡ levels_of_head n h ++ levels_of_nodes (suc n) b
   levels-complete n (if_head o) b = refl
-  levels-complete n (elif_head es o) b = refl
-  levels-complete n (else_head es l) b = refl
+  levels-complete n _ _ = refl
 
   -- One more line has one more level.
   levels_add : (n : ℕ) {t u : Tree L} {x : Item L} → Adds t x u → (k : ℕ) × (levels_from n u ≡ levels_from n t ++ k ∷ [])
   levels_add n adds_text = (n, refl)
   levels_add n adds_if = (n, simp append-nil)
-  levels_add n elif_after_if = (n, simp (append-nil, append_assoc))
-  levels_add n elif_after_elif = (n, simp (append-nil, append_assoc))
-  levels_add n else_after_if = (n, simp (append-nil, append_assoc))
-  levels_add n else_after_elif = (n, simp (append-nil, append_assoc))
   levels_add n (adds_endif {b = b} {h = h}) = (n, rw (levels-complete n h b) simp append_assoc)
   levels_add n (adds_under {h = h} {t = t} {u = u} a) =
       let m : (k : ℕ) × (levels_from (suc n) u ≡ levels_from (suc n) t ++ k ∷ []) = levels_add (suc n) a in
       (m.0, rw m.1 simp append_assoc)
+  levels_add n _ = (n, simp (append-nil, append_assoc))
 
   length_by : {xs : List (Item L)} → ByPush xs → (n : ℕ) (t : Tree L) → lines t ≡ xs → length (levels_from n t) ≡ length xs
   length_by none n t e = rw (unique t (closed nothing) e)

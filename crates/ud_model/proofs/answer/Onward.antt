@@ -118,9 +118,8 @@ read_so_far_lines (goes_on xs t h n) = sound_lines h.sound
 pub judged_more : (xs ys : List (Item Reading)) (ms ns : List Mark) → length xs ≡ length ms →
     judged_lines (xs ++ ys) (ms ++ ns) ≡ judged_lines xs ms ++ judged_lines ys ns
 judged_more [] ys [] ns e = refl
-judged_more [] ys (m ∷ ms) ns e = absurd (omega arith)
-judged_more (x ∷ xs) ys [] ns e = absurd (omega arith)
 judged_more (x ∷ xs) ys (m ∷ ms) ns e = ap (λ (js : List Judged). judged_line x m ∷ js) (judged_more xs ys ms ns (omega arith))
+judged_more xs ys ms ns e = absurd (omega arith)
 
 -- Lines with as many marks are all judged lines.
 pub judged_all : (xs : List (Item Reading)) (ms : List Mark) → length ms ≡ length xs → map (λ (j : Judged). j.line) (judged_lines xs ms) ≡ map line_of xs
@@ -132,11 +131,10 @@ judged_all (x ∷ xs) (m ∷ ms) e = ap (λ (ls : List Line). line_of x ∷ ls) 
 listed_more : (d : Bool) (xs ys : List (Item Reading)) (ns ks : List ℕ) → length xs ≡ length ns →
     listed d (xs ++ ys) (ns ++ ks) ≡ listed d xs ns ++ listed d ys ks
 listed_more d [] ys [] ks e = refl
-listed_more d [] ys (n ∷ ns) ks e = absurd (omega arith)
-listed_more d (x ∷ xs) ys [] ks e = absurd (omega arith)
 listed_more d (x ∷ xs) ys (n ∷ ns) ks e =
     ap (λ (r : List ℕ). listed_names (depth_prefix d n) (names_at x) ++ r) (listed_more d xs ys ns ks (omega arith))
     ∙ sym (append_assoc (listed_names (depth_prefix d n) (names_at x)) (listed d xs ns) (listed d ys ks))
+listed_more d xs ys ns ks e = absurd (omega arith)
 
 -- The pieces of lines and further ones.
 pub pieces_by-append : (piece : List Judged → Judged → List ℕ) (before js ks : List Judged) →

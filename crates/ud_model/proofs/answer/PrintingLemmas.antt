@@ -9,9 +9,8 @@ use Rattle.ud_model.specs.answer.Printing.{Judged, last_removed, pieces_by, some
 
 -- After one more line, the last one is removed if that line is.
 pub last_removed-more : (js : List Judged) (j : Judged) → last_removed (js ++ j ∷ []) ≡ is_removed j.verdict
-last_removed-more [] j = refl
-last_removed-more (k ∷ []) j = refl
 last_removed-more (k ∷ l ∷ js) j = last_removed-more (l ∷ js) j
+last_removed-more _ _ = refl
 
 -- A line after others adds its piece after theirs.
 pub pieces_by-more : (piece : List Judged → Judged → List ℕ) (before js : List Judged) (j : Judged) →

@@ -135,19 +135,12 @@ no_fault_same (an_option c n m a {gs} {hs} k) e =
     let both : (argument_fault c n a ≡ None) × (first_fault gs ≡ None) = both_none (argument_fault c n a) (first_fault gs) e in
     none_of_both (argument_fault c m a) (first_fault hs) (argument_right c n m a both.0) (no_fault_same k both.1)
 no_fault_same (an_operand n m w none) e = refl
-no_fault_same (an_operand n m w (a_flag c k)) e = e
-no_fault_same (an_operand n m w (an_option c i j a k)) e = e
-no_fault_same (an_operand n m w (an_operand i j v k)) e = e
-no_fault_same (an_operand n m w (an_unknown c k)) e = e
-no_fault_same (an_operand n m w (a_lacking c k)) e = e
-no_fault_same (an_unknown c k) e = e
-no_fault_same (a_lacking c k) e = e
+no_fault_same _ e = e
 
 -- messages call the input by the same name
 pub name_same : {gs hs : List ParsedArg} → Same gs hs → name_or_stdin (operand_in gs) ≡ name_or_stdin (operand_in hs)
-name_same none = refl
 name_same (a_flag c k) = name_same k
 name_same (an_option c n m a k) = name_same k
-name_same (an_operand n m w k) = refl
 name_same (an_unknown c k) = name_same k
 name_same (a_lacking c k) = name_same k
+name_same _ = refl

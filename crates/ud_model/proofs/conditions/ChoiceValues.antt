@@ -16,10 +16,9 @@ abbrev Keeps : Option ℤ → Option ℤ → Type 0
 Keeps a b = (z : ℤ) → a ≡ Some z → b ≡ Some z
 
 fits_less : (u v : Bool) (z : ℤ) → (v ≡ true → u ≡ true) → fits u z ≡ true → fits v z ≡ true
-fits_less u v (pos n) h e = e
 fits_less true v (negsuc n) h e = absurd (false≢true e)
 fits_less false true (negsuc n) h e = absurd (false≢true (h refl))
-fits_less false false (negsuc n) h e = e
+fits_less _ _ _ _ e = e
 
 fit_less : (u v : Bool) (k : ℤ) → (v ≡ true → u ≡ true) → Keeps (fit u k) (fit v k)
 fit_less u v k h z e = by (fits u k) refl e

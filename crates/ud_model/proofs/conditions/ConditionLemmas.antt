@@ -36,12 +36,11 @@ module _ (t u : List Argument) (same : SaySame t u) where
   number_of_same strict b (parens x) = number_of_same strict b x
 
   pub has_unsigned_same : (e : Expression) → has_unsigned t e ≡ has_unsigned u e
-  has_unsigned_same (constant w) = refl
   has_unsigned_same (named n a) = name_has_u_same n
-  has_unsigned_same (is_defined n p) = refl
   has_unsigned_same (unary o x) = has_unsigned_same x
   has_unsigned_same (binary o x y) = ap₂ (λ (a : Bool) (b : Bool). a || b) (has_unsigned_same x) (has_unsigned_same y)
   has_unsigned_same (parens x) = has_unsigned_same x
+  has_unsigned_same _ = refl
 
   -- A listed name is in a tree by both tables or by none.
   pub names_listed_same : (e : Expression) → mentions_listed t e ≡ mentions_listed u e
@@ -54,12 +53,11 @@ module _ (t u : List Argument) (same : SaySame t u) where
 
   -- An undefined name with arguments is in a tree by both tables or by none.
   pub calls_undefined_same : (e : Expression) → calls_undefined t e ≡ calls_undefined u e
-  calls_undefined_same (constant w) = refl
   calls_undefined_same (named n a) = ap (λ (o : Option Entry). a && undefined_by o) (same n)
-  calls_undefined_same (is_defined n p) = refl
   calls_undefined_same (unary o x) = calls_undefined_same x
   calls_undefined_same (binary o x y) = ap₂ (λ (a : Bool) (b : Bool). a || b) (calls_undefined_same x) (calls_undefined_same y)
   calls_undefined_same (parens x) = calls_undefined_same x
+  calls_undefined_same _ = refl
 
   pub value_of_same : (strict : Bool) (e : Expression) → value_of t strict e ≡ value_of u strict e
   value_of_same strict e = ap (λ (b : Bool). number_of t strict b e) (has_unsigned_same e) ∙ number_of_same strict (has_unsigned u e) e

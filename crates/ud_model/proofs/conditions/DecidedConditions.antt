@@ -89,13 +89,11 @@ by_name None table e = refl
 by_name (Some n) table e = by_entry (entry_in table n) e
 
 pub negated_unknown : (c : Cond) → negate c ≡ Unknown → c ≡ Unknown
-negated_unknown Yes e = cc
-negated_unknown No e = cc
 negated_unknown Unknown e = refl
+negated_unknown _ e = cc
 
 -- A condition that is unknown makes no section plain text.
 pub unknown_heeds : (p : Test) (after : List ℕ) (table : List Argument) (rules : Rules) → (decision_by_test p after table rules).cond ≡ Unknown → (decision_by_test p after table rules).ignoring ≡ false
-unknown_heeds Nonzero after table rules e = refl
 unknown_heeds Defined after table rules e = by_name (sole_name after) table e
 unknown_heeds Undefined after table rules e = by_name (sole_name after) table (negated_unknown (ifdef_decision (sole_name after) table).cond e)
-unknown_heeds Nothing after table rules e = refl
+unknown_heeds _ _ _ _ _ = refl

@@ -14,21 +14,18 @@ use Rattle.ud_model.specs.declared.operator.Operator.TheVariants.{Or, And, Not}
 abbrev pub SameLength : {A B : Type 0} → List A → List B → Type 0
 SameLength [] [] = Unit {0}
 SameLength (x ∷ xs) (y ∷ ys) = SameLength xs ys
-SameLength [] (y ∷ ys) = ⊥
-SameLength (x ∷ xs) [] = ⊥
+SameLength _ _ = ⊥
 
 chosen_both : {A : Type 0} (fs gs : List Bool) (xs ys : List A) → SameLength fs xs → chosen (fs ++ gs) (xs ++ ys) ≡ chosen fs xs ++ chosen gs ys
 chosen_both [] gs [] ys h = refl
 chosen_both (true ∷ fs) gs (x ∷ xs) ys h = ap (λ zs. x ∷ zs) (chosen_both fs gs xs ys h)
 chosen_both (false ∷ fs) gs (x ∷ xs) ys h = chosen_both fs gs xs ys h
-chosen_both [] gs (x ∷ xs) ys h = absurd h
-chosen_both (f ∷ fs) gs [] ys h = absurd h
+chosen_both _ _ _ _ h = absurd h
 
 same_both : {A : Type 0} (fs gs : List Bool) (xs ys : List A) → SameLength fs xs → SameLength gs ys → SameLength (fs ++ gs) (xs ++ ys)
 same_both [] gs [] ys h k = k
 same_both (f ∷ fs) gs (x ∷ xs) ys h k = same_both fs gs xs ys h k
-same_both [] gs (x ∷ xs) ys h k = absurd h
-same_both (f ∷ fs) gs [] ys h k = absurd h
+same_both _ _ _ _ h _ = absurd h
 
 same_all : {A : Type 0} (f : Bool) (xs : List A) → SameLength (map (λ t. f) xs) xs
 same_all f [] = tt

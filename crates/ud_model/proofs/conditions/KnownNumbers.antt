@@ -94,9 +94,8 @@ negsuc_same a b e = let q : suc a ≡ suc b = ap unsigned_abs e in omega arith
 -- The test for equal numbers decides.
 pub same_decides : (a b : ℤ) → Decides (equal_numbers a b) (a ≡ b)
 same_decides (pos a) (pos b) = like_decides (leb a b && leb b a) (λ e. ap pos e) (pos_same a b) (both_ways a b)
-same_decides (pos a) (negsuc b) = ((λ e. absurd (false≢true e)), λ h. cc)
-same_decides (negsuc a) (pos b) = ((λ e. absurd (false≢true e)), λ h. cc)
 same_decides (negsuc a) (negsuc b) = like_decides (leb b a && leb a b) (λ e. ap negsuc (sym e)) (λ h. sym (negsuc_same a b h)) (both_ways b a)
+same_decides _ _ = ((λ e. absurd (false≢true e)), λ h. cc)
 
 divided : (b : Bool) (o : Option ℤ) (n : ℤ) → (if b then None else o) ≡ Some n → o ≡ Some n
 divided true o n e = absurd (none-some n e)
@@ -109,8 +108,6 @@ in_range false o n e = absurd (none-some n e)
 -- The case of two known operands of intmax_t.
 pub signed_agrees : (u : Bool) (o : Operator) (a b n : ℤ) (c : Number) → apply_binary_known u o a b ≡ Some n → GivesSigned o a b c → Agrees u n c
 unfolding apply_binary_known
-signed_agrees u Or a b n c e g = absurd g
-signed_agrees u And a b n c e g = absurd g
 signed_agrees u BitOr a b n c e g = as_signed u n c _ g (fit_is u _ n e)
 signed_agrees u BitXor a b n c e g = as_signed u n c _ g (fit_is u _ n e)
 signed_agrees u BitAnd a b n c e g = as_signed u n c _ g (fit_is u _ n e)
@@ -125,8 +122,7 @@ signed_agrees u Minus a b n c e g = as_signed u n c _ g.1 (fit_is u _ n e)
 signed_agrees u Times a b n c e g = as_signed u n c _ g.1 (fit_is u _ n e)
 signed_agrees u Over a b n c e g = as_signed u n c _ g.1.1 (fit_is u _ n (divided (is_zero b) _ n e))
 signed_agrees u Remainder a b n c e g = as_signed u n c _ g.2 (fit_is u _ n (in_range (fits u (int_div a b)) _ n (divided (is_zero b) _ n e)))
-signed_agrees u Not a b n c e g = absurd g
-signed_agrees u Complement a b n c e g = absurd g
+signed_agrees _ _ _ _ n _ _ g = absurd g
 
 -- A number in range beside a `u` is from 0 to 2^63-1.
 nat_fits : (a : ℕ) (n : ℤ) → pos a ≡ n → fits true n ≡ true → a < 2 ^ 63
@@ -166,8 +162,6 @@ minus_known a (suc k) n c l e g = sub_known (ltb a (suc k)) a k n c refl g e l
 pub unsigned_agrees : (o : Operator) (a b : ℕ) (n : ℤ) (c : Number) → a < 2 ^ 63 → b < 2 ^ 63 → apply_binary_known true o (pos a) (pos b) ≡ Some n → GivesUnsigned o a b c →
     Agrees true n c
 unfolding apply_binary_known
-unsigned_agrees Or a b n c k l e g = absurd g
-unsigned_agrees And a b n c k l e g = absurd g
 unsigned_agrees BitOr a b n c k l e g = as_natural n c (bit_or a b) g (bits_known (bit_or a b) n (or_lt 63 a b k l) e)
 unsigned_agrees BitXor a b n c k l e g = as_natural n c (bit_xor a b) g (bits_known (bit_xor a b) n (xor_lt 63 a b k l) e)
 unsigned_agrees BitAnd a b n c k l e g =
@@ -186,8 +180,7 @@ unsigned_agrees Times a b n c k l e g =
 unsigned_agrees Over a b n c k l e g = as_natural n c (a / b) g.1 (fit_is true (pos (a / b)) n (divided (nat_eq b 0) _ n e))
 unsigned_agrees Remainder a b n c k l e g =
     as_natural n c (a % b) g.1 (fit_is true (pos (a % b)) n (in_range (fits true (pos (a / b))) _ n (divided (nat_eq b 0) _ n e)))
-unsigned_agrees Not a b n c k l e g = absurd g
-unsigned_agrees Complement a b n c k l e g = absurd g
+unsigned_agrees _ _ _ n _ _ _ _ g = absurd g
 
 -- A known number beside a `u` is one of uintmax_t.
 natural_of : (a : ℤ) → fits true a ≡ true → (j : ℕ) × (a ≡ pos j) × (j < 2 ^ 63)

@@ -67,14 +67,13 @@ module _ (t u : List Argument) where
   number_of_alike strict b (parens x) h = number_of_alike strict b x h
 
   has_unsigned_alike : (e : Expression) → Each Alike (names_in e) → has_unsigned t e ≡ has_unsigned u e
-  has_unsigned_alike (constant w) h = refl
   has_unsigned_alike (named n a) h = name_has_u_alike n h.0
-  has_unsigned_alike (is_defined n p) h = refl
   has_unsigned_alike (unary o x) h = has_unsigned_alike x h
   has_unsigned_alike (binary o x y) h =
       let p : Each Alike (names_in x) × Each Alike (names_in y) = each_parts Alike (names_in x) (names_in y) h in
       ap₂ (λ (a : Bool) (b : Bool). a || b) (has_unsigned_alike x p.0) (has_unsigned_alike y p.1)
   has_unsigned_alike (parens x) h = has_unsigned_alike x h
+  has_unsigned_alike _ _ = refl
 
   names_listed_alike : (e : Expression) → Each Alike (names_in e) → mentions_listed t e ≡ mentions_listed u e
   names_listed_alike (constant w) h = refl
@@ -87,14 +86,13 @@ module _ (t u : List Argument) where
   names_listed_alike (parens x) h = names_listed_alike x h
 
   calls_undefined_alike : (e : Expression) → Each Alike (names_in e) → calls_undefined t e ≡ calls_undefined u e
-  calls_undefined_alike (constant w) h = refl
   calls_undefined_alike (named n a) h = ap (λ (o : Option Entry). a && undefined_by o) (h.0 n (itself n))
-  calls_undefined_alike (is_defined n p) h = refl
   calls_undefined_alike (unary o x) h = calls_undefined_alike x h
   calls_undefined_alike (binary o x y) h =
       let p : Each Alike (names_in x) × Each Alike (names_in y) = each_parts Alike (names_in x) (names_in y) h in
       ap₂ (λ (a : Bool) (b : Bool). a || b) (calls_undefined_alike x p.0) (calls_undefined_alike y p.1)
   calls_undefined_alike (parens x) h = calls_undefined_alike x h
+  calls_undefined_alike _ _ = refl
 
   value_of_alike : (strict : Bool) (e : Expression) → Each Alike (names_in e) → value_of t strict e ≡ value_of u strict e
   value_of_alike strict e h = ap (λ (b : Bool). number_of t strict b e) (has_unsigned_alike e h) ∙ number_of_alike strict (has_unsigned u e) e h
@@ -139,8 +137,7 @@ module _ (t u : List Argument) where
 module _ (o p : Options) (same : rules_of o.settings ≡ rules_of p.settings) where
   -- A line is the same item if the tables agree on its names.
   pub item_alike : (r : Reading) (c : Content) → Each (Alike o.table p.table) (names_in_content c) → item_by o r c ≡ item_by p r c
-  item_alike r cut_keyword h = refl
-  item_alike r text h = refl
   item_alike r (directive d) h =
       ap (λ (e : Decision). directive_item r (role_of d.kind) e)
       (decision_alike o.table p.table r.scan d (rules_of o.settings) h ∙ ap (λ (q : Rules). decision_on r.scan d p.table q) same)
+  item_alike _ _ _ = refl

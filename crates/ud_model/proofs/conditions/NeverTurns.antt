@@ -61,29 +61,14 @@ operate_after b c Over x y = unless_after (is_zero y) (fit b (int_div x y)) (fit
 operate_after b c Remainder x y =
     unless_after (is_zero y) (if fits b (int_div x y) then fit b (int_rem x y) else None) (if fits c (int_div x y) then fit c (int_rem x y) else None)
     (when_after (fits b (int_div x y)) (fits c (int_div x y)) (fit b (int_rem x y)) (fit c (int_rem x y)) (fit_after b c (int_rem x y)))
-operate_after b c Not x y = same_after None
-operate_after b c Complement x y = same_after None
+operate_after _ _ _ _ _ = same_after None
 
 change_after : (b c : Bool) (o : Operator) (x : ℤ) → After (apply_unary_known b o x) (apply_unary_known c o x)
 unfolding apply_unary_known
-change_after b c Or x = same_after None
-change_after b c And x = same_after None
-change_after b c BitOr x = same_after None
-change_after b c BitXor x = same_after None
-change_after b c BitAnd x = same_after None
-change_after b c Equal x = same_after None
-change_after b c NotEqual x = same_after None
-change_after b c Less x = same_after None
-change_after b c LessEqual x = same_after None
-change_after b c Greater x = same_after None
-change_after b c GreaterEqual x = same_after None
-change_after b c Plus x = same_after None
 change_after b c Minus x = fit_after b c (neg_ℤ x)
-change_after b c Times x = same_after None
-change_after b c Over x = same_after None
-change_after b c Remainder x = same_after None
 change_after b c Not x = same_after (apply_unary_known b Not x)
 change_after b c Complement x = fit_after b c (neg_ℤ x -ℤ pos 1)
+change_after _ _ _ _ = same_after None
 
 alter_after : (b c : Bool) (o : Operator) (x y : Option ℤ) → After x y → After (apply_unary b o x) (apply_unary c o y)
 alter_after b c o None y h z e = absurd (none-some z e)
@@ -130,22 +115,7 @@ or_by x false e = or_some e
 decided_is : (o : Operator) (x : ℤ) → Decides o x (short_circuit o x)
 decided_is And x = and_by x (is_zero x) refl
 decided_is Or x = or_by x (is_zero x) refl
-decided_is BitOr x = by_none
-decided_is BitXor x = by_none
-decided_is BitAnd x = by_none
-decided_is Equal x = by_none
-decided_is NotEqual x = by_none
-decided_is Less x = by_none
-decided_is LessEqual x = by_none
-decided_is Greater x = by_none
-decided_is GreaterEqual x = by_none
-decided_is Plus x = by_none
-decided_is Minus x = by_none
-decided_is Times x = by_none
-decided_is Over x = by_none
-decided_is Remainder x = by_none
-decided_is Not x = by_none
-decided_is Complement x = by_none
+decided_is _ _ = by_none
 
 decides_is : (s : Bool) (o : Operator) (x : ℤ) → Decides o x (short_circuits s o x)
 decides_is true o x = by_none
@@ -183,10 +153,9 @@ right_back b _ x y _ (or_some h) = back (Some (pos 1)) (apply_binary_known b Or 
 -- Two operands that decide give the same value.
 two_decide : (o : Operator) (x y : ℤ) (d e : Option ℤ) → Decides o x d → Decides o y e → After d e
 two_decide o x y _ _ by_none k z f = absurd (none-some z f)
-two_decide _ x y _ _ (and_zero h) by_none z f = inr refl
 two_decide _ x y _ _ (and_zero h) (and_zero k) z f = inl f
-two_decide _ x y _ _ (or_some h) by_none z f = inr refl
 two_decide _ x y _ _ (or_some h) (or_some k) z f = inl f
+two_decide _ _ _ _ _ _ by_none _ _ = inr refl
 
 -- 2. Expressions.
 

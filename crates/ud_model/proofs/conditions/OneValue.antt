@@ -17,12 +17,6 @@ one_signed : (o : Operator) (a b : ℤ) (c d : Number) → GivesSigned o a b c �
 one_signed BitOr a b c d p q = p ∙ sym q
 one_signed BitXor a b c d p q = p ∙ sym q
 one_signed BitAnd a b c d p q = p ∙ sym q
-one_signed Equal a b c d p q = one_truth _ c d p q
-one_signed NotEqual a b c d p q = one_truth _ c d p q
-one_signed Less a b c d p q = one_truth _ c d p q
-one_signed LessEqual a b c d p q = one_truth _ c d p q
-one_signed Greater a b c d p q = one_truth _ c d p q
-one_signed GreaterEqual a b c d p q = one_truth _ c d p q
 one_signed Plus a b c d p q = p.1 ∙ sym q.1
 one_signed Minus a b c d p q = p.1 ∙ sym q.1
 one_signed Times a b c d p q = p.1 ∙ sym q.1
@@ -32,26 +26,22 @@ one_signed Or a b c d p q = absurd p
 one_signed And a b c d p q = absurd p
 one_signed Not a b c d p q = absurd p
 one_signed Complement a b c d p q = absurd p
+one_signed _ _ _ c d p q = one_truth _ c d p q
 
 one_unsigned : (o : Operator) (a b : ℕ) (c d : Number) → GivesUnsigned o a b c → GivesUnsigned o a b d → c ≡ d
-one_unsigned BitOr a b c d p q = p ∙ sym q
-one_unsigned BitXor a b c d p q = p ∙ sym q
-one_unsigned BitAnd a b c d p q = p ∙ sym q
 one_unsigned Equal a b c d p q = one_truth _ c d p q
 one_unsigned NotEqual a b c d p q = one_truth _ c d p q
 one_unsigned Less a b c d p q = one_truth _ c d p q
 one_unsigned LessEqual a b c d p q = one_truth _ c d p q
 one_unsigned Greater a b c d p q = one_truth _ c d p q
 one_unsigned GreaterEqual a b c d p q = one_truth _ c d p q
-one_unsigned Plus a b c d p q = p ∙ sym q
-one_unsigned Minus a b c d p q = p ∙ sym q
-one_unsigned Times a b c d p q = p ∙ sym q
 one_unsigned Over a b c d p q = p.1 ∙ sym q.1
 one_unsigned Remainder a b c d p q = p.1 ∙ sym q.1
 one_unsigned Or a b c d p q = absurd p
 one_unsigned And a b c d p q = absurd p
 one_unsigned Not a b c d p q = absurd p
 one_unsigned Complement a b c d p q = absurd p
+one_unsigned _ _ _ _ _ p q = p ∙ sym q
 
 one_result : (o : Operator) (x y c d : Number) → Gives o x y c → Gives o x y d → c ≡ d
 one_result o (signed a) (signed b) c d p q = one_signed o a b c d p q
@@ -68,15 +58,13 @@ one_change Complement (unsigned a) c d p q = p ∙ sym q
 one_change _ x c d p q = absurd p
 
 one_constant : (w : List ℕ) (c d : Number) → IsConstantValue w c → IsConstantValue w d → c ≡ d
-one_constant w c d (plain p l) (plain q m) = refl
-one_constant w c d (by_suffix p l) (by_suffix q m) = refl
-one_constant w c d (by_size p h l m) (by_size q k n r) = refl
 one_constant w c d (plain p l) (by_suffix q m) = absurd (false≢true (sym p ∙ q))
 one_constant w c d (by_suffix p l) (plain q m) = absurd (false≢true (sym q ∙ p))
 one_constant w c d (plain p l) (by_size q k n r) = absurd (omega arith)
 one_constant w c d (by_size p h l m) (plain q n) = absurd (omega arith)
 one_constant w c d (by_suffix p l) (by_size q k n r) = absurd (false≢true (sym q ∙ p))
 one_constant w c d (by_size p h l m) (by_suffix q n) = absurd (false≢true (sym p ∙ q))
+one_constant _ _ _ _ _ = refl
 
 no_and : (x y c : Number) → Gives And x y c → ⊥
 no_and (signed a) (signed b) c g = g

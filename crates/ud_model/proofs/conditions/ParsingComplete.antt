@@ -9,34 +9,13 @@ use Rattle.ud_model.specs.declared.operator.Operator.TheVariants.{Or, And, BitOr
 
 -- No operator tighter than precedence `k` comes next.
 abbrev pub Stops : ℕ → List Token → Type 0
-Stops k [] = Unit {0}
 Stops k (operator o ∷ ts) = precedence o ≤ k
-Stops k (number w ∷ ts) = Unit {0}
-Stops k (name n a ∷ ts) = Unit {0}
-Stops k (defined ∷ ts) = Unit {0}
-Stops k (opening ∷ ts) = Unit {0}
-Stops k (closing ∷ ts) = Unit {0}
+Stops _ _ = Unit {0}
 
 -- Each precedence between two operands is below that of an operator before one.
 pub level_most : (o : Operator) → precedence o ≤ 9
 level_most Or = omega arith
-level_most And = omega arith
-level_most BitOr = omega arith
-level_most BitXor = omega arith
-level_most BitAnd = omega arith
-level_most Equal = omega arith
-level_most NotEqual = omega arith
-level_most Less = omega arith
-level_most LessEqual = omega arith
-level_most Greater = omega arith
-level_most GreaterEqual = omega arith
-level_most Plus = omega arith
-level_most Minus = omega arith
-level_most Times = omega arith
-level_most Over = omega arith
-level_most Remainder = omega arith
-level_most Not = omega arith
-level_most Complement = omega arith
+level_most o = omega arith
 
 -- The test for at most, if it is true.
 pub leb_yes : (a b : ℕ) → a ≤ b → leb a b ≡ true
@@ -48,49 +27,32 @@ leb_no a b h = elim (leb_tells a b) [ inl p ↦ absurd (omega arith) | inr p ↦
 
 -- A stack that takes no operand before precedence `j` takes none before a tighter one.
 pub below_more : {A : Type 0} (j k : ℕ) (s : List (Frame A)) → j ≤ k → Below j s → Below k s
-below_more j k [] l b = tt
 below_more j k (left o a ∷ s) l b = omega arith
 below_more j k (before o ∷ s) l b = omega arith
-below_more j k (paren ∷ s) l b = tt
+below_more _ _ _ _ _ = tt
 
 -- If nothing tighter than precedence `j` comes next, nothing tighter than a tighter one does.
 pub stops_more : (j k : ℕ) (ts : List Token) → j ≤ k → Stops j ts → Stops k ts
-stops_more j k [] l b = tt
 stops_more j k (operator o ∷ ts) l b = omega arith
-stops_more j k (number w ∷ ts) l b = tt
-stops_more j k (name n a ∷ ts) l b = tt
-stops_more j k (defined ∷ ts) l b = tt
-stops_more j k (opening ∷ ts) l b = tt
-stops_more j k (closing ∷ ts) l b = tt
+stops_more _ _ _ _ _ = tt
 
 -- After a prefix operator every operator stops.
 stops_ten : (ts : List Token) → Stops 10 ts
-stops_ten [] = tt
 stops_ten (operator o ∷ ts) = let h : precedence o ≤ 9 = level_most o in omega arith
-stops_ten (number w ∷ ts) = tt
-stops_ten (name n a ∷ ts) = tt
-stops_ten (defined ∷ ts) = tt
-stops_ten (opening ∷ ts) = tt
-stops_ten (closing ∷ ts) = tt
+stops_ten _ = tt
 
 module _ {A : Type 0} (m : Meaning A) where
   -- The rest of the stack takes nothing yet.
   reduce_below : (o : Operator) (x : A) (s : List (Frame A)) → Below (precedence o) s → reduce m (precedence o) x s ≡ (x, s)
-  reduce_below o x [] b = refl
   reduce_below o x (left p a ∷ s) b =
       ap (λ (t : Bool). if t then reduce m (precedence o) (m.binary p a x) s else (x, left p a ∷ s)) (leb_no (precedence o) (precedence p) b)
   reduce_below o x (before p ∷ s) b = let h : precedence o ≤ 9 = level_most o in absurd (omega arith)
-  reduce_below o x (paren ∷ s) b = refl
+  reduce_below _ _ _ _ = refl
 
   -- A prefix operator takes its operand whatever comes next.
   take_before : (o : Operator) (x : A) (s : List (Frame A)) (ts : List Token) → parse_tokens m (has x (before o ∷ s)) ts ≡ parse_tokens m (has (m.unary o x) s) ts
   take_before o x s [] = refl
-  take_before o x s (operator p ∷ ts) = refl
-  take_before o x s (number w ∷ ts) = refl
-  take_before o x s (name n a ∷ ts) = refl
-  take_before o x s (defined ∷ ts) = refl
-  take_before o x s (opening ∷ ts) = refl
-  take_before o x s (closing ∷ ts) = refl
+  take_before _ _ _ _ = refl
 
   reduce_left : (j : ℕ) (o : Operator) (a x : A) (s : List (Frame A)) → j ≤ precedence o → reduce m j x (left o a ∷ s) ≡ reduce m j (m.binary o a x) s
   reduce_left j o a x s l =
@@ -101,11 +63,8 @@ module _ {A : Type 0} (m : Meaning A) where
   take_left o a x s [] h = ap (alone m) (reduce_left 0 o a x s (omega arith))
   take_left o a x s (operator p ∷ ts) h =
       ap (λ r. parse_tokens m (if leb 1 (precedence p) then wait m p r else stuck) ts) (reduce_left (precedence p) o a x s h)
-  take_left o a x s (number w ∷ ts) h = refl
-  take_left o a x s (name n b ∷ ts) h = refl
-  take_left o a x s (defined ∷ ts) h = refl
-  take_left o a x s (opening ∷ ts) h = refl
   take_left o a x s (closing ∷ ts) h = ap (λ r. parse_tokens m (close m r) ts) (reduce_left 0 o a x s (omega arith))
+  take_left _ _ _ _ _ _ = refl
 
   prefix_step : (o : Operator) (s : List (Frame A)) (ts : List Token) → IsTrue (is_prefix o) → parse_tokens m (needs s) (operator o ∷ ts) ≡ parse_tokens m (needs (before o ∷ s)) ts
   prefix_step o s ts h = ap (λ (t : Bool). parse_tokens m (if t then needs (before o ∷ s) else stuck) ts) h
@@ -146,9 +105,7 @@ module _ {A : Type 0} (m : Meaning A) where
 
 -- Each tree means itself.
 pub meaning_itself : (e : Expression) → meaning itself e ≡ e
-meaning_itself (constant w) = refl
-meaning_itself (named n a) = refl
-meaning_itself (is_defined n p) = refl
 meaning_itself (unary o a) = ap (unary o) (meaning_itself a)
 meaning_itself (binary o a b) = ap₂ (binary o) (meaning_itself a) (meaning_itself b)
 meaning_itself (parens a) = ap parens (meaning_itself a)
+meaning_itself _ = refl

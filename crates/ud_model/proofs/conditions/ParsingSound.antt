@@ -19,10 +19,9 @@ written (paren ∷ s) = written s ++ opening ∷ []
 
 -- The precedence that an operand needs for the stack.
 abbrev pub hole : List (Frame Expression) → ℕ
-hole [] = 1
 hole (left o a ∷ s) = precedence o + 1
 hole (before o ∷ s) = 10
-hole (paren ∷ s) = 1
+hole _ = 1
 
 -- The stack can become part of a tree.
 abbrev pub Fits : List (Frame Expression) → Type 0
@@ -42,12 +41,10 @@ Holds us stuck = Unit {0}
 
 -- A tree of the tightest precedence is of each precedence.
 loosen : (k : ℕ) (x : Expression) → HasPrecedence 10 x → HasPrecedence k x
-loosen k (constant w) i = tt
-loosen k (named n a) i = tt
-loosen k (is_defined n p) i = tt
 loosen k (unary o a) i = i
 loosen k (binary o a b) i = let h : precedence o ≤ 9 = level_most o in let l : 10 ≤ precedence o = i.0 in absurd (omega arith)
 loosen k (parens a) i = i
+loosen _ _ _ = tt
 
 -- The operators of precedence `j` or tighter have taken their operands.
 pub record Reduced (j : ℕ) (x : Expression) (s : List (Frame Expression)) (r : Expression × List (Frame Expression)) : Type 0 where
@@ -109,11 +106,9 @@ wait_if false o x s us e h = tt
 
 close_holds : (x : Expression) (s : List (Frame Expression)) (us : List Token) (r : Expression × List (Frame Expression)) →
     written s ++ spelling x ≡ us → Reduced 0 x s r → Holds (us ++ closing ∷ []) (close itself r)
-close_holds x s us (y, []) e q = tt
-close_holds x s us (y, left o a ∷ t) e q = tt
-close_holds x s us (y, before o ∷ t) e q = tt
 close_holds x s us (y, paren ∷ t) e q =
     (q.fits, q.in_hole, ap (λ ys. ys) (sym (append_assoc (written t) (opening ∷ []) (spelling y ++ closing ∷ []))) ∙ pushed (written t ++ opening ∷ []) (spelling y) us (closing ∷ []) (q.same ∙ e))
+close_holds _ _ _ _ _ _ = tt
 
 prefix_if : (b : Bool) (o : Operator) (s : List (Frame Expression)) (us : List Token) → is_prefix o ≡ b → Fits s → written s ≡ us →
     Holds (us ++ operator o ∷ []) (if b then needs (before o ∷ s) else stuck)
@@ -127,34 +122,13 @@ step_holds us (needs s) (name n a) h = (h.0, tt, ap (λ ys. ys ++ name n a ∷ [
 step_holds us (needs s) defined h = (h.0, ap (λ ys. ys ++ defined ∷ []) h.1)
 step_holds us (needs s) (operator o) h = prefix_if (is_prefix o) o s us refl h.0 h.1
 step_holds us (needs s) opening h = (h.0, ap (λ ys. ys ++ opening ∷ []) h.1)
-step_holds us (needs s) closing h = tt
-step_holds us (has x s) (number w) h = tt
-step_holds us (has x s) (name n a) h = tt
-step_holds us (has x s) defined h = tt
 step_holds us (has x s) (operator o) h = wait_if (leb 1 (precedence o)) o x s us refl h
-step_holds us (has x s) opening h = tt
 step_holds us (has x s) closing h = close_holds x s us (reduce itself 0 x s) h.2 (reduced 0 x s h.0 (loosen (hole s) x h.1) (loosen 0 x h.1))
-step_holds us (asks s) (number w) h = tt
 step_holds us (asks s) (name n false) h = (h.0, tt, pushed (written s) (defined ∷ []) us (name n false ∷ []) h.1)
-step_holds us (asks s) (name n true) h = tt
-step_holds us (asks s) defined h = tt
-step_holds us (asks s) (operator o) h = tt
 step_holds us (asks s) opening h = (h.0, pushed (written s) (defined ∷ []) us (opening ∷ []) h.1)
-step_holds us (asks s) closing h = tt
-step_holds us (asks_inside s) (number w) h = tt
 step_holds us (asks_inside s) (name n false) h = (h.0, pushed (written s) (defined ∷ opening ∷ []) us (name n false ∷ []) h.1)
-step_holds us (asks_inside s) (name n true) h = tt
-step_holds us (asks_inside s) defined h = tt
-step_holds us (asks_inside s) (operator o) h = tt
-step_holds us (asks_inside s) opening h = tt
-step_holds us (asks_inside s) closing h = tt
-step_holds us (asks_end n s) (number w) h = tt
-step_holds us (asks_end n s) (name k a) h = tt
-step_holds us (asks_end n s) defined h = tt
-step_holds us (asks_end n s) (operator o) h = tt
-step_holds us (asks_end n s) opening h = tt
 step_holds us (asks_end n s) closing h = (h.0, tt, pushed (written s) (defined ∷ opening ∷ name n false ∷ []) us (closing ∷ []) h.1)
-step_holds us stuck t h = tt
+step_holds _ _ _ _ = tt
 
 alone_holds : (e x : Expression) (s : List (Frame Expression)) (us : List Token) (r : Expression × List (Frame Expression)) →
     written s ++ spelling x ≡ us → Reduced 0 x s r → alone itself r ≡ Some e → HasPrecedence 1 e × (spelling e ≡ us)
@@ -164,12 +138,8 @@ alone_holds e x s us (y, []) w q a =
 alone_holds e x s us (y, f ∷ t) w q a = absurd (none-some e a)
 
 finish_holds : (us : List Token) (st : ParseState Expression) (e : Expression) → Holds us st → finish itself st ≡ Some e → HasPrecedence 1 e × (spelling e ≡ us)
-finish_holds us (needs s) e h f = absurd (none-some e f)
 finish_holds us (has x s) e h f = alone_holds e x s us (reduce itself 0 x s) h.2 (reduced 0 x s h.0 (loosen (hole s) x h.1) (loosen 0 x h.1)) f
-finish_holds us (asks s) e h f = absurd (none-some e f)
-finish_holds us (asks_inside s) e h f = absurd (none-some e f)
-finish_holds us (asks_end n s) e h f = absurd (none-some e f)
-finish_holds us stuck e h f = absurd (none-some e f)
+finish_holds _ _ e _ f = absurd (none-some e f)
 
 run_holds : (ts us : List Token) (st : ParseState Expression) (e : Expression) → Holds us st → parse_tokens itself st ts ≡ Some e → HasPrecedence 1 e × (spelling e ≡ us ++ ts)
 run_holds [] us st e h f = let q : HasPrecedence 1 e × (spelling e ≡ us) = finish_holds us st e h f in (q.0, q.1 ∙ sym (append-nil us))

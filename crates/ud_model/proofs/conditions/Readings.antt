@@ -32,10 +32,9 @@ module _ {A : Type 0} (m : Meaning A) where
   on_either false p q d e = e
 
   reduce_meant : (j : ℕ) (e : Expression) (s : List (Frame Expression)) → reduce m j (meaning m e) (frames_meant s) ≡ pair_meant (reduce itself j e s)
-  reduce_meant j e [] = refl
   reduce_meant j e (left o a ∷ s) = on_either (leb j (precedence o)) _ _ (reduce_meant j (itself.binary o a e) s) refl
   reduce_meant j e (before o ∷ s) = reduce_meant j (itself.unary o e) s
-  reduce_meant j e (paren ∷ s) = refl
+  reduce_meant _ _ _ = refl
 
   close_meant : (r : Expression × List (Frame Expression)) → close m (pair_meant r) ≡ state_meant (close itself r)
   close_meant (e, []) = refl
@@ -98,12 +97,8 @@ module _ {A : Type 0} (m : Meaning A) where
   step_meant stuck t = refl
 
   finish_meant : (s : ParseState Expression) → finish m (state_meant s) ≡ option_map (meaning m) (finish itself s)
-  finish_meant (needs s) = refl
   finish_meant (has e s) = ap (alone m) (reduce_meant 0 e s) ∙ alone_meant (reduce itself 0 e s)
-  finish_meant (asks s) = refl
-  finish_meant (asks_inside s) = refl
-  finish_meant (asks_end n s) = refl
-  finish_meant stuck = refl
+  finish_meant _ = refl
 
   -- Tokens mean what their tree means.
   pub run_meant : (s : ParseState Expression) (ts : List Token) → parse_tokens m (state_meant s) ts ≡ option_map (meaning m) (parse_tokens itself s ts)

@@ -32,11 +32,7 @@ module _ (table : List Argument) (rules : Rules) where
   no_unit (parens a) h =
       let f : Bool = not ((residual table rules a).lost && stands_alone (residual table rules a).tree) in
       no_unit a (true_parts (keeps table rules a) (f ∷ []) h.1).0
-  no_unit (constant w) h = tt
-  no_unit (named n a) h = tt
-  no_unit (is_defined n p) h = tt
-  no_unit (unary o a) h = tt
-  no_unit (binary o a b) h = tt
+  no_unit _ _ = tt
 
   -- A tree that is its own unknown residual is reduced.
   pub fixed_reduced : (e : Expression) → (residual table rules e).tree ≡ e → is_unknown (residual table rules e).cond ≡ true → IsReduced table rules e

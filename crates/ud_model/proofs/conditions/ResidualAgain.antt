@@ -22,10 +22,9 @@ AreTrue [] = Unit {0}
 AreTrue (f ∷ flags) = (f ≡ true) × AreTrue flags
 
 chosen_fewer : {A : Type 0} (flags : List Bool) (xs : List A) → length (chosen flags xs) ≤ length xs
-chosen_fewer [] xs = omega arith
-chosen_fewer (f ∷ flags) [] = omega arith
 chosen_fewer (true ∷ flags) (x ∷ xs) = let h = chosen_fewer flags xs in omega (arith, h)
 chosen_fewer (false ∷ flags) (x ∷ xs) = let h = chosen_fewer flags xs in omega (arith, h)
+chosen_fewer h xs = omega arith
 
 -- If all members are chosen, each flag is true.
 all_true : {A : Type 0} (flags : List Bool) (xs : List A) → SameLength flags xs → chosen flags xs ≡ xs → AreTrue flags
@@ -45,14 +44,13 @@ gap_stays false gap = refl
 
 token_stays : (operand : Bool) (further : Bool → List Cell → List Cell) → ((o : Bool) (c : List Cell) → further o c ≡ c) → (cells : List Cell) (x : NextToken) →
     left_by true operand true further cells x ≡ cells
-token_stays operand further h cells at_end = refl
-token_stays operand further h cells unreadable = refl
 token_stays operand further h cells (found t rest) =
     let s : List ℕ = skip_white (map shown cells) in
     let after : List Cell = cells_after s cells in
     ap₂ (λ (xs ys : List Cell). xs ++ ys) (gap_stays operand (cells_before s cells))
     (ap (λ (ys : List Cell). cells_before rest after ++ ys) (h (ends_operand t) (cells_after rest after)) ∙ take-append-drop (length after - length rest) after)
     ∙ take-append-drop (length cells - length s) cells
+token_stays _ _ _ _ _ = refl
 
 all_stay : (operand : Bool) (flags : List Bool) → AreTrue flags → (cells : List Cell) → left_from true operand flags cells ≡ cells
 all_stay operand [] h cells = refl

@@ -27,29 +27,12 @@ operator_in _ = Or
 -- An operator is read off its bytes.
 read_off : (o : Operator) → operator_in (leading_token (operator_bytes o)) ≡ o
 read_off Or = refl
-read_off And = refl
-read_off BitOr = refl
-read_off BitXor = refl
-read_off BitAnd = refl
-read_off Equal = refl
-read_off NotEqual = refl
-read_off Less = refl
-read_off LessEqual = refl
-read_off Greater = refl
-read_off GreaterEqual = refl
-read_off Plus = refl
-read_off Minus = refl
-read_off Times = refl
-read_off Over = refl
-read_off Remainder = refl
-read_off Not = refl
-read_off Complement = refl
+read_off _ = refl
 
 flags_same : (a b : Bool) → same_flag a b ≡ true → a ≡ b
-flags_same true true e = refl
-flags_same false false e = refl
 flags_same true false e = cc
 flags_same false true e = cc
+flags_same _ _ _ = refl
 
 operators_same : (o p : Operator) → bytes_eq (operator_bytes o) (operator_bytes p) ≡ true → o ≡ p
 operators_same o p e = sym (read_off o) ∙ ap (λ w. operator_in (leading_token w)) ((bytes_eq-Decides (operator_bytes o) (operator_bytes p)).0 e) ∙ read_off p
@@ -62,43 +45,13 @@ tokens_alike defined defined e = refl
 tokens_alike (operator o) (operator p) e = ap operator (operators_same o p e)
 tokens_alike opening opening e = refl
 tokens_alike closing closing e = refl
-tokens_alike (number w) (name n a) e = cc
-tokens_alike (number w) defined e = cc
-tokens_alike (number w) (operator o) e = cc
-tokens_alike (number w) opening e = cc
-tokens_alike (number w) closing e = cc
-tokens_alike (name n a) (number w) e = cc
-tokens_alike (name n a) defined e = cc
-tokens_alike (name n a) (operator o) e = cc
-tokens_alike (name n a) opening e = cc
-tokens_alike (name n a) closing e = cc
-tokens_alike defined (number w) e = cc
-tokens_alike defined (name n a) e = cc
-tokens_alike defined (operator o) e = cc
-tokens_alike defined opening e = cc
-tokens_alike defined closing e = cc
-tokens_alike (operator o) (number w) e = cc
-tokens_alike (operator o) (name n a) e = cc
-tokens_alike (operator o) defined e = cc
-tokens_alike (operator o) opening e = cc
-tokens_alike (operator o) closing e = cc
-tokens_alike opening (number w) e = cc
-tokens_alike opening (name n a) e = cc
-tokens_alike opening defined e = cc
-tokens_alike opening (operator o) e = cc
-tokens_alike opening closing e = cc
-tokens_alike closing (number w) e = cc
-tokens_alike closing (name n a) e = cc
-tokens_alike closing defined e = cc
-tokens_alike closing (operator o) e = cc
-tokens_alike closing opening e = cc
+tokens_alike _ _ e = cc
 
 lists_alike : (ts us : List Token) → same_tokens ts us ≡ true → ts ≡ us
 lists_alike [] [] e = refl
 lists_alike (t ∷ ts) (u ∷ us) e =
     ap₂ (λ x xs. x ∷ xs) (tokens_alike t u (and_parts (same_token t u) (same_tokens ts us) e).0) (lists_alike ts us (and_parts (same_token t u) (same_tokens ts us) e).1)
-lists_alike [] (u ∷ us) e = cc
-lists_alike (t ∷ ts) [] e = cc
+lists_alike _ _ e = cc
 
 found_are : (o : Option (List Token)) (ts : List Token) → are_tokens o ts ≡ true → o ≡ Some ts
 found_are None ts e = cc
@@ -160,13 +113,12 @@ token_sub f further rest o cells h =
     of_parts (length cells - length rest) cells (some_or_none f (cells_before rest cells)) (h o (cells_after rest cells))
 
 by_sub : (prev operand f : Bool) (further : Bool → List Cell → List Cell) (cells : List Cell) (x : NextToken) → ((o : Bool) (c : List Cell) → IsSublist (further o c) c) → IsSublist (left_by prev operand f further cells x) cells
-by_sub prev operand f further cells at_end h = all_of_it cells
-by_sub prev operand f further cells unreadable h = all_of_it cells
 by_sub prev operand f further cells (found t rest) h =
     let s : List ℕ = skip_white (map shown cells) in
     of_parts (length cells - length s) cells
     (some_or_none ((if operand then f else prev) || not (are_white (map (λ (c : Cell). c.byte) (cells_before s cells)))) (cells_before s cells))
     (token_sub f further rest (ends_operand t) (cells_after s cells) h)
+by_sub _ _ _ _ cells _ _ = all_of_it cells
 
 from_sub : (prev operand : Bool) (flags : List Bool) (cells : List Cell) → IsSublist (left_from prev operand flags cells) cells
 from_sub prev operand [] cells = all_of_it cells

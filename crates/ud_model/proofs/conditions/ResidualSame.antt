@@ -33,8 +33,4 @@ module _ (t u : List Argument) (same : SaySame t u) (rules : Rules) where
   keeps_same (binary Or a b) = λ i. joined_flags (is_unit Or (residual_same a i).cond) (is_unit Or (residual_same b i).cond) a b (keeps_same a i) (keeps_same b i)
   keeps_same (parens a) = λ i.
       not ((residual_same a i).lost && stands_alone (residual_same a i).tree) ∷ keeps_same a i ++ not ((residual_same a i).lost && stands_alone (residual_same a i).tree) ∷ []
-  keeps_same (constant w) = refl
-  keeps_same (named n a) = refl
-  keeps_same (is_defined n p) = refl
-  keeps_same (unary o a) = refl
-  keeps_same (binary o a b) = refl
+  keeps_same _ = refl

@@ -77,20 +77,12 @@ module _ (table : List Argument) (rules : Rules) where
 -- 3. The tree is nested by precedence.
 
 looser : (e : Expression) (j k : ℕ) → k ≤ j → HasPrecedence j e → HasPrecedence k e
-looser (constant w) j k l h = h
-looser (named n a) j k l h = h
-looser (is_defined n p) j k l h = h
-looser (unary o a) j k l h = h
 looser (binary o a b) j k l h = (let m : j ≤ precedence o = h.0 in omega arith, h.1, h.2)
-looser (parens a) j k l h = h
+looser _ _ _ _ h = h
 
 any_precedence : (e : Expression) (j k : ℕ) → stands_alone e ≡ true → HasPrecedence j e → HasPrecedence k e
-any_precedence (constant w) j k s h = h
-any_precedence (named n a) j k s h = h
-any_precedence (is_defined n p) j k s h = h
-any_precedence (unary o a) j k s h = h
 any_precedence (binary o a b) j k s h = cc
-any_precedence (parens a) j k s h = h
+any_precedence _ _ _ _ h = h
 
 joined_precedence : (b d : Bool) (o : Operator) (c : Cond) (x y : Residual) (k : ℕ) → k ≤ precedence o → HasPrecedence (precedence o) x.tree → HasPrecedence (precedence o + 1) y.tree →
     HasPrecedence k (if b then record y { lost = true } else if d then record x { lost = true } else record { cond = c; tree = binary o x.tree y.tree; lost = false }).tree
@@ -113,11 +105,7 @@ module _ (table : List Argument) (rules : Rules) where
       joined_precedence (is_unit Or (left table rules a).cond) (is_unit Or (left table rules b).cond) Or (settled rules.strict Or (left table rules a).cond (left table rules b).cond) (left table rules a) (left table rules b)
       k h.0 (precedence_stays a 1 h.1) (precedence_stays b 2 h.2)
   precedence_stays (parens a) k h = enclosed_precedence ((left table rules a).lost && stands_alone (left table rules a).tree) (left table rules a) k refl (precedence_stays a 1 h)
-  precedence_stays (constant w) k h = h
-  precedence_stays (named n a) k h = h
-  precedence_stays (is_defined n p) k h = h
-  precedence_stays (unary o a) k h = h
-  precedence_stays (binary o a b) k h = h
+  precedence_stays _ _ h = h
 
 -- 4. A second time nothing more is removed.
 
@@ -142,8 +130,7 @@ enclosed_again false x res r p = r x.tree ∙ ap enclosed p
 
 pub unknown_is : (c : Cond) → is_unknown c ≡ true → c ≡ Unknown
 unknown_is Unknown e = refl
-unknown_is Yes e = cc
-unknown_is No e = cc
+unknown_is _ e = cc
 
 module _ (table : List Argument) (rules : Rules) where
   -- Nothing more is removed.
@@ -154,11 +141,7 @@ module _ (table : List Argument) (rules : Rules) where
   again (binary Or a b) =
       joined_again rules.strict Or (is_unit Or (left table rules a).cond) (is_unit Or (left table rules b).cond) (left table rules a) (left table rules b) (residual table rules) refl refl (λ s t. refl) (again a) (again b)
   again (parens a) = enclosed_again ((left table rules a).lost && stands_alone (left table rules a).tree) (left table rules a) (residual table rules) (λ s. refl) (again a)
-  again (constant w) = refl
-  again (named n h) = refl
-  again (is_defined n h) = refl
-  again (unary o a) = refl
-  again (binary o a b) = refl
+  again _ = refl
 
   if_again : (e : Expression) (b : Bool) → is_undecided table rules (residual table rules e) ≡ b → simplified table rules (if b then (residual table rules e).tree else e) ≡ (if b then (residual table rules e).tree else e)
   if_again e true p =
@@ -176,8 +159,7 @@ module _ (table : List Argument) (rules : Rules) where
   unknown_by : (x : Residual) (e : Expression) (b c : Bool) → is_unknown x.cond ≡ b → is_unknown (tree_cond x.tree table rules) ≡ c → tree_cond e table rules ≡ Unknown →
       tree_cond (if b && c then x.tree else e) table rules ≡ Unknown
   unknown_by x e true true p q h = unknown_is (tree_cond x.tree table rules) q
-  unknown_by x e true false p q h = h
-  unknown_by x e false c p q h = h
+  unknown_by _ _ _ _ _ _ h = h
 
   -- The simplified form of an unknown condition is unknown.
   pub simplified_unknown : (e : Expression) → tree_cond e table rules ≡ Unknown → tree_cond (simplified table rules e) table rules ≡ Unknown
@@ -187,19 +169,11 @@ module _ (table : List Argument) (rules : Rules) where
 
 both_unknown_and : (c d : Cond) → is_unit And c ≡ false → is_unit And d ≡ false → settled false And c d ≡ Unknown → (c ≡ Unknown) × (d ≡ Unknown)
 both_unknown_and Unknown Unknown p q e = (refl, refl)
-both_unknown_and Yes d p q e = cc
-both_unknown_and c Yes p q e = cc
-both_unknown_and No No p q e = cc
-both_unknown_and No Unknown p q e = cc
-both_unknown_and Unknown No p q e = cc
+both_unknown_and _ _ p q e = cc
 
 both_unknown_or : (c d : Cond) → is_unit Or c ≡ false → is_unit Or d ≡ false → settled false Or c d ≡ Unknown → (c ≡ Unknown) × (d ≡ Unknown)
 both_unknown_or Unknown Unknown p q e = (refl, refl)
-both_unknown_or No d p q e = cc
-both_unknown_or c No p q e = cc
-both_unknown_or Yes Yes p q e = cc
-both_unknown_or Yes Unknown p q e = cc
-both_unknown_or Unknown Yes p q e = cc
+both_unknown_or _ _ p q e = cc
 
 module _ (table : List Argument) (rules : Rules) where
   abbrev Alike : Residual → Type 0
@@ -237,8 +211,4 @@ module _ (table : List Argument) (rules : Rules) where
   operands_undecided (binary Or a b) s h =
       or_alike (is_unit Or (left table rules a).cond) (is_unit Or (left table rules b).cond) (left table rules a) (left table rules b) s refl refl (operands_undecided a s) (operands_undecided b s) h
   operands_undecided (parens a) s h = enclosed_alike ((left table rules a).lost && stands_alone (left table rules a).tree) (left table rules a) (operands_undecided a s) h
-  operands_undecided (constant w) s h = (h, tt)
-  operands_undecided (named n a) s h = (h, tt)
-  operands_undecided (is_defined n p) s h = (h, tt)
-  operands_undecided (unary o a) s h = (h, tt)
-  operands_undecided (binary o a b) s h = (h, tt)
+  operands_undecided _ _ h = (h, tt)

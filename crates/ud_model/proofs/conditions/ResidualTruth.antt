@@ -30,21 +30,16 @@ pub record Tells (x : Residual) (m : Choice x.tree) (c : Number) : Type 0 where
 
 and_unit : (c : Cond) → is_unit And c ≡ true → c ≡ Yes
 and_unit Yes e = refl
-and_unit No e = cc
-and_unit Unknown e = cc
+and_unit _ e = cc
 
 or_unit : (c : Cond) → is_unit Or c ≡ true → c ≡ No
 or_unit No e = refl
-or_unit Yes e = cc
-or_unit Unknown e = cc
+or_unit _ e = cc
 
 and_no : (strict : Bool) (c d : Cond) → settled strict And c d ≡ No → (c ≡ No) ⊎ (d ≡ No)
 and_no strict No d e = inl refl
 and_no strict c No e = inr refl
-and_no strict Yes Yes e = cc
-and_no strict Yes Unknown e = cc
-and_no strict Unknown Yes e = cc
-and_no strict Unknown Unknown e = cc
+and_no _ _ _ e = cc
 
 and_never_yes : (strict : Bool) (c d : Cond) → settled strict And c d ≡ Yes → ⊥
 and_never_yes true No Yes e = cc
@@ -65,10 +60,7 @@ and_never_yes strict Unknown Unknown e = cc
 or_yes : (strict : Bool) (c d : Cond) → settled strict Or c d ≡ Yes → (c ≡ Yes) ⊎ (d ≡ Yes)
 or_yes strict Yes d e = inl refl
 or_yes strict c Yes e = inr refl
-or_yes strict No No e = cc
-or_yes strict No Unknown e = cc
-or_yes strict Unknown No e = cc
-or_yes strict Unknown Unknown e = cc
+or_yes _ _ _ e = cc
 
 or_never_no : (strict : Bool) (c d : Cond) → settled strict Or c d ≡ No → ⊥
 or_never_no true Yes Yes e = cc
@@ -149,13 +141,11 @@ module _ (table : List Argument) (rules : Rules) where
 
 negated_yes : (c : Cond) → negate c ≡ Yes → c ≡ No
 negated_yes No e = refl
-negated_yes Yes e = cc
-negated_yes Unknown e = cc
+negated_yes _ e = cc
 
 negated_no : (c : Cond) → negate c ≡ No → c ≡ Yes
 negated_no Yes e = refl
-negated_no No e = cc
-negated_no Unknown e = cc
+negated_no _ e = cc
 
 not_tells : (x : Residual) (m : Choice x.tree) (y c : Number) → Tells x m y → IsTruth (IsZero y) c → Tells (negated x) (for_unary m) c
 not_tells x m y c t g = record {

@@ -14,32 +14,26 @@ both (cell c ∷ ps) qs = ap (λ (cs : List Cell). c ∷ cs) (both ps qs)
 both (splice b ∷ ps) qs = both ps qs
 
 gap_cells : (n : ℕ) (ps : List Piece) → cells_among (gap_of n ps) ≡ take n (cells_among ps)
-gap_cells zero [] = refl
-gap_cells (suc n) [] = refl
 gap_cells zero (splice b ∷ ps) = gap_cells zero ps
 gap_cells (suc n) (splice b ∷ ps) = gap_cells (suc n) ps
-gap_cells zero (cell c ∷ ps) = refl
 gap_cells (suc n) (cell c ∷ ps) = ap (λ (cs : List Cell). c ∷ cs) (gap_cells n ps)
+gap_cells _ _ = refl
 
 gap_rest : (n : ℕ) (ps : List Piece) → cells_among (after_gap n ps) ≡ drop n (cells_among ps)
-gap_rest zero [] = refl
-gap_rest (suc n) [] = refl
 gap_rest zero (splice b ∷ ps) = gap_rest zero ps
 gap_rest (suc n) (splice b ∷ ps) = gap_rest (suc n) ps
-gap_rest zero (cell c ∷ ps) = refl
 gap_rest (suc n) (cell c ∷ ps) = gap_rest n ps
+gap_rest _ _ = refl
 
 pub token_cells : (n : ℕ) (ps : List Piece) → cells_among (token_of n ps) ≡ take n (cells_among ps)
-token_cells zero ps = refl
-token_cells (suc n) [] = refl
 token_cells (suc n) (splice b ∷ ps) = token_cells (suc n) ps
 token_cells (suc n) (cell c ∷ ps) = ap (λ (cs : List Cell). c ∷ cs) (token_cells n ps)
+token_cells _ _ = refl
 
 pub token_rest : (n : ℕ) (ps : List Piece) → cells_among (after_token n ps) ≡ drop n (cells_among ps)
-token_rest zero ps = refl
-token_rest (suc n) [] = refl
 token_rest (suc n) (splice b ∷ ps) = token_rest (suc n) ps
 token_rest (suc n) (cell c ∷ ps) = token_rest n ps
+token_rest _ _ = refl
 
 if_cells : (b : Bool) (ps : List Piece) (cs : List Cell) → cells_among ps ≡ cs → cells_among (if b then ps else []) ≡ (if b then cs else [])
 if_cells true ps cs e = e
@@ -61,14 +55,13 @@ token_both f further more rest o ps cs e h =
 
 by_both : (prev operand f : Bool) (further : Bool → List Piece → List Piece) (more : Bool → List Cell → List Cell) (ps : List Piece) (x : NextToken) →
     ((b : Bool) (qs : List Piece) → cells_among (further b qs) ≡ more b (cells_among qs)) → cells_among (pieces_by prev operand f further ps x) ≡ left_by prev operand f more (cells_among ps) x
-by_both prev operand f further more ps at_end h = refl
-by_both prev operand f further more ps unreadable h = refl
 by_both prev operand f further more ps (found t rest) h =
     let n : ℕ = size_before (skip_white (map shown (cells_among ps))) ps in
     both (white_left (if operand then f else prev) (gap_of n ps)) (pieces_left f further rest (ends_operand t) (after_gap n ps))
     ∙ ap₂ (λ (a b : List Cell). a ++ b)
     (white_cells (if operand then f else prev) (gap_of n ps) (cells_before (skip_white (map shown (cells_among ps))) (cells_among ps)) (gap_cells n ps))
     (token_both f further more rest (ends_operand t) (after_gap n ps) (cells_after (skip_white (map shown (cells_among ps))) (cells_among ps)) (gap_rest n ps) h)
+by_both _ _ _ _ _ ps _ _ = refl
 
 -- The cells that are left are those that are left without splices.
 pub cells_from : (prev operand : Bool) (flags : List Bool) (ps : List Piece) → cells_among (pieces_from prev operand flags ps) ≡ left_from prev operand flags (cells_among ps)
@@ -79,18 +72,15 @@ cells_from prev operand (f ∷ flags) ps =
 -- Pieces are only removed.
 
 gap_split : (n : ℕ) (ps : List Piece) → gap_of n ps ++ after_gap n ps ≡ ps
-gap_split zero [] = refl
-gap_split (suc n) [] = refl
 gap_split zero (splice b ∷ ps) = ap (λ (qs : List Piece). splice b ∷ qs) (gap_split zero ps)
 gap_split (suc n) (splice b ∷ ps) = ap (λ (qs : List Piece). splice b ∷ qs) (gap_split (suc n) ps)
-gap_split zero (cell c ∷ ps) = refl
 gap_split (suc n) (cell c ∷ ps) = ap (λ (qs : List Piece). cell c ∷ qs) (gap_split n ps)
+gap_split _ _ = refl
 
 pub token_split : (n : ℕ) (ps : List Piece) → token_of n ps ++ after_token n ps ≡ ps
-token_split zero ps = refl
-token_split (suc n) [] = refl
 token_split (suc n) (splice b ∷ ps) = ap (λ (qs : List Piece). splice b ∷ qs) (token_split (suc n) ps)
 token_split (suc n) (cell c ∷ ps) = ap (λ (qs : List Piece). cell c ∷ qs) (token_split n ps)
+token_split _ _ = refl
 
 either : (b : Bool) (ps : List Piece) → IsSublist (if b then ps else []) ps
 either true ps = all_of_it ps
@@ -102,14 +92,13 @@ token_sub f further rest o ps h =
     subst (λ (qs : List Piece). IsSublist (pieces_left f further rest o ps) qs) (token_split n ps) (of_both (either f (token_of n ps)) (h o (after_token n ps)))
 
 by_sub : (prev operand f : Bool) (further : Bool → List Piece → List Piece) (ps : List Piece) (x : NextToken) → ((b : Bool) (qs : List Piece) → IsSublist (further b qs) qs) → IsSublist (pieces_by prev operand f further ps x) ps
-by_sub prev operand f further ps at_end h = all_of_it ps
-by_sub prev operand f further ps unreadable h = all_of_it ps
 by_sub prev operand f further ps (found t rest) h =
     let n : ℕ = size_before (skip_white (map shown (cells_among ps))) ps in
     subst (λ (qs : List Piece). IsSublist (pieces_by prev operand f further ps (found t rest)) qs) (gap_split n ps)
     (of_both
     (either ((if operand then f else prev) || not (are_white (map (λ (c : Cell). c.byte) (cells_among (gap_of n ps))))) (gap_of n ps))
     (token_sub f further rest (ends_operand t) (after_gap n ps) h))
+by_sub _ _ _ _ ps _ _ = all_of_it ps
 
 -- The pieces that are left are some of the pieces, in their order.
 pub pieces_go : (prev operand : Bool) (flags : List Bool) (ps : List Piece) → IsSublist (pieces_from prev operand flags ps) ps

@@ -51,9 +51,7 @@ module _ (table : List Argument) (k : Bool) where
 
   test_loose : (s : Bool) (t : Test) (after : List ℕ) → LooserDecision (decision_by_test t after table (record { constants = k; strict = true })) (decision_by_test t after table (record { constants = k; strict = s }))
   test_loose s Nonzero after = record { cond = expression_loose s after; ignoring = refl }
-  test_loose s Defined after = record { cond = alike; ignoring = refl }
-  test_loose s Undefined after = record { cond = alike; ignoring = refl }
-  test_loose s Nothing after = record { cond = alike; ignoring = refl }
+  test_loose _ _ _ = record { cond = alike; ignoring = refl }
 
   kind_loose : (s : Bool) (i : Kind) (after : List ℕ) → LooserDecision (condition_of i after table (record { constants = k; strict = true })) (condition_of i after table (record { constants = k; strict = s }))
   kind_loose s i after =
@@ -92,12 +90,11 @@ role_loose r ElseGroup d e h = an_else
 role_loose r EndifLine d e h = an_endif
 
 content_loose : (o : Options) (r : Reading) (c : Content) → LooserItem (item_by (under_strict o) r c) (item_by o r c)
-content_loose o r cut_keyword = a_text
-content_loose o r text = a_text
 content_loose o r (directive d) =
     role_loose r (role_of d.kind) (decision_on r.scan d o.table (record { constants = o.settings.constants; strict = true }))
     (decision_on r.scan d o.table (record { constants = o.settings.constants; strict = o.settings.strict }))
     (decision_loose o.table o.settings.constants o.settings.strict r.scan d)
+content_loose _ _ _ = a_text
 
 -- Under `-K` a line is the same item, but for an unknown condition.
 pub item_loose : (o : Options) (r : Reading) → LooserItem (item_of (under_strict o) r) (item_of o r)

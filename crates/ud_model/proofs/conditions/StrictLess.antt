@@ -19,19 +19,16 @@ alter_keeps u o (Some x) b h z e = ap (apply_unary u o) (h x refl) ∙ e
 
 combine_keeps : (u : Bool) (o : Operator) (a b c d : Option ℤ) → Keeps a c → Keeps b d → Keeps (apply_binary true u o a b) (apply_binary false u o c d)
 combine_keeps u o None None c d h k z e = absurd (none-some z e)
-combine_keeps u o None (Some y) c d h k z e = absurd (none-some z e)
-combine_keeps u o (Some x) None c d h k z e = absurd (none-some z e)
 combine_keeps u o (Some x) (Some y) c d h k z e = ap₂ (apply_binary false u o) (h x refl) (k y refl) ∙ e
+combine_keeps _ _ _ _ _ _ _ _ z e = absurd (none-some z e)
 
 module _ (table : List Argument) where
   number_keeps : (u : Bool) (e : Expression) → Keeps (number_of table true u e) (number_of table false u e)
-  number_keeps u (constant w) z h = h
-  number_keeps u (named n a) z h = h
-  number_keeps u (is_defined n p) z h = h
   number_keeps u (unary o a) z h = alter_keeps u o (number_of table true u a) (number_of table false u a) (number_keeps u a) z h
   number_keeps u (binary o a b) z h =
       combine_keeps u o (number_of table true u a) (number_of table true u b) (number_of table false u a) (number_of table false u b) (number_keeps u a) (number_keeps u b) z h
   number_keeps u (parens a) z h = number_keeps u a z h
+  number_keeps _ _ _ h = h
 
   -- The value of an expression stays known.
   pub value_keeps : (e : Expression) → Keeps (value_of table true e) (value_of table false e)

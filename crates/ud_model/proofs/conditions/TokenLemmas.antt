@@ -12,9 +12,8 @@ use Rattle.ud_model.proofs.text.ByteLemmas.{length-skip_white}
 
 -- The rest after the token has fewer bytes than `k`.
 abbrev pub Shorter : ℕ → NextToken → Type 0
-Shorter k at_end = Unit {0}
-Shorter k unreadable = Unit {0}
 Shorter k (found t rest) = length rest < k
+Shorter _ _ = Unit {0}
 
 -- The rest has no more bytes than `k`.
 abbrev pub Within : ℕ → Option (List ℕ) → Type 0
@@ -26,9 +25,8 @@ shorter_either k true x y p q = p
 shorter_either k false x y p q = q
 
 shorter_more : (j k : ℕ) (x : NextToken) → j ≤ k → Shorter j x → Shorter k x
-shorter_more j k at_end l p = tt
-shorter_more j k unreadable l p = tt
 shorter_more j k (found t rest) l p = omega arith
+shorter_more _ _ _ _ _ = tt
 
 within_either : (k : ℕ) (b : Bool) (x y : Option (List ℕ)) → Within k x → Within k y → Within k (if b then x else y)
 within_either k true x y p q = p
@@ -50,8 +48,6 @@ past_word_most [] = omega arith
 past_word_most (b ∷ t) = let h : length (skip_word t) ≤ length t = past_word_most t in length_either (suc (length t)) (is_word_byte b) (skip_word t) (b ∷ t) (omega arith) (omega arith)
 
 behind_within : (n : ℕ) (t : List ℕ) → Within (length t) (after_matching_paren n t)
-behind_within zero [] = tt
-behind_within (suc n) [] = tt
 behind_within zero (b ∷ t) =
     within_either (suc (length t)) (b == 40) (after_matching_paren 1 t) (if b == 41 then Some t else after_matching_paren 0 t)
     (within_more (length t) (suc (length t)) (after_matching_paren 1 t) (omega arith) (behind_within 1 t))
@@ -60,6 +56,7 @@ behind_within (suc n) (b ∷ t) =
     within_either (suc (length t)) (b == 40) (after_matching_paren (suc (suc n)) t) (if b == 41 then after_matching_paren n t else after_matching_paren (suc n) t)
     (within_more (length t) (suc (length t)) (after_matching_paren (suc (suc n)) t) (omega arith) (behind_within (suc (suc n)) t))
     (within_either (suc (length t)) (b == 41) (after_matching_paren n t) (after_matching_paren (suc n) t) (within_more (length t) (suc (length t)) (after_matching_paren n t) (omega arith) (behind_within n t)) (within_more (length t) (suc (length t)) (after_matching_paren (suc n) t) (omega arith) (behind_within (suc n) t)))
+behind_within _ [] = tt
 
 with_shorter : (k j : ℕ) (w : List ℕ) (o : Option (List ℕ)) → j < k → Within j o → Shorter k (with_arguments w o)
 with_shorter k j w None l p = tt

@@ -42,11 +42,8 @@ blank_pieces c n before (j ∷ js) = ap₂ (λ (p : List ℕ) (ps : List (List �
 
 -- A line that is left is printed by its verdict.
 left_alone : (v : Verdict) (k : Span) (l : Line) → IsLeft v → piece_alone true (record { line = l; verdict = v; keyword = k }) ≡ piece_by v k l
-left_alone Keep k l h = refl
 left_alone Remove k l h = absurd h
-left_alone ToIf k l h = refl
-left_alone ToElse k l h = refl
-left_alone ToEndif k l h = refl
+left_alone _ _ _ _ = refl
 
 ending_alone : (m : ℕ) (e : List ℕ) → IsEnd e → line_at m e ≡ record { body = []; ending = e; number = m }
 ending_alone m e (inl h) = subst (λ (x : List ℕ). line_at m x ≡ record { body = []; ending = x; number = m }) (sym h) refl
@@ -136,15 +133,13 @@ unended_placed c j n t e w = by_verdict (goes_or_left (complemented_if c j).verd
 
 all_placed : (c : Bool) (js : List Judged) (n : ℕ) (ts : List (List ℕ)) → map (λ (j : Judged). j.line) js ≡ numbered_from n ts → AreFormed ts → Places c js n
 all_placed c [] n ts e f = none_placed c n
-all_placed c (j ∷ js) n [] e f = cc
-all_placed c (j ∷ k ∷ js) n (t ∷ []) e f = cc
-all_placed c (j ∷ []) n (t ∷ u ∷ ts) e f = cc
 all_placed c (j ∷ []) n (t ∷ []) e (inl w) = let p : j.line ≡ line_at n t = cc in whole_more c j [] n t p w (none_placed c (suc n))
 all_placed c (j ∷ []) n (t ∷ []) e (inr w) = let p : j.line ≡ line_at n t = cc in unended_placed c j n t p w
 all_placed c (j ∷ k ∷ js) n (t ∷ u ∷ ts) e f =
     let p : j.line ≡ line_at n t = cc in
     let q : map (λ (j : Judged). j.line) (k ∷ js) ≡ numbered_from (suc n) (u ∷ ts) = cc in
     whole_more c j (k ∷ js) n t p f.0 (all_placed c (k ∷ js) (suc n) (u ∷ ts) q f.1)
+all_placed _ _ n _ e f = cc
 
 -- 3. The lines of a text.
 
@@ -156,14 +151,13 @@ formed_tail t (u ∷ ts) f = f.1
 pub front_formed : (n : ℕ) (us : List (List ℕ)) (ls later : List Line) → AreFormed us → numbered_from n us ≡ ls ++ later →
     (ts : List (List ℕ)) × AreFormed ts × (ls ≡ numbered_from n ts)
 front_formed n us [] later f e = ([], tt, refl)
-front_formed n [] (l ∷ ls) later f e = cc
 front_formed n (u ∷ []) (l ∷ []) later f e = (u ∷ [], f, cc)
-front_formed n (u ∷ []) (l ∷ k ∷ ls) later f e = cc
 front_formed n (u ∷ v ∷ us) (l ∷ ls) later f e =
     let q : numbered_from (suc n) (v ∷ us) ≡ ls ++ later = cc in
     let r = front_formed (suc n) (v ∷ us) ls later f.1 q in
     let p : l ≡ line_at n u = cc in
     (u ∷ r.0, formed_more u r.0 f.0 r.1, ap₂ (λ (k : Line) (ks : List Line). k ∷ ks) p r.2)
+front_formed n _ _ _ f e = cc
 
 -- The lines that were read of a text are numbered from 1.
 pub lines_read : {o : Options} {input : List ℕ} {xs : List (Item Reading)} {t : Tree Reading} {f : Option Fault} → ReadsAs o input xs t f →
@@ -201,13 +195,12 @@ same_endings (one_line j k js ks p r) h = ap₂ (λ (e : List ℕ) (es : List (L
 same_endings (lost_line j e b) h = absurd (h.0 e)
 
 all_ended : (n : ℕ) (ts : List (List ℕ)) (js : List Judged) → AreWhole ts → map (λ (j : Judged). j.line) js ≡ numbered_from n ts → Each Ended js
-all_ended n [] [] w e = tt
 all_ended n [] (j ∷ js) w e = cc
-all_ended n (t ∷ ts) [] w e = tt
 all_ended n (t ∷ ts) (j ∷ js) w e =
     let p : j.line ≡ line_at n t = cc in
     let q : map (λ (j : Judged). j.line) js ≡ numbered_from (suc n) ts = cc in
     (subst (λ (l : Line). l.ending ≢ []) (sym p) (end_is_some (ending_of t) (whole_ending t w.0)), all_ended (suc n) ts js w.1 q)
+all_ended n _ [] _ _ = tt
 
 endings_of : (js : List Judged) → map (λ (j : Judged). j.line.ending) js ≡ map (λ (l : Line). l.ending) (map (λ (j : Judged). j.line) js)
 endings_of [] = refl

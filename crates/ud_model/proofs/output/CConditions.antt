@@ -106,26 +106,22 @@ unless_broken false b d i h = h
 
 -- The opener of an item is decided so.
 abbrev pub ItemFits : Item Reading → Bool → Type 0
-ItemFits (text_line r) b = Unit {0}
 ItemFits (if_line p) b = Fits p.cond b
 ItemFits (elif_line p) b = Fits p.cond b
-ItemFits (else_line r) b = Unit {0}
-ItemFits (endif_line r) b = Unit {0}
+ItemFits _ _ = Unit {0}
 
 directive_fits : (r : Reading) (p : Role) (d : Decision) (b : Bool) → Fits d.cond b → ItemFits (directive_item r p d) b
-directive_fits r IfGroup d b h = h
-directive_fits r ElifGroup d b h = h
 directive_fits r ElseGroup d b h = tt
 directive_fits r EndifLine d b h = tt
+directive_fits _ _ _ _ h = h
 
 content_fits : (o : Options) (r : Reading) (c : Content) (b : Bool) → r.scan.joins_after ≡ false → MayBe o.table (condition_by r.scan c) b → ItemFits (item_by o r c) b
-content_fits o r cut_keyword b j h = tt
-content_fits o r text b j h = tt
 content_fits o r (directive d) b j h =
     directive_fits r (role_of d.kind) (decision_on r.scan d o.table (rules_of o.settings)) b
     (unless_broken d.broken b (condition_of d.kind d.after o.table (rules_of o.settings)) ((condition_of d.kind d.after o.table (rules_of o.settings)).ignoring && not r.scan.joins_after)
     (condition_fits o.table (rules_of o.settings) d.kind d.after b
     (subst (λ (t : Bool). MayBe o.table (if t then None else condition_after d.kind d.after) b) j h)))
+content_fits _ _ _ _ _ _ = tt
 
 -- A decision on a condition that ends on its line has each truth that C may give it.
 pub item_fits : (o : Options) (r : Reading) (b : Bool) → r.scan.joins_after ≡ false → MayBe o.table (condition_in r) b → ItemFits (item_of o r) b

@@ -37,10 +37,7 @@ pub record Clear (o : Options) (x : Item Reading) (m : Mark) : Type 0 where
 alone_by : (d before after k r q : Bool) → (d && (before || after) && k && (not r || q)) ≡ false → d ≡ true → k ≡ true → r ≡ false → after ≡ false
 alone_by d before false k r q e a b c = refl
 alone_by true true true true false q e a b c = cc
-alone_by true false true true false q e a b c = cc
-alone_by false before true k r q e a b c = cc
-alone_by true before true false r q e a b c = cc
-alone_by true before true true true q e a b c = cc
+alone_by _ _ true _ _ _ e a b c = cc
 
 pub sound_clear : (o : Options) (xs : List (Item Reading)) (t : Tree Reading) → AreFaultless o xs t → Pairwise (Clear o) xs (marks t)
 sound_clear o _ _ no_lines = tt
@@ -61,24 +58,17 @@ sound_clear o _ _ (one_more xs t s l u e n) =
 -- 2. A directive whose condition is decided doesn't stay as it is.
 
 abbrev Decided : Cond → Type 0
-Decided Yes = Unit {0}
-Decided No = Unit {0}
 Decided Unknown = ⊥
+Decided _ = Unit {0}
 
 if_moves : (c : Cond) → Decided c → keeps_rest (verdict_so_far [] an_if c) ≡ false
-if_moves Yes d = refl
-if_moves No d = refl
 if_moves Unknown d = absurd d
+if_moves _ _ = refl
 
 elif_at : (s : Stage) (c : Cond) → Decided c → keeps_rest (verdict_at s an_elif c) ≡ false
 elif_at leading Yes d = refl
-elif_at leading No d = refl
-elif_at given c d = refl
-elif_at going Yes d = refl
-elif_at going No d = refl
-elif_at at_true c d = refl
-elif_at past c d = refl
 elif_at s Unknown d = absurd d
+elif_at _ _ _ = refl
 
 elif_moves : (cs : List Cond) (c : Cond) → Decided c → keeps_rest (verdict_so_far cs an_elif c) ≡ false
 elif_moves cs c d = ap keeps_rest (verdict_by_stage cs an_elif c) ∙ elif_at (stage cs) c d
@@ -90,11 +80,10 @@ many_both a c b d e f = simp length-append (omega (arith, e, f))
 
 not_any : (cs : List Cond) (c : Cond) → any_true cs ≡ false → (c ≡ Yes → ⊥) → any_true (cs ++ c ∷ []) ≡ false
 not_any [] Yes e n = absurd (n refl)
-not_any [] No e n = refl
-not_any [] Unknown e n = refl
 not_any (Yes ∷ cs) c e n = cc
 not_any (No ∷ cs) c e n = not_any cs c e n
 not_any (Unknown ∷ cs) c e n = not_any cs c e n
+not_any [] _ _ n = refl
 
 module _ (o : Options) (w : World Reading) where
   abbrev Possible : Opener Reading → Type 0
@@ -104,14 +93,12 @@ module _ (o : Options) (w : World Reading) where
   Right p = AgreesWith w p.cond p.line
 
   agrees_by : (c : Cond) (l : Reading) → Fits c (w l) → AgreesWith w c l
-  agrees_by Yes l h = h
-  agrees_by No l h = h
   agrees_by Unknown l h = tt
+  agrees_by _ _ h = h
 
   decided_by : (c : Cond) (l : Reading) → (Decided c → AgreesWith w c l) → AgreesWith w c l
-  decided_by Yes l h = h tt
-  decided_by No l h = h tt
   decided_by Unknown l h = tt
+  decided_by _ _ h = h tt
 
   -- The case of an `#if` that is reached.
   if_right : (p : Opener Reading) → Clear o (if_line p) (marked true (verdict_so_far [] an_if p.cond)) → Possible p → Right p
@@ -125,15 +112,13 @@ module _ (o : Options) (w : World Reading) where
 
   -- A group that is processed is kept.
   kept_by : (cs : List Cond) (c : Cond) (l : Reading) → any_true cs ≡ false → AgreesWith w c l → w l ≡ true → is_kept cs c ≡ true
-  kept_by cs Yes l e a t = ap not e
   kept_by cs No l e a t = cc
-  kept_by cs Unknown l e a t = ap not e
+  kept_by _ _ _ e _ _ = ap not e
 
   -- An opener that is reached and false isn't decided to be true.
   not_yes : (c : Cond) (l : Reading) → AgreesWith w c l → w l ≡ false → c ≡ Yes → ⊥
   not_yes Yes l a f e = cc
-  not_yes No l a f e = cc
-  not_yes Unknown l a f e = cc
+  not_yes _ _ _ f e = cc
 
   where_none : (b : Bool) (ls : List Reading) → where_true b ls ≡ None → b ≡ false
   where_none true ls e = cc

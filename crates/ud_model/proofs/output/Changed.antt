@@ -269,9 +269,8 @@ no_innermost ns (open_section ms t k) h e = no_innermost ms k t e
 
 -- If a text ends without a fault, it ends in no comment, and no section is open.
 pub end_parts : (c : Bool) (n : ℕ) (o : Option (Opener Reading)) → end_by c n o ≡ None → (c ≡ false) × (o ≡ None)
-end_parts true n o e = cc
-end_parts false n (Some o) e = cc
 end_parts false n None e = (refl, refl)
+end_parts _ n _ e = cc
 
 module _ (o : Options) (n : o.settings.renumber ≡ false) (off : o.settings.listing ≡ Off) (input : List ℕ) where
   tree_differs : (xs : List (Item Reading)) (t : Tree Reading) → innermost t ≡ None → Each HasKeyword xs → lines t ≡ xs → map line_of xs ≡ lines_of input →

@@ -158,9 +158,8 @@ white_unslashed x [] e h = e
 white_unslashed x (b ∷ ws) e h = white_unslashed b ws (each_white (λ c. (c == slash) ≡ false) refl refl refl refl refl b h.0) h.1
 
 slash_behind : (ws : List ℕ) (x : ℕ) (t : List ℕ) → ends_in_slash (ws ++ x ∷ t) ≡ ends_in_slash (x ∷ t)
-slash_behind [] x t = refl
-slash_behind (b ∷ []) x t = refl
 slash_behind (b ∷ c ∷ ws) x t = slash_behind (c ∷ ws) x t
+slash_behind _ _ _ = refl
 
 -- Before a keyword no quote is shown.
 pub front_unquoted : (ws gs : List ℕ) → Each IsWhite ws → Each IsWhite gs → has_quote (ws ++ 35 ∷ gs) ≡ false

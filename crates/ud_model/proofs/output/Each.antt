@@ -35,9 +35,8 @@ module _ {A B : Type 0} (P : A → B → Type 0) where
   -- Both parts do if all do.
   pub pairwise_parts : (xs : List A) (ys : List B) (later : List A) (more : List B) → length xs ≡ length ys → Pairwise (xs ++ later) (ys ++ more) → Pairwise xs ys × Pairwise later more
   pairwise_parts [] [] later more l p = (tt, p)
-  pairwise_parts [] (y ∷ ys) later more l p = absurd (omega arith)
-  pairwise_parts (x ∷ xs) [] later more l p = absurd (omega arith)
   pairwise_parts (x ∷ xs) (y ∷ ys) later more l p = let r : Pairwise xs ys × Pairwise later more = pairwise_parts xs ys later more (omega arith) p.1 in ((p.0, r.0), r.1)
+  pairwise_parts xs ys later more l p = absurd (omega arith)
 
 module _ {A B : Type 0} (P : A → B → Type 0) where
   -- The lists have the same length, and their elements go together in pairs.

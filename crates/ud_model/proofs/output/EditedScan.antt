@@ -72,38 +72,26 @@ quote-append [] n = refl
 quote-append (b ∷ m) n = ap (λ (t : Bool). is_quote b || t) (quote-append m n) ∙ sym (or_assoc (is_quote b) (has_quote m) (has_quote n))
 
 slash-last : (m : List ℕ) (b : ℕ) → ends_in_slash (m ++ b ∷ []) ≡ (b == slash)
-slash-last [] b = refl
-slash-last (c ∷ []) b = refl
 slash-last (c ∷ d ∷ m) b = slash-last (d ∷ m) b
+slash-last _ _ = refl
 
 -- If a literal is open, its quote is shown.
 abbrev pub Quoted : LexState → List ℕ → Type 0
-Quoted in_text m = Unit {0}
-Quoted at_slash m = Unit {0}
-Quoted in_block m = Unit {0}
-Quoted at_star m = Unit {0}
-Quoted in_line m = Unit {0}
 Quoted (in_literal q) m = has_quote m ≡ true
 Quoted (at_backslash q) m = has_quote m ≡ true
+Quoted _ _ = Unit {0}
 
 -- If a literal is open, its quote is shown; and if a text ends in a slash, the slash is.
 abbrev pub Shown : LexState → List ℕ → Type 0
-Shown in_text m = Unit {0}
 Shown at_slash m = ends_in_slash m ≡ true
-Shown in_block m = Unit {0}
-Shown at_star m = Unit {0}
-Shown in_line m = Unit {0}
 Shown (in_literal q) m = has_quote m ≡ true
 Shown (at_backslash q) m = has_quote m ≡ true
+Shown _ _ = Unit {0}
 
 shown_quoted : (w : LexState) (m : List ℕ) → Shown w m → Quoted w m
-shown_quoted in_text m h = tt
-shown_quoted at_slash m h = tt
-shown_quoted in_block m h = tt
-shown_quoted at_star m h = tt
-shown_quoted in_line m h = tt
 shown_quoted (in_literal q) m h = h
 shown_quoted (at_backslash q) m h = h
+shown_quoted _ _ _ = tt
 
 quote_behind : (m : List ℕ) (b : ℕ) → is_quote b ≡ true → has_quote (m ++ b ∷ []) ≡ true
 quote_behind m b e = quote-append m (b ∷ []) ∙ ap (λ (t : Bool). has_quote m || (t || false)) e ∙ or-true (has_quote m)
@@ -118,10 +106,8 @@ from_text false false m b e f = tt
 
 from_slash : (t s q : Bool) (m : List ℕ) (b : ℕ) → (b == star) ≡ t → (b == slash) ≡ s → is_quote b ≡ q →
     Shown (if t then in_block else if s then in_line else if q then in_literal b else in_text) ((if t || s then blank_last m else m) ++ (if t then space else if s then space else b) ∷ [])
-from_slash true s q m b e f g = tt
-from_slash false true q m b e f g = tt
 from_slash false false true m b e f g = quote_behind m b g
-from_slash false false false m b e f g = tt
+from_slash _ _ _ _ _ _ _ _ = tt
 
 from_block : (t : Bool) (m : List ℕ) → Shown (if t then at_star else in_block) m
 from_block true m = tt
@@ -137,10 +123,9 @@ from_line true m = tt
 from_line false m = tt
 
 from_literal : (q : ℕ) (f s t : Bool) (m : List ℕ) → has_quote m ≡ true → Shown (if f then in_text else if s then in_text else if t then at_backslash q else in_literal q) m
-from_literal q true s t m h = tt
-from_literal q false true t m h = tt
 from_literal q false false true m h = h
 from_literal q false false false m h = h
+from_literal _ _ _ _ _ _ = tt
 
 from_backslash : (q : ℕ) (f : Bool) (m : List ℕ) → has_quote m ≡ true → Shown (if f then in_text else in_literal q) m
 from_backslash q true m h = tt

@@ -19,11 +19,8 @@ is_past cs = not (gives_way cs) && any_true cs && not (ends_with_first_true cs)
 -- An opener after such a group is removed; one that becomes the `#endif` opens such a group.
 abbrev pub Moves : Bool → Verdict → Bool → Type 0
 Moves true v now = (v ≡ Remove) × (now ≡ true)
-Moves false Keep now = Unit {0}
-Moves false Remove now = Unit {0}
-Moves false ToIf now = Unit {0}
-Moves false ToElse now = Unit {0}
 Moves false ToEndif now = now ≡ true
+Moves false _ _ = Unit {0}
 
 ends_behind : (cs : List Cond) (c : Cond) → any_true cs ≡ true → (any_true (cs ++ c ∷ []) ≡ true) × (ends_with_first_true (cs ++ c ∷ []) ≡ false)
 ends_behind [] c e = cc
@@ -58,10 +55,9 @@ opener_moves (Unknown ∷ cs) part c =
     unknown_moves part c (any_true cs) (ends_with_first_true cs) (any_true (cs ++ c ∷ [])) (ends_with_first_true (cs ++ c ∷ [])) (λ e. ends_behind cs c e)
 
 past_by : (g a e : Bool) → (not g && a && not e) ≡ true → (if g then Remove else if not a then Keep else if e then Keep else Remove) ≡ Remove
-past_by true a e h = refl
 past_by false true true h = cc
-past_by false true false h = refl
 past_by false false e h = cc
+past_by _ _ _ _ = refl
 
 -- After such a group the `#endif` is removed.
 pub endif_past : (cs : List Cond) → is_past cs ≡ true → endif_verdict cs ≡ Remove
@@ -71,9 +67,7 @@ endif_past cs h = past_by (gives_way cs) (any_true cs) (ends_with_first_true cs)
 abbrev pub KeepsOrGoes : Verdict → Type 0
 KeepsOrGoes Keep = Unit {0}
 KeepsOrGoes Remove = Unit {0}
-KeepsOrGoes ToIf = ⊥
-KeepsOrGoes ToElse = ⊥
-KeepsOrGoes ToEndif = ⊥
+KeepsOrGoes _ = ⊥
 
 endif_by : (g a e : Bool) → KeepsOrGoes (if g then Remove else if not a then Keep else if e then Keep else Remove)
 endif_by true a e = tt
@@ -88,8 +82,7 @@ endif_keeps cs = endif_by (gives_way cs) (any_true cs) (ends_with_first_true cs)
 -- The first opener stays or is removed.
 pub if_keeps : (c : Cond) → KeepsOrGoes (verdict_so_far [] an_if c)
 if_keeps Yes = tt
-if_keeps No = tt
-if_keeps Unknown = tt
+if_keeps _ = tt
 
 -- A removed line leaves its ending at most.
 pub removed_size : (blank : Bool) (k : Span) (l : Line) → length (piece_alone blank (record { line = l; verdict = Remove; keyword = k })) + length l.body ≤ length (text_of l)
@@ -103,17 +96,12 @@ kept_size false k l = refl
 pub keeps_size : (blank : Bool) (v : Verdict) (k : Span) (l : Line) → KeepsOrGoes v → length (piece_alone blank (record { line = l; verdict = v; keyword = k })) ≤ length (text_of l)
 keeps_size blank Keep k l h = let e = kept_size blank k l in omega (arith, e)
 keeps_size blank Remove k l h = let e = removed_size blank k l in omega (arith, e)
-keeps_size blank ToIf k l h = absurd h
-keeps_size blank ToElse k l h = absurd h
-keeps_size blank ToEndif k l h = absurd h
+keeps_size _ _ _ _ h = absurd h
 
 -- The output is at most so long.
 abbrev pub AtMost : Verdict → ℕ → ℕ → Type 0
-AtMost Keep n m = n ≤ m
-AtMost Remove n m = n ≤ m
-AtMost ToIf n m = n ≤ m
-AtMost ToElse n m = n ≤ m
 AtMost ToEndif n m = n ≤ suc m
+AtMost _ n m = n ≤ m
 
 fits_by : (a b c : List ℕ) (t u : Bool) (n : ℕ) → (t ≡ true → length a ≤ n) → (u ≡ true → length b ≤ n) → length c ≤ n → length (if t then a else if u then b else c) ≤ n
 fits_by a b c true u n f g h = f refl

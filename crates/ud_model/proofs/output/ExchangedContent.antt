@@ -28,12 +28,9 @@ abbrev pub Settled : Scan → List ℕ → Type 0
 Settled now tail = (now.joins_after ≡ false) ⊎ (may_split_keyword now tail ≡ false)
 
 uncut : (f j c l : Bool) → (j ≡ false) ⊎ (l ≡ false) → (f && j && c && l) ≡ false
-uncut false j c l h = refl
-uncut true false c l h = refl
-uncut true true false l h = refl
-uncut true true true false h = refl
 uncut true true true true (inl e) = e
 uncut true true true true (inr e) = e
+uncut _ _ _ _ _ = refl
 
 module _ (now : Scan) (ws gs tail : List ℕ) (k : Kind) (w : Each IsWhite ws) (g : Each IsWhite gs) (d : StartsDark tail) (m : now.masked ≡ (ws ++ 35 ∷ gs) ++ tail)
     (f : now.fresh ≡ true) (s : Settled now tail) (kind : kind_of (leading_word tail) ≡ Some k) where

@@ -15,34 +15,21 @@ use Rattle.ud_model.proofs.output.DirectiveFront.{Front, directive_front, quiet_
 
 -- An open literal isn't white.
 abbrev pub Sane : LexState → Bool → Type 0
-Sane in_text white = Unit {0}
-Sane at_slash white = Unit {0}
-Sane in_block white = Unit {0}
-Sane at_star white = Unit {0}
-Sane in_line white = Unit {0}
 Sane (in_literal q) white = white ≡ false
 Sane (at_backslash q) white = white ≡ false
+Sane _ _ = Unit {0}
 
 -- If a line is fresh, no literal is open before it.
 fresh_quoted : (w : LexState) (white : Bool) (t : List ℕ) → Sane w white → fresh_at w white t ≡ true → Quoted w []
-fresh_quoted in_text white t s f = tt
-fresh_quoted at_slash white t s f = tt
-fresh_quoted in_block white t s f = tt
-fresh_quoted at_star white t s f = tt
-fresh_quoted in_line white t s f = tt
 fresh_quoted (in_literal q) white t s f = let e : true ≡ false = sym f ∙ s in cc
 fresh_quoted (at_backslash q) white t s f = let e : true ≡ false = sym f ∙ s in cc
+fresh_quoted _ _ _ _ _ = tt
 
 -- Only the first byte of a line decides whether it is fresh.
 fresh_first : (w : LexState) (white : Bool) (a t u : List ℕ) (n : ℕ) → length a ≡ suc n → fresh_at w white (a ++ t) ≡ fresh_at w white (a ++ u)
 fresh_first w white [] t u n e = absurd (omega arith)
 fresh_first in_text white (y ∷ a) t u n e = refl
-fresh_first at_slash white (y ∷ a) t u n e = refl
-fresh_first in_block white (y ∷ a) t u n e = refl
-fresh_first at_star white (y ∷ a) t u n e = refl
-fresh_first in_line white (y ∷ a) t u n e = refl
-fresh_first (in_literal q) white (y ∷ a) t u n e = refl
-fresh_first (at_backslash q) white (y ∷ a) t u n e = refl
+fresh_first _ _ (_ ∷ _) _ _ n _ = refl
 
 -- If a keyword is shown, the text before it ends between lexemes.
 keyword_place : (w : LexState) (bytes prefix : List ℕ) (c : ℕ) (rest : List ℕ) (n : ℕ) → has_quote prefix ≡ false → ends_in_slash prefix ≡ false → c ≢ space → c ≢ newline →

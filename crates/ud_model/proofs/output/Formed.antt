@@ -68,27 +68,20 @@ whole_body t (prefix, n, e) = go (whole_ending t (prefix, n, e))
 
 -- The output for a body.
 unfoldable pub edited_body : Verdict → Span → List ℕ → List ℕ
-edited_body Keep k b = b
-edited_body Remove k b = b
 edited_body ToIf k b = (take k.at b ++ opener_keyword k.len) ++ drop (k.at + k.len) b
 edited_body ToElse k b = take k.at b ++ codes "else"
 edited_body ToEndif k b = take k.at b ++ codes "endif"
+edited_body _ _ b = b
 
 -- The line isn't removed.
 abbrev pub IsLeft : Verdict → Type 0
-IsLeft Keep = Unit {0}
 IsLeft Remove = ⊥
-IsLeft ToIf = Unit {0}
-IsLeft ToElse = Unit {0}
-IsLeft ToEndif = Unit {0}
+IsLeft _ = Unit {0}
 
 piece_parts : (v : Verdict) (k : Span) (l : Line) → IsLeft v → piece_by v k l ≡ edited_body v k l.body ++ l.ending
 unfolding edited_body
-piece_parts Keep k l h = refl
 piece_parts Remove k l h = absurd h
-piece_parts ToIf k l h = refl
-piece_parts ToElse k l h = refl
-piece_parts ToEndif k l h = refl
+piece_parts _ _ _ _ = refl
 
 abbrev has_feed : List ℕ → Bool
 has_feed [] = false
@@ -102,14 +95,13 @@ word_no_feed (b ∷ w) e =
 
 edited_no_feed : (v : Verdict) (k : Span) (b : List ℕ) → NoNewline b → NoNewline (edited_body v k b)
 unfolding edited_body
-edited_no_feed Keep k b n = n
-edited_no_feed Remove k b n = n
 edited_no_feed ToIf k b n =
     no_newline-append (take k.at b ++ opener_keyword k.len) (drop (k.at + k.len) b)
     (no_newline-append (take k.at b) (opener_keyword k.len) (no_feed_cut k.at b n).0 (word_no_feed (opener_keyword k.len) (each_length (λ w. has_feed w ≡ false) refl refl refl k.len)))
     (no_feed_cut (k.at + k.len) b n).1
 edited_no_feed ToElse k b n = no_newline-append (take k.at b) (codes "else") (no_feed_cut k.at b n).0 (word_no_feed (codes "else") refl)
 edited_no_feed ToEndif k b n = no_newline-append (take k.at b) (codes "endif") (no_feed_cut k.at b n).0 (word_no_feed (codes "endif") refl)
+edited_no_feed _ _ _ n = n
 
 -- The piece of a whole line that is left is a whole line.
 pub whole_piece : (v : Verdict) (k : Span) (n : ℕ) (t : List ℕ) → IsLeft v → IsWhole t → IsWhole (piece_by v k (line_at n t))
@@ -181,8 +173,6 @@ pub record IsOther (q : ℕ) : Type 0 where
 -- An edited body ends in such a byte only if the body does.
 pub edited_end : (q : ℕ) → IsOther q → (v : Verdict) (k : Span) (b : List ℕ) → EndsIn q (edited_body v k b) → EndsIn q b
 unfolding edited_body
-edited_end q o Keep k b h = h
-edited_end q o Remove k b h = h
 edited_end q o ToIf k b h =
     end_drop q (k.at + k.len) b
     (end_front q (take k.at b ++ opener_keyword k.len) (drop (k.at + k.len) b) (by_push (drop (k.at + k.len) b)) refl
@@ -190,6 +180,7 @@ edited_end q o ToIf k b h =
     (not_end q (take k.at b) (codes "if ") 32 o.no_space) k.len) h)
 edited_end q o ToElse k b h = absurd (not_end q (take k.at b) (codes "els") 101 o.no_else h)
 edited_end q o ToEndif k b h = absurd (not_end q (take k.at b) (codes "endi") 102 o.no_endif h)
+edited_end _ _ _ _ _ h = h
 
 test_false : (l s : List ℕ) → ((f : List ℕ) → l ≡ f ++ s → ⊥) → ends_with nat_eq l s ≡ false
 test_false l s n = go (ends_with nat_eq l s) (ends_is Decides-eqb l s (ends_with nat_eq l s) refl).0

@@ -32,11 +32,9 @@ the_mode o = mode_by o.settings.plain
 
 -- An opener isn't ignoring.
 abbrev pub Heeds : Item Reading → Type 0
-Heeds (text_line r) = Unit {0}
 Heeds (if_line p) = p.ignoring ≡ false
 Heeds (elif_line p) = p.ignoring ≡ false
-Heeds (else_line r) = Unit {0}
-Heeds (endif_line r) = Unit {0}
+Heeds _ = Unit {0}
 
 abbrev Calm : Option Entry → Type 0
 Calm None = Unit {0}
@@ -60,10 +58,9 @@ calm_ifdef None table n = refl
 calm_ifdef (Some name) table n = calm_by (entry_in table name) (calm_from None table name tt n)
 
 calm_test : (p : Test) (after : List ℕ) (table : List Argument) (rules : Rules) → NoneIgnores table → (decision_by_test p after table rules).ignoring ≡ false
-calm_test Nonzero after table rules n = refl
 calm_test Defined after table rules n = calm_ifdef (sole_name after) table n
 calm_test Undefined after table rules n = calm_ifdef (sole_name after) table n
-calm_test Nothing after table rules n = refl
+calm_test _ _ _ _ n = refl
 
 calm_condition : (k : Kind) (after : List ℕ) (table : List Argument) (rules : Rules) → NoneIgnores table → (condition_of k after table rules).ignoring ≡ false
 calm_condition k after table rules n =
@@ -74,17 +71,15 @@ calm_unless true d j h = refl
 calm_unless false d j h = ap (λ (t : Bool). t && not j) h
 
 calm_item : (r : Reading) (p : Role) (d : Decision) → d.ignoring ≡ false → Heeds (directive_item r p d)
-calm_item r IfGroup d h = h
-calm_item r ElifGroup d h = h
 calm_item r ElseGroup d h = tt
 calm_item r EndifLine d h = tt
+calm_item _ _ _ h = h
 
 by_content : (o : Options) (r : Reading) (c : Content) → NoneIgnores o.table → Heeds (item_by o r c)
-by_content o r cut_keyword n = tt
-by_content o r text n = tt
 by_content o r (directive d) n =
     calm_item r (role_of d.kind) (decision_on r.scan d o.table (rules_of o.settings))
     (calm_unless d.broken (condition_of d.kind d.after o.table (rules_of o.settings)) r.scan.joins_after (calm_condition d.kind d.after o.table (rules_of o.settings) n))
+by_content _ _ _ n = tt
 
 -- The opener of an item that was read so isn't ignoring.
 pub item_heeds : (o : Options) (r : Reading) → NoneIgnores o.table → Heeds (item_of o r)

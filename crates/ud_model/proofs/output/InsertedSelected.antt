@@ -25,21 +25,19 @@ or_both (both w) k = both w
 
 if_true : (a b : Bool) (rs ss : List Reading) → b ≡ a → LinesWithInserted rs ss → WovenIf (where_true a rs) (where_true b ss)
 if_true true true rs ss e k = both k
-if_true true false rs ss e k = cc
-if_true false true rs ss e k = cc
 if_true false false rs ss e k = neither
+if_true _ _ rs ss e _ = cc
 
 -- The truths of as many openers as `xs`, part by part.
 apart : (v w : World Reading) (xs bs cs ds : List Reading) → length xs ≡ length cs → map v (xs ++ bs) ≡ map w (cs ++ ds) →
     (map v xs ≡ map w cs) × (map v bs ≡ map w ds)
 apart v w [] bs [] ds l e = (refl, e)
-apart v w [] bs (c ∷ cs) ds l e = absurd (omega arith)
-apart v w (a ∷ xs) bs [] ds l e = absurd (omega arith)
 apart v w (a ∷ xs) bs (c ∷ cs) ds l e =
     let p : v a ≡ w c = cc in
     let q : map v (xs ++ bs) ≡ map w (cs ++ ds) = cc in
     let r : (map v xs ≡ map w cs) × (map v bs ≡ map w ds) = apart v w xs bs cs ds (omega arith) q in
     (ap₂ (λ (x : Bool) (zs : List Bool). x ∷ zs) p r.0, r.1)
+apart v w xs bs cs ds l e = absurd (omega arith)
 
 long_both : (xs bs cs ds : List Reading) → length xs ≡ length cs → length bs ≡ length ds → length (xs ++ bs) ≡ length (cs ++ ds)
 long_both xs bs cs ds e f = let g = length-append xs bs in let h = length-append cs ds in omega arith

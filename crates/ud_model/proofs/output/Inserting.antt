@@ -196,9 +196,6 @@ left_number ToEndif before l k r e h = numbered_by (last_removed before) l (piec
 -- The last judged line is removed if the last mark means so.
 pub removed_last : (xs : List (Item Reading)) (ms : List Mark) → length xs ≡ length ms → last_removed (judged_lines xs ms) ≡ ends_removed ms
 removed_last [] [] e = refl
-removed_last [] (m ∷ ms) e = absurd (omega arith)
-removed_last (x ∷ xs) [] e = absurd (omega arith)
 removed_last (x ∷ []) (m ∷ []) e = refl
-removed_last (x ∷ []) (m ∷ n ∷ ms) e = absurd (omega arith)
-removed_last (x ∷ y ∷ xs) (m ∷ []) e = absurd (omega arith)
 removed_last (x ∷ y ∷ xs) (m ∷ n ∷ ms) e = removed_last (y ∷ xs) (n ∷ ms) (omega arith)
+removed_last xs ms e = absurd (omega arith)

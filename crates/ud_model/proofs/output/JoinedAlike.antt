@@ -41,15 +41,10 @@ pub data Does {L : Type 0} : Item L → Bool → Mark → Bool → Type 0 where
   does_endif : (l : L) (kept was : Bool) (v : Verdict) → Does (endif_line l) (kept && was) (marked kept v) kept
 
 stage_keeps : (s : Stage) (part : Part) (c : Cond) → IsTrue (keeps_rest (verdict_at s part c)) → kept_at s c ≡ true
-stage_keeps leading part Yes h = cc
-stage_keeps leading part No h = cc
 stage_keeps leading part Unknown h = refl
-stage_keeps given part c h = cc
 stage_keeps going part Yes h = refl
-stage_keeps going part No h = cc
 stage_keeps going part Unknown h = refl
-stage_keeps at_true part c h = cc
-stage_keeps past part c h = cc
+stage_keeps _ _ _ h = cc
 
 -- The group of an opener that stays as an opener is kept.
 keeps_inside : (cs : List Cond) (part : Part) (c : Cond) → IsTrue (keeps_rest (verdict_so_far cs part c)) → is_kept cs c ≡ true
@@ -114,10 +109,8 @@ Carried x m behind = (reading_of x).scan.joins_after ≡ true → is_removed m.v
 
 keeps_stays : (v : Verdict) → IsTrue (keeps_rest v) → is_removed v ≡ false
 keeps_stays Keep h = refl
-keeps_stays Remove h = cc
 keeps_stays ToIf h = refl
-keeps_stays ToElse h = cc
-keeps_stays ToEndif h = cc
+keeps_stays _ h = cc
 
 marked_text : (b : Bool) → is_removed (marked b Keep).verdict ≡ not b
 marked_text true = refl
@@ -128,10 +121,7 @@ spoiled_parts : (span joins removed : Bool) (v : Verdict) → (span && true && (
     span ≡ true → IsTrue (keeps_rest v) × ((joins ≡ true) → removed ≡ false)
 spoiled_parts true joins removed Keep e p = (refl, λ q. ap (λ (b : Bool). b && removed) (sym q) ∙ e)
 spoiled_parts true joins removed ToIf e p = (refl, λ q. ap (λ (b : Bool). b && removed) (sym q) ∙ e)
-spoiled_parts true joins removed Remove e p = cc
-spoiled_parts true joins removed ToElse e p = cc
-spoiled_parts true joins removed ToEndif e p = cc
-spoiled_parts false joins removed v e p = cc
+spoiled_parts _ _ _ _ e p = cc
 
 -- The case of a directive that spans lines, if all groups around its section are kept.
 kept_directive : (r : Reading) (removed : Bool) (v : Verdict) → (is_spanning r.scan && true && (not (keeps_rest v) || (r.scan.joins_before && removed))) ≡ false →
@@ -145,18 +135,15 @@ module _ (removed : Bool) where
   -- The facts after a line that isn't obfuscated and joins the next one.
   pub carried_step : {x : Item Reading} {before behind : Bool} {m : Mark} → Does x before m behind → is_obfuscated_after removed x m ≡ false → Carried x m behind
   carried_step (does_text l before) e j = marked_text before
-  carried_step (does_if o false v inside k) e j = refl
   carried_step (does_if o true v inside k) e j =
       inside_not v inside k (kept_directive o.line removed v e (or_right o.line.scan.joins_before o.line.scan.joins_after j)).0
-  carried_step (does_elif o false was v inside k) e j = refl
   carried_step (does_elif o true was v inside k) e j =
       inside_not v inside k (kept_directive o.line removed v e (or_right o.line.scan.joins_before o.line.scan.joins_after j)).0
-  carried_step (does_else l false was v inside k) e j = refl
   carried_step (does_else l true was v inside k) e j =
       inside_not v inside k (kept_directive l removed v e (or_right l.scan.joins_before l.scan.joins_after j)).0
-  carried_step (does_endif l false was v) e j = refl
   carried_step (does_endif l true was v) e j =
       keeps_stays v (kept_directive l removed v e (or_right l.scan.joins_before l.scan.joins_after j)).0
+  carried_step _ _ _ = refl
 
   by_kept : (r : Reading) (v : Verdict) → (is_spanning r.scan && true && (not (keeps_rest v) || (r.scan.joins_before && removed))) ≡ false → r.scan.joins_before ≡ true →
       is_removed v ≡ removed
@@ -168,30 +155,22 @@ module _ (removed : Bool) where
   pub joined_alike : {x : Item Reading} {before behind : Bool} {m : Mark} → Does x before m behind → is_obfuscated_after removed x m ≡ false →
       (reading_of x).scan.joins_before ≡ true → removed ≡ not before → is_removed m.verdict ≡ removed
   joined_alike (does_text l before) e j h = marked_text before ∙ sym h
-  joined_alike (does_if o false v inside k) e j h = sym h
   joined_alike (does_if o true v inside k) e j h = by_kept o.line v e j
-  joined_alike (does_elif o false was v inside k) e j h = sym h
   joined_alike (does_elif o true was v inside k) e j h = by_kept o.line v e j
-  joined_alike (does_else l false was v inside k) e j h = sym h
   joined_alike (does_else l true was v inside k) e j h = by_kept l v e j
-  joined_alike (does_endif l false was v) e j h = sym h
   joined_alike (does_endif l true was v) e j h = by_kept l v e j
+  joined_alike _ _ _ h = sym h
 
   alone_by : (span j k : Bool) → (span && true && (not k || j)) ≡ false → k ≡ false → span ≡ false
   alone_by false j k e h = refl
-  alone_by true j true e h = cc
-  alone_by true j false e h = cc
+  alone_by true _ _ e h = cc
 
   -- A line that is edited, but not to an `#if`, joins no other.
   pub edited_alone : {x : Item Reading} {before behind : Bool} {m : Mark} → Does x before m behind → is_obfuscated_after removed x m ≡ false →
       keeps_rest m.verdict ≡ false → is_removed m.verdict ≡ false → is_spanning (reading_of x).scan ≡ false
   edited_alone (does_text l true) e k r = cc
-  edited_alone (does_text l false) e k r = cc
-  edited_alone (does_if o false v inside h) e k r = cc
   edited_alone (does_if o true v inside h) e k r = alone_by (is_spanning o.line.scan) (o.line.scan.joins_before && removed) (keeps_rest v) e k
-  edited_alone (does_elif o false was v inside h) e k r = cc
   edited_alone (does_elif o true was v inside h) e k r = alone_by (is_spanning o.line.scan) (o.line.scan.joins_before && removed) (keeps_rest v) e k
-  edited_alone (does_else l false was v inside h) e k r = cc
   edited_alone (does_else l true was v inside h) e k r = alone_by (is_spanning l.scan) (l.scan.joins_before && removed) (keeps_rest v) e k
-  edited_alone (does_endif l false was v) e k r = cc
   edited_alone (does_endif l true was v) e k r = alone_by (is_spanning l.scan) (l.scan.joins_before && removed) (keeps_rest v) e k
+  edited_alone _ e k r = cc

@@ -207,9 +207,8 @@ an_end e t n q = by (ends_with nat_eq t (13 ∷ 10 ∷ [])) (ends_with nat_eq t 
     by false false h = absurd (n (sym h))
 
 unspliced_body : (a b : Bool) → (a && not b) ≡ false → b ≡ false → a ≡ false
-unspliced_body true true h g = cc
-unspliced_body true false h g = cc
 unspliced_body false b h g = refl
+unspliced_body true _ h g = cc
 
 module _ (ps : List Piece) (e : List ℕ) (s : AreSpliced ps) (k : keeps_ending (line_of_pieces ps e) ≡ true) (n : e ≢ []) (u : is_spliced (line_of_pieces ps e) ≡ false) where
   keeps : ending_of (map byte_of (cells_among ps) ++ e) ≡ e

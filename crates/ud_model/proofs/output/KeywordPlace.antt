@@ -43,9 +43,8 @@ first_byte w b c bytes rest n e = go (first_shown bytes w b)
 module _ (c : ℕ) (prefix : List ℕ) (unquoted : has_quote prefix ≡ false) (unslashed : ends_in_slash prefix ≡ false) (no_space : c ≢ space) (no_newline : c ≢ newline) where
   slash_by : (t s : Bool) (m : List ℕ) (x : ℕ) → ends_in_slash m ≡ true → (if t || s then blank_last m else m) ≡ prefix →
       (if t then space else if s then space else x) ≡ c → ⊥
-  slash_by true s m x h e g = no_space (sym g)
-  slash_by false true m x h e g = no_space (sym g)
   slash_by false false m x h e g = let q : true ≡ false = sym h ∙ ap ends_in_slash e ∙ unslashed in cc
+  slash_by _ _ _ _ _ _ g = no_space (sym g)
 
   line_by : (t : Bool) (x : ℕ) → (x == newline) ≡ t → (if t then x else space) ≡ c → ⊥
   line_by true x e g = no_newline (sym g ∙ eqb-true x newline e)
@@ -55,11 +54,10 @@ module _ (c : ℕ) (prefix : List ℕ) (unquoted : has_quote prefix ≡ false) (
   is_text : (p : LexState) (m : List ℕ) (x : ℕ) → Shown p m → (if opens_comment p x then blank_last m else m) ≡ prefix → masked_byte p x ≡ c → (p ≡ in_text) × (m ≡ prefix)
   is_text in_text m x h e g = (refl, e)
   is_text at_slash m x h e g = absurd (slash_by (x == star) (x == slash) m x h e g)
-  is_text in_block m x h e g = absurd (no_space (sym g))
-  is_text at_star m x h e g = absurd (no_space (sym g))
   is_text in_line m x h e g = absurd (line_by (x == newline) x refl g)
   is_text (in_literal q) m x h e g = let r : true ≡ false = sym h ∙ ap has_quote e ∙ unquoted in cc
   is_text (at_backslash q) m x h e g = let r : true ≡ false = sym h ∙ ap has_quote e ∙ unquoted in cc
+  is_text _ _ _ _ _ g = absurd (no_space (sym g))
 
   -- The position of that byte.
   pub found_by : (w : LexState) (y : ℕ) (a : List ℕ) (b rest : List ℕ) → Quoted w [] → length (y ∷ a) ≡ length prefix →

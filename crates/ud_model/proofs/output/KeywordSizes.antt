@@ -18,9 +18,8 @@ use Rattle.ud_model.specs.declared.kind.Role.TheVariants.{IfGroup, ElifGroup, El
 -- The least length of a keyword with this role, if it may be edited.
 abbrev pub least : Role → ℕ
 least IfGroup = 2
-least ElifGroup = 4
-least ElseGroup = 4
 least EndifLine = 5
+least _ = 4
 
 -- The kind of a keyword decides its least length.
 pub kind_size : (w : List ℕ) (k : Kind) → kind_of w ≡ Some k → least (role_of k) ≤ length w
@@ -28,9 +27,8 @@ kind_size w k e = leb-true (least (role_of k)) (length w) (each_keyword (λ row.
 
 -- In this content the keyword is at least as long as its kind demands.
 abbrev pub HasSize : Content → Type 0
-HasSize cut_keyword = Unit {0}
 HasSize (directive d) = least (role_of d.kind) ≤ d.keyword.len
-HasSize text = Unit {0}
+HasSize _ = Unit {0}
 
 size_at : (scan : Scan) (rest : List ℕ) (k : Option Kind) → kind_of (leading_word rest) ≡ k → HasSize (directive_at scan rest k)
 size_at scan rest None e = tt
@@ -59,27 +57,23 @@ pub record HasWord (r : Reading) (n : ℕ) : Type 0 where
 
 -- The keywords of a directive that may be edited lie in its body.
 abbrev pub HasKeyword : Item Reading → Type 0
-HasKeyword (text_line r) = Unit {0}
-HasKeyword (if_line o) = Unit {0}
 HasKeyword (elif_line o) = HasWord o.line (least ElifGroup)
 HasKeyword (else_line r) = HasWord r (least ElseGroup)
 HasKeyword (endif_line r) = HasWord r (least EndifLine)
+HasKeyword _ = Unit {0}
 
 item_keyword : (r : Reading) (p : Role) (d : Decision) → HasWord r (least p) → HasKeyword (directive_item r p d)
 item_keyword r IfGroup d h = tt
-item_keyword r ElifGroup d h = h
-item_keyword r ElseGroup d h = h
-item_keyword r EndifLine d h = h
+item_keyword _ _ _ h = h
 
 by_content : (o : Options) (r : Reading) (c : Content) → content_of r.scan ≡ c → HasSize c → length r.scan.masked ≤ length r.line.body → HasKeyword (item_by o r c)
-by_content o r cut_keyword e s h = tt
-by_content o r text e s h = tt
 by_content o r (directive d) e s h =
     let l : (keyword_in (content_of r.scan)).at + (keyword_in (content_of r.scan)).len ≤ length r.scan.masked = keyword_lies r.scan in
     item_keyword r (role_of d.kind) (decision_on r.scan d o.table (rules_of o.settings)) (record {
       size = subst (λ (c : Content). least (role_of d.kind) ≤ (keyword_in c).len) (sym e) s;
       within = omega (arith, l, h);
     })
+by_content _ _ _ _ _ _ = tt
 
 -- The keyword of an item lies in its line, if the masked line isn't longer.
 pub has_keyword : (o : Options) (r : Reading) → length r.scan.masked ≤ length r.line.body → HasKeyword (item_of o r)

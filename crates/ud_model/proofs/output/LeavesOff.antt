@@ -30,18 +30,15 @@ quote_dark b e = go (or_cases (b == 34) (b == 39) e)
     go (inr f) = at 39 (refl, refl, refl) f
 
 sane_text : (s q white : Bool) (b : ℕ) → (b == slash) ≡ s → is_quote b ≡ q → Sane (if s then at_slash else if q then in_literal b else in_text) (if b == slash then white else if b == newline then true else white && is_white b)
-sane_text true q white b e f = tt
-sane_text false false white b e f = tt
 sane_text false true white b e f =
     let d : ((b == slash) ≡ false) × ((b == newline) ≡ false) × (is_white b ≡ false) = quote_dark b f in
     ap₂ (λ (s t : Bool). if s then white else if t then true else white && is_white b) d.0 d.1 ∙ ap (λ (t : Bool). white && t) d.2 ∙ and-false white
+sane_text _ _ _ _ _ _ = tt
 
 sane_slash : (t s q white : Bool) (b : ℕ) → is_quote b ≡ q →
     Sane (if t then in_block else if s then in_line else if q then in_literal b else in_text) (if t then white else if s then white else if b == newline then true else false)
-sane_slash true s q white b e = tt
-sane_slash false true q white b e = tt
-sane_slash false false false white b e = tt
 sane_slash false false true white b e = ap (λ (t : Bool). if t then true else false) (quote_dark b e).1
+sane_slash _ _ _ _ _ _ = tt
 
 sane_block : (t white : Bool) → Sane (if t then at_star else in_block) white
 sane_block true white = tt
@@ -57,10 +54,9 @@ sane_line true white = tt
 sane_line false white = tt
 
 sane_literal : (q : ℕ) (f s t w white : Bool) → white ≡ false → Sane (if f then in_text else if s then in_text else if t then at_backslash q else in_literal q) (if f then true else white && w)
-sane_literal q true s t w white e = tt
-sane_literal q false true t w white e = tt
 sane_literal q false false true w white e = ap (λ (b : Bool). b && w) e
 sane_literal q false false false w white e = ap (λ (b : Bool). b && w) e
+sane_literal _ _ _ _ _ _ _ = tt
 
 sane_backslash : (q : ℕ) (f w white : Bool) → white ≡ false → Sane (if f then in_text else in_literal q) (if f then true else white && w)
 sane_backslash q true w white e = tt

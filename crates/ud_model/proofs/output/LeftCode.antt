@@ -36,9 +36,7 @@ use Rattle.ud_model.proofs.output.Suited.{Suits}
 calm_by : (s : Bool) (k : LexemeKind) → (s || is_block k) ≡ false → is_in_block (comment_at s k) ≡ false
 calm_by true k e = cc
 calm_by false block_comment e = cc
-calm_by false line_comment e = refl
-calm_by false literal e = refl
-calm_by false single e = refl
+calm_by false _ _ = refl
 
 -- A line that joins nothing doesn't end in a comment.
 calm_alone : (run : List Line) (l : Line) → (scan_after_run run l).joins_after ≡ false → is_in_block (scan_after_run run l).comment ≡ false

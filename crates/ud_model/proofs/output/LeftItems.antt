@@ -31,10 +31,7 @@ IsLeftOf v x y = item_with scanned y ∷ [] ≡ map (item_with left_seen) (kept_
 
 kept_seen : (x : Item Reading) → item_with scanned x ∷ [] ≡ map (item_with left_seen) (kept_line Keep x)
 kept_seen (text_line l) = refl
-kept_seen (if_line p) = refl
-kept_seen (elif_line p) = refl
-kept_seen (else_line l) = refl
-kept_seen (endif_line l) = refl
+kept_seen _ = refl
 
 same_role : (r q : Reading) (p : Role) (d e : Decision) → scanned q ≡ scanned r → d ≡ e → item_with scanned (directive_item q p d) ≡ item_with scanned (directive_item r p e)
 same_role r q IfGroup d e b h = ap₂ (λ (t : Seen) (c : Decision). if_line (record { line = t; cond = c.cond; ignoring = c.ignoring })) b h
@@ -73,11 +70,10 @@ spaced_decision s q d k n table rules e u = go d.broken u
 
 module _ (o : Options) where
   same_content : (r q : Reading) (c : Content) → q.scan ≡ r.scan → scanned q ≡ scanned r → item_with scanned (item_by o q c) ≡ item_with scanned (item_by o r c)
-  same_content r q cut_keyword s b = ap text_line b
-  same_content r q text s b = ap text_line b
   same_content r q (directive d) s b =
       same_role r q (role_of d.kind) (decision_on q.scan d o.table (rules_of o.settings)) (decision_on r.scan d o.table (rules_of o.settings)) b
       (ap (λ (t : Scan). decision_on t d o.table (rules_of o.settings)) s)
+  same_content _ _ _ _ b = ap text_line b
 
   -- A line that is scanned as before is the item that it was.
   pub kept_item : (r q : Reading) → q.scan ≡ r.scan → line_bytes q ≡ line_bytes r → IsLeftOf Keep (item_of o r) (item_of o q)
@@ -137,38 +133,30 @@ module _ (o : Options) where
       ∙ sym (ap (λ (x : Item Reading). map (item_with left_seen) (kept_line ToEndif x)) (item_as r d ElseGroup e h))
 
   if_role : (r : Reading) (p : Role) (d : Decision) → Suits ToIf (directive_item r p d) → (p ≡ ElifGroup) × (d.cond ≡ Unknown)
-  if_role r IfGroup d s = absurd s
   if_role r ElifGroup d s = (refl, s)
-  if_role r ElseGroup d s = absurd s
-  if_role r EndifLine d s = absurd s
+  if_role _ _ _ s = absurd s
 
   else_role : (r : Reading) (p : Role) (d : Decision) → Suits ToElse (directive_item r p d) → p ≡ ElifGroup
-  else_role r IfGroup d s = absurd s
   else_role r ElifGroup d s = refl
-  else_role r ElseGroup d s = absurd s
-  else_role r EndifLine d s = absurd s
+  else_role _ _ _ s = absurd s
 
   endif_role : (r : Reading) (p : Role) (d : Decision) → Suits ToEndif (directive_item r p d) → (p ≡ ElifGroup) ⊎ (p ≡ ElseGroup)
-  endif_role r IfGroup d s = absurd s
   endif_role r ElifGroup d s = inl refl
   endif_role r ElseGroup d s = inr refl
-  endif_role r EndifLine d s = absurd s
+  endif_role _ _ _ s = absurd s
 
   if_content : (r : Reading) (c : Content) → Suits ToIf (item_by o r c) → (d : Directive) × (c ≡ directive d) × (role_of d.kind ≡ ElifGroup) × ((decision_on r.scan d o.table (rules_of o.settings)).cond ≡ Unknown)
-  if_content r cut_keyword s = absurd s
-  if_content r text s = absurd s
   if_content r (directive d) s =
       let q = if_role r (role_of d.kind) (decision_on r.scan d o.table (rules_of o.settings)) s in (d, refl, q.0, q.1)
+  if_content _ _ s = absurd s
 
   else_content : (r : Reading) (c : Content) → Suits ToElse (item_by o r c) → (d : Directive) × (c ≡ directive d) × (role_of d.kind ≡ ElifGroup)
-  else_content r cut_keyword s = absurd s
-  else_content r text s = absurd s
   else_content r (directive d) s = (d, refl, else_role r (role_of d.kind) (decision_on r.scan d o.table (rules_of o.settings)) s)
+  else_content _ _ s = absurd s
 
   endif_content : (r : Reading) (c : Content) → Suits ToEndif (item_by o r c) → (d : Directive) × (c ≡ directive d) × ((role_of d.kind ≡ ElifGroup) ⊎ (role_of d.kind ≡ ElseGroup))
-  endif_content r cut_keyword s = absurd s
-  endif_content r text s = absurd s
   endif_content r (directive d) s = (d, refl, endif_role r (role_of d.kind) (decision_on r.scan d o.table (rules_of o.settings)) s)
+  endif_content _ _ s = absurd s
 
   -- A line that becomes an `#if` has a directive that opens a further group, and whose condition is
   -- unknown.

@@ -31,11 +31,9 @@ piece_line v keyword n m t l e h w =
     }
 
 same_and : (a b e : Bool) → (b ≡ true → a ≡ true) → ((a && e) ≡ true → b ≡ true) → (b && e) ≡ (a && e)
-same_and true true e f g = refl
-same_and false false e f g = refl
 same_and false true e f g = let h : false ≡ true = f refl in cc
 same_and true false true f g = let h : false ≡ true = g refl in cc
-same_and true false false f g = refl
+same_and _ _ _ _ _ = refl
 
 ends_in : (b : List ℕ) → ends_with nat_eq b (backslash ∷ []) ≡ true → EndsIn backslash b
 unfolding EndsIn

@@ -91,12 +91,11 @@ bytes_both (splice b ∷ ps) qs = ap (λ (xs : List ℕ). b ++ xs) (bytes_both p
 
 -- The cells are the cells of the one line.
 pub pieces_cells : (cs : List Cell) (ls : List Line) → cells_among (pieces_of cs ls) ≡ cs
-pieces_cells cs [] = plain_cells cs
-pieces_cells cs (l ∷ []) = plain_cells cs
 pieces_cells cs (l ∷ m ∷ ls) =
     let n : ℕ = length (content l) in
     both (map cell (take n cs)) (splice (92 ∷ l.ending) ∷ pieces_of (drop n cs) (m ∷ ls))
     ∙ ap₂ (λ (x y : List Cell). x ++ y) (plain_cells (take n cs)) (pieces_cells (drop n cs) (m ∷ ls)) ∙ take-append-drop n cs
+pieces_cells cs _ = plain_cells cs
 
 -- The cells of the first line, and the others.
 parted : (cs : List Cell) (a b : List ℕ) → map byte_of cs ≡ a ++ b → (map byte_of (take (length a) cs) ≡ a) × (map byte_of (drop (length a) cs) ≡ b)
@@ -135,14 +134,13 @@ spliced_both (cell c ∷ ps) qs h k = (h.0, spliced_both ps qs h.1 k)
 spliced_both (splice b ∷ ps) qs h k = (h.0, spliced_both ps qs h.1 k)
 
 pub pieces_spliced : (cs : List Cell) (ls : List Line) → NoNewline (map byte_of cs) → Each IsTidy ls → AreSpliced (pieces_of cs ls)
-pieces_spliced cs [] h t = plain_spliced cs h
-pieces_spliced cs (l ∷ []) h t = plain_spliced cs h
 pieces_spliced cs (l ∷ m ∷ ls) h t =
     let n : ℕ = length (content l) in
     let p = no_feed_cut n (map byte_of cs) h in
     spliced_both (map cell (take n cs)) (splice (92 ∷ l.ending) ∷ pieces_of (drop n cs) (m ∷ ls))
     (plain_spliced (take n cs) (subst NoNewline (take-map byte_of n cs) p.0))
     (a_splice l.ending t.0.ending, pieces_spliced (drop n cs) (m ∷ ls) (subst NoNewline (drop-map byte_of n cs) p.1) t.1)
+pieces_spliced cs _ h _ = plain_spliced cs h
 
 fewer_spliced : {xs ys : List Piece} → IsSublist xs ys → AreSpliced ys → AreSpliced xs
 fewer_spliced nothing h = tt

@@ -78,9 +78,8 @@ module _ (x : World Reading) where
   -- Another group is processed if none before it is and its condition is true.
   got_group : (ns : Nodes Reading) → GotNodes ns → (q : Option (List Reading)) (b : Bool) (ls ss : List Reading) → Got ls (ss ++ lines_or q []) →
       Got (ls ++ of (lines_of_nodes ns)) (ss ++ lines_or (or_else q (where_true b (selected x ns))) [])
-  got_group ns h (Some rs) b ls ss g = pass_all g (of (lines_of_nodes ns))
   got_group ns h None true ls ss g = h ls ss (moved refl (append-nil ss) g)
-  got_group ns h None false ls ss g = pass_all g (of (lines_of_nodes ns))
+  got_group ns _ _ _ ls ss g = pass_all g (of (lines_of_nodes ns))
 
   mutual
     -- The lines of nodes that are processed.

@@ -17,11 +17,10 @@ module _ {L : Type 0} where
   -- The output for two lists of lines.
   pub printed-append : (xs ys : List (Item L)) (ms ns : List Mark) → length xs ≡ length ms → printed (xs ++ ys) (ms ++ ns) ≡ printed xs ms ++ printed ys ns
   printed-append [] ys [] ns e = refl
-  printed-append [] ys (m ∷ ms) ns e = absurd (omega arith)
-  printed-append (x ∷ xs) ys [] ns e = absurd (omega arith)
   printed-append (x ∷ xs) ys (m ∷ ms) ns e =
       ap (λ (zs : List (Item (Edited L))). kept_line m.verdict x ++ zs) (printed-append xs ys ms ns (omega arith))
       ∙ sym (append_assoc (kept_line m.verdict x) (printed xs ms) (printed ys ns))
+  printed-append xs ys ms ns e = absurd (omega arith)
 
   -- The lines of the rest of a section's groups.
   abbrev pub left_lines : KeptGroups L → List (Item (Edited L))
@@ -66,32 +65,27 @@ module _ {L : Type 0} where
       kept_line (verdict_at leading an_if c) (if_line o) ++ if_lines (kept_at leading c) ps ≡ left_lines (with_group none_kept an_if o c ps)
   unfolding if_lines
   first_lines o Yes ps = refl
-  first_lines o No ps = refl
-  first_lines o Unknown ps = refl
+  first_lines _ _ ps = refl
 
   elif_lines : (left : KeptGroups L) (o : Opener L) (c : Cond) (ps : Nodes (Edited L)) →
       (left_lines left ++ kept_line (verdict_at (stage_of left) an_elif c) (elif_line o)) ++ if_lines (kept_at (stage_of left) c) ps
       ≡ left_lines (with_group left an_elif o c ps)
   unfolding if_lines
   elif_lines none_kept o Yes ps = refl
-  elif_lines none_kept o No ps = refl
-  elif_lines none_kept o Unknown ps = refl
   elif_lines (replaced ms) o c ps = two_nils (lines_of_nodes ms)
-  elif_lines (kept_groups es) o Yes ps = refl
   elif_lines (kept_groups es) o No ps = two_nils (lines_of_elifs es)
-  elif_lines (kept_groups es) o Unknown ps = refl
   elif_lines (ended es l ms None) o c ps = append-nil (left_lines (ended es l ms None) ++ endif_line (edited ToEndif o.line) ∷ [])
   elif_lines (ended es l ms (Some k)) o c ps = two_nils (left_lines (ended es l ms (Some k)))
+  elif_lines _ _ _ ps = refl
 
   else_lines : (left : KeptGroups L) (l : L) (ps : Nodes (Edited L)) →
       (left_lines left ++ kept_line (verdict_at (stage_of left) an_else Yes) (else_line l)) ++ if_lines (kept_at (stage_of left) Yes) ps
       ≡ left_lines (with_else left l ps)
   unfolding if_lines
-  else_lines none_kept l ps = refl
   else_lines (replaced ms) l ps = two_nils (lines_of_nodes ms)
-  else_lines (kept_groups es) l ps = refl
   else_lines (ended es k ms None) l ps = append-nil (left_lines (ended es k ms None) ++ endif_line (edited ToEndif l) ∷ [])
   else_lines (ended es k ms (Some j)) l ps = two_nils (left_lines (ended es k ms (Some j)))
+  else_lines _ _ ps = refl
 
   stage_else : (left : KeptGroups L) (l : L) (ps : Nodes (Edited L)) → next_stage (stage_of left) Yes ≡ stage_of (with_else left l ps)
   stage_else none_kept l ps = refl
@@ -111,10 +105,9 @@ module _ {L : Type 0} where
       (lines_of_nodes ps ++ left_lines left) ++ kept_line (endif_at (stage_of left)) (endif_line e) ≡ lines_of_nodes (then_kept ps left e)
   endif_lines ps none_kept e = two_nils (lines_of_nodes ps)
   endif_lines ps (replaced ms) e = append-nil (lines_of_nodes ps ++ lines_of_nodes ms) ∙ sym (lines_then ps ms)
-  endif_lines ps (kept_groups es) e = refl
-  endif_lines ps (ended es l ms None) e = refl
   endif_lines ps (ended es l ms (Some k)) e =
       append-nil (lines_of_nodes ps ++ left_lines (ended es l ms (Some k))) ∙ sym (append_assoc (lines_of_nodes ps) ((lines_of_elifs es ++ else_line l ∷ []) ++ lines_of_nodes ms) (endif_line k ∷ []))
+  endif_lines ps _ _ = refl
 
   two_empty : (a b : List (Item (Edited L))) → a ≡ [] → b ≡ [] → a ++ b ≡ []
   two_empty a b d e = ap₂ (λ (p q : List (Item (Edited L))). p ++ q) d e

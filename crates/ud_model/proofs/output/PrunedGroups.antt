@@ -37,44 +37,37 @@ inside_untrue (No ∷ cs) e = inside_untrue cs e
 inside_untrue (Unknown ∷ cs) e = inside_untrue cs e
 
 going_flags : (cs : List Cond) → stage cs ≡ going → (all_false cs ≡ false) × (any_true cs ≡ false)
-going_flags [] e = cc
-going_flags (Yes ∷ cs) e = cc
 going_flags (No ∷ cs) e = going_flags cs e
 going_flags (Unknown ∷ cs) e = (refl, inside_untrue cs e)
+going_flags _ e = cc
 
 inside_true : (cs : List Cond) → stage_inside cs ≡ at_true → (any_true cs ≡ true) × (ends_with_first_true cs ≡ true)
-inside_true [] e = cc
 inside_true (Yes ∷ []) e = (refl, refl)
-inside_true (Yes ∷ c ∷ cs) e = cc
 inside_true (No ∷ cs) e = inside_true cs e
 inside_true (Unknown ∷ cs) e = inside_true cs e
+inside_true _ e = cc
 
 true_flags : (cs : List Cond) → stage cs ≡ at_true → (all_false cs ≡ false) × (any_true cs ≡ true) × (ends_with_first_true cs ≡ true)
-true_flags [] e = cc
-true_flags (Yes ∷ cs) e = cc
 true_flags (No ∷ cs) e = true_flags cs e
 true_flags (Unknown ∷ cs) e = let r : (any_true cs ≡ true) × (ends_with_first_true cs ≡ true) = inside_true cs e in (refl, r.0, r.1)
+true_flags _ e = cc
 
 inside_past : (cs : List Cond) → stage_inside cs ≡ past → (any_true cs ≡ true) × (ends_with_first_true cs ≡ false)
-inside_past [] e = cc
-inside_past (Yes ∷ []) e = cc
 inside_past (Yes ∷ c ∷ cs) e = (refl, refl)
 inside_past (No ∷ cs) e = inside_past cs e
 inside_past (Unknown ∷ cs) e = inside_past cs e
+inside_past _ e = cc
 
 past_flags : (cs : List Cond) → stage cs ≡ past → (all_false cs ≡ false) × (any_true cs ≡ true) × (ends_with_first_true cs ≡ false)
-past_flags [] e = cc
-past_flags (Yes ∷ cs) e = cc
 past_flags (No ∷ cs) e = past_flags cs e
 past_flags (Unknown ∷ cs) e = let r : (any_true cs ≡ true) × (ends_with_first_true cs ≡ false) = inside_past cs e in (refl, r.0, r.1)
+past_flags _ e = cc
 
 -- A section at this stage gives way.
 abbrev way_at : Stage → Bool
 way_at leading = true
 way_at given = true
-way_at going = false
-way_at at_true = false
-way_at past = false
+way_at _ = false
 
 inside_way : (cs : List Cond) → false ≡ way_at (stage_inside cs)
 inside_way [] = refl
@@ -84,10 +77,9 @@ inside_way (No ∷ cs) = inside_way cs
 inside_way (Unknown ∷ cs) = inside_way cs
 
 way_by_stage : (cs : List Cond) → gives_way cs ≡ way_at (stage cs)
-way_by_stage [] = refl
-way_by_stage (Yes ∷ cs) = refl
 way_by_stage (No ∷ cs) = way_by_stage cs
 way_by_stage (Unknown ∷ cs) = inside_way cs
+way_by_stage _ = refl
 
 -- The verdict of an opener, by the flags.
 abbrev by_flags : Bool → Bool → Bool → Bool → Part → Cond → Verdict

@@ -13,20 +13,14 @@ use Rattle.ud_model.proofs.sections.Growth.{Adds, adds_text, adds_if, elif_after
 module _ {L : Type 0} where
   complete_most : (h : Head L) (b : Nodes L) → height_of_groups (complete h b) ≤ max (height_of_head h) (height_of_nodes b)
   complete_most (if_head o) b = omega arith
-  complete_most (elif_head es o) b = omega arith
-  complete_most (else_head es l) b = omega arith
+  complete_most h b = omega arith
 
   -- One more line makes a text no higher than it is deep then.
   pub grows_most : {t u : Tree L} {x : Item L} → Adds t x u → height u ≤ max (height t) (depth u)
-  grows_most adds_text = omega arith
-  grows_most adds_if = omega arith
-  grows_most elif_after_if = omega arith
-  grows_most elif_after_elif = omega arith
-  grows_most else_after_if = omega arith
-  grows_most else_after_elif = omega arith
   grows_most (adds_endif {ns = ns} {b = b} {h = h}) =
       let c : height_of_groups (complete h b) ≤ max (height_of_head h) (height_of_nodes b) = complete_most h b in omega arith
   grows_most (adds_under {t = t} {u = u} a) = let c : height u ≤ max (height t) (depth u) = grows_most a in omega arith
+  grows_most h = omega arith
 
   abbrev height_left : KeptGroups L → ℕ
   height_left none_kept = 0

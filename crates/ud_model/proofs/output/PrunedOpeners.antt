@@ -14,15 +14,12 @@ use Rattle.ud_model.proofs.output.Each.{Each, each_parts, each_both}
 -- An opener with this verdict keeps its condition.
 abbrev pub KeepsCondition : Verdict → Type 0
 KeepsCondition Keep = Unit {0}
-KeepsCondition Remove = ⊥
 KeepsCondition ToIf = Unit {0}
-KeepsCondition ToElse = ⊥
-KeepsCondition ToEndif = ⊥
+KeepsCondition _ = ⊥
 
 first_keeps : (part : Part) → KeepsCondition (first_kept_verdict part)
 first_keeps an_if = tt
-first_keeps an_elif = tt
-first_keeps an_else = tt
+first_keeps _ = tt
 
 module _ {L : Type 0} where
   abbrev pub Keeps : Edited L → Type 0

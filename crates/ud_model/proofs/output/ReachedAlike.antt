@@ -33,10 +33,7 @@ module _ {L K M : Type 0} (f : L → M) (g : K → M) (v : World L) (w : World K
         let r : (map v (openers ns) ≡ map w (openers ms)) × (map v (openers_of_groups gs) ≡ map w (openers_of_groups hs)) =
         openers_apart f g v w (openers ns) (openers_of_groups gs) (openers ms) (openers_of_groups hs) (long_with f g v w ns ms p) t in
         (reached_alike ns ms p r.0 h.0, groups_alike gs hs q r.1 h.1)
-    reached_alike (text ns l) nothing e t h = cc
-    reached_alike (text ns l) (section ms hs k) e t h = cc
-    reached_alike (section ns gs l) nothing e t h = cc
-    reached_alike (section ns gs l) (text ms k) e t h = cc
+    reached_alike _ _ e t _ = cc
 
     groups_alike : (gs : Groups L) (hs : Groups K) → groups_with_lines f gs ≡ groups_with_lines g hs → map v (openers_of_groups gs) ≡ map w (openers_of_groups hs) →
         GroupsReached w Other hs → GroupsReached v One gs
@@ -47,8 +44,7 @@ module _ {L K M : Type 0} (f : L → M) (g : K → M) (v : World L) (w : World K
         let r : (map v (openers_of_elifs es) ≡ map w (openers_of_elifs ds)) × (map v (openers ns) ≡ map w (openers ms)) =
         openers_apart f g v w (openers_of_elifs es) (openers ns) (openers_of_elifs ds) (openers ms) (long_elifs f g v w es ds p) t in
         (elifs_alike es ds p r.0 h.0, λ n. reached_alike ns ms q r.1 (h.1 (none_alike es ds p r.0 n)))
-    groups_alike (conditional es) (otherwise ds k ms) e t h = cc
-    groups_alike (otherwise es l ns) (conditional ds) e t h = cc
+    groups_alike _ _ e t _ = cc
 
     elifs_alike : (es : Elifs L) (ds : Elifs K) → elifs_with_lines f es ≡ elifs_with_lines g ds → map v (openers_of_elifs es) ≡ map w (openers_of_elifs ds) →
         ElifsReached w Other ds → ElifsReached v One es
@@ -76,5 +72,4 @@ module _ {L K M : Type 0} (f : L → M) (g : K → M) (v : World L) (w : World K
               let x = h.1 (none_alike es ds d s.0 n) in
               (as_other le a x.0, λ y. reached_alike ns ms q r.1 (x.1 (sym a ∙ y))),
         )
-    elifs_alike (first o ns) (elif ds p ms) e t h = cc
-    elifs_alike (elif es o ns) (first p ms) e t h = cc
+    elifs_alike _ _ e t _ = cc

@@ -69,12 +69,11 @@ abbrev pub left_piece : Item (Edited Reading) → List ℕ
 left_piece y = edited_bytes (line_in y)
 
 printed_bytes : (xs : List (Item Reading)) (ms : List Mark) → concat (map left_piece (printed xs ms)) ≡ concat (map (lone false false) (judged_lines xs ms))
-printed_bytes [] ms = refl
-printed_bytes (x ∷ xs) [] = refl
 printed_bytes (x ∷ xs) (m ∷ ms) =
     ap (λ (l : List (List ℕ)). concat l) (map-append left_piece (kept_line m.verdict x) (printed xs ms))
     ∙ concat-append (map left_piece (kept_line m.verdict x)) (map left_piece (printed xs ms))
     ∙ ap₂ (λ (a b : List ℕ). a ++ b) (left_bytes m.verdict x) (printed_bytes xs ms)
+printed_bytes _ _ = refl
 
 -- Without options the pieces are the output.
 pub plain_output : (o : Options) → IsPlain o → (xs : List (Item Reading)) (ms : List Mark) → printed_by o.settings xs ms ≡ concat (map left_piece (printed xs ms))
@@ -86,10 +85,7 @@ plain_output o p xs ms =
 
 line_with : {A B : Type 0} (f : A → B) (y : Item A) → line_in (item_with f y) ≡ f (line_in y)
 line_with f (text_line l) = refl
-line_with f (if_line q) = refl
-line_with f (elif_line q) = refl
-line_with f (else_line l) = refl
-line_with f (endif_line l) = refl
+line_with _ _ = refl
 
 map_lines : {A B : Type 0} (f : A → B) (ys : List (Item A)) → map line_in (map (item_with f) ys) ≡ map (λ y. f (line_in y)) ys
 map_lines f [] = refl
@@ -97,10 +93,7 @@ map_lines f (y ∷ ys) = ap₂ (λ (a : _) (b : List _). a ∷ b) (line_with f y
 
 line_read : (y : Item Reading) → reading_of y ≡ line_in y
 line_read (text_line l) = refl
-line_read (if_line q) = refl
-line_read (elif_line q) = refl
-line_read (else_line l) = refl
-line_read (endif_line l) = refl
+line_read _ = refl
 
 map_readings : (ys : List (Item Reading)) → map (λ y. line_bytes (reading_of y)) ys ≡ map (λ y. line_bytes (line_in y)) ys
 map_readings [] = refl
@@ -177,10 +170,8 @@ same_nodes ns ms e = cc
 
 kept_condition : (v : Verdict) (l : Reading) → KeepsCondition v → left_condition v l ≡ condition_in l
 kept_condition Keep l h = refl
-kept_condition Remove l h = absurd h
 kept_condition ToIf l h = refl
-kept_condition ToElse l h = absurd h
-kept_condition ToEndif l h = absurd h
+kept_condition _ _ h = absurd h
 
 kept_conditions : (es : List (Edited Reading)) → Each Keeps es → map (λ (e : Edited Reading). (left_seen e).condition) es ≡ map (λ (e : Edited Reading). condition_in e.line) es
 kept_conditions [] h = refl
@@ -251,8 +242,7 @@ module _ (k : CleanRun) (w : World Reading) (a : Agrees w k.before) (R : Option 
     where
       still : (part : Part) (l : Reading) → R (condition_in l) (w l) → R (left_condition (first_kept_verdict part) l) (w l)
       still an_if l h = h
-      still an_elif l h = h
-      still an_else l h = h
+      still _ _ h = h
 
 module _ (k : CleanRun) (w : World Reading) (g : IsCWorld k.options.table w k.before) where
   -- A world that C may give the input agrees with the decided conditions.
@@ -307,11 +297,10 @@ after_undecided k = output_undecided k.after k.before (what_is_left k)
 
 -- If each line stays, the pieces are the lines.
 whole_pieces : (ys : List (Item Reading)) (ms : List Mark) → Each Stays ms → map (lone false false) (judged_lines ys ms) ≡ map whole (judged_lines ys ms)
-whole_pieces [] ms h = refl
-whole_pieces (y ∷ ys) [] h = refl
 whole_pieces (y ∷ ys) (m ∷ ms) h =
     ap₂ (λ (a : List ℕ) (b : List (List ℕ)). a ∷ b)
     (ap (λ (n : Mark). piece_by n.verdict (keyword_in (content_of (reading_of y).scan)) (line_of y)) h.0) (whole_pieces ys ms h.1)
+whole_pieces _ _ _ = refl
 
 none_differ : (js : List Judged) → some_other (map whole js) js ≡ false
 none_differ [] = refl

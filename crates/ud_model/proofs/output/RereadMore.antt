@@ -24,15 +24,13 @@ use Rattle.ud_model.proofs.output.SeenLines.{Seen, scanned, left_seen}
 
 -- Lines with one more end in a comment if that line does.
 pub last_comment : (xs : List (Item Reading)) (x : Item Reading) → ends_in_comment (xs ++ x ∷ []) ≡ is_in_block (reading_of x).scan.comment
-last_comment [] x = refl
-last_comment (y ∷ []) x = refl
 last_comment (y ∷ z ∷ xs) x = last_comment (z ∷ xs) x
+last_comment _ _ = refl
 
 -- Of marks with one more the last one counts.
 pub last_removed : (ms : List Mark) (m : Mark) → ends_removed (ms ++ m ∷ []) ≡ is_removed m.verdict
-last_removed [] m = refl
-last_removed (n ∷ []) m = refl
 last_removed (n ∷ k ∷ ms) m = last_removed (k ∷ ms) m
+last_removed _ _ = refl
 
 bytes_read : List (Item Reading) → List (List ℕ)
 bytes_read ys = map (λ y. line_bytes (reading_of y)) ys

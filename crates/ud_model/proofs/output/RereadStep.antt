@@ -40,17 +40,11 @@ Stepped o m xs u l zs = Again o m (xs ++ item_of o (read_after xs m l) ∷ []) u
 
 pub goes_or_left : (v : Verdict) → (v ≡ Remove) ⊎ IsLeft v
 goes_or_left Remove = inl refl
-goes_or_left Keep = inr tt
-goes_or_left ToIf = inr tt
-goes_or_left ToElse = inr tt
-goes_or_left ToEndif = inr tt
+goes_or_left _ = inr tt
 
 pub left_stays : (v : Verdict) → IsLeft v → is_removed v ≡ false
 left_stays Remove h = absurd h
-left_stays Keep h = refl
-left_stays ToIf h = refl
-left_stays ToElse h = refl
-left_stays ToEndif h = refl
+left_stays _ _ = refl
 
 -- In plain mode no lines join.
 pub plain_run : (o : Options) (ys : List (Item Reading)) → ReadIn o Plain ys → c_run_of (map reading_of ys) ≡ []

@@ -28,13 +28,12 @@ module _ {L M : Type 0} (f : L → M) where
 -- Two lists that are made up of parts of the same lengths have the same parts.
 pub parts : {A : Type 0} (a b c d : List A) → length a ≡ length b → a ++ c ≡ b ++ d → (a ≡ b) × (c ≡ d)
 parts [] [] c d l e = (refl, e)
-parts [] (y ∷ b) c d l e = absurd (omega arith)
-parts (x ∷ a) [] c d l e = absurd (omega arith)
 parts (x ∷ a) (y ∷ b) c d l e =
     let t : a ++ c ≡ b ++ d = cc in
     let h : x ≡ y = cc in
     let r : (a ≡ b) × (c ≡ d) = parts a b c d (omega arith) t in
     (ap₂ (λ (z : _) (zs : _). z ∷ zs) h r.0, r.1)
+parts h g c d l e = absurd (omega arith)
 
 module _ {L K M : Type 0} (f : L → M) (g : K → M) (v : World L) (w : World K) where
   same_long : (a : List L) (b : List K) → map f a ≡ map g b → length (map v a) ≡ length (map w b)
@@ -55,22 +54,19 @@ module _ {L K M : Type 0} (f : L → M) (g : K → M) (v : World L) (w : World K
   where_same : (a b : Bool) (ls : List L) (ks : List K) → a ≡ b → map f ls ≡ map g ks → option_map (map f) (where_true a ls) ≡ option_map (map g) (where_true b ks)
   where_same true true ls ks e h = ap (λ (l : List M). Some l) h
   where_same false false ls ks e h = refl
-  where_same true false ls ks e h = cc
-  where_same false true ls ks e h = cc
+  where_same _ _ ls _ e h = cc
 
   or_same : (s : Option (List L)) (r : Option (List K)) (t : Option (List L)) (u : Option (List K)) → option_map (map f) s ≡ option_map (map g) r →
       option_map (map f) t ≡ option_map (map g) u → option_map (map f) (or_else s t) ≡ option_map (map g) (or_else r u)
   or_same None None t u e h = h
   or_same (Some a) (Some b) t u e h = e
-  or_same None (Some b) t u e h = cc
-  or_same (Some a) None t u e h = cc
+  or_same _ _ _ _ e h = cc
 
   lines_same : (s : Option (List L)) (r : Option (List K)) (ls : List L) (ks : List K) → option_map (map f) s ≡ option_map (map g) r → map f ls ≡ map g ks →
       map f (lines_or s ls) ≡ map g (lines_or r ks)
   lines_same None None ls ks e h = h
   lines_same (Some a) (Some b) ls ks e h = cc
-  lines_same None (Some b) ls ks e h = cc
-  lines_same (Some a) None ls ks e h = cc
+  lines_same _ _ ls _ e h = cc
 
   mutual
     -- Trees that differ in their lines alone have the same selected lines, if their openers have
@@ -89,12 +85,7 @@ module _ {L K M : Type 0} (f : L → M) (g : K → M) (v : World L) (w : World K
         openers_apart (openers ns) (openers_of_groups gs) (openers ms) (openers_of_groups hs) (long_with ns ms p) t in
         map-append f (selected v ns) (selected_groups v gs)
         ∙ ap₂ (λ (a b : List M). a ++ b) (same_selected ns ms p r.0) (same_groups gs hs q r.1) ∙ sym (map-append g (selected w ms) (selected_groups w hs))
-    same_selected nothing (text ms k) e t = cc
-    same_selected nothing (section ms hs k) e t = cc
-    same_selected (text ns l) nothing e t = cc
-    same_selected (text ns l) (section ms hs k) e t = cc
-    same_selected (section ns gs l) nothing e t = cc
-    same_selected (section ns gs l) (text ms k) e t = cc
+    same_selected _ _ e t = cc
 
     same_groups : (gs : Groups L) (hs : Groups K) → groups_with_lines f gs ≡ groups_with_lines g hs → map v (openers_of_groups gs) ≡ map w (openers_of_groups hs) →
         map f (selected_groups v gs) ≡ map g (selected_groups w hs)
@@ -106,8 +97,7 @@ module _ {L K M : Type 0} (f : L → M) (g : K → M) (v : World L) (w : World K
         let r : (map v (openers_of_elifs es) ≡ map w (openers_of_elifs ds)) × (map v (openers ns) ≡ map w (openers ms)) =
         openers_apart (openers_of_elifs es) (openers ns) (openers_of_elifs ds) (openers ms) (long_elifs es ds p) t in
         lines_same (selected_elifs v es) (selected_elifs w ds) (selected v ns) (selected w ms) (same_elifs es ds p r.0) (same_selected ns ms q r.1)
-    same_groups (conditional es) (otherwise ds k ms) e t = cc
-    same_groups (otherwise es l ns) (conditional ds) e t = cc
+    same_groups _ _ e t = cc
 
     pub same_elifs : (es : Elifs L) (ds : Elifs K) → elifs_with_lines f es ≡ elifs_with_lines g ds → map v (openers_of_elifs es) ≡ map w (openers_of_elifs ds) →
         option_map (map f) (selected_elifs v es) ≡ option_map (map g) (selected_elifs w ds)
@@ -130,5 +120,4 @@ module _ {L K M : Type 0} (f : L → M) (g : K → M) (v : World L) (w : World K
         let a : v o.line ≡ w p.line = cc (s.1) in
         or_same (selected_elifs v es) (selected_elifs w ds) (where_true (v o.line) (selected v ns)) (where_true (w p.line) (selected w ms)) (same_elifs es ds h s.0)
         (where_same (v o.line) (w p.line) (selected v ns) (selected w ms) a (same_selected ns ms q r.1))
-    same_elifs (first o ns) (elif ds p ms) e t = cc
-    same_elifs (elif es o ns) (first p ms) e t = cc
+    same_elifs _ _ e t = cc

@@ -22,10 +22,8 @@ scanned r = record { bytes = line_bytes r; condition = condition_in r }
 -- An `#else` and an `#endif` have no condition.
 abbrev pub left_condition : Verdict → Reading → Option Expression
 left_condition Keep r = condition_in r
-left_condition Remove r = None
 left_condition ToIf r = condition_in r
-left_condition ToElse r = None
-left_condition ToEndif r = None
+left_condition _ _ = None
 
 -- The case of a line of the pruned tree.
 abbrev pub left_seen : Edited Reading → Seen

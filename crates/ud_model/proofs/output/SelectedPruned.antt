@@ -88,9 +88,8 @@ module _ {L : Type 0} (w : World L) where
 
   without_else : (s : Option (List L)) (left : KeptGroups L) → Chosen s left → Final (lines_or s []) left
   without_else s none_kept h = ap (λ (q : Option (List L)). lines_or q []) h
-  without_else s (replaced ms) h = ap (λ (q : Option (List L)). map kept (lines_or q [])) h.1 ∙ h.2
   without_else s (kept_groups es) h = last_group s (selected_elifs out_world es) [] [] h (λ e. refl)
-  without_else s (ended es l ms k) h = ap (λ (q : Option (List L)). map kept (lines_or q [])) h.1 ∙ h.2
+  without_else _ _ h = ap (λ (q : Option (List L)). map kept (lines_or q [])) h.1 ∙ h.2
 
   else_step : (s : Option (List L)) (left : KeptGroups L) (l : L) (ns : Nodes L) (ps : Nodes (Edited L)) →
       Chosen s left → (s ≡ None → map kept (selected w ns) ≡ selected out_world ps) → Final (lines_or s (selected w ns)) (with_else left l ps)

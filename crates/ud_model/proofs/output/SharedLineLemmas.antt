@@ -52,16 +52,7 @@ share_one : (v : Verdict) (j : Judged) (js : List Judged) (a b : List ℕ) → j
 share_one Remove j js a b h s =
     let q : (u : Verdict) → Judged = λ u. record { line = j.line; verdict = u; keyword = j.keyword } in
     subst (λ (u : Verdict). ShareLines (q u ∷ js) (piece_alone false (q u) ++ a) (piece_alone false (complemented (q u)) ++ b)) (sym h) (goes refl s)
-share_one Keep j js a b h s =
-    let q : (u : Verdict) → Judged = λ u. record { line = j.line; verdict = u; keyword = j.keyword } in
-    subst (λ (u : Verdict). ShareLines (q u ∷ js) (piece_alone false (q u) ++ a) (piece_alone false (complemented (q u)) ++ b)) (sym h) (stays refl s)
-share_one ToIf j js a b h s =
-    let q : (u : Verdict) → Judged = λ u. record { line = j.line; verdict = u; keyword = j.keyword } in
-    subst (λ (u : Verdict). ShareLines (q u ∷ js) (piece_alone false (q u) ++ a) (piece_alone false (complemented (q u)) ++ b)) (sym h) (stays refl s)
-share_one ToElse j js a b h s =
-    let q : (u : Verdict) → Judged = λ u. record { line = j.line; verdict = u; keyword = j.keyword } in
-    subst (λ (u : Verdict). ShareLines (q u ∷ js) (piece_alone false (q u) ++ a) (piece_alone false (complemented (q u)) ++ b)) (sym h) (stays refl s)
-share_one ToEndif j js a b h s =
+share_one _ j js a b h s =
     let q : (u : Verdict) → Judged = λ u. record { line = j.line; verdict = u; keyword = j.keyword } in
     subst (λ (u : Verdict). ShareLines (q u ∷ js) (piece_alone false (q u) ++ a) (piece_alone false (complemented (q u)) ++ b)) (sym h) (stays refl s)
 

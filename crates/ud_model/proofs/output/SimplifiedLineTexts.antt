@@ -96,12 +96,11 @@ module _ (table : List Argument) (rules : Rules) where
 
   numbered : (n : ℕ) (ts : List (List ℕ)) (rs : List Reading) → map (λ (r : Reading). r.line) rs ≡ numbered_from n ts → Numbered n ts rs
   numbered n [] [] e = none
-  numbered n [] (r ∷ rs) e = cc
-  numbered n (t ∷ ts) [] e = cc
   numbered n (t ∷ ts) (r ∷ rs) e =
       let p : r.line ≡ line_at n t = cc in
       let q : map (λ (r : Reading). r.line) rs ≡ numbered_from (suc n) ts = cc in
       next p (numbered (suc n) ts rs q)
+  numbered n _ _ e = cc
 
   abbrev line_left : Reading → Line
   line_left r = simplified_line table rules r

@@ -42,26 +42,7 @@ pub data SameIf : Kind → Kind → Type 0 where
 same_kind : (k j : Kind) → same_if k j ≡ true → SameIf k j
 same_kind If If e = both_if
 same_kind Elif Elif e = both_elif
-same_kind If Ifdef e = cc
-same_kind If Ifndef e = cc
-same_kind If Elif e = cc
-same_kind If Elifdef e = cc
-same_kind If Elifndef e = cc
-same_kind If Else e = cc
-same_kind If Endif e = cc
-same_kind Elif If e = cc
-same_kind Elif Ifdef e = cc
-same_kind Elif Ifndef e = cc
-same_kind Elif Elifdef e = cc
-same_kind Elif Elifndef e = cc
-same_kind Elif Else e = cc
-same_kind Elif Endif e = cc
-same_kind Ifdef j e = cc
-same_kind Ifndef j e = cc
-same_kind Elifdef j e = cc
-same_kind Elifndef j e = cc
-same_kind Else j e = cc
-same_kind Endif j e = cc
+same_kind _ _ e = cc
 
 pub option_is : {A : Type 0} (o : Option A) → (o ≡ None) ⊎ ((x : A) × (o ≡ Some x))
 option_is None = inl refl
@@ -89,8 +70,7 @@ module _ (table : List Argument) (rules : Rules) where
   the_condition kind after (directive d) e =
       let p : (same_if kind d.kind ≡ true) × (bytes_eq d.after after ≡ true) = and_parts (same_if kind d.kind) (bytes_eq d.after after) e in
       (d, refl, same_kind kind d.kind p.0, (bytes_eq-Decides d.after after).0 p.1)
-  the_condition kind after cut_keyword e = cc
-  the_condition kind after text e = cc
+  the_condition _ _ _ e = cc
 
   edited : (l : Line) (scan : Scan) (d : Directive) → content_of scan ≡ directive d → may_change table rules scan l d ≡ true → IsEdited l scan d
   edited l scan d h e =

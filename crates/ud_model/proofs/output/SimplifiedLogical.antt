@@ -65,9 +65,8 @@ last_tidy (l ∷ []) t a = t.0.ending
 last_tidy (l ∷ m ∷ ls) t a = last_tidy (m ∷ ls) t.1 (and_parts (is_spliced l) (are_spliced (m ∷ ls)) a).1
 
 last_push : (ls : List Line) (l : Line) → last_ending (ls ++ l ∷ []) ≡ l.ending
-last_push [] l = refl
-last_push (k ∷ []) l = refl
 last_push (k ∷ m ∷ ls) l = last_push (m ∷ ls) l
+last_push _ _ = refl
 
 -- The lines `ls` are joinable, fact by fact.
 record IsJoinable (ls : List Line) : Type 0 where

@@ -102,9 +102,7 @@ mutual
 no_block : (spliced : Bool) (k : LexemeKind) → is_block k ≡ false → is_in_block (comment_at spliced k) ≡ false
 no_block spliced block_comment h = cc
 no_block true line_comment h = refl
-no_block false line_comment h = refl
-no_block spliced literal h = refl
-no_block spliced single h = refl
+no_block _ _ _ = refl
 
 comment-code : (line : Line) → (scan_after_run [] line).comment ≡ comment_at (is_spliced line) (kind_at_end (spliced_text [] ++ spliced_part line))
 unfolding scan_after_run

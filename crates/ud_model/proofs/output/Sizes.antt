@@ -123,8 +123,7 @@ unequal a b h = go (bytes_eq a b) (λ e. (bytes_eq-Decides a b).0 e)
 
 or_false_parts : (a b : Bool) → (not a || b) ≡ false → (a ≡ true) × (b ≡ false)
 or_false_parts true false e = (refl, refl)
-or_false_parts true true e = cc
-or_false_parts false b e = cc
+or_false_parts _ _ e = cc
 
 -- If no line differs, the output is the lines.
 none_other : (f : Judged → List ℕ) (js : List Judged) → some_other (map f js) js ≡ false → out f js ≡ out whole js
@@ -136,10 +135,9 @@ none_other f (j ∷ js) e =
 -- Texts are compared part by part, if the first parts have one length.
 bytes_eq-append : (a b c d : List ℕ) → length a ≡ length b → bytes_eq (a ++ c) (b ++ d) ≡ (bytes_eq a b && bytes_eq c d)
 bytes_eq-append [] [] c d e = refl
-bytes_eq-append [] (y ∷ b) c d e = absurd (omega arith)
-bytes_eq-append (x ∷ a) [] c d e = absurd (omega arith)
 bytes_eq-append (x ∷ a) (y ∷ b) c d e =
     ap (λ (t : Bool). (x == y) && t) (bytes_eq-append a b c d (omega arith)) ∙ sym (and_assoc (x == y) (bytes_eq a b) (bytes_eq c d))
+bytes_eq-append a b c d e = absurd (omega arith)
 
 not_and : (a b : Bool) → (not a || not b) ≡ not (a && b)
 not_and true b = refl

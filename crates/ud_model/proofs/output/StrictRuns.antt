@@ -42,22 +42,17 @@ HasSome (endif_line r) = 1 ≤ (keyword_in (content_of r.scan)).len
 
 some_least : (p : Role) → 1 ≤ least p
 some_least IfGroup = omega arith
-some_least ElifGroup = omega arith
-some_least ElseGroup = omega arith
-some_least EndifLine = omega arith
+some_least p = omega arith
 
 some_role : (r : Reading) (p : Role) (d : Decision) → 1 ≤ (keyword_in (content_of r.scan)).len → HasSome (directive_item r p d)
 some_role r IfGroup d h = h
-some_role r ElifGroup d h = h
-some_role r ElseGroup d h = h
-some_role r EndifLine d h = h
+some_role _ _ _ h = h
 
 some_content : (o : Options) (r : Reading) (c : Content) → content_of r.scan ≡ c → HasSize c → HasSome (item_by o r c)
-some_content o r cut_keyword e h = tt
-some_content o r text e h = tt
 some_content o r (directive d) e h =
     some_role r (role_of d.kind) (decision_on r.scan d o.table (rules_of o.settings))
     (subst (λ (c : Content). 1 ≤ (keyword_in c).len) (sym e) (let f = some_least (role_of d.kind) in omega (arith, f, h)))
+some_content _ _ _ _ _ = tt
 
 has_some : (o : Options) (r : Reading) → HasSome (item_of o r)
 has_some o r = some_content o r (content_of r.scan) refl (content_size r.scan)

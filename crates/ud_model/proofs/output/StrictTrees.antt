@@ -82,8 +82,7 @@ any_loose (pair (unknown {d = Unknown}) p) e = any_loose p e
 
 both_parts : (a b : Bool) → (not a && not b) ≡ true → (a ≡ false) × (b ≡ false)
 both_parts false false e = (refl, refl)
-both_parts false true e = cc
-both_parts true b e = cc
+both_parts _ _ e = cc
 
 kept_loose : {cs ds : List Cond} {c d : Cond} → Pairs Looser cs ds → Looser c d → is_kept ds d ≡ true → is_kept cs c ≡ true
 kept_loose {cs} {ds} {c} {d} p l e =

@@ -16,12 +16,10 @@ abbrev pub Suits : {L : Type 0} → Verdict → Item L → Type 0
 Suits Keep x = Unit {0}
 Suits Remove x = Unit {0}
 Suits ToIf (elif_line o) = o.cond ≡ Unknown
-Suits ToIf x = ⊥
 Suits ToElse (elif_line o) = Unit {0}
-Suits ToElse x = ⊥
 Suits ToEndif (elif_line o) = Unit {0}
 Suits ToEndif (else_line l) = Unit {0}
-Suits ToEndif x = ⊥
+Suits _ _ = ⊥
 
 module _ {L : Type 0} where
   -- A verdict that suits if all groups around are kept does so in each case.
@@ -33,9 +31,7 @@ module _ {L : Type 0} where
   keeps_suit : (v : Verdict) (x : Item L) → KeepsOrGoes v → Suits v x
   keeps_suit Keep x h = tt
   keeps_suit Remove x h = tt
-  keeps_suit ToIf x h = absurd h
-  keeps_suit ToElse x h = absurd h
-  keeps_suit ToEndif x h = absurd h
+  keeps_suit _ _ h = absurd h
 
   -- The table gives an `#if` a verdict that suits it.
   pub suits_if : (o : Opener L) (c : Cond) → Suits (verdict_so_far [] an_if c) (if_line o)
@@ -59,10 +55,7 @@ module _ {L : Type 0} where
 
   else_at : (s : Stage) (l : L) → Suits (verdict_at s an_else Yes) (else_line l)
   else_at leading l = tt
-  else_at given l = tt
-  else_at going l = tt
-  else_at at_true l = tt
-  else_at past l = tt
+  else_at _ _ = tt
 
   -- The table gives an `#else` a verdict that suits it.
   pub suits_else : (cs : List Cond) (l : L) → Suits (verdict_so_far cs an_else Yes) (else_line l)

@@ -16,43 +16,27 @@ split_map g (y ∷ ys) (x ∷ p) q e =
 module _ {A B M : Type 0} (f : A → M) (g : B → M) where
   text_back : (y : Item B) (l : A) → item_with g y ≡ text_line (f l) → (b : B) × (y ≡ text_line b) × (g b ≡ f l)
   text_back (text_line b) l e = (b, refl, cc)
-  text_back (if_line o) l e = cc
-  text_back (elif_line o) l e = cc
-  text_back (else_line b) l e = cc
-  text_back (endif_line b) l e = cc
+  text_back _ _ e = cc
 
   if_back : (y : Item B) (o : Opener A) → item_with g y ≡ if_line (opener_with_line f o) → (p : Opener B) × (y ≡ if_line p) × (opener_with_line g p ≡ opener_with_line f o)
   if_back (if_line p) o e = (p, refl, cc)
-  if_back (text_line b) o e = cc
-  if_back (elif_line p) o e = cc
-  if_back (else_line b) o e = cc
-  if_back (endif_line b) o e = cc
+  if_back _ _ e = cc
 
   elif_back : (y : Item B) (o : Opener A) → item_with g y ≡ elif_line (opener_with_line f o) → (p : Opener B) × (y ≡ elif_line p) × (opener_with_line g p ≡ opener_with_line f o)
   elif_back (elif_line p) o e = (p, refl, cc)
-  elif_back (text_line b) o e = cc
-  elif_back (if_line p) o e = cc
-  elif_back (else_line b) o e = cc
-  elif_back (endif_line b) o e = cc
+  elif_back _ _ e = cc
 
   else_back : (y : Item B) (l : A) → item_with g y ≡ else_line (f l) → (b : B) × (y ≡ else_line b) × (g b ≡ f l)
   else_back (else_line b) l e = (b, refl, cc)
-  else_back (text_line b) l e = cc
-  else_back (if_line p) l e = cc
-  else_back (elif_line p) l e = cc
-  else_back (endif_line b) l e = cc
+  else_back _ _ e = cc
 
   endif_back : (y : Item B) (l : A) → item_with g y ≡ endif_line (f l) → (b : B) × (y ≡ endif_line b) × (g b ≡ f l)
   endif_back (endif_line b) l e = (b, refl, cc)
-  endif_back (text_line b) l e = cc
-  endif_back (if_line p) l e = cc
-  endif_back (elif_line p) l e = cc
-  endif_back (else_line b) l e = cc
+  endif_back _ _ e = cc
 
   one_back : (ys : List (Item B)) (x : Item M) → map (item_with g) ys ≡ x ∷ [] → (y : Item B) × (ys ≡ y ∷ []) × (item_with g y ≡ x)
-  one_back [] x e = cc
   one_back (y ∷ []) x e = (y, refl, cc)
-  one_back (y ∷ z ∷ ys) x e = cc
+  one_back _ _ e = cc
 
   -- The items, and a tree of theirs that has the same shape.
   pub record AlongNodes (ps : Nodes A) (ys : List (Item B)) : Type 0 where

@@ -72,14 +72,13 @@ later_same n m b v (r ∷ rs) l h =
 
 truths_by : (n : ℕ) (rs : List Reading) (bs : List Bool) → length bs ≡ length rs → Rise n rs → (v : World Reading) × (map v rs ≡ bs)
 truths_by n [] [] e h = ((λ r. true), refl)
-truths_by n [] (b ∷ bs) e h = absurd (omega arith)
-truths_by n (r ∷ rs) [] e h = absurd (omega arith)
 truths_by n (r ∷ rs) (b ∷ bs) e h =
     let v : (v : World Reading) × (map v rs ≡ bs) = truths_by (suc r.line.number) rs bs (omega arith) h.1 in (
       with_truth r.line.number b v.0,
       ap₂ (λ (c : Bool) (cs : List Bool). c ∷ cs) (ap (λ (t : Bool). if t then b else v.0 r) (eq-eqb r.line.number r.line.number refl))
           (later_same r.line.number (suc r.line.number) b v.0 rs (omega arith) h.1 ∙ v.1),
     )
+truths_by n rs bs e h = absurd (omega arith)
 
 -- The openers of a text can be given any truths.
 pub world_of : (bytes : List ℕ) (ns : Nodes Reading) (bs : List Bool) → map line_of (lines_of_nodes ns) ≡ lines_of bytes → length bs ≡ length (openers ns) →

@@ -18,15 +18,12 @@ use Rattle.ud_model.proofs.text.LinesLemmas.{Growth, stays_open, ends_line, grow
 -- A directive's item has the line that it was read from.
 pub reading_of-directive_item : (r : Reading) (p : Role) (d : Decision) → reading_of (directive_item r p d) ≡ r
 reading_of-directive_item r IfGroup d = refl
-reading_of-directive_item r ElifGroup d = refl
-reading_of-directive_item r ElseGroup d = refl
-reading_of-directive_item r EndifLine d = refl
+reading_of-directive_item _ _ _ = refl
 
 -- An item keeps the reading of its line.
 pub reading_of-item_by : (o : Options) (r : Reading) (c : Content) → reading_of (item_by o r c) ≡ r
-reading_of-item_by o r cut_keyword = refl
-reading_of-item_by o r text = refl
 reading_of-item_by o r (directive d) = reading_of-directive_item r (role_of d.kind) (decision_on r.scan d o.table (rules_of o.settings))
+reading_of-item_by _ _ _ = refl
 
 -- An item keeps its line.
 pub line_of-next_item : (o : Options) (xs : List (Item Reading)) (t : Tree Reading) (l : Line) → line_of (next_item o xs t l) ≡ l

@@ -35,14 +35,12 @@ module _ {L : Type 0} where
   -- group.
   pub lines-complete : (h : Head L) (b : Nodes L) → lines_of_head h ++ lines_of_nodes b ≡ lines_of_groups (complete h b)
   lines-complete (if_head o) b = refl
-  lines-complete (elif_head es o) b = refl
-  lines-complete (else_head es l) b = refl
+  lines-complete _ _ = refl
 
   -- The conditions of a section are those of its head.
   pub conds-complete : (h : Head L) (b : Nodes L) → conds_of_groups (complete h b) ≡ conds_of_head h
   conds-complete (if_head o) b = refl
-  conds-complete (elif_head es o) b = refl
-  conds-complete (else_head es l) b = refl
+  conds-complete _ _ = refl
 
   lines_with_endif : (ns b : Nodes L) (h : Head L) (l : L) →
       (lines_of_nodes ns ++ lines_of_groups (complete h b)) ++ endif_line l ∷ []
@@ -53,12 +51,9 @@ module _ {L : Type 0} where
   pub lines-add : {t u : Tree L} {x : Item L} → Adds t x u → lines u ≡ lines t ++ x ∷ []
   lines-add adds_text = refl
   lines-add adds_if = simp append-nil
-  lines-add elif_after_if = simp (append-nil, append_assoc)
-  lines-add elif_after_elif = simp (append-nil, append_assoc)
-  lines-add else_after_if = simp (append-nil, append_assoc)
-  lines-add else_after_elif = simp (append-nil, append_assoc)
   lines-add (adds_endif {ns = ns} {b = b} {h = h} {l = l}) = lines_with_endif ns b h l
   lines-add (adds_under {ns = ns} {h = h} a) = rw (lines-add a) simp append_assoc
+  lines-add _ = simp (append-nil, append_assoc)
 
   -- A tree and a line give one tree at most.
   pub adds-once : {t u v : Tree L} {x : Item L} → Adds t x u → Adds t x v → u ≡ v

@@ -14,20 +14,14 @@ module _ {L : Type 0} where
 
   height-complete : (h : Head L) (b : Nodes L) → max (height_of_head h) (height_of_nodes b) ≤ height_of_groups (complete h b)
   height-complete (if_head o) b = omega arith
-  height-complete (elif_head es o) b = omega arith
-  height-complete (else_head es l) b = omega arith
+  height-complete h b = omega arith
 
   -- One more line makes no text lower.
   pub height_add : {t u : Tree L} {x : Item L} → Adds t x u → height t ≤ height u
-  height_add adds_text = omega arith
-  height_add adds_if = omega arith
-  height_add elif_after_if = omega arith
-  height_add elif_after_elif = omega arith
-  height_add else_after_if = omega arith
-  height_add else_after_elif = omega arith
   height_add (adds_endif {ns = ns} {b = b} {h = h}) =
       let c : max (height_of_head h) (height_of_nodes b) ≤ height_of_groups (complete h b) = height-complete h b in omega arith
   height_add (adds_under {t = t} {u = u} a) = let c : height t ≤ height u = height_add a in omega arith
+  height_add h = omega arith
 
   height_by : {more : List (Item L)} → ByPush more → (t u : Tree L) → lines u ≡ lines t ++ more → height t ≤ height u
   height_by none t u e = let q : t ≡ u = unique t u (sym (append-nil (lines t)) ∙ sym e) in rw q (omega arith)

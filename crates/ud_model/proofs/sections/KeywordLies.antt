@@ -31,9 +31,8 @@ sign_le (b ∷ bs) rest e = sign_one (b == 35) b bs rest e
 
 -- In this content the keyword ends within so many bytes, and the bytes after it aren't longer.
 abbrev pub Lies : ℕ → Content → Type 0
-Lies n cut_keyword = Unit {0}
-Lies n text = Unit {0}
 Lies n (directive d) = (d.keyword.at + d.keyword.len ≤ n) × (length d.after ≤ n)
+Lies n _ = Unit {0}
 
 lies_at : (scan : Scan) (rest : List ℕ) (k : Option Kind) → length rest ≤ length scan.masked → Lies (length scan.masked) (directive_at scan rest k)
 lies_at scan rest None h = tt
@@ -61,9 +60,8 @@ pub content_lies : (scan : Scan) → Lies (length scan.masked) (content_of scan)
 content_lies scan = lies_unless_cut scan (has_split_keyword scan (skip_white_and_hash scan.masked))
 
 keyword_by : (n : ℕ) (c : Content) → Lies n c → (keyword_in c).at + (keyword_in c).len ≤ n
-keyword_by n cut_keyword h = omega arith
-keyword_by n text h = omega arith
 keyword_by n (directive d) h = h.0
+keyword_by n c h = omega arith
 
 -- The keyword lies within the masked line.
 pub keyword_lies : (scan : Scan) → (keyword_in (content_of scan)).at + (keyword_in (content_of scan)).len ≤ length scan.masked

@@ -225,11 +225,9 @@ module _ (scan : Scan) (p : DirectiveParts) where
 
   to_directive : AreParts p scan.masked → (split fresh : Bool) (k : Option Kind) (d : Directive) → splits ≡ split → scan.fresh ≡ fresh → kind_of p.word ≡ k →
       content_by split fresh k ≡ directive d → HasDirective scan d
-  to_directive h true fresh k d s f e g = cc
-  to_directive h false false k d s f e g = cc
-  to_directive h false true None d s f e g = cc
   to_directive h false true (Some k) d s f e g =
       let q : directive_by k ≡ d = cc in subst (λ (x : Directive). HasDirective scan x) q (has_this h f s k e)
+  to_directive h _ _ _ _ s f e g = cc
 
   to_cut : (split fresh : Bool) (k : Option Kind) → content_by split fresh k ≡ cut_keyword → split ≡ true
   to_cut true fresh k e = refl
@@ -240,9 +238,8 @@ module _ (scan : Scan) (p : DirectiveParts) where
   to_text : AreParts p scan.masked → (split fresh : Bool) (k : Option Kind) → splits ≡ split → scan.fresh ≡ fresh → kind_of p.word ≡ k →
       (HasSplitKeyword scan → ⊥) → ((d : Directive) → HasDirective scan d → ⊥) → content_by split fresh k ≡ text
   to_text h true fresh k s f e n m = absurd (n (record { parts = p; are = h; split = to_split h s }))
-  to_text h false false k s f e n m = refl
-  to_text h false true None s f e n m = refl
   to_text h false true (Some k) s f e n m = absurd (m (directive_by k) (has_this h f s k e))
+  to_text _ false _ _ _ _ _ n _ = refl
 
   unsplit : AreParts p scan.masked → ¬ IsSplitKeyword scan p → splits ≡ false
   unsplit h n = by_split splits refl

@@ -40,39 +40,30 @@ stage (Unknown ∷ cs) = stage_inside cs
 abbrev pub next_stage : Stage → Cond → Stage
 next_stage leading Yes = given
 next_stage leading No = leading
-next_stage leading Unknown = going
 next_stage given c = given
 next_stage going Yes = at_true
-next_stage going No = going
-next_stage going Unknown = going
 next_stage at_true c = past
 next_stage past c = past
+next_stage _ _ = going
 
 -- The verdict of an opener at this stage.
 abbrev pub verdict_at : Stage → Part → Cond → Verdict
-verdict_at leading part Yes = Remove
-verdict_at leading part No = Remove
 verdict_at leading part Unknown = first_kept_verdict part
-verdict_at given part c = Remove
 verdict_at going part c = later_verdict part c
 verdict_at at_true part c = ToEndif
-verdict_at past part c = Remove
+verdict_at _ _ _ = Remove
 
 -- The group that is opened at this stage is kept.
 abbrev pub kept_at : Stage → Cond → Bool
 kept_at leading c = not (is_false c)
-kept_at given c = false
 kept_at going c = not (is_false c)
-kept_at at_true c = false
-kept_at past c = false
+kept_at _ _ = false
 
 -- The verdict of the `#endif` at this stage.
 abbrev pub endif_at : Stage → Verdict
-endif_at leading = Remove
-endif_at given = Remove
 endif_at going = Keep
 endif_at at_true = Keep
-endif_at past = Remove
+endif_at _ = Remove
 
 inside_verdict : (cs : List Cond) (part : Part) (c : Cond) →
     (if not (any_true cs) then later_verdict part c else if ends_with_first_true cs then ToEndif else Remove) ≡ verdict_at (stage_inside cs) part c
@@ -85,11 +76,9 @@ inside_verdict (Unknown ∷ cs) part c = inside_verdict cs part c
 -- The verdict of an opener is that of its stage.
 pub verdict_by_stage : (cs : List Cond) (part : Part) (c : Cond) → verdict_so_far cs part c ≡ verdict_at (stage cs) part c
 verdict_by_stage [] part Yes = refl
-verdict_by_stage [] part No = refl
-verdict_by_stage [] part Unknown = refl
-verdict_by_stage (Yes ∷ cs) part c = refl
 verdict_by_stage (No ∷ cs) part c = verdict_by_stage cs part c
 verdict_by_stage (Unknown ∷ cs) part c = inside_verdict cs part c
+verdict_by_stage _ _ _ = refl
 
 inside_kept : (cs : List Cond) (c : Cond) → is_kept cs c ≡ kept_at (stage_inside cs) c
 inside_kept [] c = and-true (not (is_false c))
@@ -117,11 +106,9 @@ inside_next (Unknown ∷ cs) c = inside_next cs c
 -- One more group leads to the next stage.
 pub stage_next : (cs : List Cond) (c : Cond) → stage (cs ++ c ∷ []) ≡ next_stage (stage cs) c
 stage_next [] Yes = refl
-stage_next [] No = refl
-stage_next [] Unknown = refl
-stage_next (Yes ∷ cs) c = refl
 stage_next (No ∷ cs) c = stage_next cs c
 stage_next (Unknown ∷ cs) c = inside_next cs c
+stage_next _ _ = refl
 
 inside_endif : (cs : List Cond) → (if not (any_true cs) then Keep else if ends_with_first_true cs then Keep else Remove) ≡ endif_at (stage_inside cs)
 inside_endif [] = refl
@@ -132,7 +119,6 @@ inside_endif (Unknown ∷ cs) = inside_endif cs
 
 -- The verdict of the `#endif` is that of its stage.
 pub endif_by_stage : (cs : List Cond) → endif_verdict cs ≡ endif_at (stage cs)
-endif_by_stage [] = refl
-endif_by_stage (Yes ∷ cs) = refl
 endif_by_stage (No ∷ cs) = endif_by_stage cs
 endif_by_stage (Unknown ∷ cs) = inside_endif cs
+endif_by_stage _ = refl

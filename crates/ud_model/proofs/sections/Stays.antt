@@ -27,12 +27,10 @@ after_first true false part c = refl
 -- change no opener's verdict.
 pub table_so_far : (before later : List Cond) (part : Part) (c : Cond) →
     opener_verdict (before ++ c ∷ later) before part c ≡ verdict_so_far before part c
-table_so_far [] later part Yes = refl
 table_so_far [] later part No = removed_either_way (gives_way later) part
-table_so_far [] later part Unknown = refl
-table_so_far (Yes ∷ bs) later part c = refl
 table_so_far (No ∷ bs) later part c = table_so_far bs later part c
 table_so_far (Unknown ∷ bs) later part c = after_first (any_true bs) (ends_with_first_true bs) part c
+table_so_far _ _ _ _ = refl
 
 module _ {L : Type 0} where
   mutual
@@ -71,8 +69,7 @@ module _ {L : Type 0} where
   pub groups_so_far-complete : (kept : Bool) (h : Head L) (b : Nodes L) →
       groups_so_far kept (complete h b) ≡ head_so_far kept h ++ nodes_so_far (kept && is_inside_kept h) b
   groups_so_far-complete kept (if_head o) b = refl
-  groups_so_far-complete kept (elif_head es o) b = refl
-  groups_so_far-complete kept (else_head es l) b = refl
+  groups_so_far-complete _ _ _ = refl
 
   -- One more line has one more mark.
   pub marks_add : (kept : Bool) {t u : Tree L} {x : Item L} → Adds t x u → (m : Mark) × (marks_so_far kept u ≡ marks_so_far kept t ++ m ∷ [])

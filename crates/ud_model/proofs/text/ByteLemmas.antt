@@ -60,20 +60,14 @@ Continues count word more = (count < 4 → length word ≡ count) × (4 ≤ coun
 of_four : (w x y z : Bool) (a b c d count : ℕ) (more : List ℕ) →
     count ≡ length (if w then a ∷ (if x then b ∷ (if y then c ∷ (if z then d ∷ [] else []) else []) else []) else []) →
     Continues count (if w then a ∷ (if x then b ∷ (if y then c ∷ (if z then d ∷ leading_word more else []) else []) else []) else []) more
-of_four false x y z a b c d count more e = (λ h. omega (arith, e), λ h. absurd (omega (arith, e, h)))
-of_four true false y z a b c d count more e = (λ h. omega (arith, e), λ h. absurd (omega (arith, e, h)))
-of_four true true false z a b c d count more e = (λ h. omega (arith, e), λ h. absurd (omega (arith, e, h)))
-of_four true true true false a b c d count more e = (λ h. omega (arith, e), λ h. absurd (omega (arith, e, h)))
 of_four true true true true a b c d count more e = (λ h. absurd (omega (arith, e, h)), λ h. omega arith)
+of_four w x y z a b c d count more e = (λ h. omega (arith, e), λ h. absurd (omega (arith, e, h)))
 
 -- The leading word ends among the first four bytes, or continues after them.
 pub word_of_four : (bytes : List ℕ) (count : ℕ) → 4 ≤ length bytes →
     count ≡ length (leading_word (get_or bytes 0 0 ∷ get_or bytes 1 0 ∷ get_or bytes 2 0 ∷ get_or bytes 3 0 ∷ [])) → Continues count (leading_word bytes) (drop 4 bytes)
-word_of_four [] count h e = absurd (omega (arith, h))
-word_of_four (a ∷ []) count h e = absurd (omega (arith, h))
-word_of_four (a ∷ b ∷ []) count h e = absurd (omega (arith, h))
-word_of_four (a ∷ b ∷ c ∷ []) count h e = absurd (omega (arith, h))
 word_of_four (a ∷ b ∷ c ∷ d ∷ more) count h e = of_four (is_word_byte a) (is_word_byte b) (is_word_byte c) (is_word_byte d) a b c d count more e
+word_of_four bytes count h e = absurd (omega (arith, h))
 
 -- The position of the first byte that passes, or the length if none does.
 pub unwrap_or-position : (p : ℕ → Bool) (bytes : List ℕ) → unwrap_or (position p bytes) (length bytes) ≡ position_or_len p bytes

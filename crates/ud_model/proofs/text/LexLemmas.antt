@@ -34,11 +34,10 @@ line_inside_size (a ∷ inside) rest n e =
     ap (λ (t : Bool). if t then 0 else suc (line_comment_size (inside ++ rest))) (ne_eqb a 10 n.0) ∙ ap (λ (k : ℕ). suc k) (line_inside_size inside rest n.1 e)
 
 literal_end_size : (q : ℕ) (p : Bool) (rest : List ℕ) → IsLineEnd rest → literal_size q p rest ≡ 0
-literal_end_size q true [] e = refl
-literal_end_size q false [] e = refl
 literal_end_size q true (a ∷ rest) e = ap (λ (t : Bool). if t then 0 else suc (literal_size q false rest)) (eq-eqb a 10 e)
 literal_end_size q false (a ∷ rest) e =
     ap (λ (t : Bool). if t then 0 else if a == q then 1 else suc (literal_size q (a == backslash) rest)) (eq-eqb a 10 e)
+literal_end_size _ _ [] _ = refl
 
 -- A byte that is no quote isn't this one.
 not_this_quote : (q n : ℕ) → is_quote q ≡ true → is_quote n ≡ false → n ≢ q
@@ -90,8 +89,7 @@ piece_literal q rest h =
         else record { kind = single; more = 0 })
         (record { kind = literal; more = literal_size q false rest })
     by_tests false true x y m n e f = refl
-    by_tests true t x y m n e f = cc
-    by_tests false false x y m n e f = cc
+    by_tests _ _ _ _ _ n e f = cc
 
 piece_single : (b : ℕ) (rest : List ℕ) → is_quote b ≡ false → ((b == slash) && (starts_with_byte star rest || starts_with_byte slash rest)) ≡ false →
     lexeme_at b rest ≡ extent single 0
@@ -108,10 +106,7 @@ piece_single b rest h f =
         (record { kind = single; more = 0 })
     by_tests false false x y m n e f = refl
     by_tests true false false false m n e f = refl
-    by_tests true t true y m n e f = cc
-    by_tests true t false true m n e f = cc
-    by_tests false true x y m n e f = cc
-    by_tests true true false false m n e f = cc
+    by_tests _ _ _ _ _ n e f = cc
 
 -- A lexeme reaches as far as the computed one.
 pub piece_size : {k : LexemeKind} (a : ℕ) (tail rest : List ℕ) → IsLexeme (a ∷ tail) rest k → lexeme_at a (tail ++ rest) ≡ extent k (length tail)

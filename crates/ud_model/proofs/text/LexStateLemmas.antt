@@ -130,11 +130,10 @@ white_inside b x = by_feed (b == newline) refl
 pub white_step : (w : LexState) (b : ℕ) (x : List Cell) → is_blank (open_line x (settles w b)) ≡ stays_white w (is_blank x) b
 white_step in_text b x = white-in_text b x
 white_step at_slash b x = white-at_slash b x
-white_step in_block b x = comment_last x (cell block_comment b) refl
-white_step at_star b x = comment_last x (cell block_comment b) refl
 white_step in_line b x = white-in_line b x
 white_step (in_literal q) b x = white_inside b x
 white_step (at_backslash q) b x = white_inside b x
+white_step _ b x = comment_last x (cell block_comment b) refl
 
 -- One more byte takes the text to the next state.
 pub LexesTo-step : {text : List ℕ} {w : LexState} {white : Bool} (b : ℕ) → LexesTo text w white → LexesTo (text ++ b ∷ []) (next_state w b) (stays_white w white b)
@@ -248,15 +247,13 @@ tail_shown (at_backslash q) b = tail-at_backslash q b
 
 -- Of bytes with one more, that one is blanked.
 pub blank_last-last : (xs : List ℕ) (y : ℕ) → blank_last (xs ++ y ∷ []) ≡ xs ++ space ∷ []
-blank_last-last [] y = refl
-blank_last-last (x ∷ []) y = refl
 blank_last-last (x ∷ z ∷ xs) y = ap (λ (l : List ℕ). x ∷ l) (blank_last-last (z ∷ xs) y)
+blank_last-last _ _ = refl
 
 -- Blanking the last byte keeps the number of bytes.
 pub length-blank_last : (xs : List ℕ) → length (blank_last xs) ≡ length xs
-length-blank_last [] = refl
-length-blank_last (x ∷ []) = refl
 length-blank_last (x ∷ y ∷ xs) = ap (λ (n : ℕ). suc n) (length-blank_last (y ∷ xs))
+length-blank_last _ = refl
 
 -- The last byte stays the last if bytes before it are dropped.
 pub blank_last-drop : (n : ℕ) (xs : List ℕ) → drop n (blank_last xs) ≡ blank_last (drop n xs)

@@ -73,9 +73,8 @@ spliced_text-unnumbered [] = refl
 spliced_text-unnumbered (line ∷ run) = ap (λ (l : List ℕ). spliced_part line ++ l) (spliced_text-unnumbered run)
 
 last_is_spliced-unnumbered : (run : List Line) → last_is_spliced (map unnumbered run) ≡ last_is_spliced run
-last_is_spliced-unnumbered [] = refl
-last_is_spliced-unnumbered (line ∷ []) = refl
 last_is_spliced-unnumbered (line ∷ next ∷ run) = last_is_spliced-unnumbered (next ∷ run)
+last_is_spliced-unnumbered _ = refl
 
 joins-unnumbered : (run : List Line) → joins (map unnumbered run) ≡ joins run
 unfolding joins

@@ -71,13 +71,9 @@ scan_after_run-from run line w white before r j =
 
 -- After a newline at which no block comment is open, a text ends between lexemes.
 ended : (w : LexState) → is_block (kind_in_state (next_state w newline)) ≡ false → (next_state w newline ≡ in_text) × ((white : Bool) → stays_white w white newline ≡ true)
-ended in_text e = (refl, λ white. refl)
-ended at_slash e = (refl, λ white. refl)
 ended in_block e = cc
 ended at_star e = cc
-ended in_line e = (refl, λ white. refl)
-ended (in_literal q) e = (refl, λ white. refl)
-ended (at_backslash q) e = (refl, λ white. refl)
+ended _ _ = (refl, λ white. refl)
 
 pub not_empty : (bytes : List ℕ) → bytes ≢ [] → is_empty bytes ≡ false
 not_empty [] some = absurd (some refl)
@@ -101,9 +97,8 @@ starts_anew run last alone some =
     LexesTo-same (sym (joined_last run last)) end.0 (end.1 white) read
 
 last_is_spliced-append : (run : List Line) (l : Line) (more : List Line) → last_is_spliced (run ++ l ∷ more) ≡ last_is_spliced (l ∷ more)
-last_is_spliced-append [] l more = refl
-last_is_spliced-append (k ∷ []) l more = refl
 last_is_spliced-append (k ∷ m ∷ run) l more = last_is_spliced-append (m ∷ run) l more
+last_is_spliced-append _ _ _ = refl
 
 kind_from : (run group : List Line) → LexesTo (spliced_text run) in_text true → kind_at_end (spliced_text (run ++ group)) ≡ kind_at_end (spliced_text group)
 kind_from run group r =

@@ -97,29 +97,18 @@ fresh_at_place text (at_backslash q) white s r = fresh_clean text (at_backslash 
 
 opens_comment-feed : (w : LexState) → opens_comment w newline ≡ false
 opens_comment-feed in_text = refl
-opens_comment-feed at_slash = refl
-opens_comment-feed in_block = refl
-opens_comment-feed at_star = refl
-opens_comment-feed in_line = refl
-opens_comment-feed (in_literal q) = refl
-opens_comment-feed (at_backslash q) = refl
+opens_comment-feed _ = refl
 
 starts_with_byte-close : (b : ℕ) (c : List ℕ) (o : Bool) → (newline == b) ≡ false → starts_with_byte b (c ++ (if o then [] else newline ∷ [])) ≡ starts_with_byte b c
-starts_with_byte-close b [] true e = refl
 starts_with_byte-close b [] false e = e
-starts_with_byte-close b (x ∷ c) o e = refl
+starts_with_byte-close _ _ _ _ = refl
 
 -- The newline after a line doesn't change whether the line is fresh.
 pub fresh-close : (w : LexState) (white : Bool) (line : Line) → fresh_at w white (spliced_part line) ≡ fresh_at w white (content line)
-fresh-close in_text white line = refl
 fresh-close at_slash white line =
     ap₂ (λ (s t : Bool). white && (s || t)) (starts_with_byte-close star (content line) (stays_open line) refl)
     (starts_with_byte-close slash (content line) (stays_open line) refl)
-fresh-close in_block white line = refl
-fresh-close at_star white line = refl
-fresh-close in_line white line = refl
-fresh-close (in_literal q) white line = refl
-fresh-close (at_backslash q) white line = refl
+fresh-close _ _ _ = refl
 
 close_by : (o : Bool) (text : List ℕ) (w : LexState) (white : Bool) → LexesTo text w white →
     LexesTo (text ++ (if o then [] else newline ∷ [])) (state_after_line o w) (white_after_line o w white)
@@ -168,9 +157,8 @@ joined_last lines line = spliced_text-append lines (line ∷ []) ∙ ap (λ (l :
 
 -- The last of lines with one more is spliced if that one is.
 pub last_is_spliced_last : (lines : List Line) (line : Line) → last_is_spliced (lines ++ line ∷ []) ≡ is_spliced line
-last_is_spliced_last [] line = refl
-last_is_spliced_last (l ∷ []) line = refl
 last_is_spliced_last (l ∷ m ∷ lines) line = last_is_spliced_last (m ∷ lines) line
+last_is_spliced_last _ _ = refl
 
 run_from_last : (run : List Line) (readings : List Reading) (r : Reading) → c_run_from run (readings ++ r ∷ []) ≡ extended_run (c_run_from run readings) r.mode r.line
 run_from_last run [] r = refl

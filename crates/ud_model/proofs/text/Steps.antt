@@ -16,11 +16,10 @@ settles at_slash b =
     else if b == slash then cell line_comment slash ∷ cell line_comment b ∷ []
     else if is_quote b then cell single slash ∷ cell literal b ∷ []
     else cell single slash ∷ cell single b ∷ []
-settles in_block b = cell block_comment b ∷ []
-settles at_star b = cell block_comment b ∷ []
 settles in_line b = if b == newline then cell single b ∷ [] else cell line_comment b ∷ []
 settles (in_literal quote) b = if b == newline then cell single b ∷ [] else cell literal b ∷ []
 settles (at_backslash quote) b = if b == newline then cell single b ∷ [] else cell literal b ∷ []
+settles _ b = cell block_comment b ∷ []
 
 -- At the beginning of a lexeme, the one that has ended doesn't count.
 pub lex_from-zero : (k l : LexemeKind) (u : List ℕ) → lex_from k 0 u ≡ lex_from l 0 u
@@ -140,13 +139,12 @@ slash_by : (t s : Bool) (b : ℕ) (u : List ℕ) → (b == slash) ≡ s →
     else cell single slash ∷ cell single b ∷ [])
     ++ cells_after (if t then in_block else if s then in_line else if is_quote b then in_literal b else in_text) u
 unfolding cells_from lex_from cells_after
-slash_by true s b u e = refl
-slash_by false true b u e = refl
 slash_by false false b u e =
     ap (λ (cells : List Cell). cell single slash ∷ cells) (text_other b u e)
     ∙ (elim (is_quote b) as (λ (q : Bool). cell single slash ∷ ((if q then cell literal b ∷ [] else cell single b ∷ []) ++ cells_after (if q then in_literal b else in_text) u)
     ≡ (if q then cell single slash ∷ cell literal b ∷ [] else cell single slash ∷ cell single b ∷ []) ++ cells_after (if q then in_literal b else in_text) u)
     [ true ↦ refl | false ↦ refl ])
+slash_by _ _ _ _ _ = refl
 
 step-at_slash : (b : ℕ) (u : List ℕ) → cells_after at_slash (b ∷ u) ≡ settles at_slash b ++ cells_after (next_state at_slash b) u
 unfolding cells_after lex_from lexeme_at cells_from

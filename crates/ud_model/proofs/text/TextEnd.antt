@@ -168,9 +168,7 @@ end_in_open text pieces h k n = (end_open single text pieces h k n, open_end sin
 
 block_is : (k : LexemeKind) → is_block k ≡ true → k ≡ block_comment
 block_is block_comment e = refl
-block_is line_comment e = cc
-block_is literal e = cc
-block_is single e = cc
+block_is _ e = cc
 
 -- Lines join the next one if the last is spliced, or if the last lexeme is an open block comment.
 pub joins_open : (lines : List Line) (pieces : List Lexeme) → AreLexemes pieces (spliced_text lines) → (joins lines ≡ true) ↔ ((last_is_spliced lines ≡ true) ⊎ LastIsOpen block_comment pieces)
@@ -192,16 +190,12 @@ joins_open lines pieces h = (by_splice (last_is_spliced lines), back (last_is_sp
 block_at : (t : Bool) (k : LexemeKind) → comment_at t k ≡ InBlock → k ≡ block_comment
 block_at t block_comment e = refl
 block_at true line_comment e = cc
-block_at false line_comment e = cc
-block_at t literal e = cc
-block_at t single e = cc
+block_at _ _ e = cc
 
 line_at : (t : Bool) (k : LexemeKind) → comment_at t k ≡ InLine → (t ≡ true) × (k ≡ line_comment)
 line_at t block_comment e = cc
 line_at true line_comment e = (refl, refl)
-line_at false line_comment e = cc
-line_at t literal e = cc
-line_at t single e = cc
+line_at _ _ e = cc
 
 -- A line's end lies in a block comment exactly if the last lexeme is an open one.
 pub block_open : (before : List Reading) (l : Line) (pieces : List Lexeme) → AreLexemes pieces (spliced_text (c_run_of before) ++ spliced_part l) →
