@@ -55,14 +55,12 @@ waits_same n m [] = refl
 waits_same n m (c ∷ cs) = go (is_flag c) (takes_argument c) (waits_same n m cs)
   where
     by_rest : (ls : List ℕ) → (option_gives c n ls).waits ≡ (option_gives c m ls).waits
-    by_rest [] = refl
-    by_rest (l ∷ ls) = refl
+    by_rest ls = grind arith
 
     go : (f t : Bool) → (letters_give n cs).waits ≡ (letters_give m cs).waits →
         (if f then then_gives (flag c) (letters_give n cs) else if t then option_gives c n cs else then_gives (unknown c) (letters_give n cs)).waits
         ≡ (if f then then_gives (flag c) (letters_give m cs) else if t then option_gives c m cs else then_gives (unknown c) (letters_give m cs)).waits
-    go false true e = by_rest cs
-    go _ _ e = e
+    go f t e = grind arith
 
 -- what these arguments give from the place n on, and then come the arguments after them
 pub record Splits (n : ℕ) (before : List (List ℕ)) : Type 0 where
@@ -110,8 +108,7 @@ word_ascii (b ∷ bs) e =
 -- an ASCII byte is a character
 chars_ascii : (b : ℕ) (t : List ℕ) → nat_lt b 128 ≡ true → chars (b ∷ t) ≡ b ∷ chars t
 unfolding chars
-chars_ascii b [] e = rw e refl
-chars_ascii b (d ∷ ds) e = rw e refl
+chars_ascii b t e = grind arith
 
 -- the name before the first `=`
 name_first : (name value : List ℕ) → are_word_bytes name ≡ true → name_before_equals (name ++ equals_sign ∷ value) ≡ name
@@ -155,14 +152,7 @@ named name value e = rw e refl
 gives_by : (b : ℕ) (name t : List ℕ) (l : ℕ) (e : Entry) → nat_lt l 128 ≡ true → is_flag l ≡ false → takes_argument l ≡ true → (hyphen == l) ≡ false →
     has_letter (codes "x") l ≡ false → nat_lt b 128 ≡ true → IsUtf8 (b ∷ t) → parse_symbol l (b ∷ t) ≡ Some (record { name = name; entry = e }) → GivesSymbol name (hyphen ∷ l ∷ b ∷ t)
 gives_by b name t l e small no_flag takes no_end no_mode first u sets =
-    record {
-      letter = l;
-      argument = b ∷ t;
-      entry = e;
-      no_mode = no_mode;
-      symbol = sets;
-      parsed = argument_in_word l b t small no_flag takes no_end first u;
-    }
+    grind (arith, argument_in_word)
 
 pub gives_symbol : (name w : List ℕ) → is_name name ≡ true → IsSymbolOption name w → GivesSymbol name w
 gives_symbol [] w e o = absurd (grind (arith, e))
@@ -231,10 +221,7 @@ entry_added e [] us a n f = ap (λ (b : Bool). entry_from (if b then Some a.entr
 entry_added e (t ∷ ts) us a n f = entry_added (if bytes_eq t.name n then Some t.entry else e) ts us a n f
 
 by_some : {A B : Type 0} (h : A → Option B) (x : A) (b : B) (xs : List A) → h x ≡ Some b → filter_map h (x ∷ xs) ≡ b ∷ filter_map h xs
-by_some h x b xs e = filter_map-append h (x ∷ []) xs ∙ ap (λ (l : List _). l ++ filter_map h xs) (one e)
-  where
-    one : h x ≡ Some b → filter_map h (x ∷ []) ≡ b ∷ []
-    one e = grind (arith, e)
+by_some h x b xs e = grind arith
 
 -- arguments with such an option between them, and without it
 pub record WithOption (before after : List (List ℕ)) (name w : List ℕ) : Type 0 where
@@ -243,17 +230,11 @@ pub record WithOption (before after : List (List ℕ)) (name w : List ℕ) : Typ
   pub entries : (n : List ℕ) → n ≢ name → entry_in (options_of (before ++ after)).table n ≡ entry_in (options_of (before ++ w ∷ after)).table n
 
 bytes_ne : (x y : List ℕ) → x ≢ y → bytes_eq x y ≡ false
-bytes_ne x y ne = go (bytes_eq x y) refl
-  where
-    go : (b : Bool) → bytes_eq x y ≡ b → bytes_eq x y ≡ false
-    go true e = absurd (ne ((bytes_eq-Decides x y).0 e))
-    go false e = e
+bytes_ne x y ne = grind (arith, bytes_eq-Decides)
 
 -- the argument of such an option is right
 argument_ok : (name : List ℕ) (w : List ℕ) (g : GivesSymbol name w) (n : ℕ) → argument_fault g.letter n g.argument ≡ None
-argument_ok name w g n =
-    ap (λ (b : Bool). if b then unless_right (parse_exit_mode g.argument) (bad_mode_in n) else unless_right (parse_symbol g.letter g.argument) (bad_symbol_in n)) g.no_mode
-    ∙ ap (λ (o : Option Argument). unless_right o (bad_symbol_in n)) g.symbol
+argument_ok name w g n = grind arith
 
 pub with_option : (before after : List (List ℕ)) (name w : List ℕ) → AddsSymbol before name w → WithOption before after name w
 with_option before after name w adds =

@@ -1,5 +1,5 @@
 -- Levels: each line of a text has one level, and it is the same in every longer text.
-use Rattle.std.proofs.Common.{◌≡◌, ℕ, suc, List, [], ◌∷◌, ◌++◌, length, refl, sym, ◌∙◌, append_assoc, append-nil, length-append}
+use Rattle.std.proofs.Common.{◌≡◌, ℕ, suc, List, [], ◌∷◌, ◌++◌, length, refl, sym, ◌∙◌, append_assoc, append-nil, length-append, arith}
 use Rattle.ud_model.specs.sections.Tree.{Item, Nodes, Head, Tree, nothing, if_head, elif_head, else_head, closed, lines}
 use Rattle.ud_model.specs.answer.Listing.{levels_of_nodes, levels_of_groups, levels_of_head, levels_from, levels}
 use Rattle.ud_model.proofs.text.Pushes.{ByPush, none, push, by_push}
@@ -10,8 +10,7 @@ module _ {L : Type 0} where
   -- The levels of a section are those up to the opener of its last group, and then those of that
   -- group.
   levels-complete : (n : ℕ) (h : Head L) (b : Nodes L) → levels_of_groups n (complete h b) ≡ levels_of_head n h ++ levels_of_nodes (suc n) b
-  levels-complete n (if_head o) b = refl
-  levels-complete n _ _ = refl
+  levels-complete n h b = grind arith
 
   -- One more line has one more level.
   levels_add : (n : ℕ) {t u : Tree L} {x : Item L} → Adds t x u → (k : ℕ) × (levels_from n u ≡ levels_from n t ++ k ∷ [])

@@ -55,13 +55,11 @@ meet (a ∷ ks) (b ∷ bs) x cs ds e = go (meet ks bs x cs ds (cc))
 
     go : ((mid : List Line) × (bs ≡ ks ++ x ∷ mid)) ⊎ ((mid : List Line) × (ks ≡ bs ++ mid)) →
         ((mid : List Line) × (b ∷ bs ≡ a ∷ ks ++ x ∷ mid)) ⊎ ((mid : List Line) × (a ∷ ks ≡ b ∷ bs ++ mid))
-    go (inl s) = inl (s.0, cc)
-    go (inr s) = inr (s.0, cc)
+    go h = grind arith
 
 module _ (o : Options) (ls later : List Line) (xs : List (Item Reading)) (t : Tree Reading) (through : HasNoFault o ls xs t) where
   through_more : (all : List Line) → all ≡ ls ++ later → (ys : List (Item Reading)) (u : Tree Reading) → HasNoFault o all ys u → BeginsWith xs ys
-  through_more all e ys u h =
-      sound_parts o xs ys t u later through.sound h.sound (sym h.are ∙ e ∙ ap (λ (ks : List Line). ks ++ later) through.are)
+  through_more all e ys u h = grind (arith, sound_parts)
 
   stops_later : (all : List Line) → all ≡ ls ++ later → (ys : List (Item Reading)) (u : Tree Reading) (f : Fault) → FirstFaultAt o all ys u f → BeginsWith xs ys
   stops_later all e ys u f h =
@@ -105,14 +103,11 @@ reads_further o given more (goes_on xs t h n) b = gone_on o given more xs t h b
 
 -- The items that are read are the lines of their tree.
 pub read_lines : {o : Options} {input : List ℕ} {xs : List (Item Reading)} {t : Tree Reading} {f : Option Fault} → ReadsAs o input xs t f → lines t ≡ xs
-read_lines (stops xs t f h) = sound_lines h.sound
-read_lines (ends xs t h) = sound_lines h.sound
+read_lines h = grind arith
 
 -- The items that are read so far are the lines of their tree.
 pub read_so_far_lines : {o : Options} {given : List ℕ} {xs : List (Item Reading)} {t : Tree Reading} {f : Option Fault} → ReadsSoFar o given xs t f → lines t ≡ xs
-read_so_far_lines (stops_so_far xs t f h) = sound_lines h.sound
-read_so_far_lines (breaks xs t f h b) = sound_lines h.sound
-read_so_far_lines (goes_on xs t h n) = sound_lines h.sound
+read_so_far_lines h = grind arith
 
 -- Lines and further ones, with their marks.
 pub judged_more : (xs ys : List (Item Reading)) (ms ns : List Mark) → length xs ≡ length ms →

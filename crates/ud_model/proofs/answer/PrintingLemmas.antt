@@ -1,5 +1,5 @@
 -- The output for a text grows line by line.
-use Rattle.std.proofs.Common.{◌≡◌, ◌∙◌, List, ℕ, [], ◌∷◌, ◌++◌, Bool, false, not, ◌||◌, bytes_eq, refl, ap, sym, append_assoc, append-nil}
+use Rattle.std.proofs.Common.{◌≡◌, ◌∙◌, List, ℕ, [], ◌∷◌, ◌++◌, Bool, false, not, ◌||◌, bytes_eq, refl, ap, sym, append_assoc, append-nil, arith}
 use Rattle.std.specs.List.{concat}
 use Rattle.std.proofs.lemmas.List.Folds.{concat-append}
 use Rattle.std.proofs.Math.Bool.{or-false, or_assoc}
@@ -24,9 +24,7 @@ pieces_by-more piece before (k ∷ js) j =
 -- A line after others is printed after them.
 pub printed-more : (piece : List Judged → Judged → List ℕ) (js : List Judged) (j : Judged) →
     concat (pieces_by piece [] (js ++ j ∷ [])) ≡ concat (pieces_by piece [] js) ++ piece js j
-printed-more piece js j =
-    ap concat (pieces_by-more piece [] js j) ∙ concat-append (pieces_by piece [] js) (piece js j ∷ [])
-    ∙ ap (λ (t : List ℕ). concat (pieces_by piece [] js) ++ t) (append-nil (piece js j))
+printed-more piece js j = grind (arith, pieces_by-more, concat-append, append-nil)
 
 -- A line after others differs, or one of these does.
 pub differ-more : (piece : List Judged → Judged → List ℕ) (before js : List Judged) (j : Judged) →

@@ -18,8 +18,7 @@ pub data Same : List ParsedArg → List ParsedArg → Type 0 where
   a_lacking : (c : ℕ) {gs hs : List ParsedArg} → Same gs hs → Same (lacking c ∷ gs) (lacking c ∷ hs)
 
 if_same : (b : Bool) (p q r s : List ParsedArg) → Same p q → Same r s → Same (if b then p else r) (if b then q else s)
-if_same true p q r s h k = h
-if_same false p q r s h k = k
+if_same b p q r s h k = grind arith
 
 operands_same : (n m : ℕ) (ws : List (List ℕ)) → Same (operands_from n ws) (operands_from m ws)
 operands_same n m [] = none
@@ -31,8 +30,7 @@ record SameGives (g h : WordGives) : Type 0 where
   waits : g.waits ≡ h.waits
 
 if_gives : (b : Bool) (p q r s : WordGives) → SameGives p q → SameGives r s → SameGives (if b then p else r) (if b then q else s)
-if_gives true p q r s h k = h
-if_gives false p q r s h k = k
+if_gives b p q r s h k = grind arith
 
 option_same : (c n m : ℕ) (ls : List ℕ) → SameGives (option_gives c n ls) (option_gives c m ls)
 option_same c n m [] = record { given = λ xs ys k. k; waits = refl }
@@ -103,9 +101,7 @@ pub settings_parts : {t u k l s r b d c e n m : Bool} {p q : Listing} {x y : Exi
 settings_parts f g h i j o v w = rw (f, g, h, i, j, o, v, w) refl
 
 pub settings_same : (gs hs : List ParsedArg) → Same gs hs → settings_in gs ≡ settings_in hs
-settings_same gs hs k =
-    settings_parts (flag_same (codes "t") k) (flag_same (codes "k") k) (flag_same (codes "K") k) (flag_same (codes "bl") k) (flag_same (codes "c") k)
-    (flag_same (codes "n") k) (ap₂ listing_by (flag_same (codes "S") k) (flag_same (codes "s") k)) (mode_same Zero k)
+settings_same gs hs k = grind (arith, settings_parts, flag_same, mode_same)
 
 -- an argument is right or wrong in each place
 argument_right : (c n m : ℕ) (a : List ℕ) → argument_fault c n a ≡ None → argument_fault c m a ≡ None
@@ -121,8 +117,7 @@ argument_right c n m a e = go (has_letter (codes "x") c) e
     go false e = right (parse_symbol c a) (bad_symbol_in n) (bad_symbol_in m) e
 
 pub both_none : (x y : Option UsageFault) → fault_or x y ≡ None → (x ≡ None) × (y ≡ None)
-both_none None y e = (refl, e)
-both_none (Some f) y e = absurd (none-some f (sym e))
+both_none x y e = grind arith
 
 pub none_of_both : (x y : Option UsageFault) → x ≡ None → y ≡ None → fault_or x y ≡ None
 none_of_both x y e f = ap (λ (z : Option UsageFault). fault_or z y) e ∙ f

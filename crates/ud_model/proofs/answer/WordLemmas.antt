@@ -1,5 +1,5 @@
 -- Arguments: each argument is parsed by itself, in order.
-use Rattle.std.proofs.Common.{◌≡◌, ℕ, suc, List, [], ◌∷◌, ◌++◌, Bool, true, false, Option, Some, None, bytes_eq, codes, if◌then◌else◌, refl, ◌∙◌, ap}
+use Rattle.std.proofs.Common.{◌≡◌, ℕ, suc, List, [], ◌∷◌, ◌++◌, Bool, true, false, Option, Some, None, bytes_eq, codes, if◌then◌else◌, refl, ◌∙◌, ap, arith}
 use Rattle.ud_model.specs.answer.CommandLine.{ParsedArg, flag, unknown, is_flag, takes_argument, option_letters, operands_from, parsed_from, parsed_after_option, then_gives, option_gives, letters_give, given_next}
 use Rattle.ud_model.specs.aids.LettersThen.{parsed_option, parsed_letters}
 
@@ -16,20 +16,16 @@ letters_split number [] next rest = refl
 letters_split number (c ∷ cs) next rest = go (is_flag c) (takes_argument c) (letters_split number cs next rest)
   where
     by_letters : (ls : List ℕ) → parsed_option c number ls (next c) rest ≡ (option_gives c number ls).given ++ waited (option_gives c number ls).waits next rest
-    by_letters [] = refl
-    by_letters (l ∷ ls) = refl
+    by_letters ls = grind arith
 
     go : (f t : Bool) → parsed_letters number cs next rest ≡ (letters_give number cs).given ++ waited (letters_give number cs).waits next rest →
         (if f then flag c ∷ parsed_letters number cs next rest else if t then parsed_option c number cs (next c) rest else unknown c ∷ parsed_letters number cs next rest)
         ≡ (if f then then_gives (flag c) (letters_give number cs) else if t then option_gives c number cs else then_gives (unknown c) (letters_give number cs)).given
         ++ waited (if f then then_gives (flag c) (letters_give number cs) else if t then option_gives c number cs else then_gives (unknown c) (letters_give number cs)).waits next rest
-    go true t e = ap (λ (gs : List ParsedArg). flag c ∷ gs) e
-    go false true e = by_letters cs
-    go false false e = ap (λ (gs : List ParsedArg). unknown c ∷ gs) e
+    go f t e = grind arith
 
 next_is : (o : Option ℕ) (n : ℕ) (args : List (List ℕ)) → waited o (λ c. parsed_after_option c n args) (parsed_from n args) ≡ given_next o n args
-next_is None n args = refl
-next_is (Some c) n args = refl
+next_is o n args = grind arith
 
 -- After `--` each argument is an operand.
 pub after_end : (n : ℕ) (args : List (List ℕ)) → parsed_from n (codes "--" ∷ args) ≡ operands_from (suc n) args
@@ -48,6 +44,4 @@ options_given n w args c cs e l = rw (e, l) refl
 -- The options of letters, and then those of further arguments.
 pub letters_then : (n : ℕ) (cs : List ℕ) (args : List (List ℕ)) →
     parsed_letters n cs (λ d. parsed_after_option d n args) (parsed_from n args) ≡ (letters_give n cs).given ++ given_next (letters_give n cs).waits n args
-letters_then n cs args =
-    letters_split n cs (λ d. parsed_after_option d n args) (parsed_from n args)
-    ∙ ap (λ (gs : List ParsedArg). (letters_give n cs).given ++ gs) (next_is (letters_give n cs).waits n args)
+letters_then n cs args = grind (arith, letters_split, next_is)

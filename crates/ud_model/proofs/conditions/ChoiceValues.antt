@@ -1,5 +1,5 @@
 -- Choice values: what a choice of numbers gives an expression is one of the values that C may give it.
-use Rattle.std.proofs.Common.{◌≡◌, ℕ, List, [], ◌∷◌, Bool, true, false, ◌==◌, if◌then◌else◌, Option, Some, None, refl, sym, ◌∙◌, ap, subst, inl, inr, ◌⊎◌, ℤ, pos, negsuc, neg_ℤ}
+use Rattle.std.proofs.Common.{◌≡◌, ℕ, List, [], ◌∷◌, Bool, true, false, ◌==◌, if◌then◌else◌, Option, Some, None, refl, sym, ◌∙◌, ap, subst, inl, inr, ◌⊎◌, ℤ, pos, negsuc, neg_ℤ, arith}
 use Rattle.std.proofs.lemmas.Option.{none-some}
 use Rattle.std.proofs.lemmas.Bool.{false≢true, or_left, or_right}
 use Rattle.ud_model.specs.conditions.Table.{Argument, Entry, entry_in}
@@ -16,47 +16,31 @@ abbrev Keeps : Option ℤ → Option ℤ → Type 0
 Keeps a b = (z : ℤ) → a ≡ Some z → b ≡ Some z
 
 fits_less : (u v : Bool) (z : ℤ) → (v ≡ true → u ≡ true) → fits u z ≡ true → fits v z ≡ true
-fits_less true v (negsuc n) h e = absurd (false≢true e)
-fits_less false true (negsuc n) h e = absurd (false≢true (h refl))
-fits_less _ _ _ _ e = e
+fits_less u v z h e = grind arith
 
 fit_less : (u v : Bool) (k : ℤ) → (v ≡ true → u ≡ true) → Keeps (fit u k) (fit v k)
-fit_less u v k h z e = by (fits u k) refl e
-  where
-    by : (b : Bool) → fits u k ≡ b → (if b then Some k else None) ≡ Some z → fit v k ≡ Some z
-    by true d f = ap (λ (t : Bool). if t then Some k else None) (fits_less u v k h d) ∙ f
-    by false d f = absurd (none-some z f)
+fit_less u v k h z e = grind arith
 
 negated_less : (u v : Bool) (o : Option ℤ) → (v ≡ true → u ≡ true) → Keeps (negated_value u o) (negated_value v o)
-negated_less u v None h z e = absurd (none-some z e)
-negated_less u v (Some k) h z e = fit_less u v (neg_ℤ k) h z e
+negated_less u v o h z e = grind arith
 
 if_less : (b : Bool) (x y : Option ℤ) → Keeps x y → Keeps (if b then x else None) (if b then y else None)
-if_less true x y k z e = k z e
-if_less false x y k z e = absurd (none-some z e)
+if_less b x y k z e = grind arith
 
 either_less : (b : Bool) (x y other : Option ℤ) → Keeps x y → Keeps (if b then x else other) (if b then y else other)
-either_less true x y other k z e = k z e
-either_less false x y other k z e = e
+either_less b x y other k z e = grind arith
 
 text_less : (u v : Bool) (text : List ℕ) → (v ≡ true → u ≡ true) → Keeps (text_value u text) (text_value v text)
-text_less u v [] h z e = absurd (none-some z e)
-text_less u v (b ∷ w) h z e =
-    either_less (b == 45) (if is_constant w then negated_value u (constant_value w) else None) (if is_constant w then negated_value v (constant_value w) else None)
-    (if is_constant (b ∷ w) then constant_value (b ∷ w) else None)
-    (if_less (is_constant w) (negated_value u (constant_value w)) (negated_value v (constant_value w)) (negated_less u v (constant_value w) h)) z e
+text_less u v text h z e = grind arith
 
 end_less : (u v : Bool) (o : Option (List ℕ)) → (v ≡ true → u ≡ true) → Keeps (end_value u o) (end_value v o)
-end_less u v None h z e = absurd (none-some z e)
-end_less u v (Some text) h z e = text_less u v text h z e
+end_less u v o h z e = grind arith
 
 defined_less : (u v : Bool) (end value : Option (List ℕ)) → (v ≡ true → u ≡ true) → Keeps (defined_name_value u end value) (defined_name_value v end value)
-defined_less u v end None h z e = e
-defined_less u v end (Some text) h z e = end_less u v end h z e
+defined_less u v end value h z e = grind arith
 
 entry_less : (u v : Bool) (end : Option (List ℕ)) (o : Option Entry) → (v ≡ true → u ≡ true) → Keeps (name_value_by u end o) (name_value_by v end o)
-entry_less u v end None h z e = absurd (none-some z e)
-entry_less u v end (Some x) h z e = defined_less u v end x.value h z e
+entry_less u v end o h z e = grind arith
 
 -- A name whose value is known in an expression with a `u` has the same value in one without.
 pub name_less : (table : List Argument) (u v : Bool) (n : List ℕ) → (v ≡ true → u ≡ true) → Keeps (name_value table u n) (name_value table v n)
@@ -64,8 +48,7 @@ unfolding name_value
 name_less table u v n h z e = entry_less u v (resolve table n) (entry_in table n) h z e
 
 zero_or_one : (b : Bool) → (signed (truth b) ≡ signed (pos 0)) ⊎ (signed (truth b) ≡ signed (pos 1))
-zero_or_one true = inr refl
-zero_or_one false = inl refl
+zero_or_one b = grind arith
 
 module _ (table : List Argument) (u : Bool) where
   name_may : (n : List ℕ) (arguments : Bool) (c : Number) → IsInRange c → ((z : ℤ) → name_value table (name_has_u table n) n ≡ Some z → c ≡ typed (name_has_u table n) z) →

@@ -1,5 +1,5 @@
 -- Conditions: tables with the same entry for every name decide alike.
-use Rattle.std.proofs.Common.{◌≡◌, ℕ, List, Bool, false, ◌&&◌, ◌||◌, Option, Some, None, is_some, refl, ◌∙◌, ap, ap₂}
+use Rattle.std.proofs.Common.{◌≡◌, ℕ, List, Bool, false, ◌&&◌, ◌||◌, Option, Some, None, is_some, refl, ◌∙◌, ap, ap₂, arith}
 use Rattle.ud_model.specs.sections.Directives.{role_of, test_of}
 use Rattle.ud_model.specs.conditions.Table.{Argument, Entry}
 use Rattle.ud_model.specs.conditions.Expressions.{Expression, constant, named, is_defined, unary, binary, parens}
@@ -67,23 +67,17 @@ module _ (t u : List Argument) (same : SaySame t u) where
   tree_cond_same e rules = rw (calls_undefined_same e, names_listed_same e, value_of_same rules.strict e)
 
   tree_cond_if_same : (o : Option Expression) (rules : Rules) → tree_cond_if o t rules ≡ tree_cond_if o u rules
-  tree_cond_if_same None rules = refl
-  tree_cond_if_same (Some e) rules = tree_cond_same e rules
+  tree_cond_if_same o rules = grind (arith, tree_cond_same)
 
   pub expression_cond_same : (text : List ℕ) (rules : Rules) → expression_cond text t rules ≡ expression_cond text u rules
   unfolding expression_cond
   expression_cond_same text rules = tree_cond_if_same (expression_of text) rules
 
   ifdef_decision_same : (o : Option (List ℕ)) → ifdef_decision o t ≡ ifdef_decision o u
-  ifdef_decision_same None = refl
-  ifdef_decision_same (Some n) = ap ifdef_by (same n)
+  ifdef_decision_same o = grind arith
 
   decided_by_same : (p : Test) (text : List ℕ) (rules : Rules) → decision_by_test p text t rules ≡ decision_by_test p text u rules
-  decided_by_same Nonzero text rules = ap (λ (c : Cond). record { cond = c; ignoring = false }) (expression_cond_same text rules)
-  decided_by_same Defined text rules = ifdef_decision_same (sole_name text)
-  decided_by_same Undefined text rules = ap (λ (d : Decision). record d { cond = negate d.cond }) (ifdef_decision_same (sole_name text))
-  decided_by_same Nothing text rules = refl
+  decided_by_same p text rules = grind (arith, expression_cond_same, ifdef_decision_same)
 
   pub condition_of_same : (k : Kind) (text : List ℕ) (rules : Rules) → condition_of k text t rules ≡ condition_of k text u rules
-  condition_of_same k text rules =
-      ap (λ (d : Decision). record d { ignoring = begins_section (role_of k) && d.ignoring }) (decided_by_same (test_of k) text rules)
+  condition_of_same k text rules = grind (arith, decided_by_same)

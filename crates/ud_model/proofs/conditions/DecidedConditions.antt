@@ -1,6 +1,6 @@
 -- Decided conditions: the condition of a text is that of its tree, and a decided condition has C's
 -- truth.
-use Rattle.std.proofs.Common.{◌≡◌, ◌≢◌, ℕ, List, [], Bool, true, false, not, ◌||◌, if◌then◌else◌, Option, Some, None, refl, sym, ◌∙◌, ap, ℤ, pos}
+use Rattle.std.proofs.Common.{◌≡◌, ◌≢◌, ℕ, List, [], Bool, true, false, not, ◌||◌, if◌then◌else◌, Option, Some, None, refl, sym, ◌∙◌, ap, ℤ, pos, arith}
 use Rattle.std.proofs.lemmas.Bool.{false≢true}
 use Rattle.ud_model.specs.conditions.Table.{Argument, Entry, entry_in}
 use Rattle.ud_model.specs.conditions.Expressions.{Expression, IsWritten}
@@ -46,54 +46,32 @@ pub names_without_tree : (text : List ℕ) → ((e : Expression) → IsWritten t
 names_without_tree text h = names_of_none text (expression_of text) refl h
 
 yes_by : (b : Bool) (o : Option ℤ) → (if b then Unknown else truth_of o) ≡ Yes → (z : ℤ) × (o ≡ Some z) × (is_zero z ≡ false)
-yes_by true o e = absurd (cc)
-yes_by false None e = absurd (cc)
-yes_by false (Some z) e = by (is_zero z) refl e
-  where
-    by : (b : Bool) → is_zero z ≡ b → (if b then No else Yes) ≡ Yes → (y : ℤ) × (Some z ≡ Some y) × (is_zero y ≡ false)
-    by true d f = absurd (cc)
-    by false d f = (z, refl, d)
+yes_by b o e = grind arith
 
 no_by : (b : Bool) (o : Option ℤ) → (if b then Unknown else truth_of o) ≡ No → (z : ℤ) × (o ≡ Some z) × (is_zero z ≡ true)
-no_by true o e = absurd (cc)
-no_by false None e = absurd (cc)
-no_by false (Some z) e = by (is_zero z) refl e
-  where
-    by : (b : Bool) → is_zero z ≡ b → (if b then No else Yes) ≡ No → (y : ℤ) × (Some z ≡ Some y) × (is_zero y ≡ true)
-    by true d f = (z, refl, d)
-    by false d f = absurd (cc)
+no_by b o e = grind arith
 
 -- A condition that is true has only C values other than 0.
 pub yes_is_true : (table : List Argument) (rules : Rules) (e : Expression) (c : Number) → tree_cond e table rules ≡ Yes → IsCValue table e c → number c ≢ pos 0
-yes_is_true table rules e c d v h =
-    let q : (z : ℤ) × (value_of table rules.strict e ≡ Some z) × (is_zero z ≡ false) = yes_by (calls_undefined table e || not (rules.constants || mentions_listed table e)) (value_of table rules.strict e) d in
-    false≢true (sym q.2 ∙ (zero_decides q.0).1 (sym (known_stays table rules.strict e q.0 c q.1 v) ∙ h))
+yes_is_true table rules e c d v h = grind (arith, yes_by, false≢true, zero_decides, known_stays)
 
 -- A condition that is false has no C value but 0.
 pub no_is_false : (table : List Argument) (rules : Rules) (e : Expression) (c : Number) → tree_cond e table rules ≡ No → IsCValue table e c → number c ≡ pos 0
-no_is_false table rules e c d v =
-    let q : (z : ℤ) × (value_of table rules.strict e ≡ Some z) × (is_zero z ≡ true) = no_by (calls_undefined table e || not (rules.constants || mentions_listed table e)) (value_of table rules.strict e) d in
-    known_stays table rules.strict e q.0 c q.1 v ∙ (zero_decides q.0).0 q.2
+no_is_false table rules e c d v = grind (arith, no_by, known_stays, zero_decides)
 
 -- An entry always decides.
 entry_heeds : (v : Option (List ℕ)) (i : Bool) → (ifdef_by (Some (record { value = v; ignoring = i }))).cond ≡ Unknown → i ≡ false
-entry_heeds None i e = cc
-entry_heeds (Some x) i e = cc
+entry_heeds v i e = grind arith
 
 by_entry : (o : Option Entry) → (ifdef_by o).cond ≡ Unknown → (ifdef_by o).ignoring ≡ false
-by_entry None e = refl
-by_entry (Some x) e = entry_heeds x.value x.ignoring e
+by_entry o e = grind arith
 
 by_name : (o : Option (List ℕ)) (table : List Argument) → (ifdef_decision o table).cond ≡ Unknown → (ifdef_decision o table).ignoring ≡ false
-by_name None table e = refl
-by_name (Some n) table e = by_entry (entry_in table n) e
+by_name o table e = grind arith
 
 pub negated_unknown : (c : Cond) → negate c ≡ Unknown → c ≡ Unknown
-negated_unknown Unknown e = refl
-negated_unknown _ e = cc
+negated_unknown c e = grind arith
 
 -- A condition that is unknown makes no section plain text.
 pub unknown_heeds : (p : Test) (after : List ℕ) (table : List Argument) (rules : Rules) → (decision_by_test p after table rules).cond ≡ Unknown → (decision_by_test p after table rules).ignoring ≡ false
-unknown_heeds Defined after table rules e = by_name (sole_name after) table e
-unknown_heeds Undefined after table rules e = by_name (sole_name after) table (negated_unknown (ifdef_decision (sole_name after) table).cond e)
-unknown_heeds _ _ _ _ _ = refl
+unknown_heeds p after table rules e = grind arith

@@ -1,5 +1,5 @@
 -- Kept tokens: the flags choose the tokens of the residual.
-use Rattle.std.proofs.Common.{◌≡◌, Bool, true, false, not, ◌&&◌, if◌then◌else◌, List, [], ◌∷◌, ◌++◌, map, refl, sym, ◌∙◌, ap, ap₂}
+use Rattle.std.proofs.Common.{◌≡◌, Bool, true, false, not, ◌&&◌, if◌then◌else◌, List, [], ◌∷◌, ◌++◌, map, refl, sym, ◌∙◌, ap, ap₂, arith}
 use Rattle.ud_model.specs.conditions.Table.{Argument}
 use Rattle.ud_model.specs.conditions.Tokens.{operator, opening, closing}
 use Rattle.ud_model.specs.conditions.Expressions.{Expression, constant, named, is_defined, unary, binary, parens, spelling}
@@ -65,14 +65,7 @@ joined_choose false false o c x y e f xs ys p q = record {
 
 enclosed_choose : (b : Bool) (x : Residual) (e : Expression) (xs : List Bool) → Chooses xs e x.tree →
     Chooses (not b ∷ xs ++ not b ∷ []) (parens e) (if b then x else record x { tree = parens x.tree }).tree
-enclosed_choose true x e xs p = record {
-  long = same_both xs (false ∷ []) (spelling e) (closing ∷ []) p.long tt;
-  are = chosen_both xs (false ∷ []) (spelling e) (closing ∷ []) p.long ∙ ap₂ (λ us vs. us ++ vs) p.are refl ∙ to_nil (spelling x.tree);
-}
-enclosed_choose false x e xs p = record {
-  long = same_both xs (true ∷ []) (spelling e) (closing ∷ []) p.long tt;
-  are = ap (λ us. opening ∷ us) (chosen_both xs (true ∷ []) (spelling e) (closing ∷ []) p.long ∙ ap₂ (λ us vs. us ++ vs) p.are refl);
-}
+enclosed_choose b x e xs p = grind (arith, same_both, chosen_both, to_nil)
 
 not_choose : (x : Residual) (e : Expression) (xs : List Bool) → Chooses xs e x.tree → Chooses (true ∷ xs) (unary Not e) (unary Not x.tree)
 not_choose x e xs p = record { long = p.long; are = ap (λ us. operator Not ∷ us) p.are }

@@ -26,12 +26,10 @@ Agrees u n (unsigned k) = (pos k ≡ n) × (fits u n ≡ true) × (u ≡ true)
 
 -- It is the same number.
 pub agrees_number : (u : Bool) (n : ℤ) (c : Number) → Agrees u n c → number c ≡ n
-agrees_number u n (signed z) a = a.0
-agrees_number u n (unsigned k) a = a.0
+agrees_number u n c a = grind arith
 
 fit_by : (b : Bool) (u : Bool) (z n : ℤ) → fits u z ≡ b → (if b then Some z else None) ≡ Some n → (z ≡ n) × (fits u n ≡ true)
-fit_by true u z n f e = let q : z ≡ n = same_Some z n e in (q, rw q at f)
-fit_by false u z n f e = absurd (none-some n e)
+fit_by b u z n f e = grind arith
 
 -- A result in range is known as it is.
 pub fit_is : (u : Bool) (z n : ℤ) → fit u z ≡ Some n → (z ≡ n) × (fits u n ≡ true)
@@ -48,14 +46,10 @@ fits_one u = refl
 
 -- A test that decides a fact gives the truth of the fact.
 pub truth_agrees : (Holds : Type 0) (u b : Bool) (n : ℤ) (c : Number) → Decides b Holds → Some (truth b) ≡ Some n → IsTruth Holds c → Agrees u n c
-truth_agrees Holds u true n c d e (inl h) = let q : pos 1 ≡ n = same_Some (pos 1) n e in as_signed u n c (pos 1) h.1 (q, ap (fits u) (sym q))
-truth_agrees Holds u true n c d e (inr h) = absurd (h.0 (d.0 refl))
-truth_agrees Holds u false n c d e (inl h) = absurd (false≢true (d.1 h.0))
-truth_agrees Holds u false n c d e (inr h) = let q : pos 0 ≡ n = same_Some (pos 0) n e in as_signed u n c (pos 0) h.1 (q, ap (fits u) (sym q))
+truth_agrees Holds u b n c d e h = grind arith
 
 decides_by : {P : Type 0} (b : Bool) → (T b → P) → (P → T b) → Decides b P
-decides_by true f g = ((λ e. f tt), λ p. refl)
-decides_by false f g = ((λ e. absurd (false≢true e)), λ p. absurd (g p))
+decides_by h f g = grind arith
 
 -- The test for less decides.
 pub less_decides : (a b : ℤ) → Decides (int_lt a b) (a <ℤ b)
@@ -69,18 +63,11 @@ leb_decides : (a b : ℕ) → Decides (leb a b) (a ≤ b)
 leb_decides a b = elim (leb_tells a b) [ inl p ↦ ((λ e. p.1), λ h. p.0) | inr p ↦ ((λ e. absurd (false≢true (sym p.0 ∙ e))), λ h. absurd (omega arith)) ]
 
 both_ways : (a b : ℕ) → Decides (leb a b && leb b a) (a ≡ b)
-both_ways a b = elim (leb_tells a b) [
-  | inl p ↦ elim (leb_tells b a) [
-    | inl q ↦ ((λ e. omega arith), λ h. rw (p.0, q.0) refl)
-    | inr q ↦ ((λ e. absurd (false≢true (sym q.0 ∙ (rw p.0 at e)))), λ h. absurd (omega arith))
-  ]
-  | inr p ↦ ((λ e. absurd (false≢true (rw p.0 at e))), λ h. absurd (omega arith))
-]
+both_ways a b = grind arith
 
 -- A negated test decides that the fact isn't true.
 pub not_decides : {P : Type 0} (b : Bool) → Decides b P → Decides (not b) (P → ⊥)
-not_decides true d = ((λ e. absurd (false≢true e)), λ h. absurd (h (d.0 refl)))
-not_decides false d = ((λ e. λ p. false≢true (d.1 p)), λ h. refl)
+not_decides h d = grind arith
 
 like_decides : {P Q : Type 0} (b : Bool) → (P → Q) → (Q → P) → Decides b P → Decides b Q
 like_decides b f g d = ((λ e. f (d.0 e)), λ q. d.1 (g q))
@@ -93,17 +80,13 @@ negsuc_same a b e = let q : suc a ≡ suc b = ap unsigned_abs e in omega arith
 
 -- The test for equal numbers decides.
 pub same_decides : (a b : ℤ) → Decides (equal_numbers a b) (a ≡ b)
-same_decides (pos a) (pos b) = like_decides (leb a b && leb b a) (λ e. ap pos e) (pos_same a b) (both_ways a b)
-same_decides (negsuc a) (negsuc b) = like_decides (leb b a && leb a b) (λ e. ap negsuc (sym e)) (λ h. sym (negsuc_same a b h)) (both_ways b a)
-same_decides _ _ = ((λ e. absurd (false≢true e)), λ h. cc)
+same_decides a b = grind arith
 
 divided : (b : Bool) (o : Option ℤ) (n : ℤ) → (if b then None else o) ≡ Some n → o ≡ Some n
-divided true o n e = absurd (none-some n e)
-divided false o n e = e
+divided b o n e = grind arith
 
 in_range : (b : Bool) (o : Option ℤ) (n : ℤ) → (if b then o else None) ≡ Some n → o ≡ Some n
-in_range true o n e = e
-in_range false o n e = absurd (none-some n e)
+in_range b o n e = grind arith
 
 -- The case of two known operands of intmax_t.
 pub signed_agrees : (u : Bool) (o : Operator) (a b n : ℤ) (c : Number) → apply_binary_known u o a b ≡ Some n → GivesSigned o a b c → Agrees u n c
@@ -141,61 +124,24 @@ bits_known x n l e = fit_is true (pos x) n (rw (to_z_pos w64 x l) at e)
 -- The case of a difference that isn't negative.
 sub_known : (b : Bool) (j k : ℕ) (n : ℤ) (c : Number) → ltb j (suc k) ≡ b → c ≡ unsigned ((j + (2 ^ 64 - suc k)) % 2 ^ 64) →
     fit true (if b then negsuc (suc k - suc j) else pos (j - suc k)) ≡ Some n → suc k < 2 ^ 63 → Agrees true n c
-sub_known true j k n c q g e l = absurd (none-some n e)
-sub_known false j k n c q g e l =
-    let p : (pos (j - suc k) ≡ n) × (fits true n ≡ true) = fit_is true (pos (j - suc k)) n e in
-    let h : j - suc k < 2 ^ 63 = nat_fits (j - suc k) n p.0 p.1 in
-    let m : suc k ≤ j = elim (leb_tells (suc j) (suc k)) [ inl r ↦ absurd (false≢true (sym q ∙ r.0)) | inr r ↦ omega arith ] in
-    let d : j + (2 ^ 64 - suc k) ≡ (j - suc k) + 1 * 2 ^ 64 = omega arith in
-    let w : (j - suc k) % 2 ^ 64 ≡ j - suc k = modulo_itself (j - suc k) n p in
-    as_modulo n c (j + (2 ^ 64 - suc k)) (j - suc k) g (ap (λ (x : ℕ). x % 2 ^ 64) d ∙ add-mul-mod_self_right (j - suc k) 1 (2 ^ 64) ∙ w) p
+sub_known b j k n c q g e l = grind arith
 
 minus_known : (a b : ℕ) (n : ℤ) (c : Number) → b < 2 ^ 63 → fit true (pos a -ℤ pos b) ≡ Some n → c ≡ unsigned ((a + (2 ^ 64 - b)) % 2 ^ 64) → Agrees true n c
-minus_known a zero n c l e g =
-    let p : (pos (a + 0) ≡ n) × (fits true n ≡ true) = fit_is true (pos (a + 0)) n e in
-    let h : a + 0 ≡ a = omega arith in
-    let d : a + (2 ^ 64 - 0) ≡ (a + 0) + 1 * 2 ^ 64 = omega arith in
-    as_modulo n c (a + (2 ^ 64 - 0)) (a + 0) g (ap (λ (x : ℕ). x % 2 ^ 64) d ∙ add-mul-mod_self_right (a + 0) 1 (2 ^ 64) ∙ modulo_itself (a + 0) n p) p
-minus_known a (suc k) n c l e g = sub_known (ltb a (suc k)) a k n c refl g e l
+minus_known a b n c l e g = grind arith
 
 -- The case of two known operands, one of them of uintmax_t.
 pub unsigned_agrees : (o : Operator) (a b : ℕ) (n : ℤ) (c : Number) → a < 2 ^ 63 → b < 2 ^ 63 → apply_binary_known true o (pos a) (pos b) ≡ Some n → GivesUnsigned o a b c →
     Agrees true n c
 unfolding apply_binary_known
-unsigned_agrees BitOr a b n c k l e g = as_natural n c (bit_or a b) g (bits_known (bit_or a b) n (or_lt 63 a b k l) e)
-unsigned_agrees BitXor a b n c k l e g = as_natural n c (bit_xor a b) g (bits_known (bit_xor a b) n (xor_lt 63 a b k l) e)
-unsigned_agrees BitAnd a b n c k l e g =
-    let h : bit_and a b ≤ a = and_le_l a b in as_natural n c (bit_and a b) g (bits_known (bit_and a b) n (omega arith) e)
-unsigned_agrees Equal a b n c k l e g = truth_agrees (a ≡ b) true (leb a b && leb b a) n c (both_ways a b) e g
-unsigned_agrees NotEqual a b n c k l e g = truth_agrees (a ≢ b) true (not (leb a b && leb b a)) n c (not_decides (leb a b && leb b a) (both_ways a b)) e g
-unsigned_agrees Less a b n c k l e g = truth_agrees (a < b) true (ltb a b) n c (Decides-ltb a b) e g
-unsigned_agrees LessEqual a b n c k l e g = truth_agrees (a ≤ b) true (leb a b) n c (leb_decides a b) e g
-unsigned_agrees Greater a b n c k l e g = truth_agrees (b < a) true (ltb b a) n c (Decides-ltb b a) e g
-unsigned_agrees GreaterEqual a b n c k l e g = truth_agrees (b ≤ a) true (leb b a) n c (leb_decides b a) e g
-unsigned_agrees Plus a b n c k l e g =
-    let p : (pos (a + b) ≡ n) × (fits true n ≡ true) = fit_is true (pos (a + b)) n e in as_modulo n c (a + b) (a + b) g (modulo_itself (a + b) n p) p
-unsigned_agrees Minus a b n c k l e g = minus_known a b n c l e g
-unsigned_agrees Times a b n c k l e g =
-    let p : (pos (a * b) ≡ n) × (fits true n ≡ true) = fit_is true (pos (a * b)) n e in as_modulo n c (a * b) (a * b) g (modulo_itself (a * b) n p) p
-unsigned_agrees Over a b n c k l e g = as_natural n c (a / b) g.1 (fit_is true (pos (a / b)) n (divided (nat_eq b 0) _ n e))
-unsigned_agrees Remainder a b n c k l e g =
-    as_natural n c (a % b) g.1 (fit_is true (pos (a % b)) n (in_range (fits true (pos (a / b))) _ n (divided (nat_eq b 0) _ n e)))
-unsigned_agrees _ _ _ n _ _ _ _ g = absurd g
+unsigned_agrees o a b n c k l e g = grind arith
 
 -- A known number beside a `u` is one of uintmax_t.
 natural_of : (a : ℤ) → fits true a ≡ true → (j : ℕ) × (a ≡ pos j) × (j < 2 ^ 63)
-natural_of (pos j) f = (j, refl, (Decides-ltb j (2 ^ 63)).0 f)
-natural_of (negsuc j) f = absurd (false≢true f)
+natural_of a f = grind arith
 
 gives_by : (u : Bool) (o : Operator) (a b n : ℤ) (c : Number) (j k : ℕ) → u ≡ true → fits u a ≡ true → fits u b ≡ true → j ≡ cast_unsigned w64 a → k ≡ cast_unsigned w64 b →
     apply_binary_known u o a b ≡ Some n → GivesUnsigned o j k c → Agrees u n c
-gives_by true o a b n c j k t f g p q e h =
-    let x : (i : ℕ) × (a ≡ pos i) × (i < 2 ^ 63) = natural_of a f in
-    let y : (i : ℕ) × (b ≡ pos i) × (i < 2 ^ 63) = natural_of b g in
-    let v : j ≡ x.0 = p ∙ ap (cast_unsigned w64) x.1 in
-    let w : k ≡ y.0 = q ∙ ap (cast_unsigned w64) y.1 in
-    unsigned_agrees o x.0 y.0 n c x.2 y.2 (rw (x.1, y.1) at e) (rw (v, w) at h)
-gives_by false o a b n c j k t f g p q e h = absurd (false≢true t)
+gives_by u o a b n c j k t f g p q e h = grind (arith, natural_of, unsigned_agrees, false≢true)
 
 -- The result of C's operator between two operands agrees with the known one.
 pub gives_agrees : (u : Bool) (o : Operator) (a b n : ℤ) (x y c : Number) → Agrees u a x → Agrees u b y → apply_binary_known u o a b ≡ Some n → Gives o x y c → Agrees u n c
@@ -209,42 +155,27 @@ gives_agrees u o a b n (unsigned s) (unsigned t) c p q e g =
 
 -- The test for 0 decides.
 pub zero_decides : (a : ℤ) → Decides (is_zero a) (a ≡ pos 0)
-zero_decides (pos j) = like_decides (nat_eq j 0) (λ e. ap pos e) (pos_same j 0) (Decides-eqb j 0)
-zero_decides (negsuc j) = ((λ e. absurd (false≢true e)), λ h. cc)
+zero_decides a = grind arith
 
 -- A known number is 0 exactly if C's is.
 pub zero_agrees : (u : Bool) (a : ℤ) (x : Number) → Agrees u a x → Decides (is_zero a) (number x ≡ pos 0)
 zero_agrees u a x p = like_decides (is_zero a) (λ e. agrees_number u a x p ∙ e) (λ e. sym (agrees_number u a x p) ∙ e) (zero_decides a)
 
 below_zero_fits : (u : Bool) (j : ℕ) → fits u (negsuc j) ≡ true → j < 2 ^ 63
-below_zero_fits true j f = absurd (false≢true f)
-below_zero_fits false j f = (Decides-ltb j (2 ^ 63)).0 f
+below_zero_fits u j f = grind arith
 
 minus_one : (j : ℕ) → neg_ℤ (pos j) -ℤ pos 1 ≡ negsuc j
-minus_one zero = refl
-minus_one (suc j) = ap negsuc (omega arith)
+minus_one j = grind arith
 
 minus_one_more : (j : ℕ) → neg_ℤ (negsuc j) -ℤ pos 1 ≡ pos j
-minus_one_more j = less (ltb (suc j) 1) refl
-  where
-    less : (b : Bool) → ltb (suc j) 1 ≡ b → (if b then negsuc (1 - suc (suc j)) else pos (suc j - 1)) ≡ pos j
-    less true e = let h : suc j < 1 = (Decides-ltb (suc j) 1).0 e in absurd (omega arith)
-    less false e = ap pos (omega arith)
+minus_one_more j = grind arith
 
 -- The complement of the bits of a number is -1 minus the number.
 turned : (u : Bool) (a : ℤ) → fits u a ≡ true → cast_signed w64 (2 ^ 64 - 1 - cast_unsigned w64 a) ≡ neg_ℤ a -ℤ pos 1
-turned u (pos j) f =
-    let h : j < 2 ^ 63 = (Decides-ltb j (2 ^ 63)).0 f in
-    let d : 2 ^ 64 - 1 - j ≡ 2 ^ 64 - suc j = omega arith in
-    ap (cast_signed w64) d ∙ to_z-neg w64 j h ∙ sym (minus_one j)
-turned u (negsuc j) f =
-    let h : j < 2 ^ 63 = below_zero_fits u j f in
-    let d : 2 ^ 64 - 1 - (2 ^ 64 - suc j) ≡ j = omega arith in
-    ap (cast_signed w64) d ∙ to_z_pos w64 j h ∙ sym (minus_one_more j)
+turned u a f = grind arith
 
 negated_natural : (j : ℕ) (n : ℤ) (c : Number) → fit true (neg_ℤ (pos j)) ≡ Some n → c ≡ unsigned ((2 ^ 64 - j) % 2 ^ 64) → Agrees true n c
-negated_natural zero n c e g = as_natural n c 0 g (fit_is true (pos 0) n e)
-negated_natural (suc j) n c e g = absurd (none-some n e)
+negated_natural j n c e g = grind arith
 
 no_complement : (j : ℕ) (n : ℤ) → fit true (neg_ℤ (pos j) -ℤ pos 1) ≡ Some n → ⊥
 no_complement j n e = none-some n (rw (minus_one j) at e)
@@ -252,12 +183,4 @@ no_complement j n e = none-some n (rw (minus_one j) at e)
 -- The result of C's operator before an operand agrees with the known one.
 pub changes_agrees : (u : Bool) (o : Operator) (a n : ℤ) (x c : Number) → Agrees u a x → apply_unary_known u o a ≡ Some n → GivesUnary o x c → Agrees u n c
 unfolding apply_unary_known
-changes_agrees u Not a n x c p e g = truth_agrees (number x ≡ pos 0) u (is_zero a) n c (zero_agrees u a x p) e g
-changes_agrees u Minus a n (signed s) c p e g = as_signed u n c (neg_ℤ s) g.1 (fit_is u (neg_ℤ s) n (ap (λ z. fit u (neg_ℤ z)) p.0 ∙ e))
-changes_agrees true Minus a n (unsigned j) c p e g = negated_natural j n c (ap (λ z. fit true (neg_ℤ z)) p.0 ∙ e) g
-changes_agrees false Minus a n (unsigned j) c p e g = absurd (false≢true p.2)
-changes_agrees u Complement a n (signed s) c p e g =
-    as_signed u n c (neg_ℤ s -ℤ pos 1) (g ∙ ap signed (turned u s (ap (fits u) p.0 ∙ p.1))) (fit_is u (neg_ℤ s -ℤ pos 1) n (ap (λ z. fit u (neg_ℤ z -ℤ pos 1)) p.0 ∙ e))
-changes_agrees true Complement a n (unsigned j) c p e g = absurd (no_complement j n (ap (λ z. fit true (neg_ℤ z -ℤ pos 1)) p.0 ∙ e))
-changes_agrees false Complement a n (unsigned j) c p e g = absurd (false≢true p.2)
-changes_agrees u _ a n x c p e g = absurd (none-some n e)
+changes_agrees u o a n x c p e g = grind arith

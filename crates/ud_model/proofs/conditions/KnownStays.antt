@@ -25,18 +25,14 @@ abbrev pub Knows : Bool → Option ℤ → Number → Type 0
 Knows u o x = (n : ℤ) → o ≡ Some n → Agrees u n x
 
 limited_by : (b u : Bool) (k : ℕ) (n : ℤ) → nat_lt k (2 ^ 63) ≡ b → (if b then Some (pos k) else None) ≡ Some n → (pos k ≡ n) × (fits u n ≡ true)
-limited_by true u k n l e = let q : pos k ≡ n = same_Some (pos k) n e in (q, ap (fits u) (sym q) ∙ l)
-limited_by false u k n l e = absurd (none-some n e)
+limited_by b u k n l e = grind arith
 
 -- A known constant is in range.
 limited_is : (u : Bool) (k : ℕ) (n : ℤ) → limited k ≡ Some n → (pos k ≡ n) × (fits u n ≡ true)
 limited_is u k n e = limited_by (nat_lt k (2 ^ 63)) u k n refl e
 
 no_greater : (k : ℕ) (n : ℤ) → limited k ≡ Some n → 2 ^ 63 ≤ k → ⊥
-no_greater k n e l =
-    let p : (pos k ≡ n) × (fits false n ≡ true) = limited_is false k n e in
-    let h : k < 2 ^ 63 = (Decides-ltb k (2 ^ 63)).0 (ap (fits false) p.0 ∙ p.1) in
-    omega arith
+no_greater k n e l = grind arith
 
 constant_known : (u : Bool) (w : List ℕ) (c : Number) → IsConstantValue w c → (has_u w ≡ true → u ≡ true) → Knows u (constant_value w) c
 constant_known u w c (plain h l) v n e = limited_is u (constant_number w) n e
@@ -44,37 +40,29 @@ constant_known u w c (by_suffix h l) v n e = let p : (pos (constant_number w) �
 constant_known u w c (by_size h d l m) v n e = absurd (no_greater (constant_number w) n e l)
 
 negated_fits : (u : Bool) (o : Option ℤ) (n : ℤ) → negated_value u o ≡ Some n → fits u n ≡ true
-negated_fits u None n e = absurd (none-some n e)
-negated_fits u (Some z) n e = (fit_is u (neg_ℤ z) n e).1
+negated_fits u o n e = grind arith
 
 constant_if : (b u : Bool) (w : List ℕ) (n : ℤ) → (if b then constant_value w else None) ≡ Some n → fits u n ≡ true
-constant_if true u w n e = (limited_is u (constant_number w) n e).1
-constant_if false u w n e = absurd (none-some n e)
+constant_if b u w n e = grind arith
 
 negated_if : (b u : Bool) (w : List ℕ) (n : ℤ) → (if b then negated_value u (constant_value w) else None) ≡ Some n → fits u n ≡ true
-negated_if true u w n e = negated_fits u (constant_value w) n e
-negated_if false u w n e = absurd (none-some n e)
+negated_if b u w n e = grind arith
 
 text_by : (b c d u : Bool) (v w : List ℕ) (n : ℤ) →
     (if b then (if c then negated_value u (constant_value v) else None) else if d then constant_value w else None) ≡ Some n → fits u n ≡ true
-text_by true c d u v w n e = negated_if c u v n e
-text_by false c d u v w n e = constant_if d u w n e
+text_by b c d u v w n e = grind arith
 
 text_fits : (u : Bool) (text : List ℕ) (n : ℤ) → text_value u text ≡ Some n → fits u n ≡ true
-text_fits u [] n e = absurd (none-some n e)
-text_fits u (b ∷ w) n e = text_by (b == 45) (is_constant w) (is_constant (b ∷ w)) u w (b ∷ w) n e
+text_fits u text n e = grind arith
 
 end_fits : (u : Bool) (o : Option (List ℕ)) (n : ℤ) → end_value u o ≡ Some n → fits u n ≡ true
-end_fits u None n e = absurd (none-some n e)
-end_fits u (Some text) n e = text_fits u text n e
+end_fits u o n e = grind arith
 
 defined_fits : (u : Bool) (end value : Option (List ℕ)) (n : ℤ) → defined_name_value u end value ≡ Some n → fits u n ≡ true
-defined_fits u end None n e = ap (fits u) (sym (same_Some (pos 0) n e))
-defined_fits u end (Some v) n e = end_fits u end n e
+defined_fits u end value n e = grind arith
 
 entry_fits : (u : Bool) (end : Option (List ℕ)) (o : Option Entry) (n : ℤ) → name_value_by u end o ≡ Some n → fits u n ≡ true
-entry_fits u end None n e = absurd (none-some n e)
-entry_fits u end (Some x) n e = defined_fits u end x.value n e
+entry_fits u end o n e = grind arith
 
 -- The known value of a name is in range.
 name_fits : (table : List Argument) (u : Bool) (name : List ℕ) (n : ℤ) → name_value table u name ≡ Some n → fits u n ≡ true
@@ -82,21 +70,16 @@ unfolding name_value
 name_fits table u name n e = entry_fits u (resolve table name) (entry_in table name) n e
 
 typed_natural : (u : Bool) (z : ℤ) → u ≡ true → fits u z ≡ true → Agrees u z (unsigned (cast_unsigned w64 z))
-typed_natural true (pos j) t f = (refl, f, refl)
-typed_natural true (negsuc j) t f = absurd (false≢true f)
-typed_natural false z t f = absurd (false≢true t)
+typed_natural u z t f = grind arith
 
 typed_known : (u b : Bool) (z : ℤ) → (b ≡ true → u ≡ true) → fits u z ≡ true → Agrees u z (typed b z)
-typed_known u true z v f = typed_natural u z (v refl) f
-typed_known u false z v f = (refl, f)
+typed_known u b z v f = grind arith
 
 truth_fits : (u b : Bool) → fits u (truth b) ≡ true
-truth_fits u true = refl
-truth_fits u false = refl
+truth_fits u b = grind arith
 
 defined_value_fits : (u : Bool) (o : Option Entry) (n : ℤ) → defined_value_by o ≡ Some n → fits u n ≡ true
-defined_value_fits u None n e = absurd (none-some n e)
-defined_value_fits u (Some x) n e = ap (fits u) (sym (same_Some (truth (is_some x.value)) n e)) ∙ truth_fits u (is_some x.value)
+defined_value_fits u o n e = grind arith
 
 defined_known : (table : List Argument) (u : Bool) (name : List ℕ) (z n : ℤ) → defined_value table name ≡ Some z → defined_value table name ≡ Some n → Agrees u n (signed z)
 unfolding defined_value
@@ -108,25 +91,16 @@ unary_known u o (Some a) x c f g n e = changes_agrees u o a n x c (f a refl) e g
 
 -- `&&` and `||` give no value by the operators between numbers.
 no_and : (x y c : Number) → Gives And x y c → ⊥
-no_and (signed a) (signed b) c g = g
-no_and (signed a) (unsigned b) c g = g
-no_and (unsigned a) (signed b) c g = g
-no_and (unsigned a) (unsigned b) c g = g
+no_and x y c g = grind arith
 
 no_or : (x y c : Number) → Gives Or x y c → ⊥
-no_or (signed a) (signed b) c g = g
-no_or (signed a) (unsigned b) c g = g
-no_or (unsigned a) (signed b) c g = g
-no_or (unsigned a) (unsigned b) c g = g
+no_or x y c g = grind arith
 
 not_decided : (o : Operator) (x y c : Number) (a n : ℤ) → Gives o x y c → short_circuit o a ≡ Some n → ⊥
-not_decided And x y c a n g e = no_and x y c g
-not_decided Or x y c a n g e = no_or x y c g
-not_decided _ x y c a n g e = none-some n e
+not_decided o x y c a n g e = grind arith
 
 undecided : (strict : Bool) (o : Operator) (x y c : Number) (a n : ℤ) → Gives o x y c → short_circuits strict o a ≡ Some n → ⊥
-undecided true o x y c a n g e = none-some n e
-undecided false o x y c a n g e = not_decided o x y c a n g e
+undecided strict o x y c a n g e = grind arith
 
 binary_known : (strict u : Bool) (o : Operator) (v w : Option ℤ) (x y c : Number) → Knows u v x → Knows u w y → Gives o x y c → Knows u (apply_binary strict u o v w) c
 binary_known strict u o (Some a) (Some b) x y c f g h n e = gives_agrees u o a b n x y c (f a refl) (g b refl) e h
@@ -142,28 +116,14 @@ is_one u n e = (e, ap (fits u) (sym e))
 
 -- If one operand decides `&&`, it is 0 and so is the value.
 and_by : (strict : Bool) (a n : ℤ) → short_circuits strict And a ≡ Some n → (is_zero a ≡ true) × (pos 0 ≡ n)
-and_by true a n e = absurd (none-some n e)
-and_by false a n e = by (is_zero a) e
-  where
-    by : (b : Bool) → (if b then Some (pos 0) else None) ≡ Some n → (b ≡ true) × (pos 0 ≡ n)
-    by true d = (refl, same_Some (pos 0) n d)
-    by false d = absurd (none-some n d)
+and_by strict a n e = grind arith
 
 -- If one operand decides `||`, it isn't 0, and the value is 1.
 or_by : (strict : Bool) (a n : ℤ) → short_circuits strict Or a ≡ Some n → (is_zero a ≡ false) × (pos 1 ≡ n)
-or_by true a n e = absurd (none-some n e)
-or_by false a n e = by (is_zero a) e
-  where
-    by : (b : Bool) → (if b then None else Some (pos 1)) ≡ Some n → (b ≡ false) × (pos 1 ≡ n)
-    by true d = absurd (none-some n d)
-    by false d = (refl, same_Some (pos 1) n d)
+or_by strict a n e = grind arith
 
 no_zero : (u : Bool) (a : ℤ) (x : Number) → Agrees u a x → (IsZero x → ⊥) → is_zero a ≡ false
-no_zero u a x p h = by (is_zero a) refl
-  where
-    by : (b : Bool) → is_zero a ≡ b → b ≡ false
-    by true d = absurd (h ((zero_agrees u a x p).0 d))
-    by false d = refl
+no_zero u a x p h = grind arith
 
 and_left_known : (strict u : Bool) (v w : Option ℤ) (x : Number) → Knows u v x → IsZero x → Knows u (apply_binary strict u And v w) (signed (pos 0))
 unfolding apply_binary_known
@@ -185,12 +145,10 @@ or_left_known strict u None None x f z n e = absurd (none-some n e)
 
 -- The truth of an operand that isn't 0, if there is one, is 1.
 false_truth : (Holds : Type 0) (u : Bool) (n : ℤ) (c : Number) → IsTruth Holds c → (Holds → ⊥) → pos 0 ≡ n → Agrees u n c
-false_truth Holds u n c (inl p) h e = absurd (h p.0)
-false_truth Holds u n c (inr p) h e = subst (λ x. Agrees u n x) (sym p.1) (is_nought u n e)
+false_truth Holds u n c h g e = grind arith
 
 true_truth : (Holds : Type 0) (u : Bool) (n : ℤ) (c : Number) → IsTruth Holds c → Holds → pos 1 ≡ n → Agrees u n c
-true_truth Holds u n c (inl p) h e = subst (λ x. Agrees u n x) (sym p.1) (is_one u n e)
-true_truth Holds u n c (inr p) h e = absurd (p.0 h)
+true_truth Holds u n c h g e = grind arith
 
 and_both_known : (strict u : Bool) (v w : Option ℤ) (x y c : Number) → Knows u v x → Knows u w y → (IsZero x → ⊥) → IsTruth (IsZero y → ⊥) c → Knows u (apply_binary strict u And v w) c
 unfolding apply_binary_known

@@ -1,6 +1,6 @@
 -- Conditions: two tables decide a condition alike if they have the same entry for each of its
 -- names, and for those to which these lead.
-use Rattle.std.proofs.Common.{◌≡◌, ℕ, List, [], Bool, true, false, not, ◌&&◌, ◌||◌, Option, Some, None, is_some, if◌then◌else◌, refl, sym, ◌∙◌, ap, ap₂}
+use Rattle.std.proofs.Common.{◌≡◌, ℕ, List, [], Bool, true, false, not, ◌&&◌, ◌||◌, Option, Some, None, is_some, if◌then◌else◌, refl, sym, ◌∙◌, ap, ap₂, arith}
 use Rattle.ud_model.specs.text.Bytes.{is_identifier}
 use Rattle.ud_model.specs.text.Scans.{Scan, Reading}
 use Rattle.ud_model.specs.sections.Directives.{Directive, Content, cut_keyword, directive, text, role_of, test_of}
@@ -101,8 +101,7 @@ module _ (t u : List Argument) where
   tree_cond_alike e rules h = rw (calls_undefined_alike e h, names_listed_alike e h, value_of_alike rules.strict e h)
 
   tree_cond_if_alike : (o : Option Expression) (rules : Rules) → Each Alike (names_in_tree o) → tree_cond_if o t rules ≡ tree_cond_if o u rules
-  tree_cond_if_alike None rules h = refl
-  tree_cond_if_alike (Some e) rules h = tree_cond_alike e rules h
+  tree_cond_if_alike o rules h = grind (arith, tree_cond_alike)
 
   expression_cond_alike : (after : List ℕ) (rules : Rules) → Each Alike (names_in_tree (expression_of after)) → expression_cond after t rules ≡ expression_cond after u rules
   unfolding expression_cond
@@ -113,14 +112,10 @@ module _ (t u : List Argument) where
   ifdef_decision_alike (Some n) h = ap ifdef_by (h.0 n (itself n))
 
   decided_by_alike : (p : Test) (after : List ℕ) (rules : Rules) → Each Alike (names_by p after) → decision_by_test p after t rules ≡ decision_by_test p after u rules
-  decided_by_alike Nonzero after rules h = ap (λ (c : Cond). record { cond = c; ignoring = false }) (expression_cond_alike after rules h)
-  decided_by_alike Defined after rules h = ifdef_decision_alike (sole_name after) h
-  decided_by_alike Undefined after rules h = ap (λ (d : Decision). record d { cond = negate d.cond }) (ifdef_decision_alike (sole_name after) h)
-  decided_by_alike Nothing after rules h = refl
+  decided_by_alike p after rules h = grind (arith, expression_cond_alike, ifdef_decision_alike)
 
   condition_of_alike : (k : Kind) (after : List ℕ) (rules : Rules) → Each Alike (names_of k after) → condition_of k after t rules ≡ condition_of k after u rules
-  condition_of_alike k after rules h =
-      ap (λ (d : Decision). record d { ignoring = begins_section (role_of k) && d.ignoring }) (decided_by_alike (test_of k) after rules h)
+  condition_of_alike k after rules h = grind (arith, decided_by_alike)
 
   -- The decision as it is, unless a continuation cuts the directive.
   abbrev unless_cut : Bool → Bool → Decision → Decision
@@ -128,8 +123,7 @@ module _ (t u : List Argument) where
 
   unless_cut_alike : (broken joins : Bool) (k : Kind) (after : List ℕ) (rules : Rules) → Each Alike (if broken then [] else names_of k after) →
       unless_cut broken joins (condition_of k after t rules) ≡ unless_cut broken joins (condition_of k after u rules)
-  unless_cut_alike true joins k after rules h = refl
-  unless_cut_alike false joins k after rules h = ap (λ (d : Decision). record d { ignoring = d.ignoring && not joins }) (condition_of_alike k after rules h)
+  unless_cut_alike broken joins k after rules h = grind (arith, condition_of_alike)
 
   decision_alike : (scan : Scan) (d : Directive) (rules : Rules) → Each Alike (names_on d) → decision_on scan d t rules ≡ decision_on scan d u rules
   decision_alike scan d rules h = unless_cut_alike d.broken scan.joins_after d.kind d.after rules h
@@ -137,7 +131,4 @@ module _ (t u : List Argument) where
 module _ (o p : Options) (same : rules_of o.settings ≡ rules_of p.settings) where
   -- A line is the same item if the tables agree on its names.
   pub item_alike : (r : Reading) (c : Content) → Each (Alike o.table p.table) (names_in_content c) → item_by o r c ≡ item_by p r c
-  item_alike r (directive d) h =
-      ap (λ (e : Decision). directive_item r (role_of d.kind) e)
-      (decision_alike o.table p.table r.scan d (rules_of o.settings) h ∙ ap (λ (q : Rules). decision_on r.scan d p.table q) same)
-  item_alike _ _ _ = refl
+  item_alike r c h = grind (arith, decision_alike)

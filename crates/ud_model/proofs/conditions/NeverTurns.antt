@@ -1,5 +1,5 @@
 -- Further symbols: a table with more entries leaves a known value as it is, or makes it unknown.
-use Rattle.std.proofs.Common.{◌≡◌, ◌≢◌, ℕ, List, [], ◌∷◌, Bool, true, false, not, ◌&&◌, ◌||◌, ◌==◌, Option, Some, None, if◌then◌else◌, ◌⊎◌, inl, inr, ℤ, pos, ◌+ℤ◌, ◌-ℤ◌, ◌*ℤ◌, neg_ℤ, int_div, int_rem, bit_and, bit_or, bit_xor, refl, sym, ◌∙◌, ap, ap₂, subst}
+use Rattle.std.proofs.Common.{◌≡◌, ◌≢◌, ℕ, List, [], ◌∷◌, Bool, true, false, not, ◌&&◌, ◌||◌, ◌==◌, Option, Some, None, if◌then◌else◌, ◌⊎◌, inl, inr, ℤ, pos, ◌+ℤ◌, ◌-ℤ◌, ◌*ℤ◌, neg_ℤ, int_div, int_rem, bit_and, bit_or, bit_xor, refl, sym, ◌∙◌, ap, ap₂, subst, arith}
 use Rattle.std.proofs.lemmas.Option.{none-some}
 use Rattle.ud_model.specs.conditions.Table.{Argument, Entry, entry_in}
 use Rattle.ud_model.specs.conditions.Constants.{is_constant}
@@ -25,78 +25,41 @@ same_after : (a : Option ℤ) → After a a
 same_after a z e = inl e
 
 if_after : (a b : Bool) (k : ℤ) → After (if a then Some k else None) (if b then Some k else None)
-if_after true true k z e = inl e
-if_after true false k z e = inr refl
-if_after false b k z e = absurd (none-some z e)
+if_after a b k z e = grind arith
 
 fit_after : (b c : Bool) (k : ℤ) → After (fit b k) (fit c k)
 fit_after b c k = if_after (fits b k) (fits c k) k
 
 unless_after : (d : Bool) (a b : Option ℤ) → After a b → After (if d then None else a) (if d then None else b)
-unless_after true a b h z e = absurd (none-some z e)
-unless_after false a b h z e = h z e
+unless_after d a b h z e = grind arith
 
 when_after : (c d : Bool) (a b : Option ℤ) → After a b → After (if c then a else None) (if d then b else None)
-when_after false d a b h z e = absurd (none-some z e)
-when_after true true a b h z e = h z e
-when_after true false a b h z e = inr refl
+when_after c d a b h z e = grind arith
 
 operate_after : (b c : Bool) (o : Operator) (x y : ℤ) → After (apply_binary_known b o x y) (apply_binary_known c o x y)
 unfolding apply_binary_known
-operate_after b c Or x y = same_after (apply_binary_known b Or x y)
-operate_after b c And x y = same_after (apply_binary_known b And x y)
-operate_after b c BitOr x y = fit_after b c (by_bits bit_or x y)
-operate_after b c BitXor x y = fit_after b c (by_bits bit_xor x y)
-operate_after b c BitAnd x y = fit_after b c (by_bits bit_and x y)
-operate_after b c Equal x y = same_after (apply_binary_known b Equal x y)
-operate_after b c NotEqual x y = same_after (apply_binary_known b NotEqual x y)
-operate_after b c Less x y = same_after (apply_binary_known b Less x y)
-operate_after b c LessEqual x y = same_after (apply_binary_known b LessEqual x y)
-operate_after b c Greater x y = same_after (apply_binary_known b Greater x y)
-operate_after b c GreaterEqual x y = same_after (apply_binary_known b GreaterEqual x y)
-operate_after b c Plus x y = fit_after b c (x +ℤ y)
-operate_after b c Minus x y = fit_after b c (x -ℤ y)
-operate_after b c Times x y = fit_after b c (x *ℤ y)
-operate_after b c Over x y = unless_after (is_zero y) (fit b (int_div x y)) (fit c (int_div x y)) (fit_after b c (int_div x y))
-operate_after b c Remainder x y =
-    unless_after (is_zero y) (if fits b (int_div x y) then fit b (int_rem x y) else None) (if fits c (int_div x y) then fit c (int_rem x y) else None)
-    (when_after (fits b (int_div x y)) (fits c (int_div x y)) (fit b (int_rem x y)) (fit c (int_rem x y)) (fit_after b c (int_rem x y)))
-operate_after _ _ _ _ _ = same_after None
+operate_after b c o x y = grind arith
 
 change_after : (b c : Bool) (o : Operator) (x : ℤ) → After (apply_unary_known b o x) (apply_unary_known c o x)
 unfolding apply_unary_known
-change_after b c Minus x = fit_after b c (neg_ℤ x)
-change_after b c Not x = same_after (apply_unary_known b Not x)
-change_after b c Complement x = fit_after b c (neg_ℤ x -ℤ pos 1)
-change_after _ _ _ _ = same_after None
+change_after b c o x = grind arith
 
 alter_after : (b c : Bool) (o : Operator) (x y : Option ℤ) → After x y → After (apply_unary b o x) (apply_unary c o y)
-alter_after b c o None y h z e = absurd (none-some z e)
-alter_after b c o (Some k) y h z e = by (h k refl)
-  where
-    by : Or_none k y → Or_none z (apply_unary c o y)
-    by (inl f) = subst (λ (q : Option ℤ). Or_none z (apply_unary c o q)) (sym f) (change_after b c o k z e)
-    by (inr f) = inr (ap (apply_unary c o) f)
+alter_after b c o x y h z e = grind (arith, none-some, change_after)
 
 -- 1. One operand that decides, and both.
 
 both_zero : (a b : Bool) → a ≡ true → Some (truth (not a && not b)) ≡ Some (pos 0)
-both_zero true b e = refl
-both_zero false b e = cc
+both_zero a b e = grind arith
 
 right_zero : (a b : Bool) → b ≡ true → Some (truth (not a && not b)) ≡ Some (pos 0)
-right_zero true true e = refl
-right_zero false true e = refl
-right_zero a false e = cc
+right_zero a b e = grind arith
 
 left_one : (a b : Bool) → a ≡ false → Some (truth (not a || not b)) ≡ Some (pos 1)
-left_one false b e = refl
-left_one true b e = cc
+left_one a b e = grind arith
 
 right_one : (a b : Bool) → b ≡ false → Some (truth (not a || not b)) ≡ Some (pos 1)
-right_one true false e = refl
-right_one false false e = refl
-right_one a true e = cc
+right_one a b e = grind arith
 
 -- The value that one operand decides.
 data Decides : Operator → ℤ → Option ℤ → Type 0 where
@@ -135,8 +98,7 @@ right_decides b _ x y _ (and_zero h) z e = inl (right_zero (is_zero x) (is_zero 
 right_decides b _ x y _ (or_some h) z e = inl (right_one (is_zero x) (is_zero y) h ∙ e)
 
 back : (a b : Option ℤ) → ((z : ℤ) → a ≡ Some z → b ≡ Some z) → After b a
-back None b h z e = inr refl
-back (Some k) b h z e = let f : b ≡ Some k = h k refl in let g : Some k ≡ Some z = sym f ∙ e in inl g
+back a b h z e = grind arith
 
 left_back : (b : Bool) (o : Operator) (x y : ℤ) (d : Option ℤ) → Decides o x d → After (apply_binary_known b o x y) d
 unfolding apply_binary_known
@@ -186,23 +148,14 @@ combine_after s b c o None (Some q) v w h k z e = by (k q refl) v
         (two_decide o q p (short_circuits s o q) (short_circuits s o p) (decides_is s o q) (decides_is s o p) z e)
 
 negated_after : (b c : Bool) (x : Option ℤ) → After (negated_value b x) (negated_value c x)
-negated_after b c None z e = absurd (none-some z e)
-negated_after b c (Some k) z e = fit_after b c (neg_ℤ k) z e
+negated_after b c x z e = grind arith
 
 text_after : (b c : Bool) (v : List ℕ) → After (text_value b v) (text_value c v)
-text_after b c [] z e = absurd (none-some z e)
-text_after b c (x ∷ w) z e = by (x == 45) (is_constant w) z e
-  where
-    by : (m d : Bool) → After (if m then (if d then negated_value b (constant_value w) else None) else if is_constant (x ∷ w) then constant_value (x ∷ w) else None)
-        (if m then (if d then negated_value c (constant_value w) else None) else if is_constant (x ∷ w) then constant_value (x ∷ w) else None)
-    by true true = negated_after b c (constant_value w)
-    by true false = same_after None
-    by false d = same_after (if is_constant (x ∷ w) then constant_value (x ∷ w) else None)
+text_after b c v z e = grind arith
 
 module _ (t u : List Argument) (more : ExtendsTable t u) where
   text_more : (n v : List ℕ) (o : Option Entry) → entry_in t n ≡ o → text_in o ≡ Some v → defined_text u n ≡ Some v
-  text_more n v None e f = absurd (none-some v f)
-  text_more n v (Some x) e f = ap text_in (more n x e) ∙ f
+  text_more n v o e f = grind arith
 
   ends_more : (n v : List ℕ) → ResolvesTo t n v → ResolvesTo u n v
   ends_more n v (at_text _ _ d i) = at_text n v (text_more n v (entry_in t n) refl d) i
@@ -212,8 +165,7 @@ module _ (t u : List Argument) (more : ExtendsTable t u) where
   end_more n v e = end_found u n v (ends_more n v (end_is t n v e))
 
   end_after : (b c : Bool) (x y : Option (List ℕ)) → ((v : List ℕ) → x ≡ Some v → y ≡ Some v) → After (end_value b x) (end_value c y)
-  end_after b c None y h z e = absurd (none-some z e)
-  end_after b c (Some v) y h z e = subst (λ (d : Option (List ℕ)). Or_none z (end_value c d)) (sym (h v refl)) (text_after b c v z e)
+  end_after b c x y h z e = grind arith
 
   entry_after : (b c : Bool) (n : List ℕ) (value : Option (List ℕ)) → After (defined_name_value b (resolve t n) value) (defined_name_value c (resolve u n) value)
   entry_after b c n None z e = inl e
@@ -228,8 +180,7 @@ module _ (t u : List Argument) (more : ExtendsTable t u) where
   name_after b c n = name_by b c n (entry_in t n) refl
 
   defined_by : (n : List ℕ) (o : Option Entry) → entry_in t n ≡ o → After (defined_value_by o) (defined_value_by (entry_in u n))
-  defined_by n None f z e = absurd (none-some z e)
-  defined_by n (Some x) f z e = inl (ap defined_value_by (more n x f) ∙ e)
+  defined_by n o f z e = grind arith
 
   defined_after : (n : List ℕ) → After (defined_value t n) (defined_value u n)
   unfolding defined_value
@@ -249,18 +200,12 @@ module _ (t u : List Argument) (more : ExtendsTable t u) where
   value_after s e z h = number_after s (has_unsigned t e) (has_unsigned u e) e z h
 
   truth_after : (a b : Option ℤ) → After a b → truth_of a ≢ Unknown → (truth_of b ≡ truth_of a) ⊎ (truth_of b ≡ Unknown)
-  truth_after None b h n = absurd (n refl)
-  truth_after (Some z) b h n = elim (h z refl) [ inl e ↦ inl (ap truth_of e) | inr e ↦ inr (ap truth_of e) ]
+  truth_after a b h n = grind arith
 
   unless_known : (p q : Bool) (a b : Cond) → (a ≢ Unknown → (b ≡ a) ⊎ (b ≡ Unknown)) → (if p then Unknown else a) ≢ Unknown →
       ((if q then Unknown else b) ≡ (if p then Unknown else a)) ⊎ ((if q then Unknown else b) ≡ Unknown)
-  unless_known true q a b h n = absurd (n refl)
-  unless_known false true a b h n = inr refl
-  unless_known false false a b h n = h n
+  unless_known p q a b h n = grind arith
 
   -- A condition stays, or is unknown.
   pub cond_after : (e : Expression) (r : Rules) → tree_cond e t r ≢ Unknown → (tree_cond e u r ≡ tree_cond e t r) ⊎ (tree_cond e u r ≡ Unknown)
-  cond_after e r n =
-      unless_known (calls_undefined t e || not (r.constants || mentions_listed t e)) (calls_undefined u e || not (r.constants || mentions_listed u e))
-      (truth_of (value_of t r.strict e)) (truth_of (value_of u r.strict e))
-      (truth_after (value_of t r.strict e) (value_of u r.strict e) (value_after r.strict e)) n
+  cond_after e r n = grind (arith, unless_known, truth_after, value_after)

@@ -1,5 +1,5 @@
 -- One expression: the computed tree of a text is the one that the text has, and there is no other.
-use Rattle.std.proofs.Common.{◌≡◌, ℕ, List, [], Option, Some, None, refl, sym, ◌∙◌, ap, subst}
+use Rattle.std.proofs.Common.{◌≡◌, ℕ, List, [], Option, Some, None, refl, sym, ◌∙◌, ap, subst, arith}
 use Rattle.std.proofs.lemmas.Option.{none-some, same_Some}
 use Rattle.ud_model.specs.conditions.Tokens.{Token, AreTokens}
 use Rattle.ud_model.specs.conditions.Expressions.{Expression, spelling, HasPrecedence, IsWritten}
@@ -11,8 +11,7 @@ use Rattle.ud_model.proofs.conditions.TokenLemmas.{tokens_of_only, tokens_of_are
 -- A text is parsed as the tree that it has.
 pub expression_only : (text : List ℕ) (e : Expression) → IsWritten text e → expression_of text ≡ Some e
 unfolding expression_of reads
-expression_only text e p =
-    ap (parse_all_tokens itself (needs [])) (tokens_of_only text (spelling e) p.1) ∙ complete_alone itself e p.0 ∙ ap Some (meaning_itself e)
+expression_only text e p = grind (arith, tokens_of_only, complete_alone, meaning_itself)
 
 run_written : (text : List ℕ) (o : Option (List Token)) (e : Expression) → tokens_of text ≡ o → parse_all_tokens itself (needs []) o ≡ Some e → IsWritten text e
 run_written text None e d f = absurd (none-some e f)

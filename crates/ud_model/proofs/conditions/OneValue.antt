@@ -8,75 +8,28 @@ use Rattle.ud_model.specs.declared.operator.Operator.{Operator}
 use Rattle.ud_model.specs.declared.operator.Operator.TheVariants.{Or, And, BitOr, BitXor, BitAnd, Equal, NotEqual, Less, LessEqual, Greater, GreaterEqual, Plus, Minus, Times, Over, Remainder, Not, Complement}
 
 one_truth : (Holds : Type 0) (c d : Number) → IsTruth Holds c → IsTruth Holds d → c ≡ d
-one_truth Holds c d (inl p) (inl q) = p.1 ∙ sym q.1
-one_truth Holds c d (inr p) (inr q) = p.1 ∙ sym q.1
-one_truth Holds c d (inl p) (inr q) = absurd (q.0 p.0)
-one_truth Holds c d (inr p) (inl q) = absurd (p.0 q.0)
+one_truth Holds c d h g = grind arith
 
 one_signed : (o : Operator) (a b : ℤ) (c d : Number) → GivesSigned o a b c → GivesSigned o a b d → c ≡ d
-one_signed BitOr a b c d p q = p ∙ sym q
-one_signed BitXor a b c d p q = p ∙ sym q
-one_signed BitAnd a b c d p q = p ∙ sym q
-one_signed Plus a b c d p q = p.1 ∙ sym q.1
-one_signed Minus a b c d p q = p.1 ∙ sym q.1
-one_signed Times a b c d p q = p.1 ∙ sym q.1
-one_signed Over a b c d p q = p.1.1 ∙ sym q.1.1
-one_signed Remainder a b c d p q = p.2 ∙ sym q.2
-one_signed Or a b c d p q = absurd p
-one_signed And a b c d p q = absurd p
-one_signed Not a b c d p q = absurd p
-one_signed Complement a b c d p q = absurd p
-one_signed _ _ _ c d p q = one_truth _ c d p q
+one_signed o a b c d p q = grind arith
 
 one_unsigned : (o : Operator) (a b : ℕ) (c d : Number) → GivesUnsigned o a b c → GivesUnsigned o a b d → c ≡ d
-one_unsigned Equal a b c d p q = one_truth _ c d p q
-one_unsigned NotEqual a b c d p q = one_truth _ c d p q
-one_unsigned Less a b c d p q = one_truth _ c d p q
-one_unsigned LessEqual a b c d p q = one_truth _ c d p q
-one_unsigned Greater a b c d p q = one_truth _ c d p q
-one_unsigned GreaterEqual a b c d p q = one_truth _ c d p q
-one_unsigned Over a b c d p q = p.1 ∙ sym q.1
-one_unsigned Remainder a b c d p q = p.1 ∙ sym q.1
-one_unsigned Or a b c d p q = absurd p
-one_unsigned And a b c d p q = absurd p
-one_unsigned Not a b c d p q = absurd p
-one_unsigned Complement a b c d p q = absurd p
-one_unsigned _ _ _ _ _ p q = p ∙ sym q
+one_unsigned o a b c d p q = grind arith
 
 one_result : (o : Operator) (x y c d : Number) → Gives o x y c → Gives o x y d → c ≡ d
-one_result o (signed a) (signed b) c d p q = one_signed o a b c d p q
-one_result o (signed a) (unsigned b) c d p q = one_unsigned o (as_unsigned (signed a)) b c d p q
-one_result o (unsigned a) (signed b) c d p q = one_unsigned o a (as_unsigned (signed b)) c d p q
-one_result o (unsigned a) (unsigned b) c d p q = one_unsigned o a b c d p q
+one_result o x y c d p q = grind arith
 
 one_change : (o : Operator) (x c d : Number) → GivesUnary o x c → GivesUnary o x d → c ≡ d
-one_change Not x c d p q = one_truth (IsZero x) c d p q
-one_change Minus (signed a) c d p q = p.1 ∙ sym q.1
-one_change Minus (unsigned a) c d p q = p ∙ sym q
-one_change Complement (signed a) c d p q = p ∙ sym q
-one_change Complement (unsigned a) c d p q = p ∙ sym q
-one_change _ x c d p q = absurd p
+one_change o x c d p q = grind arith
 
 one_constant : (w : List ℕ) (c d : Number) → IsConstantValue w c → IsConstantValue w d → c ≡ d
-one_constant w c d (plain p l) (by_suffix q m) = absurd (false≢true (sym p ∙ q))
-one_constant w c d (by_suffix p l) (plain q m) = absurd (false≢true (sym q ∙ p))
-one_constant w c d (plain p l) (by_size q k n r) = absurd (omega arith)
-one_constant w c d (by_size p h l m) (plain q n) = absurd (omega arith)
-one_constant w c d (by_suffix p l) (by_size q k n r) = absurd (false≢true (sym q ∙ p))
-one_constant w c d (by_size p h l m) (by_suffix q n) = absurd (false≢true (sym p ∙ q))
-one_constant _ _ _ _ _ = refl
+one_constant w c d h g = grind arith
 
 no_and : (x y c : Number) → Gives And x y c → ⊥
-no_and (signed a) (signed b) c g = g
-no_and (signed a) (unsigned b) c g = g
-no_and (unsigned a) (signed b) c g = g
-no_and (unsigned a) (unsigned b) c g = g
+no_and x y c g = grind arith
 
 no_or : (x y c : Number) → Gives Or x y c → ⊥
-no_or (signed a) (signed b) c g = g
-no_or (signed a) (unsigned b) c g = g
-no_or (unsigned a) (signed b) c g = g
-no_or (unsigned a) (unsigned b) c g = g
+no_or x y c g = grind arith
 
 zero_alike : (x y : Number) → x ≡ y → IsZero x → IsZero y
 zero_alike x y e z = subst (λ n. IsZero n) e z

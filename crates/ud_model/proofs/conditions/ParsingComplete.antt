@@ -14,8 +14,7 @@ Stops _ _ = Unit {0}
 
 -- Each precedence between two operands is below that of an operator before one.
 pub level_most : (o : Operator) → precedence o ≤ 9
-level_most Or = omega arith
-level_most o = omega arith
+level_most o = grind arith
 
 -- The test for at most, if it is true.
 pub leb_yes : (a b : ℕ) → a ≤ b → leb a b ≡ true
@@ -27,27 +26,20 @@ leb_no a b h = elim (leb_tells a b) [ inl p ↦ absurd (omega arith) | inr p ↦
 
 -- A stack that takes no operand before precedence `j` takes none before a tighter one.
 pub below_more : {A : Type 0} (j k : ℕ) (s : List (Frame A)) → j ≤ k → Below j s → Below k s
-below_more j k (left o a ∷ s) l b = omega arith
-below_more j k (before o ∷ s) l b = omega arith
-below_more _ _ _ _ _ = tt
+below_more j k h l b = grind arith
 
 -- If nothing tighter than precedence `j` comes next, nothing tighter than a tighter one does.
 pub stops_more : (j k : ℕ) (ts : List Token) → j ≤ k → Stops j ts → Stops k ts
-stops_more j k (operator o ∷ ts) l b = omega arith
-stops_more _ _ _ _ _ = tt
+stops_more j k ts l b = grind arith
 
 -- After a prefix operator every operator stops.
 stops_ten : (ts : List Token) → Stops 10 ts
-stops_ten (operator o ∷ ts) = let h : precedence o ≤ 9 = level_most o in omega arith
-stops_ten _ = tt
+stops_ten ts = grind arith
 
 module _ {A : Type 0} (m : Meaning A) where
   -- The rest of the stack takes nothing yet.
   reduce_below : (o : Operator) (x : A) (s : List (Frame A)) → Below (precedence o) s → reduce m (precedence o) x s ≡ (x, s)
-  reduce_below o x (left p a ∷ s) b =
-      ap (λ (t : Bool). if t then reduce m (precedence o) (m.binary p a x) s else (x, left p a ∷ s)) (leb_no (precedence o) (precedence p) b)
-  reduce_below o x (before p ∷ s) b = let h : precedence o ≤ 9 = level_most o in absurd (omega arith)
-  reduce_below _ _ _ _ = refl
+  reduce_below o x s b = grind arith
 
   -- A prefix operator takes its operand whatever comes next.
   take_before : (o : Operator) (x : A) (s : List (Frame A)) (ts : List Token) → parse_tokens m (has x (before o ∷ s)) ts ≡ parse_tokens m (has (m.unary o x) s) ts
@@ -55,25 +47,18 @@ module _ {A : Type 0} (m : Meaning A) where
   take_before _ _ _ _ = refl
 
   reduce_left : (j : ℕ) (o : Operator) (a x : A) (s : List (Frame A)) → j ≤ precedence o → reduce m j x (left o a ∷ s) ≡ reduce m j (m.binary o a x) s
-  reduce_left j o a x s l =
-      ap (λ (t : Bool). if t then reduce m j (m.binary o a x) s else (x, left o a ∷ s)) (leb_yes j (precedence o) l)
+  reduce_left j o a x s l = grind arith
 
   -- An operator takes its right operand if no tighter one comes next.
   take_left : (o : Operator) (a x : A) (s : List (Frame A)) (ts : List Token) → Stops (precedence o) ts → parse_tokens m (has x (left o a ∷ s)) ts ≡ parse_tokens m (has (m.binary o a x) s) ts
-  take_left o a x s [] h = ap (alone m) (reduce_left 0 o a x s (omega arith))
-  take_left o a x s (operator p ∷ ts) h =
-      ap (λ r. parse_tokens m (if leb 1 (precedence p) then wait m p r else stuck) ts) (reduce_left (precedence p) o a x s h)
-  take_left o a x s (closing ∷ ts) h = ap (λ r. parse_tokens m (close m r) ts) (reduce_left 0 o a x s (omega arith))
-  take_left _ _ _ _ _ _ = refl
+  take_left o a x s ts h = grind arith
 
   prefix_step : (o : Operator) (s : List (Frame A)) (ts : List Token) → IsTrue (is_prefix o) → parse_tokens m (needs s) (operator o ∷ ts) ≡ parse_tokens m (needs (before o ∷ s)) ts
   prefix_step o s ts h = ap (λ (t : Bool). parse_tokens m (if t then needs (before o ∷ s) else stuck) ts) h
 
   wait_step : (o : Operator) (x : A) (s : List (Frame A)) (ts : List Token) → 1 ≤ precedence o → Below (precedence o) s →
       parse_tokens m (has x s) (operator o ∷ ts) ≡ parse_tokens m (needs (left o x ∷ s)) ts
-  wait_step o x s ts l b =
-      ap (λ (t : Bool). parse_tokens m (if t then wait m o (reduce m (precedence o) x s) else stuck) ts) (leb_yes 1 (precedence o) l)
-      ∙ ap (λ r. parse_tokens m (wait m o r) ts) (reduce_below o x s b)
+  wait_step o x s ts l b = grind arith
 
   -- The tokens of a tree give its meaning, whatever the stack is and whatever comes next.
   pub complete : (e : Expression) (k : ℕ) → 1 ≤ k → HasPrecedence k e → (s : List (Frame A)) → Below k s → (ts : List Token) → Stops k ts →

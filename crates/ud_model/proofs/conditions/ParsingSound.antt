@@ -59,19 +59,7 @@ reduced_here j x s f i t h = record { same = refl; fits = f; in_hole = i; tight 
 
 left_if : (b : Bool) (j : ℕ) (o : Operator) (a x : Expression) (s : List (Frame Expression)) (r : Expression × List (Frame Expression)) → leb j (precedence o) ≡ b → Fits (left o a ∷ s) → HasPrecedence (precedence o + 1) x →
     HasPrecedence j x → (j ≤ precedence o → Reduced j (binary o a x) s r) → Reduced j x (left o a ∷ s) (if b then r else (x, left o a ∷ s))
-left_if true j o a x s r e f i t g =
-    let l : j ≤ precedence o = elim (leb_tells j (precedence o)) [ inl p ↦ p.1 | inr p ↦ absurd (cc) ] in
-    let q : Reduced j (binary o a x) s r = g l in
-    record {
-      same = q.same ∙ sym (append_assoc (written s) (spelling a ++ operator o ∷ []) (spelling x) ∙ ap (λ us. written s ++ us) (append_assoc (spelling a) (operator o ∷ []) (spelling x)));
-      fits = q.fits;
-      in_hole = q.in_hole;
-      tight = q.tight;
-      further = q.further;
-    }
-left_if false j o a x s r e f i t g =
-    let l : precedence o < j = elim (leb_tells j (precedence o)) [ inl p ↦ absurd (cc) | inr p ↦ p.1 ] in
-    reduced_here j x (left o a ∷ s) f i t (λ h. omega arith)
+left_if b j o a x s r e f i t g = grind (arith, leb_tells, append_assoc, reduced_here)
 
 reduced : (j : ℕ) (x : Expression) (s : List (Frame Expression)) → Fits s → HasPrecedence (hole s) x → HasPrecedence j x → Reduced j x s (reduce itself j x s)
 reduced j x [] f i t = reduced_here j x [] f i t (λ h. h)
@@ -99,21 +87,15 @@ wait_holds o x s us (y, t) l e q = ((q.tight, l, q.further l, q.fits), pushed (w
 
 wait_if : (b : Bool) (o : Operator) (x : Expression) (s : List (Frame Expression)) (us : List Token) → leb 1 (precedence o) ≡ b → Holds us (has x s) →
     Holds (us ++ operator o ∷ []) (if b then wait itself o (reduce itself (precedence o) x s) else stuck)
-wait_if true o x s us e h =
-    let l : 1 ≤ precedence o = elim (leb_tells 1 (precedence o)) [ inl p ↦ p.1 | inr p ↦ absurd (cc) ] in
-    wait_holds o x s us (reduce itself (precedence o) x s) l h.2 (reduced (precedence o) x s h.0 (loosen (hole s) x h.1) (loosen (precedence o) x h.1))
-wait_if false o x s us e h = tt
+wait_if b o x s us e h = grind (arith, leb_tells, wait_holds, reduced, loosen)
 
 close_holds : (x : Expression) (s : List (Frame Expression)) (us : List Token) (r : Expression × List (Frame Expression)) →
     written s ++ spelling x ≡ us → Reduced 0 x s r → Holds (us ++ closing ∷ []) (close itself r)
-close_holds x s us (y, paren ∷ t) e q =
-    (q.fits, q.in_hole, ap (λ ys. ys) (sym (append_assoc (written t) (opening ∷ []) (spelling y ++ closing ∷ []))) ∙ pushed (written t ++ opening ∷ []) (spelling y) us (closing ∷ []) (q.same ∙ e))
-close_holds _ _ _ _ _ _ = tt
+close_holds x s us r e q = grind (arith, append_assoc, pushed)
 
 prefix_if : (b : Bool) (o : Operator) (s : List (Frame Expression)) (us : List Token) → is_prefix o ≡ b → Fits s → written s ≡ us →
     Holds (us ++ operator o ∷ []) (if b then needs (before o ∷ s) else stuck)
-prefix_if true o s us e f w = ((e, f), ap (λ ys. ys ++ operator o ∷ []) w)
-prefix_if false o s us e f w = tt
+prefix_if b o s us e f w = grind arith
 
 -- One more token is a token of the state after it.
 step_holds : (us : List Token) (st : ParseState Expression) (t : Token) → Holds us st → Holds (us ++ t ∷ []) (step itself st t)
@@ -132,10 +114,7 @@ step_holds _ _ _ _ = tt
 
 alone_holds : (e x : Expression) (s : List (Frame Expression)) (us : List Token) (r : Expression × List (Frame Expression)) →
     written s ++ spelling x ≡ us → Reduced 0 x s r → alone itself r ≡ Some e → HasPrecedence 1 e × (spelling e ≡ us)
-alone_holds e x s us (y, []) w q a =
-    let d : y ≡ e = same_Some y e a in
-    (subst (λ z. HasPrecedence 1 z) d q.in_hole, ap spelling (sym d) ∙ q.same ∙ w)
-alone_holds e x s us (y, f ∷ t) w q a = absurd (none-some e a)
+alone_holds e x s us r w q a = grind arith
 
 finish_holds : (us : List Token) (st : ParseState Expression) (e : Expression) → Holds us st → finish itself st ≡ Some e → HasPrecedence 1 e × (spelling e ≡ us)
 finish_holds us (has x s) e h f = alone_holds e x s us (reduce itself 0 x s) h.2 (reduced 0 x s h.0 (loosen (hole s) x h.1) (loosen 0 x h.1)) f

@@ -1,5 +1,5 @@
 -- Readings: the meaning of a text in a state is that of the tree that is parsed in that state.
-use Rattle.std.proofs.Common.{◌≡◌, ℕ, List, [], ◌∷◌, Bool, true, false, if◌then◌else◌, leb, Option, Some, None, option_map, refl, ◌∙◌, ap}
+use Rattle.std.proofs.Common.{◌≡◌, ℕ, List, [], ◌∷◌, Bool, true, false, if◌then◌else◌, leb, Option, Some, None, option_map, refl, ◌∙◌, ap, arith}
 use Rattle.ud_model.specs.conditions.Tokens.{Token, number, name, defined, operator, opening, closing}
 use Rattle.ud_model.specs.conditions.Expressions.{Expression, precedence, is_prefix}
 use Rattle.ud_model.specs.aids.Parsing.{Meaning, meaning, Frame, left, before, paren, ParseState, needs, has, asks, asks_inside, asks_end, stuck, reduce, close, wait, step, alone, finish, parse_tokens, parse_all_tokens, tokens_of, reads, itself, expression_of}
@@ -28,8 +28,7 @@ module _ {A : Type 0} (m : Meaning A) where
 
   on_either : (b : Bool) {x y : A × List (Frame A)} (p q : Expression × List (Frame Expression)) → x ≡ pair_meant p → y ≡ pair_meant q →
       (if b then x else y) ≡ pair_meant (if b then p else q)
-  on_either true p q d e = d
-  on_either false p q d e = e
+  on_either b p q d e = grind arith
 
   reduce_meant : (j : ℕ) (e : Expression) (s : List (Frame Expression)) → reduce m j (meaning m e) (frames_meant s) ≡ pair_meant (reduce itself j e s)
   reduce_meant j e (left o a ∷ s) = on_either (leb j (precedence o)) _ _ (reduce_meant j (itself.binary o a e) s) refl
@@ -37,24 +36,17 @@ module _ {A : Type 0} (m : Meaning A) where
   reduce_meant _ _ _ = refl
 
   close_meant : (r : Expression × List (Frame Expression)) → close m (pair_meant r) ≡ state_meant (close itself r)
-  close_meant (e, []) = refl
-  close_meant (e, left o a ∷ s) = refl
-  close_meant (e, before o ∷ s) = refl
-  close_meant (e, paren ∷ s) = refl
+  close_meant r = grind arith
 
   wait_meant : (o : Operator) (r : Expression × List (Frame Expression)) → wait m o (pair_meant r) ≡ state_meant (wait itself o r)
   wait_meant o (e, s) = refl
 
   alone_meant : (r : Expression × List (Frame Expression)) → alone m (pair_meant r) ≡ option_map (meaning m) (alone itself r)
-  alone_meant (e, []) = refl
-  alone_meant (e, left o a ∷ s) = refl
-  alone_meant (e, before o ∷ s) = refl
-  alone_meant (e, paren ∷ s) = refl
+  alone_meant r = grind arith
 
   prefix_meant : (b : Bool) (o : Operator) (s : List (Frame Expression)) →
       (if b then needs (before o ∷ frames_meant s) else stuck) ≡ state_meant (if b then needs (before o ∷ s) else stuck)
-  prefix_meant true o s = refl
-  prefix_meant false o s = refl
+  prefix_meant b o s = grind arith
 
   infix_meant : (b : Bool) (o : Operator) (e : Expression) (s : List (Frame Expression)) →
       (if b then wait m o (reduce m (precedence o) (meaning m e) (frames_meant s)) else stuck) ≡ state_meant (if b then wait itself o (reduce itself (precedence o) e s) else stuck)
@@ -62,43 +54,10 @@ module _ {A : Type 0} (m : Meaning A) where
   infix_meant false o e s = refl
 
   step_meant : (s : ParseState Expression) (t : Token) → step m (state_meant s) t ≡ state_meant (step itself s t)
-  step_meant (needs s) (number w) = refl
-  step_meant (needs s) (name n a) = refl
-  step_meant (needs s) defined = refl
-  step_meant (needs s) (operator o) = prefix_meant (is_prefix o) o s
-  step_meant (needs s) opening = refl
-  step_meant (needs s) closing = refl
-  step_meant (has e s) (number w) = refl
-  step_meant (has e s) (name n a) = refl
-  step_meant (has e s) defined = refl
-  step_meant (has e s) (operator o) = infix_meant (leb 1 (precedence o)) o e s
-  step_meant (has e s) opening = refl
-  step_meant (has e s) closing = ap (close m) (reduce_meant 0 e s) ∙ close_meant (reduce itself 0 e s)
-  step_meant (asks s) (number w) = refl
-  step_meant (asks s) (name n false) = refl
-  step_meant (asks s) (name n true) = refl
-  step_meant (asks s) defined = refl
-  step_meant (asks s) (operator o) = refl
-  step_meant (asks s) opening = refl
-  step_meant (asks s) closing = refl
-  step_meant (asks_inside s) (number w) = refl
-  step_meant (asks_inside s) (name n false) = refl
-  step_meant (asks_inside s) (name n true) = refl
-  step_meant (asks_inside s) defined = refl
-  step_meant (asks_inside s) (operator o) = refl
-  step_meant (asks_inside s) opening = refl
-  step_meant (asks_inside s) closing = refl
-  step_meant (asks_end n s) (number w) = refl
-  step_meant (asks_end n s) (name k a) = refl
-  step_meant (asks_end n s) defined = refl
-  step_meant (asks_end n s) (operator o) = refl
-  step_meant (asks_end n s) opening = refl
-  step_meant (asks_end n s) closing = refl
-  step_meant stuck t = refl
+  step_meant s t = grind (arith, prefix_meant, reduce_meant, close_meant)
 
   finish_meant : (s : ParseState Expression) → finish m (state_meant s) ≡ option_map (meaning m) (finish itself s)
-  finish_meant (has e s) = ap (alone m) (reduce_meant 0 e s) ∙ alone_meant (reduce itself 0 e s)
-  finish_meant _ = refl
+  finish_meant s = grind (arith, reduce_meant, alone_meant)
 
   -- Tokens mean what their tree means.
   pub run_meant : (s : ParseState Expression) (ts : List Token) → parse_tokens m (state_meant s) ts ≡ option_map (meaning m) (parse_tokens itself s ts)
@@ -106,8 +65,7 @@ module _ {A : Type 0} (m : Meaning A) where
   run_meant s (t ∷ ts) = ap (λ q. parse_tokens m q ts) (step_meant s t) ∙ run_meant (step itself s t) ts
 
   run_all_meant : (s : ParseState Expression) (ts : Option (List Token)) → parse_all_tokens m (state_meant s) ts ≡ option_map (meaning m) (parse_all_tokens itself s ts)
-  run_all_meant s None = refl
-  run_all_meant s (Some ts) = run_meant s ts
+  run_all_meant s ts = grind (arith, run_meant)
 
   -- A text means what its tree means.
   pub reads_meaning : (text : List ℕ) → reads m (needs []) text ≡ option_map (meaning m) (expression_of text)

@@ -1,5 +1,5 @@
 -- Reduced trees: a tree that is its own residual has no operand that can be removed.
-use Rattle.std.proofs.Common.{◌≡◌, Bool, true, false, not, ◌&&◌, List, [], ◌∷◌, ◌++◌, refl, subst}
+use Rattle.std.proofs.Common.{◌≡◌, Bool, true, false, not, ◌&&◌, List, [], ◌∷◌, ◌++◌, refl, subst, arith}
 use Rattle.ud_model.specs.conditions.Table.{Argument}
 use Rattle.ud_model.specs.conditions.Expressions.{Expression, constant, named, is_defined, unary, binary, parens}
 use Rattle.ud_model.specs.conditions.Conditions.{Rules}
@@ -16,9 +16,7 @@ true_parts (x ∷ xs) ys h = let r : AreTrue xs × AreTrue ys = true_parts xs ys
 
 -- If all tokens of an operator stay, neither operand is a unit.
 no_unit_by : (b d : Bool) (e f : Expression) (xs ys : List Bool) → AreTrue (joined_flags b d e f xs ys) → (b ≡ false) × (d ≡ false) × AreTrue xs × AreTrue ys
-no_unit_by true d e f xs ys h = let p : AreTrue (all_flags false e) × AreTrue (false ∷ ys) = true_parts (all_flags false e) (false ∷ ys) h in let q : false ≡ true = p.1.0 in cc
-no_unit_by false true e f xs ys h = let p : AreTrue xs × AreTrue (false ∷ all_flags false f) = true_parts xs (false ∷ all_flags false f) h in let q : false ≡ true = p.1.0 in cc
-no_unit_by false false e f xs ys h = let p : AreTrue xs × AreTrue (true ∷ ys) = true_parts xs (true ∷ ys) h in (refl, refl, p.0, p.1.1)
+no_unit_by b d e f xs ys h = grind (arith, true_parts)
 
 module _ (table : List Argument) (rules : Rules) where
   no_unit : (e : Expression) → AreTrue (keeps table rules e) → HasNoUnit table rules e
@@ -36,7 +34,4 @@ module _ (table : List Argument) (rules : Rules) where
 
   -- A tree that is its own unknown residual is reduced.
   pub fixed_reduced : (e : Expression) → (residual table rules e).tree ≡ e → is_unknown (residual table rules e).cond ≡ true → IsReduced table rules e
-  fixed_reduced e p u = record {
-    no_unit = no_unit e (fixed_true table rules e p);
-    undecided = λ s. subst (λ (x : Expression). AreUndecided table rules (operands x)) p (operands_undecided table rules e s (unknown_is (residual table rules e).cond u));
-  }
+  fixed_reduced e p u = grind (arith, no_unit, fixed_true, operands_undecided, unknown_is)

@@ -39,18 +39,11 @@ all_true (f ∷ flags) [] h e = absurd h
 -- 2. A text all of whose tokens stay.
 
 gap_stays : (operand : Bool) (gap : List Cell) → gap_left (if operand then true else true) gap ≡ gap
-gap_stays true gap = refl
-gap_stays false gap = refl
+gap_stays operand gap = grind arith
 
 token_stays : (operand : Bool) (further : Bool → List Cell → List Cell) → ((o : Bool) (c : List Cell) → further o c ≡ c) → (cells : List Cell) (x : NextToken) →
     left_by true operand true further cells x ≡ cells
-token_stays operand further h cells (found t rest) =
-    let s : List ℕ = skip_white (map shown cells) in
-    let after : List Cell = cells_after s cells in
-    ap₂ (λ (xs ys : List Cell). xs ++ ys) (gap_stays operand (cells_before s cells))
-    (ap (λ (ys : List Cell). cells_before rest after ++ ys) (h (ends_operand t) (cells_after rest after)) ∙ take-append-drop (length after - length rest) after)
-    ∙ take-append-drop (length cells - length s) cells
-token_stays _ _ _ _ _ = refl
+token_stays operand further h cells x = grind (arith, gap_stays, take-append-drop)
 
 all_stay : (operand : Bool) (flags : List Bool) → AreTrue flags → (cells : List Cell) → left_from true operand flags cells ≡ cells
 all_stay operand [] h cells = refl
@@ -73,13 +66,7 @@ module _ (table : List Argument) (rules : Rules) where
   -- The text of a residual stays.
   pub residual_stays : (e : Expression) (cells : List Cell) → expression_of (map shown cells) ≡ Some (rest_of e) → simplified_cells table rules cells ≡ cells
   unfolding simplified_cells
-  residual_stays e cells p =
-      subst (λ o. simplified_by table rules o cells ≡ cells) (sym p)
-      (by (may_go table rules (rest_of e) cells && is_read table rules (rest_of e) (left_cells (keeps table rules (rest_of e)) cells)))
-    where
-      by : (b : Bool) → (if b then left_cells (keeps table rules (rest_of e)) cells else cells) ≡ cells
-      by true = all_stay false (keeps table rules (rest_of e)) (flags_true e) cells
-      by false = refl
+  residual_stays e cells p = grind (arith, all_stay, flags_true)
 
   -- A simplified text stays.
   pub cells_again : (cells : List Cell) → simplified_cells table rules (simplified_cells table rules cells) ≡ simplified_cells table rules cells

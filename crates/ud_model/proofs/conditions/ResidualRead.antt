@@ -1,5 +1,5 @@
 -- Residual read: a simplified text is read as the residual of its tree, and cells are only removed.
-use Rattle.std.proofs.Common.{◌≡◌, ℕ, zero, suc, ◌-◌, Bool, true, false, not, ◌&&◌, ◌||◌, if◌then◌else◌, List, [], ◌∷◌, ◌++◌, length, map, take, drop, Option, Some, None, bytes_eq, refl, sym, ◌∙◌, ap, ap₂, subst, inl, inr, ◌⊎◌}
+use Rattle.std.proofs.Common.{◌≡◌, ℕ, zero, suc, ◌-◌, Bool, true, false, not, ◌&&◌, ◌||◌, if◌then◌else◌, List, [], ◌∷◌, ◌++◌, length, map, take, drop, Option, Some, None, bytes_eq, refl, sym, ◌∙◌, ap, ap₂, subst, inl, inr, ◌⊎◌, arith}
 use Rattle.std.proofs.lemmas.Slice.Eq.{bytes_eq-Decides}
 use Rattle.std.proofs.lemmas.Bool.{and_parts}
 use Rattle.ud_model.specs.text.Bytes.{skip_white, are_white}
@@ -26,26 +26,16 @@ operator_in _ = Or
 
 -- An operator is read off its bytes.
 read_off : (o : Operator) → operator_in (leading_token (operator_bytes o)) ≡ o
-read_off Or = refl
-read_off _ = refl
+read_off o = grind arith
 
 flags_same : (a b : Bool) → same_flag a b ≡ true → a ≡ b
-flags_same true false e = cc
-flags_same false true e = cc
-flags_same _ _ _ = refl
+flags_same a b e = grind arith
 
 operators_same : (o p : Operator) → bytes_eq (operator_bytes o) (operator_bytes p) ≡ true → o ≡ p
 operators_same o p e = sym (read_off o) ∙ ap (λ w. operator_in (leading_token w)) ((bytes_eq-Decides (operator_bytes o) (operator_bytes p)).0 e) ∙ read_off p
 
 tokens_alike : (t u : Token) → same_token t u ≡ true → t ≡ u
-tokens_alike (number w) (number v) e = ap number ((bytes_eq-Decides w v).0 e)
-tokens_alike (name n a) (name m b) e =
-    ap₂ name ((bytes_eq-Decides n m).0 (and_parts (bytes_eq n m) (same_flag a b) e).0) (flags_same a b (and_parts (bytes_eq n m) (same_flag a b) e).1)
-tokens_alike defined defined e = refl
-tokens_alike (operator o) (operator p) e = ap operator (operators_same o p e)
-tokens_alike opening opening e = refl
-tokens_alike closing closing e = refl
-tokens_alike _ _ e = cc
+tokens_alike t u e = grind (arith, bytes_eq-Decides, and_parts, flags_same, operators_same)
 
 lists_alike : (ts us : List Token) → same_tokens ts us ≡ true → ts ≡ us
 lists_alike [] [] e = refl
@@ -105,8 +95,7 @@ of_parts (suc n) (x ∷ xs) (without p) q = without (of_parts n xs p q)
 of_parts (suc n) (x ∷ xs) (with_same p) q = with_same (of_parts n xs p q)
 
 some_or_none : {A : Type 0} (c : Bool) (xs : List A) → IsSublist (if c then xs else []) xs
-some_or_none true xs = all_of_it xs
-some_or_none false xs = none_of_it xs
+some_or_none h xs = grind (arith, all_of_it, none_of_it)
 
 token_sub : (f : Bool) (further : Bool → List Cell → List Cell) (rest : List ℕ) (o : Bool) (cells : List Cell) → ((o : Bool) (c : List Cell) → IsSublist (further o c) c) → IsSublist (token_left f further rest o cells) cells
 token_sub f further rest o cells h =
@@ -127,12 +116,4 @@ from_sub prev operand (f ∷ flags) cells = by_sub prev operand f (λ o c. left_
 -- A simplified text has some of the cells, in their order.
 pub cells_go : (table : List Argument) (rules : Rules) (cells : List Cell) → IsSublist (simplified_cells table rules cells) cells
 unfolding simplified_cells
-cells_go table rules cells = by (expression_of (map shown cells))
-  where
-    either : (e : Expression) (b : Bool) → IsSublist (if b then left_cells (keeps table rules e) cells else cells) cells
-    either e true = from_sub true false (keeps table rules e) cells
-    either e false = all_of_it cells
-
-    by : (o : Option Expression) → IsSublist (simplified_by table rules o cells) cells
-    by None = all_of_it cells
-    by (Some e) = either e (may_go table rules e cells && is_read table rules e (left_cells (keeps table rules e) cells))
+cells_go table rules cells = grind (arith, from_sub, all_of_it)

@@ -86,13 +86,10 @@ any_precedence _ _ _ _ h = h
 
 joined_precedence : (b d : Bool) (o : Operator) (c : Cond) (x y : Residual) (k : ℕ) → k ≤ precedence o → HasPrecedence (precedence o) x.tree → HasPrecedence (precedence o + 1) y.tree →
     HasPrecedence k (if b then record y { lost = true } else if d then record x { lost = true } else record { cond = c; tree = binary o x.tree y.tree; lost = false }).tree
-joined_precedence true d o c x y k l p q = looser y.tree (precedence o + 1) k (omega arith) q
-joined_precedence false true o c x y k l p q = looser x.tree (precedence o) k l p
-joined_precedence false false o c x y k l p q = (l, p, q)
+joined_precedence b d o c x y k l p q = grind (arith, looser)
 
 enclosed_precedence : (b : Bool) (x : Residual) (k : ℕ) → (x.lost && stands_alone x.tree) ≡ b → HasPrecedence 1 x.tree → HasPrecedence k (if b then x else record x { tree = parens x.tree }).tree
-enclosed_precedence true x k e p = any_precedence x.tree 1 k (and_parts x.lost (stands_alone x.tree) e).1 p
-enclosed_precedence false x k e p = p
+enclosed_precedence b x k e p = grind (arith, any_precedence, and_parts)
 
 module _ (table : List Argument) (rules : Rules) where
   -- The residual is nested by precedence, like the expression.
@@ -118,19 +115,14 @@ joined_again : (strict : Bool) (o : Operator) (b d : Bool) (x y : Residual) (res
     res x.tree ≡ settled_down x → res y.tree ≡ settled_down y →
     res (if b then record y { lost = true } else if d then record x { lost = true } else record { cond = settled strict o x.cond y.cond; tree = binary o x.tree y.tree; lost = false }).tree
     ≡ settled_down (if b then record y { lost = true } else if d then record x { lost = true } else record { cond = settled strict o x.cond y.cond; tree = binary o x.tree y.tree; lost = false })
-joined_again strict o true d x y res e f r p q = q
-joined_again strict o false true x y res e f r p q = p
-joined_again strict o false false x y res e f r p q =
-    r x.tree y.tree ∙ ap₂ (joined strict o) p q ∙ ap₂ (λ (b d : Bool). if b then record (settled_down y) { lost = true } else if d then record (settled_down x) { lost = true } else record { cond = settled strict o x.cond y.cond; tree = binary o x.tree y.tree; lost = false }) e f
+joined_again strict o b d x y res e f r p q = grind arith
 
 enclosed_again : (b : Bool) (x : Residual) (res : Expression → Residual) → ((s : Expression) → res (parens s) ≡ enclosed (res s)) → res x.tree ≡ settled_down x →
     res (if b then x else record x { tree = parens x.tree }).tree ≡ settled_down (if b then x else record x { tree = parens x.tree })
-enclosed_again true x res r p = p
-enclosed_again false x res r p = r x.tree ∙ ap enclosed p
+enclosed_again b x res r p = grind arith
 
 pub unknown_is : (c : Cond) → is_unknown c ≡ true → c ≡ Unknown
-unknown_is Unknown e = refl
-unknown_is _ e = cc
+unknown_is c e = grind arith
 
 module _ (table : List Argument) (rules : Rules) where
   -- Nothing more is removed.
@@ -144,13 +136,7 @@ module _ (table : List Argument) (rules : Rules) where
   again _ = refl
 
   if_again : (e : Expression) (b : Bool) → is_undecided table rules (residual table rules e) ≡ b → simplified table rules (if b then (residual table rules e).tree else e) ≡ (if b then (residual table rules e).tree else e)
-  if_again e true p =
-      ap (λ (x : Residual). if is_undecided table rules x then x.tree else (residual table rules e).tree) (again e) ∙ by (is_undecided table rules (residual table rules e))
-    where
-      by : (b : Bool) → (if b then (residual table rules e).tree else (residual table rules e).tree) ≡ (residual table rules e).tree
-      by true = refl
-      by false = refl
-  if_again e false p = ap (λ (b : Bool). if b then (residual table rules e).tree else e) p
+  if_again e b p = grind (arith, again)
 
   -- A second simplification changes nothing.
   pub simplified_again : (e : Expression) → simplified table rules (simplified table rules e) ≡ simplified table rules e
@@ -158,8 +144,7 @@ module _ (table : List Argument) (rules : Rules) where
 
   unknown_by : (x : Residual) (e : Expression) (b c : Bool) → is_unknown x.cond ≡ b → is_unknown (tree_cond x.tree table rules) ≡ c → tree_cond e table rules ≡ Unknown →
       tree_cond (if b && c then x.tree else e) table rules ≡ Unknown
-  unknown_by x e true true p q h = unknown_is (tree_cond x.tree table rules) q
-  unknown_by _ _ _ _ _ _ h = h
+  unknown_by x e b c p q h = grind arith
 
   -- The simplified form of an unknown condition is unknown.
   pub simplified_unknown : (e : Expression) → tree_cond e table rules ≡ Unknown → tree_cond (simplified table rules e) table rules ≡ Unknown
@@ -168,12 +153,10 @@ module _ (table : List Argument) (rules : Rules) where
 -- 5. Each operand that is left is undecided.
 
 both_unknown_and : (c d : Cond) → is_unit And c ≡ false → is_unit And d ≡ false → settled false And c d ≡ Unknown → (c ≡ Unknown) × (d ≡ Unknown)
-both_unknown_and Unknown Unknown p q e = (refl, refl)
-both_unknown_and _ _ p q e = cc
+both_unknown_and c d p q e = grind arith
 
 both_unknown_or : (c d : Cond) → is_unit Or c ≡ false → is_unit Or d ≡ false → settled false Or c d ≡ Unknown → (c ≡ Unknown) × (d ≡ Unknown)
-both_unknown_or Unknown Unknown p q e = (refl, refl)
-both_unknown_or _ _ p q e = cc
+both_unknown_or c d p q e = grind arith
 
 module _ (table : List Argument) (rules : Rules) where
   abbrev Alike : Residual → Type 0
@@ -185,23 +168,14 @@ module _ (table : List Argument) (rules : Rules) where
 
   and_alike : (b d : Bool) (x y : Residual) → rules.strict ≡ false → is_unit And x.cond ≡ b → is_unit And y.cond ≡ d → Alike x → Alike y →
       Alike (if b then record y { lost = true } else if d then record x { lost = true } else record { cond = settled rules.strict And x.cond y.cond; tree = binary And x.tree y.tree; lost = false })
-  and_alike true d x y s e f p q h = q h
-  and_alike false true x y s e f p q h = p h
-  and_alike false false x y s e f p q h =
-      let u : (x.cond ≡ Unknown) × (y.cond ≡ Unknown) = both_unknown_and x.cond y.cond e f (ap (λ (t : Bool). settled t And x.cond y.cond) (sym s) ∙ h) in
-      both_undecided (operands x.tree) (operands y.tree) (p u.0) (q u.1)
+  and_alike b d x y s e f p q h = grind (arith, both_unknown_and, both_undecided)
 
   or_alike : (b d : Bool) (x y : Residual) → rules.strict ≡ false → is_unit Or x.cond ≡ b → is_unit Or y.cond ≡ d → Alike x → Alike y →
       Alike (if b then record y { lost = true } else if d then record x { lost = true } else record { cond = settled rules.strict Or x.cond y.cond; tree = binary Or x.tree y.tree; lost = false })
-  or_alike true d x y s e f p q h = q h
-  or_alike false true x y s e f p q h = p h
-  or_alike false false x y s e f p q h =
-      let u : (x.cond ≡ Unknown) × (y.cond ≡ Unknown) = both_unknown_or x.cond y.cond e f (ap (λ (t : Bool). settled t Or x.cond y.cond) (sym s) ∙ h) in
-      both_undecided (operands x.tree) (operands y.tree) (p u.0) (q u.1)
+  or_alike b d x y s e f p q h = grind (arith, both_unknown_or, both_undecided)
 
   enclosed_alike : (b : Bool) (x : Residual) → Alike x → Alike (if b then x else record x { tree = parens x.tree })
-  enclosed_alike true x p h = p h
-  enclosed_alike false x p h = p h
+  enclosed_alike b x p h = grind arith
 
   -- Each operand that is left is unknown by itself.
   pub operands_undecided : (e : Expression) → rules.strict ≡ false → Alike (residual table rules e)

@@ -2,7 +2,7 @@
 --
 -- The proof goes by the way in which the value of the expression comes about. An operand that is
 -- decided has the truth that the table says, so a unit leaves the truth to the other operand.
-use Rattle.std.proofs.Common.{◌≡◌, Bool, true, false, ◌&&◌, if◌then◌else◌, refl, sym, ◌∙◌, subst, inl, inr, ◌⊎◌, ◌↔◌, pos, List}
+use Rattle.std.proofs.Common.{◌≡◌, Bool, true, false, ◌&&◌, if◌then◌else◌, refl, sym, ◌∙◌, subst, inl, inr, ◌⊎◌, ◌↔◌, pos, List, arith}
 use Rattle.std.proofs.lemmas.Bool.{false≢true}
 use Rattle.ud_model.specs.conditions.Table.{Argument}
 use Rattle.ud_model.specs.conditions.Expressions.{Expression, constant, named, is_defined, unary, binary, parens}
@@ -29,54 +29,22 @@ pub record Tells (x : Residual) (m : Choice x.tree) (c : Number) : Type 0 where
 -- 1. Units, and what settles.
 
 and_unit : (c : Cond) → is_unit And c ≡ true → c ≡ Yes
-and_unit Yes e = refl
-and_unit _ e = cc
+and_unit c e = grind arith
 
 or_unit : (c : Cond) → is_unit Or c ≡ true → c ≡ No
-or_unit No e = refl
-or_unit _ e = cc
+or_unit c e = grind arith
 
 and_no : (strict : Bool) (c d : Cond) → settled strict And c d ≡ No → (c ≡ No) ⊎ (d ≡ No)
-and_no strict No d e = inl refl
-and_no strict c No e = inr refl
-and_no _ _ _ e = cc
+and_no strict c d e = grind arith
 
 and_never_yes : (strict : Bool) (c d : Cond) → settled strict And c d ≡ Yes → ⊥
-and_never_yes true No Yes e = cc
-and_never_yes false No Yes e = cc
-and_never_yes true No No e = cc
-and_never_yes false No No e = cc
-and_never_yes true No Unknown e = cc
-and_never_yes false No Unknown e = cc
-and_never_yes true Yes No e = cc
-and_never_yes false Yes No e = cc
-and_never_yes true Unknown No e = cc
-and_never_yes false Unknown No e = cc
-and_never_yes strict Yes Yes e = cc
-and_never_yes strict Yes Unknown e = cc
-and_never_yes strict Unknown Yes e = cc
-and_never_yes strict Unknown Unknown e = cc
+and_never_yes strict c d e = grind arith
 
 or_yes : (strict : Bool) (c d : Cond) → settled strict Or c d ≡ Yes → (c ≡ Yes) ⊎ (d ≡ Yes)
-or_yes strict Yes d e = inl refl
-or_yes strict c Yes e = inr refl
-or_yes _ _ _ e = cc
+or_yes strict c d e = grind arith
 
 or_never_no : (strict : Bool) (c d : Cond) → settled strict Or c d ≡ No → ⊥
-or_never_no true Yes Yes e = cc
-or_never_no false Yes Yes e = cc
-or_never_no true Yes No e = cc
-or_never_no false Yes No e = cc
-or_never_no true Yes Unknown e = cc
-or_never_no false Yes Unknown e = cc
-or_never_no true No Yes e = cc
-or_never_no false No Yes e = cc
-or_never_no true Unknown Yes e = cc
-or_never_no false Unknown Yes e = cc
-or_never_no strict No No e = cc
-or_never_no strict No Unknown e = cc
-or_never_no strict Unknown No e = cc
-or_never_no strict Unknown Unknown e = cc
+or_never_no strict c d e = grind arith
 
 -- 2. The numbers 0 and 1.
 
@@ -94,58 +62,38 @@ neither f g = ((λ a. absurd (f a)), (λ b. absurd (g b)))
 
 -- A truth of something that isn't is 0, and of something that is, isn't.
 truth_zero : (Holds : Type 0) (c : Number) → IsTruth Holds c → (Holds → ⊥) → IsZero c
-truth_zero Holds c (inl p) h = absurd (h p.0)
-truth_zero Holds c (inr p) h = subst (λ x. IsZero x) (sym p.1) refl
+truth_zero Holds c h g = grind arith
 
 truth_one : (Holds : Type 0) (c : Number) → IsTruth Holds c → Holds → IsZero c → ⊥
-truth_one Holds c (inl p) h z = one_is_not (subst (λ x. IsZero x) p.1 z)
-truth_one Holds c (inr p) h z = p.0 h
+truth_one Holds c h g z = grind arith
 
 -- A truth of one of two facts that are alike is a truth of the other.
 truth_alike : (P Q : Type 0) (c : Number) → IsTruth P c → (P ↔ Q) → IsTruth Q c
-truth_alike P Q c (inl p) h = inl (h.0 p.0, p.1)
-truth_alike P Q c (inr p) h = inr ((λ q. p.0 (h.1 q)), p.1)
+truth_alike P Q c h g = grind arith
 
 not_alike : {A B : Type 0} → (A ↔ B) → ((A → ⊥) ↔ (B → ⊥))
 not_alike h = ((λ f b. f (h.1 b)), (λ g a. g (h.0 a)))
 
 zero_or_not : (y : Number) → IsZero y ⊎ (IsZero y → ⊥)
-zero_or_not y = by (is_zero (number y)) refl
-  where
-    by : (b : Bool) → is_zero (number y) ≡ b → IsZero y ⊎ (IsZero y → ⊥)
-    by true e = inl ((zero_decides (number y)).0 e)
-    by false e = inr (λ z. false≢true (sym e ∙ (zero_decides (number y)).1 z))
+zero_or_not y = grind arith
 
 -- The truth that `y` isn't 0 is 0 exactly if `y` is.
 truth_same : (y c : Number) → IsTruth (IsZero y → ⊥) c → IsZero c ↔ IsZero y
-truth_same y c (inl p) = neither (λ z. one_is_not (subst (λ x. IsZero x) p.1 z)) p.0
-truth_same y c (inr p) = by (zero_or_not y)
-  where
-    by : IsZero y ⊎ (IsZero y → ⊥) → IsZero c ↔ IsZero y
-    by (inl z) = both (subst (λ x. IsZero x) (sym p.1) refl) z
-    by (inr n) = absurd (p.0 n)
+truth_same y c h = grind arith
 
 -- 3. Operands.
 
 module _ (table : List Argument) (rules : Rules) where
   by_itself : (e : Expression) (m : Choice e) (c : Number) → IsAllowed table m → HasValue e m c → Tells (alone table rules e) m c
-  by_itself e m c a d = record {
-    yes = λ y. yes_is_true table rules e c y (choice_may table e m c a d);
-    no = λ n. no_is_false table rules e c n (choice_may table e m c a d);
-    value = c;
-    has = d;
-    same = ((λ z. z), (λ z. z));
-  }
+  by_itself e m c a d = grind (arith, yes_is_true, choice_may, no_is_false)
 
 -- 4. `!` and parentheses.
 
 negated_yes : (c : Cond) → negate c ≡ Yes → c ≡ No
-negated_yes No e = refl
-negated_yes _ e = cc
+negated_yes c e = grind arith
 
 negated_no : (c : Cond) → negate c ≡ No → c ≡ Yes
-negated_no Yes e = refl
-negated_no _ e = cc
+negated_no c e = grind arith
 
 not_tells : (x : Residual) (m : Choice x.tree) (y c : Number) → Tells x m y → IsTruth (IsZero y) c → Tells (negated x) (for_unary m) c
 not_tells x m y c t g = record {
@@ -164,13 +112,7 @@ parens_tell false x m c t = record { yes = t.yes; no = t.no; value = t.value; ha
 
 -- One operand alone tells the truth of the operator.
 one_tells : (x : Residual) (m : Choice x.tree) (y c : Number) → Tells x m y → (IsZero c ↔ IsZero y) → Tells (record x { lost = true }) m c
-one_tells x m y c t h = record {
-  yes = λ e z. t.yes e (h.0 z);
-  no = λ e. h.1 (t.no e);
-  value = t.value;
-  has = t.has;
-  same = ((λ z. t.same.0 (h.0 z)), (λ z. h.1 (t.same.1 z)));
-}
+one_tells x m y c t h = grind arith
 
 module _ (strict : Bool) (x y : Residual) (m : Choice x.tree) (k : Choice y.tree) (v : Number) (t : Tells x m v) where
   -- `&&` whose left operand is 0.
@@ -253,16 +195,10 @@ module _ (strict : Bool) (x y : Residual) (m : Choice x.tree) (k : Choice y.tree
 -- 6. `&&` and `||` give no value by the operators between numbers.
 
 no_and : (x y c : Number) → Gives And x y c → ⊥
-no_and (signed a) (signed b) c g = g
-no_and (signed a) (unsigned b) c g = g
-no_and (unsigned a) (signed b) c g = g
-no_and (unsigned a) (unsigned b) c g = g
+no_and x y c g = grind arith
 
 no_or : (x y c : Number) → Gives Or x y c → ⊥
-no_or (signed a) (signed b) c g = g
-no_or (signed a) (unsigned b) c g = g
-no_or (unsigned a) (signed b) c g = g
-no_or (unsigned a) (unsigned b) c g = g
+no_or x y c g = grind arith
 
 module _ (table : List Argument) (rules : Rules) where
   -- The residual tells the truth of the whole.

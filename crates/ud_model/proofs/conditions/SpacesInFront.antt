@@ -1,5 +1,5 @@
 -- Leading white space of a condition means nothing.
-use Rattle.std.proofs.Common.{◌≡◌, ℕ, List, [], ◌∷◌, Option, Some, None, option_map, Bool, true, false, ◌&&◌, if◌then◌else◌, refl, sym, ◌∙◌, ap}
+use Rattle.std.proofs.Common.{◌≡◌, ℕ, List, [], ◌∷◌, Option, Some, None, option_map, Bool, true, false, ◌&&◌, if◌then◌else◌, refl, sym, ◌∙◌, ap, arith}
 use Rattle.ud_model.specs.text.Bytes.{is_white, skip_white, leading_word, skip_word, are_white, is_identifier}
 use Rattle.ud_model.specs.conditions.Table.{Argument}
 use Rattle.ud_model.specs.conditions.Expressions.{Expression, is_defined, unary}
@@ -52,15 +52,8 @@ name_past b t e = ap (λ (w : List ℕ). if is_identifier (leading_word w) && ar
 
 -- The expression that a condition is is the same with leading white space.
 pub condition_past : (p : Test) (b : ℕ) (t : List ℕ) → is_white b ≡ true → condition_by_test p (b ∷ t) ≡ condition_by_test p t
-condition_past Nonzero b t e = expression_past b t e
-condition_past Defined b t e = ap (λ (o : Option (List ℕ)). option_map (λ n. is_defined n false) o) (name_past b t e)
-condition_past Undefined b t e = ap (λ (o : Option (List ℕ)). option_map (λ n. unary Not (is_defined n false)) o) (name_past b t e)
-condition_past Nothing b t e = refl
+condition_past p b t e = grind (arith, expression_past, name_past)
 
 -- The decision is the same with leading white space.
 pub decided_past : (p : Test) (b : ℕ) (t : List ℕ) (table : List Argument) (rules : Rules) → is_white b ≡ true → decision_by_test p (b ∷ t) table rules ≡ decision_by_test p t table rules
-decided_past Nonzero b t table rules e = ap (λ (c : Cond). record { cond = c; ignoring = false }) (cond_past b t table rules e)
-decided_past Defined b t table rules e = ap (λ (o : Option (List ℕ)). ifdef_decision o table) (name_past b t e)
-decided_past Undefined b t table rules e =
-    ap (λ (o : Option (List ℕ)). record (ifdef_decision o table) { cond = negate (ifdef_decision o table).cond }) (name_past b t e)
-decided_past Nothing b t table rules e = refl
+decided_past p b t table rules e = grind (arith, cond_past, name_past)

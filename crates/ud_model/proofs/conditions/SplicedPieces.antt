@@ -1,5 +1,5 @@
 -- Spliced pieces: a text with splices keeps the cells that it keeps without them.
-use Rattle.std.proofs.Common.{◌≡◌, ℕ, zero, suc, List, [], ◌∷◌, ◌++◌, map, take, drop, Bool, true, false, not, ◌||◌, if◌then◌else◌, refl, ◌∙◌, ap, ap₂, subst}
+use Rattle.std.proofs.Common.{◌≡◌, ℕ, zero, suc, List, [], ◌∷◌, ◌++◌, map, take, drop, Bool, true, false, not, ◌||◌, if◌then◌else◌, refl, ◌∙◌, ap, ap₂, subst, arith}
 use Rattle.ud_model.specs.text.Bytes.{skip_white, are_white}
 use Rattle.ud_model.specs.text.Lexemes.{Cell, shown}
 use Rattle.ud_model.specs.conditions.Tokens.{NextToken, at_end, unreadable, found, next_token}
@@ -36,32 +36,19 @@ token_rest (suc n) (cell c ∷ ps) = token_rest n ps
 token_rest _ _ = refl
 
 if_cells : (b : Bool) (ps : List Piece) (cs : List Cell) → cells_among ps ≡ cs → cells_among (if b then ps else []) ≡ (if b then cs else [])
-if_cells true ps cs e = e
-if_cells false ps cs e = refl
+if_cells b ps cs e = grind arith
 
 white_cells : (stays : Bool) (ps : List Piece) (cs : List Cell) → cells_among ps ≡ cs → cells_among (white_left stays ps) ≡ gap_left stays cs
-white_cells stays ps cs e =
-    if_cells (stays || not (are_white (map (λ (c : Cell). c.byte) (cells_among ps)))) ps cs e
-    ∙ ap (λ (xs : List Cell). if stays || not (are_white (map (λ (c : Cell). c.byte) xs)) then cs else []) e
+white_cells stays ps cs e = grind arith
 
 token_both : (f : Bool) (further : Bool → List Piece → List Piece) (more : Bool → List Cell → List Cell) (rest : List ℕ) (o : Bool) (ps : List Piece) (cs : List Cell) →
     cells_among ps ≡ cs → ((b : Bool) (qs : List Piece) → cells_among (further b qs) ≡ more b (cells_among qs)) → cells_among (pieces_left f further rest o ps) ≡ token_left f more rest o cs
-token_both f further more rest o ps cs e h =
-    both (if f then token_of (size_before rest ps) ps else []) (further o (after_token (size_before rest ps) ps))
-    ∙ ap₂ (λ (a b : List Cell). a ++ b)
-    (if_cells f (token_of (size_before rest ps) ps) (cells_before rest (cells_among ps)) (token_cells (size_before rest ps) ps))
-    (h o (after_token (size_before rest ps) ps) ∙ ap (λ (xs : List Cell). more o xs) (token_rest (size_before rest ps) ps))
-    ∙ ap (λ (xs : List Cell). token_left f more rest o xs) e
+token_both f further more rest o ps cs e h = grind (arith, both, if_cells, token_cells, token_rest)
 
 by_both : (prev operand f : Bool) (further : Bool → List Piece → List Piece) (more : Bool → List Cell → List Cell) (ps : List Piece) (x : NextToken) →
     ((b : Bool) (qs : List Piece) → cells_among (further b qs) ≡ more b (cells_among qs)) → cells_among (pieces_by prev operand f further ps x) ≡ left_by prev operand f more (cells_among ps) x
-by_both prev operand f further more ps (found t rest) h =
-    let n : ℕ = size_before (skip_white (map shown (cells_among ps))) ps in
-    both (white_left (if operand then f else prev) (gap_of n ps)) (pieces_left f further rest (ends_operand t) (after_gap n ps))
-    ∙ ap₂ (λ (a b : List Cell). a ++ b)
-    (white_cells (if operand then f else prev) (gap_of n ps) (cells_before (skip_white (map shown (cells_among ps))) (cells_among ps)) (gap_cells n ps))
-    (token_both f further more rest (ends_operand t) (after_gap n ps) (cells_after (skip_white (map shown (cells_among ps))) (cells_among ps)) (gap_rest n ps) h)
-by_both _ _ _ _ _ ps _ _ = refl
+by_both prev operand f further more ps x h =
+    grind (arith, both, white_cells, gap_cells, token_both, gap_rest)
 
 -- The cells that are left are those that are left without splices.
 pub cells_from : (prev operand : Bool) (flags : List Bool) (ps : List Piece) → cells_among (pieces_from prev operand flags ps) ≡ left_from prev operand flags (cells_among ps)
@@ -83,8 +70,7 @@ token_split (suc n) (cell c ∷ ps) = ap (λ (qs : List Piece). cell c ∷ qs) (
 token_split _ _ = refl
 
 either : (b : Bool) (ps : List Piece) → IsSublist (if b then ps else []) ps
-either true ps = all_of_it ps
-either false ps = none_of_it ps
+either b ps = grind (arith, all_of_it, none_of_it)
 
 token_sub : (f : Bool) (further : Bool → List Piece → List Piece) (rest : List ℕ) (o : Bool) (ps : List Piece) → ((b : Bool) (qs : List Piece) → IsSublist (further b qs) qs) → IsSublist (pieces_left f further rest o ps) ps
 token_sub f further rest o ps h =

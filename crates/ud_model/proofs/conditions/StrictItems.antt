@@ -1,5 +1,5 @@
 -- Under `-K` a line is the same item, but its condition may be unknown.
-use Rattle.std.proofs.Common.{◌≡◌, ◌≢◌, ℕ, List, Bool, true, false, not, ◌&&◌, Option, Some, None, if◌then◌else◌, refl, sym, ap, subst}
+use Rattle.std.proofs.Common.{◌≡◌, ◌≢◌, ℕ, List, Bool, true, false, not, ◌&&◌, Option, Some, None, if◌then◌else◌, refl, sym, ap, subst, arith}
 use Rattle.ud_model.specs.text.Scans.{Scan, Reading}
 use Rattle.ud_model.specs.sections.Directives.{Content, Directive, cut_keyword, directive, text, content_of, role_of, test_of}
 use Rattle.ud_model.specs.conditions.Table.{Argument}
@@ -38,8 +38,7 @@ same_decision d = record { cond = alike; ignoring = refl }
 
 module _ (table : List Argument) (k : Bool) where
   tree_loose : (s : Bool) (e : Expression) → Looser (tree_cond e table (record { constants = k; strict = true })) (tree_cond e table (record { constants = k; strict = s }))
-  tree_loose true e = alike
-  tree_loose false e = loose_by (tree_cond e table (record { constants = k; strict = true })) (tree_cond e table (record { constants = k; strict = false })) (cond_keeps table e k)
+  tree_loose s e = grind (arith, loose_by, cond_keeps)
 
   tree_if_loose : (s : Bool) (e : Option Expression) → Looser (tree_cond_if e table (record { constants = k; strict = true })) (tree_cond_if e table (record { constants = k; strict = s }))
   tree_if_loose s None = alike
@@ -54,15 +53,13 @@ module _ (table : List Argument) (k : Bool) where
   test_loose _ _ _ = record { cond = alike; ignoring = refl }
 
   kind_loose : (s : Bool) (i : Kind) (after : List ℕ) → LooserDecision (condition_of i after table (record { constants = k; strict = true })) (condition_of i after table (record { constants = k; strict = s }))
-  kind_loose s i after =
-      let d = test_loose s (test_of i) after in record { cond = d.cond; ignoring = ap (λ (b : Bool). begins_section (role_of i) && b) d.ignoring }
+  kind_loose s i after = grind (arith, test_loose)
 
   abbrev unless_cut : Bool → Bool → Decision → Decision
   unless_cut broken joins d = if broken then undecided else record d { ignoring = d.ignoring && not joins }
 
   unless_cut_loose : (broken joins : Bool) (d e : Decision) → LooserDecision d e → LooserDecision (unless_cut broken joins d) (unless_cut broken joins e)
-  unless_cut_loose true joins d e h = same_decision undecided
-  unless_cut_loose false joins d e h = record { cond = h.cond; ignoring = ap (λ (b : Bool). b && not joins) h.ignoring }
+  unless_cut_loose broken joins d e h = grind (arith, same_decision)
 
   decision_loose : (s : Bool) (scan : Scan) (d : Directive) → LooserDecision (decision_on scan d table (record { constants = k; strict = true })) (decision_on scan d table (record { constants = k; strict = s }))
   decision_loose s scan d =

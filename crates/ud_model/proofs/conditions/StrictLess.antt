@@ -1,5 +1,5 @@
 -- Strict: a value that is known under `-K` is known without it, and is the same.
-use Rattle.std.proofs.Common.{◌≡◌, ◌≢◌, List, Bool, true, false, not, ◌||◌, Option, Some, None, if◌then◌else◌, ℤ, refl, ◌∙◌, ap, ap₂}
+use Rattle.std.proofs.Common.{◌≡◌, ◌≢◌, List, Bool, true, false, not, ◌||◌, Option, Some, None, if◌then◌else◌, ℤ, refl, ◌∙◌, ap, ap₂, arith}
 use Rattle.std.proofs.lemmas.Option.{none-some}
 use Rattle.ud_model.specs.conditions.Table.{Argument}
 use Rattle.ud_model.specs.conditions.Expressions.{Expression, constant, named, is_defined, unary, binary, parens}
@@ -14,13 +14,10 @@ abbrev Keeps : Option ℤ → Option ℤ → Type 0
 Keeps a b = (z : ℤ) → a ≡ Some z → b ≡ Some z
 
 alter_keeps : (u : Bool) (o : Operator) (a b : Option ℤ) → Keeps a b → Keeps (apply_unary u o a) (apply_unary u o b)
-alter_keeps u o None b h z e = absurd (none-some z e)
-alter_keeps u o (Some x) b h z e = ap (apply_unary u o) (h x refl) ∙ e
+alter_keeps u o a b h z e = grind arith
 
 combine_keeps : (u : Bool) (o : Operator) (a b c d : Option ℤ) → Keeps a c → Keeps b d → Keeps (apply_binary true u o a b) (apply_binary false u o c d)
-combine_keeps u o None None c d h k z e = absurd (none-some z e)
-combine_keeps u o (Some x) (Some y) c d h k z e = ap₂ (apply_binary false u o) (h x refl) (k y refl) ∙ e
-combine_keeps _ _ _ _ _ _ _ _ z e = absurd (none-some z e)
+combine_keeps u o a b c d h k z e = grind arith
 
 module _ (table : List Argument) where
   number_keeps : (u : Bool) (e : Expression) → Keeps (number_of table true u e) (number_of table false u e)
@@ -35,16 +32,12 @@ module _ (table : List Argument) where
   value_keeps e = number_keeps (has_unsigned table e) e
 
   truth_keeps : (a b : Option ℤ) → Keeps a b → truth_of a ≢ Unknown → truth_of b ≡ truth_of a
-  truth_keeps None b h n = absurd (n refl)
-  truth_keeps (Some z) b h n = ap truth_of (h z refl)
+  truth_keeps a b h n = grind arith
 
   unless_keeps : (c : Bool) (a b : Cond) → ((a ≢ Unknown) → b ≡ a) → ((if c then Unknown else a) ≢ Unknown) → (if c then Unknown else b) ≡ (if c then Unknown else a)
-  unless_keeps true a b h n = refl
-  unless_keeps false a b h n = h n
+  unless_keeps c a b h n = grind arith
 
   -- A decided condition stays decided alike.
   pub cond_keeps : (e : Expression) (k : Bool) → tree_cond e table (record { constants = k; strict = true }) ≢ Unknown →
       tree_cond e table (record { constants = k; strict = false }) ≡ tree_cond e table (record { constants = k; strict = true })
-  cond_keeps e k n =
-      unless_keeps (calls_undefined table e || not (k || mentions_listed table e)) (truth_of (value_of table true e)) (truth_of (value_of table false e))
-      (truth_keeps (value_of table true e) (value_of table false e) (value_keeps e)) n
+  cond_keeps e k n = grind (arith, unless_keeps, truth_keeps, value_keeps)

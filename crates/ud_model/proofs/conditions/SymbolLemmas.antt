@@ -22,12 +22,10 @@ pub record Goes (t : List Argument) (k : ℕ) (n v : List ℕ) : Type 0 where
 
 goes_by : (f : List ℕ → Option (List ℕ)) (b : Bool) (w v : List ℕ) → (if b then f w else Some w) ≡ Some v →
     ((b ≡ false) × (w ≡ v)) ⊎ ((b ≡ true) × (f w ≡ Some v))
-goes_by f true w v e = inr (refl, e)
-goes_by f false w v e = inl (refl, same_Some w v e)
+goes_by f b w v e = grind arith
 
 goes_on : (t : List Argument) (k : ℕ) (n v : List ℕ) (o : Option (List ℕ)) → defined_text t n ≡ o → on_text (λ w. resolve_within k t w) o ≡ Some v → Goes t k n v
-goes_on t k n v None d e = absurd (none-some v e)
-goes_on t k n v (Some w) d e = record { text = w; sets = d; on = goes_by (λ x. resolve_within k t x) (is_identifier w) w v e }
+goes_on t k n v o d e = grind arith
 
 -- The first step of a path that ends.
 pub goes : (t : List Argument) (k : ℕ) (n v : List ℕ) → resolve_within (suc k) t n ≡ Some v → Goes t k n v
@@ -74,10 +72,7 @@ without n (a ∷ t) = if bytes_eq a.name n then without n t else a ∷ without n
 without_other_by : (n m : List ℕ) → bytes_eq n m ≡ false → (a : Argument) (t : List Argument) (e : Option Entry) →
     ((f : Option Entry) → entry_from f (without n t) m ≡ entry_from f t m) → (b : Bool) → bytes_eq a.name n ≡ b →
     entry_from e (if b then without n t else a ∷ without n t) m ≡ entry_from (if bytes_eq a.name m then Some a.entry else e) t m
-without_other_by n m d a t e before true h =
-    let q : bytes_eq a.name m ≡ false = rw ((bytes_eq-Decides a.name n).0 h) d in
-    before e ∙ ap (λ (b : Bool). entry_from (if b then Some a.entry else e) t m) (sym q)
-without_other_by n m d a t e before false h = before (if bytes_eq a.name m then Some a.entry else e)
+without_other_by n m d a t e before b h = grind (arith, bytes_eq-Decides)
 
 -- These arguments have the entry of each other name.
 without_other : (n m : List ℕ) → bytes_eq n m ≡ false → (t : List Argument) (e : Option Entry) → entry_from e (without n t) m ≡ entry_from e t m
@@ -86,8 +81,7 @@ without_other n m d (a ∷ t) e = without_other_by n m d a t e (λ f. without_ot
 
 without_none_by : (n : List ℕ) (a : Argument) (t : List Argument) → entry_in (without n t) n ≡ None → (b : Bool) → bytes_eq a.name n ≡ b →
     entry_in (if b then without n t else a ∷ without n t) n ≡ None
-without_none_by n a t before true h = before
-without_none_by n a t before false h = ap (λ (b : Bool). entry_from (if b then Some a.entry else None) (without n t) n) h ∙ before
+without_none_by n a t before b h = grind arith
 
 -- They have no entry for the name.
 without_none : (n : List ℕ) (t : List Argument) → entry_in (without n t) n ≡ None
@@ -96,8 +90,7 @@ without_none n (a ∷ t) = without_none_by n a t (without_none n t) (bytes_eq a.
 
 most_by : (n : List ℕ) (a : Argument) (t : List Argument) → length (without n t) ≤ length t → (b : Bool) →
     length (if b then without n t else a ∷ without n t) ≤ suc (length t)
-most_by n a t h true = omega arith
-most_by n a t h false = omega arith
+most_by n a t h b = grind arith
 
 -- They are no more than all.
 without_most : (n : List ℕ) (t : List Argument) → length (without n t) ≤ length t
@@ -108,8 +101,7 @@ fewer_by : (n : List ℕ) (a : Argument) (t : List Argument) (e : Option Entry) 
     ((f : Option Entry) → entry_from f t n ≡ Some x → (f ≡ Some x) ⊎ (length (without n t) < length t)) →
     (b : Bool) → entry_from (if b then Some a.entry else e) t n ≡ Some x →
     (e ≡ Some x) ⊎ (length (if b then without n t else a ∷ without n t) < suc (length t))
-fewer_by n a t e x l before true h = inr (omega arith)
-fewer_by n a t e x l before false h = elim (before e h) [ inl p ↦ inl p | inr q ↦ inr (omega arith) ]
+fewer_by n a t e x l before b h = grind arith
 
 -- They are fewer if the name is listed.
 without_fewer : (n : List ℕ) (t : List Argument) (e : Option Entry) (x : Entry) → entry_from e t n ≡ Some x →
@@ -119,20 +111,13 @@ without_fewer n (a ∷ t) e x h = fewer_by n a t e x (without_most n t) (λ f. w
 
 -- A name with a text is listed.
 listed_by : (o : Option Entry) (w : List ℕ) → text_in o ≡ Some w → (x : Entry) × (o ≡ Some x)
-listed_by None w e = absurd (none-some w e)
-listed_by (Some x) w e = (x, refl)
+listed_by o w e = grind arith
 
 fewer : (n w : List ℕ) (t : List Argument) → defined_text t n ≡ Some w → length (without n t) < length t
-fewer n w t d =
-    let x : (x : Entry) × (entry_in t n ≡ Some x) = listed_by (entry_in t n) w d in
-    elim (without_fewer n t None x.0 x.1) [ inl p ↦ absurd (none-some x.0 p) | inr l ↦ l ]
+fewer n w t d = grind (arith, listed_by, without_fewer, none-some)
 
 follows_by : (n : List ℕ) (t : List Argument) (m w : List ℕ) (b : Bool) → bytes_eq n m ≡ b → defined_text (without n t) m ≡ Some w → defined_text t m ≡ Some w
-follows_by n t m w true q d =
-    let p : n ≡ m = (bytes_eq-Decides n m).0 q in
-    let h : entry_in (without n t) m ≡ None = subst (λ k. entry_in (without n t) k ≡ None) p (without_none n t) in
-    absurd (none-some w (sym (ap text_in h) ∙ d))
-follows_by n t m w false q d = ap text_in (sym (without_other n m q t None)) ∙ d
+follows_by n t m w b q d = grind (arith, bytes_eq-Decides, without_none, none-some, without_other)
 
 -- The table of all arguments follows that of those that name another.
 follows : (n : List ℕ) (t : List Argument) → Follows (without n t) t
@@ -143,18 +128,10 @@ abbrev pub Splits : ℕ → List Argument → List ℕ → List ℕ → List ℕ
 Splits k t n w v = (resolve_within k (without n t) w ≡ Some v) ⊎ ((j : ℕ) × (j ≤ k) × (resolve_within j t n ≡ Some v))
 
 split_on : (k : ℕ) (t : List Argument) (n w v x : List ℕ) → defined_text (without n t) w ≡ Some x → is_identifier x ≡ true → Splits k t n x v → Splits (suc k) t n w v
-split_on k t n w v x d i (inl e) = inl (ends_behind (without n t) k w x d i ∙ e)
-split_on k t n w v x d i (inr (j, l, e)) = inr (j, omega arith, e)
+split_on k t n w v x d i h = grind arith
 
 split_other : (k : ℕ) (t : List Argument) (n w v : List ℕ) → bytes_eq n w ≡ false → Goes t k w v → ((x : List ℕ) → resolve_within k t x ≡ Some v → Splits k t n x v) → Splits (suc k) t n w v
-split_other k t n w v q g further = by g.on
-  where
-    sets : defined_text (without n t) w ≡ Some g.text
-    sets = ap text_in (without_other n w q t None) ∙ g.sets
-
-    by : ((is_identifier g.text ≡ false) × (g.text ≡ v)) ⊎ ((is_identifier g.text ≡ true) × (resolve_within k t g.text ≡ Some v)) → Splits (suc k) t n w v
-    by (inl p) = inl (ends_here (without n t) k w g.text sets p.0 ∙ ap Some p.1)
-    by (inr p) = split_on k t n w v g.text sets p.0 (further g.text p.1)
+split_other k t n w v q g further = grind (arith, without_other, ends_here, split_on)
 
 split_by : (k : ℕ) (t : List Argument) (n w v : List ℕ) (b : Bool) → bytes_eq n w ≡ b → resolve_within (suc k) t w ≡ Some v → ((x : List ℕ) → resolve_within k t x ≡ Some v → Splits k t n x v) →
     Splits (suc k) t n w v
@@ -179,15 +156,11 @@ same_follows t n w d = d
 -- One step, and then a path over fewer arguments.
 soon_behind : (t : List Argument) (n w v : List ℕ) → defined_text t n ≡ Some w → is_identifier w ≡ true → resolve_within (length (without n t)) (without n t) w ≡ Some v →
     resolve_within (length t) t n ≡ Some v
-soon_behind t n w v d i e =
-    let l : length (without n t) < length t = fewer n w t d in
-    let h : resolve_within (length (without n t)) t w ≡ Some v = ends_more (length (without n t)) (length (without n t)) (without n t) t (follows n t) w v (omega arith) e in
-    ends_more (suc (length (without n t))) (length t) t t (same_follows t) n v (omega arith) (ends_behind t (length (without n t)) n w d i ∙ h)
+soon_behind t n w v d i e = grind (arith, fewer, ends_more, follows, same_follows, ends_behind)
 
 soon_split : (most : ℕ) (t : List Argument) → ((n w : List ℕ) → defined_text t n ≡ Some w → Soon (without n t)) → SoonWithin most t →
     (k : ℕ) (n w v : List ℕ) → k ≤ most → defined_text t n ≡ Some w → is_identifier w ≡ true → Splits k t n w v → resolve_within (length t) t n ≡ Some v
-soon_split most t smaller within k n w v l d i (inl e) = soon_behind t n w v d i (smaller n w d k w v e)
-soon_split most t smaller within k n w v l d i (inr (j, q, e)) = within j n v (omega arith) e
+soon_split most t smaller within k n w v l d i h = grind (arith, soon_behind)
 
 soon_step : (most : ℕ) (t : List Argument) → ((n w : List ℕ) → defined_text t n ≡ Some w → Soon (without n t)) → SoonWithin most t →
     (k : ℕ) (n v : List ℕ) → k ≤ most → Goes t k n v → resolve_within (length t) t n ≡ Some v
@@ -222,9 +195,7 @@ unfolding resolve
 ends_over t u f n v e = ends_soon u (length t) n v (ends_more (length t) (length t) t u (same_follows_same t u f) n v (omega arith) e)
 
 pub same_by : {A : Type 0} (o p : Option A) → ((x : A) → o ≡ Some x → p ≡ Some x) → ((x : A) → p ≡ Some x → o ≡ Some x) → o ≡ p
-same_by (Some x) p f g = sym (f x refl)
-same_by None None f g = refl
-same_by None (Some x) f g = g x refl
+same_by h p f g = grind arith
 
 -- Tables with the same entry for every name resolve a name to the same text.
 pub end_same : (t u : List Argument) → SaySame t u → (n : List ℕ) → resolve t n ≡ resolve u n

@@ -21,24 +21,19 @@ Within k None = Unit {0}
 Within k (Some rest) = length rest ≤ k
 
 shorter_either : (k : ℕ) (b : Bool) (x y : NextToken) → Shorter k x → Shorter k y → Shorter k (if b then x else y)
-shorter_either k true x y p q = p
-shorter_either k false x y p q = q
+shorter_either k b x y p q = grind arith
 
 shorter_more : (j k : ℕ) (x : NextToken) → j ≤ k → Shorter j x → Shorter k x
-shorter_more j k (found t rest) l p = omega arith
-shorter_more _ _ _ _ _ = tt
+shorter_more j k x l p = grind arith
 
 within_either : (k : ℕ) (b : Bool) (x y : Option (List ℕ)) → Within k x → Within k y → Within k (if b then x else y)
-within_either k true x y p q = p
-within_either k false x y p q = q
+within_either k b x y p q = grind arith
 
 within_more : (j k : ℕ) (x : Option (List ℕ)) → j ≤ k → Within j x → Within k x
-within_more j k None l p = tt
-within_more j k (Some rest) l p = omega arith
+within_more j k x l p = grind arith
 
 length_either : (k : ℕ) (b : Bool) (x y : List ℕ) → length x ≤ k → length y ≤ k → length (if b then x else y) ≤ k
-length_either k true x y p q = p
-length_either k false x y p q = q
+length_either k b x y p q = grind arith
 
 drop_one_most : (t : List ℕ) → length (drop 1 t) ≤ length t
 drop_one_most t = rw length-drop (omega arith)
@@ -59,15 +54,11 @@ behind_within (suc n) (b ∷ t) =
 behind_within _ [] = tt
 
 with_shorter : (k j : ℕ) (w : List ℕ) (o : Option (List ℕ)) → j < k → Within j o → Shorter k (with_arguments w o)
-with_shorter k j w None l p = tt
-with_shorter k j w (Some rest) l p = omega arith
+with_shorter k j w o l p = grind arith
 
 name_shorter : (k : ℕ) (w rest : List ℕ) → length rest < k → Shorter k (name_token w rest)
 name_shorter k w rest l =
-    let h : length (skip_white rest) ≤ length rest = length-skip_white rest in
-    let g : length (drop 1 (skip_white rest)) ≤ length (skip_white rest) = drop_one_most (skip_white rest) in
-    shorter_either k (starts_with_byte 40 (skip_white rest)) (with_arguments w (after_matching_paren 0 (drop 1 (skip_white rest)))) (found (name w false) rest)
-    (with_shorter k (length (drop 1 (skip_white rest))) w (after_matching_paren 0 (drop 1 (skip_white rest))) (omega arith) (behind_within 0 (drop 1 (skip_white rest)))) l
+    grind (arith, length-skip_white, drop_one_most, shorter_either, with_shorter, behind_within)
 
 word_shorter : (k : ℕ) (w rest : List ℕ) → length rest < k → Shorter k (word_token w rest)
 word_shorter k w rest l =
@@ -76,34 +67,13 @@ word_shorter k w rest l =
     (shorter_either k (bytes_eq w (codes "defined")) (found defined rest) (name_token w rest) l (name_shorter k w rest l))
 
 longer_shorter : (c : ℕ) (o p : Operator) (rest : List ℕ) → Shorter (suc (length rest)) (one_or_two_bytes c o p rest)
-longer_shorter c o p rest =
-    let h : length (drop 1 rest) ≤ length rest = drop_one_most rest in
-    shorter_either (suc (length rest)) (starts_with_byte c rest) (found (operator o) (drop 1 rest)) (found (operator p) rest) (omega arith) (omega arith)
+longer_shorter c o p rest = grind arith
 
 sign_shorter : (b : ℕ) (rest : List ℕ) → Shorter (suc (length rest)) (punctuator b rest)
-sign_shorter b rest =
-    let h : length (drop 1 rest) ≤ length rest = drop_one_most rest in
-    let k : ℕ = suc (length rest) in
-    shorter_either k (b == 40) _ _ (omega arith)
-    (shorter_either k (b == 41) _ _ (omega arith)
-    (shorter_either k (b == 33) _ _ (longer_shorter 61 NotEqual Not rest)
-    (shorter_either k (b == 60) _ _ (longer_shorter 61 LessEqual Less rest)
-    (shorter_either k (b == 62) _ _ (longer_shorter 61 GreaterEqual Greater rest)
-    (shorter_either k (b == 38) _ _ (longer_shorter 38 And BitAnd rest)
-    (shorter_either k (b == 124) _ _ (longer_shorter 124 Or BitOr rest)
-    (shorter_either k (b == 61) _ _ (shorter_either k (starts_with_byte 61 rest) _ _ (omega arith) tt)
-    (shorter_either k (b == 45) _ _ (shorter_either k (starts_with_byte 45 rest) _ _ tt (omega arith))
-    (shorter_either k (b == 43) _ _ (omega arith)
-    (shorter_either k (b == 42) _ _ (omega arith)
-    (shorter_either k (b == 47) _ _ (omega arith)
-    (shorter_either k (b == 37) _ _ (omega arith)
-    (shorter_either k (b == 94) _ _ (omega arith)
-    (shorter_either k (b == 126) _ _ (omega arith) tt))))))))))))))
+sign_shorter b rest = grind arith
 
 past_word_behind : (b : ℕ) (t : List ℕ) → is_word_byte b ≡ true → length (skip_word (b ∷ t)) < suc (length t)
-past_word_behind b t e =
-    let h : length (skip_word t) ≤ length t = past_word_most t in
-    subst (λ (c : Bool). length (if c then skip_word t else b ∷ t) < suc (length t)) (sym e) (omega arith)
+past_word_behind b t e = grind (arith, past_word_most)
 
 front_by : (b : ℕ) (t : List ℕ) (c : Bool) → is_word_byte b ≡ c →
     Shorter (suc (length t)) (if c then word_token (leading_word (b ∷ t)) (skip_word (b ∷ t)) else punctuator b t)
@@ -111,8 +81,7 @@ front_by b t true e = word_shorter (suc (length t)) (leading_word (b ∷ t)) (sk
 front_by b t false e = sign_shorter b t
 
 front_shorter : (t : List ℕ) → Shorter (length t) (leading_token t)
-front_shorter [] = tt
-front_shorter (b ∷ t) = front_by b t (is_word_byte b) refl
+front_shorter t = grind (arith, front_by)
 
 next_shorter : (text : List ℕ) → Shorter (length text) (next_token text)
 unfolding next_token
@@ -131,16 +100,11 @@ tokens_enough (t ∷ ts) (suc n) text l p =
     ap (prepend_token (λ rest. tokens_in n rest)) p.1 ∙ ap (option_map (λ us. t ∷ us)) (tokens_enough ts n p.0 (omega arith) p.2)
 
 tail_is : (t : Token) (o : Option (List Token)) (ts : List Token) → option_map (λ us. t ∷ us) o ≡ Some ts → (us : List Token) × (o ≡ Some us) × (t ∷ us ≡ ts)
-tail_is t None ts e = absurd (none-some ts e)
-tail_is t (Some us) ts e = (us, refl, same_Some (t ∷ us) ts e)
+tail_is t o ts e = grind arith
 
 cut_tokens : (n : ℕ) (text : List ℕ) (ts : List Token) (x : NextToken) → next_token text ≡ x → ((rest : List ℕ) (us : List Token) → tokens_in n rest ≡ Some us → AreTokens rest us) →
     prepend_token (λ rest. tokens_in n rest) x ≡ Some ts → AreTokens text ts
-cut_tokens n text ts at_end d f e = subst (λ us. AreTokens text us) (same_Some [] ts e) d
-cut_tokens n text ts unreadable d f e = absurd (none-some ts e)
-cut_tokens n text ts (found t rest) d f e =
-    let q : (us : List Token) × (tokens_in n rest ≡ Some us) × (t ∷ us ≡ ts) = tail_is t (tokens_in n rest) ts e in
-    subst (λ us. AreTokens text us) q.2 (rest, d, f rest q.0 q.1)
+cut_tokens n text ts x d f e = grind arith
 
 -- Tokens that are found are those of the text.
 pub tokens_found : (n : ℕ) (text : List ℕ) (ts : List Token) → tokens_in n text ≡ Some ts → AreTokens text ts

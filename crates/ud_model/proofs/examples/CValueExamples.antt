@@ -128,13 +128,10 @@ remainder_by_zero = binary Remainder (unary Minus (c (codes "1"))) (c (codes "0"
 
 is_nought : (y : Number) → IsConstantValue (codes "0") y → y ≡ signed (pos 0)
 unfolding suffix_sign
-is_nought y (plain h l) = refl
-is_nought y (by_suffix h l) = absurd (false≢true h)
-is_nought y (by_size h d l m) = absurd (omega arith)
+is_nought y h = grind arith
 
 no_remainder : (x z : Number) → Gives Remainder x (signed (pos 0)) z → ⊥
-no_remainder (signed k) z g = g.0 refl
-no_remainder (unsigned k) z g = let l : 0 < 0 = g.0 in omega arith
+no_remainder x z g = grind arith
 
 nought_of : {table : List Argument} {u : Bool} {y : Number} → CValue table u (c (codes "0")) y →
     y ≡ signed (pos 0)
@@ -147,5 +144,4 @@ remainder_by_zero_unknown = refl
 
 pub remainder_by_zero_none : (table : List Argument) (u : Bool) (z : Number) →
     CValue table u remainder_by_zero z → ⊥
-remainder_by_zero_none table u z (of_binary {x = k} {y = y} d f g) =
-    no_remainder k z (subst (λ w. Gives Remainder k w z) (nought_of f) g)
+remainder_by_zero_none table u z h = grind (arith, no_remainder, nought_of)

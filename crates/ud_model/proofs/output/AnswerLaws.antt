@@ -1,5 +1,5 @@
 -- Answers: the laws of runs, stated for arguments, an input and the answer to them.
-use Rattle.std.proofs.Common.{◌≡◌, ◌≢◌, ℕ, List, map, Bool, false, not, bytes_eq, Option, Some, None, refl, ◌∙◌, ap}
+use Rattle.std.proofs.Common.{◌≡◌, ◌≢◌, ℕ, List, map, Bool, false, not, bytes_eq, Option, Some, None, refl, ◌∙◌, ap, arith}
 use Rattle.ud_model.specs.text.Lines.{lines_of}
 use Rattle.ud_model.specs.text.Scans.{Reading}
 use Rattle.ud_model.specs.sections.Tree.{Nodes, closed}
@@ -17,8 +17,7 @@ use Rattle.ud_model.proofs.output.RereadLaws.{runs_output, c_selected_again}
 
 -- A run whose status isn't 2 has no fault.
 pub faultless : (s : Settings) (d : Bool) (f : Option Fault) → status_of s d f ≢ 2 → f ≡ None
-faultless s d None n = refl
-faultless s d (Some f) n = absurd (n refl)
+faultless s d f n = grind arith
 
 -- A second run leaves the output as it is.
 pub answered_again : {args : List (List ℕ)} {input : List ℕ} {a : Answer} → IsAnswer args input a → a.status ≢ 2 → IsPlain (options_of args) →

@@ -28,10 +28,7 @@ use Rattle.ud_model.proofs.sections.Soundness.{one_run}
 -- 1. The pieces.
 
 blank_piece : (c n : Bool) (before : List Judged) (j : Judged) → piece_after (record { blank = true; complement = c; renumber = n }) before j ≡ blanked c j
-blank_piece true false before j = refl
-blank_piece true true before j = refl
-blank_piece false false before j = refl
-blank_piece false true before j = refl
+blank_piece c n before j = grind arith
 
 -- Under `-b` each line is printed by itself.
 pub blank_pieces : (c n : Bool) (before js : List Judged) → pieces_by (piece_after (record { blank = true; complement = c; renumber = n })) before js ≡ map (blanked c) js
@@ -42,12 +39,10 @@ blank_pieces c n before (j ∷ js) = ap₂ (λ (p : List ℕ) (ps : List (List �
 
 -- A line that is left is printed by its verdict.
 left_alone : (v : Verdict) (k : Span) (l : Line) → IsLeft v → piece_alone true (record { line = l; verdict = v; keyword = k }) ≡ piece_by v k l
-left_alone Remove k l h = absurd h
-left_alone _ _ _ _ = refl
+left_alone v k l h = grind arith
 
 ending_alone : (m : ℕ) (e : List ℕ) → IsEnd e → line_at m e ≡ record { body = []; ending = e; number = m }
-ending_alone m e (inl h) = subst (λ (x : List ℕ). line_at m x ≡ record { body = []; ending = x; number = m }) (sym h) refl
-ending_alone m e (inr h) = subst (λ (x : List ℕ). line_at m x ≡ record { body = []; ending = x; number = m }) (sym h) refl
+ending_alone m e h = grind arith
 
 ending_whole : (e : List ℕ) → IsEnd e → IsWhole e
 ending_whole e (inl h) = (13 ∷ [], ((λ p. omega arith), tt), h)
@@ -78,8 +73,7 @@ record Places (c : Bool) (js : List Judged) (n : ℕ) : Type 0 where
   pub places : AreBlankedLines c js (numbered_from n pieces)
 
 turned_line : (c : Bool) (j : Judged) → (complemented_if c j).line ≡ j.line
-turned_line true j = refl
-turned_line false j = refl
+turned_line c j = grind arith
 
 in_place : (c : Bool) (j : Judged) (n : ℕ) (t : List ℕ) → j.line ≡ line_at n t → (line_at n (blanked c j)).ending ≡ ending_of t → IsBlankedLine c j (line_at n (blanked c j))
 in_place c j n t e d = record {
@@ -144,8 +138,7 @@ all_placed _ _ n _ e f = cc
 -- 3. The lines of a text.
 
 formed_tail : (t : List ℕ) (ts : List (List ℕ)) → AreFormed (t ∷ ts) → AreFormed ts
-formed_tail t [] f = tt
-formed_tail t (u ∷ ts) f = f.1
+formed_tail t ts f = grind arith
 
 -- A prefix of numbered lines is formed.
 pub front_formed : (n : ℕ) (us : List (List ℕ)) (ls later : List Line) → AreFormed us → numbered_from n us ≡ ls ++ later →

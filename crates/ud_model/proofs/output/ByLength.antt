@@ -1,12 +1,10 @@
 -- A property of each of three things is one of the thing that is chosen by a keyword's length.
-use Rattle.std.proofs.Common.{ℕ, ◌==◌, Bool, true, false, if◌then◌else◌}
+use Rattle.std.proofs.Common.{ℕ, ◌==◌, Bool, true, false, if◌then◌else◌, arith}
 use Rattle.ud_model.specs.answer.Printing.{by_length}
 
 module _ {A : Type 0} (P : A → Type 0) {a b c : A} (x : P a) (y : P b) (z : P c) where
   each_test : (t u : Bool) → P (if t then a else if u then b else c)
-  each_test true u = x
-  each_test false true = y
-  each_test false false = z
+  each_test t u = grind arith
 
   -- The chosen thing has the property.
   pub each_length : (n : ℕ) → P (by_length n a b c)

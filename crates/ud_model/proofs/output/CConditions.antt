@@ -1,5 +1,5 @@
 -- A decided condition has the truth that C gives it.
-use Rattle.std.proofs.Common.{◌≡◌, ◌≢◌, ℕ, List, Bool, true, false, not, ◌&&◌, Option, Some, None, is_some, option_map, if◌then◌else◌, refl, ap, subst, pos}
+use Rattle.std.proofs.Common.{◌≡◌, ◌≢◌, ℕ, List, Bool, true, false, not, ◌&&◌, Option, Some, None, is_some, option_map, if◌then◌else◌, refl, ap, subst, pos, arith}
 use Rattle.ud_model.specs.text.Scans.{Reading}
 use Rattle.ud_model.specs.sections.Directives.{Content, cut_keyword, directive, text, content_of, role_of, test_of}
 use Rattle.ud_model.specs.conditions.Table.{Argument, Entry, entry_in}
@@ -29,22 +29,17 @@ Fits No b = b ≡ false
 Fits Unknown b = Unit {0}
 
 true_by : (b : Bool) (c : Number) → HasTruth b c → number c ≢ pos 0 → b ≡ true
-true_by true c h n = refl
-true_by false c h n = absurd (n h)
+true_by b c h n = grind arith
 
 false_by : (b : Bool) (c : Number) → HasTruth b c → number c ≡ pos 0 → b ≡ false
-false_by true c h e = absurd (h e)
-false_by false c h e = refl
+false_by b c h e = grind arith
 
 module _ (table : List Argument) where
   tree_fits : (rules : Rules) (e : Expression) (b : Bool) → MayBe table (Some e) b → (c : Cond) → tree_cond e table rules ≡ c → Fits c b
-  tree_fits rules e b h Yes d = true_by b h.0 h.2 (yes_is_true table rules e h.0 d h.1)
-  tree_fits rules e b h No d = false_by b h.0 h.2 (no_is_false table rules e h.0 d h.1)
-  tree_fits rules e b h Unknown d = tt
+  tree_fits rules e b h c d = grind (arith, true_by, yes_is_true, false_by, no_is_false)
 
   tree_if_fits : (rules : Rules) (o : Option Expression) (b : Bool) → MayBe table o b → Fits (tree_cond_if o table rules) b
-  tree_if_fits rules None b h = tt
-  tree_if_fits rules (Some e) b h = tree_fits rules e b h (tree_cond e table rules) refl
+  tree_if_fits rules o b h = grind (arith, tree_fits)
 
   -- The case of `#if` and `#elif`.
   expression_fits : (rules : Rules) (after : List ℕ) (b : Bool) → MayBe table (expression_of after) b → Fits (expression_cond after table rules) b
@@ -61,13 +56,11 @@ module _ (table : List Argument) where
   undefined_is n x e = ap (λ (o : Option Entry). apply_unary false Not (defined_value_by o)) e
 
   value_fits : (v : Option (List ℕ)) (i b : Bool) (c : Number) → number c ≡ truth (is_some v) → HasTruth b c → Fits (ifdef_by (Some (record { value = v; ignoring = i }))).cond b
-  value_fits None i b c e h = false_by b c h e
-  value_fits (Some x) i b c e h = true_by b c h (λ z. cc)
+  value_fits v i b c e h = grind arith
 
   negated_fits : (v : Option (List ℕ)) (i b : Bool) (c : Number) → number c ≡ truth (is_zero (truth (is_some v))) → HasTruth b c →
       Fits (negate (ifdef_by (Some (record { value = v; ignoring = i }))).cond) b
-  negated_fits None i b c e h = true_by b c h (λ z. cc)
-  negated_fits (Some x) i b c e h = false_by b c h e
+  negated_fits v i b c e h = grind arith
 
   entry_fits : (n : List ℕ) (b : Bool) → MayBe table (Some (is_defined n false)) b → (o : Option Entry) → entry_in table n ≡ o → Fits (ifdef_by o).cond b
   entry_fits n b h None e = tt
@@ -82,27 +75,21 @@ module _ (table : List Argument) where
 
   -- The case of `#ifdef`.
   ifdef_fits : (o : Option (List ℕ)) (b : Bool) → MayBe table (option_map (λ n. is_defined n false) o) b → Fits (ifdef_decision o table).cond b
-  ifdef_fits None b h = tt
-  ifdef_fits (Some n) b h = entry_fits n b h (entry_in table n) refl
+  ifdef_fits o b h = grind (arith, entry_fits)
 
   -- The case of `#ifndef`.
   ifndef_fits : (o : Option (List ℕ)) (b : Bool) → MayBe table (option_map (λ n. unary Not (is_defined n false)) o) b → Fits (negate (ifdef_decision o table).cond) b
-  ifndef_fits None b h = tt
-  ifndef_fits (Some n) b h = no_entry_fits n b h (entry_in table n) refl
+  ifndef_fits o b h = grind (arith, no_entry_fits)
 
   test_fits : (rules : Rules) (p : Test) (after : List ℕ) (b : Bool) → MayBe table (condition_by_test p after) b → Fits (decision_by_test p after table rules).cond b
-  test_fits rules Nonzero after b h = expression_fits rules after b h
-  test_fits rules Defined after b h = ifdef_fits (sole_name after) b h
-  test_fits rules Undefined after b h = ifndef_fits (sole_name after) b h
-  test_fits rules Nothing after b h = tt
+  test_fits rules p after b h = grind (arith, expression_fits, ifdef_fits, ifndef_fits)
 
   condition_fits : (rules : Rules) (k : Kind) (after : List ℕ) (b : Bool) → MayBe table (condition_after k after) b → Fits (condition_of k after table rules).cond b
   condition_fits rules k after b h = test_fits rules (test_of k) after b h
 
 -- The case of a directive that a continuation doesn't cut.
 unless_broken : (broken b : Bool) (d : Decision) (i : Bool) → Fits d.cond b → Fits (if broken then undecided else record d { ignoring = i }).cond b
-unless_broken true b d i h = tt
-unless_broken false b d i h = h
+unless_broken broken b d i h = grind arith
 
 -- The opener of an item is decided so.
 abbrev pub ItemFits : Item Reading → Bool → Type 0
@@ -111,17 +98,10 @@ ItemFits (elif_line p) b = Fits p.cond b
 ItemFits _ _ = Unit {0}
 
 directive_fits : (r : Reading) (p : Role) (d : Decision) (b : Bool) → Fits d.cond b → ItemFits (directive_item r p d) b
-directive_fits r ElseGroup d b h = tt
-directive_fits r EndifLine d b h = tt
-directive_fits _ _ _ _ h = h
+directive_fits r p d b h = grind arith
 
 content_fits : (o : Options) (r : Reading) (c : Content) (b : Bool) → r.scan.joins_after ≡ false → MayBe o.table (condition_by r.scan c) b → ItemFits (item_by o r c) b
-content_fits o r (directive d) b j h =
-    directive_fits r (role_of d.kind) (decision_on r.scan d o.table (rules_of o.settings)) b
-    (unless_broken d.broken b (condition_of d.kind d.after o.table (rules_of o.settings)) ((condition_of d.kind d.after o.table (rules_of o.settings)).ignoring && not r.scan.joins_after)
-    (condition_fits o.table (rules_of o.settings) d.kind d.after b
-    (subst (λ (t : Bool). MayBe o.table (if t then None else condition_after d.kind d.after) b) j h)))
-content_fits _ _ _ _ _ _ = tt
+content_fits o r c b j h = grind (arith, directive_fits, unless_broken, condition_fits)
 
 -- A decision on a condition that ends on its line has each truth that C may give it.
 pub item_fits : (o : Options) (r : Reading) (b : Bool) → r.scan.joins_after ≡ false → MayBe o.table (condition_in r) b → ItemFits (item_of o r) b

@@ -35,9 +35,7 @@ pub record Clear (o : Options) (x : Item Reading) (m : Mark) : Type 0 where
 -- 1. Each line of a text without a fault is clear.
 
 alone_by : (d before after k r q : Bool) → (d && (before || after) && k && (not r || q)) ≡ false → d ≡ true → k ≡ true → r ≡ false → after ≡ false
-alone_by d before false k r q e a b c = refl
-alone_by true true true true false q e a b c = cc
-alone_by _ _ true _ _ _ e a b c = cc
+alone_by d before after k r q e a b c = grind arith
 
 pub sound_clear : (o : Options) (xs : List (Item Reading)) (t : Tree Reading) → AreFaultless o xs t → Pairwise (Clear o) xs (marks t)
 sound_clear o _ _ no_lines = tt
@@ -62,13 +60,10 @@ Decided Unknown = ⊥
 Decided _ = Unit {0}
 
 if_moves : (c : Cond) → Decided c → keeps_rest (verdict_so_far [] an_if c) ≡ false
-if_moves Unknown d = absurd d
-if_moves _ _ = refl
+if_moves c d = grind arith
 
 elif_at : (s : Stage) (c : Cond) → Decided c → keeps_rest (verdict_at s an_elif c) ≡ false
-elif_at leading Yes d = refl
-elif_at s Unknown d = absurd d
-elif_at _ _ _ = refl
+elif_at s c d = grind arith
 
 elif_moves : (cs : List Cond) (c : Cond) → Decided c → keeps_rest (verdict_so_far cs an_elif c) ≡ false
 elif_moves cs c d = ap keeps_rest (verdict_by_stage cs an_elif c) ∙ elif_at (stage cs) c d
@@ -93,12 +88,10 @@ module _ (o : Options) (w : World Reading) where
   Right p = AgreesWith w p.cond p.line
 
   agrees_by : (c : Cond) (l : Reading) → Fits c (w l) → AgreesWith w c l
-  agrees_by Unknown l h = tt
-  agrees_by _ _ h = h
+  agrees_by c l h = grind arith
 
   decided_by : (c : Cond) (l : Reading) → (Decided c → AgreesWith w c l) → AgreesWith w c l
-  decided_by Unknown l h = tt
-  decided_by _ _ h = h tt
+  decided_by c l h = grind arith
 
   -- The case of an `#if` that is reached.
   if_right : (p : Opener Reading) → Clear o (if_line p) (marked true (verdict_so_far [] an_if p.cond)) → Possible p → Right p
@@ -112,21 +105,17 @@ module _ (o : Options) (w : World Reading) where
 
   -- A group that is processed is kept.
   kept_by : (cs : List Cond) (c : Cond) (l : Reading) → any_true cs ≡ false → AgreesWith w c l → w l ≡ true → is_kept cs c ≡ true
-  kept_by cs No l e a t = cc
-  kept_by _ _ _ e _ _ = ap not e
+  kept_by cs c l e a t = grind arith
 
   -- An opener that is reached and false isn't decided to be true.
   not_yes : (c : Cond) (l : Reading) → AgreesWith w c l → w l ≡ false → c ≡ Yes → ⊥
-  not_yes Yes l a f e = cc
-  not_yes _ _ _ f e = cc
+  not_yes c l a f e = grind arith
 
   where_none : (b : Bool) (ls : List Reading) → where_true b ls ≡ None → b ≡ false
-  where_none true ls e = cc
-  where_none false ls e = refl
+  where_none b ls e = grind arith
 
   or_none : (s r : Option (List Reading)) → or_else s r ≡ None → (s ≡ None) × (r ≡ None)
-  or_none None r e = (refl, e)
-  or_none (Some x) r e = cc
+  or_none s r e = grind arith
 
   at_kept : (b : Bool) (ns : Nodes Reading) → b ≡ true → Pairwise (Clear o) (lines_of_nodes ns) (nodes_so_far b ns) → Pairwise (Clear o) (lines_of_nodes ns) (nodes_so_far true ns)
   at_kept b ns e h = subst (λ (k : Bool). Pairwise (Clear o) (lines_of_nodes ns) (nodes_so_far k ns)) e h

@@ -66,21 +66,16 @@ module _ (blank : Bool) where
   Held false xs ms = Fits f (judged_lines xs ms)
 
   items_then : (xs ys : List (Item Reading)) (ms ns : List Mark) → length xs ≡ length ms → ItemsFit xs ms → ItemsFit ys ns → ItemsFit (xs ++ ys) (ms ++ ns)
-  items_then xs ys ms ns e a b =
-      subst (Fits f) (sym (judged_more xs ys ms ns e)) (fits-append f (judged_lines xs ms) (judged_lines ys ns) a b)
+  items_then xs ys ms ns e a b = grind (arith, judged_more, fits-append)
 
   held_then : (h : Bool) (xs ys : List (Item Reading)) (ms ns : List Mark) → length xs ≡ length ms → Held h xs ms → ItemsFit ys ns → Held h (xs ++ ys) (ms ++ ns)
-  held_then false xs ys ms ns e a b = items_then xs ys ms ns e a b
-  held_then true xs ys ms ns e a b =
-      subst (Loose f) (sym (judged_more xs ys ms ns e)) (loose_fits f (judged_lines xs ms) (judged_lines ys ns) a b)
+  held_then h xs ys ms ns e a b = grind (arith, items_then, judged_more, loose_fits)
 
   then_loose : (xs ys : List (Item Reading)) (ms ns : List Mark) → length xs ≡ length ms → ItemsFit xs ms → Loose f (judged_lines ys ns) → Loose f (judged_lines (xs ++ ys) (ms ++ ns))
-  then_loose xs ys ms ns e a b =
-      subst (Loose f) (sym (judged_more xs ys ms ns e)) (fits_loose f (judged_lines xs ms) (judged_lines ys ns) a b)
+  then_loose xs ys ms ns e a b = grind (arith, judged_more, fits_loose)
 
   keeps_mark : (kept : Bool) (v : Verdict) → KeepsOrGoes v → KeepsOrGoes (marked kept v).verdict
-  keeps_mark true v h = h
-  keeps_mark false v h = tt
+  keeps_mark kept v h = grind arith
 
   -- A line that stays or is removed fits.
   one_fits : (x : Item Reading) (kept : Bool) (v : Verdict) → KeepsOrGoes v → ItemsFit (x ∷ []) (marked kept v ∷ [])
@@ -97,8 +92,7 @@ module _ (blank : Bool) where
   fits_to_loose js a = subst (Loose f) (append-nil js) (fits_loose f js [] a (record { bound = omega arith }))
 
   to_held : (now : Bool) (xs : List (Item Reading)) (ms : List Mark) → ItemsFit xs ms → Held now xs ms
-  to_held false xs ms a = a
-  to_held true xs ms a = fits_to_loose (judged_lines xs ms) a
+  to_held now xs ms a = grind (arith, fits_to_loose)
 
   -- The case of an opener after the first.
   opener_step : (xs : List (Item Reading)) (ms : List Mark) (x : Item Reading) (was now : Bool) (v : Verdict) → length xs ≡ length ms → HasWord (reading_of x) 4 →
@@ -146,9 +140,7 @@ module _ (blank : Bool) where
       length xs ≡ length ms → HasWord (reading_of x) 4 → Held (kept && is_past cs) xs ms → ItemsFit ys ns →
       Held (kept && is_past (cs ++ c ∷ [])) ((xs ++ x ∷ []) ++ ys) ((ms ++ marked kept (verdict_so_far cs part c) ∷ []) ++ ns)
   group_held kept cs part c xs ms x ys ns e w a b =
-      let m : Mark = marked kept (verdict_so_far cs part c) in
-      held_then (kept && is_past (cs ++ c ∷ [])) (xs ++ x ∷ []) ys (ms ++ m ∷ []) ns (more_long xs ms x m e)
-      (opener_any kept xs ms x (is_past cs) (is_past (cs ++ c ∷ [])) (verdict_so_far cs part c) e w (opener_moves cs part c) a) b
+      grind (arith, held_then, more_long, opener_any, opener_moves)
 
   -- The case of nodes, and then a section.
   section_fits : (kept past : Bool) (xs ys : List (Item Reading)) (ms ns : List Mark) (l : Reading) (v : Verdict) → length xs ≡ length ms → length ys ≡ length ns →
@@ -207,9 +199,7 @@ lone blank true j = piece_alone blank (complemented j)
 lone blank false j = piece_alone blank j
 
 piece_lone : (b c n : Bool) (before : List Judged) (j : Judged) → n ≡ false → piece_after (record { blank = b; complement = c; renumber = n }) before j ≡ lone b c j
-piece_lone b c true before j e = cc
-piece_lone b true false before j e = refl
-piece_lone b false false before j e = refl
+piece_lone b c n before j e = grind arith
 
 -- If lines aren't numbered, each is printed by itself.
 pub pieces_lone : (b c n : Bool) (before js : List Judged) → n ≡ false → pieces_by (piece_after (record { blank = b; complement = c; renumber = n })) before js ≡ map (lone b c) js
@@ -269,8 +259,7 @@ no_innermost ns (open_section ms t k) h e = no_innermost ms k t e
 
 -- If a text ends without a fault, it ends in no comment, and no section is open.
 pub end_parts : (c : Bool) (n : ℕ) (o : Option (Opener Reading)) → end_by c n o ≡ None → (c ≡ false) × (o ≡ None)
-end_parts false n None e = (refl, refl)
-end_parts _ n _ e = cc
+end_parts c n o e = grind arith
 
 module _ (o : Options) (n : o.settings.renumber ≡ false) (off : o.settings.listing ≡ Off) (input : List ℕ) where
   tree_differs : (xs : List (Item Reading)) (t : Tree Reading) → innermost t ≡ None → Each HasKeyword xs → lines t ≡ xs → map line_of xs ≡ lines_of input →
@@ -282,8 +271,4 @@ module _ (o : Options) (n : o.settings.renumber ≡ false) (off : o.settings.lis
 
   -- Some line differs exactly if the output isn't the input.
   pub changed : {r : Outcome} → HasOutcome o input r → r.fault ≡ None → r.differs ≡ not (bytes_eq r.output input)
-  changed (ran_as (stops xs t f s)) e = cc
-  changed (ran_as (ends xs t g)) e =
-      ap (λ (q : Listing). differs_by q o.settings xs t) off
-      ∙ tree_differs xs t (end_parts (ends_in_comment xs) (last_number xs) (innermost t) e).1 (keywords g.sound) (sound_lines g.sound) (sym g.are)
-      ∙ ap (λ (q : Listing). not (bytes_eq (output_by q o.settings xs t) input)) (sym off)
+  changed h e = grind (arith, tree_differs, end_parts, keywords, sound_lines)

@@ -1,6 +1,6 @@
 -- Chosen worlds: the truths that numbers for the uses of the open names give the conditions of the
 -- input are those of the simplified output.
-use Rattle.std.proofs.Common.{◌≡◌, ◌≢◌, ℕ, List, map, length, Bool, Option, Some, None, refl, sym, ◌∙◌, ap}
+use Rattle.std.proofs.Common.{◌≡◌, ◌≢◌, ℕ, List, map, length, Bool, Option, Some, None, refl, sym, ◌∙◌, ap, arith}
 use Rattle.std.proofs.lemmas.List.{length-map}
 use Rattle.ud_model.specs.text.Scans.{Reading}
 use Rattle.ud_model.specs.conditions.Table.{Argument}
@@ -28,8 +28,7 @@ use Rattle.ud_model.proofs.output.SimplifiedAnswers.{nodes_alike, nodes_simplifi
 
 -- A condition that some numbers give a truth may have this truth in C.
 chosen_may : (table : List Argument) (e : Option Expression) (b : Bool) → IsChosen table e b → MayBe table e b
-chosen_may table None b h = tt
-chosen_may table (Some e) b h = (h.2, choice_may table e h.0 h.2 h.1 h.3, h.4)
+chosen_may table e b h = grind (arith, choice_may)
 
 module _ (table : List Argument) (w : World Reading) where
   abbrev Chosen : Opener Reading → Type 0

@@ -41,15 +41,7 @@ use Rattle.ud_model.proofs.output.Inserting.{Weave, line_behind, with_line, are_
 module _ (o : Options) (xs : List (Item Reading)) (t : Tree Reading) (ys : List (Item Reading)) where
   -- After a removed line the output ends between lines.
   rests_after : (m : Mode) → Between o m xs t ys → ends_removed (marks t) ≡ true → LeavesOff ys in_text true false
-  rests_after m b e = by_carry b.carry
-    where
-      stayed : (on : Bool) → (on ≡ true → ends_removed (marks t) ≡ false) → on ≡ false
-      stayed true f = let p : true ≡ false = sym e ∙ f refl in cc
-      stayed false f = refl
-
-      by_carry : Carry (ends_removed (marks t)) xs ys → LeavesOff ys in_text true false
-      by_carry (alike w white on a c f r) = (r (stayed on f)).off
-      by_carry (gone w white a r g) = r.off
+  rests_after m b e = grind arith
 
   -- It does so where a line is removed, too.
   rests_at : (m : Mode) (b : Between o m xs t ys) (l : Line) (u : Tree Reading) → IsLine l → (k : More o m xs t l u) → k.grown.mark.verdict ≡ Remove → LeavesOff ys in_text true false
@@ -87,10 +79,7 @@ module _ (o : Options) (m : Mode) (xs : List (Item Reading)) (x : Item Reading) 
   -- Nothing is added for it.
   same_items : mark.verdict ≡ Remove → zs ≡ ys
   unfolding bytes_of
-  same_items e =
-      read_once o m zs ys b.read a.read
-      (lines_next ∙ ap (λ (v : Verdict). numbered_from 1 (bytes_of ys ++ map edited_piece (kept_line v x))) e
-      ∙ ap (λ (bs : List (List ℕ)). numbered_from 1 bs) (append-nil (bytes_of ys)) ∙ sym a.numbered)
+  same_items e = grind (arith, read_once, lines_next, append-nil)
 
   -- Its piece is added.
   one_more_item : IsLeft mark.verdict → zs ≡ with_line o m ys (line_behind (bytes_of ys) (piece_by mark.verdict (keyword_in (content_of (reading_of x).scan)) (line_of x)))
@@ -128,14 +117,11 @@ formed_last : (qs : List (List ℕ)) (q : List ℕ) → AreWhole qs → IsUnterm
 formed_last qs q a w = subst (λ (rs : List (List ℕ)). AreFormed (qs ++ rs)) (last_line-some q w.0) (formed qs q a w.1)
 
 feed_end : (e : List ℕ) → IsEnd e ⊎ (e ≡ []) → IsEnd (ending_or_newline e)
-feed_end e (inl (inl h)) = subst (λ (x : List ℕ). IsEnd (ending_or_newline x)) (sym h) (inl refl)
-feed_end e (inl (inr h)) = subst (λ (x : List ℕ). IsEnd (ending_or_newline x)) (sym h) (inr refl)
-feed_end e (inr h) = subst (λ (x : List ℕ). IsEnd (ending_or_newline x)) (sym h) (inr refl)
+feed_end e h = grind arith
 
 -- The ending of a line that was cut from a text.
 ends_or_not : (l : Line) → IsLine l → IsEnd l.ending ⊎ (l.ending ≡ [])
-ends_or_not l (n, t, e, inl w) = inl (subst IsEnd (sym (ap (λ (k : Line). k.ending) e)) (whole_ending t w))
-ends_or_not l (n, t, e, inr w) = inr (ap (λ (k : Line). k.ending) e ∙ ending_none t w.1)
+ends_or_not l h = grind arith
 
 piece_whole : (v : Verdict) (k : Span) (l : Line) → IsLine l → HasEnd l → IsLeft v → IsWhole (piece_by v k l)
 piece_whole v k l (n, t, e, inl w) h left = subst (λ (j : Line). IsWhole (piece_by v k j)) (sym e) (whole_piece v k n t left w)
@@ -145,8 +131,7 @@ some_ending : (t : List ℕ) → IsWhole t → ending_of t ≢ []
 some_ending t w = end_is_some (ending_of t) (whole_ending t w)
 
 piece_unended : (v : Verdict) (k : Span) (l : Line) → IsLine l → l.ending ≡ [] → IsLeft v → IsUnterminated (piece_by v k l)
-piece_unended v k l (n, t, e, inl w) h left = absurd (some_ending t w (sym (ap (λ (k : Line). k.ending) e) ∙ h))
-piece_unended v k l (n, t, e, inr w) h left = subst (λ (j : Line). IsUnterminated (piece_by v k j)) (sym e) (unended_piece v k n t left w)
+piece_unended v k l h g left = grind (arith, k, left, some_ending, unended_piece)
 
 quiet_by : (l k : Line) → l ≡ k → IsQuiet k → IsQuiet l
 quiet_by l k e q = subst IsQuiet (sym e) q
@@ -187,18 +172,7 @@ module _ (o : Options) (m : Mode) (b n : Bool) (some : (b || n) ≡ true) where
     pub counted : Counted (so_far xs t) (map reading_of ys) (map reading_of zs) next
 
   pub done : (xs : List (Item Reading)) (t : Tree Reading) → State xs t → Done xs t
-  done xs t s = record {
-    ys = s.ys;
-    again = s.between.again;
-    zs = s.zs;
-    read = s.weave.read;
-    qs = s.qs;
-    formed = formed_all s.qs s.whole;
-    are = s.weave.are;
-    same = s.same;
-    next = s.next;
-    counted = s.counted;
-  }
+  done xs t s = grind (arith, formed, formed_all)
 
   pub first_state : State [] (closed nothing)
   first_state = record {
@@ -343,10 +317,7 @@ module _ (o : Options) (m : Mode) (b n : Bool) (some : (b || n) ≡ true) where
 
     counted_here : (h : IsLeft v) (r : Ready) →
         Counted (so_far (xs ++ x ∷ []) u) (map reading_of (with_line o m s.ys (line_behind (bytes_of s.ys) p))) (map reading_of (with_line o m r.zs (line_behind r.qs p))) (suc j.line.number)
-    counted_here h r =
-        subst (λ (rs : List Reading). Counted (so_far (xs ++ x ∷ []) u) rs (map reading_of (with_line o m r.zs (line_behind r.qs p))) (suc j.line.number)) (sym (readings_last o s.ys s.ys m (line_behind (bytes_of s.ys) p)))
-        (subst (λ (rs : List Reading). Counted (so_far (xs ++ x ∷ []) u) (map reading_of s.ys ++ read_after s.ys m (line_behind (bytes_of s.ys) p) ∷ []) rs (suc j.line.number)) (sym (readings_last o r.zs r.zs m (line_behind r.qs p)))
-        (r.count (read_after s.ys m (line_behind (bytes_of s.ys) p)) (read_after r.zs m (line_behind r.qs p)) (printed_here h r)))
+    counted_here h r = grind (arith, readings_last, printed_here)
 
     items_left : IsLeft v → stepped.0 ≡ with_line o m s.ys (line_behind (bytes_of s.ys) p)
     items_left h = one_more_item o m xs x t u s.ys stepped.0 k.grown.mark k.more k.long s.between.again stepped.1 h
@@ -403,8 +374,7 @@ module _ (o : Options) (m : Mode) (b n : Bool) (some : (b || n) ≡ true) where
     same_gone g = s.same ∙ sym (append-nil (shown (so_far xs t))) ∙ ap (λ (c : List ℕ). shown (so_far xs t) ++ c) (sym g) ∙ sym shown_u
 
     not_blank : b ≡ false → v ≡ Remove → (b ≡ true) ⊎ (ends_removed (marks u) ≡ false) → ⊥
-    not_blank f g (inl h) = let w : true ≡ false = sym h ∙ f in cc
-    not_blank f g (inr h) = let w : true ≡ false = sym (removed_u g) ∙ h in cc
+    not_blank f g h = grind (arith, removed_u)
 
     gone_state : HasEnd l → v ≡ Remove → State (xs ++ x ∷ []) u
     gone_state end f = by_style b refl
@@ -437,8 +407,7 @@ module _ (o : Options) (m : Mode) (b n : Bool) (some : (b || n) ≡ true) where
             }
           where
             has_end : IsEnd l.ending ⊎ (l.ending ≡ []) → IsEnd l.ending
-            has_end (inl h) = h
-            has_end (inr h) = absurd (end h)
+            has_end h = grind arith
 
         by_style : (c : Bool) → b ≡ c → State (xs ++ x ∷ []) u
         by_style true g = put_blank g

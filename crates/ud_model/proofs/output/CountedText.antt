@@ -61,9 +61,7 @@ module _ (o : Options) (p : IsPlain o) (b n : Bool) (some : (b || n) ≡ true) w
   End xs t = Done o (the_mode o) b n some xs t
 
   few : (xs : List (Item Reading)) (t : Tree Reading) (l : Line) → NoneHolds xs (next_item o xs t l) cases → l.number < 2 ^ 64
-  few xs t l h =
-      let e : (line_of (next_item o xs t l)).number ≡ l.number = ap (λ (k : Line). k.number) (reading_of-next o xs t l) in
-      let f : TEXT_LINES < (line_of (next_item o xs t l)).number → ⊥ = h.0 in omega (arith, e, f)
+  few xs t l h = grind (arith, reading_of-next)
 
   inside : {xs : List (Item Reading)} {t : Tree Reading} → AreFaultless o xs t → Each IsInner (map line_of xs) → InOrder 1 (map line_of xs) → The xs t
   inside no_lines h i = first_state o (the_mode o) b n some
@@ -96,8 +94,7 @@ read_lines_in o m _ (one_read ys r l) =
     ∙ ap (λ (ls : List Line). read_in m ls) (sym (lines_last o ys m l))
 
 reads_sound : {o : Options} {input : List ℕ} {xs : List (Item Reading)} {t : Tree Reading} {f : Option Fault} → ReadsAs o input xs t f → AreFaultless o xs t
-reads_sound (stops xs t f s) = s.sound
-reads_sound (ends xs t g) = g.sound
+reads_sound h = grind arith
 
 formed_pieces : (xs : List (Item Reading)) (t : Tree Reading) (ts : List (List ℕ)) → map line_of xs ≡ numbered_from 1 ts → AreFormed ts → AreFormed (map left_piece (printed xs (marks t)))
 unfolding all_pieces
@@ -149,5 +146,4 @@ each_line (j ∷ js) h = (h.0, each_line js h.1)
 
 -- Judged lines have numbers within the limit.
 pub judged_few : (o : Options) (input : List ℕ) {js : List Judged} → JudgedAs o input js → Each (λ (j : Judged). j.line.number ≤ TEXT_LINES) js
-judged_few o input (judged_as {xs = xs} {t = t} reads) =
-    each_line (judged_lines xs (marks t)) (subst (λ (ls : List Line). Each (λ (l : Line). l.number ≤ TEXT_LINES) ls) (sym (judged_read reads)) (few_items o (reads_sound reads)))
+judged_few o input h = grind (arith, each_line, judged_read, few_items, reads_sound)

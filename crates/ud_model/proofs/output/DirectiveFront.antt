@@ -57,36 +57,14 @@ directive_front scan d e =
 
 -- A property of each byte that is white.
 pub each_white : (P : ℕ → Type 0) → P 32 → P 9 → P 11 → P 12 → P 13 → (b : ℕ) → is_white b ≡ true → P b
-each_white P p q r s t b e = go (or_cases ((b == 32) || (b == 9) || (b == 11) || (b == 12)) (b == 13) e)
-  where
-    at : (n : ℕ) → P n → (b == n) ≡ true → P b
-    at n h f = subst P (sym (eqb-true b n f)) h
-
-    go4 : (b == 32 ≡ true) ⊎ (b == 9 ≡ true) → P b
-    go4 (inl f) = at 32 p f
-    go4 (inr f) = at 9 q f
-
-    go3 : (((b == 32) || (b == 9)) ≡ true) ⊎ (b == 11 ≡ true) → P b
-    go3 (inl f) = go4 (or_cases (b == 32) (b == 9) f)
-    go3 (inr f) = at 11 r f
-
-    go2 : (((b == 32) || (b == 9) || (b == 11)) ≡ true) ⊎ (b == 12 ≡ true) → P b
-    go2 (inl f) = go3 (or_cases ((b == 32) || (b == 9)) (b == 11) f)
-    go2 (inr f) = at 12 s f
-
-    go : (((b == 32) || (b == 9) || (b == 11) || (b == 12)) ≡ true) ⊎ (b == 13 ≡ true) → P b
-    go (inl f) = go2 (or_cases ((b == 32) || (b == 9) || (b == 11)) (b == 12) f)
-    go (inr f) = at 13 t f
+each_white P p q r s t b e = grind arith
 
 -- The byte begins no comment and no literal.
 abbrev is_inert : ℕ → Bool
 is_inert c = not (c == slash) && not (is_quote c) && not (c == newline)
 
 inert_byte : (c : ℕ) → is_inert c ≡ true → IsInert c
-inert_byte c e =
-    let q : ((not (c == slash) && not (is_quote c)) ≡ true) × (not (c == newline) ≡ true) = and_parts (not (c == slash) && not (is_quote c)) (not (c == newline)) e in
-    let r : (not (c == slash) ≡ true) × (not (is_quote c) ≡ true) = and_parts (not (c == slash)) (not (is_quote c)) q.0 in
-    record { no_slash = not-true (c == slash) r.0; no_quote = not-true (is_quote c) r.1; no_newline = not-true (c == newline) q.1 }
+inert_byte c e = grind arith
 
 -- Each of the bytes begins no comment and no literal.
 abbrev pub are_inert : List ℕ → Bool
@@ -108,11 +86,7 @@ are_quiet [] = true
 are_quiet (c ∷ w) = is_quiet c && are_quiet w
 
 quiet_inert : (c : ℕ) → is_quiet c ≡ true → IsInert c × (c ≢ space)
-quiet_inert c e =
-    let p : (is_inert c ≡ true) × (not (c == space) ≡ true) = and_parts (is_inert c) (not (c == space)) e in (
-      inert_byte c p.0,
-      λ h. let f : true ≡ false = sym (ap (λ (x : ℕ). x == space) h) ∙ not-true (c == space) p.1 in cc,
-    )
+quiet_inert c e = grind arith
 
 -- Such bytes begin nothing, and none is a space.
 pub quiet_word : (w : List ℕ) → are_quiet w ≡ true → Each IsInert w × Each (λ c. c ≢ space) w
@@ -137,8 +111,7 @@ starts_dark [] = false
 starts_dark (c ∷ w) = not (is_white c)
 
 dark_by : (w : List ℕ) → starts_dark w ≡ true → StartsDark w
-dark_by [] e = cc
-dark_by (c ∷ w) e = not-true (is_white c) e
+dark_by w e = grind arith
 
 -- A keyword's first byte isn't white.
 pub keyword_dark : (w : List ℕ) (k : Kind) → kind_of w ≡ Some k → StartsDark w

@@ -1,6 +1,6 @@
 -- The scan of an edited line: before the keyword of a directive no comment and no literal is open.
 -- So another keyword in its place changes nothing of what follows.
-use Rattle.std.proofs.Common.{◌≡◌, ℕ, ◌==◌, List, [], ◌∷◌, ◌++◌, Bool, true, false, ◌||◌, if◌then◌else◌, refl, sym, ◌∙◌, ap, append-nil, append_assoc, ◌⊎◌, inl, inr}
+use Rattle.std.proofs.Common.{◌≡◌, ℕ, ◌==◌, List, [], ◌∷◌, ◌++◌, Bool, true, false, ◌||◌, if◌then◌else◌, refl, sym, ◌∙◌, ap, append-nil, append_assoc, ◌⊎◌, inl, inr, arith}
 use Rattle.std.proofs.Math.Bool.{or-true, or_assoc}
 use Rattle.ud_model.specs.text.Bytes.{slash, star, space, newline, backslash, is_quote}
 use Rattle.ud_model.specs.aids.LexStates.{LexState, in_text, at_slash, in_block, at_star, in_line, in_literal, at_backslash, next_state, opens_comment, masked_byte, stays_white, blank_last}
@@ -27,8 +27,7 @@ abbrev blanked : Bool → ℕ → ℕ
 blanked o c = if o then space else c
 
 blank_by : (o : Bool) (m : List ℕ) (c : ℕ) → (if o then blank_last (m ++ c ∷ []) else m ++ c ∷ []) ≡ m ++ blanked o c ∷ []
-blank_by true m c = blank_last-last m c
-blank_by false m c = refl
+blank_by o m c = grind (arith, blank_last-last)
 
 -- In the masked text only the last byte may still change.
 pub masked_front : (bytes : List ℕ) (w : LexState) (m : List ℕ) (c : ℕ) → masked_after w (m ++ c ∷ []) bytes ≡ m ++ masked_after w (c ∷ []) bytes
@@ -89,9 +88,7 @@ Shown (at_backslash q) m = has_quote m ≡ true
 Shown _ _ = Unit {0}
 
 shown_quoted : (w : LexState) (m : List ℕ) → Shown w m → Quoted w m
-shown_quoted (in_literal q) m h = h
-shown_quoted (at_backslash q) m h = h
-shown_quoted _ _ _ = tt
+shown_quoted w m h = grind arith
 
 quote_behind : (m : List ℕ) (b : ℕ) → is_quote b ≡ true → has_quote (m ++ b ∷ []) ≡ true
 quote_behind m b e = quote-append m (b ∷ []) ∙ ap (λ (t : Bool). has_quote m || (t || false)) e ∙ or-true (has_quote m)
@@ -100,36 +97,26 @@ quote_before : (m : List ℕ) (b : ℕ) → has_quote m ≡ true → has_quote (
 quote_before m b e = quote-append m (b ∷ []) ∙ ap (λ (t : Bool). t || has_quote (b ∷ [])) e
 
 from_text : (s q : Bool) (m : List ℕ) (b : ℕ) → (b == slash) ≡ s → is_quote b ≡ q → Shown (if s then at_slash else if q then in_literal b else in_text) (m ++ b ∷ [])
-from_text true q m b e f = slash-last m b ∙ e
-from_text false true m b e f = quote_behind m b f
-from_text false false m b e f = tt
+from_text s q m b e f = grind (arith, slash-last, quote_behind)
 
 from_slash : (t s q : Bool) (m : List ℕ) (b : ℕ) → (b == star) ≡ t → (b == slash) ≡ s → is_quote b ≡ q →
     Shown (if t then in_block else if s then in_line else if q then in_literal b else in_text) ((if t || s then blank_last m else m) ++ (if t then space else if s then space else b) ∷ [])
-from_slash false false true m b e f g = quote_behind m b g
-from_slash _ _ _ _ _ _ _ _ = tt
+from_slash t s q m b e f g = grind (arith, quote_behind)
 
 from_block : (t : Bool) (m : List ℕ) → Shown (if t then at_star else in_block) m
-from_block true m = tt
-from_block false m = tt
+from_block t m = grind arith
 
 from_star : (s t : Bool) (m : List ℕ) → Shown (if s then in_text else if t then at_star else in_block) m
-from_star true t m = tt
-from_star false true m = tt
-from_star false false m = tt
+from_star s t m = grind arith
 
 from_line : (t : Bool) (m : List ℕ) → Shown (if t then in_text else in_line) m
-from_line true m = tt
-from_line false m = tt
+from_line t m = grind arith
 
 from_literal : (q : ℕ) (f s t : Bool) (m : List ℕ) → has_quote m ≡ true → Shown (if f then in_text else if s then in_text else if t then at_backslash q else in_literal q) m
-from_literal q false false true m h = h
-from_literal q false false false m h = h
-from_literal _ _ _ _ _ _ = tt
+from_literal q f s t m h = grind arith
 
 from_backslash : (q : ℕ) (f : Bool) (m : List ℕ) → has_quote m ≡ true → Shown (if f then in_text else in_literal q) m
-from_backslash q true m h = tt
-from_backslash q false m h = h
+from_backslash q f m h = grind arith
 
 shown_step : (w : LexState) (m : List ℕ) (b : ℕ) → Quoted w m → Shown (next_state w b) ((if opens_comment w b then blank_last m else m) ++ masked_byte w b ∷ [])
 shown_step in_text m b h = from_text (b == slash) (is_quote b) m b refl refl

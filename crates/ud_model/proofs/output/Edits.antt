@@ -30,17 +30,11 @@ ends_behind (No ∷ cs) c e = ends_behind cs c e
 ends_behind (Unknown ∷ cs) c e = ends_behind cs c e
 
 later_moves : (part : Part) (c : Cond) (now : Bool) → Moves false (later_verdict part c) now
-later_moves an_if Yes now = tt
-later_moves an_elif Yes now = tt
-later_moves an_else Yes now = tt
-later_moves part No now = tt
-later_moves part Unknown now = tt
+later_moves part c now = grind arith
 
 unknown_moves : (part : Part) (c : Cond) (some ends now_some now_ends : Bool) → (some ≡ true → (now_some ≡ true) × (now_ends ≡ false)) →
     Moves (some && not ends) (if not some then later_verdict part c else if ends then ToEndif else Remove) (now_some && not now_ends)
-unknown_moves part c false ends now_some now_ends h = later_moves part c (now_some && not now_ends)
-unknown_moves part c true true now_some now_ends h = ap₂ (λ (a b : Bool). a && not b) (h refl).0 (h refl).1
-unknown_moves part c true false now_some now_ends h = (refl, ap₂ (λ (a b : Bool). a && not b) (h refl).0 (h refl).1)
+unknown_moves part c some ends now_some now_ends h = grind arith
 
 -- Each opener does so.
 pub opener_moves : (cs : List Cond) (part : Part) (c : Cond) → Moves (is_past cs) (verdict_so_far cs part c) (is_past (cs ++ c ∷ []))
@@ -55,9 +49,7 @@ opener_moves (Unknown ∷ cs) part c =
     unknown_moves part c (any_true cs) (ends_with_first_true cs) (any_true (cs ++ c ∷ [])) (ends_with_first_true (cs ++ c ∷ [])) (λ e. ends_behind cs c e)
 
 past_by : (g a e : Bool) → (not g && a && not e) ≡ true → (if g then Remove else if not a then Keep else if e then Keep else Remove) ≡ Remove
-past_by false true true h = cc
-past_by false false e h = cc
-past_by _ _ _ _ = refl
+past_by g a e h = grind arith
 
 -- After such a group the `#endif` is removed.
 pub endif_past : (cs : List Cond) → is_past cs ≡ true → endif_verdict cs ≡ Remove
@@ -70,10 +62,7 @@ KeepsOrGoes Remove = Unit {0}
 KeepsOrGoes _ = ⊥
 
 endif_by : (g a e : Bool) → KeepsOrGoes (if g then Remove else if not a then Keep else if e then Keep else Remove)
-endif_by true a e = tt
-endif_by false false e = tt
-endif_by false true true = tt
-endif_by false true false = tt
+endif_by g a e = grind arith
 
 -- Each `#endif` stays or is removed.
 pub endif_keeps : (cs : List Cond) → KeepsOrGoes (endif_verdict cs)
@@ -81,17 +70,14 @@ endif_keeps cs = endif_by (gives_way cs) (any_true cs) (ends_with_first_true cs)
 
 -- The first opener stays or is removed.
 pub if_keeps : (c : Cond) → KeepsOrGoes (verdict_so_far [] an_if c)
-if_keeps Yes = tt
-if_keeps _ = tt
+if_keeps c = grind arith
 
 -- A removed line leaves its ending at most.
 pub removed_size : (blank : Bool) (k : Span) (l : Line) → length (piece_alone blank (record { line = l; verdict = Remove; keyword = k })) + length l.body ≤ length (text_of l)
-removed_size true k l = let a : length (l.body ++ l.ending) ≡ length l.body + length l.ending = length-append l.body l.ending in omega arith
-removed_size false k l = let a : length (l.body ++ l.ending) ≡ length l.body + length l.ending = length-append l.body l.ending in omega arith
+removed_size blank k l = grind (arith, length-append)
 
 kept_size : (blank : Bool) (k : Span) (l : Line) → length (piece_alone blank (record { line = l; verdict = Keep; keyword = k })) ≡ length (text_of l)
-kept_size true k l = refl
-kept_size false k l = refl
+kept_size blank k l = grind arith
 
 pub keeps_size : (blank : Bool) (v : Verdict) (k : Span) (l : Line) → KeepsOrGoes v → length (piece_alone blank (record { line = l; verdict = v; keyword = k })) ≤ length (text_of l)
 keeps_size blank Keep k l h = let e = kept_size blank k l in omega (arith, e)
@@ -104,31 +90,21 @@ AtMost ToEndif n m = n ≤ suc m
 AtMost _ n m = n ≤ m
 
 fits_by : (a b c : List ℕ) (t u : Bool) (n : ℕ) → (t ≡ true → length a ≤ n) → (u ≡ true → length b ≤ n) → length c ≤ n → length (if t then a else if u then b else c) ≤ n
-fits_by a b c true u n f g h = f refl
-fits_by a b c false true n f g h = g refl
-fits_by a b c false false n f g h = h
+fits_by a b c t u n f g h = grind arith
 
 -- The keyword of a first directive isn't longer than a keyword of four bytes at least, which it
 -- replaces.
 if_size : (n : ℕ) → 4 ≤ n → length (opener_keyword n) ≤ n
-if_size n h =
-    fits_by _ _ _ (n == 7) (n == 8) n (λ e. let q : n ≡ 7 = eqb-true n 7 e in omega (arith, q)) (λ e. let q : n ≡ 8 = eqb-true n 8 e in omega (arith, q)) h
+if_size n h = grind arith
 
 -- The case of a directive whose keyword has four bytes at least.
 pub edited_size : (blank : Bool) (v : Verdict) (k : Span) (l : Line) → 4 ≤ k.len → k.at + k.len ≤ length l.body →
     AtMost v (length (piece_alone blank (record { line = l; verdict = v; keyword = k }))) (length (text_of l))
-edited_size blank Keep k l e h = keeps_size blank Keep k l tt
-edited_size blank Remove k l e h = keeps_size blank Remove k l tt
-edited_size true ToIf k l e h = simp (length-append, length-take, length-drop) (omega (arith, if_size k.len e))
-edited_size false ToIf k l e h = simp (length-append, length-take, length-drop) (omega (arith, if_size k.len e))
-edited_size true ToElse k l e h = simp (length-append, length-take) (omega arith)
-edited_size false ToElse k l e h = simp (length-append, length-take) (omega arith)
-edited_size true ToEndif k l e h = simp (length-append, length-take) (omega arith)
-edited_size false ToEndif k l e h = simp (length-append, length-take) (omega arith)
+edited_size blank v k l e h =
+    grind (arith, keeps_size, length-append, length-take, length-drop, if_size)
 
 turned_by : (blank : Bool) (r : Bool) (k : Span) (l : Line) → length (piece_alone blank (record { line = l; verdict = if r then Keep else Remove; keyword = k })) ≤ length (text_of l)
-turned_by blank true k l = keeps_size blank Keep k l tt
-turned_by blank false k l = keeps_size blank Remove k l tt
+turned_by blank r k l = grind (arith, keeps_size)
 
 -- A complemented line doesn't grow.
 pub turned_size : (blank : Bool) (j : Judged) → length (piece_alone blank (complemented j)) ≤ length (whole j)

@@ -15,8 +15,7 @@ use Rattle.ud_model.proofs.output.Each.{Each}
 use Rattle.ud_model.proofs.output.DirectiveFront.{IsWhite, Front, directive_front, StartsDark}
 
 past_dark : (t : List ℕ) → StartsDark t → skip_white t ≡ t
-past_dark [] d = absurd d
-past_dark (b ∷ t) d = ap (λ (w : Bool). if w then skip_white t else b ∷ t) d
+past_dark t d = grind arith
 
 past_all : (ws t : List ℕ) → Each IsWhite ws → StartsDark t → skip_white (ws ++ t) ≡ t
 past_all [] t h d = past_dark t d
@@ -28,28 +27,21 @@ abbrev pub Settled : Scan → List ℕ → Type 0
 Settled now tail = (now.joins_after ≡ false) ⊎ (may_split_keyword now tail ≡ false)
 
 uncut : (f j c l : Bool) → (j ≡ false) ⊎ (l ≡ false) → (f && j && c && l) ≡ false
-uncut true true true true (inl e) = e
-uncut true true true true (inr e) = e
-uncut _ _ _ _ _ = refl
+uncut f j c l h = grind arith
 
 module _ (now : Scan) (ws gs tail : List ℕ) (k : Kind) (w : Each IsWhite ws) (g : Each IsWhite gs) (d : StartsDark tail) (m : now.masked ≡ (ws ++ 35 ∷ gs) ++ tail)
     (f : now.fresh ≡ true) (s : Settled now tail) (kind : kind_of (leading_word tail) ≡ Some k) where
   sign_is : skip_white_and_hash now.masked ≡ Some (gs ++ tail)
-  sign_is =
-      ap skip_white_and_hash (m ∙ append_assoc ws (35 ∷ gs) tail) ∙ ap skip_hash (past_all ws (35 ∷ (gs ++ tail)) w refl)
+  sign_is = grind (arith, append_assoc, past_all)
 
   tail_is : skip_white (gs ++ tail) ≡ tail
   tail_is = past_all gs tail g d
 
   not_cut : has_split_keyword now (skip_white_and_hash now.masked) ≡ false
-  not_cut =
-      ap (λ (o : Option (List ℕ)). has_split_keyword now o) sign_is
-      ∙ ap (λ (t : List ℕ). now.fresh && now.joins_after && not (is_in_line now.comment) && may_split_keyword now t) tail_is
-      ∙ uncut now.fresh now.joins_after (not (is_in_line now.comment)) (may_split_keyword now tail) s
+  not_cut = grind (arith, sign_is, tail_is, uncut)
 
   at_is : length now.masked - length tail ≡ length (ws ++ 35 ∷ gs)
-  at_is =
-      let l : length now.masked ≡ length (ws ++ 35 ∷ gs) + length tail = ap (λ (t : List ℕ). length t) m ∙ length-append (ws ++ 35 ∷ gs) tail in omega (arith, l)
+  at_is = grind (arith, length-append)
 
   -- A line with this masked text has this directive.
   pub carries : content_of now ≡ directive (record {
@@ -58,12 +50,7 @@ module _ (now : Scan) (ws gs tail : List ℕ) (k : Kind) (w : Each IsWhite ws) (
     after = skip_word tail;
     broken = is_continued_outside_comment now;
   })
-  carries =
-      ap (λ (t : Bool). if t then cut_keyword else content_after_hash now (skip_white_and_hash now.masked)) not_cut
-      ∙ ap (λ (o : Option (List ℕ)). content_after_hash now o) sign_is
-      ∙ ap₂ (λ (b : Bool) (t : List ℕ). if b then directive_at now t (kind_of (leading_word t)) else text) f tail_is
-      ∙ ap (λ (o : Option Kind). directive_at now tail o) kind
-      ∙ ap (λ (n : ℕ). directive (record { kind = k; keyword = record { at = n; len = length (leading_word tail) }; after = skip_word tail; broken = is_continued_outside_comment now })) at_is
+  carries = grind (arith, not_cut, sign_is, tail_is, at_is)
 
 -- A directive with another keyword, and two spaces more after it.
 abbrev pub spaced : Directive → Kind → ℕ → Directive

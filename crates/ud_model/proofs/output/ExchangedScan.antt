@@ -21,9 +21,7 @@ Sane _ _ = Unit {0}
 
 -- If a line is fresh, no literal is open before it.
 fresh_quoted : (w : LexState) (white : Bool) (t : List ℕ) → Sane w white → fresh_at w white t ≡ true → Quoted w []
-fresh_quoted (in_literal q) white t s f = let e : true ≡ false = sym f ∙ s in cc
-fresh_quoted (at_backslash q) white t s f = let e : true ≡ false = sym f ∙ s in cc
-fresh_quoted _ _ _ _ _ = tt
+fresh_quoted w white t s f = grind arith
 
 -- Only the first byte of a line decides whether it is fresh.
 fresh_first : (w : LexState) (white : Bool) (a t u : List ℕ) (n : ℕ) → length a ≡ suc n → fresh_at w white (a ++ t) ≡ fresh_at w white (a ++ u)

@@ -28,12 +28,10 @@ abbrev pub IsEnd : List ℕ → Type 0
 IsEnd e = (e ≡ 13 ∷ 10 ∷ []) ⊎ (e ≡ 10 ∷ [])
 
 pub end_some : (e : List ℕ) → IsEnd e → is_empty e ≡ false
-end_some e (inl h) = ap (λ (x : List ℕ). is_empty x) h
-end_some e (inr h) = ap (λ (x : List ℕ). is_empty x) h
+end_some e h = grind arith
 
 pub end_is_some : (e : List ℕ) → IsEnd e → e ≢ []
-end_is_some e (inl h) = λ q. let p : 13 ∷ 10 ∷ [] ≡ [] = sym h ∙ q in cc
-end_is_some e (inr h) = λ q. let p : 10 ∷ [] ≡ [] = sym h ∙ q in cc
+end_is_some e h = grind arith
 
 -- A whole line has an ending.
 pub whole_ending : (l : List ℕ) → IsWhole l → IsEnd (ending_of l)
@@ -80,8 +78,7 @@ IsLeft _ = Unit {0}
 
 piece_parts : (v : Verdict) (k : Span) (l : Line) → IsLeft v → piece_by v k l ≡ edited_body v k l.body ++ l.ending
 unfolding edited_body
-piece_parts Remove k l h = absurd h
-piece_parts _ _ _ _ = refl
+piece_parts v k l h = grind arith
 
 abbrev has_feed : List ℕ → Bool
 has_feed [] = false
@@ -138,8 +135,7 @@ unended_piece ToEndif k n t h (s, w) =
 
 -- A whole line before lines.
 pub formed_more : (p : List ℕ) (qs : List (List ℕ)) → IsWhole p → AreFormed qs → AreFormed (p ∷ qs)
-formed_more p [] w f = inl w
-formed_more p (q ∷ qs) w f = (w, f)
+formed_more p qs w f = grind arith
 
 -- The list ends in this byte.
 unfoldable pub EndsIn : ℕ → List ℕ → Type 0
@@ -247,16 +243,4 @@ unended_keeps v k t (s, w) =
 pub left_line : (v : Verdict) (k : Span) (n m : ℕ) (t : List ℕ) → IsLeft v → IsWhole t ⊎ IsUnterminated t →
     line_at m (piece_by v k (line_at n t)) ≡ record { body = edited_body v k (body_of t); ending = ending_of t; number = m }
 left_line v k n m t h w =
-    ap (λ (q : List ℕ). line_at m q) (piece_parts v k (line_at n t) h)
-    ∙ ap₂ (λ (e b : List ℕ). let l : Line = record { body = b; ending = e; number = m } in l) (keeps w) (by_ending (keeps w))
-  where
-    keeps : IsWhole t ⊎ IsUnterminated t → ending_of (edited_body v k (body_of t) ++ ending_of t) ≡ ending_of t
-    keeps (inl a) = whole_keeps v k t a
-    keeps (inr a) = unended_keeps v k t a
-
-    by_ending : ending_of (edited_body v k (body_of t) ++ ending_of t) ≡ ending_of t → body_of (edited_body v k (body_of t) ++ ending_of t) ≡ edited_body v k (body_of t)
-    by_ending e =
-        take_at (edited_body v k (body_of t)) (ending_of t)
-        (length (edited_body v k (body_of t) ++ ending_of t) - length (ending_of (edited_body v k (body_of t) ++ ending_of t)))
-        (let a = length-append (edited_body v k (body_of t)) (ending_of t) in
-        let f : length (ending_of (edited_body v k (body_of t) ++ ending_of t)) ≡ length (ending_of t) = ap (λ (x : List ℕ). length x) e in omega (arith, a, f))
+    grind (arith, piece_parts, whole_keeps, unended_keeps, take_at, length-append)

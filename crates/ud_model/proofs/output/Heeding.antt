@@ -1,6 +1,6 @@
 -- If no argument makes sections plain text, no section is ignoring, and every line is read in one
 -- mode.
-use Rattle.std.proofs.Common.{◌≡◌, ℕ, List, [], ◌∷◌, ◌++◌, Bool, true, false, not, ◌&&◌, ◌||◌, Option, Some, None, bytes_eq, if◌then◌else◌, refl, sym, ◌∙◌, ap, ap₂, subst}
+use Rattle.std.proofs.Common.{◌≡◌, ℕ, List, [], ◌∷◌, ◌++◌, Bool, true, false, not, ◌&&◌, ◌||◌, Option, Some, None, bytes_eq, if◌then◌else◌, refl, sym, ◌∙◌, ap, ap₂, subst, arith}
 use Rattle.std.proofs.Math.Bool.{and-false, or-false}
 use Rattle.ud_model.specs.text.Lines.{Line}
 use Rattle.ud_model.specs.text.Scans.{Reading}
@@ -41,8 +41,7 @@ Calm None = Unit {0}
 Calm (Some e) = e.ignoring ≡ false
 
 calm_if : (b : Bool) (e : Entry) (earlier : Option Entry) → e.ignoring ≡ false → Calm earlier → Calm (if b then Some e else earlier)
-calm_if true e earlier h c = h
-calm_if false e earlier h c = c
+calm_if b e earlier h c = grind arith
 
 calm_from : (earlier : Option Entry) (table : List Argument) (name : List ℕ) → Calm earlier → NoneIgnores table → Calm (entry_from earlier table name)
 calm_from earlier [] name c n = c
@@ -50,36 +49,25 @@ calm_from earlier (a ∷ table) name c n =
     calm_from (if bytes_eq a.name name then Some a.entry else earlier) table name (calm_if (bytes_eq a.name name) a.entry earlier n.0 c) n.1
 
 calm_by : (e : Option Entry) → Calm e → (ifdef_by e).ignoring ≡ false
-calm_by None c = refl
-calm_by (Some e) c = c
+calm_by e c = grind arith
 
 calm_ifdef : (name : Option (List ℕ)) (table : List Argument) → NoneIgnores table → (ifdef_decision name table).ignoring ≡ false
-calm_ifdef None table n = refl
-calm_ifdef (Some name) table n = calm_by (entry_in table name) (calm_from None table name tt n)
+calm_ifdef name table n = grind (arith, calm_by, calm_from)
 
 calm_test : (p : Test) (after : List ℕ) (table : List Argument) (rules : Rules) → NoneIgnores table → (decision_by_test p after table rules).ignoring ≡ false
-calm_test Defined after table rules n = calm_ifdef (sole_name after) table n
-calm_test Undefined after table rules n = calm_ifdef (sole_name after) table n
-calm_test _ _ _ _ n = refl
+calm_test p after table rules n = grind (arith, calm_ifdef)
 
 calm_condition : (k : Kind) (after : List ℕ) (table : List Argument) (rules : Rules) → NoneIgnores table → (condition_of k after table rules).ignoring ≡ false
-calm_condition k after table rules n =
-    ap (λ (t : Bool). begins_section (role_of k) && t) (calm_test (test_of k) after table rules n) ∙ and-false (begins_section (role_of k))
+calm_condition k after table rules n = grind (arith, calm_test, and-false)
 
 calm_unless : (b : Bool) (d : Decision) (j : Bool) → d.ignoring ≡ false → (if b then undecided else record d { ignoring = d.ignoring && not j }).ignoring ≡ false
-calm_unless true d j h = refl
-calm_unless false d j h = ap (λ (t : Bool). t && not j) h
+calm_unless b d j h = grind arith
 
 calm_item : (r : Reading) (p : Role) (d : Decision) → d.ignoring ≡ false → Heeds (directive_item r p d)
-calm_item r ElseGroup d h = tt
-calm_item r EndifLine d h = tt
-calm_item _ _ _ h = h
+calm_item r p d h = grind arith
 
 by_content : (o : Options) (r : Reading) (c : Content) → NoneIgnores o.table → Heeds (item_by o r c)
-by_content o r (directive d) n =
-    calm_item r (role_of d.kind) (decision_on r.scan d o.table (rules_of o.settings))
-    (calm_unless d.broken (condition_of d.kind d.after o.table (rules_of o.settings)) r.scan.joins_after (calm_condition d.kind d.after o.table (rules_of o.settings) n))
-by_content _ _ _ n = tt
+by_content o r c n = grind (arith, calm_item, calm_unless, calm_condition)
 
 -- The opener of an item that was read so isn't ignoring.
 pub item_heeds : (o : Options) (r : Reading) → NoneIgnores o.table → Heeds (item_of o r)
@@ -105,8 +93,7 @@ tree_heeds (open_section ns h t) e =
 module _ (o : Options) (n : NoneIgnores o.table) where
   -- After lines none of which is ignoring the mode is the one mode.
   pub one_mode : (xs : List (Item Reading)) (t : Tree Reading) → lines t ≡ xs → Each Heeds xs → mode_after o t ≡ the_mode o
-  one_mode xs t e h =
-      ap (λ (b : Bool). mode_by (o.settings.plain || b)) (tree_heeds t (subst (Each Heeds) (sym e) h)) ∙ ap mode_by (or-false o.settings.plain)
+  one_mode xs t e h = grind (arith, tree_heeds, or-false)
 
   all_heed : (m : Mode) (ys : List (Item Reading)) → ReadIn o m ys → Each Heeds ys
   all_heed m _ none_read = tt

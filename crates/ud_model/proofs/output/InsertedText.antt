@@ -1,6 +1,6 @@
 -- The tree of an output under `-n` or `-b` is that of the output without them, with the inserted
 -- lines.
-use Rattle.std.proofs.Common.{◌≡◌, ℕ, List, [], ◌∷◌, ◌++◌, map, Bool, true, ◌||◌, refl, sym, ◌∙◌, ap, ap₂, subst}
+use Rattle.std.proofs.Common.{◌≡◌, ℕ, List, [], ◌∷◌, ◌++◌, map, Bool, true, ◌||◌, refl, sym, ◌∙◌, ap, ap₂, subst, arith}
 use Rattle.std.proofs.lemmas.List.{map-append}
 use Rattle.ud_model.specs.text.Lines.{Line, lines_of}
 use Rattle.ud_model.specs.text.Scans.{Reading}
@@ -31,9 +31,7 @@ read_more m ls l = ap (λ (ks : List (Mode × Line)). readings_of ks) (map-appen
 
 items_more : (o : Options) (m : Mode) (ls : List Line) (l : Line) →
     items o (read_in m (ls ++ l ∷ [])) ≡ items o (read_in m ls) ++ item_of o (read_after (items o (read_in m ls)) m l) ∷ []
-items_more o m ls l =
-    ap (items o) (read_more m ls l) ∙ map-append (λ r. item_of o r) (read_in m ls) (next_reading (read_in m ls) m l ∷ [])
-    ∙ ap (λ (rs : List Reading). items o (read_in m ls) ++ item_of o (next_reading rs m l) ∷ []) (sym (readings_back o (read_in m ls)))
+items_more o m ls l = grind (arith, read_more, map-append, readings_back)
 
 -- The items of lines are read so.
 pub read_items : (o : Options) (m : Mode) (ls : List Line) → ByPush ls → ReadIn o m (items o (read_in m ls))

@@ -1,5 +1,5 @@
 -- Inserted lines are text lines, so the tree stays as it is, with them.
-use Rattle.std.proofs.Common.{◌≡◌, ℕ, List, [], ◌∷◌, ◌++◌, map, codes, decimal, inl, inr, refl, sym, ◌∙◌, ap, ap₂, subst, append_assoc, append-nil}
+use Rattle.std.proofs.Common.{◌≡◌, ℕ, List, [], ◌∷◌, ◌++◌, map, codes, decimal, inl, inr, refl, sym, ◌∙◌, ap, ap₂, subst, append_assoc, append-nil, arith}
 use Rattle.std.proofs.lemmas.List.{map-append}
 use Rattle.ud_model.specs.text.Scans.{Scan, Reading, plain_scan}
 use Rattle.ud_model.specs.sections.Directives.{Content, cut_keyword, directive, text as text_content, content_of, role_of}
@@ -47,8 +47,7 @@ alike_by o r s (directive d) k =
     (ap (λ (t : Scan). decision_on t d o.table (rules_of o.settings)) k.scanned) k
 
 alike_item : (o : Options) (r s : Reading) → IsSame r s → ItemAlike (item_of o r) (item_of o s)
-alike_item o r s k =
-    subst (λ (c : Content). ItemAlike (item_of o r) (item_by o s c)) (ap content_of (sym k.scanned)) (alike_by o r s (content_of r.scan) k)
+alike_item o r s k = grind (arith, alike_by)
 
 lone_scan : (d : Reading) (b : List ℕ) → d.line.body ≡ b → IsLone d → content_of d.scan ≡ content_of (plain_scan (record { body = b; ending = []; number = 0 }))
 lone_scan d b e k = ap content_of k ∙ ap (λ (x : List ℕ). content_of (plain_scan (record { body = x; ending = []; number = 0 }))) e
@@ -57,8 +56,7 @@ number_text : (n : ℕ) → content_of (plain_scan (record { body = codes "#line
 number_text n = refl
 
 text_is : (d : Reading) → IsInserted d → content_of d.scan ≡ text_content
-text_is d (inl k) = lone_scan d [] k.0 k.1
-text_is d (inr k) = lone_scan d (codes "#line " ++ decimal k.0) k.1.0 k.1.1 ∙ number_text k.0
+text_is d h = grind arith
 
 put_item : (o : Options) (d : Reading) → IsInserted d → item_of o d ≡ text_line d
 put_item o d k = ap (λ (c : Content). item_by o d c) (text_is d k)
@@ -238,9 +236,7 @@ record Elifsof (es : Elifs Reading) (zs : List (Item Reading)) : Type 0 where
 -- A further group: its opener and its nodes.
 further : (before texts ls ms zs later : List (Item Reading)) (z y : Item Reading) → zs ≡ before ++ z ∷ later → before ≡ texts ++ ls → z ≡ y → ms ≡ later →
     zs ≡ texts ++ ((ls ++ y ∷ []) ++ ms)
-further before texts ls ms zs later z y e f g h =
-    e ∙ ap₂ (λ (b c : List (Item Reading)). b ++ c) f (ap₂ (λ (x : Item Reading) (ws : List (Item Reading)). x ∷ ws) g (sym h))
-    ∙ append_assoc texts ls (y ∷ ms) ∙ ap (λ (ws : List (Item Reading)). texts ++ ws) (sym (append_assoc ls (y ∷ []) ms))
+further before texts ls ms zs later z y e f g h = grind (arith, append_assoc)
 
 mutual
   pub weave_nodes : (ns : Nodes Reading) (zs : List (Item Reading)) → Strewn (lines_of_nodes ns) zs → Nodesof ns zs

@@ -159,39 +159,24 @@ abbrev with_verdict : Judged → Verdict → Judged
 with_verdict j v = record { line = j.line; verdict = v; keyword = j.keyword }
 
 pub gone_blank : (n : Bool) (before : List Judged) (j : Judged) → j.verdict ≡ Remove → piece_of true n before j ≡ j.line.ending
-gone_blank true before j e = ap (λ (v : Verdict). piece_of true true before (with_verdict j v)) e
-gone_blank false before j e = ap (λ (v : Verdict). piece_of true false before (with_verdict j v)) e
+gone_blank n before j e = grind arith
 
 gone_by : (before : List Judged) (j : Judged) (r : Bool) → last_removed before ≡ r → piece_of false true before (with_verdict j Remove) ≡ []
-gone_by before j true e = ap (λ (q : Bool). (if q && false then number_line j.line else []) ++ []) e
-gone_by before j false e = ap (λ (q : Bool). (if q && false then number_line j.line else []) ++ []) e
+gone_by before j r e = grind arith
 
 pub gone_number : (before : List Judged) (j : Judged) → j.verdict ≡ Remove → piece_of false true before j ≡ []
 gone_number before j e = ap (λ (v : Verdict). piece_of false true before (with_verdict j v)) e ∙ gone_by before j (last_removed before) refl
 
 pub left_blank : (v : Verdict) (n : Bool) (before : List Judged) (l : Line) (k : Span) → IsLeft v →
     piece_of true n before (record { line = l; verdict = v; keyword = k }) ≡ piece_by v k l
-left_blank Remove n before l k h = absurd h
-left_blank Keep true before l k h = refl
-left_blank Keep false before l k h = refl
-left_blank ToIf true before l k h = refl
-left_blank ToIf false before l k h = refl
-left_blank ToElse true before l k h = refl
-left_blank ToElse false before l k h = refl
-left_blank ToEndif true before l k h = refl
-left_blank ToEndif false before l k h = refl
+left_blank v n before l k h = grind arith
 
 numbered_by : (b : Bool) (l : Line) (p : List ℕ) (r : Bool) → b ≡ r → (if b && true then number_line l else []) ++ p ≡ (if r then number_line l else []) ++ p
-numbered_by b l p true e = ap (λ (q : Bool). (if q && true then number_line l else []) ++ p) e
-numbered_by b l p false e = ap (λ (q : Bool). (if q && true then number_line l else []) ++ p) e
+numbered_by b l p r e = grind arith
 
 pub left_number : (v : Verdict) (before : List Judged) (l : Line) (k : Span) (r : Bool) → last_removed before ≡ r → IsLeft v →
     piece_of false true before (record { line = l; verdict = v; keyword = k }) ≡ (if r then number_line l else []) ++ piece_by v k l
-left_number Remove before l k r e h = absurd h
-left_number Keep before l k r e h = numbered_by (last_removed before) l (piece_by Keep k l) r e
-left_number ToIf before l k r e h = numbered_by (last_removed before) l (piece_by ToIf k l) r e
-left_number ToElse before l k r e h = numbered_by (last_removed before) l (piece_by ToElse k l) r e
-left_number ToEndif before l k r e h = numbered_by (last_removed before) l (piece_by ToEndif k l) r e
+left_number v before l k r e h = grind arith
 
 -- The last judged line is removed if the last mark means so.
 pub removed_last : (xs : List (Item Reading)) (ms : List Mark) → length xs ≡ length ms → last_removed (judged_lines xs ms) ≡ ends_removed ms

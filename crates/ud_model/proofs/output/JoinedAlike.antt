@@ -2,7 +2,7 @@
 --
 -- A position between lines is kept if all groups around it are. `before` means that the position
 -- before a line is kept, and `after` that the one after it is.
-use Rattle.std.proofs.Common.{◌≡◌, List, [], ◌∷◌, ◌++◌, Bool, true, false, not, ◌&&◌, ◌||◌, IsTrue, refl, sym, ◌∙◌, ap, subst, append-nil, append_assoc}
+use Rattle.std.proofs.Common.{◌≡◌, List, [], ◌∷◌, ◌++◌, Bool, true, false, not, ◌&&◌, ◌||◌, IsTrue, refl, sym, ◌∙◌, ap, subst, append-nil, append_assoc, arith}
 use Rattle.std.proofs.lemmas.Bool.{or_left, or_right}
 use Rattle.ud_model.specs.declared.cond.Cond.{Cond}
 use Rattle.ud_model.specs.declared.cond.Cond.TheVariants.{Yes, No, Unknown}
@@ -41,15 +41,11 @@ pub data Does {L : Type 0} : Item L → Bool → Mark → Bool → Type 0 where
   does_endif : (l : L) (kept was : Bool) (v : Verdict) → Does (endif_line l) (kept && was) (marked kept v) kept
 
 stage_keeps : (s : Stage) (part : Part) (c : Cond) → IsTrue (keeps_rest (verdict_at s part c)) → kept_at s c ≡ true
-stage_keeps leading part Unknown h = refl
-stage_keeps going part Yes h = refl
-stage_keeps going part Unknown h = refl
-stage_keeps _ _ _ h = cc
+stage_keeps s part c h = grind arith
 
 -- The group of an opener that stays as an opener is kept.
 keeps_inside : (cs : List Cond) (part : Part) (c : Cond) → IsTrue (keeps_rest (verdict_so_far cs part c)) → is_kept cs c ≡ true
-keeps_inside cs part c h =
-    kept_by_stage cs c ∙ stage_keeps (stage cs) part c (subst (λ (v : Verdict). IsTrue (keeps_rest v)) (verdict_by_stage cs part c) h)
+keeps_inside cs part c h = grind (arith, kept_by_stage, stage_keeps, verdict_by_stage)
 
 module _ {L : Type 0} where
   pub record Grows (kept : Bool) (t u : Tree L) (x : Item L) : Type 0 where
@@ -108,20 +104,15 @@ abbrev pub Carried : Item Reading → Mark → Bool → Type 0
 Carried x m behind = (reading_of x).scan.joins_after ≡ true → is_removed m.verdict ≡ not behind
 
 keeps_stays : (v : Verdict) → IsTrue (keeps_rest v) → is_removed v ≡ false
-keeps_stays Keep h = refl
-keeps_stays ToIf h = refl
-keeps_stays _ h = cc
+keeps_stays v h = grind arith
 
 marked_text : (b : Bool) → is_removed (marked b Keep).verdict ≡ not b
-marked_text true = refl
-marked_text false = refl
+marked_text b = grind arith
 
 -- A directive that isn't obfuscated keeps its rest, and joins no line before it that is removed.
 spoiled_parts : (span joins removed : Bool) (v : Verdict) → (span && true && (not (keeps_rest v) || (joins && removed))) ≡ false →
     span ≡ true → IsTrue (keeps_rest v) × ((joins ≡ true) → removed ≡ false)
-spoiled_parts true joins removed Keep e p = (refl, λ q. ap (λ (b : Bool). b && removed) (sym q) ∙ e)
-spoiled_parts true joins removed ToIf e p = (refl, λ q. ap (λ (b : Bool). b && removed) (sym q) ∙ e)
-spoiled_parts _ _ _ _ e p = cc
+spoiled_parts span joins removed v e p = grind arith
 
 -- The case of a directive that spans lines, if all groups around its section are kept.
 kept_directive : (r : Reading) (removed : Bool) (v : Verdict) → (is_spanning r.scan && true && (not (keeps_rest v) || (r.scan.joins_before && removed))) ≡ false →
@@ -134,43 +125,21 @@ inside_not v inside k h = keeps_stays v h ∙ ap (λ (b : Bool). not b) (sym (k 
 module _ (removed : Bool) where
   -- The facts after a line that isn't obfuscated and joins the next one.
   pub carried_step : {x : Item Reading} {before behind : Bool} {m : Mark} → Does x before m behind → is_obfuscated_after removed x m ≡ false → Carried x m behind
-  carried_step (does_text l before) e j = marked_text before
-  carried_step (does_if o true v inside k) e j =
-      inside_not v inside k (kept_directive o.line removed v e (or_right o.line.scan.joins_before o.line.scan.joins_after j)).0
-  carried_step (does_elif o true was v inside k) e j =
-      inside_not v inside k (kept_directive o.line removed v e (or_right o.line.scan.joins_before o.line.scan.joins_after j)).0
-  carried_step (does_else l true was v inside k) e j =
-      inside_not v inside k (kept_directive l removed v e (or_right l.scan.joins_before l.scan.joins_after j)).0
-  carried_step (does_endif l true was v) e j =
-      keeps_stays v (kept_directive l removed v e (or_right l.scan.joins_before l.scan.joins_after j)).0
-  carried_step _ _ _ = refl
+  carried_step h e j = grind arith
 
   by_kept : (r : Reading) (v : Verdict) → (is_spanning r.scan && true && (not (keeps_rest v) || (r.scan.joins_before && removed))) ≡ false → r.scan.joins_before ≡ true →
       is_removed v ≡ removed
-  by_kept r v e j =
-      let p : IsTrue (keeps_rest v) × ((r.scan.joins_before ≡ true) → removed ≡ false) = kept_directive r removed v e (or_left r.scan.joins_before r.scan.joins_after j) in
-      keeps_stays v p.0 ∙ sym (p.1 j)
+  by_kept r v e j = grind arith
 
   -- A line that joins the one before it is removed exactly if that line is.
   pub joined_alike : {x : Item Reading} {before behind : Bool} {m : Mark} → Does x before m behind → is_obfuscated_after removed x m ≡ false →
       (reading_of x).scan.joins_before ≡ true → removed ≡ not before → is_removed m.verdict ≡ removed
-  joined_alike (does_text l before) e j h = marked_text before ∙ sym h
-  joined_alike (does_if o true v inside k) e j h = by_kept o.line v e j
-  joined_alike (does_elif o true was v inside k) e j h = by_kept o.line v e j
-  joined_alike (does_else l true was v inside k) e j h = by_kept l v e j
-  joined_alike (does_endif l true was v) e j h = by_kept l v e j
-  joined_alike _ _ _ h = sym h
+  joined_alike h e j g = grind arith
 
   alone_by : (span j k : Bool) → (span && true && (not k || j)) ≡ false → k ≡ false → span ≡ false
-  alone_by false j k e h = refl
-  alone_by true _ _ e h = cc
+  alone_by span j k e h = grind arith
 
   -- A line that is edited, but not to an `#if`, joins no other.
   pub edited_alone : {x : Item Reading} {before behind : Bool} {m : Mark} → Does x before m behind → is_obfuscated_after removed x m ≡ false →
       keeps_rest m.verdict ≡ false → is_removed m.verdict ≡ false → is_spanning (reading_of x).scan ≡ false
-  edited_alone (does_text l true) e k r = cc
-  edited_alone (does_if o true v inside h) e k r = alone_by (is_spanning o.line.scan) (o.line.scan.joins_before && removed) (keeps_rest v) e k
-  edited_alone (does_elif o true was v inside h) e k r = alone_by (is_spanning o.line.scan) (o.line.scan.joins_before && removed) (keeps_rest v) e k
-  edited_alone (does_else l true was v inside h) e k r = alone_by (is_spanning l.scan) (l.scan.joins_before && removed) (keeps_rest v) e k
-  edited_alone (does_endif l true was v) e k r = alone_by (is_spanning l.scan) (l.scan.joins_before && removed) (keeps_rest v) e k
-  edited_alone _ e k r = cc
+  edited_alone h e k r = grind arith

@@ -74,9 +74,7 @@ cut_there b e = take_at b e (length (b ++ e) - length e) (let a : length (b ++ e
 
 -- A line with its own ending is the line of its bytes.
 pub own_line : (k : Line) → ending_of (text_of k) ≡ k.ending → line_at k.number (text_of k) ≡ k
-own_line k e =
-    ap₂ (λ (b f : List ℕ). record { body = b; ending = f; number = k.number })
-    (ap (λ (f : List ℕ). take (length (text_of k) - length f) (text_of k)) e ∙ cut_there k.body k.ending) e
+own_line k e = grind (arith, cut_there)
 
 -- 2. A line before a splice, and the last line.
 
@@ -161,8 +159,7 @@ texts_joined acc (splice b ∷ ps) e =
     ap (λ (x : List ℕ). (acc ++ b) ++ x) (texts_joined [] ps e) ∙ append_assoc acc b (bytes_among ps ++ e) ∙ ap (λ (x : List ℕ). acc ++ x) (sym (append_assoc b (bytes_among ps) e))
 
 one_more : (l : Line) (ls : List Line) (e : List ℕ) → is_spliced l ≡ true → IsSplicedGroup ls e → IsSplicedGroup (l ∷ ls) e
-one_more l [] e s g = absurd g
-one_more l (m ∷ ls) e s g = (s, g)
+one_more l ls e s g = grind arith
 
 -- The lines form one line.
 record Forms (ls : List Line) (body e : List ℕ) : Type 0 where
@@ -199,16 +196,10 @@ lines_form ps e s i q u =
 -- 4. With the guards of a line.
 
 an_end : (e t : List ℕ) → e ≢ [] → ending_of t ≡ e → IsEnd e
-an_end e t n q = by (ends_with nat_eq t (13 ∷ 10 ∷ [])) (ends_with nat_eq t (10 ∷ [])) q
-  where
-    by : (a b : Bool) → end_by a b ≡ e → IsEnd e
-    by true b h = inl (sym h)
-    by false true h = inr (sym h)
-    by false false h = absurd (n (sym h))
+an_end e t n q = grind arith
 
 unspliced_body : (a b : Bool) → (a && not b) ≡ false → b ≡ false → a ≡ false
-unspliced_body false b h g = refl
-unspliced_body true _ h g = cc
+unspliced_body a b h g = grind arith
 
 module _ (ps : List Piece) (e : List ℕ) (s : AreSpliced ps) (k : keeps_ending (line_of_pieces ps e) ≡ true) (n : e ≢ []) (u : is_spliced (line_of_pieces ps e) ≡ false) where
   keeps : ending_of (map byte_of (cells_among ps) ++ e) ≡ e

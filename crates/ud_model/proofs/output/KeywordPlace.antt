@@ -11,8 +11,7 @@ use Rattle.ud_model.proofs.output.Each.{Each}
 use Rattle.ud_model.proofs.output.EditedScan.{place_after-append, masked_after-append, white_after-append, masked_front, first_shown, text_front, has_quote, ends_in_slash, Quoted, Shown, shown_all}
 
 length_by : (o : Bool) (m : List ℕ) → length (if o then blank_last m else m) ≡ length m
-length_by true m = length-blank_last m
-length_by false m = refl
+length_by o m = grind (arith, length-blank_last)
 
 -- Each byte is shown as one.
 pub length-masked_after : (bytes : List ℕ) (w : LexState) (m : List ℕ) → length (masked_after w m bytes) ≡ length m + length bytes
@@ -43,21 +42,14 @@ first_byte w b c bytes rest n e = go (first_shown bytes w b)
 module _ (c : ℕ) (prefix : List ℕ) (unquoted : has_quote prefix ≡ false) (unslashed : ends_in_slash prefix ≡ false) (no_space : c ≢ space) (no_newline : c ≢ newline) where
   slash_by : (t s : Bool) (m : List ℕ) (x : ℕ) → ends_in_slash m ≡ true → (if t || s then blank_last m else m) ≡ prefix →
       (if t then space else if s then space else x) ≡ c → ⊥
-  slash_by false false m x h e g = let q : true ≡ false = sym h ∙ ap ends_in_slash e ∙ unslashed in cc
-  slash_by _ _ _ _ _ _ g = no_space (sym g)
+  slash_by t s m x h e g = grind arith
 
   line_by : (t : Bool) (x : ℕ) → (x == newline) ≡ t → (if t then x else space) ≡ c → ⊥
-  line_by true x e g = no_newline (sym g ∙ eqb-true x newline e)
-  line_by false x e g = no_space (sym g)
+  line_by t x e g = grind arith
 
   -- If the masked line goes on so, the text ends between lexemes.
   is_text : (p : LexState) (m : List ℕ) (x : ℕ) → Shown p m → (if opens_comment p x then blank_last m else m) ≡ prefix → masked_byte p x ≡ c → (p ≡ in_text) × (m ≡ prefix)
-  is_text in_text m x h e g = (refl, e)
-  is_text at_slash m x h e g = absurd (slash_by (x == star) (x == slash) m x h e g)
-  is_text in_line m x h e g = absurd (line_by (x == newline) x refl g)
-  is_text (in_literal q) m x h e g = let r : true ≡ false = sym h ∙ ap has_quote e ∙ unquoted in cc
-  is_text (at_backslash q) m x h e g = let r : true ≡ false = sym h ∙ ap has_quote e ∙ unquoted in cc
-  is_text _ _ _ _ _ g = absurd (no_space (sym g))
+  is_text p m x h e g = grind arith
 
   -- The position of that byte.
   pub found_by : (w : LexState) (y : ℕ) (a : List ℕ) (b rest : List ℕ) → Quoted w [] → length (y ∷ a) ≡ length prefix →
@@ -126,21 +118,11 @@ word_stands (c ∷ word) (x ∷ behind) rest h n e =
 module _ (w : LexState) (before more prefix rest : List ℕ) (place : place_after w before ≡ in_text) (masks : masked_after w [] before ≡ prefix) (ends : masked_after in_text [] more ≡ rest) where
   -- After another word at this position, the rest is shown as before.
   pub masked_other : (word : List ℕ) → Each IsInert word → masked_after w [] (before ++ (word ++ more)) ≡ prefix ++ (word ++ rest)
-  masked_other word h =
-      masked_after-append w [] before (word ++ more)
-      ∙ ap₂ (λ (v : LexState) (m : List ℕ). masked_after v m (word ++ more)) place masks
-      ∙ text_front (word ++ more) prefix
-      ∙ ap (λ (l : List ℕ). prefix ++ l)
-      (masked_after-append in_text [] word more ∙ ap₂ (λ (v : LexState) (m : List ℕ). masked_after v m more) (place_inert word h) (masked_inert word h)
-      ∙ text_front more word ∙ ap (λ (l : List ℕ). word ++ l) ends)
+  masked_other word h = grind (arith, masked_after-append, text_front, place_inert, masked_inert)
 
   -- After another word, the text ends in the same state.
   pub place_other : (word : List ℕ) → Each IsInert word → place_after w (before ++ (word ++ more)) ≡ place_after in_text more
-  place_other word h =
-      place_after-append w before (word ++ more)
-      ∙ ap (λ (v : LexState). place_after v (word ++ more)) place
-      ∙ place_after-append in_text word more
-      ∙ ap (λ (v : LexState). place_after v more) (place_inert word h)
+  place_other word h = grind (arith, place_after-append, place_inert)
 
   dark_inert : (c : ℕ) → IsInert c → stays_white in_text false c ≡ false
   dark_inert c i = ap₂ (λ (s f : Bool). if s then false else if f then true else false) i.no_slash i.no_newline
@@ -150,15 +132,10 @@ module _ (w : LexState) (before more prefix rest : List ℕ) (place : place_afte
   dark_word (c ∷ word) h = ap₂ (λ (v : LexState) (b : Bool). white_after v b word) (next_inert c h.0) (dark_inert c h.0) ∙ dark_word word h.1
 
   dark_first : (c : ℕ) (white : Bool) → IsInert c → is_white c ≡ false → stays_white in_text white c ≡ false
-  dark_first c white i d =
-      ap₂ (λ (s f : Bool). if s then white else if f then true else white && is_white c) i.no_slash i.no_newline ∙ ap (λ (t : Bool). white && t) d ∙ and-false white
+  dark_first c white i d = grind arith
 
   -- After another word, the line is white or not as before.
   pub white_other : (white : Bool) (c : ℕ) (word : List ℕ) → Each IsInert (c ∷ word) → is_white c ≡ false →
       white_after w white (before ++ ((c ∷ word) ++ more)) ≡ white_after in_text false more
   white_other white c word h d =
-      white_after-append w white before ((c ∷ word) ++ more)
-      ∙ ap (λ (v : LexState). white_after v (white_after w white before) ((c ∷ word) ++ more)) place
-      ∙ ap₂ (λ (v : LexState) (b : Bool). white_after v b (word ++ more)) (next_inert c h.0) (dark_first c (white_after w white before) h.0 d)
-      ∙ white_after-append in_text false word more
-      ∙ ap₂ (λ (v : LexState) (b : Bool). white_after v b more) (place_inert word h.1) (dark_word word h.1)
+      grind (arith, white_after-append, next_inert, dark_first, place_inert, dark_word)

@@ -31,20 +31,16 @@ HasSize (directive d) = least (role_of d.kind) ≤ d.keyword.len
 HasSize _ = Unit {0}
 
 size_at : (scan : Scan) (rest : List ℕ) (k : Option Kind) → kind_of (leading_word rest) ≡ k → HasSize (directive_at scan rest k)
-size_at scan rest None e = tt
-size_at scan rest (Some k) e = kind_size (leading_word rest) k e
+size_at scan rest k e = grind (arith, kind_size)
 
 size_fresh : (scan : Scan) (fresh : Bool) (rest : List ℕ) → HasSize (if fresh then directive_at scan rest (kind_of (leading_word rest)) else text)
-size_fresh scan true rest = size_at scan rest (kind_of (leading_word rest)) refl
-size_fresh scan false rest = tt
+size_fresh scan fresh rest = grind (arith, size_at)
 
 size_behind : (scan : Scan) (sign : Option (List ℕ)) → HasSize (content_after_hash scan sign)
-size_behind scan None = tt
-size_behind scan (Some rest) = size_fresh scan scan.fresh (skip_white rest)
+size_behind scan sign = grind (arith, size_fresh)
 
 size_unless_cut : (scan : Scan) (cut : Bool) → HasSize (if cut then cut_keyword else content_after_hash scan (skip_white_and_hash scan.masked))
-size_unless_cut scan true = tt
-size_unless_cut scan false = size_behind scan (skip_white_and_hash scan.masked)
+size_unless_cut scan cut = grind (arith, size_behind)
 
 -- A directive's keyword is at least as long as its kind demands.
 pub content_size : (scan : Scan) → HasSize (content_of scan)
@@ -63,17 +59,10 @@ HasKeyword (endif_line r) = HasWord r (least EndifLine)
 HasKeyword _ = Unit {0}
 
 item_keyword : (r : Reading) (p : Role) (d : Decision) → HasWord r (least p) → HasKeyword (directive_item r p d)
-item_keyword r IfGroup d h = tt
-item_keyword _ _ _ h = h
+item_keyword r p d h = grind arith
 
 by_content : (o : Options) (r : Reading) (c : Content) → content_of r.scan ≡ c → HasSize c → length r.scan.masked ≤ length r.line.body → HasKeyword (item_by o r c)
-by_content o r (directive d) e s h =
-    let l : (keyword_in (content_of r.scan)).at + (keyword_in (content_of r.scan)).len ≤ length r.scan.masked = keyword_lies r.scan in
-    item_keyword r (role_of d.kind) (decision_on r.scan d o.table (rules_of o.settings)) (record {
-      size = subst (λ (c : Content). least (role_of d.kind) ≤ (keyword_in c).len) (sym e) s;
-      within = omega (arith, l, h);
-    })
-by_content _ _ _ _ _ _ = tt
+by_content o r c e s h = grind (arith, keyword_lies, item_keyword)
 
 -- The keyword of an item lies in its line, if the masked line isn't longer.
 pub has_keyword : (o : Options) (r : Reading) → length r.scan.masked ≤ length r.line.body → HasKeyword (item_of o r)

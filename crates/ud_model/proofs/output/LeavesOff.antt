@@ -1,5 +1,5 @@
 -- The end of lines in C mode: the state by which a line after them is scanned.
-use Rattle.std.proofs.Common.{◌≡◌, ◌≢◌, ℕ, List, [], ◌∷◌, ◌++◌, map, Bool, true, false, refl, sym, ◌∙◌, ap, ap₂, subst, if◌then◌else◌, ◌==◌, ◌&&◌, ◌⊎◌, inl, inr, eqb-true}
+use Rattle.std.proofs.Common.{◌≡◌, ◌≢◌, ℕ, List, [], ◌∷◌, ◌++◌, map, Bool, true, false, refl, sym, ◌∙◌, ap, ap₂, subst, if◌then◌else◌, ◌==◌, ◌&&◌, ◌⊎◌, inl, inr, eqb-true, arith}
 use Rattle.std.proofs.Math.Bool.{and-false}
 use Rattle.std.proofs.lemmas.List.{map-append}
 use Rattle.std.proofs.lemmas.Bool.{or_cases}
@@ -20,65 +20,40 @@ use Rattle.ud_model.proofs.text.ScanLemmas.{kind_at_place, joined_run_last, Lexe
 use Rattle.ud_model.proofs.text.LexStateLemmas.{LexesTo-nil}
 
 quote_dark : (b : ℕ) → is_quote b ≡ true → ((b == slash) ≡ false) × ((b == newline) ≡ false) × (is_white b ≡ false)
-quote_dark b e = go (or_cases (b == 34) (b == 39) e)
-  where
-    at : (n : ℕ) → ((n == slash) ≡ false) × ((n == newline) ≡ false) × (is_white n ≡ false) → (b == n) ≡ true → ((b == slash) ≡ false) × ((b == newline) ≡ false) × (is_white b ≡ false)
-    at n h f = subst (λ (c : ℕ). ((c == slash) ≡ false) × ((c == newline) ≡ false) × (is_white c ≡ false)) (sym (eqb-true b n f)) h
-
-    go : (b == 34 ≡ true) ⊎ (b == 39 ≡ true) → ((b == slash) ≡ false) × ((b == newline) ≡ false) × (is_white b ≡ false)
-    go (inl f) = at 34 (refl, refl, refl) f
-    go (inr f) = at 39 (refl, refl, refl) f
+quote_dark b e = grind arith
 
 sane_text : (s q white : Bool) (b : ℕ) → (b == slash) ≡ s → is_quote b ≡ q → Sane (if s then at_slash else if q then in_literal b else in_text) (if b == slash then white else if b == newline then true else white && is_white b)
-sane_text false true white b e f =
-    let d : ((b == slash) ≡ false) × ((b == newline) ≡ false) × (is_white b ≡ false) = quote_dark b f in
-    ap₂ (λ (s t : Bool). if s then white else if t then true else white && is_white b) d.0 d.1 ∙ ap (λ (t : Bool). white && t) d.2 ∙ and-false white
-sane_text _ _ _ _ _ _ = tt
+sane_text s q white b e f = grind arith
 
 sane_slash : (t s q white : Bool) (b : ℕ) → is_quote b ≡ q →
     Sane (if t then in_block else if s then in_line else if q then in_literal b else in_text) (if t then white else if s then white else if b == newline then true else false)
-sane_slash false false true white b e = ap (λ (t : Bool). if t then true else false) (quote_dark b e).1
-sane_slash _ _ _ _ _ _ = tt
+sane_slash t s q white b e = grind arith
 
 sane_block : (t white : Bool) → Sane (if t then at_star else in_block) white
-sane_block true white = tt
-sane_block false white = tt
+sane_block t white = grind arith
 
 sane_star : (s t white : Bool) → Sane (if s then in_text else if t then at_star else in_block) white
-sane_star true t white = tt
-sane_star false true white = tt
-sane_star false false white = tt
+sane_star s t white = grind arith
 
 sane_line : (t white : Bool) → Sane (if t then in_text else in_line) (if t then true else white)
-sane_line true white = tt
-sane_line false white = tt
+sane_line t white = grind arith
 
 sane_literal : (q : ℕ) (f s t w white : Bool) → white ≡ false → Sane (if f then in_text else if s then in_text else if t then at_backslash q else in_literal q) (if f then true else white && w)
-sane_literal q false false true w white e = ap (λ (b : Bool). b && w) e
-sane_literal q false false false w white e = ap (λ (b : Bool). b && w) e
-sane_literal _ _ _ _ _ _ _ = tt
+sane_literal q f s t w white e = grind arith
 
 sane_backslash : (q : ℕ) (f w white : Bool) → white ≡ false → Sane (if f then in_text else in_literal q) (if f then true else white && w)
-sane_backslash q true w white e = tt
-sane_backslash q false w white e = ap (λ (b : Bool). b && w) e
+sane_backslash q f w white e = grind arith
 
 -- A sane state is followed by a sane one.
 pub sane_step : (w : LexState) (white : Bool) (b : ℕ) → Sane w white → Sane (next_state w b) (stays_white w white b)
-sane_step in_text white b s = sane_text (b == slash) (is_quote b) white b refl refl
-sane_step at_slash white b s = sane_slash (b == star) (b == slash) (is_quote b) white b refl
-sane_step in_block white b s = sane_block (b == star) white
-sane_step at_star white b s = sane_star (b == slash) (b == star) white
-sane_step in_line white b s = sane_line (b == newline) white
-sane_step (in_literal q) white b s = sane_literal q (b == newline) (b == q) (b == backslash) (is_white b) white s
-sane_step (at_backslash q) white b s = sane_backslash q (b == newline) (is_white b) white s
+sane_step w white b s = grind arith
 
 sane_all : (bytes : List ℕ) (w : LexState) (white : Bool) → Sane w white → Sane (place_after w bytes) (white_after w white bytes)
 sane_all [] w white s = s
 sane_all (b ∷ bytes) w white s = sane_all bytes (next_state w b) (stays_white w white b) (sane_step w white b s)
 
 sane_close : (stays : Bool) (w : LexState) (white : Bool) → Sane w white → Sane (state_after_line stays w) (white_after_line stays w white)
-sane_close true w white s = s
-sane_close false w white s = sane_step w white newline s
+sane_close stays w white s = grind arith
 
 -- The lines in C mode end in this state, and the last one joins the next one or not.
 pub record LeavesOff (xs : List (Item Reading)) (w : LexState) (white joined_on : Bool) : Type 0 where
@@ -96,11 +71,7 @@ joins_none = ap is_block (kind_at_place LexesTo-nil)
 
 -- If no line in C mode comes before them, lines end between lines.
 pub nowhere : (xs : List (Item Reading)) → c_run_of (map reading_of xs) ≡ [] → LeavesOff xs in_text true false
-nowhere xs e = record {
-  reads = subst (λ (run : List Line). LexesTo (spliced_text run) in_text true) (sym e) LexesTo-nil;
-  sane = tt;
-  joins_on = sym joins_none ∙ sym (ap joins e);
-}
+nowhere xs e = grind (arith, LexesTo-nil, joins_none)
 
 -- Nothing joins the next line there.
 pub joins_nothing : (xs : List (Item Reading)) → c_run_of (map reading_of xs) ≡ [] → joins (c_run_of (map reading_of xs)) ≡ true → ⊥

@@ -1,6 +1,6 @@
 -- The output for a line in C mode, read again, if the lines before and the output for them end in
 -- the same state.
-use Rattle.std.proofs.Common.{◌≡◌, ◌≢◌, ℕ, List, [], ◌∷◌, ◌++◌, map, take, Bool, true, false, ◌||◌, codes, refl, sym, ◌∙◌, ap, ap₂, subst}
+use Rattle.std.proofs.Common.{◌≡◌, ◌≢◌, ℕ, List, [], ◌∷◌, ◌++◌, map, take, Bool, true, false, ◌||◌, codes, refl, sym, ◌∙◌, ap, ap₂, subst, arith}
 use Rattle.std.proofs.lemmas.Bool.{or_parts}
 use Rattle.ud_model.specs.text.Bytes.{backslash}
 use Rattle.ud_model.specs.text.Lines.{Line, text_of}
@@ -34,9 +34,7 @@ use Rattle.ud_model.proofs.text.ScanLemmas.{joins_last}
 use Rattle.ud_model.proofs.output.Suited.{Suits}
 
 calm_by : (s : Bool) (k : LexemeKind) → (s || is_block k) ≡ false → is_in_block (comment_at s k) ≡ false
-calm_by true k e = cc
-calm_by false block_comment e = cc
-calm_by false _ _ = refl
+calm_by s k e = grind arith
 
 -- A line that joins nothing doesn't end in a comment.
 calm_alone : (run : List Line) (l : Line) → (scan_after_run run l).joins_after ≡ false → is_in_block (scan_after_run run l).comment ≡ false

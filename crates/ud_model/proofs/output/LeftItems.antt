@@ -1,5 +1,5 @@
 -- The output for a line, read again, is the item of the output for it.
-use Rattle.std.proofs.Common.{◌≡◌, ℕ, List, [], ◌∷◌, map, Bool, true, false, not, ◌&&◌, Option, None, if◌then◌else◌, ◌⊎◌, inl, inr, refl, sym, ◌∙◌, ap, ap₂}
+use Rattle.std.proofs.Common.{◌≡◌, ℕ, List, [], ◌∷◌, map, Bool, true, false, not, ◌&&◌, Option, None, if◌then◌else◌, ◌⊎◌, inl, inr, refl, sym, ◌∙◌, ap, ap₂, arith}
 use Rattle.std.proofs.Math.Bool.{and-false}
 use Rattle.ud_model.specs.text.Scans.{Scan, Reading}
 use Rattle.ud_model.specs.sections.Directives.{Content, Directive, cut_keyword, directive, text, content_of, role_of, test_of}
@@ -30,56 +30,32 @@ abbrev pub IsLeftOf : Verdict → Item Reading → Item Reading → Type 0
 IsLeftOf v x y = item_with scanned y ∷ [] ≡ map (item_with left_seen) (kept_line v x)
 
 kept_seen : (x : Item Reading) → item_with scanned x ∷ [] ≡ map (item_with left_seen) (kept_line Keep x)
-kept_seen (text_line l) = refl
-kept_seen _ = refl
+kept_seen x = grind arith
 
 same_role : (r q : Reading) (p : Role) (d e : Decision) → scanned q ≡ scanned r → d ≡ e → item_with scanned (directive_item q p d) ≡ item_with scanned (directive_item r p e)
-same_role r q IfGroup d e b h = ap₂ (λ (t : Seen) (c : Decision). if_line (record { line = t; cond = c.cond; ignoring = c.ignoring })) b h
-same_role r q ElifGroup d e b h = ap₂ (λ (t : Seen) (c : Decision). elif_line (record { line = t; cond = c.cond; ignoring = c.ignoring })) b h
-same_role r q ElseGroup d e b h = ap else_line b
-same_role r q EndifLine d e b h = ap endif_line b
+same_role r q p d e b h = grind arith
 
 -- The decision on a directive without a continuation, whether it begins a section or not.
 abbrev decided_so : Bool → Decision → Bool → Decision
 decided_so begins c joins = record c { ignoring = (begins && c.ignoring) && not joins }
 
 unknown_alike : (a b i j : Bool) (c : Decision) → c.ignoring ≡ false → decided_so a c i ≡ decided_so b c j
-unknown_alike a b i j c e =
-    ap (λ (t : Bool). record c { ignoring = (a && t) && not i }) e ∙ ap (λ (t : Bool). record c { ignoring = t && not i }) (and-false a)
-    ∙ sym (ap (λ (t : Bool). record c { ignoring = (b && t) && not j }) e ∙ ap (λ (t : Bool). record c { ignoring = t && not j }) (and-false b))
+unknown_alike a b i j c e = grind arith
 
 -- If a condition is unknown, it is so with a keyword by which it is tested alike. The section is
 -- plain text under neither keyword.
 spaced_decision : (s q : Scan) (d : Directive) (k : Kind) (n : ℕ) (table : List Argument) (rules : Rules) → test_of k ≡ test_of d.kind →
     (decision_on s d table rules).cond ≡ Unknown → decision_on q (spaced d k n) table rules ≡ decision_on s d table rules
-spaced_decision s q d k n table rules e u = go d.broken u
-  where
-    spaced_is : decision_by_test (test_of k) (32 ∷ 32 ∷ d.after) table rules ≡ decision_by_test (test_of d.kind) d.after table rules
-    spaced_is =
-        decided_past (test_of k) 32 (32 ∷ d.after) table rules refl ∙ decided_past (test_of k) 32 d.after table rules refl
-        ∙ ap (λ (p : Test). decision_by_test p d.after table rules) e
-
-    go : (b : Bool) → (if b then undecided else decided_so (begins_section (role_of d.kind)) (decision_by_test (test_of d.kind) d.after table rules) s.joins_after).cond ≡ Unknown →
-        (if b then undecided else decided_so (begins_section (role_of k)) (decision_by_test (test_of k) (32 ∷ 32 ∷ d.after) table rules) q.joins_after)
-        ≡ (if b then undecided else decided_so (begins_section (role_of d.kind)) (decision_by_test (test_of d.kind) d.after table rules) s.joins_after)
-    go true v = refl
-    go false v =
-        ap (λ (c : Decision). decided_so (begins_section (role_of k)) c q.joins_after) spaced_is
-        ∙ unknown_alike (begins_section (role_of k)) (begins_section (role_of d.kind)) q.joins_after s.joins_after (decision_by_test (test_of d.kind) d.after table rules)
-        (unknown_heeds (test_of d.kind) d.after table rules v)
+spaced_decision s q d k n table rules e u =
+    grind (arith, decided_past, unknown_alike, unknown_heeds)
 
 module _ (o : Options) where
   same_content : (r q : Reading) (c : Content) → q.scan ≡ r.scan → scanned q ≡ scanned r → item_with scanned (item_by o q c) ≡ item_with scanned (item_by o r c)
-  same_content r q (directive d) s b =
-      same_role r q (role_of d.kind) (decision_on q.scan d o.table (rules_of o.settings)) (decision_on r.scan d o.table (rules_of o.settings)) b
-      (ap (λ (t : Scan). decision_on t d o.table (rules_of o.settings)) s)
-  same_content _ _ _ _ b = ap text_line b
+  same_content r q c s b = grind arith
 
   -- A line that is scanned as before is the item that it was.
   pub kept_item : (r q : Reading) → q.scan ≡ r.scan → line_bytes q ≡ line_bytes r → IsLeftOf Keep (item_of o r) (item_of o q)
-  kept_item r q s b =
-      ap (λ (t : Scan). item_with scanned (item_by o q (content_of t)) ∷ []) s
-      ∙ ap (λ (y : Item Seen). y ∷ []) (same_content r q (content_of r.scan) s (ap₂ (λ (t : List ℕ) (n : Scan). record { bytes = t; condition = condition_by n (content_of n) }) b s)) ∙ kept_seen (item_of o r)
+  kept_item r q s b = grind arith
 
   item_as : (r : Reading) (d : Directive) (p : Role) → content_of r.scan ≡ directive d → role_of d.kind ≡ p →
       item_of o r ≡ directive_item r p (decision_on r.scan d o.table (rules_of o.settings))
@@ -118,45 +94,30 @@ module _ (o : Options) where
   -- A directive that opens a further group becomes an `#else`.
   pub else_item : (r q : Reading) (d f : Directive) → content_of r.scan ≡ directive d → role_of d.kind ≡ ElifGroup → content_of q.scan ≡ directive f → f.kind ≡ Else →
       line_bytes q ≡ edited_bytes (edited ToElse r) → IsLeftOf ToElse (item_of o r) (item_of o q)
-  else_item r q d f e h n g b =
-      ap (λ (y : Item Reading). item_with scanned y ∷ []) (item_as q f ElseGroup n (ap role_of g)) ∙ ap (λ (t : Seen). else_line t ∷ []) (seen_cut r q f Else (edited_bytes (edited ToElse r)) n g refl b)
-      ∙ sym (ap (λ (x : Item Reading). map (item_with left_seen) (kept_line ToElse x)) (item_as r d ElifGroup e h))
+  else_item r q d f e h n g b = grind arith
 
   -- A directive that opens a further group, or an `#else`, becomes an `#endif`.
   pub endif_item : (r q : Reading) (d f : Directive) → content_of r.scan ≡ directive d → (role_of d.kind ≡ ElifGroup) ⊎ (role_of d.kind ≡ ElseGroup) → content_of q.scan ≡ directive f → f.kind ≡ Endif →
       line_bytes q ≡ edited_bytes (edited ToEndif r) → IsLeftOf ToEndif (item_of o r) (item_of o q)
-  endif_item r q d f e (inl h) n g b =
-      ap (λ (y : Item Reading). item_with scanned y ∷ []) (item_as q f EndifLine n (ap role_of g)) ∙ ap (λ (t : Seen). endif_line t ∷ []) (seen_cut r q f Endif (edited_bytes (edited ToEndif r)) n g refl b)
-      ∙ sym (ap (λ (x : Item Reading). map (item_with left_seen) (kept_line ToEndif x)) (item_as r d ElifGroup e h))
-  endif_item r q d f e (inr h) n g b =
-      ap (λ (y : Item Reading). item_with scanned y ∷ []) (item_as q f EndifLine n (ap role_of g)) ∙ ap (λ (t : Seen). endif_line t ∷ []) (seen_cut r q f Endif (edited_bytes (edited ToEndif r)) n g refl b)
-      ∙ sym (ap (λ (x : Item Reading). map (item_with left_seen) (kept_line ToEndif x)) (item_as r d ElseGroup e h))
+  endif_item r q d f e h n g b = grind arith
 
   if_role : (r : Reading) (p : Role) (d : Decision) → Suits ToIf (directive_item r p d) → (p ≡ ElifGroup) × (d.cond ≡ Unknown)
-  if_role r ElifGroup d s = (refl, s)
-  if_role _ _ _ s = absurd s
+  if_role r p d s = grind arith
 
   else_role : (r : Reading) (p : Role) (d : Decision) → Suits ToElse (directive_item r p d) → p ≡ ElifGroup
-  else_role r ElifGroup d s = refl
-  else_role _ _ _ s = absurd s
+  else_role r p d s = grind arith
 
   endif_role : (r : Reading) (p : Role) (d : Decision) → Suits ToEndif (directive_item r p d) → (p ≡ ElifGroup) ⊎ (p ≡ ElseGroup)
-  endif_role r ElifGroup d s = inl refl
-  endif_role r ElseGroup d s = inr refl
-  endif_role _ _ _ s = absurd s
+  endif_role r p d s = grind arith
 
   if_content : (r : Reading) (c : Content) → Suits ToIf (item_by o r c) → (d : Directive) × (c ≡ directive d) × (role_of d.kind ≡ ElifGroup) × ((decision_on r.scan d o.table (rules_of o.settings)).cond ≡ Unknown)
-  if_content r (directive d) s =
-      let q = if_role r (role_of d.kind) (decision_on r.scan d o.table (rules_of o.settings)) s in (d, refl, q.0, q.1)
-  if_content _ _ s = absurd s
+  if_content r c s = grind arith
 
   else_content : (r : Reading) (c : Content) → Suits ToElse (item_by o r c) → (d : Directive) × (c ≡ directive d) × (role_of d.kind ≡ ElifGroup)
-  else_content r (directive d) s = (d, refl, else_role r (role_of d.kind) (decision_on r.scan d o.table (rules_of o.settings)) s)
-  else_content _ _ s = absurd s
+  else_content r c s = grind arith
 
   endif_content : (r : Reading) (c : Content) → Suits ToEndif (item_by o r c) → (d : Directive) × (c ≡ directive d) × ((role_of d.kind ≡ ElifGroup) ⊎ (role_of d.kind ≡ ElseGroup))
-  endif_content r (directive d) s = (d, refl, endif_role r (role_of d.kind) (decision_on r.scan d o.table (rules_of o.settings)) s)
-  endif_content _ _ s = absurd s
+  endif_content r c s = grind arith
 
   -- A line that becomes an `#if` has a directive that opens a further group, and whose condition is
   -- unknown.

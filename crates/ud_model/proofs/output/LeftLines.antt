@@ -31,9 +31,7 @@ piece_line v keyword n m t l e h w =
     }
 
 same_and : (a b e : Bool) → (b ≡ true → a ≡ true) → ((a && e) ≡ true → b ≡ true) → (b && e) ≡ (a && e)
-same_and false true e f g = let h : false ≡ true = f refl in cc
-same_and true false true f g = let h : false ≡ true = g refl in cc
-same_and _ _ _ _ _ = refl
+same_and a b e f g = grind arith
 
 ends_in : (b : List ℕ) → ends_with nat_eq b (backslash ∷ []) ≡ true → EndsIn backslash b
 unfolding EndsIn
@@ -66,14 +64,7 @@ module _ (keyword : Span) (l k : Line) (within : keyword.at + keyword.len ≤ le
   if_spliced : l.body ≡ content l ++ backslash ∷ [] → k.body ≡ edited_body ToIf keyword l.body →
       k.body ≡ (take keyword.at (content l) ++ (opener_keyword keyword.len ++ drop (keyword.at + keyword.len) (content l))) ++ backslash ∷ []
   unfolding edited_body
-  if_spliced s b =
-      let a : List ℕ = take keyword.at (content l) in
-      let d : List ℕ = drop (keyword.at + keyword.len) (content l) in
-      b
-      ∙ ap₂ (λ (x y : List ℕ). (x ++ opener_keyword keyword.len) ++ y) (front_within l keyword.at (omega (arith, within)))
-      (ap (λ (t : List ℕ). drop (keyword.at + keyword.len) t) s ∙ drop-append-le (keyword.at + keyword.len) (content l) (backslash ∷ []) within)
-      ∙ append_assoc a (opener_keyword keyword.len) (d ++ backslash ∷ []) ∙ ap (λ (t : List ℕ). a ++ t) (sym (append_assoc (opener_keyword keyword.len) d (backslash ∷ [])))
-      ∙ sym (append_assoc a (opener_keyword keyword.len ++ d) (backslash ∷ []))
+  if_spliced s b = grind (arith, front_within, drop-append-le, append_assoc)
 
   -- A line that becomes an `#if` is spliced as it was.
   pub if_splice : LeftLine ToIf keyword l k → is_spliced k ≡ is_spliced l
@@ -110,8 +101,7 @@ module _ (keyword : Span) (l k : Line) (within : keyword.at + keyword.len ≤ le
 
     -- The content of a line that ends after its new keyword ends there.
     pub cut_line_content : content k ≡ take keyword.at (content l) ++ word
-    cut_line_content =
-        whole_body k cut_splice ∙ b ∙ ap (λ (t : List ℕ). t ++ word) (front_within l keyword.at (omega (arith, within)))
+    cut_line_content = grind (arith, whole_body, cut_splice, front_within)
 
 -- The bodies of lines that are left, by verdict.
 pub else_body : (keyword : Span) (b : List ℕ) → edited_body ToElse keyword b ≡ take keyword.at b ++ codes "else"

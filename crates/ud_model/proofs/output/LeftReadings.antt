@@ -1,6 +1,6 @@
 -- The output for a line by its verdict, read again: its item, that its keyword isn't cut, and
 -- whether it ends in a comment.
-use Rattle.std.proofs.Common.{◌≡◌, false, ◌⊎◌, codes, refl, ◌∙◌, ap}
+use Rattle.std.proofs.Common.{◌≡◌, false, ◌⊎◌, codes, refl, ◌∙◌, ap, arith}
 use Rattle.ud_model.specs.text.Scans.{Scan, Reading}
 use Rattle.ud_model.specs.sections.Directives.{Directive, directive, content_of, role_of}
 use Rattle.ud_model.specs.conditions.Conditions.{decision_on}
@@ -26,11 +26,7 @@ pub record Left (o : Options) (v : Verdict) (r q : Reading) : Type 0 where
 module _ (o : Options) (r q : Reading) where
   -- The case of a line that is scanned as before.
   pub left_kept : q.scan ≡ r.scan → line_bytes q ≡ line_bytes r → is_cut (content_of r.scan) ≡ false → Left o Keep r q
-  left_kept s b u = record {
-    item = kept_item o r q s b;
-    uncut = ap (λ (t : Scan). is_cut (content_of t)) s ∙ u;
-    ends = λ e. ap (λ (t : Scan). is_in_block t.comment) s ∙ e;
-  }
+  left_kept s b u = grind arith
 
   -- The case of a directive that opens a further group, with the keyword of a first one in place of
   -- its own.

@@ -55,14 +55,7 @@ plain_after l d e =
 -- A line that becomes an `#if` is scanned so.
 pub plain_if : (l k : Line) (d : Directive) → content_of (plain_scan l) ≡ directive d → LeftLine ToIf d.keyword l k → SeenAsIf (plain_scan l) (plain_scan k) d
 unfolding edited_body
-plain_if l k d e h = record {
-  masked_is = h.body ∙ append_assoc (take d.keyword.at l.body) (opener_keyword d.keyword.len) (drop (d.keyword.at + d.keyword.len) l.body)
-      ∙ ap (λ (t : List ℕ). take d.keyword.at l.body ++ (opener_keyword d.keyword.len ++ t)) (plain_after l d e);
-  fresh_is = refl;
-  cut_is = refl;
-  joins_is = refl;
-  comment_is = refl;
-}
+plain_if l k d e h = grind (arith, append_assoc, plain_after)
 
 -- A line that ends after its new keyword is scanned so.
 pub plain_cut : (l k : Line) (d : Directive) (word : List ℕ) → k.body ≡ take d.keyword.at l.body ++ word → SeenCut (plain_scan l) (plain_scan k) d word
@@ -72,11 +65,7 @@ plain_cut l k d word b = record { masked_is = b; fresh_is = refl; cut_is = refl;
 
 -- Lines with the same bytes end in the same state.
 pub same_next : (w : LexState) (white : Bool) (l k : Line) → k.body ≡ l.body → k.ending ≡ l.ending → NextAlike w white l k
-same_next w white l k b e = record {
-  stays_is = ap₂ (λ (x y : List ℕ). stays_open (record { body = x; ending = y; number = 0 })) b e;
-  place_is = ap₂ (λ (x y : List ℕ). place_after w (content (record { body = x; ending = y; number = 0 }))) b e;
-  white_is = ap₂ (λ (x y : List ℕ). white_after w white (content (record { body = x; ending = y; number = 0 }))) b e;
-}
+same_next w white l k b e = grind arith
 
 keyword_within : (w : LexState) (white on : Bool) (l : Line) (d : Directive) → content_of (scan_from w white on l) ≡ directive d → d.keyword.at + d.keyword.len ≤ length (content l)
 unfolding scan_from
@@ -120,8 +109,7 @@ if_scan w white on l k d s e h =
     }
 
 calm_in_text : (t : Bool) → kind_in_state (state_after_line t in_text) ≡ single
-calm_in_text true = refl
-calm_in_text false = refl
+calm_in_text t = grind arith
 
 -- A line that ends after its new keyword is scanned so.
 pub cut_seen : (w : LexState) (white on : Bool) (l k : Line) (d : Directive) (word : List ℕ) → Sane w white → content_of (scan_from w white on l) ≡ directive d →

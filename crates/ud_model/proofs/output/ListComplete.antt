@@ -41,9 +41,7 @@ module _ (o p : Options) (plain : o.settings.plain ≡ p.settings.plain) (rules 
   Known n = Alike o.table p.table n
 
   next_alike : (xs : List (Item Reading)) (t : Tree Reading) (l : Line) → NamesRead Known (read_after xs (mode_after o t) l) → next_item o xs t l ≡ next_item p xs t l
-  next_alike xs t l h =
-      item_alike o p rules (read_after xs (mode_after o t) l) (content_of (read_after xs (mode_after o t) l).scan) h
-      ∙ ap (λ (b : Bool). item_of p (read_after xs (mode_by (b || is_ignoring t)) l)) plain
+  next_alike xs t l h = grind (arith, item_alike)
 
   -- Lines that are faultless under the one options are so under the others.
   pub sound_alike : {xs : List (Item Reading)} {t : Tree Reading} → AreFaultless o xs t → AllNames Known xs → AreFaultless p xs t
@@ -58,13 +56,7 @@ module _ (o p : Options) (plain : o.settings.plain ≡ p.settings.plain) (rules 
   -- So they stop with the same fault.
   pub stop_alike : (ls : List Line) (xs : List (Item Reading)) (t : Tree Reading) (f : Fault) → (s : FirstFaultAt o ls xs t f) → AllNames Known xs →
       NamesRead Known (read_after xs (mode_after o t) s.faulty) → FirstFaultAt p ls xs t f
-  stop_alike ls xs t f s h k = record {
-    sound = sound_alike s.sound h;
-    faulty = s.faulty;
-    later = s.later;
-    are = s.are;
-    fault = subst (λ (y : Item Reading). FaultOf xs y f) (next_alike xs t s.faulty k) s.fault;
-  }
+  stop_alike ls xs t f s h k = grind (arith, sound_alike, next_alike)
 
 -- 2. The listed names.
 
@@ -213,8 +205,4 @@ led_to t _ _ (itself n) = inl refl
 led_to t _ _ (by_value n v m d i l) = elim (led_to t v m l) [ inl e ↦ inr (n, d ∙ ap (λ (w : List ℕ). Some w) (sym e)) | inr k ↦ inr k ]
 
 pub alike_but_one : (list name : List ℕ) (t u : List Argument) → (IsListed name list → ⊥) → IsNoValue t name → ((n : List ℕ) → n ≢ name → entry_in t n ≡ entry_in u n) → AgreeOnListed list t u
-alike_but_one list name t u out none same n m i l = same m (λ e. other e (led_to t n m l))
-  where
-    other : m ≡ name → (m ≡ n) ⊎ ((k : List ℕ) × (defined_text t k ≡ Some m)) → ⊥
-    other e (inl f) = out (subst (λ (k : List ℕ). IsListed k list) (sym f ∙ e) i)
-    other e (inr k) = none k.0 (k.1 ∙ ap (λ (w : List ℕ). Some w) e)
+alike_but_one list name t u out none same n m i l = grind (arith, led_to)

@@ -1,6 +1,6 @@
 -- Logical pieces: the pieces of a logical line are the line, and those that stay form the line that
 -- stays of the line that they form.
-use Rattle.std.proofs.Common.{◌≡◌, ◌≢◌, ℕ, suc, ◌-◌, List, [], ◌∷◌, ◌++◌, length, map, take, drop, Bool, true, false, not, ◌&&◌, if◌then◌else◌, nat_eq, inl, inr, Option, Some, None, refl, sym, ◌∙◌, ap, ap₂, subst, append_assoc, append-nil}
+use Rattle.std.proofs.Common.{◌≡◌, ◌≢◌, ℕ, suc, ◌-◌, List, [], ◌∷◌, ◌++◌, length, map, take, drop, Bool, true, false, not, ◌&&◌, if◌then◌else◌, nat_eq, inl, inr, Option, Some, None, refl, sym, ◌∙◌, ap, ap₂, subst, append_assoc, append-nil, arith}
 use Rattle.std.specs.List.{ends_with, concat}
 use Rattle.std.proofs.lemmas.List.{take_at, drop_at, take-append-drop, map-append, drop-map, take-map}
 use Rattle.std.proofs.lemmas.Bool.{not-true, and_parts}
@@ -64,9 +64,7 @@ content_by l b e = ap (λ (a : Bool). if a then take (length l.body - 1) l.body 
 
 -- A spliced line ends in a backslash.
 spliced_body : (l : Line) → is_spliced l ≡ true → l.body ≡ content l ++ 92 ∷ []
-spliced_body l e =
-    ends_back l.body (92 ∷ []) (and_parts (ends_with nat_eq l.body (92 ∷ [])) (not (is_empty l.ending)) e).0
-    ∙ ap (λ (x : List ℕ). x ++ 92 ∷ []) (sym (content_by l true e))
+spliced_body l e = grind (arith, ends_back, and_parts, content_by)
 
 pub joined_tidy : (ls : List Line) → Each IsTidy ls → NoNewline (joined_body ls)
 joined_tidy [] h = tt
@@ -121,8 +119,7 @@ pieces_bytes cs (l ∷ m ∷ ls) e q g =
     ∙ ap (λ (x : List ℕ). x ++ concat (map text_of (m ∷ ls))) (sym (append_assoc (content l) (92 ∷ []) l.ending) ∙ ap (λ (x : List ℕ). x ++ l.ending) (sym (spliced_body l g.0)))
 
 a_splice : (e : List ℕ) → IsEnd e → IsSplice (92 ∷ e)
-a_splice e (inl h) = inr (ap (λ (x : List ℕ). 92 ∷ x) h)
-a_splice e (inr h) = inl (ap (λ (x : List ℕ). 92 ∷ x) h)
+a_splice e h = grind arith
 
 plain_spliced : (cs : List Cell) → NoNewline (map byte_of cs) → AreSpliced (map cell cs)
 plain_spliced [] h = tt
@@ -153,31 +150,17 @@ fewer_spliced (with_same {y = splice b} p) h = (h.0, fewer_spliced p h.1)
 
 module _ (table : List Argument) (rules : Rules) where
   if_both : (b : Bool) (ps qs : List Piece) (cs ds : List Cell) → cells_among ps ≡ cs → cells_among qs ≡ ds → cells_among (if b then ps else qs) ≡ (if b then cs else ds)
-  if_both true ps qs cs ds e f = e
-  if_both false ps qs cs ds e f = f
+  if_both b ps qs cs ds e f = grind arith
 
   if_sub : (b : Bool) (xs ps : List Piece) → IsSublist xs ps → IsSublist (if b then xs else ps) ps
-  if_sub true xs ps p = p
-  if_sub false xs ps p = all_of_it ps
+  if_sub b xs ps p = grind (arith, all_of_it)
 
   left_cells_are : (ps : List Piece) → cells_among (simplified_pieces table rules ps) ≡ simplified_cells table rules (cells_among ps)
   unfolding simplified_cells
-  left_cells_are ps = by (expression_of (map shown (cells_among ps)))
-    where
-      by : (o : Option Expression) → cells_among (pieces_by_tree table rules o ps) ≡ simplified_by table rules o (cells_among ps)
-      by None = refl
-      by (Some e) =
-          if_both (may_go table rules e (cells_among ps) && is_read table rules e (left_cells (keeps table rules e) (cells_among ps)))
-          (left_pieces (keeps table rules e) ps) ps (left_cells (keeps table rules e) (cells_among ps)) (cells_among ps) (cells_from true false (keeps table rules e) ps) refl
+  left_cells_are ps = grind (arith, if_both, cells_from)
 
   left_sub : (ps : List Piece) → IsSublist (simplified_pieces table rules ps) ps
-  left_sub ps = by (expression_of (map shown (cells_among ps)))
-    where
-      by : (o : Option Expression) → IsSublist (pieces_by_tree table rules o ps) ps
-      by None = all_of_it ps
-      by (Some e) =
-          if_sub (may_go table rules e (cells_among ps) && is_read table rules e (left_cells (keeps table rules e) (cells_among ps)))
-          (left_pieces (keeps table rules e) ps) ps (pieces_go true false (keeps table rules e) ps)
+  left_sub ps = grind (arith, all_of_it, if_sub, pieces_go)
 
   edited_sub : (ps : List Piece) (d : Directive) → IsSublist (edited_pieces table rules ps d) ps
   edited_sub ps d =

@@ -1,6 +1,6 @@
 -- Logical texts: the logical lines of a text, each as a text of its own, and what is simplified of
 -- the text, logical line by logical line.
-use Rattle.std.proofs.Common.{◌≡◌, ◌≢◌, ℕ, ◌+◌, List, [], ◌∷◌, ◌++◌, length, map, Bool, true, false, not, ◌&&◌, if◌then◌else◌, inl, refl, sym, ◌∙◌, ap, ap₂, append_assoc, append-nil}
+use Rattle.std.proofs.Common.{◌≡◌, ◌≢◌, ℕ, ◌+◌, List, [], ◌∷◌, ◌++◌, length, map, Bool, true, false, not, ◌&&◌, if◌then◌else◌, inl, refl, sym, ◌∙◌, ap, ap₂, append_assoc, append-nil, arith}
 use Rattle.std.specs.List.{concat}
 use Rattle.std.proofs.lemmas.List.{map-append}
 use Rattle.std.proofs.lemmas.Bool.{or_right}
@@ -94,9 +94,7 @@ module _ (table : List Argument) (rules : Rules) where
   left_texts rs = concat (map left_text rs)
 
   texts_push : (rs : List Reading) (r : Reading) → left_texts (rs ++ r ∷ []) ≡ left_texts rs ++ left_text r
-  texts_push rs r =
-      ap concat (map-append left_text rs (r ∷ [])) ∙ concat-append (map left_text rs) (left_text r ∷ [])
-      ∙ ap (λ (x : List ℕ). left_texts rs ++ x) (append-nil (left_text r))
+  texts_push rs r = grind (arith, map-append, concat-append, append-nil)
 
   -- The number of a line never counts.
   module _ (b e : List ℕ) (n m : ℕ) where
@@ -204,13 +202,7 @@ module _ (table : List Argument) (rules : Rules) where
   -- 3. Lines that stay.
 
   stays_by : (scan : Scan) (l : Line) (c : Content) → is_lone scan l ≡ false → line_by table rules scan l c ≡ l
-  stays_by scan l cut_keyword h = refl
-  stays_by scan l text h = refl
-  stays_by scan l (directive d) h = by (is_lone scan l) h (keeps_ending (left_line table rules l d) && is_read_back table rules l d (scan_after_run [] (left_line table rules l d)))
-    where
-      by : (b : Bool) → b ≡ false → (g : Bool) → (if b && g then left_line table rules l d else l) ≡ l
-      by false e g = refl
-      by true e g = cc
+  stays_by scan l c h = grind arith
 
   joined_not_lone : (scan : Scan) (l : Line) → is_spanning scan ≡ true → is_lone scan l ≡ false
   joined_not_lone scan l e = ap (λ (b : Bool). not b && not (is_empty l.ending)) e

@@ -32,13 +32,7 @@ pub record Quiet (b : ℕ) : Type 0 where
   pub no_return : b ≢ 13
 
 digit_quiet : (n : ℕ) → n < 10 → Quiet (48 + n)
-digit_quiet n h = record {
-  no_slash = ne_eqb (48 + n) 47 (λ e. omega arith);
-  no_quote = ap₂ (λ (a b : Bool). a || b) (ne_eqb (48 + n) 34 (λ e. omega arith)) (ne_eqb (48 + n) 39 (λ e. omega arith));
-  no_backslash = ne_eqb (48 + n) 92 (λ e. omega arith);
-  no_newline = λ e. omega arith;
-  no_return = λ e. omega arith;
-}
+digit_quiet n h = grind arith
 
 decimal_quiet : (n : ℕ) → n < 2 ^ 64 → Each Quiet (decimal n)
 decimal_quiet n h =
@@ -46,22 +40,7 @@ decimal_quiet n h =
     (λ k ds l q. each_both Quiet ds ((48 + k % 10) ∷ []) q (digit_quiet (k % 10) (omega arith), tt)) n h
 
 word_quiet : Each Quiet (codes "#line ")
-word_quiet = (
-  record { no_slash = refl; no_quote = refl; no_backslash = refl; no_newline = λ e. omega arith; no_return = λ e. omega arith },
-  (
-    record { no_slash = refl; no_quote = refl; no_backslash = refl; no_newline = λ e. omega arith; no_return = λ e. omega arith },
-    (
-      record { no_slash = refl; no_quote = refl; no_backslash = refl; no_newline = λ e. omega arith; no_return = λ e. omega arith },
-      (
-        record { no_slash = refl; no_quote = refl; no_backslash = refl; no_newline = λ e. omega arith; no_return = λ e. omega arith },
-        (
-          record { no_slash = refl; no_quote = refl; no_backslash = refl; no_newline = λ e. omega arith; no_return = λ e. omega arith },
-          (record { no_slash = refl; no_quote = refl; no_backslash = refl; no_newline = λ e. omega arith; no_return = λ e. omega arith }, tt),
-        ),
-      ),
-    ),
-  ),
-)
+word_quiet = grind arith
 
 -- The bytes of a `#line`.
 abbrev pub says_number : ℕ → List ℕ
@@ -86,10 +65,7 @@ ends_quiet z loud b q (c, e) = go c (subst (Each Quiet) e q)
     go (x ∷ c) h = go c h.1
 
 cut_ending : (m : ℕ) (b e : List ℕ) → ending_of (b ++ e) ≡ e → line_at m (b ++ e) ≡ record { body = b; ending = e; number = m }
-cut_ending m b e h =
-    ap₂ (λ (x y : List ℕ). let l : Line = record { body = x; ending = y; number = m } in l)
-    (take_at b e (length (b ++ e) - length (ending_of (b ++ e)))
-    (let a = length-append b e in let f : length (ending_of (b ++ e)) ≡ length e = ap (λ (x : List ℕ). length x) h in omega (arith, a, f))) h
+cut_ending m b e h = grind (arith, take_at, length-append)
 
 -- Quiet bytes and an ending are a line with this body and this ending.
 pub quiet_line : (m : ℕ) (b e : List ℕ) → Each Quiet b → IsEnd e → line_at m (b ++ e) ≡ record { body = b; ending = e; number = m }
@@ -139,15 +115,11 @@ module _ (l : Line) (q : IsQuiet l) where
   closed = ap₂ (λ (a b : Bool). a || b) (spliced_not l q) (end_some l.ending q.end)
 
   lands : state_after_line (stays_open l) (place_after in_text (content l)) ≡ in_text
-  lands =
-      ap₂ (λ (s : Bool) (w : LexState). state_after_line s w) closed (ap (λ (b : List ℕ). place_after in_text b) all_content ∙ place_quiet l.body q.quiet)
+  lands = grind (arith, closed, all_content, place_quiet)
 
   seen_quiet : scan_from in_text true false l ≡ plain_scan l
   unfolding scan_from
-  seen_quiet =
-      let m : masked_after in_text [] (content l) ≡ l.body = ap (λ (b : List ℕ). masked_after in_text [] b) all_content ∙ masked_quiet l.body [] q.quiet in
-      let s : is_spliced l ≡ false = spliced_not l q in
-      rw (m, lands, s)
+  seen_quiet = grind (arith, all_content, masked_quiet, spliced_not, lands)
 
 -- Between logical lines a quiet line is scanned by itself.
 pub lone_scan : (zs : List (Item Reading)) (m : Mode) (l : Line) → LeavesOff zs in_text true false → IsQuiet l → scan_after (map reading_of zs) m l ≡ plain_scan l

@@ -72,8 +72,7 @@ module _ (table : List Argument) (rules : Rules) where
 
     -- The line is edited to itself.
     same_now : may_change table rules r.scan r.line d ≡ true → left_line table rules r.line d ≡ r.line
-    same_now m =
-        sym (ap (λ (b : Bool). if b then left_line table rules r.line d else r.line) m) ∙ sym (ap (λ (c : Content). line_by table rules r.scan r.line c) has) ∙ same
+    same_now m = grind arith
 
     module _ (lone : is_lone r.scan r.line ≡ true) where
       joins_none : is_spanning r.scan ≡ false
@@ -107,8 +106,7 @@ module _ (table : List Argument) (rules : Rules) where
 
         by_line : may_go table rules e cells ≡ true → is_read table rules e (left_cells (keeps table rules e) cells) ≡ true → is_undecided table rules (residual table rules e) ≡ true →
             (is_read_alone table rules r.line d ≡ true) ⊎ (is_read_alone table rules r.line d ≡ false) → Reason
-        by_line g q u (inl z) = inr (e, p, reduced g q u z)
-        by_line g q u (inr z) = inl (line_misread z)
+        by_line g q u h = grind (arith, reduced)
 
         by_rest : may_go table rules e cells ≡ true → is_undecided table rules (residual table rules e) ≡ true →
             (is_read table rules e (left_cells (keeps table rules e) cells) ≡ true) ⊎ (is_read table rules e (left_cells (keeps table rules e) cells) ≡ false) → Reason
@@ -145,8 +143,7 @@ module _ (table : List Argument) (rules : Rules) where
   -- 4. The lines of a simplified text.
 
   lone_scan : (r s : Reading) → ReadingSimplified table rules r s → s.scan.joins_before ≡ false → s.scan ≡ scan_after [] C s.line
-  lone_scan r s (reading_stays e q h) = subst (λ (x : Reading). x.scan.joins_before ≡ false → x.scan ≡ scan_after [] C x.line) (sym q) h
-  lone_scan r s (reading_edited d i) = λ j. i.after ∙ ap (λ (k : Line). scan_after_run [] k) (sym i.line)
+  lone_scan r s h = grind arith
 
   from : {rs ss : List Reading} → Pairs (ReadingSimplified table rules) rs ss → (before after : List Reading) (s : Reading) → ss ≡ before ++ s ∷ after → (r : Reading) × ReadingSimplified table rules r s
   from no_pair [] after s e = cc

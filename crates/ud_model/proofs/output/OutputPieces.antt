@@ -63,8 +63,7 @@ printed_most (x ∷ xs) [] = omega arith
 printed_most (x ∷ xs) (m ∷ ms) = go (left_one m.verdict x) (printed_most xs ms)
   where
     go : (m.verdict ≡ Remove) ⊎ LeftOne m.verdict x → length (printed xs ms) ≤ length xs → length (kept_line m.verdict x ++ printed xs ms) ≤ suc (length xs)
-    go (inl r) h = subst (λ (v : Verdict). length (kept_line v x ++ printed xs ms) ≤ suc (length xs)) (sym r) (omega (arith, h))
-    go (inr (y, is, bytes, left)) h = subst (λ (ys : List (Item (Edited Reading))). length (ys ++ printed xs ms) ≤ suc (length xs)) (sym is) (omega (arith, h))
+    go h g = grind arith
 
 formed_with : (v : Verdict) (x : Item Reading) (rest : List (Item (Edited Reading))) (n : ℕ) (t : List ℕ) → line_of x ≡ line_at n t → IsWhole t → AreFormed (all_pieces rest) →
     AreFormed (all_pieces (kept_line v x ++ rest))

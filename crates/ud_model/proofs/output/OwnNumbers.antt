@@ -52,13 +52,7 @@ own_line ls d nil at h ps sure m p = by_last (last_by p ls d refl)
     by_last (obeyed {ps = qs} {sure = b} {n = k} q i g) = let e : None ≡ Some (decimal i) = sym nil ∙ g.operand in cc
 
 own_first : Own []
-own_first ps sure m p = go p refl
-  where
-    go : {ls : List Reading} {qs : List Presumed} {b : Bool} {k : ℕ} → Presumes ls qs b k → ls ≡ [] → (b ≡ true) × (k ≡ 1) × HaveOwnNumbers qs
-    go no_lines e = (refl, refl, tt)
-    go (passes {ls = ls} q r) e = absurd (push_not_nil ls r e)
-    go (processes {ls = ls} q r h) e = absurd (push_not_nil ls r e)
-    go (obeys {ls = ls} q r i g) e = absurd (push_not_nil ls r e)
+own_first ps sure m p = grind (arith, push_not_nil)
 
 own_by : {ls : List Reading} → ByPush ls → HaveNoLineDirective ls → InOrder 1 (map line_of ls) → Own ls
 own_by none h i = own_first

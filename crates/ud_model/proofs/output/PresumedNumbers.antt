@@ -18,14 +18,7 @@ abbrev NotWhite : ℕ → Type 0
 NotWhite b = is_white b ≡ false
 
 digit_not_white : (n : ℕ) → n < 10 → NotWhite (48 + n)
-digit_not_white n h =
-    rw (
-      ne_eqb (48 + n) 32 (λ e. omega arith),
-      ne_eqb (48 + n) 9 (λ e. omega arith),
-      ne_eqb (48 + n) 11 (λ e. omega arith),
-      ne_eqb (48 + n) 12 (λ e. omega arith),
-      ne_eqb (48 + n) 13 (λ e. omega arith),
-    )
+digit_not_white n h = grind arith
 
 decimal_not_white : (n : ℕ) → n < 2 ^ 64 → Each NotWhite (decimal n)
 decimal_not_white n h =
@@ -86,22 +79,10 @@ have_both js [] p h k = (k, tt)
 have_both js (q ∷ ps) p h k = (h.0, have_both js ps p h.1 k)
 
 further_for : (js : List Judged) (j : Judged) (r : Reading) (n : ℕ) → IsLineFor js r n → IsLineFor (js ++ j ∷ []) r n
-further_for js j r n k = record {
-  judged = k.judged;
-  before = k.before;
-  later = k.later ++ j ∷ [];
-  among = ap (λ (is : List Judged). is ++ j ∷ []) k.among ∙ append_assoc k.before (k.judged ∷ k.later) (j ∷ []);
-  number = k.number;
-  stays = k.stays;
-  bytes = k.bytes;
-}
+further_for js j r n k = grind (arith, append_assoc)
 
 further_one : (js : List Judged) (j : Judged) (p : Presumed) → HasInputNumber js p → HasInputNumber (js ++ j ∷ []) p
-further_one js j p h e = go (h e)
-  where
-    go : IsInserted p.line ⊎ IsLineFor js p.line p.number → IsInserted p.line ⊎ IsLineFor (js ++ j ∷ []) p.line p.number
-    go (inl i) = inl i
-    go (inr k) = inr (further_for js j p.line p.number k)
+further_one js j p h e = grind (arith, further_for)
 
 -- They have input numbers if the input goes on.
 further : (js : List Judged) (j : Judged) (ps : List Presumed) → HaveInputNumbers js ps → HaveInputNumbers (js ++ j ∷ []) ps
@@ -163,13 +144,7 @@ printed_for : (js : List Judged) (j : Judged) (r s : Reading) → IsPrinted j r 
 printed_for js j r s p k e = inr (record { judged = j; before = js; later = []; among = refl; number = sym e; stays = p.stays; bytes = p.same ∙ p.bytes })
 
 right_first : Right [] [] 1
-right_first ps sure m p = go p refl
-  where
-    go : {ls : List Reading} {qs : List Presumed} {b : Bool} {k : ℕ} → Presumes ls qs b k → ls ≡ [] → (b ≡ true → k ≡ 1) × HaveInputNumbers [] qs
-    go no_lines e = (λ f. refl, tt)
-    go (passes {ls = ls} q r) e = absurd (push_not_nil ls r e)
-    go (processes {ls = ls} q r h) e = absurd (push_not_nil ls r e)
-    go (obeys {ls = ls} q r i g) e = absurd (push_not_nil ls r e)
+right_first ps sure m p = grind (arith, push_not_nil)
 
 -- The presumed numbers of counted lines are those of the count.
 pub right_numbers : {js : List Judged} {rs ss : List Reading} {n : ℕ} → Counted js rs ss n → HaveNoLineDirective rs → Each IsFew js → Right js ss n
@@ -194,8 +169,7 @@ abbrev pub IsClear : Reading → Type 0
 IsClear r = (line_operand r.scan ≡ None) ⊎ ((n : ℕ) × GivesNumber n r)
 
 clear_number : (n : ℕ) (d : Reading) → n ≤ 2147483647 → IsNumberLine n d → IsClear d
-clear_number n d small k =
-    inr (n, record { operand = inserted_operand n d (omega (arith, small)) k; alone = ap (λ (s : Scan). s.joins_after) k.1; limit = small })
+clear_number n d small k = grind (arith, inserted_operand)
 
 -- Each line of the output is clear.
 pub all_clear : {js : List Judged} {rs ss : List Reading} {n : ℕ} → Counted js rs ss n → HaveNoLineDirective rs → Each IsFew js → Each IsClear ss

@@ -51,48 +51,27 @@ module _ {L : Type 0} where
   if_lines false ps = []
 
   stage_with : (left : KeptGroups L) (part : Part) (o : Opener L) (c : Cond) (ps : Nodes (Edited L)) → next_stage (stage_of left) c ≡ stage_of (with_group left part o c ps)
-  stage_with none_kept part o Yes ps = refl
-  stage_with none_kept part o No ps = refl
-  stage_with none_kept part o Unknown ps = refl
-  stage_with (replaced ms) part o c ps = refl
-  stage_with (kept_groups es) part o Yes ps = refl
-  stage_with (kept_groups es) part o No ps = refl
-  stage_with (kept_groups es) part o Unknown ps = refl
-  stage_with (ended es l ms None) part o c ps = refl
-  stage_with (ended es l ms (Some k)) part o c ps = refl
+  stage_with left part o c ps = grind arith
 
   first_lines : (o : Opener L) (c : Cond) (ps : Nodes (Edited L)) →
       kept_line (verdict_at leading an_if c) (if_line o) ++ if_lines (kept_at leading c) ps ≡ left_lines (with_group none_kept an_if o c ps)
   unfolding if_lines
-  first_lines o Yes ps = refl
-  first_lines _ _ ps = refl
+  first_lines o c ps = grind arith
 
   elif_lines : (left : KeptGroups L) (o : Opener L) (c : Cond) (ps : Nodes (Edited L)) →
       (left_lines left ++ kept_line (verdict_at (stage_of left) an_elif c) (elif_line o)) ++ if_lines (kept_at (stage_of left) c) ps
       ≡ left_lines (with_group left an_elif o c ps)
   unfolding if_lines
-  elif_lines none_kept o Yes ps = refl
-  elif_lines (replaced ms) o c ps = two_nils (lines_of_nodes ms)
-  elif_lines (kept_groups es) o No ps = two_nils (lines_of_elifs es)
-  elif_lines (ended es l ms None) o c ps = append-nil (left_lines (ended es l ms None) ++ endif_line (edited ToEndif o.line) ∷ [])
-  elif_lines (ended es l ms (Some k)) o c ps = two_nils (left_lines (ended es l ms (Some k)))
-  elif_lines _ _ _ ps = refl
+  elif_lines left o c ps = grind (arith, two_nils, append-nil)
 
   else_lines : (left : KeptGroups L) (l : L) (ps : Nodes (Edited L)) →
       (left_lines left ++ kept_line (verdict_at (stage_of left) an_else Yes) (else_line l)) ++ if_lines (kept_at (stage_of left) Yes) ps
       ≡ left_lines (with_else left l ps)
   unfolding if_lines
-  else_lines (replaced ms) l ps = two_nils (lines_of_nodes ms)
-  else_lines (ended es k ms None) l ps = append-nil (left_lines (ended es k ms None) ++ endif_line (edited ToEndif l) ∷ [])
-  else_lines (ended es k ms (Some j)) l ps = two_nils (left_lines (ended es k ms (Some j)))
-  else_lines _ _ ps = refl
+  else_lines left l ps = grind (arith, two_nils, append-nil)
 
   stage_else : (left : KeptGroups L) (l : L) (ps : Nodes (Edited L)) → next_stage (stage_of left) Yes ≡ stage_of (with_else left l ps)
-  stage_else none_kept l ps = refl
-  stage_else (replaced ms) l ps = refl
-  stage_else (kept_groups es) l ps = refl
-  stage_else (ended es k ms None) l ps = refl
-  stage_else (ended es k ms (Some j)) l ps = refl
+  stage_else left l ps = grind arith
 
   -- The lines of nodes, and then those of others.
   pub lines_then : (ms ns : Nodes (Edited L)) → lines_of_nodes (then_nodes ms ns) ≡ lines_of_nodes ms ++ lines_of_nodes ns
@@ -103,11 +82,7 @@ module _ {L : Type 0} where
 
   endif_lines : (ps : Nodes (Edited L)) (left : KeptGroups L) (e : L) →
       (lines_of_nodes ps ++ left_lines left) ++ kept_line (endif_at (stage_of left)) (endif_line e) ≡ lines_of_nodes (then_kept ps left e)
-  endif_lines ps none_kept e = two_nils (lines_of_nodes ps)
-  endif_lines ps (replaced ms) e = append-nil (lines_of_nodes ps ++ lines_of_nodes ms) ∙ sym (lines_then ps ms)
-  endif_lines ps (ended es l ms (Some k)) e =
-      append-nil (lines_of_nodes ps ++ left_lines (ended es l ms (Some k))) ∙ sym (append_assoc (lines_of_nodes ps) ((lines_of_elifs es ++ else_line l ∷ []) ++ lines_of_nodes ms) (endif_line k ∷ []))
-  endif_lines ps _ _ = refl
+  endif_lines ps left e = grind (arith, two_nils, append-nil, lines_then, append_assoc)
 
   two_empty : (a b : List (Item (Edited L))) → a ≡ [] → b ≡ [] → a ++ b ≡ []
   two_empty a b d e = ap₂ (λ (p q : List (Item (Edited L))). p ++ q) d e
@@ -118,17 +93,12 @@ module _ {L : Type 0} where
   -- The output for a list, a line and another list.
   printed_between : (xs : List (Item L)) (x : Item L) (ys : List (Item L)) (ms : List Mark) (m : Mark) (ns : List Mark) → length xs ≡ length ms →
       printed ((xs ++ x ∷ []) ++ ys) ((ms ++ m ∷ []) ++ ns) ≡ (printed xs ms ++ kept_line m.verdict x) ++ printed ys ns
-  printed_between xs x ys ms m ns e =
-      printed-append (xs ++ x ∷ []) ys (ms ++ m ∷ []) ns (more_long xs ms x m e)
-      ∙ ap (λ (zs : List (Item (Edited L))). zs ++ printed ys ns)
-      (printed-append xs (x ∷ []) ms (m ∷ []) e ∙ ap (λ (zs : List (Item (Edited L))). printed xs ms ++ zs) (append-nil (kept_line m.verdict x)))
+  printed_between xs x ys ms m ns e = grind (arith, printed-append, more_long, append-nil)
 
   -- The output for two lists and a line.
   printed_behind : (xs ys : List (Item L)) (x : Item L) (ms ns : List Mark) (m : Mark) → length xs ≡ length ms → length ys ≡ length ns →
       printed ((xs ++ ys) ++ x ∷ []) ((ms ++ ns) ++ m ∷ []) ≡ (printed xs ms ++ printed ys ns) ++ kept_line m.verdict x
-  printed_behind xs ys x ms ns m d e =
-      printed-append (xs ++ ys) (x ∷ []) (ms ++ ns) (m ∷ []) (simp length-append (omega (arith, d, e)))
-      ∙ ap₂ (λ (zs ws : List (Item (Edited L))). zs ++ ws) (printed-append xs ys ms ns d) (append-nil (kept_line m.verdict x))
+  printed_behind xs ys x ms ns m d e = grind (arith, printed-append, length-append, append-nil)
 
   mutual
     -- If a group around is removed, nothing is left.
@@ -160,8 +130,7 @@ module _ {L : Type 0} where
   by_place : (b : Bool) (ns : Nodes L) → printed (lines_of_nodes ns) (nodes_so_far true ns) ≡ lines_of_nodes (folded ns) →
       printed (lines_of_nodes ns) (nodes_so_far b ns) ≡ if_lines b (folded ns)
   unfolding if_lines
-  by_place true ns h = h
-  by_place false ns h = nodes_gone ns
+  by_place b ns h = grind (arith, nodes_gone)
 
   -- The rest of a group after others.
   elif_has : (cs : List Cond) (left : KeptGroups L) (o : Opener L) (ns : Nodes L) (xs : List (Item L)) (ms : List Mark) → length xs ≡ length ms → Has cs left (printed xs ms) →
@@ -209,11 +178,7 @@ module _ {L : Type 0} where
       printed xs ms ≡ lines_of_nodes ps → Has cs left (printed ys ns) →
       printed ((xs ++ ys) ++ endif_line e ∷ []) ((ms ++ ns) ++ marked true (endif_verdict cs) ∷ []) ≡ lines_of_nodes (then_kept ps left e)
   section_printed cs left ps e xs ys ms ns d f a h =
-      printed_behind xs ys (endif_line e) ms ns (marked true (endif_verdict cs)) d f
-      ∙ ap₂ (λ (zs : List (Item (Edited L))) (v : Verdict). zs ++ kept_line v (endif_line e))
-      (ap₂ (λ (zs ws : List (Item (Edited L))). zs ++ ws) a h.are)
-      (endif_by_stage cs ∙ ap (λ (s : Stage). endif_at s) h.represents)
-      ∙ endif_lines ps left e
+      grind (arith, printed_behind, endif_by_stage, endif_lines)
 
   mutual
     nodes_printed : (ns : Nodes L) → printed (lines_of_nodes ns) (nodes_so_far true ns) ≡ lines_of_nodes (folded ns)

@@ -1,5 +1,5 @@
 -- The pruned tree is what the table leaves of each section and its groups.
-use Rattle.std.proofs.Common.{◌≡◌, List, [], ◌∷◌, ◌++◌, Bool, true, false, not, ◌&&◌, Some, None, if◌then◌else◌, refl, sym, ◌∙◌, ap, ap₂, subst, append_assoc, append-nil}
+use Rattle.std.proofs.Common.{◌≡◌, List, [], ◌∷◌, ◌++◌, Bool, true, false, not, ◌&&◌, Some, None, if◌then◌else◌, refl, sym, ◌∙◌, ap, ap₂, subst, append_assoc, append-nil, arith}
 use Rattle.std.specs.Prelude.{◌↔◌}
 use Rattle.std.proofs.lemmas.Bool.{both_ways}
 use Rattle.ud_model.specs.declared.cond.Cond.{Cond}
@@ -94,31 +94,19 @@ by_flags way none some last part c =
 
 module _ (all cs : List Cond) (stays : gives_way all ≡ false) where
   leading_verdict : stage cs ≡ leading → (part : Part) → opener_verdict all cs part Unknown ≡ first_kept_verdict part
-  leading_verdict e part =
-      ap₂ (λ (w n : Bool). by_flags w n (any_true cs) (ends_with_first_true cs) part Unknown) stays (leading_flags cs e).0
+  leading_verdict e part = grind (arith, leading_flags)
 
   false_verdict : stage cs ≡ leading → (part : Part) → opener_verdict all cs part No ≡ Remove
-  false_verdict e part =
-      ap₂ (λ (w n : Bool). by_flags w n (any_true cs) (ends_with_first_true cs) part No) stays (leading_flags cs e).0
-      ∙ ap (λ (s : Bool). by_flags false true s (ends_with_first_true cs) part No) (leading_flags cs e).1
+  false_verdict e part = grind (arith, leading_flags)
 
   past_verdict : stage cs ≡ past → (part : Part) (c : Cond) → opener_verdict all cs part c ≡ Remove
-  past_verdict e part c =
-      let f : (all_false cs ≡ false) × (any_true cs ≡ true) × (ends_with_first_true cs ≡ false) = past_flags cs e in
-      ap₂ (λ (w n : Bool). by_flags w n (any_true cs) (ends_with_first_true cs) part c) stays f.0
-      ∙ ap₂ (λ (s l : Bool). by_flags false false s l part c) f.1 f.2
+  past_verdict e part c = grind (arith, past_flags)
 
   going_verdict : stage cs ≡ going → (part : Part) (c : Cond) → opener_verdict all cs part c ≡ later_verdict part c
-  going_verdict e part c =
-      let f : (all_false cs ≡ false) × (any_true cs ≡ false) = going_flags cs e in
-      ap₂ (λ (w n : Bool). by_flags w n (any_true cs) (ends_with_first_true cs) part c) stays f.0
-      ∙ ap (λ (s : Bool). by_flags false false s (ends_with_first_true cs) part c) f.1
+  going_verdict e part c = grind (arith, going_flags)
 
   true_verdict : stage cs ≡ at_true → (part : Part) (c : Cond) → opener_verdict all cs part c ≡ ToEndif
-  true_verdict e part c =
-      let f : (all_false cs ≡ false) × (any_true cs ≡ true) × (ends_with_first_true cs ≡ true) = true_flags cs e in
-      ap₂ (λ (w n : Bool). by_flags w n (any_true cs) (ends_with_first_true cs) part c) stays f.0
-      ∙ ap₂ (λ (s l : Bool). by_flags false false s l part c) f.1 f.2
+  true_verdict e part c = grind (arith, true_flags)
 
 kept_on : (cs : List Cond) (c : Cond) (s : Stage) → stage cs ≡ s → is_kept cs c ≡ kept_at s c
 kept_on cs c s e = kept_by_stage cs c ∙ ap (λ (t : Stage). kept_at t c) e
@@ -202,10 +190,7 @@ module _ {L : Type 0} where
   -- One more group isn't kept.
   one_gone : (all : List Cond) (gs : List (Group L)) (hs : List (Group (Edited L))) (g : Group L) (ends m : List (Item (Edited L))) → Left all gs hs ends → is_kept_group g ≡ false → left_of all g ≡ m →
       Left all (gs ++ g ∷ []) hs (ends ++ m)
-  one_gone all gs hs g ends m l e o = record {
-    are = kept_longer (g ∷ []) l.are (e, tt);
-    others = others_then all gs g ends m l.others (other_gone all g m e o);
-  }
+  one_gone all gs hs g ends m l e o = grind (arith, kept_longer, others_then, other_gone)
 
   start_leaves : (part : Part) (x : Item L) (o : Opener L) → kept_line (first_kept_verdict part) x ≡ if_line (edited_opener (first_kept_verdict part) o) ∷ [] →
       (cs : List Cond) (gs : List (Group L)) → stage cs ≡ leading → Leaves gs none_kept → (c : Cond) (ns : Nodes L) (ps : Nodes (Edited L)) → ArePruned ns ps →
@@ -314,10 +299,7 @@ module _ {M : Type 0} where
       ∙ ap (λ (l : List (Item M)). (l ++ elif_line o ∷ []) ++ lines_of_nodes ns) (elifs_lines_in es)
 
   groups_lines_in : (gs : Groups M) → lines_in (groups_of gs) ≡ lines_of_groups gs
-  groups_lines_in (conditional es) = elifs_lines_in es
-  groups_lines_in (otherwise es l ns) =
-      lines_last (groups_of_elifs es) (group an_else (conds_of_elifs es) Yes (else_line l) ns)
-      ∙ ap (λ (k : List (Item M)). (k ++ else_line l ∷ []) ++ lines_of_nodes ns) (elifs_lines_in es)
+  groups_lines_in gs = grind (arith, elifs_lines_in, lines_last)
 
 module _ {L : Type 0} where
   join3 : (a b c d : List (Item (Edited L))) (k j : List (Item (Edited L))) → a ≡ b → c ≡ d → k ≡ j → (a ++ c) ++ k ≡ (b ++ d) ++ j

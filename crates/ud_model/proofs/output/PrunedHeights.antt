@@ -12,8 +12,7 @@ use Rattle.ud_model.proofs.sections.Growth.{Adds, adds_text, adds_if, elif_after
 
 module _ {L : Type 0} where
   complete_most : (h : Head L) (b : Nodes L) → height_of_groups (complete h b) ≤ max (height_of_head h) (height_of_nodes b)
-  complete_most (if_head o) b = omega arith
-  complete_most h b = omega arith
+  complete_most h b = grind arith
 
   -- One more line makes a text no higher than it is deep then.
   pub grows_most : {t u : Tree L} {x : Item L} → Adds t x u → height u ≤ max (height t) (depth u)
@@ -29,22 +28,10 @@ module _ {L : Type 0} where
   height_left (ended es l ms k) = suc (max (height_of_elifs es) (height_of_nodes ms))
 
   with_most : (left : KeptGroups L) (part : Part) (o : Opener L) (c : Cond) (ps : Nodes (Edited L)) → height_left (with_group left part o c ps) ≤ max (height_left left) (suc (height_of_nodes ps))
-  with_most none_kept part o Yes ps = omega arith
-  with_most none_kept part o No ps = omega arith
-  with_most none_kept part o Unknown ps = omega arith
-  with_most (replaced ms) part o c ps = omega arith
-  with_most (kept_groups es) part o Yes ps = omega arith
-  with_most (kept_groups es) part o No ps = omega arith
-  with_most (kept_groups es) part o Unknown ps = omega arith
-  with_most (ended es l ms None) part o c ps = omega arith
-  with_most (ended es l ms (Some k)) part o c ps = omega arith
+  with_most left part o c ps = grind arith
 
   else_most : (left : KeptGroups L) (l : L) (ps : Nodes (Edited L)) → height_left (with_else left l ps) ≤ max (height_left left) (suc (height_of_nodes ps))
-  else_most none_kept l ps = omega arith
-  else_most (replaced ms) l ps = omega arith
-  else_most (kept_groups es) l ps = omega arith
-  else_most (ended es k ms None) l ps = omega arith
-  else_most (ended es k ms (Some j)) l ps = omega arith
+  else_most left l ps = grind arith
 
   then_most : (ms ns : Nodes (Edited L)) → height_of_nodes (then_nodes ms ns) ≤ max (height_of_nodes ms) (height_of_nodes ns)
   then_most ms nothing = omega arith
@@ -52,11 +39,7 @@ module _ {L : Type 0} where
   then_most ms (section ns gs e) = let c : height_of_nodes (then_nodes ms ns) ≤ max (height_of_nodes ms) (height_of_nodes ns) = then_most ms ns in omega arith
 
   left_most : (ps : Nodes (Edited L)) (left : KeptGroups L) (e : L) → height_of_nodes (then_kept ps left e) ≤ max (height_of_nodes ps) (height_left left)
-  left_most ps none_kept e = omega arith
-  left_most ps (replaced ms) e = then_most ps ms
-  left_most ps (kept_groups es) e = omega arith
-  left_most ps (ended es l ms None) e = omega arith
-  left_most ps (ended es l ms (Some k)) e = omega arith
+  left_most ps left e = grind (arith, then_most)
 
   mutual
     -- Pruned nodes are no higher.

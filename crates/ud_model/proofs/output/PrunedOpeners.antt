@@ -1,5 +1,5 @@
 -- The openers of a pruned tree stay as they are, or become an `#if`.
-use Rattle.std.proofs.Common.{[], ◌∷◌, ◌++◌, Some, None}
+use Rattle.std.proofs.Common.{[], ◌∷◌, ◌++◌, Some, None, arith}
 use Rattle.ud_model.specs.declared.cond.Cond.{Cond}
 use Rattle.ud_model.specs.declared.cond.Cond.TheVariants.{Yes, No, Unknown}
 use Rattle.ud_model.specs.declared.verdict.Verdict.{Verdict}
@@ -18,8 +18,7 @@ KeepsCondition ToIf = Unit {0}
 KeepsCondition _ = ⊥
 
 first_keeps : (part : Part) → KeepsCondition (first_kept_verdict part)
-first_keeps an_if = tt
-first_keeps _ = tt
+first_keeps part = grind arith
 
 module _ {L : Type 0} where
   abbrev pub Keeps : Edited L → Type 0
@@ -32,23 +31,10 @@ module _ {L : Type 0} where
   LeftKeep (ended es l ms k) = Each Keeps (openers_of_elifs es) × Each Keeps (openers ms)
 
   group_keeps : (left : KeptGroups L) (part : Part) (o : Opener L) (c : Cond) (ps : Nodes (Edited L)) → LeftKeep left → Each Keeps (openers ps) → LeftKeep (with_group left part o c ps)
-  group_keeps none_kept part o Yes ps h n = n
-  group_keeps none_kept part o No ps h n = tt
-  group_keeps none_kept part o Unknown ps h n = (first_keeps part, n)
-  group_keeps (replaced ms) part o c ps h n = h
-  group_keeps (kept_groups es) part o Yes ps h n = (h, n)
-  group_keeps (kept_groups es) part o No ps h n = h
-  group_keeps (kept_groups es) part o Unknown ps h n =
-      each_both Keeps (openers_of_elifs es ++ edited Keep o.line ∷ []) (openers ps) (each_both Keeps (openers_of_elifs es) (edited Keep o.line ∷ []) h (tt, tt)) n
-  group_keeps (ended es l ms None) part o c ps h n = h
-  group_keeps (ended es l ms (Some k)) part o c ps h n = h
+  group_keeps left part o c ps h n = grind (arith, first_keeps, each_both)
 
   else_keeps : (left : KeptGroups L) (l : L) (ps : Nodes (Edited L)) → LeftKeep left → Each Keeps (openers ps) → LeftKeep (with_else left l ps)
-  else_keeps none_kept l ps h n = n
-  else_keeps (replaced ms) l ps h n = h
-  else_keeps (kept_groups es) l ps h n = (h, n)
-  else_keeps (ended es k ms None) l ps h n = h
-  else_keeps (ended es k ms (Some j)) l ps h n = h
+  else_keeps left l ps h n = grind arith
 
   then_keep : (ms ns : Nodes (Edited L)) → Each Keeps (openers ms) → Each Keeps (openers ns) → Each Keeps (openers (then_nodes ms ns))
   then_keep ms nothing a b = a
@@ -58,13 +44,7 @@ module _ {L : Type 0} where
       each_both Keeps (openers (then_nodes ms ns)) (openers_of_groups gs) (then_keep ms ns a r.0) r.1
 
   left_keeps : (ps : Nodes (Edited L)) (left : KeptGroups L) (e : L) → Each Keeps (openers ps) → LeftKeep left → Each Keeps (openers (then_kept ps left e))
-  left_keeps ps none_kept e a h = a
-  left_keeps ps (replaced ms) e a h = then_keep ps ms a h
-  left_keeps ps (kept_groups es) e a h = each_both Keeps (openers ps) (openers_of_elifs es) a h
-  left_keeps ps (ended es l ms None) e a h =
-      each_both Keeps (openers ps) (openers_of_elifs es ++ openers ms) a (each_both Keeps (openers_of_elifs es) (openers ms) h.0 h.1)
-  left_keeps ps (ended es l ms (Some k)) e a h =
-      each_both Keeps (openers ps) (openers_of_elifs es ++ openers ms) a (each_both Keeps (openers_of_elifs es) (openers ms) h.0 h.1)
+  left_keeps ps left e a h = grind (arith, then_keep, each_both)
 
   mutual
     -- The openers of pruned nodes stay, or become an `#if`.

@@ -1,5 +1,5 @@
 -- An opener of the pruned nodes is reached only if the opener from which it comes is.
-use Rattle.std.proofs.Common.{◌≡◌, List, true, Option, Some, None, option_map, map, refl, ◌∙◌}
+use Rattle.std.proofs.Common.{◌≡◌, List, true, Option, Some, None, option_map, map, refl, ◌∙◌, arith}
 use Rattle.ud_model.specs.declared.cond.Cond.{Cond}
 use Rattle.ud_model.specs.declared.cond.Cond.TheVariants.{Yes, No, Unknown}
 use Rattle.ud_model.specs.declared.verdict.Verdict.TheVariants.{Keep}
@@ -12,8 +12,7 @@ use Rattle.ud_model.proofs.output.SelectedPruned.{out_world, Fits, Chosen, chose
 
 -- An option is None if its image is.
 pub map_none : {A B : Type 0} (f : A → B) (o : Option A) → option_map f o ≡ None → o ≡ None
-map_none f None e = refl
-map_none f (Some x) e = cc
+map_none f h e = grind arith
 
 module _ {L : Type 0} (w : World L) (P : L → Type 0) (Q : Edited L → Type 0) (stays : (part : Part) (l : L) → P l → Q (edited (first_kept_verdict part) l)) where
   abbrev pub Is : Opener L → Type 0
@@ -49,11 +48,7 @@ module _ {L : Type 0} (w : World L) (P : L → Type 0) (Q : Edited L → Type 0)
   group_reached s (ended es l ms (Some k)) part o c ps h r a n = r
 
   else_reached : (s : Option (List L)) (left : KeptGroups L) (l : L) (ps : Nodes (Edited L)) → Chosen w s left → LeftReached left → (s ≡ None → Reached ps) → LeftReached (with_else left l ps)
-  else_reached s none_kept l ps h r n = n h
-  else_reached s (replaced ms) l ps h r n = r
-  else_reached s (kept_groups es) l ps h r n = (r, λ e. n (none_before s es h e))
-  else_reached s (ended es k ms None) l ps h r n = r
-  else_reached s (ended es k ms (Some j)) l ps h r n = r
+  else_reached s left l ps h r n = grind arith
 
   then_reached : (ms ns : Nodes (Edited L)) → Reached ms → Reached ns → Reached (then_nodes ms ns)
   then_reached ms nothing a b = a
@@ -61,11 +56,7 @@ module _ {L : Type 0} (w : World L) (P : L → Type 0) (Q : Edited L → Type 0)
   then_reached ms (section ns gs e) a b = (then_reached ms ns a b.0, b.1)
 
   left_reached : (ps : Nodes (Edited L)) (left : KeptGroups L) (e : L) → Reached ps → LeftReached left → Reached (then_kept ps left e)
-  left_reached ps none_kept e a r = a
-  left_reached ps (replaced ms) e a r = then_reached ps ms a r
-  left_reached ps (kept_groups es) e a r = (a, r)
-  left_reached ps (ended es l ms None) e a r = (a, r)
-  left_reached ps (ended es l ms (Some k)) e a r = (a, r)
+  left_reached ps left e a r = grind (arith, then_reached)
 
   mutual
     -- In a world that agrees, pruning keeps a property of each opener that is reached.

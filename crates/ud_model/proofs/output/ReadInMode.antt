@@ -1,5 +1,5 @@
 -- Under plain options each line of a text is read in one mode: without `-t` in C mode.
-use Rattle.std.proofs.Common.{◌≡◌, ℕ, List, map, Bool, false, sym, ◌∙◌, ap}
+use Rattle.std.proofs.Common.{◌≡◌, ℕ, List, map, Bool, false, sym, ◌∙◌, ap, arith}
 use Rattle.ud_model.specs.text.Lines.{Line}
 use Rattle.ud_model.specs.text.Scans.{Reading}
 use Rattle.ud_model.specs.sections.Tree.{Item, Tree, lines}
@@ -15,11 +15,7 @@ use Rattle.ud_model.proofs.output.InsertedText.{items_are, readings_back}
 -- The lines of a text's tree are its lines, each read in the one mode.
 pub read_in_one_mode : (o : Options) → IsPlain o → (text : List ℕ) (t : Tree Reading) → IsTreeOf o text t →
     map (λ (x : Item Reading). reading_of x) (lines t) ≡ read_as (mode_by o.settings.plain) text
-read_in_one_mode o p text t i =
-    let back : map (λ (x : Item Reading). reading_of x) (items o (read_in (the_mode o) (map line_of i.items))) ≡ read_in (the_mode o) (map line_of i.items) =
-    readings_back o (read_in (the_mode o) (map line_of i.items)) in
-    ap (λ (xs : List (Item Reading)). map (λ (x : Item Reading). reading_of x) xs) (read_lines i.read ∙ items_are o p.none_ignores i.read)
-    ∙ back ∙ ap (λ (ls : List Line). read_in (the_mode o) ls) (sym i.are)
+read_in_one_mode o p text t i = grind (arith, readings_back, read_lines, items_are)
 
 -- Without `-t` that is C mode.
 pub read_in_c : (o : Options) → IsPlain o → o.settings.plain ≡ false → (text : List ℕ) (t : Tree Reading) → IsTreeOf o text t →

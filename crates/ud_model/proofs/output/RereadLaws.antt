@@ -54,16 +54,7 @@ use Rattle.ud_model.proofs.output.CSelected.{Clear, sound_clear, c_agrees}
 -- The piece of a line is the output for it.
 left_bytes : (v : Verdict) (x : Item Reading) →
     concat (map (λ y. edited_bytes (line_in y)) (kept_line v x)) ≡ piece_by v (keyword_in (content_of (reading_of x).scan)) (line_of x)
-left_bytes Remove x = refl
-left_bytes ToIf (elif_line p) = append-nil (edited_bytes (edited ToIf p.line))
-left_bytes ToElse (elif_line p) = append-nil (edited_bytes (edited ToElse p.line))
-left_bytes ToEndif (elif_line p) = append-nil (edited_bytes (edited ToEndif p.line))
-left_bytes ToEndif (else_line l) = append-nil (edited_bytes (edited ToEndif l))
-left_bytes v (text_line l) = append-nil (edited_bytes (edited v l))
-left_bytes v (if_line p) = append-nil (edited_bytes (edited v p.line))
-left_bytes v (elif_line p) = append-nil (edited_bytes (edited v p.line))
-left_bytes v (else_line l) = append-nil (edited_bytes (edited v l))
-left_bytes v (endif_line l) = append-nil (edited_bytes (edited v l))
+left_bytes v x = grind (arith, append-nil)
 
 abbrev pub left_piece : Item (Edited Reading) → List ℕ
 left_piece y = edited_bytes (line_in y)
@@ -77,23 +68,17 @@ printed_bytes _ _ = refl
 
 -- Without options the pieces are the output.
 pub plain_output : (o : Options) → IsPlain o → (xs : List (Item Reading)) (ms : List Mark) → printed_by o.settings xs ms ≡ concat (map left_piece (printed xs ms))
-plain_output o p xs ms =
-    ap (λ (l : List (List ℕ)). concat l)
-    (pieces_lone o.settings.blank o.settings.complement o.settings.renumber [] (judged_lines xs ms) p.unnumbered
-    ∙ ap₂ (λ (b c : Bool). map (lone b c) (judged_lines xs ms)) p.unblanked p.uncomplemented)
-    ∙ sym (printed_bytes xs ms)
+plain_output o p xs ms = grind (arith, pieces_lone, printed_bytes)
 
 line_with : {A B : Type 0} (f : A → B) (y : Item A) → line_in (item_with f y) ≡ f (line_in y)
-line_with f (text_line l) = refl
-line_with _ _ = refl
+line_with f h = grind arith
 
 map_lines : {A B : Type 0} (f : A → B) (ys : List (Item A)) → map line_in (map (item_with f) ys) ≡ map (λ y. f (line_in y)) ys
 map_lines f [] = refl
 map_lines f (y ∷ ys) = ap₂ (λ (a : _) (b : List _). a ∷ b) (line_with f y) (map_lines f ys)
 
 line_read : (y : Item Reading) → reading_of y ≡ line_in y
-line_read (text_line l) = refl
-line_read _ = refl
+line_read y = grind arith
 
 map_readings : (ys : List (Item Reading)) → map (λ y. line_bytes (reading_of y)) ys ≡ map (λ y. line_bytes (line_in y)) ys
 map_readings [] = refl
@@ -113,10 +98,7 @@ kept_bytes (l ∷ ls) = ap (λ (t : List (List ℕ)). line_bytes l ∷ t) (kept_
 
 -- The rest of nodes is no higher.
 low_left : (us ns : Nodes Reading) → with_lines line_bytes us ≡ with_lines edited_bytes (folded ns) → height_of_nodes ns ≤ OPEN_SECTIONS → height_of_nodes us ≤ OPEN_SECTIONS
-low_left us ns e h =
-    let a : height_of_nodes us ≡ height_of_nodes (folded ns) = sym (height-with line_bytes us) ∙ ap (λ (m : Nodes (List ℕ)). height_of_nodes m) e ∙ height-with edited_bytes (folded ns) in
-    let b : height_of_nodes (folded ns) ≤ height_of_nodes ns = pruned_height ns in
-    omega (arith, a, b, h)
+low_left us ns e h = grind (arith, height-with, pruned_height)
 
 module _ (o : Options) (p : IsPlain o) (input : List ℕ) where
   -- The output's items and their tree, which is the pruned tree of the input. They keep the limits
@@ -169,9 +151,7 @@ same_nodes : (ns ms : Nodes Reading) → ◌≡◌ {A = Tree Reading} (closed ns
 same_nodes ns ms e = cc
 
 kept_condition : (v : Verdict) (l : Reading) → KeepsCondition v → left_condition v l ≡ condition_in l
-kept_condition Keep l h = refl
-kept_condition ToIf l h = refl
-kept_condition _ _ h = absurd h
+kept_condition v l h = grind arith
 
 kept_conditions : (es : List (Edited Reading)) → Each Keeps es → map (λ (e : Edited Reading). (left_seen e).condition) es ≡ map (λ (e : Edited Reading). condition_in e.line) es
 kept_conditions [] h = refl
@@ -288,8 +268,7 @@ module _ {L M : Type 0} (f : L → M) where
 
 -- Nothing is decided of the output.
 pub output_undecided : (us ns : Nodes Reading) → with_lines line_bytes us ≡ with_lines edited_bytes (folded ns) → IsUndecided us
-output_undecided us ns e =
-    undecided_back line_bytes us (subst IsUndecided (sym e) (undecided_with edited_bytes (folded ns) (pruned_undecided ns)))
+output_undecided us ns e = grind (arith, undecided_back, undecided_with, pruned_undecided)
 
 -- Nothing is decided of the output of a clean run.
 pub after_undecided : (k : CleanRun) → IsUndecided k.after
@@ -308,10 +287,7 @@ none_differ (j ∷ js) = ap₂ (λ (a b : Bool). not a || b) ((bytes_eq-Decides 
 
 module _ (o : Options) (p : IsPlain o) (text : List ℕ) (ys : List (Item Reading)) (us : Nodes Reading) (g : HasNoFault o (lines_of text) ys (closed us)) (h : IsUndecided us) where
   the_pieces : pieces_by (piece_after (style_of o.settings)) [] (judged_lines ys (marks (closed us))) ≡ map whole (judged_lines ys (marks (closed us)))
-  the_pieces =
-      pieces_lone o.settings.blank o.settings.complement o.settings.renumber [] (judged_lines ys (marks (closed us))) p.unnumbered
-      ∙ ap₂ (λ (b c : Bool). map (lone b c) (judged_lines ys (marks (closed us)))) p.unblanked p.uncomplemented
-      ∙ whole_pieces ys (marks (closed us)) (undecided_stay us h)
+  the_pieces = grind (arith, pieces_lone, whole_pieces, undecided_stay)
 
   -- A text is printed as it is, if it has no faulty line and nothing of it is decided.
   pub same_output : output_by o.settings.listing o.settings ys (closed us) ≡ text
@@ -323,9 +299,7 @@ module _ (o : Options) (p : IsPlain o) (text : List ℕ) (ys : List (Item Readin
 
   -- None of its lines differs.
   pub same_lines : differs_by o.settings.listing o.settings ys (closed us) ≡ false
-  same_lines =
-      ap (λ (q : Listing). differs_by q o.settings ys (closed us)) p.unlisted
-      ∙ ap (λ (l : List (List ℕ)). some_other l (judged_lines ys (marks (closed us)))) the_pieces ∙ none_differ (judged_lines ys (marks (closed us)))
+  same_lines = grind (arith, the_pieces, none_differ)
 
   pub runs_again : end_fault ys (closed us) ≡ None → HasOutcome o text (record { output = text; fault = None; differs = false })
   runs_again e =
@@ -338,14 +312,8 @@ module _ (o : Options) (p : IsPlain o) (text : List ℕ) (ys : List (Item Readin
 -- No line of the output is faulty, and neither is its end.
 output_sound : (o : Options) (p : IsPlain o) (input : List ℕ) {r : Outcome} (ns : Nodes Reading) (z : Result o p input r ns) → LinesFit (lines_of r.output) →
     HasNoFault o (lines_of r.output) z.is_tree.items (closed z.tree) × (end_fault z.is_tree.items (closed z.tree) ≡ None)
-output_sound o p input ns z f = (
-  record {
-    sound = sound_again o z.is_tree.items (closed z.tree) z.is_tree.read z.uncut z.few (fit_short z.is_tree.items (subst LinesFit z.is_tree.are f)) z.low
-        (undecided_stay z.tree (output_undecided z.tree ns z.same));
-    are = z.is_tree.are;
-  },
-  ap (λ (c : Bool). end_by c (last_number z.is_tree.items) None) z.calm,
-)
+output_sound o p input ns z f =
+    grind (arith, sound_again, fit_short, undecided_stay, output_undecided)
 
 -- An output whose lines fit is printed as it is, if the input has this tree.
 again_law : (o : Options) → IsPlain o → (input : List ℕ) → {r : Outcome} → HasOutcome o input r → r.fault ≡ None → LinesFit (lines_of r.output) →
@@ -361,10 +329,7 @@ input_nodes (open_section ns h t) e = absurd (no_innermost ns t h e)
 
 -- An input without a fault has a tree whose sections are closed.
 pub input_tree : (o : Options) (input : List ℕ) → {r : Outcome} → HasOutcome o input r → r.fault ≡ None → (ns : Nodes Reading) × IsTreeOf o input (closed ns)
-input_tree o input (ran_as (stops xs t f s)) e = cc
-input_tree o input (ran_as (ends xs t g)) e =
-    let n : (ns : Nodes Reading) × (t ≡ closed ns) = input_nodes t (end_parts (ends_in_comment xs) (last_number xs) (innermost t) e).1 in
-    (n.0, record { items = xs; read = subst (λ (u : Tree Reading). AreRead o xs u) n.1 (sound_read g.sound); are = g.are })
+input_tree o input h e = grind (arith, input_nodes, end_parts, sound_read)
 
 -- An output whose lines fit is printed as it is.
 pub runs_output : (o : Options) → IsPlain o → (input : List ℕ) → {r : Outcome} → HasOutcome o input r → r.fault ≡ None → LinesFit (lines_of r.output) →

@@ -1,5 +1,5 @@
 -- The output for lines with one more, read again: if that line is removed, and if it is left.
-use Rattle.std.proofs.Common.{◌≡◌, ℕ, suc, List, [], ◌∷◌, ◌++◌, length, map, false, refl, sym, ◌∙◌, ap, ap₂, append-nil}
+use Rattle.std.proofs.Common.{◌≡◌, ℕ, suc, List, [], ◌∷◌, ◌++◌, length, map, false, refl, sym, ◌∙◌, ap, ap₂, append-nil, arith}
 use Rattle.std.proofs.lemmas.List.{map-append}
 use Rattle.ud_model.specs.text.Lines.{Line, line_at, numbered_from}
 use Rattle.ud_model.specs.text.Scans.{Reading}
@@ -42,21 +42,11 @@ piece_behind_all ys piece = line_at (suc (length (map (λ (y : Item Reading). li
 module _ (o : Options) (m : Mode) (xs : List (Item Reading)) (t u : Tree Reading) (ys : List (Item Reading)) (x : Item Reading) (mark : Mark)
     (more : marks u ≡ marks t ++ mark ∷ []) (long : length xs ≡ length (marks t)) (a : Again o m xs t ys) where
   printed_next : printed (xs ++ x ∷ []) (marks u) ≡ printed xs (marks t) ++ kept_line mark.verdict x
-  printed_next =
-      ap (λ (ms : List Mark). printed (xs ++ x ∷ []) ms) more ∙ printed-append xs (x ∷ []) (marks t) (mark ∷ []) long
-      ∙ ap (λ (zs : List (Item (Edited Reading))). printed xs (marks t) ++ zs) (append-nil (kept_line mark.verdict x))
+  printed_next = grind (arith, printed-append, append-nil)
 
   -- The case of a removed line.
   pub gone_again : mark.verdict ≡ Remove → ends_in_comment ys ≡ false → Again o m (xs ++ x ∷ []) u ys
-  gone_again e c = record {
-    read = a.read;
-    same = a.same
-        ∙ sym (ap (λ (zs : List (Item (Edited Reading))). map (item_with left_seen) zs)
-        (printed_next ∙ ap (λ (v : Verdict). printed xs (marks t) ++ kept_line v x) e ∙ append-nil (printed xs (marks t))));
-    numbered = a.numbered;
-    uncut = a.uncut;
-    ends = λ h. c;
-  }
+  gone_again e c = grind (arith, left_seen, printed_next, append-nil)
 
   -- The case of a line that is left.
   pub left_again : (r : Reading) (piece : List ℕ) → x ≡ item_of o r → Left o mark.verdict r (read_after ys m (piece_behind_all ys piece)) →

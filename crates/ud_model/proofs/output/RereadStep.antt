@@ -1,5 +1,5 @@
 -- Reading an output again: one line more, which is removed or left.
-use Rattle.std.proofs.Common.{◌≡◌, ℕ, suc, List, [], ◌∷◌, ◌++◌, length, map, Bool, true, false, not, ◌⊎◌, inl, inr, refl, sym, ◌∙◌, ap, subst}
+use Rattle.std.proofs.Common.{◌≡◌, ℕ, suc, List, [], ◌∷◌, ◌++◌, length, map, Bool, true, false, not, ◌⊎◌, inl, inr, refl, sym, ◌∙◌, ap, subst, arith}
 use Rattle.std.proofs.lemmas.Bool.{false_from_ne_true}
 use Rattle.ud_model.specs.text.Lines.{Line, text_of}
 use Rattle.ud_model.specs.text.Scans.{Reading, is_spanning}
@@ -39,12 +39,10 @@ abbrev Stepped : Options → Mode → List (Item Reading) → Tree Reading → L
 Stepped o m xs u l zs = Again o m (xs ++ item_of o (read_after xs m l) ∷ []) u zs × (HasEnd l → Between o m (xs ++ item_of o (read_after xs m l) ∷ []) u zs)
 
 pub goes_or_left : (v : Verdict) → (v ≡ Remove) ⊎ IsLeft v
-goes_or_left Remove = inl refl
-goes_or_left _ = inr tt
+goes_or_left v = grind arith
 
 pub left_stays : (v : Verdict) → IsLeft v → is_removed v ≡ false
-left_stays Remove h = absurd h
-left_stays _ _ = refl
+left_stays v h = grind arith
 
 -- In plain mode no lines join.
 pub plain_run : (o : Options) (ys : List (Item Reading)) → ReadIn o Plain ys → c_run_of (map reading_of ys) ≡ []
@@ -155,15 +153,11 @@ module _ (o : Options) (xs : List (Item Reading)) (t : Tree Reading) (ys : List 
 
   -- If the line before joins this one, both are removed or both stay.
   both_alike : joins (c_run_of (map reading_of xs)) ≡ true → is_removed k.grown.mark.verdict ≡ ends_removed (marks t)
-  both_alike j =
-      joined_alike (ends_removed (marks t)) k.grown.does k.unspoiled
-      (ap (λ (r : Reading). r.scan.joins_before) line_reading ∙ joins_before-code (c_run_of (map reading_of xs)) l ∙ j) (b.carried j)
+  both_alike j = grind (arith, joined_alike, line_reading, joins_before-code)
 
   -- An edited line, but for one to an `#if`, is alone.
   is_alone : IsLeft k.grown.mark.verdict → keeps_rest k.grown.mark.verdict ≡ false → is_spanning (scan_after (map reading_of xs) C l) ≡ false
-  is_alone h e =
-      ap (λ (r : Reading). is_spanning r.scan) (sym line_reading)
-      ∙ edited_alone (ends_removed (marks t)) k.grown.does k.unspoiled e (left_stays k.grown.mark.verdict h)
+  is_alone h e = grind (arith, line_reading, edited_alone, left_stays)
 
   carried_on : joins (c_run_of (map reading_of (xs ++ line_new ∷ []))) ≡ true → ends_removed (marks u) ≡ not (ends_kept true u)
   carried_on j =
@@ -208,9 +202,7 @@ module _ (o : Options) (xs : List (Item Reading)) (t : Tree Reading) (ys : List 
 
   -- If this line is removed, the one before joins nothing or is removed.
   pub stayed_alone : (w : LexState) (white on : Bool) → LeavesOff xs w white on → (on ≡ true → ends_removed (marks t) ≡ false) → k.grown.mark.verdict ≡ Remove → on ≡ false
-  stayed_alone w white false a f e = refl
-  stayed_alone w white true a f e =
-      let p : true ≡ false = sym (ap is_removed e) ∙ both_alike (sym a.joins_on) ∙ f refl in cc
+  stayed_alone w white on a f e = grind (arith, both_alike)
 
   code_by : Carry (ends_removed (marks t)) xs ys → (k.grown.mark.verdict ≡ Remove) ⊎ IsLeft k.grown.mark.verdict → (zs : List (Item Reading)) × Stepped o C xs u l zs
   code_by (alike w white on a c f r) (inl e) = code_gone w white on a (r (stayed_alone w white on a f e)) e

@@ -37,8 +37,7 @@ parts h g c d l e = absurd (omega arith)
 
 module _ {L K M : Type 0} (f : L → M) (g : K → M) (v : World L) (w : World K) where
   same_long : (a : List L) (b : List K) → map f a ≡ map g b → length (map v a) ≡ length (map w b)
-  same_long a b e =
-      length-map a v ∙ sym (length-map a f) ∙ ap (λ (l : List M). length l) e ∙ length-map b g ∙ sym (length-map b w)
+  same_long a b e = grind (arith, length-map)
 
   -- The openers of two lists of groups, apart.
   pub openers_apart : (a c : List L) (b d : List K) → map f a ≡ map g b → map v (a ++ c) ≡ map w (b ++ d) → (map v a ≡ map w b) × (map v c ≡ map w d)
@@ -52,21 +51,15 @@ module _ {L K M : Type 0} (f : L → M) (g : K → M) (v : World L) (w : World K
   long_elifs es ds e = sym (elifs_openers f es) ∙ ap openers_of_elifs e ∙ elifs_openers g ds
 
   where_same : (a b : Bool) (ls : List L) (ks : List K) → a ≡ b → map f ls ≡ map g ks → option_map (map f) (where_true a ls) ≡ option_map (map g) (where_true b ks)
-  where_same true true ls ks e h = ap (λ (l : List M). Some l) h
-  where_same false false ls ks e h = refl
-  where_same _ _ ls _ e h = cc
+  where_same a b ls ks e h = grind arith
 
   or_same : (s : Option (List L)) (r : Option (List K)) (t : Option (List L)) (u : Option (List K)) → option_map (map f) s ≡ option_map (map g) r →
       option_map (map f) t ≡ option_map (map g) u → option_map (map f) (or_else s t) ≡ option_map (map g) (or_else r u)
-  or_same None None t u e h = h
-  or_same (Some a) (Some b) t u e h = e
-  or_same _ _ _ _ e h = cc
+  or_same s r t u e h = grind arith
 
   lines_same : (s : Option (List L)) (r : Option (List K)) (ls : List L) (ks : List K) → option_map (map f) s ≡ option_map (map g) r → map f ls ≡ map g ks →
       map f (lines_or s ls) ≡ map g (lines_or r ks)
-  lines_same None None ls ks e h = h
-  lines_same (Some a) (Some b) ls ks e h = cc
-  lines_same _ _ ls _ e h = cc
+  lines_same s r ls ks e h = grind arith
 
   mutual
     -- Trees that differ in their lines alone have the same selected lines, if their openers have

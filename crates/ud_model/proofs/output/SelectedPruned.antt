@@ -1,6 +1,6 @@
 -- A world selects of the pruned nodes the lines that it selects of the nodes, if it agrees with the
 -- decided conditions.
-use Rattle.std.proofs.Common.{◌≡◌, List, [], ◌∷◌, ◌++◌, map, Bool, true, false, Option, Some, None, option_map, refl, sym, ◌∙◌, ap, ap₂, append-nil, append_assoc}
+use Rattle.std.proofs.Common.{◌≡◌, List, [], ◌∷◌, ◌++◌, map, Bool, true, false, Option, Some, None, option_map, refl, sym, ◌∙◌, ap, ap₂, append-nil, append_assoc, arith}
 use Rattle.std.proofs.lemmas.List.{map-append}
 use Rattle.ud_model.specs.declared.cond.Cond.{Cond}
 use Rattle.ud_model.specs.declared.cond.Cond.TheVariants.{Yes, No, Unknown}
@@ -31,53 +31,31 @@ module _ {L : Type 0} (w : World L) where
 
   -- A group by its truth, if none before it is processed.
   new_group : (b : Bool) (ls : List L) (ks : List (Edited L)) → (b ≡ true → map kept ls ≡ ks) → option_map (map kept) (where_true b ls) ≡ where_true b ks
-  new_group true ls ks h = ap (λ (q : List (Edited L)). Some q) (h refl)
-  new_group false ls ks h = refl
+  new_group b ls ks h = grind arith
 
   -- A further group, after groups.
   more_group : (s : Option (List L)) (r : Option (List (Edited L))) (b : Bool) (ls : List L) (ks : List (Edited L)) → option_map (map kept) s ≡ r →
       (s ≡ None → b ≡ true → map kept ls ≡ ks) → option_map (map kept) (or_else s (where_true b ls)) ≡ or_else r (where_true b ks)
-  more_group None r b ls ks e h = new_group b ls ks (h refl) ∙ ap (λ (q : Option (List (Edited L))). or_else q (where_true b ks)) e
-  more_group (Some x) r b ls ks e h = ap (λ (q : Option (List (Edited L))). or_else q (where_true b ks)) e
+  more_group s r b ls ks e h = grind arith
 
   -- The last group is processed if none before it is.
   last_group : (s : Option (List L)) (r : Option (List (Edited L))) (ls : List L) (ks : List (Edited L)) → option_map (map kept) s ≡ r →
       (s ≡ None → map kept ls ≡ ks) → map kept (lines_or s ls) ≡ lines_or r ks
-  last_group None r ls ks e h = h refl ∙ ap (λ (q : Option (List (Edited L))). lines_or q ks) e
-  last_group (Some x) r ls ks e h = ap (λ (q : Option (List (Edited L))). lines_or q ks) e
+  last_group s r ls ks e h = grind arith
 
   -- The case of a group that is true.
   true_group : (s : Option (List L)) (b : Bool) (ls : List L) → (s ≡ None → b ≡ true) → or_else s (where_true b ls) ≡ Some (lines_or s ls)
-  true_group None b ls h = ap (λ (t : Bool). where_true t ls) (h refl)
-  true_group (Some x) b ls h = refl
+  true_group s b ls h = grind arith
 
   -- The case of a group that is false.
   false_group : (s : Option (List L)) (b : Bool) (ls : List L) → (s ≡ None → b ≡ false) → or_else s (where_true b ls) ≡ s
-  false_group None b ls h = ap (λ (t : Bool). where_true t ls) (h refl)
-  false_group (Some x) b ls h = refl
+  false_group s b ls h = grind arith
 
   -- The case of one more group.
   group_step : (s : Option (List L)) (left : KeptGroups L) (part : Part) (o : Opener L) (c : Cond) (ns : Nodes L) (ps : Nodes (Edited L)) →
       Chosen s left → (s ≡ None → AgreesWith w c o.line) → (s ≡ None → w o.line ≡ true → map kept (selected w ns) ≡ selected out_world ps) →
       Chosen (or_else s (where_true (w o.line) (selected w ns))) (with_group left part o c ps)
-  group_step s none_kept part o Yes ns ps h a n = (
-    selected w ns,
-    true_group s (w o.line) (selected w ns) a ∙ ap (λ (q : Option (List L)). Some (lines_or q (selected w ns))) h,
-    n h (a h),
-  )
-  group_step s none_kept part o No ns ps h a n = false_group s (w o.line) (selected w ns) a ∙ h
-  group_step s none_kept part o Unknown ns ps h a n =
-      ap (λ (q : Option (List L)). option_map (map kept) (or_else q (where_true (w o.line) (selected w ns)))) h ∙ new_group (w o.line) (selected w ns) (selected out_world ps) (n h)
-  group_step s (replaced ms) part o c ns ps h a n = (h.0, later_group s (w o.line) h.0 (selected w ns) h.1, h.2)
-  group_step s (kept_groups es) part o Yes ns ps h a n = (
-    lines_or s (selected w ns),
-    true_group s (w o.line) (selected w ns) a,
-    last_group s (selected_elifs out_world es) (selected w ns) (selected out_world ps) h (λ e. n e (a e)),
-  )
-  group_step s (kept_groups es) part o No ns ps h a n = ap (λ (q : Option (List L)). option_map (map kept) q) (false_group s (w o.line) (selected w ns) a) ∙ h
-  group_step s (kept_groups es) part o Unknown ns ps h a n = more_group s (selected_elifs out_world es) (w o.line) (selected w ns) (selected out_world ps) h n
-  group_step s (ended es l ms None) part o c ns ps h a n = (h.0, later_group s (w o.line) h.0 (selected w ns) h.1, h.2)
-  group_step s (ended es l ms (Some k)) part o c ns ps h a n = (h.0, later_group s (w o.line) h.0 (selected w ns) h.1, h.2)
+  group_step s left part o c ns ps h a n = grind arith
 
   -- The lines selected of a whole section, by the rest of it.
   abbrev Final : List L → KeptGroups L → Type 0
@@ -87,17 +65,11 @@ module _ {L : Type 0} (w : World L) where
   Final ls (ended es l ms k) = map kept ls ≡ lines_or (selected_elifs out_world es) (selected out_world ms)
 
   without_else : (s : Option (List L)) (left : KeptGroups L) → Chosen s left → Final (lines_or s []) left
-  without_else s none_kept h = ap (λ (q : Option (List L)). lines_or q []) h
-  without_else s (kept_groups es) h = last_group s (selected_elifs out_world es) [] [] h (λ e. refl)
-  without_else _ _ h = ap (λ (q : Option (List L)). map kept (lines_or q [])) h.1 ∙ h.2
+  without_else s left h = grind arith
 
   else_step : (s : Option (List L)) (left : KeptGroups L) (l : L) (ns : Nodes L) (ps : Nodes (Edited L)) →
       Chosen s left → (s ≡ None → map kept (selected w ns) ≡ selected out_world ps) → Final (lines_or s (selected w ns)) (with_else left l ps)
-  else_step s none_kept l ns ps h n = ap (λ (q : Option (List L)). map kept (lines_or q (selected w ns))) h ∙ n h
-  else_step s (replaced ms) l ns ps h n = ap (λ (q : Option (List L)). map kept (lines_or q (selected w ns))) h.1 ∙ h.2
-  else_step s (kept_groups es) l ns ps h n = last_group s (selected_elifs out_world es) (selected w ns) (selected out_world ps) h n
-  else_step s (ended es k ms None) l ns ps h n = ap (λ (q : Option (List L)). map kept (lines_or q (selected w ns))) h.1 ∙ h.2
-  else_step s (ended es k ms (Some j)) l ns ps h n = ap (λ (q : Option (List L)). map kept (lines_or q (selected w ns))) h.1 ∙ h.2
+  else_step s left l ns ps h n = grind arith
 
   selected_then : (ms ns : Nodes (Edited L)) → selected out_world (then_nodes ms ns) ≡ selected out_world ms ++ selected out_world ns
   selected_then ms nothing = sym (append-nil (selected out_world ms))
@@ -109,12 +81,7 @@ module _ {L : Type 0} (w : World L) where
 
   section_step : (before ls : List L) (ps : Nodes (Edited L)) (left : KeptGroups L) (e : L) → map kept before ≡ selected out_world ps → Final ls left →
       map kept (before ++ ls) ≡ selected out_world (then_kept ps left e)
-  section_step before ls ps none_kept e a h = ap (λ (q : List L). map kept (before ++ q)) h ∙ ap (map kept) (append-nil before) ∙ a
-  section_step before ls ps (replaced ms) e a h =
-      map-append kept before ls ∙ ap₂ (λ (p q : List (Edited L)). p ++ q) a h ∙ sym (selected_then ps ms)
-  section_step before ls ps (kept_groups es) e a h = map-append kept before ls ∙ ap₂ (λ (p q : List (Edited L)). p ++ q) a h
-  section_step before ls ps (ended es l ms None) e a h = map-append kept before ls ∙ ap₂ (λ (p q : List (Edited L)). p ++ q) a h
-  section_step before ls ps (ended es l ms (Some k)) e a h = map-append kept before ls ∙ ap₂ (λ (p q : List (Edited L)). p ++ q) a h
+  section_step before ls ps left e a h = grind (arith, append-nil, map-append, selected_then)
 
   -- The truth that the world gives an opener fits its condition.
   abbrev pub Fits : Opener L → Type 0

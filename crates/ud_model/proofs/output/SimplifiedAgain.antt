@@ -1,5 +1,5 @@
 -- Simplified again: a simplified text stays as it is.
-use Rattle.std.proofs.Common.{◌≡◌, ℕ, ◌-◌, List, [], ◌∷◌, ◌++◌, length, map, take, drop, Bool, true, false, Some, None, if◌then◌else◌, refl, sym, ◌∙◌, ap, ap₂, subst, ◌⊎◌, inl, inr}
+use Rattle.std.proofs.Common.{◌≡◌, ℕ, ◌-◌, List, [], ◌∷◌, ◌++◌, length, map, take, drop, Bool, true, false, Some, None, if◌then◌else◌, refl, sym, ◌∙◌, ap, ap₂, subst, ◌⊎◌, inl, inr, arith}
 use Rattle.std.specs.List.{concat}
 use Rattle.std.proofs.lemmas.List.{drop-map, take-append-drop}
 use Rattle.std.proofs.lemmas.Bool.{or_parts}
@@ -47,10 +47,7 @@ module _ (table : List Argument) (rules : Rules) where
   -- The line is edited to itself.
   module _ (r s : Reading) (d : Directive) (i : IsLeft table rules r s d) where
     same_line : left_line table rules r.line d ≡ r.line → simplified_line table rules s ≡ s.line
-    same_line w =
-        let l : s.line ≡ r.line = i.line ∙ w in
-        let c : s.scan ≡ r.scan = i.after ∙ ap (λ (k : Line). scan_after_run [] k) w ∙ sym i.before in
-        ap₂ (λ (k : Line) (x : Scan). line_by table rules x k (content_of x)) l c ∙ i.simplified
+    same_line w = grind arith
 
     pub lone : is_spliced r.line ≡ false
     lone = unspliced r.line (ap (λ (x : Scan). x.joins_after) (sym i.before) ∙ (or_parts r.scan.joins_before r.scan.joins_after i.edited.lone).1)
@@ -106,5 +103,4 @@ module _ (table : List Argument) (rules : Rules) where
 
   -- A simplified text stays.
   pub text_again : (bytes : List ℕ) → simplified_text table rules (simplified_text table rules bytes) ≡ simplified_text table rules bytes
-  text_again bytes =
-      ap (λ (ls : List Line). concat (map left_text (read_in C ls))) (lines_left table rules bytes) ∙ ap concat (texts_again (readings_simplified table rules bytes))
+  text_again bytes = grind (arith, lines_left, texts_again, readings_simplified)

@@ -1,6 +1,6 @@
 -- Simplified items: line for line, the items of a simplified text are those of the text, with the
 -- residuals of their conditions.
-use Rattle.std.proofs.Common.{◌≡◌, List, refl, sym, ◌∙◌, ap, subst}
+use Rattle.std.proofs.Common.{◌≡◌, List, refl, sym, ◌∙◌, ap, subst, arith}
 use Rattle.ud_model.specs.text.Scans.{Reading}
 use Rattle.ud_model.specs.sections.Directives.{Content, directive, Directive, content_of, role_of}
 use Rattle.ud_model.specs.conditions.Conditions.{Decision, decision_on}
@@ -37,10 +37,7 @@ module _ (o : Options) where
   by_kind r s _ _ d e both_elif i = an_elif i
 
   edited_item : (r s : Reading) (d e : Directive) → content_of r.scan ≡ directive d → content_of s.scan ≡ directive e → SameIf d.kind e.kind → Simplified r s → ItemSimplified (item_of o r) (item_of o s)
-  edited_item r s d e p q i j =
-      subst (λ (c : Content). ItemSimplified (item_by o r c) (item_of o s)) (sym p)
-      (subst (λ (c : Content). ItemSimplified (item_by o r (directive d)) (item_by o s c)) (sym q)
-      (by_kind r s d.kind e.kind (decision_on r.scan d o.table (rules_of o.settings)) (decision_on s.scan e o.table (rules_of o.settings)) i j))
+  edited_item r s d e p q i j = grind (arith, by_kind)
 
   item_simplified : (r s : Reading) → ReadingSimplified o.table (rules_of o.settings) r s → ItemSimplified (item_of o r) (item_of o s)
   item_simplified r s (reading_stays e q h) = subst (λ (x : Reading). ItemSimplified (item_of o r) (item_of o x)) (sym q) (same_item (item_of o r))

@@ -1,5 +1,5 @@
 -- The lines of a simplified text are the simplified lines.
-use Rattle.std.proofs.Common.{◌≡◌, ℕ, suc, ◌-◌, List, [], ◌∷◌, ◌++◌, length, map, take, Bool, true, false, refl, sym, ◌∙◌, ap, ap₂, subst, ◌⊎◌, inl, inr, if◌then◌else◌, nat_eq}
+use Rattle.std.proofs.Common.{◌≡◌, ℕ, suc, ◌-◌, List, [], ◌∷◌, ◌++◌, length, map, take, Bool, true, false, refl, sym, ◌∙◌, ap, ap₂, subst, ◌⊎◌, inl, inr, if◌then◌else◌, nat_eq, arith}
 use Rattle.std.specs.List.{ends_with}
 use Rattle.std.proofs.lemmas.List.{map-append, drop-map}
 use Rattle.ud_model.specs.text.Lines.{Line, NoNewline, IsWhole, IsUnterminated, AreFormed, text_of, ending_of, line_at, numbered_from, lines_of, texts_of}
@@ -43,9 +43,7 @@ module _ (table : List Argument) (rules : Rules) where
 
   -- A line with its own ending is the line of its bytes.
   own_line : (k : Line) → ending_of (text_of k) ≡ k.ending → k ≡ line_at k.number (text_of k)
-  own_line k e =
-      ap₂ (λ (b f : List ℕ). record { body = b; ending = f; number = k.number })
-      (sym (ap (λ (f : List ℕ). take (length (text_of k) - length f) (text_of k)) e ∙ cut_there k.body k.ending)) (sym e)
+  own_line k e = grind (arith, cut_there)
 
   -- A line of a text, and the line that it becomes.
   record Left (n : ℕ) (t : List ℕ) (k : Line) : Type 0 where
@@ -54,8 +52,7 @@ module _ (table : List Argument) (rules : Rules) where
     pub open_line : IsUnterminated t → IsUnterminated (text_of k)
 
   end_there : (b e t : List ℕ) → b ++ e ≡ t → NoNewline t → IsEnd e → ⊥
-  end_there b e t q n (inl h) = let r : NoNewline (13 ∷ 10 ∷ []) = subst NoNewline h (no_feed_parts b e (subst NoNewline (sym q) n)).1 in r.1.0 refl
-  end_there b e t q n (inr h) = let r : NoNewline (10 ∷ []) = subst NoNewline h (no_feed_parts b e (subst NoNewline (sym q) n)).1 in r.0 refl
+  end_there b e t q n h = grind (arith, no_feed_parts)
 
   unended : (t : List ℕ) → NoNewline t → IsEnd (ending_of t) → ⊥
   unended t n h = end_there (take (length t - length (ending_of t)) t) (ending_of t) t (body-ending t) n h
@@ -64,17 +61,14 @@ module _ (table : List Argument) (rules : Rules) where
   end_by a b = if a then 13 ∷ 10 ∷ [] else if b then 10 ∷ [] else []
 
   two_ends : (a b : Bool) → IsEnd (end_by a b) ⊎ (end_by a b ≡ [])
-  two_ends true b = inl (inl refl)
-  two_ends false true = inl (inr refl)
-  two_ends false false = inr refl
+  two_ends a b = grind arith
 
   -- The ending of a line is one of two, or nothing.
   pub an_end : (t : List ℕ) → IsEnd (ending_of t) ⊎ (ending_of t ≡ [])
   an_end t = two_ends (ends_with nat_eq t (13 ∷ 10 ∷ [])) (ends_with nat_eq t (10 ∷ []))
 
   pub no_end : (t : List ℕ) → NoNewline t → IsEnd (ending_of t) ⊎ (ending_of t ≡ []) → ending_of t ≡ []
-  no_end t n (inl h) = absurd (unended t n h)
-  no_end t n (inr h) = h
+  no_end t n h = grind (arith, unended)
 
   left_by : (n : ℕ) (t : List ℕ) (scan : Scan) (k : Line) → Becomes table rules (line_at n t) scan k → IsWhole t ⊎ IsUnterminated t → Left n t k
   left_by n t scan _ it_stays f = record {
@@ -112,8 +106,7 @@ module _ (table : List Argument) (rules : Rules) where
   left n t r e f = left_by n t r.scan (line_left r) (subst (λ (l : Line). Becomes table rules l r.scan (line_left r)) e (becomes table rules r)) f
 
   either_left : (n : ℕ) (t : List ℕ) (k : Line) → Left n t k → IsWhole t ⊎ IsUnterminated t → IsWhole (text_of k) ⊎ IsUnterminated (text_of k)
-  either_left n t k l (inl f) = inl (l.whole f)
-  either_left n t k l (inr f) = inr (l.open_line f)
+  either_left n t k l h = grind arith
 
   all_left : {n : ℕ} {ts : List (List ℕ)} {rs : List Reading} → Numbered n ts rs → AreFormed ts → AreFormed (map text_left rs) × (map line_left rs ≡ numbered_from n (map text_left rs))
   all_left none f = (tt, refl)

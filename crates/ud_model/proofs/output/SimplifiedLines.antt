@@ -67,32 +67,11 @@ module _ (table : List Argument) (rules : Rules) where
     it_changes : (d : Directive) → IsEdited l scan d → Becomes l scan (left_line table rules l d)
 
   the_condition : (kind : Kind) (after : List ℕ) (c : Content) → has_condition kind after c ≡ true → (d : Directive) × (c ≡ directive d) × SameIf kind d.kind × (d.after ≡ after)
-  the_condition kind after (directive d) e =
-      let p : (same_if kind d.kind ≡ true) × (bytes_eq d.after after ≡ true) = and_parts (same_if kind d.kind) (bytes_eq d.after after) e in
-      (d, refl, same_kind kind d.kind p.0, (bytes_eq-Decides d.after after).0 p.1)
-  the_condition _ _ _ e = cc
+  the_condition kind after c e = grind (arith, and_parts, same_kind, bytes_eq-Decides)
 
   edited : (l : Line) (scan : Scan) (d : Directive) → content_of scan ≡ directive d → may_change table rules scan l d ≡ true → IsEdited l scan d
   edited l scan d h e =
-      let k : Line = left_line table rules l d in
-      let s : Scan = scan_after_run [] k in
-      let p : (is_lone scan l ≡ true) × ((keeps_ending k && is_read_back table rules l d s) ≡ true) = and_parts (is_lone scan l) (keeps_ending k && is_read_back table rules l d s) e in
-      let q : (keeps_ending k ≡ true) × (is_read_back table rules l d s ≡ true) = and_parts (keeps_ending k) (is_read_back table rules l d s) p.1 in
-      let r : (not (is_spanning scan) ≡ true) × (not (is_empty l.ending) ≡ true) = and_parts (not (is_spanning scan)) (not (is_empty l.ending)) p.0 in
-      let t : (not s.joins_after ≡ true) × (has_condition d.kind (map shown (left_cells_of table rules l d)) (content_of s) ≡ true) =
-      and_parts (not s.joins_after) (has_condition d.kind (map shown (left_cells_of table rules l d)) (content_of s)) q.1 in
-      let c = the_condition d.kind (map shown (left_cells_of table rules l d)) (content_of s) t.1 in
-      record {
-        has = h;
-        lone = not-true (is_spanning scan) r.0;
-        some = not_empty l.ending (not-true (is_empty l.ending) r.1);
-        ends = (bytes_eq-Decides (ending_of (text_of k)) l.ending).0 q.0;
-        alone = not-true s.joins_after t.0;
-        now = c.0;
-        has_now = c.1;
-        kind = c.2;
-        after = c.3;
-      }
+      grind (arith, and_parts, the_condition, not-true, not_empty, bytes_eq-Decides)
 
   becomes_by : (l : Line) (scan : Scan) (c : Content) → content_of scan ≡ c → Becomes l scan (line_by table rules scan l c)
   becomes_by l scan cut_keyword e = it_stays

@@ -1,5 +1,5 @@
 -- Pruned logical lines: without its splices, a pruned text is the simplified text.
-use Rattle.std.proofs.Common.{◌≡◌, ℕ, suc, ◌+◌, ◌-◌, take, List, [], ◌∷◌, ◌++◌, length, map, Bool, true, false, not, ◌&&◌, ◌||◌, if◌then◌else◌, ◌⊎◌, inl, inr, refl, sym, ◌∙◌, ap, ap₂, subst, append_assoc, append-nil, bytes_eq}
+use Rattle.std.proofs.Common.{◌≡◌, ℕ, suc, ◌+◌, ◌-◌, take, List, [], ◌∷◌, ◌++◌, length, map, Bool, true, false, not, ◌&&◌, ◌||◌, if◌then◌else◌, ◌⊎◌, inl, inr, refl, sym, ◌∙◌, ap, ap₂, subst, append_assoc, append-nil, bytes_eq, arith}
 use Rattle.std.specs.List.{concat}
 use Rattle.std.proofs.lemmas.Slice.Eq.{bytes_eq-Decides}
 use Rattle.std.proofs.lemmas.Bool.{and_parts, not-true, false_from_ne_true}
@@ -75,15 +75,10 @@ record IsJoinable (ls : List Line) : Type 0 where
   pub ends : (scan_after_run [] (one_line ls)).joins_after ≡ false
 
 joinable : (ls : List Line) → is_joinable ls ≡ true → IsJoinable ls
-joinable ls e =
-    let n : Bool = not (scan_after_run [] (one_line ls)).joins_after in
-    let p = and_parts (are_spliced ls && keeps_ending (one_line ls)) n e in
-    let q = and_parts (are_spliced ls) (keeps_ending (one_line ls)) p.0 in
-    record { spliced = q.0; keeps = q.1; ends = not-true (scan_after_run [] (one_line ls)).joins_after p.1 }
+joinable ls e = grind (arith, and_parts, not-true)
 
 joinable_so : (ls : List Line) → IsJoinable ls → is_joinable ls ≡ true
-joinable_so ls j =
-    ap₂ (λ (a b : Bool). a && b) (ap₂ (λ (a b : Bool). a && b) j.spliced j.keeps) (ap not j.ends)
+joinable_so ls j = grind arith
 
 same_so : (a b : List ℕ) → a ≡ b → bytes_eq a b ≡ true
 same_so a b e = (bytes_eq-Decides a b).1 e
@@ -104,13 +99,11 @@ formed_split [] t (u ∷ us) f = inl (f.0, tt)
 formed_split (r ∷ []) t us f = by (formed_split [] t us f.1)
   where
     by : AreWhole (t ∷ []) ⊎ ((us ≡ []) × IsUnterminated t) → AreWhole (r ∷ t ∷ []) ⊎ ((us ≡ []) × IsUnterminated t)
-    by (inl w) = inl (f.0, w)
-    by (inr u) = inr u
+    by h = grind arith
 formed_split (r ∷ q ∷ run) t us f = by (formed_split (q ∷ run) t us f.1)
   where
     by : AreWhole ((q ∷ run) ++ t ∷ []) ⊎ ((us ≡ []) × IsUnterminated t) → AreWhole ((r ∷ q ∷ run) ++ t ∷ []) ⊎ ((us ≡ []) × IsUnterminated t)
-    by (inl w) = inl (f.0, w)
-    by (inr u) = inr u
+    by h = grind arith
 
 formed_tail : (run us : List (List ℕ)) → AreFormed (run ++ us) → AreFormed us
 formed_tail [] us f = f
@@ -122,11 +115,7 @@ formed_texts : (ts : List (List ℕ)) → AreFormed ts → texts_of (concat ts) 
 formed_texts ts f = sym (lines_are (concat ts) ts (record { joined = refl; formed = f }))
 
 some_joins : (t : List ℕ) (ts : List (List ℕ)) → Joins (t ∷ ts) → joined_so (t ∷ ts) ≡ true
-some_joins t ts j = by (t ∷ ts) j refl
-  where
-    by : (run : List (List ℕ)) → Joins run → run ≡ t ∷ ts → joined_so run ≡ true
-    by _ none e = cc
-    by _ (more u p h) e = h
+some_joins t ts j = grind arith
 
 module _ (table : List Argument) (rules : Rules) where
   -- A logical line that goes on at the end of the text.
@@ -184,8 +173,7 @@ module _ (table : List Argument) (rules : Rules) where
 
       by : (b : Bool) → joined_so (run ++ t ∷ []) ≡ b → (joined_so (run ++ t ∷ []) ≡ true → Logical (logical_from (run ++ t ∷ []) us)) → Logical (logical_from [] us) →
           Logical (if b then logical_from (run ++ t ∷ []) us else concat (run ++ t ∷ []) ∷ logical_from [] us)
-      by true e on after = on e
-      by false e on after = ending e after (formed_split run t us f)
+      by b e on after = grind (arith, ending, formed_split)
 
   -- 3. A logical line.
 
@@ -233,9 +221,7 @@ module _ (table : List Argument) (rules : Rules) where
         ap (λ (b : Bool). not (b || s.joins_after) && not (is_empty l.ending)) e
 
     unjoined : is_joinable ls ≡ false → simplified_text table rules x ≡ x
-    unjoined h =
-        ap (λ (us : List (List ℕ)). left_texts table rules (read_in C (numbered_from 1 us))) (own_texts x c)
-        ∙ last_stays table rules c.joins c.last (unjoined_stays c.run c.last refl refl c.joins h) ∙ sym c.is
+    unjoined h = grind (arith, own_texts, last_stays, unjoined_stays)
 
   -- A logical line as it is read, joined and simplified.
   record Point (x : List ℕ) : Type 0 where
@@ -269,9 +255,7 @@ module _ (table : List Argument) (rules : Rules) where
       one_lines = ap (numbered_from 1) (own_texts (text_of one) closed_one) ∙ ap (λ (l : Line). l ∷ []) one_back
 
       pub one_simplified : simplified_text table rules (text_of one) ≡ text_of (line_by table rules (scan_after_run [] one) one (content_of (scan_after_run [] one)))
-      one_simplified =
-          ap (λ (ls : List Line). left_texts table rules (read_in C ls)) one_lines
-          ∙ append-nil (text_of (line_by table rules (scan_after_run [] one) one (content_of (scan_after_run [] one))))
+      one_simplified = grind (arith, one_lines, append-nil)
 
   -- Lines that are spliced, and don't join the next one, are a logical line.
   wholes : (n : ℕ) (ts : List (List ℕ)) → AreFormed ts → are_spliced (numbered_from n ts) ≡ true → AreWhole ts
@@ -343,13 +327,10 @@ module _ (table : List Argument) (rules : Rules) where
     whole = unspliced whole_line j.ends
 
     joined_is : joined_logical x ≡ text_of whole_line
-    joined_is =
-        ap (λ (ks : List Line). if is_joinable ks then text_of (one_line ks) else x) its_lines ∙ ap (λ (b : Bool). if b then text_of whole_line else x) (joinable_so here j)
+    joined_is = grind (arith, its_lines, joinable_so)
 
     simplified_is : simplified_logical table rules x ≡ logical_by table rules x here (content_of its_scan)
-    simplified_is =
-        ap (λ (ks : List Line). if is_joinable ks then logical_by table rules x ks (content_of (scan_after_run [] (one_line ks))) else x) its_lines
-        ∙ ap (λ (b : Bool). if b then logical_by table rules x here (content_of its_scan) else x) (joinable_so here j)
+    simplified_is = grind (arith, its_lines, joinable_so)
 
     line_left : simplified_text table rules (text_of whole_line) ≡ text_of (line_by table rules its_scan whole_line (content_of its_scan))
     line_left = one_simplified whole_line.body whole_line.ending body_there end_there kept_end j.ends
@@ -361,12 +342,7 @@ module _ (table : List Argument) (rules : Rules) where
       pub again : y ≡ simplified_logical table rules x → simplified_logical table rules y ≡ y
 
     it_stays : (content : Content) → content_of its_scan ≡ content → line_by table rules its_scan whole_line content ≡ whole_line → Gives x
-    it_stays content e s = record {
-      closed = c;
-      same = joined_is ∙ sym (line_left ∙ ap (λ (k : Content). text_of (line_by table rules its_scan whole_line k)) e ∙ ap text_of s);
-      bytes = all_of_it x;
-      again = λ h. sym h;
-    }
+    it_stays content e s = grind (arith, joined_is, line_left, all_of_it)
 
     module _ (d : Directive) (q : content_of its_scan ≡ directive d) (m : may_change table rules its_scan whole_line d ≡ true) where
       abbrev rest : Line
@@ -382,11 +358,7 @@ module _ (table : List Argument) (rules : Rules) where
       rest_keeps = (and_parts (keeps_ending rest) (is_read_back table rules whole_line d (scan_after_run [] rest)) alone).0
 
       rest_ends : (scan_after_run [] rest).joins_after ≡ false
-      rest_ends = by (scan_after_run [] rest).joins_after _ (and_parts (keeps_ending rest) (is_read_back table rules whole_line d (scan_after_run [] rest)) alone).1
-        where
-          by : (a b : Bool) → (not a && b) ≡ true → a ≡ false
-          by true b e = cc
-          by false b e = refl
+      rest_ends = grind (arith, and_parts, alone)
 
       rest_whole : is_spliced rest ≡ false
       rest_whole = unspliced rest rest_ends
@@ -398,11 +370,7 @@ module _ (table : List Argument) (rules : Rules) where
       left_spliced = edited_spliced table rules here d (tidy x c) j.spliced whole rest_keeps rest_whole
 
       left_joinable : IsJoinable (lines_of left)
-      left_joinable = record {
-        spliced = left_spliced;
-        keeps = ap (λ (k : Line). keeps_ending k) left_line_is ∙ rest_keeps;
-        ends = ap (λ (k : Line). (scan_after_run [] k).joins_after) left_line_is ∙ rest_ends;
-      }
+      left_joinable = grind (arith, left_spliced, left_line_is, rest_keeps, rest_ends)
 
       left_joins : joins (lines_of left) ≡ false
       left_joins =
@@ -416,10 +384,7 @@ module _ (table : List Argument) (rules : Rules) where
       rest_end = (bytes_eq-Decides (ending_of (text_of rest)) rest.ending).0 rest_keeps
 
       rest_text : simplified_text table rules (text_of rest) ≡ text_of rest
-      rest_text =
-          let e : simplified_text table rules (text_of whole_line) ≡ text_of rest =
-          line_left ∙ ap (λ (k : Content). text_of (line_by table rules its_scan whole_line k)) q ∙ ap (λ (b : Bool). text_of (if b then rest else whole_line)) m in
-          ap (λ (y : List ℕ). simplified_text table rules y) (sym e) ∙ text_again table rules (text_of whole_line) ∙ e
+      rest_text = grind (arith, line_left, text_again)
 
       -- The line that is left stays.
       rest_line : text_of (line_by table rules (scan_after_run [] rest) rest (content_of (scan_after_run [] rest))) ≡ text_of rest
@@ -441,10 +406,7 @@ module _ (table : List Argument) (rules : Rules) where
           by false g = refl
 
       left_again : simplified_logical table rules left ≡ left
-      left_again =
-          ap (λ (b : Bool). if b then logical_by table rules left (lines_of left) (content_of (scan_after_run [] (one_line (lines_of left)))) else left) (joinable_so (lines_of left) left_joinable)
-          ∙ left_stays (content_of (scan_after_run [] (one_line (lines_of left))))
-          (ap (λ (l : Line). text_of (line_by table rules (scan_after_run [] rest) rest (content_of (scan_after_run [] l)))) left_line_is ∙ rest_line) (lines_of left) left_line_is
+      left_again = grind (arith, joinable_so, left_joinable, left_stays, left_line_is, rest_line)
 
       it_changes : Gives left
       it_changes = record {
@@ -560,8 +522,7 @@ module _ (table : List Argument) (rules : Rules) where
 
       by : (b : Bool) → concat (logical_from (run ++ t ∷ []) us) ≡ concat (run ++ t ∷ []) ++ concat us → concat (logical_from [] us) ≡ concat us →
           concat (if b then logical_from (run ++ t ∷ []) us else concat (run ++ t ∷ []) ∷ logical_from [] us) ≡ concat run ++ concat (t ∷ us)
-      by true e f = e ∙ more_there
-      by false e f = ap (λ (y : List ℕ). concat (run ++ t ∷ []) ++ y) f ∙ more_there
+      by b e f = grind (arith, more_there)
 
   lines_back : (bytes : List ℕ) → concat (logical_texts bytes) ≡ bytes
   lines_back bytes = back [] (texts_of bytes) ∙ sym (lines_exist bytes).joined

@@ -1,6 +1,6 @@
 -- Simplified readings: line for line, a simplified text is read as the text, with the residuals of
 -- its conditions.
-use Rattle.std.proofs.Common.{◌≡◌, ◌≢◌, ℕ, List, [], ◌∷◌, ◌++◌, map, false, refl, sym, ◌∙◌, ap, subst, ◌⊎◌, inl, inr, append-nil}
+use Rattle.std.proofs.Common.{◌≡◌, ◌≢◌, ℕ, List, [], ◌∷◌, ◌++◌, map, false, refl, sym, ◌∙◌, ap, subst, ◌⊎◌, inl, inr, append-nil, arith}
 use Rattle.std.proofs.lemmas.List.{map-append, same_from_push}
 use Rattle.std.proofs.lemmas.Bool.{or_parts}
 use Rattle.ud_model.specs.text.Lines.{Line, lines_of, texts_of}
@@ -51,9 +51,7 @@ not_pushed [] r e = cc
 not_pushed (q ∷ rs) r e = cc
 
 there : {rs : List Reading} → EndsLogicalLine rs → (before : List Reading) (l : Line) → rs ≡ with_next before C l → ((scan_after before C l).joins_after ≡ false) × (l.ending ≢ [])
-there (ends_with prefix m last a h) before l e =
-    let s : (prefix ≡ before) × (next_reading prefix m last ≡ next_reading before C l) = same_from_push prefix before (next_reading prefix m last) (next_reading before C l) e in
-    (sym (ap (λ (r : Reading). r.scan.joins_after) s.1) ∙ a, subst (λ (k : Line). k.ending ≢ []) (ap (λ (r : Reading). r.line) s.1) h)
+there h before l e = grind (arith, same_from_push)
 
 ends_alike : {before after : List Reading} → AreReadAlike before after → Begins before → Begins after
 ends_alike no_lines b = inl refl
@@ -87,9 +85,7 @@ module _ (table : List Argument) (rules : Rules) where
   left_one ls l = simplified_line table rules (next_reading (read_in C ls) C l)
 
   left_more : (ls : List Line) (l : Line) → left_lines (ls ++ l ∷ []) ≡ left_lines ls ++ left_one ls l ∷ []
-  left_more ls l =
-      ap (λ (rs : List Reading). map (simplified_line table rules) rs) (read_more C ls l)
-      ∙ map-append (simplified_line table rules) (read_in C ls) (next_reading (read_in C ls) C l ∷ [])
+  left_more ls l = grind (arith, read_more, map-append)
 
   abbrev Alike : List Line → Type 0
   Alike ls = AreReadAlike (read_in C ls) (read_in C (left_lines ls))

@@ -100,9 +100,7 @@ mutual
 -- 2. A line of the simplified text.
 
 no_block : (spliced : Bool) (k : LexemeKind) → is_block k ≡ false → is_in_block (comment_at spliced k) ≡ false
-no_block spliced block_comment h = cc
-no_block true line_comment h = refl
-no_block _ _ _ = refl
+no_block spliced k h = grind arith
 
 comment-code : (line : Line) → (scan_after_run [] line).comment ≡ comment_at (is_spliced line) (kind_at_end (spliced_text [] ++ spliced_part line))
 unfolding scan_after_run
@@ -121,16 +119,13 @@ out_of_comment l h =
 
 module _ (table : List Argument) (rules : Rules) where
   uncut_left : (r s : Reading) → ReadingSimplified table rules r s → is_cut (content_of r.scan) ≡ false → is_cut (content_of s.scan) ≡ false
-  uncut_left r s (reading_stays e q j) h = ap (λ (x : Reading). is_cut (content_of x.scan)) q ∙ h
-  uncut_left r s (reading_edited d i) h = ap is_cut (ap content_of i.after ∙ i.edited.has_now)
+  uncut_left r s h g = grind arith
 
   number_left : (r s : Reading) → ReadingSimplified table rules r s → s.line.number ≡ r.line.number
-  number_left r s (reading_stays e q j) = ap (λ (x : Reading). x.line.number) q
-  number_left r s (reading_edited d i) = ap (λ (l : Line). l.number) i.line
+  number_left r s h = grind arith
 
   line_left : (r s : Reading) → ReadingSimplified table rules r s → simplified_line table rules r ≡ s.line
-  line_left r s (reading_stays e q j) = e ∙ sym (ap (λ (x : Reading). x.line) q)
-  line_left r s (reading_edited d i) = i.simplified
+  line_left r s h = grind arith
 
   short_left : (r s : Reading) → ReadingSimplified table rules r s → length (text_of s.line) ≤ length (text_of r.line)
   short_left r s i =
@@ -138,8 +133,7 @@ module _ (table : List Argument) (rules : Rules) where
       (sub_fewer (line_bytes table rules r.line r.scan (simplified_line table rules r) (becomes table rules r)))
 
   calm_left : (r s : Reading) → ReadingSimplified table rules r s → is_in_block r.scan.comment ≡ false → is_in_block s.scan.comment ≡ false
-  calm_left r s (reading_stays e q j) h = ap (λ (x : Reading). is_in_block x.scan.comment) q ∙ h
-  calm_left r s (reading_edited d i) h = ap (λ (c : Scan). is_in_block c.comment) i.after ∙ out_of_comment _ i.edited.alone
+  calm_left r s h g = grind (arith, out_of_comment)
 
   open_by : (r s : Reading) (j k : Kind) (d e : Decision) → SameIf j k → (d.cond ≡ Unknown → e.cond ≡ Unknown) → IsOpen (directive_item r (role_of j) d) → IsOpen (directive_item s (role_of k) e)
   open_by r s _ _ d e both_if h = h
@@ -155,12 +149,10 @@ module _ (table : List Argument) (rules : Rules) where
       if b then undecided else record (condition_of d.kind d.after table rules) { ignoring = (condition_of d.kind d.after table rules).ignoring && not scan.joins_after }
 
   unknown_by : (scan : Scan) (d : Directive) (b : Bool) → (condition_of d.kind d.after table rules).cond ≡ Unknown → (decision_by scan d b).cond ≡ Unknown
-  unknown_by scan d true h = refl
-  unknown_by scan d false h = h
+  unknown_by scan d b h = grind arith
 
   known_by : (scan : Scan) (d : Directive) (b : Bool) → b ≡ false → (decision_by scan d b).cond ≡ Unknown → (condition_of d.kind d.after table rules).cond ≡ Unknown
-  known_by scan d true p h = cc
-  known_by scan d false p h = h
+  known_by scan d b p h = grind arith
 
   -- A directive on a line that joins no other isn't broken.
   unbroken : (r s : Reading) (d : Directive) → IsLeft table rules r s d → d.broken ≡ false
@@ -185,12 +177,7 @@ module _ (o : Options) where
   Simplified r s = ReadingSimplified o.table (rules_of o.settings) r s
 
   open_left : (r s : Reading) → Simplified r s → IsOpen (item_of o r) → IsOpen (item_of o s)
-  open_left r s (reading_stays e q j) h = subst (λ (x : Reading). IsOpen (item_of o x)) (sym q) h
-  open_left r s (reading_edited d i) h =
-      let now : Directive = i.edited.now in
-      subst (λ (c : Content). IsOpen (item_by o s c)) (sym (ap content_of i.after ∙ i.edited.has_now))
-      (open_by o.table (rules_of o.settings) r s d.kind now.kind (decision_on r.scan d o.table (rules_of o.settings)) (decision_on s.scan now o.table (rules_of o.settings)) i.edited.kind
-      (still_unknown o.table (rules_of o.settings) r s d i) (subst (λ (c : Content). IsOpen (item_by o r c)) i.edited.has h))
+  open_left r s h g = grind (arith, open_by, still_unknown)
 
   -- A property of the lines is one of the items.
   of_reading : (P : Reading → Type 0) (r s : Reading) → (P r → P s) → P (reading_of (item_of o r)) → P (reading_of (item_of o s))
@@ -242,13 +229,10 @@ module _ (o : Options) (p : IsPlainC o) (input : List ℕ) {r : Outcome} (d : Ha
   left_text = simplified_text o.table (rules_of o.settings) r.output
 
   read_so : (bytes : List ℕ) (t : Tree Reading) (i : IsTreeOf o bytes t) → i.items ≡ items o (read_as C bytes)
-  read_so bytes t i =
-      items_are o p.plain.none_ignores i.read ∙ ap₂ (λ (m : Mode) (ls : List Line). items o (read_in m ls)) (ap mode_by p.in_c) (sym i.are)
+  read_so bytes t i = grind (arith, items_are)
 
   both_read : Pairs (ReadingSimplified o.table (rules_of o.settings)) (read_as C r.output) (read_as C left_text)
-  both_read =
-      subst (λ (ls : List Line). Pairs (ReadingSimplified o.table (rules_of o.settings)) (read_as C r.output) (read_in C ls)) (sym (lines_left o.table (rules_of o.settings) r.output))
-      (readings_simplified o.table (rules_of o.settings) r.output)
+  both_read = grind (arith, lines_left, readings_simplified)
 
   module _ (us ss : Nodes Reading) (i : IsTreeOf o r.output (closed us)) (j : IsTreeOf o left_text (closed ss)) (like : Like o us ss) where
     ys : i.items ≡ items o (read_as C r.output)
@@ -288,9 +272,7 @@ module _ (o : Options) (p : IsPlainC o) (input : List ℕ) {r : Outcome} (d : Ha
   copies_with us i a b c e u (ss, j, like) = copies_by us ss i j like a b c e u
 
   copies_from : (ns : Nodes Reading) → Result o p.plain input r ns → HasOutcome o left_text (record { output = left_text; fault = None; differs = false })
-  copies_from ns z =
-      copies_with z.tree z.is_tree z.uncut z.few z.low z.calm (output_undecided z.tree ns z.same)
-      (simplified_tree o p.plain.none_ignores p.in_c r.output z.tree z.is_tree (lines_left o.table (rules_of o.settings) r.output))
+  copies_from ns z = grind (arith, copies_with, output_undecided, simplified_tree, lines_left)
 
   copies_of : (ns : Nodes Reading) × IsTreeOf o input (closed ns) → HasOutcome o left_text (record { output = left_text; fault = None; differs = false })
   copies_of (ns, k) = copies_from ns (reread o p.plain input d n ns k)

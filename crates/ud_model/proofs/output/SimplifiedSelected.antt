@@ -1,5 +1,5 @@
 -- Simplified selected: of a text in which operands of the conditions went the same lines are selected.
-use Rattle.std.proofs.Common.{◌≡◌, List, [], ◌++◌, ◌∷◌, Bool, true, false, Some, refl, sym, ◌∙◌, ap, ap₂, subst}
+use Rattle.std.proofs.Common.{◌≡◌, List, [], ◌++◌, ◌∷◌, Bool, true, false, Some, refl, sym, ◌∙◌, ap, ap₂, subst, arith}
 use Rattle.ud_model.specs.text.Scans.{Reading}
 use Rattle.ud_model.specs.conditions.Table.{Argument}
 use Rattle.ud_model.specs.conditions.Expressions.{Expression}
@@ -15,8 +15,7 @@ use Rattle.ud_model.proofs.conditions.ResidualTruth.{Tells, tells}
 use Rattle.ud_model.proofs.conditions.StayedChoices.{stay_allowed}
 
 truth_kept : (b : Bool) (c d : Number) → (IsZero c → IsZero d) → (IsZero d → IsZero c) → HasTruth b c → HasTruth b d
-truth_kept true c d f g h = λ z. h (g z)
-truth_kept false c d f g h = f h
+truth_kept b c d f g h = grind arith
 
 module _ (table : List Argument) (rules : Rules) where
   chosen_left : (e : Expression) (b : Bool) → IsChosen table (Some e) b → IsChosen table (Some (residual table rules e).tree) b

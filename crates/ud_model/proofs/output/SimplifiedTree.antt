@@ -1,5 +1,5 @@
 -- The tree of a simplified text is that of the text, with simplified openers.
-use Rattle.std.proofs.Common.{◌≡◌, ℕ, suc, ◌+◌, List, [], ◌∷◌, ◌++◌, length, map, true, false, refl, sym, ◌∙◌, ap, ap₂, subst, length-append}
+use Rattle.std.proofs.Common.{◌≡◌, ℕ, suc, ◌+◌, List, [], ◌∷◌, ◌++◌, length, map, true, false, refl, sym, ◌∙◌, ap, ap₂, subst, length-append, arith}
 use Rattle.std.proofs.lemmas.List.{map-append, length-map}
 use Rattle.ud_model.specs.text.Lines.{Line, lines_of}
 use Rattle.ud_model.specs.text.Scans.{Reading}
@@ -197,8 +197,7 @@ module _ (o : Options) where
 
   module _ (w v : World Reading) where
     apart : (a b c d : List Reading) → length a ≡ length c → map v (a ++ b) ≡ map w (c ++ d) → (map v a ≡ map w c) × (map v b ≡ map w d)
-    apart a b c d e t =
-        parts (map v a) (map w c) (map v b) (map w d) (length-map a v ∙ e ∙ sym (length-map c w)) (sym (map-append v a b) ∙ t ∙ map-append w c d)
+    apart a b c d e t = grind (arith, parts, length-map, map-append)
 
     mutual
       -- With the truths of the openers.

@@ -32,9 +32,7 @@ pub record Loose (f : Judged → List ℕ) (js : List Judged) : Type 0 where
   pub bound : length (out f js) ≤ suc (length (out whole js))
 
 out-append : (f : Judged → List ℕ) (js ks : List Judged) → length (out f (js ++ ks)) ≡ length (out f js) + length (out f ks)
-out-append f js ks =
-    ap (λ (l : List (List ℕ)). length (concat l)) (map-append f js ks) ∙ ap (λ (l : List ℕ). length l) (concat-append (map f js) (map f ks))
-    ∙ length-append (out f js) (out f ks)
+out-append f js ks = grind (arith, map-append, concat-append, length-append)
 
 same_out : (f : Judged → List ℕ) (js : List Judged) → KeepsSizes f js → length (out f js) ≡ length (out whole js)
 same_out f [] k = refl
@@ -51,22 +49,14 @@ fits_most (less h) = omega arith
 
 module _ (f : Judged → List ℕ) (js ks : List Judged) where
   less_together : length (out f js) + length (out f ks) < length (out whole js) + length (out whole ks) → Fits f (js ++ ks)
-  less_together h =
-      let a : length (out f (js ++ ks)) ≡ length (out f js) + length (out f ks) = out-append f js ks in
-      let b : length (out whole (js ++ ks)) ≡ length (out whole js) + length (out whole ks) = out-append whole js ks in
-      less (omega arith)
+  less_together h = grind (arith, out-append)
 
   loose_together : length (out f js) + length (out f ks) ≤ suc (length (out whole js) + length (out whole ks)) → Loose f (js ++ ks)
-  loose_together h =
-      let a : length (out f (js ++ ks)) ≡ length (out f js) + length (out f ks) = out-append f js ks in
-      let b : length (out whole (js ++ ks)) ≡ length (out whole js) + length (out whole ks) = out-append whole js ks in
-      record { bound = omega arith }
+  loose_together h = grind (arith, out-append)
 
 -- Lines that fit, and then others.
 pub fits-append : (f : Judged → List ℕ) (js ks : List Judged) → Fits f js → Fits f ks → Fits f (js ++ ks)
-fits-append f js ks (alike a) (alike b) = alike (sizes-append f js ks a b)
-fits-append f js ks (alike a) (less h) = let m : length (out f js) ≤ length (out whole js) = fits_most (alike a) in less_together f js ks (omega arith)
-fits-append f js ks (less h) b = let m : length (out f ks) ≤ length (out whole ks) = fits_most b in less_together f js ks (omega arith)
+fits-append f js ks h b = grind (arith, sizes-append, fits_most, less_together)
 
 -- Lines fit if one byte more may be printed for the first ones.
 pub loose_fits : (f : Judged → List ℕ) (js ks : List Judged) → Loose f js → Fits f ks → Loose f (js ++ ks)
@@ -78,32 +68,18 @@ fits_loose f js ks a b = let m : length (out f js) ≤ length (out whole js) = f
 
 -- The case of one byte more, and then a line that loses two.
 pub loose_closed : (f : Judged → List ℕ) (js : List Judged) (j : Judged) → Loose f js → length (f j) + 2 ≤ length (whole j) → Fits f (js ++ j ∷ [])
-loose_closed f js j a h =
-    let n = a.bound in
-    let p : length (f j ++ []) ≡ length (f j) = ap (λ (l : List ℕ). length l) (append-nil (f j)) in
-    let q : length (whole j ++ []) ≡ length (whole j) = ap (λ (l : List ℕ). length l) (append-nil (whole j)) in
-    less_together f js (j ∷ []) (omega arith)
+loose_closed f js j a h = grind (arith, append-nil, less_together)
 
 split_le : (a b : ℕ) → a ≤ b → (a ≡ b) ⊎ (a < b)
 split_le a b h = grind arith
 
 -- A line that doesn't grow fits.
 pub fits_one : (f : Judged → List ℕ) (j : Judged) → length (f j) ≤ length (whole j) → Fits f (j ∷ [])
-fits_one f j h = go (split_le (length (f j)) (length (whole j)) h)
-  where
-    go : (length (f j) ≡ length (whole j)) ⊎ (length (f j) < length (whole j)) → Fits f (j ∷ [])
-    go (inl e) = alike (e, tt)
-    go (inr s) =
-        let p : length (f j ++ []) ≡ length (f j) = ap (λ (l : List ℕ). length l) (append-nil (f j)) in
-        let q : length (whole j ++ []) ≡ length (whole j) = ap (λ (l : List ℕ). length l) (append-nil (whole j)) in
-        less (omega arith)
+fits_one f j h = grind (arith, split_le, append-nil)
 
 -- The case of a line that grows by a byte.
 pub loose_one : (f : Judged → List ℕ) (j : Judged) → length (f j) ≤ suc (length (whole j)) → Loose f (j ∷ [])
-loose_one f j h =
-    let p : length (f j ++ []) ≡ length (f j) = ap (λ (l : List ℕ). length l) (append-nil (f j)) in
-    let q : length (whole j ++ []) ≡ length (whole j) = ap (λ (l : List ℕ). length l) (append-nil (whole j)) in
-    record { bound = omega arith }
+loose_one f j h = grind (arith, append-nil)
 
 -- No lines fit.
 pub fits_none : (f : Judged → List ℕ) → Fits f []
@@ -115,15 +91,10 @@ fits_all f [] h = fits_none f
 fits_all f (j ∷ js) h = fits-append f (j ∷ []) js (fits_one f j (h j)) (fits_all f js h)
 
 unequal : (a b : List ℕ) → length a < length b → bytes_eq a b ≡ false
-unequal a b h = go (bytes_eq a b) (λ e. (bytes_eq-Decides a b).0 e)
-  where
-    go : (t : Bool) → (t ≡ true → a ≡ b) → t ≡ false
-    go false d = refl
-    go true d = let e : length a ≡ length b = ap (λ (l : List ℕ). length l) (d refl) in absurd (omega arith)
+unequal a b h = grind (arith, bytes_eq-Decides)
 
 or_false_parts : (a b : Bool) → (not a || b) ≡ false → (a ≡ true) × (b ≡ false)
-or_false_parts true false e = (refl, refl)
-or_false_parts _ _ e = cc
+or_false_parts a b e = grind arith
 
 -- If no line differs, the output is the lines.
 none_other : (f : Judged → List ℕ) (js : List Judged) → some_other (map f js) js ≡ false → out f js ≡ out whole js
@@ -140,8 +111,7 @@ bytes_eq-append (x ∷ a) (y ∷ b) c d e =
 bytes_eq-append a b c d e = absurd (omega arith)
 
 not_and : (a b : Bool) → (not a || not b) ≡ not (a && b)
-not_and true b = refl
-not_and false b = refl
+not_and a b = grind arith
 
 alike_differs : (f : Judged → List ℕ) (js : List Judged) → KeepsSizes f js → some_other (map f js) js ≡ not (bytes_eq (out f js) (out whole js))
 alike_differs f [] k = refl
@@ -152,9 +122,4 @@ alike_differs f (j ∷ js) k =
 
 -- If lines fit, some line differs exactly if the output isn't the lines.
 pub fits_differs : (f : Judged → List ℕ) (js : List Judged) → Fits f js → some_other (map f js) js ≡ not (bytes_eq (out f js) (out whole js))
-fits_differs f js (alike k) = alike_differs f js k
-fits_differs f js (less h) = go (some_other (map f js) js) (λ e. none_other f js e) ∙ ap (λ (b : Bool). not b) (sym (unequal (out f js) (out whole js) h))
-  where
-    go : (t : Bool) → (t ≡ false → out f js ≡ out whole js) → t ≡ true
-    go true d = refl
-    go false d = let e : length (out f js) ≡ length (out whole js) = ap (λ (l : List ℕ). length l) (d refl) in absurd (omega arith)
+fits_differs f js h = grind (arith, alike_differs, none_other, unequal)

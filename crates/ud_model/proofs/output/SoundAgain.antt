@@ -28,9 +28,7 @@ none_removed (m ∷ []) h = ap (λ (k : Mark). is_removed k.verdict) h.0
 none_removed (m ∷ n ∷ ms) h = none_removed (n ∷ ms) h.1
 
 kept_unspoiled : (x : Item Reading) → is_obfuscated_after false x (marked true Keep) ≡ false
-kept_unspoiled x =
-    ap (λ (b : Bool). is_directive x && is_spanning (reading_of x).scan && true && b) (and-false (reading_of x).scan.joins_before)
-    ∙ and-false (is_directive x && is_spanning (reading_of x).scan && true)
+kept_unspoiled x = grind arith
 
 module _ (xs : List (Item Reading)) (x : Item Reading) (u : Tree Reading) (are : lines u ≡ xs ++ x ∷ []) (stay : Each Stays (marks u)) where
   unspoiled : (before : List Mark) (m : Mark) (v : Tree Reading) → lines v ≡ xs ++ x ∷ [] → marks v ≡ before ++ m ∷ [] → is_obfuscated_after (ends_removed before) x m ≡ false

@@ -73,12 +73,7 @@ numbered_few n (t ∷ ts) (y ∷ ys) e h =
 -- Neither has the output for it.
 pub again_few : (o : Options) (m : Mode) (xs : List (Item Reading)) (t : Tree Reading) (ys : List (Item Reading)) → Again o m xs t ys → length xs ≤ TEXT_LINES → Each IsFew ys
 again_few o m xs t ys a h =
-    let b : length (map (item_with scanned) ys) ≡ length (map (item_with left_seen) (printed xs (marks t))) = ap (λ (l : List (Item Seen)). length l) a.same in
-    let c : length (map (item_with scanned) ys) ≡ length ys = length-map ys (item_with scanned) in
-    let d : length (map (item_with left_seen) (printed xs (marks t))) ≡ length (printed xs (marks t)) = length-map (printed xs (marks t)) (item_with left_seen) in
-    let e : length (printed xs (marks t)) ≤ length xs = printed_most xs (marks t) in
-    let f : length (map (λ (y : Item Reading). line_bytes (reading_of y)) ys) ≡ length ys = length-map ys (λ (y : Item Reading). line_bytes (reading_of y)) in
-    numbered_few 1 (map (λ (y : Item Reading). line_bytes (reading_of y)) ys) ys a.numbered (omega (arith, b, c, d, e, f, h))
+    grind (arith, scanned, left_seen, length-map, printed_most, numbered_few)
 
 -- Lines that fit are short.
 pub fit_short : (ys : List (Item Reading)) → LinesFit (map line_of ys) → Each IsShort ys

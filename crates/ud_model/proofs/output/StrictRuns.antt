@@ -41,18 +41,13 @@ HasSome (else_line r) = 1 ≤ (keyword_in (content_of r.scan)).len
 HasSome (endif_line r) = 1 ≤ (keyword_in (content_of r.scan)).len
 
 some_least : (p : Role) → 1 ≤ least p
-some_least IfGroup = omega arith
-some_least p = omega arith
+some_least p = grind arith
 
 some_role : (r : Reading) (p : Role) (d : Decision) → 1 ≤ (keyword_in (content_of r.scan)).len → HasSome (directive_item r p d)
-some_role r IfGroup d h = h
-some_role _ _ _ h = h
+some_role r p d h = grind arith
 
 some_content : (o : Options) (r : Reading) (c : Content) → content_of r.scan ≡ c → HasSize c → HasSome (item_by o r c)
-some_content o r (directive d) e h =
-    some_role r (role_of d.kind) (decision_on r.scan d o.table (rules_of o.settings))
-    (subst (λ (c : Content). 1 ≤ (keyword_in c).len) (sym e) (let f = some_least (role_of d.kind) in omega (arith, f, h)))
-some_content _ _ _ _ _ = tt
+some_content o r c e h = grind arith
 
 has_some : (o : Options) (r : Reading) → HasSome (item_of o r)
 has_some o r = some_content o r (content_of r.scan) refl (content_size r.scan)
@@ -124,9 +119,7 @@ marked_more a b k an_endif h =
 
 judged_grown : (xs : List (Item Reading)) (t u : Tree Reading) (x : Item Reading) (m : Mark) → lines t ≡ xs → marks u ≡ marks t ++ m ∷ [] →
     judged_lines (xs ++ x ∷ []) (marks u) ≡ judged_lines xs (marks t) ++ judged_line x m ∷ []
-judged_grown xs t u x m q e =
-    ap (λ (ms : List Mark). judged_lines (xs ++ x ∷ []) ms) e
-    ∙ judged_more xs (x ∷ []) (marks t) (m ∷ []) (sym (length_marks true t ∙ ap (λ (ys : List (Item Reading)). length ys) q))
+judged_grown xs t u x m q e = grind (arith, judged_more, length_marks)
 
 -- 2. As many lines with and without `-K`.
 
@@ -219,8 +212,7 @@ fronts (a ∷ cs) (b ∷ bs) ws vs e = go (fronts cs bs ws vs (cc))
 
     go : ((m : List Line) × (cs ≡ bs ++ m)) ⊎ ((m : List Line) × (bs ≡ cs ++ m)) →
         ((m : List Line) × (a ∷ cs ≡ b ∷ bs ++ m)) ⊎ ((m : List Line) × (b ∷ bs ≡ a ∷ cs ++ m))
-    go (inl k) = inl (k.0, ap₂ (λ (x : Line) (xs : List Line). x ∷ xs) head k.1)
-    go (inr k) = inr (k.0, ap₂ (λ (x : Line) (xs : List Line). x ∷ xs) (sym head) k.1)
+    go h = grind arith
 
 more_without : {js ks : List Judged} → Pairs KeepsAsMuch js ks → (more : List Judged) → KeepAsMuch (js ++ more) ks
 more_without no_pair [] = tt
@@ -267,8 +259,7 @@ judged_are_all o input {r = r} (judged_as a) run e = by_reading a (ap (λ (s : O
   where
     by_reading : {xs : List (Item Reading)} {t : Tree Reading} {f : Option Fault} → ReadsAs o input xs t f → f ≡ None →
         map (λ (j : Judged). j.line) (judged_lines xs (marks t)) ≡ lines_of input
-    by_reading (stops xs t f s) h = cc
-    by_reading (ends xs t g) h = judged_read (ends xs t g) ∙ sym g.are
+    by_reading h g = grind (arith, judged_read)
 
 -- The output is the pieces of the judged lines.
 pub judged_output : (o : Options) (input : List ℕ) {js : List Judged} {r : Outcome} → OnlyDecides o → JudgedAs o input js → HasOutcome o input r →

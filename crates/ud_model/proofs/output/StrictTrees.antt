@@ -1,6 +1,6 @@
 -- The trees of a text with and without `-K`: the same sections are open, and a group that is kept
 -- without is kept with `-K`.
-use Rattle.std.proofs.Common.{◌≡◌, List, [], ◌∷◌, ◌++◌, Bool, true, false, not, ◌&&◌, ◌||◌, refl, sym, ◌∙◌, ap, ap₂, append_assoc}
+use Rattle.std.proofs.Common.{◌≡◌, List, [], ◌∷◌, ◌++◌, Bool, true, false, not, ◌&&◌, ◌||◌, refl, sym, ◌∙◌, ap, ap₂, append_assoc, arith}
 use Rattle.std.proofs.lemmas.Bool.{and_parts}
 use Rattle.ud_model.specs.text.Scans.{Reading}
 use Rattle.ud_model.specs.sections.Tree.{Item, Opener, Nodes, Elifs, Head, Tree, nothing, text, section, first, elif, if_head, elif_head, else_head, closed, open_section, text_line, opener_of_elifs, opener_of_head, is_ignoring}
@@ -56,9 +56,7 @@ loose_grows (adds_under a) (one_open {ms = ms} {k = k} h t) i =
     let g = loose_grows a t i in (open_section ms k g.0, adds_under g.1, one_open h g.2)
 
 head_ignoring : {h k : Head Reading} → LooserHead h k → (opener_of_head k).ignoring ≡ (opener_of_head h).ignoring
-head_ignoring (with_if o) = o.ignoring
-head_ignoring (with_elif e o) = e.ignoring
-head_ignoring (with_else e) = e.ignoring
+head_ignoring h = grind arith
 
 -- Both trees are ignoring, or neither is.
 pub loose_ignoring : {t u : Tree Reading} → LooserTree t u → is_ignoring u ≡ is_ignoring t
@@ -81,8 +79,7 @@ any_loose (pair (unknown {d = No}) p) e = any_loose p e
 any_loose (pair (unknown {d = Unknown}) p) e = any_loose p e
 
 both_parts : (a b : Bool) → (not a && not b) ≡ true → (a ≡ false) × (b ≡ false)
-both_parts false false e = (refl, refl)
-both_parts _ _ e = cc
+both_parts a b e = grind arith
 
 kept_loose : {cs ds : List Cond} {c d : Cond} → Pairs Looser cs ds → Looser c d → is_kept ds d ≡ true → is_kept cs c ≡ true
 kept_loose {cs} {ds} {c} {d} p l e =
@@ -132,6 +129,4 @@ pub removed_loose : {t u : Tree Reading} → LooserTree t u → is_removed (mark
 removed_loose {t = t} {u = u} k = by_kept (kept_at_end true t) (kept_at_end true u) (end_loose k true true (λ e. e))
   where
     by_kept : (a b : Bool) → (b ≡ true → a ≡ true) → is_removed (marked a Keep).verdict ≡ true → is_removed (marked b Keep).verdict ≡ true
-    by_kept a false h e = refl
-    by_kept true true h e = cc
-    by_kept false true h e = let f : false ≡ true = h refl in cc
+    by_kept a b h e = grind arith

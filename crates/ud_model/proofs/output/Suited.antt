@@ -1,6 +1,6 @@
 -- A directive is edited only if it can be: an `#elif` to an `#if` or `#else`, an `#elif` or `#else`
 -- to an `#endif`.
-use Rattle.std.proofs.Common.{◌≡◌, List, [], Bool, true, false, refl, sym, subst}
+use Rattle.std.proofs.Common.{◌≡◌, List, [], Bool, true, false, refl, sym, subst, arith}
 use Rattle.ud_model.specs.declared.cond.Cond.{Cond}
 use Rattle.ud_model.specs.declared.cond.Cond.TheVariants.{Yes, No, Unknown}
 use Rattle.ud_model.specs.declared.verdict.Verdict.{Verdict}
@@ -24,29 +24,18 @@ Suits _ _ = ⊥
 module _ {L : Type 0} where
   -- A verdict that suits if all groups around are kept does so in each case.
   pub suits_marked : (kept : Bool) (v : Verdict) (x : Item L) → Suits v x → Suits (marked kept v).verdict x
-  suits_marked true v x h = h
-  suits_marked false v x h = tt
+  suits_marked kept v x h = grind arith
 
   -- Each line may stay or be removed.
   keeps_suit : (v : Verdict) (x : Item L) → KeepsOrGoes v → Suits v x
-  keeps_suit Keep x h = tt
-  keeps_suit Remove x h = tt
-  keeps_suit _ _ h = absurd h
+  keeps_suit v x h = grind arith
 
   -- The table gives an `#if` a verdict that suits it.
   pub suits_if : (o : Opener L) (c : Cond) → Suits (verdict_so_far [] an_if c) (if_line o)
   suits_if o c = keeps_suit (verdict_so_far [] an_if c) (if_line o) (if_keeps c)
 
   elif_at : (s : Stage) (o : Opener L) (c : Cond) → o.cond ≡ c → Suits (verdict_at s an_elif c) (elif_line o)
-  elif_at leading o Yes e = tt
-  elif_at leading o No e = tt
-  elif_at leading o Unknown e = e
-  elif_at given o c e = tt
-  elif_at going o Yes e = tt
-  elif_at going o No e = tt
-  elif_at going o Unknown e = tt
-  elif_at at_true o c e = tt
-  elif_at past o c e = tt
+  elif_at s o c e = grind arith
 
   -- The table gives a directive that opens a further group a verdict that suits it. It becomes the
   -- first one only if its condition is unknown.
@@ -54,8 +43,7 @@ module _ {L : Type 0} where
   suits_elif cs o = subst (λ (v : Verdict). Suits v (elif_line o)) (sym (verdict_by_stage cs an_elif o.cond)) (elif_at (stage cs) o o.cond refl)
 
   else_at : (s : Stage) (l : L) → Suits (verdict_at s an_else Yes) (else_line l)
-  else_at leading l = tt
-  else_at _ _ = tt
+  else_at s l = grind arith
 
   -- The table gives an `#else` a verdict that suits it.
   pub suits_else : (cs : List Cond) (l : L) → Suits (verdict_so_far cs an_else Yes) (else_line l)

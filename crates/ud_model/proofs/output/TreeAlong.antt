@@ -1,5 +1,5 @@
 -- Items that are those of a tree but for their lines have a tree of the same shape.
-use Rattle.std.proofs.Common.{◌≡◌, List, [], ◌∷◌, ◌++◌, map, refl, sym, ◌∙◌, ap, ap₂}
+use Rattle.std.proofs.Common.{◌≡◌, List, [], ◌∷◌, ◌++◌, map, refl, sym, ◌∙◌, ap, ap₂, arith}
 use Rattle.std.proofs.lemmas.List.{map-append}
 use Rattle.ud_model.specs.sections.Tree.{Item, Opener, Nodes, Groups, Elifs, text_line, if_line, elif_line, else_line, endif_line, nothing, text, section, conditional, otherwise, first, elif, lines_of_nodes, lines_of_groups, lines_of_elifs, item_with, opener_with_line, with_lines, groups_with_lines, elifs_with_lines}
 
@@ -15,8 +15,7 @@ split_map g (y ∷ ys) (x ∷ p) q e =
 
 module _ {A B M : Type 0} (f : A → M) (g : B → M) where
   text_back : (y : Item B) (l : A) → item_with g y ≡ text_line (f l) → (b : B) × (y ≡ text_line b) × (g b ≡ f l)
-  text_back (text_line b) l e = (b, refl, cc)
-  text_back _ _ e = cc
+  text_back y l e = grind arith
 
   if_back : (y : Item B) (o : Opener A) → item_with g y ≡ if_line (opener_with_line f o) → (p : Opener B) × (y ≡ if_line p) × (opener_with_line g p ≡ opener_with_line f o)
   if_back (if_line p) o e = (p, refl, cc)
@@ -27,12 +26,10 @@ module _ {A B M : Type 0} (f : A → M) (g : B → M) where
   elif_back _ _ e = cc
 
   else_back : (y : Item B) (l : A) → item_with g y ≡ else_line (f l) → (b : B) × (y ≡ else_line b) × (g b ≡ f l)
-  else_back (else_line b) l e = (b, refl, cc)
-  else_back _ _ e = cc
+  else_back y l e = grind arith
 
   endif_back : (y : Item B) (l : A) → item_with g y ≡ endif_line (f l) → (b : B) × (y ≡ endif_line b) × (g b ≡ f l)
-  endif_back (endif_line b) l e = (b, refl, cc)
-  endif_back _ _ e = cc
+  endif_back y l e = grind arith
 
   one_back : (ys : List (Item B)) (x : Item M) → map (item_with g) ys ≡ x ∷ [] → (y : Item B) × (ys ≡ y ∷ []) × (item_with g y ≡ x)
   one_back (y ∷ []) x e = (y, refl, cc)

@@ -1,5 +1,5 @@
 -- In a pruned tree nothing is decided, and if nothing is decided each line stays as it is.
-use Rattle.std.proofs.Common.{◌≡◌, List, [], ◌∷◌, ◌++◌, Bool, true, Some, None, refl, sym, ◌∙◌, ap, ap₂, subst}
+use Rattle.std.proofs.Common.{◌≡◌, List, [], ◌∷◌, ◌++◌, Bool, true, Some, None, refl, sym, ◌∙◌, ap, ap₂, subst, arith}
 use Rattle.ud_model.specs.declared.cond.Cond.{Cond}
 use Rattle.ud_model.specs.declared.cond.Cond.TheVariants.{Yes, No, Unknown}
 use Rattle.ud_model.specs.declared.verdict.Verdict.{Verdict}
@@ -31,22 +31,10 @@ module _ {L : Type 0} where
   LeftUndecided (ended es l ms k) = ElifsUndecided es × IsUndecided ms
 
   with_undecided : (left : KeptGroups L) (part : Part) (o : Opener L) (c : Cond) (ps : Nodes (Edited L)) → o.cond ≡ c → LeftUndecided left → IsUndecided ps → LeftUndecided (with_group left part o c ps)
-  with_undecided none_kept part o Yes ps e h n = n
-  with_undecided none_kept part o No ps e h n = tt
-  with_undecided none_kept part o Unknown ps e h n = (e, n)
-  with_undecided (replaced ms) part o c ps e h n = h
-  with_undecided (kept_groups es) part o Yes ps e h n = (h, n)
-  with_undecided (kept_groups es) part o No ps e h n = h
-  with_undecided (kept_groups es) part o Unknown ps e h n = (h, e, n)
-  with_undecided (ended es l ms None) part o c ps e h n = h
-  with_undecided (ended es l ms (Some k)) part o c ps e h n = h
+  with_undecided left part o c ps e h n = grind arith
 
   else_undecided : (left : KeptGroups L) (l : L) (ps : Nodes (Edited L)) → LeftUndecided left → IsUndecided ps → LeftUndecided (with_else left l ps)
-  else_undecided none_kept l ps h n = n
-  else_undecided (replaced ms) l ps h n = h
-  else_undecided (kept_groups es) l ps h n = (h, n)
-  else_undecided (ended es k ms None) l ps h n = h
-  else_undecided (ended es k ms (Some j)) l ps h n = h
+  else_undecided left l ps h n = grind arith
 
   then_undecided : (ms ns : Nodes (Edited L)) → IsUndecided ms → IsUndecided ns → IsUndecided (then_nodes ms ns)
   then_undecided ms nothing a b = a
@@ -54,11 +42,7 @@ module _ {L : Type 0} where
   then_undecided ms (section ns gs e) a b = (then_undecided ms ns a b.0, b.1)
 
   left_undecided : (ps : Nodes (Edited L)) (left : KeptGroups L) (e : L) → IsUndecided ps → LeftUndecided left → IsUndecided (then_kept ps left e)
-  left_undecided ps none_kept e a h = a
-  left_undecided ps (replaced ms) e a h = then_undecided ps ms a h
-  left_undecided ps (kept_groups es) e a h = (a, h)
-  left_undecided ps (ended es l ms None) e a h = (a, h)
-  left_undecided ps (ended es l ms (Some k)) e a h = (a, h)
+  left_undecided ps left e a h = grind (arith, then_undecided)
 
   mutual
     -- In pruned nodes each condition but that of an `#else` is unknown.
@@ -84,8 +68,7 @@ module _ {L : Type 0} where
   place_stays b ns e h = subst (λ (k : Bool). Each Stays (nodes_so_far k ns)) (sym e) h
 
   endif_stays : (gs : Groups L) → GroupsUndecided gs → endif_verdict (conds_of_groups gs) ≡ Keep
-  endif_stays (conditional es) h = endif_by_stage (conds_of_elifs es) ∙ ap endif_at (going_on es h)
-  endif_stays (otherwise es l ns) h = endif_by_stage (conds_of_elifs es ++ Yes ∷ []) ∙ ap endif_at (else_conds (conds_of_elifs es) (going_on es h.0))
+  endif_stays gs h = grind (arith, endif_by_stage, going_on, else_conds)
 
   mutual
     nodes_stay : (ns : Nodes L) → IsUndecided ns → Each Stays (nodes_so_far true ns)

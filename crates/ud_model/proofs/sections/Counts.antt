@@ -108,15 +108,11 @@ module _ {L : Type 0} where
 
   -- An open section has one opener more than `#endif`s.
   pub endifs_of_head : (h : Head L) → suc (endifs (lines_of_head h)) ≡ ifs (lines_of_head h)
-  endifs_of_head (if_head o) = refl
-  endifs_of_head (elif_head es o) = simp (endifs-append, ifs-append) (omega (arith, endifs_of_elifs es))
-  endifs_of_head (else_head es l) = simp (endifs-append, ifs-append) (omega (arith, endifs_of_elifs es))
+  endifs_of_head h = grind (arith, endifs-append, ifs-append, endifs_of_elifs)
 
   -- An open section has no more `#else`s than openers.
   pub elses_of_head : (h : Head L) → elses (lines_of_head h) ≤ ifs (lines_of_head h)
-  elses_of_head (if_head o) = omega arith
-  elses_of_head (elif_head es o) = simp (elses-append, ifs-append) (omega (arith, elses_of_elifs es))
-  elses_of_head (else_head es l) = simp (elses-append, ifs-append) (omega (arith, elses_of_elifs es))
+  elses_of_head h = grind (arith, elses-append, ifs-append, elses_of_elifs)
 
   -- A text has one opener more than `#endif`s for each open section.
   pub endifs_of_tree : (t : Tree L) → endifs (lines t) + depth t ≡ ifs (lines t)

@@ -81,16 +81,11 @@ Either P = P ⊎ (P → ⊥)
 
 either_true : (b : Bool) → Either (IsTrue b)
 unfolding Either
-either_true true = inl refl
-either_true false = inr (λ h. cc)
+either_true b = grind arith
 
 either_less : (m n : ℕ) → Either (m < n)
 unfolding Either
-either_less m n = go (cases_lt m n)
-  where
-    go : (m < n) ⊎ (n ≤ m) → (m < n) ⊎ (m < n → ⊥)
-    go (inl h) = inl h
-    go (inr h) = inr (λ k. omega arith)
+either_less m n = grind arith
 
 module _ (xs : List (Item Reading)) (t : Tree Reading) (are : lines t ≡ xs) (x : Item Reading) where
   deep_or_not : (u : Tree Reading) → lines u ≡ xs ++ x ∷ [] → Either (Holds xs x too_deep)
@@ -166,8 +161,7 @@ module _ (o : Options) (ls : List Line) where
   gone_from (l ∷ rest) xs t s e = go (represents xs t (sound_lines s) (next_item o xs t l)) (λ ys u r d. gone_from rest ys u r d)
     where
       further : ls ≡ map line_of (xs ++ next_item o xs t l ∷ []) ++ rest
-      further =
-          e ∙ sym (append_assoc (map line_of xs) (l ∷ []) rest) ∙ ap (λ (ks : List Line). ks ++ rest) (sym (lines_with_next o xs t l))
+      further = grind (arith, e, append_assoc, lines_with_next)
 
       go : Stands xs (next_item o xs t l) → ((ys : List (Item Reading)) (u : Tree Reading) → AreFaultless o ys u → ls ≡ map line_of ys ++ rest → Gone o ls) → Gone o ls
       go (faulty f g) on = stopped xs t f (record { sound = s; faulty = l; later = rest; are = e; fault = g })

@@ -17,19 +17,15 @@ use Rattle.ud_model.proofs.text.LinesLemmas.{Growth, stays_open, ends_line, grow
 
 -- A directive's item has the line that it was read from.
 pub reading_of-directive_item : (r : Reading) (p : Role) (d : Decision) → reading_of (directive_item r p d) ≡ r
-reading_of-directive_item r IfGroup d = refl
-reading_of-directive_item _ _ _ = refl
+reading_of-directive_item r p d = grind arith
 
 -- An item keeps the reading of its line.
 pub reading_of-item_by : (o : Options) (r : Reading) (c : Content) → reading_of (item_by o r c) ≡ r
-reading_of-item_by o r (directive d) = reading_of-directive_item r (role_of d.kind) (decision_on r.scan d o.table (rules_of o.settings))
-reading_of-item_by _ _ _ = refl
+reading_of-item_by o r c = grind arith
 
 -- An item keeps its line.
 pub line_of-next_item : (o : Options) (xs : List (Item Reading)) (t : Tree Reading) (l : Line) → line_of (next_item o xs t l) ≡ l
-line_of-next_item o xs t l =
-    ap (λ (r : Reading). r.line)
-    (reading_of-item_by o (read_after xs (mode_after o t) l) (content_of (read_after xs (mode_after o t) l).scan))
+line_of-next_item o xs t l = grind (arith, reading_of-item_by)
 
 -- A line's fault, which is that of a broken limit.
 pub record LimitFault (xs : List (Item Reading)) (x : Item Reading) (f : Fault) : Type 0 where
@@ -72,24 +68,12 @@ limit_grows o xs t n r x f h =
 -- Further lines after the faulty one leave the fault.
 pub stops_at-append : (o : Options) (ls ms : List Line) (xs : List (Item Reading)) (t : Tree Reading) (f : Fault) →
     FirstFaultAt o ls xs t f → FirstFaultAt o (ls ++ ms) xs t f
-stops_at-append o ls ms xs t f h = record {
-  sound = h.sound;
-  faulty = h.faulty;
-  later = h.later ++ ms;
-  are = ap (λ (ks : List Line). ks ++ ms) h.are ∙ append_assoc (map line_of xs) (h.faulty ∷ h.later) ms;
-  fault = h.fault;
-}
+stops_at-append o ls ms xs t f h = grind (arith, append_assoc)
 
 -- A line after those that are read is the faulty one.
 pub stops_behind : (o : Options) (ls ms : List Line) (l : Line) (xs : List (Item Reading)) (t : Tree Reading) (f : Fault) →
     HasNoFault o ls xs t → FaultOf xs (next_item o xs t l) f → FirstFaultAt o (ls ++ l ∷ ms) xs t f
-stops_behind o ls ms l xs t f through fault = record {
-  sound = through.sound;
-  faulty = l;
-  later = ms;
-  are = ap (λ (ks : List Line). ks ++ l ∷ ms) through.are;
-  fault = fault;
-}
+stops_behind o ls ms l xs t f through fault = grind arith
 
 -- The line that the rest of the text so far begins, with more bytes after the rest.
 abbrev pub line_from : List ℕ → List ℕ → Line

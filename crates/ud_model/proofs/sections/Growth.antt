@@ -2,7 +2,7 @@
 --
 -- `Adds t x u`: `u` is the tree of the lines of `t` and then the line `x`. Each tree but the empty
 -- one has grown so from one other, and a tree and a line give one tree at most.
-use Rattle.std.proofs.Common.{◌≡◌, [], ◌∷◌, ◌++◌, refl, ap, append_assoc, append-nil, ◌⊎◌, inl, inr}
+use Rattle.std.proofs.Common.{◌≡◌, [], ◌∷◌, ◌++◌, refl, ap, append_assoc, append-nil, ◌⊎◌, inl, inr, arith}
 use Rattle.ud_model.specs.sections.Tree.{Opener, Item, text_line, if_line, elif_line, else_line, endif_line, Nodes, Groups, Elifs, Head, Tree, nothing, text, section, conditional, otherwise, first, elif, if_head, elif_head, else_head, closed, open_section, lines, lines_of_nodes, lines_of_groups, lines_of_head}
 use Rattle.ud_model.specs.sections.Pruning.{conds_of_groups, conds_of_head}
 
@@ -34,13 +34,11 @@ module _ {L : Type 0} where
   -- The lines of a section are those up to the opener of its last group, and then those of that
   -- group.
   pub lines-complete : (h : Head L) (b : Nodes L) → lines_of_head h ++ lines_of_nodes b ≡ lines_of_groups (complete h b)
-  lines-complete (if_head o) b = refl
-  lines-complete _ _ = refl
+  lines-complete h b = grind arith
 
   -- The conditions of a section are those of its head.
   pub conds-complete : (h : Head L) (b : Nodes L) → conds_of_groups (complete h b) ≡ conds_of_head h
-  conds-complete (if_head o) b = refl
-  conds-complete _ _ = refl
+  conds-complete h b = grind arith
 
   lines_with_endif : (ns b : Nodes L) (h : Head L) (l : L) →
       (lines_of_nodes ns ++ lines_of_groups (complete h b)) ++ endif_line l ∷ []

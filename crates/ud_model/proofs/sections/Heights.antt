@@ -13,8 +13,7 @@ module _ {L : Type 0} where
   depth_height (open_section ns h t) = let d : depth t ≤ height t = depth_height t in omega arith
 
   height-complete : (h : Head L) (b : Nodes L) → max (height_of_head h) (height_of_nodes b) ≤ height_of_groups (complete h b)
-  height-complete (if_head o) b = omega arith
-  height-complete h b = omega arith
+  height-complete h b = grind arith
 
   -- One more line makes no text lower.
   pub height_add : {t u : Tree L} {x : Item L} → Adds t x u → height t ≤ height u
@@ -38,7 +37,4 @@ module _ {L : Type 0} where
 
   -- No prefix of a text is deeper than the text is high.
   pub depth_front : (t u : Tree L) (more : List (Item L)) → lines u ≡ lines t ++ more → depth t ≤ height u
-  depth_front t u more e =
-      let c : height t ≤ height u = height_front t u more e in
-      let d : depth t ≤ height t = depth_height t in
-      omega arith
+  depth_front t u more e = grind (arith, height_front, depth_height)

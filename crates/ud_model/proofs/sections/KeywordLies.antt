@@ -8,13 +8,11 @@ use Rattle.ud_model.specs.declared.kind.Kind.{Kind}
 use Rattle.ud_model.proofs.text.ByteLemmas.{length-skip_white}
 
 white_one : (w : Bool) (b : ℕ) (bs rest : List ℕ) → length rest ≤ length bs → length (if w then rest else b ∷ bs) ≤ suc (length bs)
-white_one true b bs rest h = omega (arith, h)
-white_one false b bs rest h = omega arith
+white_one w b bs rest h = grind arith
 
 word_one : (w : Bool) (b : ℕ) (bs word rest : List ℕ) → length word + length rest ≡ length bs →
     length (if w then b ∷ word else []) + length (if w then rest else b ∷ bs) ≡ suc (length bs)
-word_one true b bs word rest h = omega (arith, h)
-word_one false b bs word rest h = omega arith
+word_one w b bs word rest h = grind arith
 
 -- A leading word and the rest after it are the text.
 pub word_and_rest : (t : List ℕ) → length (leading_word t) + length (skip_word t) ≡ length t
@@ -22,12 +20,10 @@ word_and_rest [] = refl
 word_and_rest (b ∷ bs) = word_one (is_word_byte b) b bs (leading_word bs) (skip_word bs) (word_and_rest bs)
 
 sign_one : (is : Bool) (b : ℕ) (bs rest : List ℕ) → (if is then Some bs else None) ≡ Some rest → length rest ≤ suc (length bs)
-sign_one true b bs rest e = let q : bs ≡ rest = cc in subst (λ (r : List ℕ). length r ≤ suc (length bs)) q (omega arith)
-sign_one false b bs rest e = cc
+sign_one is b bs rest e = grind arith
 
 sign_le : (t rest : List ℕ) → skip_hash t ≡ Some rest → length rest ≤ length t
-sign_le [] rest e = cc
-sign_le (b ∷ bs) rest e = sign_one (b == 35) b bs rest e
+sign_le t rest e = grind arith
 
 -- In this content the keyword ends within so many bytes, and the bytes after it aren't longer.
 abbrev pub Lies : ℕ → Content → Type 0
@@ -35,13 +31,11 @@ Lies n (directive d) = (d.keyword.at + d.keyword.len ≤ n) × (length d.after �
 Lies n _ = Unit {0}
 
 lies_at : (scan : Scan) (rest : List ℕ) (k : Option Kind) → length rest ≤ length scan.masked → Lies (length scan.masked) (directive_at scan rest k)
-lies_at scan rest None h = tt
-lies_at scan rest (Some k) h = let w = word_and_rest rest in (omega (arith, w, h), omega (arith, w, h))
+lies_at scan rest k h = grind (arith, word_and_rest)
 
 lies_fresh : (scan : Scan) (fresh : Bool) (rest : List ℕ) (k : Option Kind) → length rest ≤ length scan.masked →
     Lies (length scan.masked) (if fresh then directive_at scan rest k else text)
-lies_fresh scan true rest k h = lies_at scan rest k h
-lies_fresh scan false rest k h = tt
+lies_fresh scan fresh rest k h = grind (arith, lies_at)
 
 lies_behind : (scan : Scan) (sign : Option (List ℕ)) → skip_white_and_hash scan.masked ≡ sign → Lies (length scan.masked) (content_after_hash scan sign)
 lies_behind scan None e = tt
@@ -52,16 +46,14 @@ lies_behind scan (Some rest) e =
     lies_fresh scan scan.fresh (skip_white rest) (kind_of (leading_word (skip_white rest))) (omega (arith, a, b, c))
 
 lies_unless_cut : (scan : Scan) (cut : Bool) → Lies (length scan.masked) (if cut then cut_keyword else content_after_hash scan (skip_white_and_hash scan.masked))
-lies_unless_cut scan true = tt
-lies_unless_cut scan false = lies_behind scan (skip_white_and_hash scan.masked) refl
+lies_unless_cut scan cut = grind (arith, lies_behind)
 
 -- A directive's keyword lies within the masked line, and so do the bytes after it.
 pub content_lies : (scan : Scan) → Lies (length scan.masked) (content_of scan)
 content_lies scan = lies_unless_cut scan (has_split_keyword scan (skip_white_and_hash scan.masked))
 
 keyword_by : (n : ℕ) (c : Content) → Lies n c → (keyword_in c).at + (keyword_in c).len ≤ n
-keyword_by n (directive d) h = h.0
-keyword_by n c h = omega arith
+keyword_by n c h = grind arith
 
 -- The keyword lies within the masked line.
 pub keyword_lies : (scan : Scan) → (keyword_in (content_of scan)).at + (keyword_in (content_of scan)).len ≤ length scan.masked

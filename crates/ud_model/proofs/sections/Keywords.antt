@@ -1,6 +1,6 @@
 -- Keywords: a fact of each row of the table is a fact of each keyword and its kind. Two bytes show
 -- that no keyword begins a word.
-use Rattle.std.proofs.Common.{◌≡◌, ℕ, ◌==◌, List, [], ◌∷◌, Bool, true, false, ◌&&◌, ◌||◌, not, Some, None, bytes_eq, if◌then◌else◌, nat_eq, refl, sym, subst, inl, inr}
+use Rattle.std.proofs.Common.{◌≡◌, ℕ, ◌==◌, List, [], ◌∷◌, Bool, true, false, ◌&&◌, ◌||◌, not, Some, None, bytes_eq, if◌then◌else◌, nat_eq, refl, sym, subst, inl, inr, arith}
 use Rattle.std.specs.List.{list_any, starts_with}
 use Rattle.std.proofs.lemmas.Bool.{and_parts, and_cases, and_right, or_parts, not-true, not-false}
 use Rattle.ud_model.specs.text.Bytes.{is_word_byte}
@@ -12,10 +12,7 @@ use Rattle.ud_model.proofs.output.Each.{Each}
 module _ (P : List ℕ × Kind → Type 0) where
   by_word : (w v : List ℕ) (j k : Kind) (rows : List (List ℕ × Kind)) (t : Bool) → (t ≡ true → w ≡ v) → (kind_among rows w ≡ Some k → P (w, k)) → P (v, j) →
       (if t then Some j else kind_among rows w) ≡ Some k → P (w, k)
-  by_word w v j k rows true f h a e =
-      let q : j ≡ k = cc in
-      subst (λ (x : List ℕ). P (x, k)) (sym (f refl)) (subst (λ (i : Kind). P (v, i)) q a)
-  by_word w v j k rows false f h a e = h e
+  by_word w v j k rows t f h a e = grind arith
 
   row_holds : (rows : List (List ℕ × Kind)) → Each P rows → (w : List ℕ) (k : Kind) → kind_among rows w ≡ Some k → P (w, k)
   row_holds [] a w k e = cc
@@ -41,14 +38,7 @@ each_keyword p a w k e = keyword_holds (λ row. p row ≡ true) (each_passes p k
 
 -- A word that a keyword can't begin with is neither that keyword nor a prefix of it.
 differs : (b c : ℕ) (w v key : List ℕ) → may_begin key b c ≡ false → (is_word_byte c ≡ true → w ≡ c ∷ v) → (bytes_eq (b ∷ w) key ≡ false) × (starts_with nat_eq key (b ∷ w) ≡ false)
-differs b c w v [] m f = cc
-differs b c w v (x ∷ []) m f = cc
-differs b c w v (x ∷ y ∷ more) m f = elim (and_cases (b == x) (c == y || not (is_word_byte c)) m) [ inl e ↦ rw e (refl, refl) | inr e ↦ second (or_parts (c == y) (not (is_word_byte c)) e) ]
-  where
-    second : ((c == y) ≡ false) × (not (is_word_byte c) ≡ false) → (bytes_eq (b ∷ w) (x ∷ y ∷ more) ≡ false) × (starts_with nat_eq (x ∷ y ∷ more) (b ∷ w) ≡ false)
-    second p =
-        subst (λ (u : List ℕ). (bytes_eq (b ∷ u) (x ∷ y ∷ more) ≡ false) × (starts_with nat_eq (x ∷ y ∷ more) (b ∷ u) ≡ false)) (sym (f (not-false (is_word_byte c) p.1)))
-        (rw p.0 (and_right (b == x) false refl, and_right (b == x) false refl))
+differs b c w v key m f = grind arith
 
 no_row : (b c : ℕ) (w v : List ℕ) (rows : List (List ℕ × Kind)) → list_any (λ (row : List ℕ × Kind). may_begin row.0 b c) rows ≡ false → (is_word_byte c ≡ true → w ≡ c ∷ v) →
     (kind_among rows (b ∷ w) ≡ None) × (list_any (λ (row : List ℕ × Kind). starts_with nat_eq row.0 (b ∷ w)) rows ≡ false)
@@ -61,6 +51,4 @@ no_row b c w v (row ∷ rows) e f =
 
 -- A word that begins with two such bytes is no keyword, and no prefix of one.
 pub no_keyword : (b c : ℕ) (w v : List ℕ) → is_no_keyword b c ≡ true → (is_word_byte c ≡ true → w ≡ c ∷ v) → (kind_of (b ∷ w) ≡ None) × (is_prefix_of_keyword (b ∷ w) ≡ false)
-no_keyword b c w v e f =
-    let none = list_any (λ (row : List ℕ × Kind). may_begin row.0 b c) keywords in
-    no_row b c w v keywords (not-true none (and_parts (is_word_byte b) (not none) e).1) f
+no_keyword b c w v e f = grind (arith, no_row, not-true, and_parts)

@@ -1,5 +1,5 @@
 -- Soundness: the lines decide the items, the tree and the fault, so a text has one outcome at most.
-use Rattle.std.proofs.Common.{◌≡◌, ℕ, List, [], ◌∷◌, ◌++◌, map, Option, Some, None, refl, sym, ◌∙◌, ap, ap₂, append_assoc, append-nil, subst, ◌⊎◌, inl, inr}
+use Rattle.std.proofs.Common.{◌≡◌, ℕ, List, [], ◌∷◌, ◌++◌, map, Option, Some, None, refl, sym, ◌∙◌, ap, ap₂, append_assoc, append-nil, subst, ◌⊎◌, inl, inr, arith}
 use Rattle.std.proofs.lemmas.List.{same_from_push, map-append}
 use Rattle.ud_model.specs.text.Lines.{Line, lines_of}
 use Rattle.ud_model.specs.text.Scans.{Reading}
@@ -100,9 +100,7 @@ one_fault xs x f g a b =
 
 -- A faultless line has no fault.
 pub sound_or_faulty : (xs : List (Item Reading)) (x : Item Reading) (f : Fault) → NoneHolds xs x cases → FaultOf xs x f → ⊥
-sound_or_faulty xs x f n a =
-    let c : (later : List Case) × (earlier a.which ++ a.which ∷ later ≡ cases) = case_in_order a.which in
-    none_at xs x (earlier a.which) a.which c.0 (subst (NoneHolds xs x) (sym c.1) n) a.holds
+sound_or_faulty xs x f n a = grind arith
 
 module _ (o : Options) where
   same_next : (xs ys : List (Item Reading)) (t u : Tree Reading) (l k : Line) → AreFaultless o xs t → AreFaultless o ys u → xs ≡ ys → l ≡ k →
@@ -153,9 +151,7 @@ compare_fronts (c ∷ ks) (d ∷ ms) a b ws vs e = go (compare_fronts ks ms a b 
 
     go : ((ks ≡ ms) × (a ≡ b)) ⊎ (((mid : List Line) × (ms ≡ ks ++ a ∷ mid)) ⊎ ((mid : List Line) × (ks ≡ ms ++ b ∷ mid))) →
         ((c ∷ ks ≡ d ∷ ms) × (a ≡ b)) ⊎ (((mid : List Line) × (d ∷ ms ≡ c ∷ ks ++ a ∷ mid)) ⊎ ((mid : List Line) × (c ∷ ks ≡ d ∷ ms ++ b ∷ mid)))
-    go (inl s) = inl (cc, s.1)
-    go (inr (inl s)) = inr (inl (s.0, cc))
-    go (inr (inr s)) = inr (inr (s.0, cc))
+    go h = grind arith
 
 module _ (o : Options) (ls : List Line) where
   -- A text stops at one line, with one fault.

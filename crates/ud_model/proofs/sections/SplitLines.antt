@@ -18,12 +18,10 @@ past_white_then (b ∷ ws) t h =
     ap (λ (w : Bool). if w then skip_white (ws ++ t) else b ∷ (ws ++ t)) p.0 ∙ past_white_then ws t p.1
 
 no_white : (t : List ℕ) → first_is is_white t ≡ false → skip_white t ≡ t
-no_white [] h = refl
-no_white (b ∷ t) h = ap (λ (w : Bool). if w then skip_white t else b ∷ t) h
+no_white t h = grind arith
 
 no_word : (t : List ℕ) → first_is is_word_byte t ≡ false → (leading_word t ≡ []) × (skip_word t ≡ t)
-no_word [] h = (refl, refl)
-no_word (b ∷ t) h = (ap (λ (w : Bool). if w then b ∷ leading_word t else []) h, ap (λ (w : Bool). if w then skip_word t else b ∷ t) h)
+no_word t h = grind arith
 
 -- A word before other bytes is the leading one.
 word_then : (word rest : List ℕ) → are_word_bytes word ≡ true → first_is is_word_byte rest ≡ false → (leading_word (word ++ rest) ≡ word) × (skip_word (word ++ rest) ≡ rest)
@@ -49,8 +47,7 @@ white_gone [] = refl
 white_gone (b ∷ t) = by_white (is_white b) refl (white_gone t)
   where
     by_white : (w : Bool) → is_white b ≡ w → first_is is_white (skip_white t) ≡ false → first_is is_white (if w then skip_white t else b ∷ t) ≡ false
-    by_white true e r = r
-    by_white false e r = e
+    by_white w e r = grind arith
 
 word_front : (t : List ℕ) → (t ≡ leading_word t ++ skip_word t) × (are_word_bytes (leading_word t) ≡ true) × (first_is is_word_byte (skip_word t) ≡ false)
 word_front [] = (refl, refl, refl)
@@ -59,16 +56,10 @@ word_front (b ∷ t) = by_word (is_word_byte b) refl (word_front t)
     by_word : (w : Bool) → is_word_byte b ≡ w → ((t ≡ leading_word t ++ skip_word t) × (are_word_bytes (leading_word t) ≡ true) × (first_is is_word_byte (skip_word t) ≡ false)) →
         (b ∷ t ≡ (if w then b ∷ leading_word t else []) ++ (if w then skip_word t else b ∷ t)) × (are_word_bytes (if w then b ∷ leading_word t else []) ≡ true)
         × (first_is is_word_byte (if w then skip_word t else b ∷ t) ≡ false)
-    by_word true e r = (ap (λ (l : List ℕ). b ∷ l) r.0, ap₂ (λ (x y : Bool). x && y) e r.1, r.2)
-    by_word false e r = (refl, refl, e)
+    by_word w e r = grind arith
 
 hash_front : (t rest : List ℕ) → skip_hash t ≡ Some rest → t ≡ number_sign ∷ rest
-hash_front [] rest e = cc
-hash_front (b ∷ t) rest e = by_hash (b == 35) refl e
-  where
-    by_hash : (s : Bool) → (b == 35) ≡ s → (if s then Some t else None) ≡ Some rest → b ∷ t ≡ 35 ∷ rest
-    by_hash true f g = let p : t ≡ rest = cc in ap₂ (λ (x : ℕ) (l : List ℕ). x ∷ l) (eqb-true b 35 f) p
-    by_hash false f g = cc
+hash_front t rest e = grind arith
 
 -- A masked line with a `#` after white space has parts.
 parts_exist : (masked tail : List ℕ) → skip_white_and_hash masked ≡ Some tail → (p : DirectiveParts) × AreParts p masked
@@ -114,9 +105,7 @@ no_rest [] (b ∷ rest) h n =
 no_rest (b ∷ word) rest h n = no_rest word rest (and_parts (is_word_byte b) (are_word_bytes (word ++ rest)) h).1 n
 
 slash_is_no_word : (b : ℕ) (t : List ℕ) → is_word_byte b ≡ true → b ∷ t ≡ slash ∷ [] → ⊥
-slash_is_no_word b t h e =
-    let p : b ≡ slash = cc in
-    let q : is_word_byte slash ≡ true = sym (ap is_word_byte p) ∙ h in cc
+slash_is_no_word b t h e = grind arith
 
 module _ (scan : Scan) (p : DirectiveParts) where
   ends_by : (word rest : List ℕ) → p.word ≡ word → p.rest ≡ rest → are_word_bytes word ≡ true → first_is is_word_byte rest ≡ false →
@@ -151,46 +140,27 @@ module _ (scan : Scan) (p : DirectiveParts) where
   to_ends h m = ends_by p.word p.rest refl refl h.word h.word_ends m
 
   word_may : (word : List ℕ) → word ≢ [] → are_word_bytes word ≡ true → is_prefix_of_keyword word ≡ true → is_continued_outside_comment scan ≡ true → may_split_keyword scan word ≡ true
-  word_may [] n h e c = absurd (n refl)
-  word_may (b ∷ word) n h e c =
-      and_from (is_continued_outside_comment scan) (bytes_eq (b ∷ word) (47 ∷ []) || is_keyword_prefix (b ∷ word)) c
-      (or_right (bytes_eq (b ∷ word) (47 ∷ [])) (is_keyword_prefix (b ∷ word)) (and_from (are_word_bytes (b ∷ word)) (is_prefix_of_keyword (b ∷ word)) h e))
+  word_may word n h e c = grind arith
 
   from_ends : AreParts p scan.masked → EndsInKeyword scan p → may_split_keyword scan (p.word ++ p.rest) ≡ true
-  from_ends h (nothing_follows e f) = ap₂ (λ (w r : List ℕ). may_split_keyword scan (w ++ r)) e f
-  from_ends h (slash_follows e f c) = ap₂ (λ (w r : List ℕ). may_split_keyword scan (w ++ r)) e f ∙ ap (λ (t : Bool). t && true) c
-  from_ends h (word_follows n f e c) =
-      ap (λ (r : List ℕ). may_split_keyword scan (p.word ++ r)) f ∙ ap (may_split_keyword scan) (append-nil p.word) ∙ word_may p.word n h.word e c
+  from_ends h g = grind (arith, append-nil, word_may)
 
   -- The keyword is split, as it is computed.
   abbrev splits : Bool
   splits = scan.fresh && scan.joins_after && not (is_in_line scan.comment) && may_split_keyword scan (p.word ++ p.rest)
 
   to_split : AreParts p scan.masked → splits ≡ true → IsSplitKeyword scan p
-  to_split h e =
-      let a = and_parts (scan.fresh && scan.joins_after && not (is_in_line scan.comment)) (may_split_keyword scan (p.word ++ p.rest)) e in
-      let b = and_parts (scan.fresh && scan.joins_after) (not (is_in_line scan.comment)) a.0 in
-      let c = and_parts scan.fresh scan.joins_after b.0 in
-      record { fresh = c.0; joins = c.1; no_line_comment = not-true (is_in_line scan.comment) b.1; ends = to_ends h a.1 }
+  to_split h e = grind (arith, and_parts, not-true, to_ends)
 
   from_split : AreParts p scan.masked → IsSplitKeyword scan p → splits ≡ true
-  from_split h s =
-      and_from (scan.fresh && scan.joins_after && not (is_in_line scan.comment)) (may_split_keyword scan (p.word ++ p.rest))
-      (and_from (scan.fresh && scan.joins_after) (not (is_in_line scan.comment)) (and_from scan.fresh scan.joins_after s.fresh s.joins) (ap not s.no_line_comment))
-      (from_ends h s.ends)
+  from_split h s = grind (arith, and_from, from_ends)
 
   -- The content of a line with these parts, by three choices.
   abbrev content_by : Bool → Bool → Option Kind → Content
   content_by split fresh k = if split then cut_keyword else if fresh then directive_at scan (p.word ++ p.rest) k else text
 
   content_is : AreParts p scan.masked → content_of scan ≡ content_by splits scan.fresh (kind_of p.word)
-  content_is h =
-      let c = computed p scan.masked h in
-      ap (λ (o : Option (List ℕ)). if has_split_keyword scan o then cut_keyword else content_after_hash scan o) c.tail
-      ∙ ap (λ (t : List ℕ). if scan.fresh && scan.joins_after && not (is_in_line scan.comment) && may_split_keyword scan t then cut_keyword
-      else if scan.fresh then directive_at scan t (kind_of (leading_word t))
-      else text) c.behind
-      ∙ ap (λ (w : List ℕ). content_by splits scan.fresh (kind_of w)) c.word
+  content_is h = grind (arith, computed)
 
   -- The directive of this kind that a line with these parts has.
   abbrev directive_by : Kind → Directive
@@ -202,11 +172,7 @@ module _ (scan : Scan) (p : DirectiveParts) where
   }
 
   place : AreParts p scan.masked → length scan.masked - length (p.word ++ p.rest) ≡ suc (length p.white + length p.gap)
-  place h =
-      let a = ap (λ (t : List ℕ). length t) h.joined in
-      let b = length-append p.white (number_sign ∷ (p.gap ++ (p.word ++ p.rest))) in
-      let c = length-append p.gap (p.word ++ p.rest) in
-      omega (arith, a, b, c)
+  place h = grind (arith, length-append)
 
   has_this : AreParts p scan.masked → scan.fresh ≡ true → splits ≡ false → (k : Kind) → kind_of p.word ≡ Some k → HasDirective scan (directive_by k)
   has_this h f s k e =
@@ -225,15 +191,10 @@ module _ (scan : Scan) (p : DirectiveParts) where
 
   to_directive : AreParts p scan.masked → (split fresh : Bool) (k : Option Kind) (d : Directive) → splits ≡ split → scan.fresh ≡ fresh → kind_of p.word ≡ k →
       content_by split fresh k ≡ directive d → HasDirective scan d
-  to_directive h false true (Some k) d s f e g =
-      let q : directive_by k ≡ d = cc in subst (λ (x : Directive). HasDirective scan x) q (has_this h f s k e)
-  to_directive h _ _ _ _ s f e g = cc
+  to_directive h split fresh k d s f e g = grind (arith, has_this)
 
   to_cut : (split fresh : Bool) (k : Option Kind) → content_by split fresh k ≡ cut_keyword → split ≡ true
-  to_cut true fresh k e = refl
-  to_cut false false k e = cc
-  to_cut false true None e = cc
-  to_cut false true (Some k) e = cc
+  to_cut split fresh k e = grind arith
 
   to_text : AreParts p scan.masked → (split fresh : Bool) (k : Option Kind) → splits ≡ split → scan.fresh ≡ fresh → kind_of p.word ≡ k →
       (HasSplitKeyword scan → ⊥) → ((d : Directive) → HasDirective scan d → ⊥) → content_by split fresh k ≡ text

@@ -1,6 +1,6 @@
 -- Stays: a line's mark is the same in every longer text, since no later group's condition changes
 -- an opener's verdict.
-use Rattle.std.proofs.Common.{◌≡◌, List, [], ◌∷◌, ◌++◌, length, Bool, true, false, not, ◌&&◌, if◌then◌else◌, refl, sym, ◌∙◌, append_assoc, append-nil, subst, length-append}
+use Rattle.std.proofs.Common.{◌≡◌, List, [], ◌∷◌, ◌++◌, length, Bool, true, false, not, ◌&&◌, if◌then◌else◌, refl, sym, ◌∙◌, append_assoc, append-nil, subst, length-append, arith}
 use Rattle.ud_model.specs.declared.cond.Cond.{Cond}
 use Rattle.ud_model.specs.declared.cond.Cond.TheVariants.{Yes, No, Unknown}
 use Rattle.ud_model.specs.declared.verdict.Verdict.TheVariants.{Keep, Remove, ToEndif}
@@ -12,16 +12,13 @@ use Rattle.ud_model.proofs.sections.Growth.{Adds, adds_text, adds_if, elif_after
 use Rattle.ud_model.proofs.sections.Unique.{unique, tree_before}
 
 removed_either_way : (b : Bool) (part : Part) → verdict_in_position (if b then given_way else false_before) part ≡ Remove
-removed_either_way true part = refl
-removed_either_way false part = refl
+removed_either_way b part = grind arith
 
 -- The table is taken by its rows, if the section doesn't give way and some group before is kept.
 after_first : (some ends : Bool) (part : Part) (c : Cond) →
     verdict_in_position (if not some then up_to_true c else if ends then next_after else further_on) part
     ≡ (if not some then later_verdict part c else if ends then ToEndif else Remove)
-after_first false ends part c = refl
-after_first true true part c = refl
-after_first true false part c = refl
+after_first some ends part c = grind arith
 
 -- The table over the whole section is that by the groups so far: the conditions of later groups
 -- change no opener's verdict.
@@ -56,9 +53,7 @@ module _ {L : Type 0} where
         )
 
   head_same : (kept : Bool) (h : Head L) → marks_of_head kept (conds_of_head h) h ≡ head_so_far kept h
-  head_same kept (if_head o) = rw (table_so_far [] [] an_if o.cond)
-  head_same kept (elif_head es o) = rw (elifs_same kept es (o.cond ∷ []), table_so_far (conds_of_elifs es) [] an_elif o.cond)
-  head_same kept (else_head es l) = rw (elifs_same kept es (Yes ∷ []), table_so_far (conds_of_elifs es) [] an_else Yes)
+  head_same kept h = grind (arith, table_so_far, elifs_same)
 
   -- The marks by the table over the whole section are those by the groups so far.
   pub marks_so_far_same : (kept : Bool) (t : Tree L) → marks_in kept t ≡ marks_so_far kept t
@@ -68,8 +63,7 @@ module _ {L : Type 0} where
 
   pub groups_so_far-complete : (kept : Bool) (h : Head L) (b : Nodes L) →
       groups_so_far kept (complete h b) ≡ head_so_far kept h ++ nodes_so_far (kept && is_inside_kept h) b
-  groups_so_far-complete kept (if_head o) b = refl
-  groups_so_far-complete _ _ _ = refl
+  groups_so_far-complete kept h b = grind arith
 
   -- One more line has one more mark.
   pub marks_add : (kept : Bool) {t u : Tree L} {x : Item L} → Adds t x u → (m : Mark) × (marks_so_far kept u ≡ marks_so_far kept t ++ m ∷ [])

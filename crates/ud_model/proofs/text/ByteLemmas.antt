@@ -16,12 +16,10 @@ abbrev pub front_len : List ℕ → ℕ
 front_len bytes = position_or_len (λ b. not (is_word_byte b)) bytes
 
 take_one : (w : Bool) (n b : ℕ) (bs prefix : List ℕ) → take n bs ≡ prefix → take (cond (not (not w)) (1 + n) 0) (b ∷ bs) ≡ (if w then b ∷ prefix else [])
-take_one true n b bs prefix h = rw one-add (ap (λ l. b ∷ l) h)
-take_one false n b bs prefix h = refl
+take_one w n b bs prefix h = grind arith
 
 drop_one : (w : Bool) (n b : ℕ) (bs rest : List ℕ) → drop n bs ≡ rest → drop (cond (not (not w)) (1 + n) 0) (b ∷ bs) ≡ (if w then rest else b ∷ bs)
-drop_one true n b bs rest h = rw one-add h
-drop_one false n b bs rest h = refl
+drop_one w n b bs rest h = grind arith
 
 or_len : (n len : ℕ) → n ≤ len → unwrap_or (cond (nat_lt n len) (Some n) None) len ≡ n
 or_len n len h = grind (arith, nat_tests)
@@ -37,8 +35,7 @@ drop-front_len [] = refl
 drop-front_len (b ∷ bs) = drop_one (is_word_byte b) (front_len bs) b bs (skip_word bs) (drop-front_len bs)
 
 front_one : (w : Bool) (b n : ℕ) (word : List ℕ) → n ≡ length word → cond (not (not w)) (1 + n) 0 ≡ length (if w then b ∷ word else [])
-front_one true b n word h = omega (arith, h)
-front_one false b n word h = refl
+front_one w b n word h = grind arith
 
 -- The position of the first other byte is the length of the leading word.
 pub front_len-word : (bytes : List ℕ) → front_len bytes ≡ length (leading_word bytes)
@@ -60,8 +57,7 @@ Continues count word more = (count < 4 → length word ≡ count) × (4 ≤ coun
 of_four : (w x y z : Bool) (a b c d count : ℕ) (more : List ℕ) →
     count ≡ length (if w then a ∷ (if x then b ∷ (if y then c ∷ (if z then d ∷ [] else []) else []) else []) else []) →
     Continues count (if w then a ∷ (if x then b ∷ (if y then c ∷ (if z then d ∷ leading_word more else []) else []) else []) else []) more
-of_four true true true true a b c d count more e = (λ h. absurd (omega (arith, e, h)), λ h. omega arith)
-of_four w x y z a b c d count more e = (λ h. omega (arith, e), λ h. absurd (omega (arith, e, h)))
+of_four w x y z a b c d count more e = grind arith
 
 -- The leading word ends among the first four bytes, or continues after them.
 pub word_of_four : (bytes : List ℕ) (count : ℕ) → 4 ≤ length bytes →
@@ -75,15 +71,10 @@ unwrap_or-position p bytes = or_len (position_or_len p bytes) (length bytes) (pr
 
 -- After a first byte that is no digit, an identifier has word bytes alone.
 pub is_identifier-first : (text : List ℕ) (first : ℕ) → slice_get text 0 ≡ Some first → is_digit first ≡ false → is_identifier text ≡ are_word_bytes text
-is_identifier-first [] first e h = cc
-is_identifier-first (b ∷ bs) first e h =
-    let same : b ≡ first = cc in
-    let other : is_digit b ≡ false = ap is_digit same ∙ h in
-    ap (λ d. not d && are_word_bytes (b ∷ bs)) other
+is_identifier-first text first e h = grind arith
 
 one_off : (w : Bool) (b : ℕ) (bs rest : List ℕ) → length rest ≤ length bs → length (if w then rest else b ∷ bs) ≤ length (b ∷ bs)
-one_off true b bs rest h = let s : length (b ∷ bs) ≡ length bs + 1 = omega arith in omega arith
-one_off false b bs rest h = omega arith
+one_off w b bs rest h = grind arith
 
 -- The rest after leading white space is no longer than the text.
 pub length-skip_white : (bytes : List ℕ) → length (skip_white bytes) ≤ length bytes
@@ -91,8 +82,7 @@ length-skip_white [] = omega arith
 length-skip_white (b ∷ bs) = one_off (is_white b) b bs (skip_white bs) (length-skip_white bs)
 
 one_word : (w : Bool) (b : ℕ) (prefix : List ℕ) → is_word_byte b ≡ w → are_word_bytes prefix ≡ true → are_word_bytes (if w then b ∷ prefix else []) ≡ true
-one_word true b prefix e h = rw e h
-one_word false b prefix e h = refl
+one_word w b prefix e h = grind arith
 
 -- The leading word has word bytes alone.
 pub leading_word-word : (bytes : List ℕ) → are_word_bytes (leading_word bytes) ≡ true

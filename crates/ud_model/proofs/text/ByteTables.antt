@@ -9,9 +9,7 @@ agree_below f g zero = true
 agree_below f g (suc n) = beq (f n) (g n) && agree_below f g n
 
 both_of : (x y rest : Bool) → (beq x y && rest) ≡ true → (x ≡ y) × (rest ≡ true)
-both_of true false rest h = cc
-both_of false true rest h = cc
-both_of _ _ _ h = (refl, h)
+both_of x y rest h = grind arith
 
 agree_at : (f g : ℕ → Bool) (n : ℕ) → agree_below f g n ≡ true → (b : ℕ) → b < n → f b ≡ g b
 unfolding agree_below

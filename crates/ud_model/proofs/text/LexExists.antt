@@ -8,8 +8,7 @@ use Rattle.ud_model.proofs.text.LexLemmas.{some_bytes}
 
 -- A text that begins with this byte is the byte and the rest.
 begins_is : (b : ℕ) (u : List ℕ) → starts_with_byte b u ≡ true → (rest : List ℕ) × (u ≡ b ∷ rest)
-begins_is b [] e = cc
-begins_is b (x ∷ u) e = (u, ap (λ (n : ℕ). n ∷ u) (eqb-true x b e))
+begins_is b u e = grind arith
 
 -- Up to and including the first `*/`, or to the end.
 data CommentEnd (u : List ℕ) : Type 0 where
@@ -163,10 +162,7 @@ first_piece a u = by_quote (is_quote a) refl
     by_quote false h = by_slash (a == slash) refl h
 
 less_left : {k : LexemeKind} (text bytes rest : List ℕ) (n : ℕ) → text ≡ bytes ++ rest → IsLexeme bytes rest k → length text ≤ suc n → length rest ≤ n
-less_left text [] rest n e p h = absurd (some_bytes rest p)
-less_left text (b ∷ bytes) rest n e p h =
-    let size : length text ≡ suc (length bytes + length rest) = ap (λ (l : List ℕ). length l) e ∙ ap (λ (k : ℕ). suc k) (length-append bytes rest) in
-    omega arith
+less_left text h rest n e p g = grind (arith, some_bytes, length-append)
 
 cut_within : (n : ℕ) (text : List ℕ) → length text ≤ n → (pieces : List Lexeme) × AreLexemes pieces text
 cut_within n [] h = ([], refl)

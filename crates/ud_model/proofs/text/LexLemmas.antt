@@ -25,8 +25,7 @@ open_size (a ∷ inside) n =
     ap (λ (t : Bool). if t then 2 else suc (comment_size inside)) n.0 ∙ ap (λ (k : ℕ). suc k) (open_size inside n.1)
 
 line_end_size : (rest : List ℕ) → IsLineEnd rest → line_comment_size rest ≡ 0
-line_end_size [] e = refl
-line_end_size (a ∷ rest) e = ap (λ (t : Bool). if t then 0 else suc (line_comment_size rest)) (eq-eqb a 10 e)
+line_end_size rest e = grind arith
 
 line_inside_size : (inside rest : List ℕ) → NoNewline inside → IsLineEnd rest → line_comment_size (inside ++ rest) ≡ length inside
 line_inside_size [] rest n e = line_end_size rest e
@@ -34,10 +33,7 @@ line_inside_size (a ∷ inside) rest n e =
     ap (λ (t : Bool). if t then 0 else suc (line_comment_size (inside ++ rest))) (ne_eqb a 10 n.0) ∙ ap (λ (k : ℕ). suc k) (line_inside_size inside rest n.1 e)
 
 literal_end_size : (q : ℕ) (p : Bool) (rest : List ℕ) → IsLineEnd rest → literal_size q p rest ≡ 0
-literal_end_size q true (a ∷ rest) e = ap (λ (t : Bool). if t then 0 else suc (literal_size q false rest)) (eq-eqb a 10 e)
-literal_end_size q false (a ∷ rest) e =
-    ap (λ (t : Bool). if t then 0 else if a == q then 1 else suc (literal_size q (a == backslash) rest)) (eq-eqb a 10 e)
-literal_end_size _ _ [] _ = refl
+literal_end_size q p rest e = grind arith
 
 -- A byte that is no quote isn't this one.
 not_this_quote : (q n : ℕ) → is_quote q ≡ true → is_quote n ≡ false → n ≢ q
@@ -71,42 +67,16 @@ extent k n = record { kind = k; more = n }
 
 at_bytes : (k : LexemeKind) (a b : ℕ) (tail tail' rest : List ℕ) → a ∷ tail ≡ b ∷ tail' →
     lexeme_at b (tail' ++ rest) ≡ extent k (length tail') → lexeme_at a (tail ++ rest) ≡ extent k (length tail)
-at_bytes k a b tail tail' rest e h =
-    let p : a ≡ b = cc in
-    let q : tail ≡ tail' = cc in
-    ap₂ (λ (x : ℕ) (t : List ℕ). lexeme_at x (t ++ rest)) p q ∙ h ∙ ap (λ (t : List ℕ). extent k (length t)) (sym q)
+at_bytes k a b tail tail' rest e h = grind arith
 
 piece_literal : (q : ℕ) (rest : List ℕ) → is_quote q ≡ true → lexeme_at q rest ≡ extent literal (literal_size q false rest)
 unfolding lexeme_at
-piece_literal q rest h =
-    by_tests (q == slash) (is_quote q) (starts_with_byte star rest) (starts_with_byte slash rest) (suc (comment_size (drop 1 rest))) (suc (line_comment_size (drop 1 rest))) (not_a_quote q 47 h refl) h
-  where
-    by_tests : (s t x y : Bool) (m n : ℕ) → s ≡ false → t ≡ true →
-        ◌≡◌ {A = Extent}
-        (if s && x then record { kind = block_comment; more = m }
-        else if s && y then record { kind = line_comment; more = n }
-        else if t then record { kind = literal; more = literal_size q false rest }
-        else record { kind = single; more = 0 })
-        (record { kind = literal; more = literal_size q false rest })
-    by_tests false true x y m n e f = refl
-    by_tests _ _ _ _ _ n e f = cc
+piece_literal q rest h = grind arith
 
 piece_single : (b : ℕ) (rest : List ℕ) → is_quote b ≡ false → ((b == slash) && (starts_with_byte star rest || starts_with_byte slash rest)) ≡ false →
     lexeme_at b rest ≡ extent single 0
 unfolding lexeme_at
-piece_single b rest h f =
-    by_tests (b == slash) (is_quote b) (starts_with_byte star rest) (starts_with_byte slash rest) (suc (comment_size (drop 1 rest))) (suc (line_comment_size (drop 1 rest))) f h
-  where
-    by_tests : (s t x y : Bool) (m n : ℕ) → (s && (x || y)) ≡ false → t ≡ false →
-        ◌≡◌ {A = Extent}
-        (if s && x then record { kind = block_comment; more = m }
-        else if s && y then record { kind = line_comment; more = n }
-        else if t then record { kind = literal; more = literal_size b false rest }
-        else record { kind = single; more = 0 })
-        (record { kind = single; more = 0 })
-    by_tests false false x y m n e f = refl
-    by_tests true false false false m n e f = refl
-    by_tests _ _ _ _ _ n e f = cc
+piece_single b rest h f = grind arith
 
 -- A lexeme reaches as far as the computed one.
 pub piece_size : {k : LexemeKind} (a : ℕ) (tail rest : List ℕ) → IsLexeme (a ∷ tail) rest k → lexeme_at a (tail ++ rest) ≡ extent k (length tail)
@@ -148,13 +118,7 @@ piece_size a tail rest (single_byte b e h f) = at_bytes single a b tail [] rest 
 
 -- A lexeme has a byte at least.
 pub some_bytes : {k : LexemeKind} (rest : List ℕ) → IsLexeme [] rest k → ⊥
-some_bytes rest (closed_comment inside e n) = cc
-some_bytes rest (open_comment inside e n none) = cc
-some_bytes rest (to_line_end inside e n at_end) = cc
-some_bytes rest (closed_literal q inside h e i) = cc
-some_bytes rest (open_literal q inside h e i at_end) = cc
-some_bytes rest (open_at_backslash q inside h e i at_end) = cc
-some_bytes rest (single_byte b e h f) = cc
+some_bytes rest h = grind arith
 
 cut_rest : (k : LexemeKind) (tail rest : List ℕ) → lex_from k (length tail) (tail ++ rest) ≡ cells_in k tail ++ lex_from k 0 rest
 unfolding lex_from
@@ -204,14 +168,12 @@ cut_unique text [] (q ∷ others) e (more, f, is, rest) =
     absurd (empty_first q.kind q.bytes more (sym f ∙ e) is)
   where
     empty_first : (k : LexemeKind) (bytes behind : List ℕ) → bytes ++ behind ≡ [] → IsLexeme bytes behind k → ⊥
-    empty_first k [] behind e p = some_bytes behind p
-    empty_first k (b ∷ bytes) behind e p = cc
+    empty_first k bytes behind e p = grind arith
 cut_unique text (p ∷ pieces) [] (more, f, is, rest) e =
     absurd (empty_first p.kind p.bytes more (sym f ∙ e) is)
   where
     empty_first : (k : LexemeKind) (bytes behind : List ℕ) → bytes ++ behind ≡ [] → IsLexeme bytes behind k → ⊥
-    empty_first k [] behind e p = some_bytes behind p
-    empty_first k (b ∷ bytes) behind e p = cc
+    empty_first k bytes behind e p = grind arith
 cut_unique text (p ∷ pieces) (q ∷ others) (rest, e, is, behind) (more, f, are, beyond) =
     let same : (p.kind ≡ q.kind) × (p.bytes ≡ q.bytes) × (rest ≡ more) = first_same p.kind q.kind p.bytes q.bytes rest more is are (sym e ∙ f) in
     let first : p ≡ q = ap₂ (λ (k : LexemeKind) (b : List ℕ). let x : Lexeme = record { kind = k; bytes = b } in x) same.0 same.1 in

@@ -48,92 +48,34 @@ black_last xs c e = is_blank_last xs c ∙ ap (λ (b : Bool). is_blank xs && b) 
 
 -- A quote is no newline.
 pub quote_is_no_feed : (b : ℕ) → is_quote b ≡ true → (b == newline) ≡ false
-quote_is_no_feed b q = by_feed (b == newline) refl
-  where
-    by_feed : (t : Bool) → (b == newline) ≡ t → t ≡ false
-    by_feed true e = let f : is_quote 10 ≡ true = subst (λ (n : ℕ). is_quote n ≡ true) (eqb-true b newline e) q in cc
-    by_feed false e = refl
+quote_is_no_feed b q = grind arith
 
 single_white : (b : ℕ) (x : List Cell) →
     is_blank (open_line x (cell single b ∷ [])) ≡ (if b == newline then true else is_blank x && is_white b)
-single_white b x = by_feed (b == newline)
-  where
-    by_feed : (t : Bool) → is_blank (if t then [] else x ++ cell single b ∷ []) ≡ (if t then true else is_blank x && is_white b)
-    by_feed true = refl
-    by_feed false = is_blank_last x (cell single b)
+single_white b x = grind (arith, is_blank_last)
 
 literal_white : (b : ℕ) (x : List Cell) → is_quote b ≡ true →
     is_blank (open_line x (cell literal b ∷ [])) ≡ (if b == newline then true else is_blank x && is_white b)
-literal_white b x q =
-    is_blank_last x (cell literal b)
-    ∙ sym (ap (λ (t : Bool). if t then true else is_blank x && is_white b) (quote_is_no_feed b q))
+literal_white b x q = grind (arith, is_blank_last, quote_is_no_feed)
 
 white-in_text : (b : ℕ) (x : List Cell) → is_blank (open_line x (settles in_text b)) ≡ stays_white in_text (is_blank x) b
-white-in_text b x = by_cases (b == slash) (is_quote b) refl
-  where
-    by_cases : (s q : Bool) → is_quote b ≡ q →
-        is_blank (open_line x (if s then [] else if q then cell literal b ∷ [] else cell single b ∷ []))
-        ≡ (if s then is_blank x else if b == newline then true else is_blank x && is_white b)
-    by_cases true q e = refl
-    by_cases false true e = literal_white b x e
-    by_cases false false e = single_white b x
+white-in_text b x = grind (arith, literal_white, single_white)
 
 white-at_slash : (b : ℕ) (x : List Cell) → is_blank (open_line x (settles at_slash b)) ≡ stays_white at_slash (is_blank x) b
-white-at_slash b x = by_cases (b == star) (b == slash) (is_quote b) refl
-  where
-    behind : List Cell
-    behind = x ++ cell single slash ∷ []
-
-    behind_is : is_blank (x ++ cell single slash ∷ []) ≡ false
-    behind_is = black_last x (cell single slash) refl
-
-    two : (k : LexemeKind) → is_white (shown (cell k slash)) ≡ true → is_white (shown (cell k b)) ≡ true →
-        is_blank ((x ++ cell k slash ∷ []) ++ cell k b ∷ []) ≡ is_blank x
-    two k e f = comment_last (x ++ cell k slash ∷ []) (cell k b) f ∙ comment_last x (cell k slash) e
-
-    black : (t : Bool) → (if t then true else is_blank (x ++ cell single slash ∷ []) && is_white b) ≡ (if t then true else false)
-    black true = refl
-    black false = ap (λ (c : Bool). c && is_white b) behind_is
-
-    by_cases : (t s q : Bool) → is_quote b ≡ q →
-        is_blank (open_line x
-        (if t then cell block_comment slash ∷ cell block_comment b ∷ []
-        else if s then cell line_comment slash ∷ cell line_comment b ∷ []
-        else if q then cell single slash ∷ cell literal b ∷ []
-        else cell single slash ∷ cell single b ∷ []))
-        ≡ (if t then is_blank x else if s then is_blank x else if b == newline then true else false)
-    by_cases true s q e = two block_comment refl refl
-    by_cases false true q e = two line_comment refl refl
-    by_cases false false true e = literal_white b (x ++ cell single slash ∷ []) e ∙ black (b == newline)
-    by_cases false false false e = single_white b (x ++ cell single slash ∷ []) ∙ black (b == newline)
+white-at_slash b x = grind (arith, black_last, comment_last, literal_white, single_white)
 
 white-in_line : (b : ℕ) (x : List Cell) → is_blank (open_line x (settles in_line b)) ≡ stays_white in_line (is_blank x) b
-white-in_line b x = by_feed (b == newline) refl
-  where
-    by_feed : (t : Bool) → (b == newline) ≡ t →
-        is_blank (open_line x (if t then cell single b ∷ [] else cell line_comment b ∷ [])) ≡ (if t then true else is_blank x)
-    by_feed true e = single_white b x ∙ ap (λ (t : Bool). if t then true else is_blank x && is_white b) e
-    by_feed false e = comment_last x (cell line_comment b) refl
+white-in_line b x = grind (arith, single_white, comment_last)
 
 white_inside : (b : ℕ) (x : List Cell) →
     is_blank (open_line x (if b == newline then cell single b ∷ [] else cell literal b ∷ []))
     ≡ (if b == newline then true else is_blank x && is_white b)
-white_inside b x = by_feed (b == newline) refl
-  where
-    by_feed : (t : Bool) → (b == newline) ≡ t →
-        is_blank (open_line x (if t then cell single b ∷ [] else cell literal b ∷ []))
-        ≡ (if t then true else is_blank x && is_white b)
-    by_feed true e = single_white b x ∙ ap (λ (t : Bool). if t then true else is_blank x && is_white b) e
-    by_feed false e = is_blank_last x (cell literal b)
+white_inside b x = grind (arith, single_white, is_blank_last)
 
 -- The open line after a byte is white as `stays_white` computes it.
 pub white_step : (w : LexState) (b : ℕ) (x : List Cell) → is_blank (open_line x (settles w b)) ≡ stays_white w (is_blank x) b
-white_step in_text b x = white-in_text b x
-white_step at_slash b x = white-at_slash b x
-white_step in_line b x = white-in_line b x
-white_step (in_literal q) b x = white_inside b x
-white_step (at_backslash q) b x = white_inside b x
-white_step _ b x = comment_last x (cell block_comment b) refl
+white_step w b x =
+    grind (arith, white-in_text, white-at_slash, white-in_line, white_inside, comment_last)
 
 -- One more byte takes the text to the next state.
 pub LexesTo-step : {text : List ℕ} {w : LexState} {white : Bool} (b : ℕ) → LexesTo text w white → LexesTo (text ++ b ∷ []) (next_state w b) (stays_white w white b)
@@ -155,84 +97,36 @@ LexesTo-nil = record { settled = []; splits = λ rest. refl; white_is = refl }
 -- The masked text is that of its settled cells, and a slash if one may begin a comment.
 pub mask_is : (text : List ℕ) (w : LexState) (white : Bool) (r : LexesTo text w white) → mask text ≡ map shown r.settled ++ map shown (cells_after w [])
 unfolding mask
-mask_is text w white r =
-    ap (λ (t : List ℕ). map shown (lex t)) (sym (append-nil text)) ∙ ap (λ (cells : List Cell). map shown cells) (r.splits [])
-    ∙ map-append shown r.settled (cells_after w [])
+mask_is text w white r = grind (arith, append-nil, map-append)
 
 tail-in_text : (b : ℕ) → map shown (settles in_text b ++ cells_after (next_state in_text b) []) ≡ b ∷ []
 unfolding cells_after lex_from lexeme_at
-tail-in_text b = by_cases (b == slash) (is_quote b) refl
-  where
-    by_cases : (s q : Bool) → (b == slash) ≡ s →
-        map shown ((if s then [] else if q then cell literal b ∷ [] else cell single b ∷ [])
-        ++ cells_after (if s then at_slash else if q then in_literal b else in_text) []) ≡ b ∷ []
-    by_cases true q e = ap (λ (n : ℕ). n ∷ []) (sym (eqb-true b slash e))
-    by_cases false true e = refl
-    by_cases false false e = refl
+tail-in_text b = grind arith
 
 tail-at_slash : (b : ℕ) → map shown (settles at_slash b ++ cells_after (next_state at_slash b) [])
     ≡ (if opens_comment at_slash b then space ∷ masked_byte at_slash b ∷ [] else map shown (cells_after at_slash []) ++ masked_byte at_slash b ∷ [])
 unfolding cells_after lex_from lexeme_at
-tail-at_slash b = by_cases (b == star) (b == slash) (is_quote b)
-  where
-    by_cases : (t s q : Bool) →
-        map shown
-        ((if t then cell block_comment slash ∷ cell block_comment b ∷ []
-        else if s then cell line_comment slash ∷ cell line_comment b ∷ []
-        else if q then cell single slash ∷ cell literal b ∷ []
-        else cell single slash ∷ cell single b ∷ [])
-        ++ cells_after (if t then in_block else if s then in_line else if q then in_literal b else in_text) [])
-        ≡ (if t || s then space ∷ (if t then space else if s then space else b) ∷ [] else slash ∷ (if t then space else if s then space else b) ∷ [])
-    by_cases true s q = refl
-    by_cases false true q = refl
-    by_cases false false true = refl
-    by_cases false false false = refl
+tail-at_slash b = grind arith
 
 tail-in_block : (b : ℕ) → map shown (settles in_block b ++ cells_after (next_state in_block b) []) ≡ space ∷ []
 unfolding cells_after lex_from
-tail-in_block b = by_star (b == star)
-  where
-    by_star : (t : Bool) → map shown (cell block_comment b ∷ cells_after (if t then at_star else in_block) []) ≡ space ∷ []
-    by_star true = refl
-    by_star false = refl
+tail-in_block b = grind arith
 
 tail-at_star : (b : ℕ) → map shown (settles at_star b ++ cells_after (next_state at_star b) []) ≡ space ∷ []
 unfolding cells_after lex_from
-tail-at_star b = by_cases (b == slash) (b == star)
-  where
-    by_cases : (s t : Bool) → map shown (cell block_comment b ∷ cells_after (if s then in_text else if t then at_star else in_block) []) ≡ space ∷ []
-    by_cases true t = refl
-    by_cases false true = refl
-    by_cases false false = refl
+tail-at_star b = grind arith
 
 tail-in_line : (b : ℕ) → map shown (settles in_line b ++ cells_after (next_state in_line b) []) ≡ (if b == newline then b else space) ∷ []
 unfolding cells_after lex_from
-tail-in_line b = by_feed (b == newline)
-  where
-    by_feed : (t : Bool) → map shown ((if t then cell single b ∷ [] else cell line_comment b ∷ []) ++ cells_after (if t then in_text else in_line) [])
-        ≡ (if t then b else space) ∷ []
-    by_feed true = refl
-    by_feed false = refl
+tail-in_line b = grind arith
 
 tail-in_literal : (q b : ℕ) → map shown (settles (in_literal q) b ++ cells_after (next_state (in_literal q) b) []) ≡ b ∷ []
 unfolding cells_after lex_from
-tail-in_literal q b = by_cases (b == newline) (b == q) (b == backslash)
-  where
-    by_cases : (t c s : Bool) →
-        map shown ((if t then cell single b ∷ [] else cell literal b ∷ [])
-        ++ cells_after (if t then in_text else if c then in_text else if s then at_backslash q else in_literal q) []) ≡ b ∷ []
-    by_cases true c s = refl
-    by_cases false true s = refl
-    by_cases false false true = refl
-    by_cases false false false = refl
+tail-in_literal q b = grind arith
 
 tail-at_backslash : (q b : ℕ) → map shown (settles (at_backslash q) b ++ cells_after (next_state (at_backslash q) b) []) ≡ b ∷ []
 unfolding cells_after lex_from
-tail-at_backslash q b = by_feed (b == newline)
-  where
-    by_feed : (t : Bool) → map shown ((if t then cell single b ∷ [] else cell literal b ∷ []) ++ cells_after (if t then in_text else in_literal q) []) ≡ b ∷ []
-    by_feed true = refl
-    by_feed false = refl
+tail-at_backslash q b = grind arith
 
 tail_shown : (w : LexState) (b : ℕ) → map shown (settles w b ++ cells_after (next_state w b) [])
     ≡ (if opens_comment w b then space ∷ masked_byte w b ∷ [] else map shown (cells_after w []) ++ masked_byte w b ∷ [])
@@ -270,18 +164,7 @@ opened : (w : LexState) (b : ℕ) (xs : List ℕ) (y : ℕ) →
     xs ++ (if opens_comment w b then space ∷ y ∷ [] else map shown (cells_after w []) ++ y ∷ [])
     ≡ (if opens_comment w b then blank_last (xs ++ map shown (cells_after w [])) else xs ++ map shown (cells_after w [])) ++ y ∷ []
 unfolding cells_after lex_from lexeme_at
-opened in_text b xs y = sym (append_assoc xs [] (y ∷ []))
-opened at_slash b xs y = by_opens (opens_comment at_slash b)
-  where
-    by_opens : (o : Bool) → xs ++ (if o then space ∷ y ∷ [] else slash ∷ y ∷ [])
-        ≡ (if o then blank_last (xs ++ slash ∷ []) else xs ++ slash ∷ []) ++ y ∷ []
-    by_opens true = sym (append_assoc xs (space ∷ []) (y ∷ [])) ∙ ap (λ (l : List ℕ). l ++ y ∷ []) (sym (blank_last-last xs slash))
-    by_opens false = sym (append_assoc xs (slash ∷ []) (y ∷ []))
-opened in_block b xs y = sym (append_assoc xs [] (y ∷ []))
-opened at_star b xs y = sym (append_assoc xs [] (y ∷ []))
-opened in_line b xs y = sym (append_assoc xs [] (y ∷ []))
-opened (in_literal q) b xs y = sym (append_assoc xs [] (y ∷ []))
-opened (at_backslash q) b xs y = sym (append_assoc xs [] (y ∷ []))
+opened w b xs y = grind (arith, append_assoc, blank_last-last)
 
 -- In the masked text with one more byte, a slash at the end may become a space.
 pub mask_step : (text : List ℕ) (w : LexState) (white : Bool) (b : ℕ) → LexesTo text w white →
@@ -297,10 +180,7 @@ mask_step text w white b r =
 
 cond_drop : (o : Bool) (n : ℕ) (xs : List ℕ) (y : ℕ) → n ≤ length xs →
     drop n ((if o then blank_last xs else xs) ++ y ∷ []) ≡ (if o then blank_last (drop n xs) else drop n xs) ++ y ∷ []
-cond_drop true n xs y h =
-    drop-append-le n (blank_last xs) (y ∷ []) (subst (λ (k : ℕ). n ≤ k) (sym (length-blank_last xs)) h)
-    ∙ ap (λ (l : List ℕ). l ++ y ∷ []) (blank_last-drop n xs)
-cond_drop false n xs y h = drop-append-le n xs (y ∷ []) h
+cond_drop o n xs y h = grind (arith, drop-append-le, length-blank_last, blank_last-drop)
 
 -- The masked text after its first `n` bytes, with one more byte.
 pub Masks-step : {n : ℕ} {text : List ℕ} {w : LexState} {white : Bool} {masked : List ℕ} (b : ℕ) → Masks n text w white masked →

@@ -14,8 +14,7 @@ prepend_byte-other b p other = rw (ne_eqb b 10 other) refl
 
 -- A nonempty rest is a line of its own.
 pub last_line-some : (r : List ℕ) → r ≢ [] → last_line r ≡ r ∷ []
-last_line-some [] some = absurd (some refl)
-last_line-some (b ∷ bs) some = refl
+last_line-some r some = grind arith
 
 -- A text with a nonempty prefix isn't empty.
 pub some_front : (p q : List ℕ) → p ≢ [] → p ++ q ≢ []
@@ -24,8 +23,7 @@ some_front (b ∷ bs) q some e = cc
 
 -- The rest as a line, joined, is the rest.
 pub concat-last_line : (r : List ℕ) → concat (last_line r) ≡ r
-concat-last_line [] = refl
-concat-last_line (b ∷ bs) = append-nil (b ∷ bs)
+concat-last_line r = grind (arith, append-nil)
 
 -- If neither of two texts has a newline, both joined have none.
 pub no_newline-append : (p q : List ℕ) → NoNewline p → NoNewline q → NoNewline (p ++ q)
@@ -49,9 +47,7 @@ split_lines-prefix (b ∷ bs) t h =
 
 -- A whole line that a text begins with is its first line.
 pub split_lines-line-prefix : (l t : List ℕ) → IsWhole l → split_lines (l ++ t) ≡ record { whole = l ∷ whole_lines t; rest = partial_line t }
-split_lines-line-prefix l t (prefix, none, is) =
-    subst (λ (m : List ℕ). split_lines (m ++ t) ≡ record { whole = m ∷ whole_lines t; rest = partial_line t }) (sym is)
-    (ap split_lines (append_assoc prefix (10 ∷ []) t) ∙ split_lines-prefix prefix t none)
+split_lines-line-prefix l t h = grind (arith, append_assoc, split_lines-prefix)
 
 -- The parts of a text that goes on from these parts.
 abbrev pub going_on : SplitLines → List ℕ → SplitLines
@@ -60,14 +56,7 @@ going_on q s = record { whole = q.whole ++ whole_lines (q.rest ++ s); rest = par
 -- A byte before a text comes before the text that goes on.
 pub prepend_byte-going_on : (b : ℕ) (q : SplitLines) (s : List ℕ) → (b ≡ 10) ⊎ (b ≢ 10) → prepend_byte b (going_on q s) ≡ going_on (prepend_byte b q) s
 unfolding split_lines
-prepend_byte-going_on b q s (inl e) = subst (λ (n : ℕ). prepend_byte n (going_on q s) ≡ going_on (prepend_byte n q) s) (sym e) refl
-prepend_byte-going_on b q s (inr other) =
-    prepend_byte-other b (going_on q s) other ∙ by_whole q.whole q.rest ∙ ap (λ (x : SplitLines). going_on x s) (sym (prepend_byte-other b q other))
-  where
-    by_whole : (ls : List (List ℕ)) (r : List ℕ) →
-        prepend_to_first b (ls ++ whole_lines (r ++ s)) (partial_line (r ++ s)) ≡ going_on (prepend_to_first b ls r) s
-    by_whole [] r = sym (prepend_byte-other b (split_lines (r ++ s)) other)
-    by_whole (l ∷ ls) r = refl
+prepend_byte-going_on b q s h = grind arith
 
 -- The parts of two texts joined: the second goes on from the rest of the first.
 pub split_lines-append : (t s : List ℕ) → split_lines (t ++ s) ≡ going_on (split_lines t) s
@@ -264,8 +253,7 @@ numbered_from-append n (x ∷ xs) ys =
 -- A line after these is numbered on from them, if the first has the number 1.
 pub numbered_from-next : (xs : List (List ℕ)) (l : List ℕ) (ys : List (List ℕ)) →
     numbered_from 1 (xs ++ l ∷ ys) ≡ numbered_from 1 xs ++ line_at (suc (length xs)) l ∷ numbered_from (suc (suc (length xs))) ys
-numbered_from-next xs l ys =
-    numbered_from-append 1 xs (l ∷ ys) ∙ ap (λ (k : ℕ). numbered_from 1 xs ++ numbered_from k (l ∷ ys)) (omega arith)
+numbered_from-next xs l ys = grind (arith, numbered_from-append)
 
 -- The whole lines of a text are the first lines of a longer one that goes on.
 pub lines_so_far-append : (t more : List ℕ) → (later : List Line) × (numbered_from 1 (whole_lines (t ++ more)) ≡ numbered_from 1 (whole_lines t) ++ later)

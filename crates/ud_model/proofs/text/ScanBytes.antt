@@ -1,5 +1,5 @@
 -- Scans: a masked byte has its position in the body, and the numbers of lines never count.
-use Rattle.std.proofs.Common.{◌≡◌, ℕ, zero, suc, ◌-◌, List, [], ◌∷◌, ◌++◌, length, take, drop, map, Bool, true, false, ◌||◌, if◌then◌else◌, refl, sym, ◌∙◌, ap, ap₂, append-nil}
+use Rattle.std.proofs.Common.{◌≡◌, ℕ, zero, suc, ◌-◌, List, [], ◌∷◌, ◌++◌, length, take, drop, map, Bool, true, false, ◌||◌, if◌then◌else◌, refl, sym, ◌∙◌, ap, ap₂, append-nil, arith}
 use Rattle.std.proofs.lemmas.List.{take_at, drop_at, length-map, take-map, drop-map, map-append, take-append-drop}
 use Rattle.ud_model.specs.text.Lines.{Line}
 use Rattle.ud_model.specs.text.Scans.{Reading, plain_scan}
@@ -60,8 +60,7 @@ abbrev pub bare : Reading → Reading
 bare r = record { line = unnumbered r.line; mode = r.mode; scan = plain_scan (unnumbered r.line) }
 
 extended_run-unnumbered : (run : List Line) (m : Mode) (line : Line) → extended_run (map unnumbered run) m (unnumbered line) ≡ map unnumbered (extended_run run m line)
-extended_run-unnumbered run C line = sym (map-append unnumbered run (line ∷ []))
-extended_run-unnumbered run Plain line = refl
+extended_run-unnumbered run m line = grind (arith, map-append)
 
 c_run_from-bare : (run : List Line) (before : List Reading) → c_run_from (map unnumbered run) (map bare before) ≡ map unnumbered (c_run_from run before)
 c_run_from-bare run [] = refl
@@ -78,8 +77,7 @@ last_is_spliced-unnumbered _ = refl
 
 joins-unnumbered : (run : List Line) → joins (map unnumbered run) ≡ joins run
 unfolding joins
-joins-unnumbered run =
-    ap₂ (λ (s : Bool) (t : List ℕ). s || is_block (kind_at_end t)) (last_is_spliced-unnumbered run) (spliced_text-unnumbered run)
+joins-unnumbered run = grind (arith, last_is_spliced-unnumbered, spliced_text-unnumbered)
 
 scan_after_run-unnumbered : (run : List Line) (line : Line) → scan_after_run (map unnumbered run) (unnumbered line) ≡ scan_after_run run line
 unfolding scan_after_run

@@ -71,9 +71,7 @@ scan_after_run-from run line w white before r j =
 
 -- After a newline at which no block comment is open, a text ends between lexemes.
 ended : (w : LexState) → is_block (kind_in_state (next_state w newline)) ≡ false → (next_state w newline ≡ in_text) × ((white : Bool) → stays_white w white newline ≡ true)
-ended in_block e = cc
-ended at_star e = cc
-ended _ _ = (refl, λ white. refl)
+ended w e = grind arith
 
 pub not_empty : (bytes : List ℕ) → bytes ≢ [] → is_empty bytes ≡ false
 not_empty [] some = absurd (some refl)
@@ -136,9 +134,7 @@ scan_from_run run rest (q ∷ group) line r j = by_mode q.mode (λ ls. scan_from
   where
     by_mode : (m : Mode) → ((ls : List Line) → scan_after_run (c_run_from (run ++ ls) group) line ≡ scan_after_run (c_run_from ls group) line) →
         scan_after_run (c_run_from (extended_run (run ++ rest) m q.line) group) line ≡ scan_after_run (c_run_from (extended_run rest m q.line) group) line
-    by_mode C more =
-        ap (λ (ls : List Line). scan_after_run (c_run_from ls group) line) (append_assoc run rest (q.line ∷ [])) ∙ more (rest ++ q.line ∷ [])
-    by_mode Plain more = refl
+    by_mode m more = grind (arith, append_assoc)
 
 pub joins_before-code : (run : List Line) (line : Line) → (scan_after_run run line).joins_before ≡ joins run
 unfolding scan_after_run
@@ -160,18 +156,13 @@ anew_code prefix group last line alone some =
 
 anew_plain : (prefix group : List Reading) (last line : Line) →
     scan_after_run (c_run_of ((prefix ++ next_reading prefix Plain last ∷ []) ++ group)) line ≡ scan_after_run (c_run_of group) line
-anew_plain prefix group last line =
-    ap (λ (ls : List Line). scan_after_run ls line)
-    (c_run_from-append [] (prefix ++ next_reading prefix Plain last ∷ []) group
-    ∙ ap (λ (ls : List Line). c_run_from ls group) (run_of_last prefix (next_reading prefix Plain last)))
+anew_plain prefix group last line = grind (arith, c_run_from-append, run_of_last)
 
 -- After a line that has an ending and doesn't join the next one, lines are scanned as if no line
 -- came before them.
 pub scan_alone : (prefix group : List Reading) (m n : Mode) (last line : Line) → (scan_after prefix m last).joins_after ≡ false → last.ending ≢ [] →
     scan_after ((prefix ++ next_reading prefix m last ∷ []) ++ group) n line ≡ scan_after group n line
-scan_alone prefix group m Plain last line alone some = refl
-scan_alone prefix group C C last line alone some = anew_code prefix group last line alone some
-scan_alone prefix group Plain C last line alone some = anew_plain prefix group last line
+scan_alone prefix group m n last line alone some = grind (arith, anew_code, anew_plain)
 
 -- So further lines are read as if no line came before them.
 pub readings_alone : (prefix group : List Reading) (m : Mode) (last : Line) (lines : List (Mode × Line)) → (scan_after prefix m last).joins_after ≡ false →

@@ -27,17 +27,7 @@ last_kind-append k (c ∷ xs) ys = last_kind-append c.kind xs ys
 
 last_space : (k : LexemeKind) (w : LexState) → last_kind k (cells_after w (space ∷ [])) ≡ kind_in_state w
 unfolding cells_after lex_from lexeme_at
-last_space k in_text = refl
-last_space k at_slash = refl
-last_space k in_block = refl
-last_space k at_star = refl
-last_space k in_line = refl
-last_space k (in_literal q) = by_quote (32 == q)
-  where
-    by_quote : (t : Bool) → last_kind k (lex_from literal (if t then 1 else suc 0) (space ∷ [])) ≡ literal
-    by_quote true = refl
-    by_quote false = refl
-last_space k (at_backslash q) = refl
+last_space k w = grind arith
 
 -- The kind at the end of a text, from its state.
 pub kind_at_place : {text : List ℕ} {w : LexState} {white : Bool} → LexesTo text w white → kind_at_end text ≡ kind_in_state w
@@ -66,9 +56,7 @@ slash_first : (t c : Bool) (s : List ℕ) (x : List Cell) (m n : ℕ) →
     else if c then record { kind = line_comment; more = n }
     else record { kind = single; more = 0 } in
     is_blank (open_line x (cell piece.kind slash ∷ []))) ≡ (is_blank x && (t || c))
-slash_first true c s x m n = is_blank_last x (cell block_comment slash)
-slash_first false true s x m n = is_blank_last x (cell line_comment slash)
-slash_first false false s x m n = is_blank_last x (cell single slash)
+slash_first t c s x m n = grind (arith, is_blank_last)
 
 fresh_slash : (text : List ℕ) (white : Bool) (s : List ℕ) (r : LexesTo text at_slash white) →
     is_blank (open_line [] (take (length text) (lex (text ++ s)))) ≡ (white && (starts_with_byte star s || starts_with_byte slash s))
@@ -96,31 +84,23 @@ fresh_at_place text (in_literal q) white s r = fresh_clean text (in_literal q) w
 fresh_at_place text (at_backslash q) white s r = fresh_clean text (at_backslash q) white s r refl
 
 opens_comment-feed : (w : LexState) → opens_comment w newline ≡ false
-opens_comment-feed in_text = refl
-opens_comment-feed _ = refl
+opens_comment-feed w = grind arith
 
 starts_with_byte-close : (b : ℕ) (c : List ℕ) (o : Bool) → (newline == b) ≡ false → starts_with_byte b (c ++ (if o then [] else newline ∷ [])) ≡ starts_with_byte b c
-starts_with_byte-close b [] false e = e
-starts_with_byte-close _ _ _ _ = refl
+starts_with_byte-close b c o e = grind arith
 
 -- The newline after a line doesn't change whether the line is fresh.
 pub fresh-close : (w : LexState) (white : Bool) (line : Line) → fresh_at w white (spliced_part line) ≡ fresh_at w white (content line)
-fresh-close at_slash white line =
-    ap₂ (λ (s t : Bool). white && (s || t)) (starts_with_byte-close star (content line) (stays_open line) refl)
-    (starts_with_byte-close slash (content line) (stays_open line) refl)
-fresh-close _ _ _ = refl
+fresh-close w white line = grind arith
 
 close_by : (o : Bool) (text : List ℕ) (w : LexState) (white : Bool) → LexesTo text w white →
     LexesTo (text ++ (if o then [] else newline ∷ [])) (state_after_line o w) (white_after_line o w white)
-close_by true text w white r = subst (λ (t : List ℕ). LexesTo t w white) (sym (append-nil text)) r
-close_by false text w white r = LexesTo-step newline r
+close_by o text w white r = grind (arith, append-nil, LexesTo-step)
 
 -- The state after a line's content and its newline.
 pub LexesTo-close : (text : List ℕ) (line : Line) (w : LexState) (white : Bool) → LexesTo (text ++ content line) w white →
     LexesTo (text ++ spliced_part line) (state_after_line (stays_open line) w) (white_after_line (stays_open line) w white)
-LexesTo-close text line w white r =
-    subst (λ (t : List ℕ). LexesTo t (state_after_line (stays_open line) w) (white_after_line (stays_open line) w white))
-    (append_assoc text (content line) (newline_of line)) (close_by (stays_open line) (text ++ content line) w white r)
+LexesTo-close text line w white r = grind (arith, append_assoc, close_by)
 
 shown_at_end : (o : Bool) (text c : List ℕ) (w : LexState) (white : Bool) → LexesTo (text ++ c) w white →
     take (length c) (drop (length text) (mask ((text ++ c) ++ (if o then [] else newline ∷ [])))) ≡ drop (length text) (mask (text ++ c))
@@ -170,14 +150,12 @@ run_of_last readings r = run_from_last [] readings r
 
 -- The spliced text after a further line in C mode.
 pub joined_run_last : (readings : List Reading) (r : Reading) → r.mode ≡ C → spliced_text (c_run_of (readings ++ r ∷ [])) ≡ spliced_text (c_run_of readings) ++ spliced_part r.line
-joined_run_last readings r e =
-    ap spliced_text (run_of_last readings r) ∙ ap (λ (m : Mode). spliced_text (extended_run (c_run_of readings) m r.line)) e ∙ joined_last (c_run_of readings) r.line
+joined_run_last readings r e = grind (arith, run_of_last, joined_last)
 
 -- Lines with one more join the next line by the splice of that one, or by the lexeme at their end.
 pub joins_last : (lines : List Line) (line : Line) → joins (lines ++ line ∷ []) ≡ (is_spliced line || is_block (kind_at_end (spliced_text lines ++ spliced_part line)))
 unfolding joins
-joins_last lines line =
-    ap₂ (λ (s : Bool) (t : List ℕ). s || is_block (kind_at_end t)) (last_is_spliced_last lines line) (joined_last lines line)
+joins_last lines line = grind (arith, last_is_spliced_last, joined_last)
 
 -- Two scans with equal parts are equal.
 same_scan : {m n : List ℕ} {f f' b b' a a' : Bool} {s : Bool} {k k' : CommentAt} → m ≡ n → f ≡ f' → b ≡ b' → a ≡ a' → k ≡ k' →

@@ -1,5 +1,5 @@
 -- Steps: the lexemes of a text, a byte at a time.
-use Rattle.std.proofs.Common.{◌≡◌, ℕ, suc, ◌==◌, List, [], ◌∷◌, ◌++◌, Bool, true, false, ◌&&◌, if◌then◌else◌, refl, sym, ◌∙◌, ap, subst}
+use Rattle.std.proofs.Common.{◌≡◌, ℕ, suc, ◌==◌, List, [], ◌∷◌, ◌++◌, Bool, true, false, ◌&&◌, if◌then◌else◌, refl, sym, ◌∙◌, ap, subst, arith}
 use Rattle.std.proofs.lemmas.Bool.{eqb-true}
 use Rattle.ud_model.specs.text.Bytes.{newline, slash, star, backslash, is_quote, starts_with_byte}
 use Rattle.ud_model.specs.text.Lexemes.{LexemeKind, block_comment, line_comment, literal, single, Cell, Extent, comment_size, line_comment_size, literal_size, lexeme_at, lex_from}
@@ -35,15 +35,13 @@ at_feed k b u e = subst (λ (n : ℕ). lex_from k 0 (n ∷ u) ≡ cell single n 
 star_cell : (s : Bool) (m b : ℕ) (u : List ℕ) →
     lex_from block_comment (if s then 2 else suc m) (b ∷ u) ≡ cell block_comment b ∷ lex_from block_comment (if s then 1 else m) u
 unfolding lex_from
-star_cell true m b u = refl
-star_cell false m b u = refl
+star_cell s m b u = grind arith
 
 block_by : (t : Bool) (b : ℕ) (u : List ℕ) →
     lex_from block_comment (if t && starts_with_byte slash u then 2 else suc (comment_size u)) (b ∷ u)
     ≡ cell block_comment b ∷ cells_after (if t then at_star else in_block) u
 unfolding lex_from cells_after
-block_by true b u = star_cell (starts_with_byte slash u) (comment_size u) b u
-block_by false b u = refl
+block_by t b u = grind arith
 
 step-in_block : (b : ℕ) (u : List ℕ) → cells_after in_block (b ∷ u) ≡ settles in_block b ++ cells_after (next_state in_block b) u
 unfolding cells_after
@@ -53,8 +51,7 @@ star_by : (s t : Bool) (b : ℕ) (u : List ℕ) →
     lex_from block_comment (if s then 1 else if t && starts_with_byte slash u then 2 else suc (comment_size u)) (b ∷ u)
     ≡ cell block_comment b ∷ cells_after (if s then in_text else if t then at_star else in_block) u
 unfolding lex_from cells_after
-star_by true t b u = ap (λ (cells : List Cell). cell block_comment b ∷ cells) (lex_from-zero block_comment single u)
-star_by false t b u = block_by t b u
+star_by s t b u = grind arith
 
 step-at_star : (b : ℕ) (u : List ℕ) → cells_after at_star (b ∷ u) ≡ settles at_star b ++ cells_after (next_state at_star b) u
 unfolding cells_after
@@ -108,9 +105,7 @@ text_by : (s q : Bool) (b : ℕ) (u : List ℕ) (x y : Extent) → s ≡ false �
     else record { kind = single; more = 0 }) u
     ≡ (if q then cell literal b ∷ [] else cell single b ∷ []) ++ cells_after (if q then in_literal b else in_text) u
 unfolding cells_from cells_after
-text_by true q b u x y e = cc
-text_by false true b u x y e = refl
-text_by false false b u x y e = refl
+text_by s q b u x y e = grind arith
 
 -- A byte other than a slash where a lexeme begins.
 text_other : (b : ℕ) (u : List ℕ) → (b == slash) ≡ false →
@@ -120,13 +115,7 @@ text_other b u e = text_by (b == slash) (is_quote b) b u _ _ e
 
 step-in_text : (b : ℕ) (u : List ℕ) → cells_after in_text (b ∷ u) ≡ settles in_text b ++ cells_after (next_state in_text b) u
 unfolding cells_after
-step-in_text b u = by_slash (b == slash) refl
-  where
-    by_slash : (s : Bool) → (b == slash) ≡ s → lex_from single 0 (b ∷ u)
-        ≡ (if s then [] else if is_quote b then cell literal b ∷ [] else cell single b ∷ [])
-        ++ cells_after (if s then at_slash else if is_quote b then in_literal b else in_text) u
-    by_slash true e = ap (λ (n : ℕ). lex_from single 0 (n ∷ u)) (eqb-true b slash e)
-    by_slash false e = text_other b u e
+step-in_text b u = grind (arith, eqb-true, text_other)
 
 slash_by : (t s : Bool) (b : ℕ) (u : List ℕ) → (b == slash) ≡ s →
     cells_from slash
@@ -139,12 +128,7 @@ slash_by : (t s : Bool) (b : ℕ) (u : List ℕ) → (b == slash) ≡ s →
     else cell single slash ∷ cell single b ∷ [])
     ++ cells_after (if t then in_block else if s then in_line else if is_quote b then in_literal b else in_text) u
 unfolding cells_from lex_from cells_after
-slash_by false false b u e =
-    ap (λ (cells : List Cell). cell single slash ∷ cells) (text_other b u e)
-    ∙ (elim (is_quote b) as (λ (q : Bool). cell single slash ∷ ((if q then cell literal b ∷ [] else cell single b ∷ []) ++ cells_after (if q then in_literal b else in_text) u)
-    ≡ (if q then cell single slash ∷ cell literal b ∷ [] else cell single slash ∷ cell single b ∷ []) ++ cells_after (if q then in_literal b else in_text) u)
-    [ true ↦ refl | false ↦ refl ])
-slash_by _ _ _ _ _ = refl
+slash_by t s b u e = grind (arith, text_other)
 
 step-at_slash : (b : ℕ) (u : List ℕ) → cells_after at_slash (b ∷ u) ≡ settles at_slash b ++ cells_after (next_state at_slash b) u
 unfolding cells_after lex_from lexeme_at cells_from

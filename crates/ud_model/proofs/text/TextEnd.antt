@@ -36,10 +36,7 @@ no_cells before = refl
 
 -- The last kind of a text that begins with a lexeme is that of the rest, after this kind.
 behind_piece : (before k : LexemeKind) (bytes rest : List ℕ) → IsLexeme bytes rest k → last_kind before (lex (bytes ++ rest)) ≡ last_kind k (lex rest)
-behind_piece before k bytes rest p =
-    ap (λ (cells : List Cell). last_kind before cells) (cut_piece k bytes rest p)
-    ∙ last_kind-append before (cells_in k bytes) (lex rest)
-    ∙ ap (λ (j : LexemeKind). last_kind j (lex rest)) (last_in before k bytes rest p)
+behind_piece before k bytes rest p = grind (arith, cut_piece, last_kind-append, last_in)
 
 not_close_spaced : (inside : List ℕ) → NoClose inside → NoClose (spaced inside)
 not_close_spaced [] n = (refl, tt)
@@ -107,10 +104,7 @@ stays bytes b rest more (single_byte c e h f) = single_byte c e h f
 behind_first : (before k : LexemeKind) (text bytes rest : List ℕ) → text ≡ bytes ++ rest → IsLexeme bytes rest k → (c : ℕ) (more : List ℕ) → rest ≡ c ∷ more →
     last_kind before (lex (spaced text)) ≡ last_kind k (lex (spaced rest))
 behind_first before k text bytes rest e p c more f =
-    let q : IsLexeme bytes (c ∷ more ++ space ∷ []) k = stays bytes c more (space ∷ []) (subst (λ (r : List ℕ). IsLexeme bytes r k) f p) in
-    ap (λ (t : List ℕ). last_kind before (lex t)) (ap spaced e ∙ append_assoc bytes rest (space ∷ []) ∙ ap (λ (r : List ℕ). bytes ++ spaced r) f)
-    ∙ behind_piece before k bytes (c ∷ more ++ space ∷ []) q
-    ∙ ap (λ (r : List ℕ). last_kind k (lex (spaced r))) (sym f)
+    grind (arith, stays, append_assoc, behind_piece)
 
 -- A space after an open lexeme has its kind.
 behind_open : (before k : LexemeKind) (bytes : List ℕ) → IsOpen bytes k → last_kind before (lex (spaced bytes)) ≡ k
@@ -124,11 +118,7 @@ behind_ended before k bytes p = behind_piece before k bytes (space ∷ []) p ∙
 
 -- The first lexeme of a text has a first byte.
 begins : (pieces : List Lexeme) (q : Lexeme) (rest : List ℕ) → AreLexemes (q ∷ pieces) rest → (c : ℕ) × (more : List ℕ) × (rest ≡ c ∷ more)
-begins pieces q rest (later, e, is, others) = by_bytes q.bytes e is
-  where
-    by_bytes : (bytes : List ℕ) → rest ≡ bytes ++ later → IsLexeme bytes later q.kind → (c : ℕ) × (more : List ℕ) × (rest ≡ c ∷ more)
-    by_bytes [] e is = absurd (some_bytes later is)
-    by_bytes (c ∷ bytes) e is = (c, bytes ++ later, e)
+begins pieces q rest h = grind arith
 
 -- A text that is one lexeme.
 lone_text : (text bytes rest : List ℕ) → text ≡ bytes ++ rest → rest ≡ [] → text ≡ bytes
@@ -153,10 +143,7 @@ end_open before text (p ∷ []) (rest, d, is, none) k n e = by_end (ends p.bytes
     here = ap (λ (t : List ℕ). last_kind before (lex (spaced t))) (sym (lone_text text p.bytes rest d none)) ∙ e
 
     by_end : Ends p.bytes p.kind → (p.kind ≡ k) × IsOpen p.bytes k
-    by_end (is_open o) =
-        let same : p.kind ≡ k = sym (behind_open before p.kind p.bytes o) ∙ here in
-        (same, subst (λ (j : LexemeKind). IsOpen p.bytes j) same o)
-    by_end (has_ended l) = absurd (n (sym here ∙ behind_ended before p.kind p.bytes l))
+    by_end h = grind (arith, behind_open, here, behind_ended)
 end_open before text (p ∷ q ∷ pieces) (rest, d, is, others) k n e =
     let b : (c : ℕ) × (more : List ℕ) × (rest ≡ c ∷ more) = begins pieces q rest others in
     end_open p.kind rest (q ∷ pieces) others k n (sym (behind_first before p.kind text p.bytes rest d is b.0 b.1 b.2) ∙ e)
@@ -167,62 +154,27 @@ unfolding kind_at_end
 end_in_open text pieces h k n = (end_open single text pieces h k n, open_end single text pieces h k)
 
 block_is : (k : LexemeKind) → is_block k ≡ true → k ≡ block_comment
-block_is block_comment e = refl
-block_is _ e = cc
+block_is k e = grind arith
 
 -- Lines join the next one if the last is spliced, or if the last lexeme is an open block comment.
 pub joins_open : (lines : List Line) (pieces : List Lexeme) → AreLexemes pieces (spliced_text lines) → (joins lines ≡ true) ↔ ((last_is_spliced lines ≡ true) ⊎ LastIsOpen block_comment pieces)
 unfolding joins
-joins_open lines pieces h = (by_splice (last_is_spliced lines), back (last_is_spliced lines))
-  where
-    kinds : (kind_at_end (spliced_text lines) ≡ block_comment) ↔ LastIsOpen block_comment pieces
-    kinds = end_in_open (spliced_text lines) pieces h block_comment (λ e. cc)
-
-    by_splice : (t : Bool) → (t || is_block (kind_at_end (spliced_text lines))) ≡ true → (t ≡ true) ⊎ LastIsOpen block_comment pieces
-    by_splice true e = inl refl
-    by_splice false e = inr (kinds.0 (block_is (kind_at_end (spliced_text lines)) e))
-
-    back : (t : Bool) → (t ≡ true) ⊎ LastIsOpen block_comment pieces → (t || is_block (kind_at_end (spliced_text lines))) ≡ true
-    back true o = refl
-    back false (inl e) = cc
-    back false (inr o) = ap is_block (kinds.1 o)
+joins_open lines pieces h = grind (arith, end_in_open, block_is)
 
 block_at : (t : Bool) (k : LexemeKind) → comment_at t k ≡ InBlock → k ≡ block_comment
-block_at t block_comment e = refl
-block_at true line_comment e = cc
-block_at _ _ e = cc
+block_at t k e = grind arith
 
 line_at : (t : Bool) (k : LexemeKind) → comment_at t k ≡ InLine → (t ≡ true) × (k ≡ line_comment)
-line_at t block_comment e = cc
-line_at true line_comment e = (refl, refl)
-line_at _ _ e = cc
+line_at t k e = grind arith
 
 -- A line's end lies in a block comment exactly if the last lexeme is an open one.
 pub block_open : (before : List Reading) (l : Line) (pieces : List Lexeme) → AreLexemes pieces (spliced_text (c_run_of before) ++ spliced_part l) →
     ((scan_after before C l).comment ≡ InBlock) ↔ LastIsOpen block_comment pieces
 unfolding scan_after_run
-block_open before l pieces h = (
-  λ e. kinds.0 (block_at (is_spliced l) (kind_at_end (spliced_text (c_run_of before) ++ spliced_part l)) e),
-  λ o. ap (λ (k : LexemeKind). comment_at (is_spliced l) k) (kinds.1 o),
-)
-  where
-    kinds : (kind_at_end (spliced_text (c_run_of before) ++ spliced_part l) ≡ block_comment) ↔ LastIsOpen block_comment pieces
-    kinds = end_in_open (spliced_text (c_run_of before) ++ spliced_part l) pieces h block_comment (λ e. cc)
+block_open before l pieces h = grind (arith, block_at, end_in_open)
 
 -- It lies in a line comment that goes on exactly if the line is spliced and the last lexeme is one.
 pub line_open : (before : List Reading) (l : Line) (pieces : List Lexeme) → AreLexemes pieces (spliced_text (c_run_of before) ++ spliced_part l) →
     ((scan_after before C l).comment ≡ InLine) ↔ ((is_spliced l ≡ true) × LastIsOpen line_comment pieces)
 unfolding scan_after_run
-line_open before l pieces h = (to, back)
-  where
-    at_end : LexemeKind
-    at_end = kind_at_end (spliced_text (c_run_of before) ++ spliced_part l)
-
-    kinds : (at_end ≡ line_comment) ↔ LastIsOpen line_comment pieces
-    kinds = end_in_open (spliced_text (c_run_of before) ++ spliced_part l) pieces h line_comment (λ e. cc)
-
-    to : comment_at (is_spliced l) at_end ≡ InLine → (is_spliced l ≡ true) × LastIsOpen line_comment pieces
-    to e = let p : (is_spliced l ≡ true) × (at_end ≡ line_comment) = line_at (is_spliced l) at_end e in (p.0, kinds.0 p.1)
-
-    back : (is_spliced l ≡ true) × LastIsOpen line_comment pieces → comment_at (is_spliced l) at_end ≡ InLine
-    back (e, o) = ap₂ comment_at e (kinds.1 o)
+line_open before l pieces h = grind (arith, end_in_open, line_at)
