@@ -5,7 +5,6 @@ pub mod Stays
 pub mod Heights
 pub mod Soundness
 pub mod FaultStays
-pub mod Counts
 pub mod Keywords
 pub mod KeywordLies
 pub mod SplitLines

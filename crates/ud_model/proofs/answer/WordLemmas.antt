@@ -15,9 +15,6 @@ letters_split : (number : ℕ) (cs : List ℕ) (next : ℕ → List ParsedArg) (
 letters_split number [] next rest = refl
 letters_split number (c ∷ cs) next rest = go (is_flag c) (takes_argument c) (letters_split number cs next rest)
   where
-    by_letters : (ls : List ℕ) → parsed_option c number ls (next c) rest ≡ (option_gives c number ls).given ++ waited (option_gives c number ls).waits next rest
-    by_letters ls = grind arith
-
     go : (f t : Bool) → parsed_letters number cs next rest ≡ (letters_give number cs).given ++ waited (letters_give number cs).waits next rest →
         (if f then flag c ∷ parsed_letters number cs next rest else if t then parsed_option c number cs (next c) rest else unknown c ∷ parsed_letters number cs next rest)
         ≡ (if f then then_gives (flag c) (letters_give number cs) else if t then option_gives c number cs else then_gives (unknown c) (letters_give number cs)).given

@@ -15,30 +15,6 @@ use Rattle.ud_model.specs.conditions.Choices.{Choice, IsAllowed, HasValue, of_co
 abbrev Keeps : Option ℤ → Option ℤ → Type 0
 Keeps a b = (z : ℤ) → a ≡ Some z → b ≡ Some z
 
-fits_less : (u v : Bool) (z : ℤ) → (v ≡ true → u ≡ true) → fits u z ≡ true → fits v z ≡ true
-fits_less u v z h e = grind arith
-
-fit_less : (u v : Bool) (k : ℤ) → (v ≡ true → u ≡ true) → Keeps (fit u k) (fit v k)
-fit_less u v k h z e = grind arith
-
-negated_less : (u v : Bool) (o : Option ℤ) → (v ≡ true → u ≡ true) → Keeps (negated_value u o) (negated_value v o)
-negated_less u v o h z e = grind arith
-
-if_less : (b : Bool) (x y : Option ℤ) → Keeps x y → Keeps (if b then x else None) (if b then y else None)
-if_less b x y k z e = grind arith
-
-either_less : (b : Bool) (x y other : Option ℤ) → Keeps x y → Keeps (if b then x else other) (if b then y else other)
-either_less b x y other k z e = grind arith
-
-text_less : (u v : Bool) (text : List ℕ) → (v ≡ true → u ≡ true) → Keeps (text_value u text) (text_value v text)
-text_less u v text h z e = grind arith
-
-end_less : (u v : Bool) (o : Option (List ℕ)) → (v ≡ true → u ≡ true) → Keeps (end_value u o) (end_value v o)
-end_less u v o h z e = grind arith
-
-defined_less : (u v : Bool) (end value : Option (List ℕ)) → (v ≡ true → u ≡ true) → Keeps (defined_name_value u end value) (defined_name_value v end value)
-defined_less u v end value h z e = grind arith
-
 entry_less : (u v : Bool) (end : Option (List ℕ)) (o : Option Entry) → (v ≡ true → u ≡ true) → Keeps (name_value_by u end o) (name_value_by v end o)
 entry_less u v end o h z e = grind arith
 

@@ -59,16 +59,6 @@ yes_is_true table rules e c d v h = grind (arith, yes_by, false≢true, zero_dec
 pub no_is_false : (table : List Argument) (rules : Rules) (e : Expression) (c : Number) → tree_cond e table rules ≡ No → IsCValue table e c → number c ≡ pos 0
 no_is_false table rules e c d v = grind (arith, no_by, known_stays, zero_decides)
 
--- An entry always decides.
-entry_heeds : (v : Option (List ℕ)) (i : Bool) → (ifdef_by (Some (record { value = v; ignoring = i }))).cond ≡ Unknown → i ≡ false
-entry_heeds v i e = grind arith
-
-by_entry : (o : Option Entry) → (ifdef_by o).cond ≡ Unknown → (ifdef_by o).ignoring ≡ false
-by_entry o e = grind arith
-
-by_name : (o : Option (List ℕ)) (table : List Argument) → (ifdef_decision o table).cond ≡ Unknown → (ifdef_decision o table).ignoring ≡ false
-by_name o table e = grind arith
-
 pub negated_unknown : (c : Cond) → negate c ≡ Unknown → c ≡ Unknown
 negated_unknown c e = grind arith
 

@@ -38,12 +38,6 @@ fit_is u z n e = fit_by (fits u z) u z n refl e
 as_signed : (u : Bool) (n : ℤ) (c : Number) (z : ℤ) → c ≡ signed z → (z ≡ n) × (fits u n ≡ true) → Agrees u n c
 as_signed u n c z e p = subst (λ x. Agrees u n x) (sym e) p
 
-as_natural : (n : ℤ) (c : Number) (k : ℕ) → c ≡ unsigned k → (pos k ≡ n) × (fits true n ≡ true) → Agrees true n c
-as_natural n c k e p = subst (λ x. Agrees true n x) (sym e) (p.0, p.1, refl)
-
-fits_one : (u : Bool) → fits u (pos 1) ≡ true
-fits_one u = refl
-
 -- A test that decides a fact gives the truth of the fact.
 pub truth_agrees : (Holds : Type 0) (u b : Bool) (n : ℤ) (c : Number) → Decides b Holds → Some (truth b) ≡ Some n → IsTruth Holds c → Agrees u n c
 truth_agrees Holds u b n c d e h = grind arith
@@ -59,24 +53,12 @@ less_decides a b = decides_by (int_lt a b) (λ t. record { lt = t }) (λ p. p.lt
 pub at_most_decides : (a b : ℤ) → Decides (int_le a b) (a ≤ℤ b)
 at_most_decides a b = decides_by (int_le a b) (λ t. record { le = t }) (λ p. p.le)
 
-leb_decides : (a b : ℕ) → Decides (leb a b) (a ≤ b)
-leb_decides a b = elim (leb_tells a b) [ inl p ↦ ((λ e. p.1), λ h. p.0) | inr p ↦ ((λ e. absurd (false≢true (sym p.0 ∙ e))), λ h. absurd (omega arith)) ]
-
-both_ways : (a b : ℕ) → Decides (leb a b && leb b a) (a ≡ b)
-both_ways a b = grind arith
-
 -- A negated test decides that the fact isn't true.
 pub not_decides : {P : Type 0} (b : Bool) → Decides b P → Decides (not b) (P → ⊥)
 not_decides h d = grind arith
 
 like_decides : {P Q : Type 0} (b : Bool) → (P → Q) → (Q → P) → Decides b P → Decides b Q
 like_decides b f g d = ((λ e. f (d.0 e)), λ q. d.1 (g q))
-
-pos_same : (a b : ℕ) → pos a ≡ pos b → a ≡ b
-pos_same a b e = ap unsigned_abs e
-
-negsuc_same : (a b : ℕ) → negsuc a ≡ negsuc b → a ≡ b
-negsuc_same a b e = let q : suc a ≡ suc b = ap unsigned_abs e in omega arith
 
 -- The test for equal numbers decides.
 pub same_decides : (a b : ℤ) → Decides (equal_numbers a b) (a ≡ b)
@@ -106,28 +88,6 @@ signed_agrees u Times a b n c e g = as_signed u n c _ g.1 (fit_is u _ n e)
 signed_agrees u Over a b n c e g = as_signed u n c _ g.1.1 (fit_is u _ n (divided (is_zero b) _ n e))
 signed_agrees u Remainder a b n c e g = as_signed u n c _ g.2 (fit_is u _ n (in_range (fits u (int_div a b)) _ n (divided (is_zero b) _ n e)))
 signed_agrees _ _ _ _ n _ _ g = absurd g
-
--- A number in range beside a `u` is from 0 to 2^63-1.
-nat_fits : (a : ℕ) (n : ℤ) → pos a ≡ n → fits true n ≡ true → a < 2 ^ 63
-nat_fits a n e f = (Decides-ltb a (2 ^ 63)).0 (ap (fits true) e ∙ f)
-
-modulo_itself : (a : ℕ) (n : ℤ) → (pos a ≡ n) × (fits true n ≡ true) → a % 2 ^ 64 ≡ a
-modulo_itself a n p = let h : a < 2 ^ 63 = nat_fits a n p.0 p.1 in let k : a < 2 ^ 64 = omega arith in mod-eq_of_lt k
-
--- A sum, a difference or a product in range is itself modulo 2^64.
-as_modulo : (n : ℤ) (c : Number) (j k : ℕ) → c ≡ unsigned (j % 2 ^ 64) → j % 2 ^ 64 ≡ k → (pos k ≡ n) × (fits true n ≡ true) → Agrees true n c
-as_modulo n c j k e q p = as_natural n c k (e ∙ ap unsigned q) p
-
-bits_known : (x : ℕ) (n : ℤ) → x < 2 ^ 63 → fit true (cast_signed w64 x) ≡ Some n → (pos x ≡ n) × (fits true n ≡ true)
-bits_known x n l e = fit_is true (pos x) n (rw (to_z_pos w64 x l) at e)
-
--- The case of a difference that isn't negative.
-sub_known : (b : Bool) (j k : ℕ) (n : ℤ) (c : Number) → ltb j (suc k) ≡ b → c ≡ unsigned ((j + (2 ^ 64 - suc k)) % 2 ^ 64) →
-    fit true (if b then negsuc (suc k - suc j) else pos (j - suc k)) ≡ Some n → suc k < 2 ^ 63 → Agrees true n c
-sub_known b j k n c q g e l = grind arith
-
-minus_known : (a b : ℕ) (n : ℤ) (c : Number) → b < 2 ^ 63 → fit true (pos a -ℤ pos b) ≡ Some n → c ≡ unsigned ((a + (2 ^ 64 - b)) % 2 ^ 64) → Agrees true n c
-minus_known a b n c l e g = grind arith
 
 -- The case of two known operands, one of them of uintmax_t.
 pub unsigned_agrees : (o : Operator) (a b : ℕ) (n : ℤ) (c : Number) → a < 2 ^ 63 → b < 2 ^ 63 → apply_binary_known true o (pos a) (pos b) ≡ Some n → GivesUnsigned o a b c →
@@ -160,25 +120,6 @@ zero_decides a = grind arith
 -- A known number is 0 exactly if C's is.
 pub zero_agrees : (u : Bool) (a : ℤ) (x : Number) → Agrees u a x → Decides (is_zero a) (number x ≡ pos 0)
 zero_agrees u a x p = like_decides (is_zero a) (λ e. agrees_number u a x p ∙ e) (λ e. sym (agrees_number u a x p) ∙ e) (zero_decides a)
-
-below_zero_fits : (u : Bool) (j : ℕ) → fits u (negsuc j) ≡ true → j < 2 ^ 63
-below_zero_fits u j f = grind arith
-
-minus_one : (j : ℕ) → neg_ℤ (pos j) -ℤ pos 1 ≡ negsuc j
-minus_one j = grind arith
-
-minus_one_more : (j : ℕ) → neg_ℤ (negsuc j) -ℤ pos 1 ≡ pos j
-minus_one_more j = grind arith
-
--- The complement of the bits of a number is -1 minus the number.
-turned : (u : Bool) (a : ℤ) → fits u a ≡ true → cast_signed w64 (2 ^ 64 - 1 - cast_unsigned w64 a) ≡ neg_ℤ a -ℤ pos 1
-turned u a f = grind arith
-
-negated_natural : (j : ℕ) (n : ℤ) (c : Number) → fit true (neg_ℤ (pos j)) ≡ Some n → c ≡ unsigned ((2 ^ 64 - j) % 2 ^ 64) → Agrees true n c
-negated_natural j n c e g = grind arith
-
-no_complement : (j : ℕ) (n : ℤ) → fit true (neg_ℤ (pos j) -ℤ pos 1) ≡ Some n → ⊥
-no_complement j n e = none-some n (rw (minus_one j) at e)
 
 -- The result of C's operator before an operand agrees with the known one.
 pub changes_agrees : (u : Bool) (o : Operator) (a n : ℤ) (x c : Number) → Agrees u a x → apply_unary_known u o a ≡ Some n → GivesUnary o x c → Agrees u n c

@@ -39,28 +39,6 @@ constant_known u w c (plain h l) v n e = limited_is u (constant_number w) n e
 constant_known u w c (by_suffix h l) v n e = let p : (pos (constant_number w) ≡ n) × (fits u n ≡ true) = limited_is u (constant_number w) n e in (p.0, p.1, v h)
 constant_known u w c (by_size h d l m) v n e = absurd (no_greater (constant_number w) n e l)
 
-negated_fits : (u : Bool) (o : Option ℤ) (n : ℤ) → negated_value u o ≡ Some n → fits u n ≡ true
-negated_fits u o n e = grind arith
-
-constant_if : (b u : Bool) (w : List ℕ) (n : ℤ) → (if b then constant_value w else None) ≡ Some n → fits u n ≡ true
-constant_if b u w n e = grind arith
-
-negated_if : (b u : Bool) (w : List ℕ) (n : ℤ) → (if b then negated_value u (constant_value w) else None) ≡ Some n → fits u n ≡ true
-negated_if b u w n e = grind arith
-
-text_by : (b c d u : Bool) (v w : List ℕ) (n : ℤ) →
-    (if b then (if c then negated_value u (constant_value v) else None) else if d then constant_value w else None) ≡ Some n → fits u n ≡ true
-text_by b c d u v w n e = grind arith
-
-text_fits : (u : Bool) (text : List ℕ) (n : ℤ) → text_value u text ≡ Some n → fits u n ≡ true
-text_fits u text n e = grind arith
-
-end_fits : (u : Bool) (o : Option (List ℕ)) (n : ℤ) → end_value u o ≡ Some n → fits u n ≡ true
-end_fits u o n e = grind arith
-
-defined_fits : (u : Bool) (end value : Option (List ℕ)) (n : ℤ) → defined_name_value u end value ≡ Some n → fits u n ≡ true
-defined_fits u end value n e = grind arith
-
 entry_fits : (u : Bool) (end : Option (List ℕ)) (o : Option Entry) (n : ℤ) → name_value_by u end o ≡ Some n → fits u n ≡ true
 entry_fits u end o n e = grind arith
 
@@ -69,14 +47,8 @@ name_fits : (table : List Argument) (u : Bool) (name : List ℕ) (n : ℤ) → n
 unfolding name_value
 name_fits table u name n e = entry_fits u (resolve table name) (entry_in table name) n e
 
-typed_natural : (u : Bool) (z : ℤ) → u ≡ true → fits u z ≡ true → Agrees u z (unsigned (cast_unsigned w64 z))
-typed_natural u z t f = grind arith
-
 typed_known : (u b : Bool) (z : ℤ) → (b ≡ true → u ≡ true) → fits u z ≡ true → Agrees u z (typed b z)
 typed_known u b z v f = grind arith
-
-truth_fits : (u b : Bool) → fits u (truth b) ≡ true
-truth_fits u b = grind arith
 
 defined_value_fits : (u : Bool) (o : Option Entry) (n : ℤ) → defined_value_by o ≡ Some n → fits u n ≡ true
 defined_value_fits u o n e = grind arith
@@ -88,16 +60,6 @@ defined_known table u name z n d e = (same_Some z n (sym d ∙ e), defined_value
 unary_known : (u : Bool) (o : Operator) (v : Option ℤ) (x c : Number) → Knows u v x → GivesUnary o x c → Knows u (apply_unary u o v) c
 unary_known u o None x c f g n e = absurd (none-some n e)
 unary_known u o (Some a) x c f g n e = changes_agrees u o a n x c (f a refl) e g
-
--- `&&` and `||` give no value by the operators between numbers.
-no_and : (x y c : Number) → Gives And x y c → ⊥
-no_and x y c g = grind arith
-
-no_or : (x y c : Number) → Gives Or x y c → ⊥
-no_or x y c g = grind arith
-
-not_decided : (o : Operator) (x y c : Number) (a n : ℤ) → Gives o x y c → short_circuit o a ≡ Some n → ⊥
-not_decided o x y c a n g e = grind arith
 
 undecided : (strict : Bool) (o : Operator) (x y c : Number) (a n : ℤ) → Gives o x y c → short_circuits strict o a ≡ Some n → ⊥
 undecided strict o x y c a n g e = grind arith

@@ -24,18 +24,6 @@ After a b = (z : ℤ) → a ≡ Some z → Or_none z b
 same_after : (a : Option ℤ) → After a a
 same_after a z e = inl e
 
-if_after : (a b : Bool) (k : ℤ) → After (if a then Some k else None) (if b then Some k else None)
-if_after a b k z e = grind arith
-
-fit_after : (b c : Bool) (k : ℤ) → After (fit b k) (fit c k)
-fit_after b c k = if_after (fits b k) (fits c k) k
-
-unless_after : (d : Bool) (a b : Option ℤ) → After a b → After (if d then None else a) (if d then None else b)
-unless_after d a b h z e = grind arith
-
-when_after : (c d : Bool) (a b : Option ℤ) → After a b → After (if c then a else None) (if d then b else None)
-when_after c d a b h z e = grind arith
-
 operate_after : (b c : Bool) (o : Operator) (x y : ℤ) → After (apply_binary_known b o x y) (apply_binary_known c o x y)
 unfolding apply_binary_known
 operate_after b c o x y = grind arith
@@ -146,12 +134,6 @@ combine_after s b c o None (Some q) v w h k z e = by (k q refl) v
     by (inr f) None = inr (ap (λ (d : Option ℤ). apply_binary s c o None d) f)
     by (inr f) (Some p) = subst (λ (d : Option ℤ). Or_none z d) (sym (ap (λ (d : Option ℤ). apply_binary s c o (Some p) d) f))
         (two_decide o q p (short_circuits s o q) (short_circuits s o p) (decides_is s o q) (decides_is s o p) z e)
-
-negated_after : (b c : Bool) (x : Option ℤ) → After (negated_value b x) (negated_value c x)
-negated_after b c x z e = grind arith
-
-text_after : (b c : Bool) (v : List ℕ) → After (text_value b v) (text_value c v)
-text_after b c v z e = grind arith
 
 module _ (t u : List Argument) (more : ExtendsTable t u) where
   text_more : (n v : List ℕ) (o : Option Entry) → entry_in t n ≡ o → text_in o ≡ Some v → defined_text u n ≡ Some v

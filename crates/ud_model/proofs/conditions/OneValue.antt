@@ -10,12 +10,6 @@ use Rattle.ud_model.specs.declared.operator.Operator.TheVariants.{Or, And, BitOr
 one_truth : (Holds : Type 0) (c d : Number) → IsTruth Holds c → IsTruth Holds d → c ≡ d
 one_truth Holds c d h g = grind arith
 
-one_signed : (o : Operator) (a b : ℤ) (c d : Number) → GivesSigned o a b c → GivesSigned o a b d → c ≡ d
-one_signed o a b c d p q = grind arith
-
-one_unsigned : (o : Operator) (a b : ℕ) (c d : Number) → GivesUnsigned o a b c → GivesUnsigned o a b d → c ≡ d
-one_unsigned o a b c d p q = grind arith
-
 one_result : (o : Operator) (x y c d : Number) → Gives o x y c → Gives o x y d → c ≡ d
 one_result o x y c d p q = grind arith
 

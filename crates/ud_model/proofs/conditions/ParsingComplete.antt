@@ -16,14 +16,6 @@ Stops _ _ = Unit {0}
 pub level_most : (o : Operator) → precedence o ≤ 9
 level_most o = grind arith
 
--- The test for at most, if it is true.
-pub leb_yes : (a b : ℕ) → a ≤ b → leb a b ≡ true
-leb_yes a b h = elim (leb_tells a b) [ inl p ↦ p.0 | inr p ↦ absurd (omega arith) ]
-
--- The test for at most, if it is false.
-pub leb_no : (a b : ℕ) → b < a → leb a b ≡ false
-leb_no a b h = elim (leb_tells a b) [ inl p ↦ absurd (omega arith) | inr p ↦ p.0 ]
-
 -- A stack that takes no operand before precedence `j` takes none before a tighter one.
 pub below_more : {A : Type 0} (j k : ℕ) (s : List (Frame A)) → j ≤ k → Below j s → Below k s
 below_more j k h l b = grind arith
@@ -37,17 +29,11 @@ stops_ten : (ts : List Token) → Stops 10 ts
 stops_ten ts = grind arith
 
 module _ {A : Type 0} (m : Meaning A) where
-  -- The rest of the stack takes nothing yet.
-  reduce_below : (o : Operator) (x : A) (s : List (Frame A)) → Below (precedence o) s → reduce m (precedence o) x s ≡ (x, s)
-  reduce_below o x s b = grind arith
 
   -- A prefix operator takes its operand whatever comes next.
   take_before : (o : Operator) (x : A) (s : List (Frame A)) (ts : List Token) → parse_tokens m (has x (before o ∷ s)) ts ≡ parse_tokens m (has (m.unary o x) s) ts
   take_before o x s [] = refl
   take_before _ _ _ _ = refl
-
-  reduce_left : (j : ℕ) (o : Operator) (a x : A) (s : List (Frame A)) → j ≤ precedence o → reduce m j x (left o a ∷ s) ≡ reduce m j (m.binary o a x) s
-  reduce_left j o a x s l = grind arith
 
   -- An operator takes its right operand if no tighter one comes next.
   take_left : (o : Operator) (a x : A) (s : List (Frame A)) (ts : List Token) → Stops (precedence o) ts → parse_tokens m (has x (left o a ∷ s)) ts ≡ parse_tokens m (has (m.binary o a x) s) ts

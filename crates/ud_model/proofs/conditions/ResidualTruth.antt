@@ -48,9 +48,6 @@ or_never_no strict c d e = grind arith
 
 -- 2. The numbers 0 and 1.
 
-zero_is : IsZero (signed (pos 0))
-zero_is = refl
-
 one_is_not : IsZero (signed (pos 1)) → ⊥
 one_is_not e = cc
 
@@ -73,9 +70,6 @@ truth_alike P Q c h g = grind arith
 
 not_alike : {A B : Type 0} → (A ↔ B) → ((A → ⊥) ↔ (B → ⊥))
 not_alike h = ((λ f b. f (h.1 b)), (λ g a. g (h.0 a)))
-
-zero_or_not : (y : Number) → IsZero y ⊎ (IsZero y → ⊥)
-zero_or_not y = grind arith
 
 -- The truth that `y` isn't 0 is 0 exactly if `y` is.
 truth_same : (y c : Number) → IsTruth (IsZero y → ⊥) c → IsZero c ↔ IsZero y

@@ -20,10 +20,6 @@ pub record Goes (t : List Argument) (k : ℕ) (n v : List ℕ) : Type 0 where
   pub sets : defined_text t n ≡ Some text
   pub on : ((is_identifier text ≡ false) × (text ≡ v)) ⊎ ((is_identifier text ≡ true) × (resolve_within k t text ≡ Some v))
 
-goes_by : (f : List ℕ → Option (List ℕ)) (b : Bool) (w v : List ℕ) → (if b then f w else Some w) ≡ Some v →
-    ((b ≡ false) × (w ≡ v)) ⊎ ((b ≡ true) × (f w ≡ Some v))
-goes_by f b w v e = grind arith
-
 goes_on : (t : List Argument) (k : ℕ) (n v : List ℕ) (o : Option (List ℕ)) → defined_text t n ≡ o → on_text (λ w. resolve_within k t w) o ≡ Some v → Goes t k n v
 goes_on t k n v o d e = grind arith
 

@@ -66,9 +66,6 @@ word_shorter k w rest l =
     (shorter_either k (is_constant w && not (has_exponent_sign w rest)) (found (number w) rest) unreadable l tt)
     (shorter_either k (bytes_eq w (codes "defined")) (found defined rest) (name_token w rest) l (name_shorter k w rest l))
 
-longer_shorter : (c : ℕ) (o p : Operator) (rest : List ℕ) → Shorter (suc (length rest)) (one_or_two_bytes c o p rest)
-longer_shorter c o p rest = grind arith
-
 sign_shorter : (b : ℕ) (rest : List ℕ) → Shorter (suc (length rest)) (punctuator b rest)
 sign_shorter b rest = grind arith
 
@@ -98,9 +95,6 @@ tokens_enough [] (suc n) text l p = ap (prepend_token (λ rest. tokens_in n rest
 tokens_enough (t ∷ ts) (suc n) text l p =
     let h : length p.0 < length text = shorter text p.0 t p.1 in
     ap (prepend_token (λ rest. tokens_in n rest)) p.1 ∙ ap (option_map (λ us. t ∷ us)) (tokens_enough ts n p.0 (omega arith) p.2)
-
-tail_is : (t : Token) (o : Option (List Token)) (ts : List Token) → option_map (λ us. t ∷ us) o ≡ Some ts → (us : List Token) × (o ≡ Some us) × (t ∷ us ≡ ts)
-tail_is t o ts e = grind arith
 
 cut_tokens : (n : ℕ) (text : List ℕ) (ts : List Token) (x : NextToken) → next_token text ≡ x → ((rest : List ℕ) (us : List Token) → tokens_in n rest ≡ Some us → AreTokens rest us) →
     prepend_token (λ rest. tokens_in n rest) x ≡ Some ts → AreTokens text ts

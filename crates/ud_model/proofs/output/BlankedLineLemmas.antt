@@ -137,9 +137,6 @@ all_placed _ _ n _ e f = cc
 
 -- 3. The lines of a text.
 
-formed_tail : (t : List ℕ) (ts : List (List ℕ)) → AreFormed (t ∷ ts) → AreFormed ts
-formed_tail t ts f = grind arith
-
 -- A prefix of numbered lines is formed.
 pub front_formed : (n : ℕ) (us : List (List ℕ)) (ls later : List Line) → AreFormed us → numbered_from n us ≡ ls ++ later →
     (ts : List (List ℕ)) × AreFormed ts × (ls ≡ numbered_from n ts)

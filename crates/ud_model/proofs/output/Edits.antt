@@ -29,9 +29,6 @@ ends_behind (Yes ∷ d ∷ cs) c e = (refl, refl)
 ends_behind (No ∷ cs) c e = ends_behind cs c e
 ends_behind (Unknown ∷ cs) c e = ends_behind cs c e
 
-later_moves : (part : Part) (c : Cond) (now : Bool) → Moves false (later_verdict part c) now
-later_moves part c now = grind arith
-
 unknown_moves : (part : Part) (c : Cond) (some ends now_some now_ends : Bool) → (some ≡ true → (now_some ≡ true) × (now_ends ≡ false)) →
     Moves (some && not ends) (if not some then later_verdict part c else if ends then ToEndif else Remove) (now_some && not now_ends)
 unknown_moves part c some ends now_some now_ends h = grind arith
@@ -88,9 +85,6 @@ keeps_size _ _ _ _ h = absurd h
 abbrev pub AtMost : Verdict → ℕ → ℕ → Type 0
 AtMost ToEndif n m = n ≤ suc m
 AtMost _ n m = n ≤ m
-
-fits_by : (a b c : List ℕ) (t u : Bool) (n : ℕ) → (t ≡ true → length a ≤ n) → (u ≡ true → length b ≤ n) → length c ≤ n → length (if t then a else if u then b else c) ≤ n
-fits_by a b c t u n f g h = grind arith
 
 -- The keyword of a first directive isn't longer than a keyword of four bytes at least, which it
 -- replaces.

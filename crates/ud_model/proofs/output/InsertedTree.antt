@@ -49,12 +49,6 @@ alike_by o r s (directive d) k =
 alike_item : (o : Options) (r s : Reading) → IsSame r s → ItemAlike (item_of o r) (item_of o s)
 alike_item o r s k = grind (arith, alike_by)
 
-lone_scan : (d : Reading) (b : List ℕ) → d.line.body ≡ b → IsLone d → content_of d.scan ≡ content_of (plain_scan (record { body = b; ending = []; number = 0 }))
-lone_scan d b e k = ap content_of k ∙ ap (λ (x : List ℕ). content_of (plain_scan (record { body = x; ending = []; number = 0 }))) e
-
-number_text : (n : ℕ) → content_of (plain_scan (record { body = codes "#line " ++ decimal n; ending = []; number = 0 })) ≡ text_content
-number_text n = refl
-
 text_is : (d : Reading) → IsInserted d → content_of d.scan ≡ text_content
 text_is d h = grind arith
 

@@ -171,9 +171,6 @@ pub left_blank : (v : Verdict) (n : Bool) (before : List Judged) (l : Line) (k :
     piece_of true n before (record { line = l; verdict = v; keyword = k }) ≡ piece_by v k l
 left_blank v n before l k h = grind arith
 
-numbered_by : (b : Bool) (l : Line) (p : List ℕ) (r : Bool) → b ≡ r → (if b && true then number_line l else []) ++ p ≡ (if r then number_line l else []) ++ p
-numbered_by b l p r e = grind arith
-
 pub left_number : (v : Verdict) (before : List Judged) (l : Line) (k : Span) (r : Bool) → last_removed before ≡ r → IsLeft v →
     piece_of false true before (record { line = l; verdict = v; keyword = k }) ≡ (if r then number_line l else []) ++ piece_by v k l
 left_number v before l k r e h = grind arith

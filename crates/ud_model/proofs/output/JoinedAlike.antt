@@ -103,41 +103,15 @@ module _ {L : Type 0} where
 abbrev pub Carried : Item Reading → Mark → Bool → Type 0
 Carried x m behind = (reading_of x).scan.joins_after ≡ true → is_removed m.verdict ≡ not behind
 
-keeps_stays : (v : Verdict) → IsTrue (keeps_rest v) → is_removed v ≡ false
-keeps_stays v h = grind arith
-
-marked_text : (b : Bool) → is_removed (marked b Keep).verdict ≡ not b
-marked_text b = grind arith
-
--- A directive that isn't obfuscated keeps its rest, and joins no line before it that is removed.
-spoiled_parts : (span joins removed : Bool) (v : Verdict) → (span && true && (not (keeps_rest v) || (joins && removed))) ≡ false →
-    span ≡ true → IsTrue (keeps_rest v) × ((joins ≡ true) → removed ≡ false)
-spoiled_parts span joins removed v e p = grind arith
-
--- The case of a directive that spans lines, if all groups around its section are kept.
-kept_directive : (r : Reading) (removed : Bool) (v : Verdict) → (is_spanning r.scan && true && (not (keeps_rest v) || (r.scan.joins_before && removed))) ≡ false →
-    is_spanning r.scan ≡ true → IsTrue (keeps_rest v) × ((r.scan.joins_before ≡ true) → removed ≡ false)
-kept_directive r removed v e p = spoiled_parts (is_spanning r.scan) r.scan.joins_before removed v e p
-
-inside_not : (v : Verdict) (inside : Bool) → (IsTrue (keeps_rest v) → inside ≡ true) → IsTrue (keeps_rest v) → is_removed v ≡ not inside
-inside_not v inside k h = keeps_stays v h ∙ ap (λ (b : Bool). not b) (sym (k h))
-
 module _ (removed : Bool) where
   -- The facts after a line that isn't obfuscated and joins the next one.
   pub carried_step : {x : Item Reading} {before behind : Bool} {m : Mark} → Does x before m behind → is_obfuscated_after removed x m ≡ false → Carried x m behind
   carried_step h e j = grind arith
 
-  by_kept : (r : Reading) (v : Verdict) → (is_spanning r.scan && true && (not (keeps_rest v) || (r.scan.joins_before && removed))) ≡ false → r.scan.joins_before ≡ true →
-      is_removed v ≡ removed
-  by_kept r v e j = grind arith
-
   -- A line that joins the one before it is removed exactly if that line is.
   pub joined_alike : {x : Item Reading} {before behind : Bool} {m : Mark} → Does x before m behind → is_obfuscated_after removed x m ≡ false →
       (reading_of x).scan.joins_before ≡ true → removed ≡ not before → is_removed m.verdict ≡ removed
   joined_alike h e j g = grind arith
-
-  alone_by : (span j k : Bool) → (span && true && (not k || j)) ≡ false → k ≡ false → span ≡ false
-  alone_by span j k e h = grind arith
 
   -- A line that is edited, but not to an `#if`, joins no other.
   pub edited_alone : {x : Item Reading} {before behind : Bool} {m : Mark} → Does x before m behind → is_obfuscated_after removed x m ≡ false →

@@ -40,12 +40,6 @@ first_byte w b c bytes rest n e = go (first_shown bytes w b)
     go (t, inr h) = let q : space ∷ t ≡ c ∷ rest = sym h ∙ e in let r : c ≡ space = cc in absurd (n r)
 
 module _ (c : ℕ) (prefix : List ℕ) (unquoted : has_quote prefix ≡ false) (unslashed : ends_in_slash prefix ≡ false) (no_space : c ≢ space) (no_newline : c ≢ newline) where
-  slash_by : (t s : Bool) (m : List ℕ) (x : ℕ) → ends_in_slash m ≡ true → (if t || s then blank_last m else m) ≡ prefix →
-      (if t then space else if s then space else x) ≡ c → ⊥
-  slash_by t s m x h e g = grind arith
-
-  line_by : (t : Bool) (x : ℕ) → (x == newline) ≡ t → (if t then x else space) ≡ c → ⊥
-  line_by t x e g = grind arith
 
   -- If the masked line goes on so, the text ends between lexemes.
   is_text : (p : LexState) (m : List ℕ) (x : ℕ) → Shown p m → (if opens_comment p x then blank_last m else m) ≡ prefix → masked_byte p x ≡ c → (p ≡ in_text) × (m ≡ prefix)

@@ -19,31 +19,6 @@ use Rattle.ud_model.proofs.output.ExchangedScan.{Sane}
 use Rattle.ud_model.proofs.text.ScanLemmas.{kind_at_place, joined_run_last, LexesTo-close, run_of_last}
 use Rattle.ud_model.proofs.text.LexStateLemmas.{LexesTo-nil}
 
-quote_dark : (b : ℕ) → is_quote b ≡ true → ((b == slash) ≡ false) × ((b == newline) ≡ false) × (is_white b ≡ false)
-quote_dark b e = grind arith
-
-sane_text : (s q white : Bool) (b : ℕ) → (b == slash) ≡ s → is_quote b ≡ q → Sane (if s then at_slash else if q then in_literal b else in_text) (if b == slash then white else if b == newline then true else white && is_white b)
-sane_text s q white b e f = grind arith
-
-sane_slash : (t s q white : Bool) (b : ℕ) → is_quote b ≡ q →
-    Sane (if t then in_block else if s then in_line else if q then in_literal b else in_text) (if t then white else if s then white else if b == newline then true else false)
-sane_slash t s q white b e = grind arith
-
-sane_block : (t white : Bool) → Sane (if t then at_star else in_block) white
-sane_block t white = grind arith
-
-sane_star : (s t white : Bool) → Sane (if s then in_text else if t then at_star else in_block) white
-sane_star s t white = grind arith
-
-sane_line : (t white : Bool) → Sane (if t then in_text else in_line) (if t then true else white)
-sane_line t white = grind arith
-
-sane_literal : (q : ℕ) (f s t w white : Bool) → white ≡ false → Sane (if f then in_text else if s then in_text else if t then at_backslash q else in_literal q) (if f then true else white && w)
-sane_literal q f s t w white e = grind arith
-
-sane_backslash : (q : ℕ) (f w white : Bool) → white ≡ false → Sane (if f then in_text else in_literal q) (if f then true else white && w)
-sane_backslash q f w white e = grind arith
-
 -- A sane state is followed by a sane one.
 pub sane_step : (w : LexState) (white : Bool) (b : ℕ) → Sane w white → Sane (next_state w b) (stays_white w white b)
 sane_step w white b s = grind arith

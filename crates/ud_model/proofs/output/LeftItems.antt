@@ -29,12 +29,6 @@ use Rattle.ud_model.proofs.output.SeenLines.{Seen, scanned, left_seen}
 abbrev pub IsLeftOf : Verdict → Item Reading → Item Reading → Type 0
 IsLeftOf v x y = item_with scanned y ∷ [] ≡ map (item_with left_seen) (kept_line v x)
 
-kept_seen : (x : Item Reading) → item_with scanned x ∷ [] ≡ map (item_with left_seen) (kept_line Keep x)
-kept_seen x = grind arith
-
-same_role : (r q : Reading) (p : Role) (d e : Decision) → scanned q ≡ scanned r → d ≡ e → item_with scanned (directive_item q p d) ≡ item_with scanned (directive_item r p e)
-same_role r q p d e b h = grind arith
-
 -- The decision on a directive without a continuation, whether it begins a section or not.
 abbrev decided_so : Bool → Decision → Bool → Decision
 decided_so begins c joins = record c { ignoring = (begins && c.ignoring) && not joins }
@@ -50,12 +44,6 @@ spaced_decision s q d k n table rules e u =
     grind (arith, decided_past, unknown_alike, unknown_heeds)
 
 module _ (o : Options) where
-  same_content : (r q : Reading) (c : Content) → q.scan ≡ r.scan → scanned q ≡ scanned r → item_with scanned (item_by o q c) ≡ item_with scanned (item_by o r c)
-  same_content r q c s b = grind arith
-
-  -- A line that is scanned as before is the item that it was.
-  pub kept_item : (r q : Reading) → q.scan ≡ r.scan → line_bytes q ≡ line_bytes r → IsLeftOf Keep (item_of o r) (item_of o q)
-  kept_item r q s b = grind arith
 
   item_as : (r : Reading) (d : Directive) (p : Role) → content_of r.scan ≡ directive d → role_of d.kind ≡ p →
       item_of o r ≡ directive_item r p (decision_on r.scan d o.table (rules_of o.settings))
@@ -79,18 +67,6 @@ module _ (o : Options) where
       (spaced_decision r.scan q.scan d k n o.table (rules_of o.settings) t u)
       ∙ sym (ap (λ (x : Item Reading). map (item_with left_seen) (kept_line ToIf x)) (item_as r d ElifGroup e h))
 
-  none_either : (b : Bool) → ◌≡◌ {A = Option Expression} (if b then None else None) None
-  none_either true = refl
-  none_either false = refl
-
-  -- A line with an `#else` or `#endif` has no condition.
-  seen_cut : (r q : Reading) (f : Directive) (k : Kind) (t : List ℕ) → content_of q.scan ≡ directive f → f.kind ≡ k → condition_after k f.after ≡ None → line_bytes q ≡ t →
-      ◌≡◌ {A = Seen} (scanned q) (record { bytes = t; condition = None })
-  seen_cut r q f k t n g c b =
-      ap₂ (λ (u : List ℕ) (x : Option Expression). record { bytes = u; condition = x }) b
-      (ap (λ (y : Content). condition_by q.scan y) n ∙ ap (λ (i : Kind). if q.scan.joins_after then None else condition_after i f.after) g
-      ∙ ap (λ (x : Option Expression). if q.scan.joins_after then None else x) c ∙ none_either q.scan.joins_after)
-
   -- A directive that opens a further group becomes an `#else`.
   pub else_item : (r q : Reading) (d f : Directive) → content_of r.scan ≡ directive d → role_of d.kind ≡ ElifGroup → content_of q.scan ≡ directive f → f.kind ≡ Else →
       line_bytes q ≡ edited_bytes (edited ToElse r) → IsLeftOf ToElse (item_of o r) (item_of o q)
@@ -100,15 +76,6 @@ module _ (o : Options) where
   pub endif_item : (r q : Reading) (d f : Directive) → content_of r.scan ≡ directive d → (role_of d.kind ≡ ElifGroup) ⊎ (role_of d.kind ≡ ElseGroup) → content_of q.scan ≡ directive f → f.kind ≡ Endif →
       line_bytes q ≡ edited_bytes (edited ToEndif r) → IsLeftOf ToEndif (item_of o r) (item_of o q)
   endif_item r q d f e h n g b = grind arith
-
-  if_role : (r : Reading) (p : Role) (d : Decision) → Suits ToIf (directive_item r p d) → (p ≡ ElifGroup) × (d.cond ≡ Unknown)
-  if_role r p d s = grind arith
-
-  else_role : (r : Reading) (p : Role) (d : Decision) → Suits ToElse (directive_item r p d) → p ≡ ElifGroup
-  else_role r p d s = grind arith
-
-  endif_role : (r : Reading) (p : Role) (d : Decision) → Suits ToEndif (directive_item r p d) → (p ≡ ElifGroup) ⊎ (p ≡ ElseGroup)
-  endif_role r p d s = grind arith
 
   if_content : (r : Reading) (c : Content) → Suits ToIf (item_by o r c) → (d : Directive) × (c ≡ directive d) × (role_of d.kind ≡ ElifGroup) × ((decision_on r.scan d o.table (rules_of o.settings)).cond ≡ Unknown)
   if_content r c s = grind arith

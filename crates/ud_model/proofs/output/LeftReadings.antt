@@ -14,7 +14,7 @@ use Rattle.ud_model.specs.declared.kind.Role.TheVariants.{ElifGroup, ElseGroup}
 use Rattle.ud_model.specs.declared.verdict.Verdict.{Verdict}
 use Rattle.ud_model.specs.declared.verdict.Verdict.TheVariants.{Keep, ToIf, ToElse, ToEndif}
 use Rattle.ud_model.proofs.output.ExchangedContent.{if_kind, if_len, if_begins, to_if_test, to_if_content, cut_content}
-use Rattle.ud_model.proofs.output.LeftItems.{IsLeftOf, kept_item, if_item, else_item, endif_item}
+use Rattle.ud_model.proofs.output.LeftItems.{IsLeftOf, if_item, else_item, endif_item}
 use Rattle.ud_model.proofs.output.LeftScans.{SeenAsIf, SeenCut}
 
 -- The second line is read as the output for the first one with this verdict.

@@ -81,17 +81,6 @@ way_by_stage (No ∷ cs) = way_by_stage cs
 way_by_stage (Unknown ∷ cs) = inside_way cs
 way_by_stage _ = refl
 
--- The verdict of an opener, by the flags.
-abbrev by_flags : Bool → Bool → Bool → Bool → Part → Cond → Verdict
-by_flags way none some last part c =
-    verdict_in_position
-    (if way then given_way
-    else if none && not (is_false c) then first_kept
-    else if not some then up_to_true c
-    else if last then next_after
-    else further_on)
-    part
-
 module _ (all cs : List Cond) (stays : gives_way all ≡ false) where
   leading_verdict : stage cs ≡ leading → (part : Part) → opener_verdict all cs part Unknown ≡ first_kept_verdict part
   leading_verdict e part = grind (arith, leading_flags)

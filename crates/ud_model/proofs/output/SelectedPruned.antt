@@ -26,31 +26,6 @@ module _ {L : Type 0} (w : World L) where
   Chosen s (kept_groups es) = option_map (map kept) s ≡ selected_elifs out_world es
   Chosen s (ended es l ms k) = (ls : List L) × (s ≡ Some ls) × (map kept ls ≡ lines_or (selected_elifs out_world es) (selected out_world ms))
 
-  later_group : (s : Option (List L)) (b : Bool) (ls more : List L) → s ≡ Some ls → or_else s (where_true b more) ≡ Some ls
-  later_group s b ls more e = ap (λ (q : Option (List L)). or_else q (where_true b more)) e
-
-  -- A group by its truth, if none before it is processed.
-  new_group : (b : Bool) (ls : List L) (ks : List (Edited L)) → (b ≡ true → map kept ls ≡ ks) → option_map (map kept) (where_true b ls) ≡ where_true b ks
-  new_group b ls ks h = grind arith
-
-  -- A further group, after groups.
-  more_group : (s : Option (List L)) (r : Option (List (Edited L))) (b : Bool) (ls : List L) (ks : List (Edited L)) → option_map (map kept) s ≡ r →
-      (s ≡ None → b ≡ true → map kept ls ≡ ks) → option_map (map kept) (or_else s (where_true b ls)) ≡ or_else r (where_true b ks)
-  more_group s r b ls ks e h = grind arith
-
-  -- The last group is processed if none before it is.
-  last_group : (s : Option (List L)) (r : Option (List (Edited L))) (ls : List L) (ks : List (Edited L)) → option_map (map kept) s ≡ r →
-      (s ≡ None → map kept ls ≡ ks) → map kept (lines_or s ls) ≡ lines_or r ks
-  last_group s r ls ks e h = grind arith
-
-  -- The case of a group that is true.
-  true_group : (s : Option (List L)) (b : Bool) (ls : List L) → (s ≡ None → b ≡ true) → or_else s (where_true b ls) ≡ Some (lines_or s ls)
-  true_group s b ls h = grind arith
-
-  -- The case of a group that is false.
-  false_group : (s : Option (List L)) (b : Bool) (ls : List L) → (s ≡ None → b ≡ false) → or_else s (where_true b ls) ≡ s
-  false_group s b ls h = grind arith
-
   -- The case of one more group.
   group_step : (s : Option (List L)) (left : KeptGroups L) (part : Part) (o : Opener L) (c : Cond) (ns : Nodes L) (ps : Nodes (Edited L)) →
       Chosen s left → (s ≡ None → AgreesWith w c o.line) → (s ≡ None → w o.line ≡ true → map kept (selected w ns) ≡ selected out_world ps) →

@@ -181,9 +181,6 @@ module _ (table : List Argument) (rules : Rules) where
     abbrev ls : List Line
     ls = numbered_from 1 (lines_in c)
 
-    abbrev line : Line
-    line = one_line ls
-
     lines_are_here : lines_of x ≡ ls
     lines_are_here = ap (numbered_from 1) (own_texts x c)
 

@@ -40,12 +40,6 @@ HasSome (elif_line o) = 1 ≤ (keyword_in (content_of o.line.scan)).len
 HasSome (else_line r) = 1 ≤ (keyword_in (content_of r.scan)).len
 HasSome (endif_line r) = 1 ≤ (keyword_in (content_of r.scan)).len
 
-some_least : (p : Role) → 1 ≤ least p
-some_least p = grind arith
-
-some_role : (r : Reading) (p : Role) (d : Decision) → 1 ≤ (keyword_in (content_of r.scan)).len → HasSome (directive_item r p d)
-some_role r p d h = grind arith
-
 some_content : (o : Options) (r : Reading) (c : Content) → content_of r.scan ≡ c → HasSize c → HasSome (item_by o r c)
 some_content o r c e h = grind arith
 
@@ -207,9 +201,6 @@ fronts [] bs ws vs e = inr (bs, refl)
 fronts (a ∷ cs) [] ws vs e = inl (a ∷ cs, refl)
 fronts (a ∷ cs) (b ∷ bs) ws vs e = go (fronts cs bs ws vs (cc))
   where
-    head : a ≡ b
-    head = cc
-
     go : ((m : List Line) × (cs ≡ bs ++ m)) ⊎ ((m : List Line) × (bs ≡ cs ++ m)) →
         ((m : List Line) × (a ∷ cs ≡ b ∷ bs ++ m)) ⊎ ((m : List Line) × (b ∷ bs ≡ a ∷ cs ++ m))
     go h = grind arith

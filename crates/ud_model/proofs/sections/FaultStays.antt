@@ -15,10 +15,6 @@ use Rattle.ud_model.specs.declared.kind.Role.{Role}
 use Rattle.ud_model.specs.declared.kind.Role.TheVariants.{IfGroup, ElifGroup, ElseGroup, EndifLine}
 use Rattle.ud_model.proofs.text.LinesLemmas.{Growth, stays_open, ends_line, grows, text_of-line_at, numbered_from-next, lines_so_far-append, lines_of-append, texts_of_grows, some_front}
 
--- A directive's item has the line that it was read from.
-pub reading_of-directive_item : (r : Reading) (p : Role) (d : Decision) → reading_of (directive_item r p d) ≡ r
-reading_of-directive_item r p d = grind arith
-
 -- An item keeps the reading of its line.
 pub reading_of-item_by : (o : Options) (r : Reading) (c : Content) → reading_of (item_by o r c) ≡ r
 reading_of-item_by o r c = grind arith

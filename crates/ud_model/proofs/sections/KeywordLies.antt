@@ -7,9 +7,6 @@ use Rattle.ud_model.specs.answer.Printing.{keyword_in}
 use Rattle.ud_model.specs.declared.kind.Kind.{Kind}
 use Rattle.ud_model.proofs.text.ByteLemmas.{length-skip_white}
 
-white_one : (w : Bool) (b : ℕ) (bs rest : List ℕ) → length rest ≤ length bs → length (if w then rest else b ∷ bs) ≤ suc (length bs)
-white_one w b bs rest h = grind arith
-
 word_one : (w : Bool) (b : ℕ) (bs word rest : List ℕ) → length word + length rest ≡ length bs →
     length (if w then b ∷ word else []) + length (if w then rest else b ∷ bs) ≡ suc (length bs)
 word_one w b bs word rest h = grind arith
@@ -18,9 +15,6 @@ word_one w b bs word rest h = grind arith
 pub word_and_rest : (t : List ℕ) → length (leading_word t) + length (skip_word t) ≡ length t
 word_and_rest [] = refl
 word_and_rest (b ∷ bs) = word_one (is_word_byte b) b bs (leading_word bs) (skip_word bs) (word_and_rest bs)
-
-sign_one : (is : Bool) (b : ℕ) (bs rest : List ℕ) → (if is then Some bs else None) ≡ Some rest → length rest ≤ suc (length bs)
-sign_one is b bs rest e = grind arith
 
 sign_le : (t rest : List ℕ) → skip_hash t ≡ Some rest → length rest ≤ length t
 sign_le t rest e = grind arith

@@ -77,9 +77,6 @@ case_in_order too_deep = (obfuscated_case ∷ [], refl)
 case_in_order obfuscated_case = ([], refl)
 
 module _ (xs : List (Item Reading)) (x : Item Reading) where
-  none_at : (cs : List Case) (c : Case) (later : List Case) → NoneHolds xs x (cs ++ c ∷ later) → Holds xs x c → ⊥
-  none_at [] c later n h = n.0 h
-  none_at (b ∷ cs) c later n h = none_at cs c later n.1 h
 
   one_case : (cs ds : List Case) (c d : Case) (ws vs : List Case) → cs ++ c ∷ ws ≡ ds ++ d ∷ vs →
       Holds xs x c → NoneHolds xs x cs → Holds xs x d → NoneHolds xs x ds → c ≡ d

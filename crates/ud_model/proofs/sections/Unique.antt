@@ -47,13 +47,3 @@ module _ {L : Type 0} where
   grows t u x e =
       let a : (v : Tree L) × (lines v ≡ lines t) × Adds v x u = tree_before (lines t) x u e in
       subst (λ v. Adds v x u) (unique a.0 t a.1) a.2
-
-  front_by : {ys : List (Item L)} → ByPush ys → (u : Tree L) (xs : List (Item L)) → lines u ≡ xs ++ ys → HasTree xs
-  front_by none u xs e = (u, e ∙ append-nil xs)
-  front_by (push {xs = ys} y p) u xs e =
-      let a : (v : Tree L) × (lines v ≡ xs ++ ys) × Adds v y u = tree_before (xs ++ ys) y u (e ∙ sym (append_assoc xs ys (y ∷ []))) in
-      front_by p a.0 xs a.1
-
-  -- Each prefix of a list with a tree has a tree.
-  pub has_front : (u : Tree L) (xs ys : List (Item L)) → lines u ≡ xs ++ ys → HasTree xs
-  has_front u xs ys e = front_by (by_push ys) u xs e

@@ -86,9 +86,6 @@ fresh_at_place text (at_backslash q) white s r = fresh_clean text (at_backslash 
 opens_comment-feed : (w : LexState) → opens_comment w newline ≡ false
 opens_comment-feed w = grind arith
 
-starts_with_byte-close : (b : ℕ) (c : List ℕ) (o : Bool) → (newline == b) ≡ false → starts_with_byte b (c ++ (if o then [] else newline ∷ [])) ≡ starts_with_byte b c
-starts_with_byte-close b c o e = grind arith
-
 -- The newline after a line doesn't change whether the line is fresh.
 pub fresh-close : (w : LexState) (white : Bool) (line : Line) → fresh_at w white (spliced_part line) ≡ fresh_at w white (content line)
 fresh-close w white line = grind arith

@@ -32,11 +32,6 @@ at_feed : (k : LexemeKind) (b : ℕ) (u : List ℕ) → (b == newline) ≡ true 
 unfolding lex_from lexeme_at
 at_feed k b u e = subst (λ (n : ℕ). lex_from k 0 (n ∷ u) ≡ cell single n ∷ lex_from single 0 u) (sym (eqb-true b newline e)) refl
 
-star_cell : (s : Bool) (m b : ℕ) (u : List ℕ) →
-    lex_from block_comment (if s then 2 else suc m) (b ∷ u) ≡ cell block_comment b ∷ lex_from block_comment (if s then 1 else m) u
-unfolding lex_from
-star_cell s m b u = grind arith
-
 block_by : (t : Bool) (b : ℕ) (u : List ℕ) →
     lex_from block_comment (if t && starts_with_byte slash u then 2 else suc (comment_size u)) (b ∷ u)
     ≡ cell block_comment b ∷ cells_after (if t then at_star else in_block) u
