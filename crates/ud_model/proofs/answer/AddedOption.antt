@@ -1,5 +1,5 @@
 -- An option between other arguments: what they give stays, and what the option gives comes between.
-use Rattle.std.proofs.Common.{◌≡◌, ◌≢◌, ◌<◌, ℕ, suc, List, [], ◌∷◌, ◌++◌, Bool, true, false, ◌||◌, ◌==◌, nat_lt, if◌then◌else◌, bytes_eq, codes, encode_utf8_all, Option, Some, None, refl, sym, ◌∙◌, ap, ap₂, append_assoc, arith}
+use Rattle.std.proofs.Common.{◌≡◌, ◌≢◌, ◌<◌, ℕ, suc, List, [], ◌∷◌, ◌++◌, Bool, true, false, ◌||◌, ◌==◌, nat_lt, if◌then◌else◌, bytes_eq, codes, encode_utf8_all, Option, Some, None, refl, sym, ◌∙◌, ap, append_assoc, arith}
 use Rattle.std.specs.Str.{chars, IsUtf8, IsAscii}
 use Rattle.std.specs.List.{filter_map}
 use Rattle.std.proofs.lemmas.List.Elements.{filter_map-append}
@@ -8,12 +8,11 @@ use Rattle.std.proofs.lemmas.Str.{encodes-chars, IsUtf8-append, IsUtf8-from_asci
 use Rattle.std.proofs.lemmas.Str.Ascii.{IsAscii-nil, IsAscii-cons}
 use Rattle.ud_model.specs.text.Bytes.{hyphen, equals_sign, is_word_byte, are_word_bytes}
 use Rattle.ud_model.specs.conditions.Table.{Argument, Entry, entry_from, entry_in}
-use Rattle.ud_model.specs.answer.CommandLine.{ParsedArg, flag, option, operand, unknown, lacking, has_letter, is_flag, takes_argument, parsed_from, parsed_args, parse_symbol, symbol_named, mode_or, parse_exit_mode, mode_from, has_flag, listing_by, settings_in, argument_in, options_of, unless_right, bad_symbol_in, bad_mode_in, argument_fault, first_fault, usage_fault}
+use Rattle.ud_model.specs.answer.CommandLine.{ParsedArg, flag, option, operand, unknown, lacking, has_letter, is_flag, takes_argument, parsed_from, parsed_args, parse_symbol, symbol_named, mode_or, parse_exit_mode, mode_from, has_flag, settings_in, argument_in, options_of, argument_fault, first_fault, usage_fault}
 use Rattle.ud_model.specs.answer.SymbolArguments.{is_name, name_before_equals, value_after_equals, value_or_one}
 use Rattle.ud_model.specs.answer.CommandLine.{WordGives, then_gives, letters_give, option_gives, given_next}
 use Rattle.ud_model.specs.answer.OptionArguments.{AreOptions, no_options, whole_word, two_words, IsSymbolOption, defines, defines_as, undefines, AddsSymbol}
 use Rattle.ud_model.specs.declared.settings.ExitMode.{ExitMode}
-use Rattle.ud_model.specs.declared.settings.ExitMode.TheVariants.{Zero}
 use Rattle.ud_model.proofs.answer.WordLemmas.{options_given}
 use Rattle.ud_model.proofs.answer.SameArguments.{Same, given_same, flag_same, mode_same, table_same, settings_parts, both_none, none_of_both, no_fault_same}
 
@@ -52,15 +51,7 @@ letters_none n (c ∷ cs) = go (is_flag c) (takes_argument c) (letters_none n cs
 -- which option waits doesn't depend on the word's number
 waits_same : (n m : ℕ) (cs : List ℕ) → (letters_give n cs).waits ≡ (letters_give m cs).waits
 waits_same n m [] = refl
-waits_same n m (c ∷ cs) = go (is_flag c) (takes_argument c) (waits_same n m cs)
-  where
-    by_rest : (ls : List ℕ) → (option_gives c n ls).waits ≡ (option_gives c m ls).waits
-    by_rest ls = grind arith
-
-    go : (f t : Bool) → (letters_give n cs).waits ≡ (letters_give m cs).waits →
-        (if f then then_gives (flag c) (letters_give n cs) else if t then option_gives c n cs else then_gives (unknown c) (letters_give n cs)).waits
-        ≡ (if f then then_gives (flag c) (letters_give m cs) else if t then option_gives c m cs else then_gives (unknown c) (letters_give m cs)).waits
-    go f t e = grind arith
+waits_same n m (c ∷ cs) = grind (arith, waits_same n m cs)
 
 -- what these arguments give from the place n on, and then come the arguments after them
 pub record Splits (n : ℕ) (before : List (List ℕ)) : Type 0 where
@@ -199,12 +190,7 @@ mode_added e (lacking c ∷ xs) l n a f k = mode_added e xs l n a f k
 
 settings_added : (xs : List ParsedArg) (l n : ℕ) (a : List ℕ) {hs gs : List ParsedArg} → has_letter (codes "x") l ≡ false → Same hs gs →
     settings_in (xs ++ option l n a ∷ hs) ≡ settings_in (xs ++ gs)
-settings_added xs l n a {hs} {gs} f k =
-    settings_parts (flag (codes "t")) (flag (codes "k")) (flag (codes "K")) (flag (codes "bl")) (flag (codes "c")) (flag (codes "n"))
-    (ap₂ listing_by (flag (codes "S")) (flag (codes "s"))) (mode_added Zero xs l n a f k)
-  where
-    flag : (ls : List ℕ) → has_flag ls (xs ++ option l n a ∷ hs) ≡ has_flag ls (xs ++ gs)
-    flag ls = flag_added ls xs l n a k
+settings_added xs l n a {hs} {gs} f k = grind (arith, settings_parts, mode_added, flag_added)
 
 no_fault_added : {xs : List ParsedArg} → NoOperand xs → (l n : ℕ) (a : List ℕ) {hs gs : List ParsedArg} → argument_fault l n a ≡ None → Same gs hs →
     first_fault (xs ++ gs) ≡ None → first_fault (xs ++ option l n a ∷ hs) ≡ None

@@ -1,9 +1,9 @@
 -- Levels: each line of a text has one level, and it is the same in every longer text.
 use Rattle.std.proofs.Common.{◌≡◌, ℕ, suc, List, [], ◌∷◌, ◌++◌, length, refl, sym, ◌∙◌, append_assoc, append-nil, length-append, arith}
-use Rattle.ud_model.specs.sections.Tree.{Item, Nodes, Head, Tree, nothing, if_head, elif_head, else_head, closed, lines}
+use Rattle.ud_model.specs.sections.Tree.{Item, Nodes, Head, Tree, nothing, closed, lines}
 use Rattle.ud_model.specs.answer.Listing.{levels_of_nodes, levels_of_groups, levels_of_head, levels_from, levels}
 use Rattle.ud_model.proofs.text.Pushes.{ByPush, none, push, by_push}
-use Rattle.ud_model.proofs.sections.Growth.{Adds, adds_text, adds_if, elif_after_if, elif_after_elif, else_after_if, else_after_elif, adds_endif, adds_under, complete}
+use Rattle.ud_model.proofs.sections.Growth.{Adds, adds_text, adds_if, adds_endif, adds_under, complete}
 use Rattle.ud_model.proofs.sections.Unique.{unique, tree_before}
 
 module _ {L : Type 0} where
@@ -18,8 +18,7 @@ module _ {L : Type 0} where
   levels_add n adds_if = (n, simp append-nil)
   levels_add n (adds_endif {b = b} {h = h}) = (n, rw (levels-complete n h b) simp append_assoc)
   levels_add n (adds_under {h = h} {t = t} {u = u} a) =
-      let m : (k : ℕ) × (levels_from (suc n) u ≡ levels_from (suc n) t ++ k ∷ []) = levels_add (suc n) a in
-      (m.0, rw m.1 simp append_assoc)
+      grind (arith, append_assoc, levels_add (suc n) a)
   levels_add n _ = (n, simp (append-nil, append_assoc))
 
   length_by : {xs : List (Item L)} → ByPush xs → (n : ℕ) (t : Tree L) → lines t ≡ xs → length (levels_from n t) ≡ length xs

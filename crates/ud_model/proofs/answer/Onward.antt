@@ -10,7 +10,7 @@ use Rattle.ud_model.specs.sections.Pruning.{Mark, marks}
 use Rattle.ud_model.specs.sections.Items.{Options, line_of, next_item}
 use Rattle.ud_model.specs.sections.Faults.{Fault, AreFaultless, no_lines, one_more}
 use Rattle.ud_model.specs.answer.Printing.{Judged, judged_line, judged_lines, pieces_by, piece_after, style_of}
-use Rattle.ud_model.specs.answer.Listing.{levels, listed, listed_names, depth_prefix, names_at}
+use Rattle.ud_model.specs.answer.Listing.{levels, listed}
 use Rattle.ud_model.specs.answer.Outcomes.{Outcome, output_by, FirstFaultAt, HasNoFault, lines_so_far, ReadsAs, ReadsSoFar, HasOutcome, ran_as, HasOutcomeSoFar, came_as}
 use Rattle.ud_model.specs.answer.Outcomes.ReadsAs.{stops, ends}
 use Rattle.ud_model.specs.answer.Outcomes.ReadsSoFar.{stops as stops_so_far, breaks, goes_on}
@@ -20,7 +20,7 @@ use Rattle.ud_model.specs.declared.settings.Listing.TheVariants.{Off, Names, Dep
 use Rattle.ud_model.proofs.text.Pushes.{ByPush, none, push, by_push, push_not_nil}
 use Rattle.ud_model.proofs.text.LinesLemmas.{lines_so_far-append, lines_of-append}
 use Rattle.ud_model.proofs.sections.Stays.{marks_stay, length_marks}
-use Rattle.ud_model.proofs.sections.Soundness.{sound_lines, lines_with_next, sound_same, faulty_inside, reads_once, reads_so_far_once}
+use Rattle.ud_model.proofs.sections.Soundness.{lines_with_next, sound_same, faulty_inside, reads_once, reads_so_far_once}
 use Rattle.ud_model.proofs.sections.FaultStays.{reads_stay}
 use Rattle.ud_model.proofs.answer.LevelLemmas.{levels_stay, length_levels}
 
@@ -48,14 +48,7 @@ meet : (ks bs : List Line) (x : Line) (cs ds : List Line) → ks ++ x ∷ cs ≡
     ((mid : List Line) × (bs ≡ ks ++ x ∷ mid)) ⊎ ((mid : List Line) × (ks ≡ bs ++ mid))
 meet ks [] x cs ds e = inr (ks, refl)
 meet [] (b ∷ bs) x cs ds e = inl (bs, cc)
-meet (a ∷ ks) (b ∷ bs) x cs ds e = go (meet ks bs x cs ds (cc))
-  where
-    q : a ≡ b
-    q = cc
-
-    go : ((mid : List Line) × (bs ≡ ks ++ x ∷ mid)) ⊎ ((mid : List Line) × (ks ≡ bs ++ mid)) →
-        ((mid : List Line) × (b ∷ bs ≡ a ∷ ks ++ x ∷ mid)) ⊎ ((mid : List Line) × (a ∷ ks ≡ b ∷ bs ++ mid))
-    go h = grind arith
+meet (a ∷ ks) (b ∷ bs) x cs ds e = grind (arith, meet ks bs x cs ds (cc))
 
 module _ (o : Options) (ls later : List Line) (xs : List (Item Reading)) (t : Tree Reading) (through : HasNoFault o ls xs t) where
   through_more : (all : List Line) → all ≡ ls ++ later → (ys : List (Item Reading)) (u : Tree Reading) → HasNoFault o all ys u → BeginsWith xs ys
@@ -127,8 +120,7 @@ listed_more : (d : Bool) (xs ys : List (Item Reading)) (ns ks : List ℕ) → le
     listed d (xs ++ ys) (ns ++ ks) ≡ listed d xs ns ++ listed d ys ks
 listed_more d [] ys [] ks e = refl
 listed_more d (x ∷ xs) ys (n ∷ ns) ks e =
-    ap (λ (r : List ℕ). listed_names (depth_prefix d n) (names_at x) ++ r) (listed_more d xs ys ns ks (omega arith))
-    ∙ sym (append_assoc (listed_names (depth_prefix d n) (names_at x)) (listed d xs ns) (listed d ys ks))
+    grind (arith, append_assoc, listed_more d xs ys ns ks (omega arith))
 listed_more d xs ys ns ks e = absurd (omega arith)
 
 -- The pieces of lines and further ones.
@@ -136,9 +128,7 @@ pub pieces_by-append : (piece : List Judged → Judged → List ℕ) (before js 
     pieces_by piece before (js ++ ks) ≡ pieces_by piece before js ++ pieces_by piece (before ++ js) ks
 pieces_by-append piece before [] ks = ap (λ (bs : List Judged). pieces_by piece bs ks) (sym (append-nil before))
 pieces_by-append piece before (j ∷ js) ks =
-    ap (λ (ps : List (List ℕ)). piece before j ∷ ps)
-    (pieces_by-append piece (before ++ j ∷ []) js ks
-    ∙ ap (λ (bs : List Judged). pieces_by piece (before ++ j ∷ []) js ++ pieces_by piece bs ks) (append_assoc before (j ∷ []) js))
+    grind (arith, append_assoc, pieces_by-append piece (before ++ j ∷ []) js ks)
 
 module _ (t u : Tree Reading) (more : List (Item Reading)) (e : lines u ≡ lines t ++ more) where
   as_many_marks : length (lines t) ≡ length (marks t)

@@ -1,8 +1,8 @@
 -- The output for a text grows line by line.
-use Rattle.std.proofs.Common.{◌≡◌, ◌∙◌, List, ℕ, [], ◌∷◌, ◌++◌, Bool, false, not, ◌||◌, bytes_eq, refl, ap, sym, append_assoc, append-nil, arith}
+use Rattle.std.proofs.Common.{◌≡◌, List, ℕ, [], ◌∷◌, ◌++◌, not, ◌||◌, bytes_eq, refl, ap, sym, append_assoc, append-nil, arith}
 use Rattle.std.specs.List.{concat}
 use Rattle.std.proofs.lemmas.List.Folds.{concat-append}
-use Rattle.std.proofs.Math.Bool.{or-false, or_assoc}
+use Rattle.std.proofs.Math.Bool.{or-false}
 use Rattle.ud_model.specs.text.Lines.{text_of}
 use Rattle.ud_model.specs.sections.Pruning.{is_removed}
 use Rattle.ud_model.specs.answer.Printing.{Judged, last_removed, pieces_by, some_other}
@@ -17,9 +17,7 @@ pub pieces_by-more : (piece : List Judged → Judged → List ℕ) (before js : 
     pieces_by piece before (js ++ j ∷ []) ≡ pieces_by piece before js ++ piece (before ++ js) j ∷ []
 pieces_by-more piece before [] j = ap (λ (ks : List Judged). piece ks j ∷ []) (sym (append-nil before))
 pieces_by-more piece before (k ∷ js) j =
-    ap (λ (ps : List (List ℕ)). piece before k ∷ ps)
-    (pieces_by-more piece (before ++ k ∷ []) js j
-    ∙ ap (λ (ks : List Judged). pieces_by piece (before ++ k ∷ []) js ++ piece ks j ∷ []) (append_assoc before (k ∷ []) js))
+    grind (arith, append_assoc, pieces_by-more piece (before ++ k ∷ []) js j)
 
 -- A line after others is printed after them.
 pub printed-more : (piece : List Judged → Judged → List ℕ) (js : List Judged) (j : Judged) →
@@ -30,11 +28,6 @@ printed-more piece js j = grind (arith, pieces_by-more, concat-append, append-ni
 pub differ-more : (piece : List Judged → Judged → List ℕ) (before js : List Judged) (j : Judged) →
     some_other (pieces_by piece before (js ++ j ∷ [])) (js ++ j ∷ [])
     ≡ (some_other (pieces_by piece before js) js || not (bytes_eq (piece (before ++ js) j) (text_of j.line)))
-differ-more piece before [] j =
-    ap (λ (ks : List Judged). not (bytes_eq (piece ks j) (text_of j.line)) || false) (sym (append-nil before)) ∙ or-false (not (bytes_eq (piece (before ++ []) j) (text_of j.line)))
+differ-more piece before [] j = grind (arith, append-nil, or-false)
 differ-more piece before (k ∷ js) j =
-    ap (λ (d : Bool). not (bytes_eq (piece before k) (text_of k.line)) || d)
-    (differ-more piece (before ++ k ∷ []) js j
-    ∙ ap (λ (ks : List Judged). some_other (pieces_by piece (before ++ k ∷ []) js) js || not (bytes_eq (piece ks j) (text_of j.line))) (append_assoc before (k ∷ []) js))
-    ∙ sym (or_assoc (not (bytes_eq (piece before k) (text_of k.line))) (some_other (pieces_by piece (before ++ k ∷ []) js) js)
-    (not (bytes_eq (piece (before ++ k ∷ js) j) (text_of j.line))))
+    grind (arith, append_assoc, differ-more piece (before ++ k ∷ []) js j)

@@ -1,12 +1,10 @@
 -- Arguments that give the same in other places: what is read of them doesn't depend on the place.
-use Rattle.std.proofs.Common.{◌≡◌, ℕ, suc, List, [], ◌∷◌, ◌++◌, Bool, true, false, ◌||◌, if◌then◌else◌, bytes_eq, codes, encode_utf8_all, Option, Some, None, refl, sym, ◌∙◌, ap, ap₂, subst, arith}
-use Rattle.std.proofs.lemmas.Option.{none-some}
+use Rattle.std.proofs.Common.{◌≡◌, ℕ, suc, List, [], ◌∷◌, ◌++◌, Bool, ◌||◌, if◌then◌else◌, bytes_eq, codes, encode_utf8_all, Option, Some, None, refl, ◌∙◌, ap, subst, arith}
 use Rattle.std.specs.List.{filter_map}
-use Rattle.ud_model.specs.answer.CommandLine.{ParsedArg, flag, option, operand, unknown, lacking, has_letter, is_flag, takes_argument, option_letters, operands_from, is_operand, WordGives, then_gives, option_gives, letters_give, given_next, parsed_from, mode_or, parse_exit_mode, parse_symbol, mode_from, has_flag, listing_by, settings_in, argument_in, UsageFault, unless_right, bad_symbol_in, bad_mode_in, argument_fault, fault_or, first_fault, operand_in, name_or_stdin}
+use Rattle.ud_model.specs.answer.CommandLine.{ParsedArg, flag, option, operand, unknown, lacking, has_letter, is_flag, takes_argument, option_letters, operands_from, is_operand, WordGives, then_gives, option_gives, letters_give, given_next, parsed_from, mode_or, parse_exit_mode, parse_symbol, mode_from, has_flag, settings_in, argument_in, UsageFault, unless_right, bad_symbol_in, bad_mode_in, argument_fault, fault_or, first_fault, operand_in, name_or_stdin}
 use Rattle.ud_model.specs.declared.settings.Settings.{Settings}
 use Rattle.ud_model.specs.declared.settings.Listing.{Listing}
 use Rattle.ud_model.specs.declared.settings.ExitMode.{ExitMode}
-use Rattle.ud_model.specs.declared.settings.ExitMode.TheVariants.{Zero}
 
 -- the same is given, in other places
 pub data Same : List ParsedArg → List ParsedArg → Type 0 where
@@ -108,13 +106,11 @@ argument_right : (c n m : ℕ) (a : List ℕ) → argument_fault c n a ≡ None 
 argument_right c n m a e = go (has_letter (codes "x") c) e
   where
     right : {A : Type 0} (o : Option A) (f g : UsageFault) → unless_right o f ≡ None → unless_right o g ≡ None
-    right None f g e = absurd (none-some f (sym e))
-    right (Some x) f g e = refl
+    right h f g e = grind arith
 
     go : (b : Bool) → (if b then unless_right (parse_exit_mode a) (bad_mode_in n) else unless_right (parse_symbol c a) (bad_symbol_in n)) ≡ None →
         (if b then unless_right (parse_exit_mode a) (bad_mode_in m) else unless_right (parse_symbol c a) (bad_symbol_in m)) ≡ None
-    go true e = right (parse_exit_mode a) (bad_mode_in n) (bad_mode_in m) e
-    go false e = right (parse_symbol c a) (bad_symbol_in n) (bad_symbol_in m) e
+    go b e = grind (arith, right)
 
 pub both_none : (x y : Option UsageFault) → fault_or x y ≡ None → (x ≡ None) × (y ≡ None)
 both_none x y e = grind arith

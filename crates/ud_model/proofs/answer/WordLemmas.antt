@@ -1,7 +1,7 @@
 -- Arguments: each argument is parsed by itself, in order.
-use Rattle.std.proofs.Common.{◌≡◌, ℕ, suc, List, [], ◌∷◌, ◌++◌, Bool, true, false, Option, Some, None, bytes_eq, codes, if◌then◌else◌, refl, ◌∙◌, ap, arith}
-use Rattle.ud_model.specs.answer.CommandLine.{ParsedArg, flag, unknown, is_flag, takes_argument, option_letters, operands_from, parsed_from, parsed_after_option, then_gives, option_gives, letters_give, given_next}
-use Rattle.ud_model.specs.aids.LettersThen.{parsed_option, parsed_letters}
+use Rattle.std.proofs.Common.{◌≡◌, ℕ, suc, List, [], ◌∷◌, ◌++◌, false, Option, Some, None, bytes_eq, codes, refl, arith}
+use Rattle.ud_model.specs.answer.CommandLine.{ParsedArg, option_letters, operands_from, parsed_from, parsed_after_option, letters_give, given_next}
+use Rattle.ud_model.specs.aids.LettersThen.{parsed_letters}
 
 -- The rest after an argument: this, if an option waits, else that.
 abbrev waited : Option ℕ → (ℕ → List ParsedArg) → List ParsedArg → List ParsedArg
@@ -13,13 +13,7 @@ waited (Some c) next rest = next c
 letters_split : (number : ℕ) (cs : List ℕ) (next : ℕ → List ParsedArg) (rest : List ParsedArg) →
     parsed_letters number cs next rest ≡ (letters_give number cs).given ++ waited (letters_give number cs).waits next rest
 letters_split number [] next rest = refl
-letters_split number (c ∷ cs) next rest = go (is_flag c) (takes_argument c) (letters_split number cs next rest)
-  where
-    go : (f t : Bool) → parsed_letters number cs next rest ≡ (letters_give number cs).given ++ waited (letters_give number cs).waits next rest →
-        (if f then flag c ∷ parsed_letters number cs next rest else if t then parsed_option c number cs (next c) rest else unknown c ∷ parsed_letters number cs next rest)
-        ≡ (if f then then_gives (flag c) (letters_give number cs) else if t then option_gives c number cs else then_gives (unknown c) (letters_give number cs)).given
-        ++ waited (if f then then_gives (flag c) (letters_give number cs) else if t then option_gives c number cs else then_gives (unknown c) (letters_give number cs)).waits next rest
-    go f t e = grind arith
+letters_split number (c ∷ cs) next rest = grind (arith, letters_split number cs next rest)
 
 next_is : (o : Option ℕ) (n : ℕ) (args : List (List ℕ)) → waited o (λ c. parsed_after_option c n args) (parsed_from n args) ≡ given_next o n args
 next_is o n args = grind arith

@@ -1,12 +1,10 @@
 -- Choice values: what a choice of numbers gives an expression is one of the values that C may give it.
-use Rattle.std.proofs.Common.{◌≡◌, ℕ, List, [], ◌∷◌, Bool, true, false, ◌==◌, if◌then◌else◌, Option, Some, None, refl, sym, ◌∙◌, ap, subst, inl, inr, ◌⊎◌, ℤ, pos, negsuc, neg_ℤ, arith}
-use Rattle.std.proofs.lemmas.Option.{none-some}
-use Rattle.std.proofs.lemmas.Bool.{false≢true, or_left, or_right}
+use Rattle.std.proofs.Common.{◌≡◌, ℕ, List, Bool, true, Option, Some, None, refl, sym, subst, ◌⊎◌, ℤ, pos, arith}
+use Rattle.std.proofs.lemmas.Bool.{or_left, or_right}
 use Rattle.ud_model.specs.conditions.Table.{Argument, Entry, entry_in}
-use Rattle.ud_model.specs.conditions.Constants.{is_constant}
 use Rattle.ud_model.specs.conditions.Symbols.{resolve}
 use Rattle.ud_model.specs.conditions.Expressions.{Expression, named, is_defined}
-use Rattle.ud_model.specs.conditions.Values.{fits, fit, truth, constant_value, negated_value, text_value, end_value, defined_name_value, name_value_by, name_value, name_has_u, defined_value, has_unsigned}
+use Rattle.ud_model.specs.conditions.Values.{truth, name_value_by, name_value, name_has_u, defined_value, has_unsigned}
 use Rattle.ud_model.specs.conditions.CValues.{Number, signed, IsInRange, typed, CValue, IsCValue}
 use Rattle.ud_model.specs.conditions.CValues as may
 use Rattle.ud_model.specs.conditions.Choices.{Choice, IsAllowed, HasValue, of_constant, of_name, of_defined, of_unary, of_binary, of_and_left, of_and_both, of_or_left, of_or_both, of_parens}

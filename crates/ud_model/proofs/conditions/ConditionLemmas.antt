@@ -1,15 +1,12 @@
 -- Conditions: tables with the same entry for every name decide alike.
-use Rattle.std.proofs.Common.{◌≡◌, ℕ, List, Bool, false, ◌&&◌, ◌||◌, Option, Some, None, is_some, refl, ◌∙◌, ap, ap₂, arith}
-use Rattle.ud_model.specs.sections.Directives.{role_of, test_of}
+use Rattle.std.proofs.Common.{◌≡◌, ℕ, List, Bool, ◌&&◌, ◌||◌, Option, is_some, refl, ◌∙◌, ap, ap₂, arith}
 use Rattle.ud_model.specs.conditions.Table.{Argument, Entry}
 use Rattle.ud_model.specs.conditions.Expressions.{Expression, constant, named, is_defined, unary, binary, parens}
 use Rattle.ud_model.specs.aids.Parsing.{expression_of}
 use Rattle.ud_model.specs.conditions.Values.{apply_unary, apply_binary, name_value, name_value_by, name_has_u, end_has_u, defined_value, defined_value_by, number_of, has_unsigned, value_of}
-use Rattle.ud_model.specs.conditions.Conditions.{Rules, mentions_listed, undefined_by, calls_undefined, tree_cond, tree_cond_if, expression_cond, decision_by_test, begins_section, condition_of, Decision, sole_name, ifdef_by, ifdef_decision, negate}
-use Rattle.ud_model.specs.declared.cond.Cond.{Cond}
+use Rattle.ud_model.specs.conditions.Conditions.{Rules, mentions_listed, undefined_by, calls_undefined, tree_cond, tree_cond_if, expression_cond, decision_by_test, condition_of, ifdef_decision}
 use Rattle.ud_model.specs.declared.kind.Kind.{Kind}
 use Rattle.ud_model.specs.declared.kind.Test.{Test}
-use Rattle.ud_model.specs.declared.kind.Test.TheVariants.{Nonzero, Defined, Undefined, Nothing}
 use Rattle.ud_model.proofs.conditions.SymbolLemmas.{SaySame, end_same}
 
 module _ (t u : List Argument) (same : SaySame t u) where

@@ -1,19 +1,18 @@
 -- Decided conditions: the condition of a text is that of its tree, and a decided condition has C's
 -- truth.
-use Rattle.std.proofs.Common.{◌≡◌, ◌≢◌, ℕ, List, [], Bool, true, false, not, ◌||◌, if◌then◌else◌, Option, Some, None, refl, sym, ◌∙◌, ap, ℤ, pos, arith}
+use Rattle.std.proofs.Common.{◌≡◌, ◌≢◌, ℕ, List, [], Bool, true, false, if◌then◌else◌, Option, Some, None, refl, ap, ℤ, pos, arith}
 use Rattle.std.proofs.lemmas.Bool.{false≢true}
-use Rattle.ud_model.specs.conditions.Table.{Argument, Entry, entry_in}
+use Rattle.ud_model.specs.conditions.Table.{Argument}
 use Rattle.ud_model.specs.conditions.Expressions.{Expression, IsWritten}
 use Rattle.ud_model.specs.aids.Parsing.{expression_of}
-use Rattle.ud_model.specs.conditions.Values.{is_zero, value_of}
-use Rattle.ud_model.specs.conditions.Conditions.{Rules, mentions_listed, calls_undefined, truth_of, tree_cond, tree_cond_if, expression_cond, sole_name, ifdef_by, ifdef_decision, negate, decision_by_test}
+use Rattle.ud_model.specs.conditions.Values.{is_zero}
+use Rattle.ud_model.specs.conditions.Conditions.{Rules, truth_of, tree_cond, tree_cond_if, expression_cond, negate, decision_by_test}
 use Rattle.ud_model.specs.conditions.Names.{names_in, names_in_tree, names_of}
 use Rattle.ud_model.specs.conditions.CValues.{Number, number, IsCValue}
 use Rattle.ud_model.specs.declared.cond.Cond.{Cond}
 use Rattle.ud_model.specs.declared.cond.Cond.TheVariants.{Yes, No, Unknown}
 use Rattle.ud_model.specs.declared.kind.Kind.TheVariants.{If}
 use Rattle.ud_model.specs.declared.kind.Test.{Test}
-use Rattle.ud_model.specs.declared.kind.Test.TheVariants.{Nonzero, Defined, Undefined, Nothing}
 use Rattle.ud_model.proofs.conditions.OneExpression.{expression_only, expression_is}
 use Rattle.ud_model.proofs.conditions.KnownNumbers.{zero_decides}
 use Rattle.ud_model.proofs.conditions.KnownStays.{known_stays}

@@ -1,7 +1,7 @@
 -- Kept tokens: the flags choose the tokens of the residual.
 use Rattle.std.proofs.Common.{◌≡◌, Bool, true, false, not, ◌&&◌, if◌then◌else◌, List, [], ◌∷◌, ◌++◌, map, refl, sym, ◌∙◌, ap, ap₂, arith}
 use Rattle.ud_model.specs.conditions.Table.{Argument}
-use Rattle.ud_model.specs.conditions.Tokens.{operator, opening, closing}
+use Rattle.ud_model.specs.conditions.Tokens.{operator}
 use Rattle.ud_model.specs.conditions.Expressions.{Expression, constant, named, is_defined, unary, binary, parens, spelling}
 use Rattle.ud_model.specs.conditions.Conditions.{Rules}
 use Rattle.ud_model.specs.conditions.Residuals.{Residual, is_unit, settled, stands_alone, residual}
@@ -58,10 +58,7 @@ joined_choose false true o c x y e f xs ys p q = record {
   long = same_both xs (false ∷ all_flags false f) (spelling e) (operator o ∷ spelling f) p.long (same_all false (spelling f));
   are = chosen_both xs (false ∷ all_flags false f) (spelling e) (operator o ∷ spelling f) p.long ∙ ap₂ (λ us vs. us ++ vs) p.are (chosen_none (spelling f)) ∙ to_nil (spelling x.tree);
 }
-joined_choose false false o c x y e f xs ys p q = record {
-  long = same_both xs (true ∷ ys) (spelling e) (operator o ∷ spelling f) p.long q.long;
-  are = chosen_both xs (true ∷ ys) (spelling e) (operator o ∷ spelling f) p.long ∙ ap₂ (λ us vs. us ++ operator o ∷ vs) p.are q.are;
-}
+joined_choose false false o c x y e f xs ys p q = grind (arith, same_both, chosen_both)
 
 enclosed_choose : (b : Bool) (x : Residual) (e : Expression) (xs : List Bool) → Chooses xs e x.tree →
     Chooses (not b ∷ xs ++ not b ∷ []) (parens e) (if b then x else record x { tree = parens x.tree }).tree

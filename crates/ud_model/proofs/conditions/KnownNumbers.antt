@@ -3,20 +3,14 @@
 -- Between two numbers of intmax_t this is how C defines its results. Beside one of uintmax_t no
 -- known number is below 0 or above 2^63-1, and modulo 2^64 such a result is itself. That is what
 -- the least number is for.
-use Rattle.std.proofs.Common.{◌≡◌, ◌≢◌, ℕ, zero, suc, ◌+◌, ◌-◌, ◌*◌, ◌/◌, ◌%◌, ◌^◌, ◌<◌, ◌≤◌, Bool, true, false, not, ◌&&◌, if◌then◌else◌, Option, Some, None, refl, sym, ◌∙◌, ap, subst, inl, inr, arith, ℤ, pos, negsuc, ◌-ℤ◌, neg_ℤ, ◌<ℤ◌, ◌≤ℤ◌, int_lt, int_le, int_div, bit_and, bit_or, bit_xor, Decides, T, leb, ltb, nat_eq, unsigned_abs}
-use Rattle.std.specs.Int.{cast_signed, cast_unsigned}
-use Rattle.std.proofs.lemmas.Option.{none-some, same_Some}
+use Rattle.std.proofs.Common.{◌≡◌, ◌≢◌, ℕ, ◌^◌, ◌<◌, Bool, true, not, if◌then◌else◌, Option, Some, None, refl, sym, ◌∙◌, ap, subst, arith, ℤ, pos, ◌<ℤ◌, ◌≤ℤ◌, int_lt, int_le, int_div, Decides, T}
+use Rattle.std.specs.Int.{cast_unsigned}
 use Rattle.std.proofs.lemmas.Bool.{false≢true}
-use Rattle.std.proofs.lemmas.Bool.Decides.{Decides-ltb, Decides-eqb, leb_tells}
-use Rattle.std.proofs.lemmas.Nat.{and_le_l, or_lt, xor_lt}
-use Rattle.std.proofs.lemmas.Int.{to_z_pos}
-use Rattle.std.proofs.Math.Nat.{mod-eq_of_lt, add-mul-mod_self_right}
-use Rattle.std.proofs.Math.Facts.{to_z-neg}
 use mir.Syntax.{w64}
 use Rattle.ud_model.specs.conditions.Values.{fits, fit, truth, is_zero, equal_numbers, apply_binary_known, apply_unary_known}
 use Rattle.ud_model.specs.conditions.CValues.{GivesUnary, Number, signed, unsigned, number, IsTruth, GivesSigned, GivesUnsigned, Gives}
 use Rattle.ud_model.specs.declared.operator.Operator.{Operator}
-use Rattle.ud_model.specs.declared.operator.Operator.TheVariants.{Or, And, BitOr, BitXor, BitAnd, Equal, NotEqual, Less, LessEqual, Greater, GreaterEqual, Plus, Minus, Times, Over, Remainder, Not, Complement}
+use Rattle.ud_model.specs.declared.operator.Operator.TheVariants.{BitOr, BitXor, BitAnd, Equal, NotEqual, Less, LessEqual, Greater, GreaterEqual, Plus, Minus, Times, Over, Remainder}
 
 -- A C value agrees with a known one: it is the same number, in range, and of uintmax_t only beside
 -- a `u`.

@@ -4,21 +4,18 @@
 -- operator on two known operands is one on numbers (KnownNumbers). A value with an unknown operand
 -- is known only if the other one decides `&&` or `||`. C then gives the same value, whichever
 -- operand decides it there.
-use Rattle.std.proofs.Common.{◌≡◌, ℕ, ◌^◌, ◌<◌, ◌≤◌, Bool, true, false, not, ◌&&◌, ◌||◌, if◌then◌else◌, List, [], ◌∷◌, Option, Some, None, is_some, ◌==◌, refl, sym, ◌∙◌, ap, subst, inl, inr, arith, ℤ, pos, negsuc, neg_ℤ, nat_lt}
-use Rattle.std.specs.Int.{cast_unsigned}
+use Rattle.std.proofs.Common.{◌≡◌, ℕ, ◌^◌, ◌≤◌, Bool, true, false, not, ◌&&◌, ◌||◌, if◌then◌else◌, List, Option, Some, None, refl, sym, ◌∙◌, ap, arith, ℤ, pos, nat_lt}
 use Rattle.std.proofs.lemmas.Option.{none-some, same_Some}
 use Rattle.std.proofs.lemmas.Bool.{false≢true, or_left, or_right}
-use Rattle.std.proofs.lemmas.Bool.Decides.{Decides-ltb}
-use mir.Syntax.{w64}
 use Rattle.ud_model.specs.conditions.Table.{Argument, Entry, entry_in}
-use Rattle.ud_model.specs.conditions.Constants.{has_u, is_constant, constant_number}
+use Rattle.ud_model.specs.conditions.Constants.{has_u, constant_number}
 use Rattle.ud_model.specs.conditions.Symbols.{resolve}
 use Rattle.ud_model.specs.conditions.Expressions.{Expression}
-use Rattle.ud_model.specs.conditions.Values.{fits, truth, is_zero, apply_binary_known, short_circuit, short_circuits, apply_binary, apply_unary, limited, constant_value, negated_value, text_value, end_value, defined_name_value, name_value_by, name_value, name_has_u, defined_value_by, defined_value, number_of, has_unsigned, value_of}
-use Rattle.ud_model.specs.conditions.CValues.{Number, signed, unsigned, number, IsTruth, IsZero, Gives, GivesUnary, IsConstantValue, plain, by_suffix, by_size, typed, CValue, of_constant, of_known_name, of_open_name, of_known_defined, of_open_defined, of_unary, of_binary, of_and_left, of_and_both, of_or_left, of_or_both, of_parens, IsCValue}
+use Rattle.ud_model.specs.conditions.Values.{fits, truth, is_zero, apply_binary_known, short_circuits, apply_binary, apply_unary, limited, constant_value, name_value_by, name_value, defined_value_by, defined_value, number_of, has_unsigned, value_of}
+use Rattle.ud_model.specs.conditions.CValues.{Number, signed, number, IsTruth, IsZero, Gives, GivesUnary, IsConstantValue, plain, by_suffix, by_size, typed, CValue, of_constant, of_known_name, of_open_name, of_known_defined, of_open_defined, of_unary, of_binary, of_and_left, of_and_both, of_or_left, of_or_both, of_parens, IsCValue}
 use Rattle.ud_model.specs.declared.operator.Operator.{Operator}
 use Rattle.ud_model.specs.declared.operator.Operator.TheVariants.{Or, And}
-use Rattle.ud_model.proofs.conditions.KnownNumbers.{Agrees, agrees_number, fit_is, truth_agrees, not_decides, zero_agrees, gives_agrees, changes_agrees}
+use Rattle.ud_model.proofs.conditions.KnownNumbers.{Agrees, agrees_number, truth_agrees, not_decides, zero_agrees, gives_agrees, changes_agrees}
 
 -- A known number agrees with this C value.
 abbrev pub Knows : Bool → Option ℤ → Number → Type 0
@@ -140,8 +137,7 @@ module _ (table : List Argument) (strict u : Bool) where
   -- Each known value of a tree agrees with each C value that it may have.
   pub known : {e : Expression} {c : Number} → CValue table u e c → (has_unsigned table e ≡ true → u ≡ true) → Knows u (number_of table strict u e) c
   known (of_constant {w = w} {c = c} p) v = constant_known u w c p v
-  known (of_known_name {n = name} {z = z} p) v = λ n e.
-      subst (λ m. Agrees u m (typed (name_has_u table name) z)) (same_Some z n (sym p ∙ e)) (typed_known u (name_has_u table name) z v (name_fits table u name z p))
+  known (of_known_name {n = name} {z = z} p) v = grind (arith, same_Some, typed_known, name_fits)
   known (of_open_name p r) v = λ n e. absurd (none-some n (sym p ∙ e))
   known (of_known_defined {n = name} {z = z} p) v = λ n e. defined_known table u name z n p e
   known (of_open_defined p r) v = λ n e. absurd (none-some n (sym p ∙ e))

@@ -1,23 +1,21 @@
 -- Conditions: two tables decide a condition alike if they have the same entry for each of its
 -- names, and for those to which these lead.
-use Rattle.std.proofs.Common.{◌≡◌, ℕ, List, [], Bool, true, false, not, ◌&&◌, ◌||◌, Option, Some, None, is_some, if◌then◌else◌, refl, sym, ◌∙◌, ap, ap₂, arith}
+use Rattle.std.proofs.Common.{◌≡◌, ℕ, List, [], Bool, true, not, ◌&&◌, ◌||◌, Option, Some, None, is_some, if◌then◌else◌, refl, sym, ◌∙◌, ap, ap₂, arith}
 use Rattle.ud_model.specs.text.Bytes.{is_identifier}
 use Rattle.ud_model.specs.text.Scans.{Scan, Reading}
-use Rattle.ud_model.specs.sections.Directives.{Directive, Content, cut_keyword, directive, text, role_of, test_of}
+use Rattle.ud_model.specs.sections.Directives.{Directive, Content}
 use Rattle.ud_model.specs.conditions.Table.{Argument, Entry, entry_in}
 use Rattle.ud_model.specs.conditions.Symbols.{defined_text, text_in, ResolvesTo, at_text, by_name, resolve}
 use Rattle.ud_model.specs.conditions.Expressions.{Expression, constant, named, is_defined, unary, binary, parens}
 use Rattle.ud_model.specs.aids.Parsing.{expression_of}
 use Rattle.ud_model.specs.conditions.Values.{apply_unary, apply_binary, name_value, name_value_by, name_has_u, end_has_u, defined_value, defined_value_by, number_of, has_unsigned, value_of}
-use Rattle.ud_model.specs.conditions.Conditions.{Rules, mentions_listed, undefined_by, calls_undefined, tree_cond, tree_cond_if, expression_cond, decision_by_test, begins_section, condition_of, decision_on, Decision, sole_name, ifdef_by, ifdef_decision, negate, undecided}
+use Rattle.ud_model.specs.conditions.Conditions.{Rules, mentions_listed, undefined_by, calls_undefined, tree_cond, tree_cond_if, expression_cond, decision_by_test, condition_of, decision_on, Decision, ifdef_by, ifdef_decision, undecided}
 use Rattle.ud_model.specs.conditions.Names.{names_in, names_in_tree, name_alone, names_by, names_of, names_on}
-use Rattle.ud_model.specs.sections.Items.{Options, rules_of, item_by, directive_item}
+use Rattle.ud_model.specs.sections.Items.{Options, rules_of, item_by}
 use Rattle.ud_model.specs.answer.Listing.{names_in_content}
 use Rattle.ud_model.specs.output.ListedNames.{LeadsTo, itself, by_value}
-use Rattle.ud_model.specs.declared.cond.Cond.{Cond}
 use Rattle.ud_model.specs.declared.kind.Kind.{Kind}
 use Rattle.ud_model.specs.declared.kind.Test.{Test}
-use Rattle.ud_model.specs.declared.kind.Test.TheVariants.{Nonzero, Defined, Undefined, Nothing}
 use Rattle.ud_model.proofs.output.Each.{Each, each_parts}
 use Rattle.ud_model.proofs.conditions.SymbolLemmas.{end_found, end_is, same_by}
 

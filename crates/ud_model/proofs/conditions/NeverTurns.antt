@@ -1,17 +1,16 @@
 -- Further symbols: a table with more entries leaves a known value as it is, or makes it unknown.
-use Rattle.std.proofs.Common.{◌≡◌, ◌≢◌, ℕ, List, [], ◌∷◌, Bool, true, false, not, ◌&&◌, ◌||◌, ◌==◌, Option, Some, None, if◌then◌else◌, ◌⊎◌, inl, inr, ℤ, pos, ◌+ℤ◌, ◌-ℤ◌, ◌*ℤ◌, neg_ℤ, int_div, int_rem, bit_and, bit_or, bit_xor, refl, sym, ◌∙◌, ap, ap₂, subst, arith}
+use Rattle.std.proofs.Common.{◌≡◌, ◌≢◌, ℕ, List, Bool, true, false, not, ◌&&◌, ◌||◌, Option, Some, None, if◌then◌else◌, ◌⊎◌, inl, inr, ℤ, pos, refl, sym, ◌∙◌, ap, ap₂, subst, arith}
 use Rattle.std.proofs.lemmas.Option.{none-some}
 use Rattle.ud_model.specs.conditions.Table.{Argument, Entry, entry_in}
-use Rattle.ud_model.specs.conditions.Constants.{is_constant}
 use Rattle.ud_model.specs.conditions.Symbols.{defined_text, text_in, ResolvesTo, at_text, by_name, resolve}
 use Rattle.ud_model.specs.conditions.Expressions.{Expression, constant, named, is_defined, unary, binary, parens}
-use Rattle.ud_model.specs.conditions.Values.{fits, fit, truth, is_zero, by_bits, apply_binary_known, short_circuit, short_circuits, apply_binary, apply_unary_known, apply_unary, constant_value, negated_value, text_value, end_value, defined_name_value, name_value_by, name_value, defined_value_by, defined_value, number_of, has_unsigned, value_of}
-use Rattle.ud_model.specs.conditions.Conditions.{Rules, mentions_listed, calls_undefined, truth_of, tree_cond}
+use Rattle.ud_model.specs.conditions.Values.{truth, is_zero, apply_binary_known, short_circuit, short_circuits, apply_binary, apply_unary_known, apply_unary, constant_value, end_value, defined_name_value, name_value_by, name_value, defined_value_by, defined_value, number_of, has_unsigned, value_of}
+use Rattle.ud_model.specs.conditions.Conditions.{Rules, truth_of, tree_cond}
 use Rattle.ud_model.specs.output.ListedNames.{ExtendsTable}
 use Rattle.ud_model.specs.declared.cond.Cond.{Cond}
 use Rattle.ud_model.specs.declared.cond.Cond.TheVariants.{Unknown}
 use Rattle.ud_model.specs.declared.operator.Operator.{Operator}
-use Rattle.ud_model.specs.declared.operator.Operator.TheVariants.{Or, And, BitOr, BitXor, BitAnd, Equal, NotEqual, Less, LessEqual, Greater, GreaterEqual, Plus, Minus, Times, Over, Remainder, Not, Complement}
+use Rattle.ud_model.specs.declared.operator.Operator.TheVariants.{Or, And}
 use Rattle.ud_model.proofs.conditions.SymbolLemmas.{end_found, end_is}
 
 -- The value stays, or is unknown.

@@ -1,5 +1,5 @@
 -- One expression: the computed tree of a text is the one that the text has, and there is no other.
-use Rattle.std.proofs.Common.{◌≡◌, ℕ, List, [], Option, Some, None, refl, sym, ◌∙◌, ap, subst, arith}
+use Rattle.std.proofs.Common.{◌≡◌, ℕ, List, [], Option, Some, None, refl, sym, ◌∙◌, subst, arith}
 use Rattle.std.proofs.lemmas.Option.{none-some, same_Some}
 use Rattle.ud_model.specs.conditions.Tokens.{Token, AreTokens}
 use Rattle.ud_model.specs.conditions.Expressions.{Expression, spelling, HasPrecedence, IsWritten}

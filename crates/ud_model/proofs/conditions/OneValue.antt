@@ -1,11 +1,10 @@
 -- One value: by the numbers for its uses of names an expression has one value at most.
-use Rattle.std.proofs.Common.{◌≡◌, ℕ, List, refl, sym, ◌∙◌, subst, inl, inr, ℤ, arith}
-use Rattle.std.proofs.lemmas.Bool.{false≢true}
+use Rattle.std.proofs.Common.{◌≡◌, ℕ, List, refl, sym, subst, arith}
 use Rattle.ud_model.specs.conditions.Expressions.{Expression}
-use Rattle.ud_model.specs.conditions.CValues.{Number, signed, unsigned, IsTruth, IsZero, GivesSigned, GivesUnsigned, Gives, GivesUnary, IsConstantValue, plain, by_suffix, by_size, as_unsigned}
+use Rattle.ud_model.specs.conditions.CValues.{Number, IsTruth, IsZero, Gives, GivesUnary, IsConstantValue}
 use Rattle.ud_model.specs.conditions.Choices.{Choice, HasValue, of_constant, of_name, of_defined, of_unary, of_binary, of_and_left, of_and_both, of_or_left, of_or_both, of_parens}
 use Rattle.ud_model.specs.declared.operator.Operator.{Operator}
-use Rattle.ud_model.specs.declared.operator.Operator.TheVariants.{Or, And, BitOr, BitXor, BitAnd, Equal, NotEqual, Less, LessEqual, Greater, GreaterEqual, Plus, Minus, Times, Over, Remainder, Not, Complement}
+use Rattle.ud_model.specs.declared.operator.Operator.TheVariants.{Or, And}
 
 one_truth : (Holds : Type 0) (c d : Number) → IsTruth Holds c → IsTruth Holds d → c ≡ d
 one_truth Holds c d h g = grind arith

@@ -1,11 +1,9 @@
 -- Complete: the tokens of a tree are parsed as that tree.
-use Rattle.std.proofs.Common.{◌≡◌, ℕ, ◌+◌, ◌<◌, ◌≤◌, List, [], ◌∷◌, ◌++◌, Bool, true, false, IsTrue, if◌then◌else◌, leb, Some, refl, sym, ◌∙◌, ap, ap₂, append_assoc, append-nil, inl, inr, arith}
-use Rattle.std.proofs.lemmas.Bool.Decides.{leb_tells}
-use Rattle.ud_model.specs.conditions.Tokens.{Token, number, name, defined, operator, opening, closing}
-use Rattle.ud_model.specs.conditions.Expressions.{Expression, constant, named, is_defined, unary, binary, parens, precedence, is_prefix, spelling, HasPrecedence}
-use Rattle.ud_model.specs.aids.Parsing.{Meaning, meaning, Frame, left, before, paren, Below, needs, has, stuck, reduce, close, wait, alone, parse_tokens, itself}
+use Rattle.std.proofs.Common.{◌≡◌, ℕ, ◌+◌, ◌≤◌, List, [], ◌∷◌, ◌++◌, true, false, Some, refl, sym, ◌∙◌, ap, ap₂, append_assoc, append-nil, arith}
+use Rattle.ud_model.specs.conditions.Tokens.{Token, operator, closing}
+use Rattle.ud_model.specs.conditions.Expressions.{Expression, constant, named, is_defined, unary, binary, parens, precedence, spelling, HasPrecedence}
+use Rattle.ud_model.specs.aids.Parsing.{Meaning, meaning, Frame, left, before, paren, Below, needs, has, parse_tokens, itself}
 use Rattle.ud_model.specs.declared.operator.Operator.{Operator}
-use Rattle.ud_model.specs.declared.operator.Operator.TheVariants.{Or, And, BitOr, BitXor, BitAnd, Equal, NotEqual, Less, LessEqual, Greater, GreaterEqual, Plus, Minus, Times, Over, Remainder, Not, Complement}
 
 -- No operator tighter than precedence `k` comes next.
 abbrev pub Stops : ℕ → List Token → Type 0
@@ -29,18 +27,9 @@ stops_ten : (ts : List Token) → Stops 10 ts
 stops_ten ts = grind arith
 
 module _ {A : Type 0} (m : Meaning A) where
-
-  -- A prefix operator takes its operand whatever comes next.
-  take_before : (o : Operator) (x : A) (s : List (Frame A)) (ts : List Token) → parse_tokens m (has x (before o ∷ s)) ts ≡ parse_tokens m (has (m.unary o x) s) ts
-  take_before o x s [] = refl
-  take_before _ _ _ _ = refl
-
   -- An operator takes its right operand if no tighter one comes next.
   take_left : (o : Operator) (a x : A) (s : List (Frame A)) (ts : List Token) → Stops (precedence o) ts → parse_tokens m (has x (left o a ∷ s)) ts ≡ parse_tokens m (has (m.binary o a x) s) ts
   take_left o a x s ts h = grind arith
-
-  prefix_step : (o : Operator) (s : List (Frame A)) (ts : List Token) → IsTrue (is_prefix o) → parse_tokens m (needs s) (operator o ∷ ts) ≡ parse_tokens m (needs (before o ∷ s)) ts
-  prefix_step o s ts h = ap (λ (t : Bool). parse_tokens m (if t then needs (before o ∷ s) else stuck) ts) h
 
   wait_step : (o : Operator) (x : A) (s : List (Frame A)) (ts : List Token) → 1 ≤ precedence o → Below (precedence o) s →
       parse_tokens m (has x s) (operator o ∷ ts) ≡ parse_tokens m (needs (left o x ∷ s)) ts
@@ -54,9 +43,7 @@ module _ {A : Type 0} (m : Meaning A) where
   complete (is_defined n false) k l i s b ts h = refl
   complete (is_defined n true) k l i s b ts h = refl
   complete (unary o a) k l i s b ts h =
-      prefix_step o s (spelling a ++ ts) i.0
-      ∙ complete a 10 (omega arith) i.1 (before o ∷ s) (omega arith) ts (stops_ten ts)
-      ∙ take_before o (meaning m a) s ts
+      grind (arith, complete a 10 (omega arith) i.1 (before o ∷ s) (omega arith) ts (stops_ten ts))
   complete (binary o a b) k l i s f ts h =
       let more : 1 ≤ precedence o = let d : k ≤ precedence o = i.0 in omega arith in
       let under : Below (precedence o) s = below_more k (precedence o) s i.0 f in
@@ -67,8 +54,7 @@ module _ {A : Type 0} (m : Meaning A) where
       ∙ complete b (precedence o + 1) (omega arith) i.2 (left o (meaning m a) ∷ s) (omega arith) ts (stops_more (precedence o) (precedence o + 1) ts (omega arith) stop)
       ∙ take_left o (meaning m a) (meaning m b) s ts stop
   complete (parens a) k l i s b ts h =
-      ap (λ us. parse_tokens m (needs (paren ∷ s)) us) (append_assoc (spelling a) (closing ∷ []) ts)
-      ∙ complete a 1 (omega arith) i (paren ∷ s) tt (closing ∷ ts) tt
+      grind (arith, append_assoc, complete a 1 (omega arith) i (paren ∷ s) tt (closing ∷ ts) tt)
 
   -- The tokens of an expression alone give its meaning.
   pub complete_alone : (e : Expression) → HasPrecedence 1 e → parse_tokens m (needs []) (spelling e) ≡ Some (meaning m e)

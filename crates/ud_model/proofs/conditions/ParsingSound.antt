@@ -1,11 +1,11 @@
 -- Sound: tokens that are parsed as a tree are the tokens of this tree.
 --
 -- The tokens so far are those of the state: of the stack, and of the operand that has come.
-use Rattle.std.proofs.Common.{◌≡◌, ℕ, ◌+◌, ◌<◌, ◌≤◌, List, [], ◌∷◌, ◌++◌, Bool, true, false, IsTrue, if◌then◌else◌, leb, Some, refl, sym, ◌∙◌, ap, subst, append_assoc, append-nil, inl, inr, arith}
-use Rattle.std.proofs.lemmas.Option.{none-some, same_Some}
+use Rattle.std.proofs.Common.{◌≡◌, ℕ, ◌+◌, ◌≤◌, List, [], ◌∷◌, ◌++◌, Bool, false, IsTrue, if◌then◌else◌, leb, Some, refl, sym, ◌∙◌, ap, append_assoc, append-nil, arith}
+use Rattle.std.proofs.lemmas.Option.{none-some}
 use Rattle.std.proofs.lemmas.Bool.Decides.{leb_tells}
 use Rattle.ud_model.specs.conditions.Tokens.{Token, number, name, defined, operator, opening, closing}
-use Rattle.ud_model.specs.conditions.Expressions.{Expression, constant, named, is_defined, unary, binary, parens, precedence, is_prefix, spelling, HasPrecedence}
+use Rattle.ud_model.specs.conditions.Expressions.{Expression, unary, binary, parens, precedence, is_prefix, spelling, HasPrecedence}
 use Rattle.ud_model.specs.aids.Parsing.{Frame, left, before, paren, ParseState, needs, has, asks, asks_inside, asks_end, stuck, reduce, close, wait, step, alone, finish, parse_tokens, itself}
 use Rattle.ud_model.specs.declared.operator.Operator.{Operator}
 use Rattle.ud_model.proofs.conditions.ParsingComplete.{level_most}
@@ -67,14 +67,7 @@ reduced j x (left o a ∷ s) f i t =
     left_if (leb j (precedence o)) j o a x s (reduce itself j (binary o a x) s) refl f i t
     (λ l. reduced j (binary o a x) s f.3 (f.2, f.0, i) (l, f.0, i))
 reduced j x (before o ∷ s) f i t =
-    let q : Reduced j (unary o x) s (reduce itself j (unary o x) s) = reduced j (unary o x) s f.1 (f.0, i) (f.0, i) in
-    record {
-      same = q.same ∙ sym (append_assoc (written s) (operator o ∷ []) (spelling x));
-      fits = q.fits;
-      in_hole = q.in_hole;
-      tight = q.tight;
-      further = q.further;
-    }
+    grind (arith, append_assoc, reduced j (unary o x) s f.1 (f.0, i) (f.0, i))
 reduced j x (paren ∷ s) f i t = reduced_here j x (paren ∷ s) f i t (λ h. h)
 
 -- The end of the tokens so far.

@@ -1,7 +1,7 @@
 -- Readings: the meaning of a text in a state is that of the tree that is parsed in that state.
-use Rattle.std.proofs.Common.{◌≡◌, ℕ, List, [], ◌∷◌, Bool, true, false, if◌then◌else◌, leb, Option, Some, None, option_map, refl, ◌∙◌, ap, arith}
-use Rattle.ud_model.specs.conditions.Tokens.{Token, number, name, defined, operator, opening, closing}
-use Rattle.ud_model.specs.conditions.Expressions.{Expression, precedence, is_prefix}
+use Rattle.std.proofs.Common.{◌≡◌, ℕ, List, [], ◌∷◌, Bool, true, false, if◌then◌else◌, leb, Option, option_map, refl, ◌∙◌, ap, arith}
+use Rattle.ud_model.specs.conditions.Tokens.{Token}
+use Rattle.ud_model.specs.conditions.Expressions.{Expression, precedence}
 use Rattle.ud_model.specs.aids.Parsing.{Meaning, meaning, Frame, left, before, paren, ParseState, needs, has, asks, asks_inside, asks_end, stuck, reduce, close, wait, step, alone, finish, parse_tokens, parse_all_tokens, tokens_of, reads, itself, expression_of}
 use Rattle.ud_model.specs.declared.operator.Operator.{Operator}
 

@@ -1,10 +1,10 @@
 -- Reduced trees: a tree that is its own residual has no operand that can be removed.
-use Rattle.std.proofs.Common.{◌≡◌, Bool, true, false, not, ◌&&◌, List, [], ◌∷◌, ◌++◌, refl, subst, arith}
+use Rattle.std.proofs.Common.{◌≡◌, Bool, true, false, not, ◌&&◌, List, [], ◌∷◌, ◌++◌, arith}
 use Rattle.ud_model.specs.conditions.Table.{Argument}
-use Rattle.ud_model.specs.conditions.Expressions.{Expression, constant, named, is_defined, unary, binary, parens}
+use Rattle.ud_model.specs.conditions.Expressions.{Expression, unary, binary, parens}
 use Rattle.ud_model.specs.conditions.Conditions.{Rules}
-use Rattle.ud_model.specs.conditions.Residuals.{is_unit, is_unknown, stands_alone, residual, operands, AreUndecided}
-use Rattle.ud_model.specs.conditions.ResidualTexts.{all_flags, joined_flags, keeps}
+use Rattle.ud_model.specs.conditions.Residuals.{is_unit, is_unknown, stands_alone, residual}
+use Rattle.ud_model.specs.conditions.ResidualTexts.{joined_flags, keeps}
 use Rattle.ud_model.specs.output.LeftOperands.{HasNoUnit, IsReduced}
 use Rattle.ud_model.specs.declared.operator.Operator.TheVariants.{Or, And, Not}
 use Rattle.ud_model.proofs.conditions.ResidualShape.{unknown_is, operands_undecided}

@@ -1,15 +1,14 @@
 -- Residual again: the text of a residual stays as it is.
-use Rattle.std.proofs.Common.{◌≡◌, ◌≤◌, ◌-◌, ℕ, Bool, true, false, ◌&&◌, if◌then◌else◌, List, [], ◌∷◌, ◌++◌, length, map, Option, Some, None, refl, sym, ◌∙◌, ap, ap₂, subst, inl, inr, ◌⊎◌, arith}
+use Rattle.std.proofs.Common.{◌≡◌, ◌≤◌, Bool, true, false, if◌then◌else◌, List, [], ◌∷◌, length, map, Option, Some, None, refl, sym, ◌∙◌, ap, ◌⊎◌, arith}
 use Rattle.std.proofs.lemmas.List.{take-append-drop}
-use Rattle.ud_model.specs.text.Bytes.{skip_white}
 use Rattle.ud_model.specs.text.Lexemes.{Cell, shown}
 use Rattle.ud_model.specs.conditions.Table.{Argument}
-use Rattle.ud_model.specs.conditions.Tokens.{NextToken, at_end, unreadable, found, next_token}
+use Rattle.ud_model.specs.conditions.Tokens.{NextToken, next_token}
 use Rattle.ud_model.specs.conditions.Expressions.{Expression, spelling}
 use Rattle.ud_model.specs.aids.Parsing.{expression_of}
 use Rattle.ud_model.specs.conditions.Conditions.{Rules}
 use Rattle.ud_model.specs.conditions.Residuals.{residual}
-use Rattle.ud_model.specs.conditions.ResidualTexts.{chosen, keeps, ends_operand, gap_left, cells_before, cells_after, left_by, left_from, left_cells, may_go, is_read, simplified_by, simplified_cells}
+use Rattle.ud_model.specs.conditions.ResidualTexts.{chosen, keeps, gap_left, left_by, left_from, simplified_cells}
 use Rattle.ud_model.proofs.conditions.KeptTokens.{SameLength, choose, kept_are}
 use Rattle.ud_model.proofs.conditions.ResidualShape.{again}
 use Rattle.ud_model.proofs.conditions.ResidualRead.{same_or_left, untouched}
@@ -74,8 +73,7 @@ module _ (table : List Argument) (rules : Rules) where
     where
       go : (e : Expression) → (simplified_cells table rules cells ≡ cells) ⊎ (expression_of (map shown (simplified_cells table rules cells)) ≡ Some (rest_of e)) →
           simplified_cells table rules (simplified_cells table rules cells) ≡ simplified_cells table rules cells
-      go e (inl q) = ap (simplified_cells table rules) q
-      go e (inr q) = residual_stays e (simplified_cells table rules cells) q
+      go e h = grind (arith, residual_stays)
 
       by : (o : Option Expression) → expression_of (map shown cells) ≡ o → simplified_cells table rules (simplified_cells table rules cells) ≡ simplified_cells table rules cells
       by None p = ap (simplified_cells table rules) (untouched table rules cells p)

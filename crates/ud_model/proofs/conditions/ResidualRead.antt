@@ -1,11 +1,11 @@
 -- Residual read: a simplified text is read as the residual of its tree, and cells are only removed.
-use Rattle.std.proofs.Common.{◌≡◌, ℕ, zero, suc, ◌-◌, Bool, true, false, not, ◌&&◌, ◌||◌, if◌then◌else◌, List, [], ◌∷◌, ◌++◌, length, map, take, drop, Option, Some, None, bytes_eq, refl, sym, ◌∙◌, ap, ap₂, subst, inl, inr, ◌⊎◌, arith}
+use Rattle.std.proofs.Common.{◌≡◌, ℕ, zero, suc, ◌-◌, Bool, true, not, ◌&&◌, ◌||◌, if◌then◌else◌, List, [], ◌∷◌, ◌++◌, length, map, take, drop, Option, Some, None, bytes_eq, refl, sym, ◌∙◌, ap, ap₂, subst, inl, inr, ◌⊎◌, arith}
 use Rattle.std.proofs.lemmas.Slice.Eq.{bytes_eq-Decides}
 use Rattle.std.proofs.lemmas.Bool.{and_parts}
 use Rattle.ud_model.specs.text.Bytes.{skip_white, are_white}
 use Rattle.ud_model.specs.text.Lexemes.{Cell, shown}
 use Rattle.ud_model.specs.conditions.Table.{Argument}
-use Rattle.ud_model.specs.conditions.Tokens.{Token, number, name, defined, operator, opening, closing, NextToken, at_end, unreadable, found, leading_token, next_token}
+use Rattle.ud_model.specs.conditions.Tokens.{Token, operator, NextToken, found, leading_token, next_token}
 use Rattle.ud_model.specs.conditions.Expressions.{Expression, spelling, IsWritten}
 use Rattle.ud_model.specs.aids.Parsing.{tokens_of, expression_of}
 use Rattle.ud_model.specs.conditions.Conditions.{Rules}
@@ -13,7 +13,7 @@ use Rattle.ud_model.specs.conditions.Residuals.{residual}
 use Rattle.ud_model.specs.conditions.ResidualTexts.{cells_before, cells_after, token_left, left_by, left_from, left_cells, keeps, ends_operand, operator_bytes, same_flag, same_token, same_tokens, are_tokens, begins_word, may_go, is_read, simplified_by, simplified_cells}
 use Rattle.ud_model.specs.conditions.Sublists.{IsSublist, nothing, without, with_same}
 use Rattle.ud_model.specs.declared.operator.Operator.{Operator}
-use Rattle.ud_model.specs.declared.operator.Operator.TheVariants.{Or, And, BitOr, BitXor, BitAnd, Equal, NotEqual, Less, LessEqual, Greater, GreaterEqual, Plus, Minus, Times, Over, Remainder, Not, Complement}
+use Rattle.ud_model.specs.declared.operator.Operator.TheVariants.{Or}
 use Rattle.ud_model.proofs.conditions.TokenLemmas.{tokens_of_are}
 use Rattle.ud_model.proofs.conditions.OneExpression.{expression_only, expression_is}
 use Rattle.ud_model.proofs.conditions.ResidualShape.{precedence_stays, all_of_it, none_of_it}
@@ -68,8 +68,7 @@ module _ (table : List Argument) (rules : Rules) where
     where
       by : (b : Bool) → (may_go table rules e cells && is_read table rules e (left_cells (keeps table rules e) cells)) ≡ b →
           ((if b then left_cells (keeps table rules e) cells else cells) ≡ cells) ⊎ (expression_of (map shown (if b then left_cells (keeps table rules e) cells else cells)) ≡ Some (rest_of e))
-      by true q = inr (written_left e cells p (left_cells (keeps table rules e) cells) (and_parts (may_go table rules e cells) (is_read table rules e (left_cells (keeps table rules e) cells)) q).1)
-      by false q = inl refl
+      by b q = grind (arith, written_left, and_parts)
 
   -- A text without a tree stays.
   pub untouched : (cells : List Cell) → expression_of (map shown cells) ≡ None → simplified_cells table rules cells ≡ cells

@@ -1,9 +1,9 @@
 -- Residual same: a table counts for a residual by its entries alone.
-use Rattle.std.proofs.Common.{◌≡◌, Bool, true, false, not, ◌&&◌, List, [], ◌∷◌, ◌++◌, refl, ap, ap₂}
+use Rattle.std.proofs.Common.{◌≡◌, Bool, true, false, List, ◌∷◌, refl, ap, ap₂, arith}
 use Rattle.ud_model.specs.conditions.Table.{Argument}
 use Rattle.ud_model.specs.conditions.Expressions.{Expression, constant, named, is_defined, unary, binary, parens}
 use Rattle.ud_model.specs.conditions.Conditions.{Rules, tree_cond}
-use Rattle.ud_model.specs.conditions.Residuals.{Residual, is_unit, joined, negated, stands_alone, enclosed, residual}
+use Rattle.ud_model.specs.conditions.Residuals.{Residual, is_unit, joined, negated, enclosed, residual}
 use Rattle.ud_model.specs.conditions.ResidualTexts.{joined_flags, keeps}
 use Rattle.ud_model.specs.declared.cond.Cond.{Cond}
 use Rattle.ud_model.specs.declared.operator.Operator.TheVariants.{Or, And, Not}
@@ -31,6 +31,5 @@ module _ (t u : List Argument) (same : SaySame t u) (rules : Rules) where
   keeps_same (unary Not a) = ap (λ (fs : List Bool). true ∷ fs) (keeps_same a)
   keeps_same (binary And a b) = λ i. joined_flags (is_unit And (residual_same a i).cond) (is_unit And (residual_same b i).cond) a b (keeps_same a i) (keeps_same b i)
   keeps_same (binary Or a b) = λ i. joined_flags (is_unit Or (residual_same a i).cond) (is_unit Or (residual_same b i).cond) a b (keeps_same a i) (keeps_same b i)
-  keeps_same (parens a) = λ i.
-      not ((residual_same a i).lost && stands_alone (residual_same a i).tree) ∷ keeps_same a i ++ not ((residual_same a i).lost && stands_alone (residual_same a i).tree) ∷ []
+  keeps_same (parens a) = grind (arith, residual_same, keeps_same a)
   keeps_same _ = refl

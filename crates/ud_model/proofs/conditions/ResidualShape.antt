@@ -1,6 +1,6 @@
 -- Residual shape: the residual of an expression has only undecided operands, and is its own
 -- residual.
-use Rattle.std.proofs.Common.{◌≡◌, ℕ, ◌+◌, ◌≤◌, Bool, true, false, ◌&&◌, if◌then◌else◌, List, [], ◌∷◌, ◌++◌, refl, sym, ◌∙◌, ap, ap₂, arith}
+use Rattle.std.proofs.Common.{◌≡◌, ℕ, ◌+◌, ◌≤◌, Bool, true, false, ◌&&◌, if◌then◌else◌, List, [], ◌∷◌, ◌++◌, refl, ap, arith}
 use Rattle.std.proofs.lemmas.Bool.{and_parts}
 use Rattle.ud_model.specs.conditions.Table.{Argument}
 use Rattle.ud_model.specs.conditions.Tokens.{operator, opening, closing}
@@ -9,7 +9,7 @@ use Rattle.ud_model.specs.conditions.Conditions.{Rules, tree_cond}
 use Rattle.ud_model.specs.conditions.Residuals.{Residual, is_unit, is_unknown, settled, joined, negated, stands_alone, enclosed, residual, operands, is_undecided, simplified, AreUndecided}
 use Rattle.ud_model.specs.conditions.Sublists.{IsSublist, nothing, without, with_same}
 use Rattle.ud_model.specs.declared.cond.Cond.{Cond}
-use Rattle.ud_model.specs.declared.cond.Cond.TheVariants.{Yes, No, Unknown}
+use Rattle.ud_model.specs.declared.cond.Cond.TheVariants.{Unknown}
 use Rattle.ud_model.specs.declared.operator.Operator.{Operator}
 use Rattle.ud_model.specs.declared.operator.Operator.TheVariants.{Or, And, Not}
 use Rattle.ud_model.proofs.conditions.DecidedConditions.{negated_unknown}
@@ -96,11 +96,9 @@ module _ (table : List Argument) (rules : Rules) where
   pub precedence_stays : (e : Expression) (k : ℕ) → HasPrecedence k e → HasPrecedence k (left table rules e).tree
   precedence_stays (unary Not a) k h = (h.0, precedence_stays a 10 h.1)
   precedence_stays (binary And a b) k h =
-      joined_precedence (is_unit And (left table rules a).cond) (is_unit And (left table rules b).cond) And (settled rules.strict And (left table rules a).cond (left table rules b).cond) (left table rules a) (left table rules b)
-      k h.0 (precedence_stays a 2 h.1) (precedence_stays b 3 h.2)
+      grind (arith, joined_precedence, precedence_stays a 2 h.1, precedence_stays b 3 h.2)
   precedence_stays (binary Or a b) k h =
-      joined_precedence (is_unit Or (left table rules a).cond) (is_unit Or (left table rules b).cond) Or (settled rules.strict Or (left table rules a).cond (left table rules b).cond) (left table rules a) (left table rules b)
-      k h.0 (precedence_stays a 1 h.1) (precedence_stays b 2 h.2)
+      grind (arith, joined_precedence, precedence_stays a 1 h.1, precedence_stays b 2 h.2)
   precedence_stays (parens a) k h = enclosed_precedence ((left table rules a).lost && stands_alone (left table rules a).tree) (left table rules a) k refl (precedence_stays a 1 h)
   precedence_stays _ _ h = h
 

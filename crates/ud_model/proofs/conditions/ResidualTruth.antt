@@ -2,18 +2,16 @@
 --
 -- The proof goes by the way in which the value of the expression comes about. An operand that is
 -- decided has the truth that the table says, so a unit leaves the truth to the other operand.
-use Rattle.std.proofs.Common.{◌≡◌, Bool, true, false, ◌&&◌, if◌then◌else◌, refl, sym, ◌∙◌, subst, inl, inr, ◌⊎◌, ◌↔◌, pos, List, arith}
-use Rattle.std.proofs.lemmas.Bool.{false≢true}
+use Rattle.std.proofs.Common.{◌≡◌, Bool, true, false, if◌then◌else◌, refl, ◌⊎◌, ◌↔◌, pos, List, arith}
 use Rattle.ud_model.specs.conditions.Table.{Argument}
 use Rattle.ud_model.specs.conditions.Expressions.{Expression, constant, named, is_defined, unary, binary, parens}
 use Rattle.ud_model.specs.conditions.Conditions.{Rules, negate}
-use Rattle.ud_model.specs.conditions.Values.{is_zero, truth}
-use Rattle.ud_model.proofs.conditions.KnownNumbers.{zero_decides}
-use Rattle.ud_model.specs.conditions.CValues.{Number, signed, unsigned, number, IsTruth, IsZero, Gives}
-use Rattle.ud_model.specs.conditions.Residuals.{Residual, is_unit, settled, joined, negated, stands_alone, alone, residual}
+use Rattle.ud_model.specs.conditions.Values.{truth}
+use Rattle.ud_model.specs.conditions.CValues.{Number, signed, IsTruth, IsZero, Gives}
+use Rattle.ud_model.specs.conditions.Residuals.{Residual, is_unit, settled, joined, negated, alone, residual}
 use Rattle.ud_model.specs.conditions.Choices.{Choice, for_constant, for_name, for_defined, for_unary, for_binary, IsAllowed, HasValue, of_constant, of_name, of_defined, of_unary, of_binary, of_and_left, of_and_both, of_or_left, of_or_both, of_parens, one_or_both, bare_or_not, stay}
 use Rattle.ud_model.specs.declared.cond.Cond.{Cond}
-use Rattle.ud_model.specs.declared.cond.Cond.TheVariants.{Yes, No, Unknown}
+use Rattle.ud_model.specs.declared.cond.Cond.TheVariants.{Yes, No}
 use Rattle.ud_model.specs.declared.operator.Operator.TheVariants.{Or, And, Not}
 use Rattle.ud_model.proofs.conditions.ChoiceValues.{choice_may}
 use Rattle.ud_model.proofs.conditions.DecidedConditions.{yes_is_true, no_is_false}
@@ -149,8 +147,7 @@ module _ (strict : Bool) (x y : Residual) (m : Choice x.tree) (k : Choice y.tree
     and_both n = by (is_unit And x.cond) (is_unit And y.cond) refl
       where
         no_by : (x.cond ≡ No) ⊎ (y.cond ≡ No) → IsZero c
-        no_by (inl f) = absurd (n (t.no f))
-        no_by (inr f) = (truth_same w c g).1 (s.no f)
+        no_by h = grind arith
 
         by : (b d : Bool) → is_unit And y.cond ≡ d →
             Tells (if b then record y { lost = true } else if d then record x { lost = true } else record { cond = settled strict And x.cond y.cond; tree = binary And x.tree y.tree; lost = false })
@@ -170,8 +167,7 @@ module _ (strict : Bool) (x y : Residual) (m : Choice x.tree) (k : Choice y.tree
     or_both z = by (is_unit Or x.cond) (is_unit Or y.cond) refl
       where
         yes_by : (x.cond ≡ Yes) ⊎ (y.cond ≡ Yes) → IsZero c → ⊥
-        yes_by (inl f) q = t.yes f z
-        yes_by (inr f) q = s.yes f ((truth_same w c g).0 q)
+        yes_by h q = grind arith
 
         by : (b d : Bool) → is_unit Or y.cond ≡ d →
             Tells (if b then record y { lost = true } else if d then record x { lost = true } else record { cond = settled strict Or x.cond y.cond; tree = binary Or x.tree y.tree; lost = false })
@@ -213,5 +209,4 @@ module _ (table : List Argument) (rules : Rules) where
       or_left rules.strict (residual table rules a) (residual table rules b) (stay table rules m) (stay table rules k) x (tells h.0 d) n
   tells h (of_or_both {a = a} {b = b} {m = m} {k = k} {x = x} {y = y} {c = c} d z f g) =
       or_both rules.strict (residual table rules a) (residual table rules b) (stay table rules m) (stay table rules k) x (tells h.0 d) y c (tells h.1 f) g z
-  tells h (of_parens {a = a} {m = m} {c = c} d) =
-      parens_tell ((residual table rules a).lost && stands_alone (residual table rules a).tree) (residual table rules a) (stay table rules m) c (tells h d)
+  tells h (of_parens {a = a} {m = m} {c = c} d) = grind (arith, parens_tell, tells h d)

@@ -1,16 +1,13 @@
 -- Leading white space of a condition means nothing.
-use Rattle.std.proofs.Common.{◌≡◌, ℕ, List, [], ◌∷◌, Option, Some, None, option_map, Bool, true, false, ◌&&◌, if◌then◌else◌, refl, sym, ◌∙◌, ap, arith}
+use Rattle.std.proofs.Common.{◌≡◌, ℕ, List, [], ◌∷◌, Option, Some, None, Bool, true, ◌&&◌, if◌then◌else◌, refl, sym, ◌∙◌, ap, arith}
 use Rattle.ud_model.specs.text.Bytes.{is_white, skip_white, leading_word, skip_word, are_white, is_identifier}
 use Rattle.ud_model.specs.conditions.Table.{Argument}
-use Rattle.ud_model.specs.conditions.Expressions.{Expression, is_defined, unary}
+use Rattle.ud_model.specs.conditions.Expressions.{Expression}
 use Rattle.ud_model.specs.conditions.Tokens.{Token, next_token, leading_token, AreTokens}
 use Rattle.ud_model.specs.aids.Parsing.{tokens_of, reads, parse_all_tokens, itself, needs, expression_of}
-use Rattle.ud_model.specs.conditions.Conditions.{Rules, sole_name, ifdef_decision, negate, expression_cond, tree_cond_if, decision_by_test}
+use Rattle.ud_model.specs.conditions.Conditions.{Rules, sole_name, expression_cond, tree_cond_if, decision_by_test}
 use Rattle.ud_model.specs.output.CSelection.{condition_by_test}
-use Rattle.ud_model.specs.declared.cond.Cond.{Cond}
 use Rattle.ud_model.specs.declared.kind.Test.{Test}
-use Rattle.ud_model.specs.declared.kind.Test.TheVariants.{Nonzero, Defined, Undefined, Nothing}
-use Rattle.ud_model.specs.declared.operator.Operator.TheVariants.{Not}
 use Rattle.ud_model.proofs.conditions.TokenLemmas.{tokens_of_only, tokens_of_are}
 
 past_one : (b : ℕ) (t : List ℕ) → is_white b ≡ true → skip_white (b ∷ t) ≡ skip_white t

@@ -1,9 +1,9 @@
 -- Spliced pieces: a text with splices keeps the cells that it keeps without them.
-use Rattle.std.proofs.Common.{◌≡◌, ℕ, zero, suc, List, [], ◌∷◌, ◌++◌, map, take, drop, Bool, true, false, not, ◌||◌, if◌then◌else◌, refl, ◌∙◌, ap, ap₂, subst, arith}
+use Rattle.std.proofs.Common.{◌≡◌, ℕ, zero, suc, List, [], ◌∷◌, ◌++◌, map, take, drop, Bool, not, ◌||◌, if◌then◌else◌, refl, ap, subst, arith}
 use Rattle.ud_model.specs.text.Bytes.{skip_white, are_white}
 use Rattle.ud_model.specs.text.Lexemes.{Cell, shown}
-use Rattle.ud_model.specs.conditions.Tokens.{NextToken, at_end, unreadable, found, next_token}
-use Rattle.ud_model.specs.conditions.ResidualTexts.{gap_left, cells_before, cells_after, token_left, left_by, left_from, ends_operand}
+use Rattle.ud_model.specs.conditions.Tokens.{NextToken, found, next_token}
+use Rattle.ud_model.specs.conditions.ResidualTexts.{gap_left, token_left, left_by, left_from, ends_operand}
 use Rattle.ud_model.specs.conditions.Sublists.{IsSublist, nothing, without, with_same}
 use Rattle.ud_model.proofs.conditions.ResidualShape.{all_of_it, none_of_it, of_both}
 use Rattle.ud_model.specs.conditions.SplicedTexts.{Piece, cell, splice, cells_among, bytes_among, gap_of, after_gap, token_of, after_token, size_before, white_left, pieces_left, pieces_by, pieces_from}

@@ -1,11 +1,11 @@
 -- Under `-K` a line is the same item, but its condition may be unknown.
-use Rattle.std.proofs.Common.{◌≡◌, ◌≢◌, ℕ, List, Bool, true, false, not, ◌&&◌, Option, Some, None, if◌then◌else◌, refl, sym, ap, subst, arith}
+use Rattle.std.proofs.Common.{◌≡◌, ◌≢◌, ℕ, List, Bool, true, not, ◌&&◌, Option, Some, None, if◌then◌else◌, refl, sym, subst, arith}
 use Rattle.ud_model.specs.text.Scans.{Scan, Reading}
-use Rattle.ud_model.specs.sections.Directives.{Content, Directive, cut_keyword, directive, text, content_of, role_of, test_of}
+use Rattle.ud_model.specs.sections.Directives.{Content, Directive, directive, content_of}
 use Rattle.ud_model.specs.conditions.Table.{Argument}
 use Rattle.ud_model.specs.conditions.Expressions.{Expression}
 use Rattle.ud_model.specs.aids.Parsing.{expression_of}
-use Rattle.ud_model.specs.conditions.Conditions.{Decision, undecided, tree_cond, tree_cond_if, expression_cond, decision_by_test, condition_of, begins_section, decision_on}
+use Rattle.ud_model.specs.conditions.Conditions.{Decision, undecided, tree_cond, tree_cond_if, expression_cond, decision_by_test, condition_of, decision_on}
 use Rattle.ud_model.specs.sections.Tree.{Item, Opener, text_line, if_line, elif_line, else_line, endif_line}
 use Rattle.ud_model.specs.sections.Items.{Options, item_of, item_by, directive_item}
 use Rattle.ud_model.specs.output.StrictLines.{under_strict}
@@ -15,7 +15,7 @@ use Rattle.ud_model.specs.declared.kind.Kind.{Kind}
 use Rattle.ud_model.specs.declared.kind.Role.{Role}
 use Rattle.ud_model.specs.declared.kind.Role.TheVariants.{IfGroup, ElifGroup, ElseGroup, EndifLine}
 use Rattle.ud_model.specs.declared.kind.Test.{Test}
-use Rattle.ud_model.specs.declared.kind.Test.TheVariants.{Nonzero, Defined, Undefined, Nothing}
+use Rattle.ud_model.specs.declared.kind.Test.TheVariants.{Nonzero}
 use Rattle.ud_model.proofs.conditions.StrictLess.{cond_keeps}
 
 -- The conditions are the same, or the first one is unknown.
@@ -87,10 +87,7 @@ role_loose r ElseGroup d e h = an_else
 role_loose r EndifLine d e h = an_endif
 
 content_loose : (o : Options) (r : Reading) (c : Content) → LooserItem (item_by (under_strict o) r c) (item_by o r c)
-content_loose o r (directive d) =
-    role_loose r (role_of d.kind) (decision_on r.scan d o.table (record { constants = o.settings.constants; strict = true }))
-    (decision_on r.scan d o.table (record { constants = o.settings.constants; strict = o.settings.strict }))
-    (decision_loose o.table o.settings.constants o.settings.strict r.scan d)
+content_loose o r (directive d) = grind (arith, role_loose, decision_loose)
 content_loose _ _ _ = a_text
 
 -- Under `-K` a line is the same item, but for an unknown condition.

@@ -1,10 +1,9 @@
 -- Strict: a value that is known under `-K` is known without it, and is the same.
-use Rattle.std.proofs.Common.{◌≡◌, ◌≢◌, List, Bool, true, false, not, ◌||◌, Option, Some, None, if◌then◌else◌, ℤ, refl, ◌∙◌, ap, ap₂, arith}
-use Rattle.std.proofs.lemmas.Option.{none-some}
+use Rattle.std.proofs.Common.{◌≡◌, ◌≢◌, List, Bool, true, false, Option, Some, if◌then◌else◌, ℤ, arith}
 use Rattle.ud_model.specs.conditions.Table.{Argument}
-use Rattle.ud_model.specs.conditions.Expressions.{Expression, constant, named, is_defined, unary, binary, parens}
+use Rattle.ud_model.specs.conditions.Expressions.{Expression, unary, binary, parens}
 use Rattle.ud_model.specs.conditions.Values.{apply_unary, apply_binary, number_of, has_unsigned, value_of}
-use Rattle.ud_model.specs.conditions.Conditions.{mentions_listed, calls_undefined, truth_of, tree_cond}
+use Rattle.ud_model.specs.conditions.Conditions.{truth_of, tree_cond}
 use Rattle.ud_model.specs.declared.cond.Cond.{Cond}
 use Rattle.ud_model.specs.declared.cond.Cond.TheVariants.{Unknown}
 use Rattle.ud_model.specs.declared.operator.Operator.{Operator}

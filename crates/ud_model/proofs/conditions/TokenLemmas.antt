@@ -1,13 +1,11 @@
 -- Tokens: the computed tokens of a text are those of the relation, since each token has a byte at
 -- least.
-use Rattle.std.proofs.Common.{◌≡◌, ℕ, zero, suc, ◌<◌, ◌≤◌, ◌==◌, List, [], ◌∷◌, length, drop, slice_index, Bool, true, false, not, ◌&&◌, if◌then◌else◌, Option, Some, None, bytes_eq, codes, option_map, refl, sym, ◌∙◌, ap, subst, arith, length-drop}
-use Rattle.std.proofs.lemmas.Option.{none-some, same_Some}
-use Rattle.ud_model.specs.text.Bytes.{is_digit, is_word_byte, skip_white, leading_word, skip_word, starts_with_byte}
+use Rattle.std.proofs.Common.{◌≡◌, ℕ, zero, suc, ◌<◌, ◌≤◌, List, [], ◌∷◌, length, drop, slice_index, Bool, true, false, not, ◌&&◌, if◌then◌else◌, Option, Some, None, bytes_eq, codes, option_map, refl, ◌∙◌, ap, subst, arith, length-drop}
+use Rattle.std.proofs.lemmas.Option.{none-some}
+use Rattle.ud_model.specs.text.Bytes.{is_digit, is_word_byte, skip_white, leading_word, skip_word}
 use Rattle.ud_model.specs.conditions.Constants.{is_constant}
-use Rattle.ud_model.specs.conditions.Tokens.{Token, number, name, defined, operator, NextToken, at_end, unreadable, found, after_matching_paren, with_arguments, name_token, has_exponent_sign, word_token, one_or_two_bytes, punctuator, leading_token, next_token, AreTokens}
+use Rattle.ud_model.specs.conditions.Tokens.{Token, number, defined, NextToken, unreadable, found, after_matching_paren, with_arguments, name_token, has_exponent_sign, word_token, punctuator, leading_token, next_token, AreTokens}
 use Rattle.ud_model.specs.aids.Parsing.{prepend_token, tokens_in, tokens_of}
-use Rattle.ud_model.specs.declared.operator.Operator.{Operator}
-use Rattle.ud_model.specs.declared.operator.Operator.TheVariants.{Or, And, BitOr, BitAnd, NotEqual, Less, LessEqual, Greater, GreaterEqual, Not}
 use Rattle.ud_model.proofs.text.ByteLemmas.{length-skip_white}
 
 -- The rest after the token has fewer bytes than `k`.
@@ -26,12 +24,6 @@ shorter_either k b x y p q = grind arith
 shorter_more : (j k : ℕ) (x : NextToken) → j ≤ k → Shorter j x → Shorter k x
 shorter_more j k x l p = grind arith
 
-within_either : (k : ℕ) (b : Bool) (x y : Option (List ℕ)) → Within k x → Within k y → Within k (if b then x else y)
-within_either k b x y p q = grind arith
-
-within_more : (j k : ℕ) (x : Option (List ℕ)) → j ≤ k → Within j x → Within k x
-within_more j k x l p = grind arith
-
 length_either : (k : ℕ) (b : Bool) (x y : List ℕ) → length x ≤ k → length y ≤ k → length (if b then x else y) ≤ k
 length_either k b x y p q = grind arith
 
@@ -43,14 +35,9 @@ past_word_most [] = omega arith
 past_word_most (b ∷ t) = let h : length (skip_word t) ≤ length t = past_word_most t in length_either (suc (length t)) (is_word_byte b) (skip_word t) (b ∷ t) (omega arith) (omega arith)
 
 behind_within : (n : ℕ) (t : List ℕ) → Within (length t) (after_matching_paren n t)
-behind_within zero (b ∷ t) =
-    within_either (suc (length t)) (b == 40) (after_matching_paren 1 t) (if b == 41 then Some t else after_matching_paren 0 t)
-    (within_more (length t) (suc (length t)) (after_matching_paren 1 t) (omega arith) (behind_within 1 t))
-    (within_either (suc (length t)) (b == 41) (Some t) (after_matching_paren 0 t) (omega arith) (within_more (length t) (suc (length t)) (after_matching_paren 0 t) (omega arith) (behind_within 0 t)))
+behind_within zero (b ∷ t) = grind (arith, behind_within 1 t, behind_within 0 t)
 behind_within (suc n) (b ∷ t) =
-    within_either (suc (length t)) (b == 40) (after_matching_paren (suc (suc n)) t) (if b == 41 then after_matching_paren n t else after_matching_paren (suc n) t)
-    (within_more (length t) (suc (length t)) (after_matching_paren (suc (suc n)) t) (omega arith) (behind_within (suc (suc n)) t))
-    (within_either (suc (length t)) (b == 41) (after_matching_paren n t) (after_matching_paren (suc n) t) (within_more (length t) (suc (length t)) (after_matching_paren n t) (omega arith) (behind_within n t)) (within_more (length t) (suc (length t)) (after_matching_paren (suc n) t) (omega arith) (behind_within (suc n) t)))
+    grind (arith, behind_within (suc (suc n)) t, behind_within n t, behind_within (suc n) t)
 behind_within _ [] = tt
 
 with_shorter : (k j : ℕ) (w : List ℕ) (o : Option (List ℕ)) → j < k → Within j o → Shorter k (with_arguments w o)

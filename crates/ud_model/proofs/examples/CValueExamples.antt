@@ -1,7 +1,6 @@
 -- Examples: the values that C may give an expression, computed by the checker.
-use Rattle.std.proofs.Common.{◌≡◌, refl, subst, ℕ, ◌<◌, List, [], ◌∷◌, codes, Some, None, true}
+use Rattle.std.proofs.Common.{◌≡◌, refl, ℕ, List, [], ◌∷◌, codes, Some, None, true}
 use Rattle.std.proofs.Common.{false, Bool, inl, inr, arith, pos, negsuc}
-use Rattle.std.proofs.lemmas.Bool.{false≢true}
 use Rattle.ud_model.specs.conditions.Table.{Argument}
 use Rattle.ud_model.specs.conditions.Constants.{suffix_sign}
 use Rattle.ud_model.specs.conditions.Tokens.{next_token}

@@ -1,16 +1,15 @@
 -- Answers: the laws of runs, stated for arguments, an input and the answer to them.
-use Rattle.std.proofs.Common.{◌≡◌, ◌≢◌, ℕ, List, map, Bool, false, not, bytes_eq, Option, Some, None, refl, ◌∙◌, ap, arith}
+use Rattle.std.proofs.Common.{◌≡◌, ◌≢◌, ℕ, List, map, Bool, false, not, bytes_eq, Option, None, refl, arith}
 use Rattle.ud_model.specs.text.Lines.{lines_of}
 use Rattle.ud_model.specs.text.Scans.{Reading}
 use Rattle.ud_model.specs.sections.Tree.{Nodes, closed}
 use Rattle.ud_model.specs.sections.Faults.{Fault}
 use Rattle.ud_model.specs.answer.CommandLine.{options_of}
-use Rattle.ud_model.specs.answer.Answer.{Answer, IsAnswer, refused, ran, status_by, status_under, status_of, copy_answer}
+use Rattle.ud_model.specs.answer.Answer.{Answer, IsAnswer, refused, ran, status_by, status_of, copy_answer}
 use Rattle.ud_model.specs.output.Worlds.{World, selected}
 use Rattle.ud_model.specs.output.Rereading.{IsPlain, IsTreeOf, LinesFit, line_bytes, KeepsTruths}
 use Rattle.ud_model.specs.output.CSelection.{IsCWorld}
 use Rattle.ud_model.specs.declared.settings.Settings.{Settings}
-use Rattle.ud_model.specs.declared.settings.Listing.{Listing}
 use Rattle.ud_model.specs.declared.settings.Listing.TheVariants.{Off}
 use Rattle.ud_model.proofs.output.Changed.{changed}
 use Rattle.ud_model.proofs.output.RereadLaws.{runs_output, c_selected_again}
@@ -50,7 +49,4 @@ pub answered_status : {args : List (List ℕ)} {input : List ℕ} {a : Answer} �
     a.status ≡ status_by (options_of args).settings.exit_mode (not (bytes_eq a.output input))
 answered_status (refused f e) n k off = absurd (n refl)
 answered_status {args = args} {input = input} (ran r e d) n k off =
-    let none : r.fault ≡ None = faultless (options_of args).settings r.differs r.fault n in
-    ap (λ (f : Option Fault). status_of (options_of args).settings r.differs f) none
-    ∙ ap (λ (q : Listing). status_under q (options_of args).settings.exit_mode r.differs) off
-    ∙ ap (λ (b : Bool). status_by (options_of args).settings.exit_mode b) (changed (options_of args) k off input d none)
+    grind (arith, faultless, changed)

@@ -1,5 +1,5 @@
 -- Under `-b` each line of the output has the position of the line that it is the output for.
-use Rattle.std.proofs.Common.{◌≡◌, ◌≢◌, None, append-nil, ℕ, suc, List, [], ◌∷◌, ◌++◌, length, map, Bool, true, false, ◌⊎◌, inl, inr, Option, refl, sym, ◌∙◌, ap, ap₂, subst, arith}
+use Rattle.std.proofs.Common.{◌≡◌, ◌≢◌, None, append-nil, ℕ, suc, List, [], ◌∷◌, ◌++◌, length, map, Bool, true, ◌⊎◌, inl, inr, Option, refl, sym, ◌∙◌, ap, ap₂, subst, arith}
 use Rattle.std.specs.List.{concat}
 use Rattle.ud_model.specs.text.Lines.{Line, line_at, lines_of, texts_of, numbered_from, ending_of, IsWhole, IsUnterminated, AreWhole, AreFormed, whole_lines, partial_line, last_line}
 use Rattle.ud_model.specs.text.Scans.{Reading}
@@ -15,7 +15,7 @@ use Rattle.ud_model.specs.output.BlankedLines.{complemented_if, blanked, IsBlank
 use Rattle.ud_model.specs.declared.settings.Listing.{Listing}
 use Rattle.ud_model.specs.declared.settings.Listing.TheVariants.{Off}
 use Rattle.ud_model.specs.declared.verdict.Verdict.{Verdict}
-use Rattle.ud_model.specs.declared.verdict.Verdict.TheVariants.{Keep, Remove, ToIf, ToElse, ToEndif}
+use Rattle.ud_model.specs.declared.verdict.Verdict.TheVariants.{Remove}
 use Rattle.ud_model.proofs.text.LinesLemmas.{are_whole, lines_exist, text_of-line_at}
 use Rattle.ud_model.proofs.output.Formed.{IsLeft, ending_none, whole_ending, IsEnd, whole_piece, unended_piece, formed_more, left_line, end_is_some}
 use Rattle.ud_model.proofs.output.Each.{Each}

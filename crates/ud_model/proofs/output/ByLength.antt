@@ -1,5 +1,5 @@
 -- A property of each of three things is one of the thing that is chosen by a keyword's length.
-use Rattle.std.proofs.Common.{ℕ, ◌==◌, Bool, true, false, if◌then◌else◌, arith}
+use Rattle.std.proofs.Common.{ℕ, ◌==◌, Bool, if◌then◌else◌, arith}
 use Rattle.ud_model.specs.answer.Printing.{by_length}
 
 module _ {A : Type 0} (P : A → Type 0) {a b c : A} (x : P a) (y : P b) (z : P c) where

@@ -1,23 +1,21 @@
 -- A decided condition has the truth that C gives it.
-use Rattle.std.proofs.Common.{◌≡◌, ◌≢◌, ℕ, List, Bool, true, false, not, ◌&&◌, Option, Some, None, is_some, option_map, if◌then◌else◌, refl, ap, subst, pos, arith}
+use Rattle.std.proofs.Common.{◌≡◌, ◌≢◌, ℕ, List, Bool, true, false, Option, Some, None, is_some, option_map, if◌then◌else◌, ap, pos, arith}
 use Rattle.ud_model.specs.text.Scans.{Reading}
-use Rattle.ud_model.specs.sections.Directives.{Content, cut_keyword, directive, text, content_of, role_of, test_of}
+use Rattle.ud_model.specs.sections.Directives.{Content, content_of, test_of}
 use Rattle.ud_model.specs.conditions.Table.{Argument, Entry, entry_in}
 use Rattle.ud_model.specs.conditions.Expressions.{Expression, is_defined, unary}
 use Rattle.ud_model.specs.aids.Parsing.{expression_of}
 use Rattle.ud_model.specs.conditions.Values.{truth, is_zero, apply_unary_known, apply_unary, defined_value, defined_value_by, value_of}
-use Rattle.ud_model.specs.conditions.Conditions.{Decision, Rules, undecided, sole_name, ifdef_by, ifdef_decision, negate, tree_cond, tree_cond_if, expression_cond, decision_by_test, condition_of, decision_on}
+use Rattle.ud_model.specs.conditions.Conditions.{Decision, Rules, undecided, ifdef_by, ifdef_decision, negate, tree_cond, tree_cond_if, expression_cond, decision_by_test, condition_of}
 use Rattle.ud_model.specs.conditions.CValues.{Number, number}
 use Rattle.ud_model.specs.output.CSelection.{condition_by_test, condition_after, condition_by, condition_in, HasTruth, MayBe}
-use Rattle.ud_model.specs.sections.Tree.{Item, text_line, if_line, elif_line, else_line, endif_line}
-use Rattle.ud_model.specs.sections.Items.{Options, rules_of, directive_item, item_by, item_of}
+use Rattle.ud_model.specs.sections.Tree.{Item, if_line, elif_line}
+use Rattle.ud_model.specs.sections.Items.{Options, directive_item, item_by, item_of}
 use Rattle.ud_model.specs.declared.cond.Cond.{Cond}
 use Rattle.ud_model.specs.declared.cond.Cond.TheVariants.{Yes, No, Unknown}
 use Rattle.ud_model.specs.declared.kind.Kind.{Kind}
 use Rattle.ud_model.specs.declared.kind.Role.{Role}
-use Rattle.ud_model.specs.declared.kind.Role.TheVariants.{IfGroup, ElifGroup, ElseGroup, EndifLine}
 use Rattle.ud_model.specs.declared.kind.Test.{Test}
-use Rattle.ud_model.specs.declared.kind.Test.TheVariants.{Nonzero, Defined, Undefined, Nothing}
 use Rattle.ud_model.specs.declared.operator.Operator.TheVariants.{Not}
 use Rattle.ud_model.proofs.conditions.DecidedConditions.{yes_is_true, no_is_false}
 use Rattle.ud_model.proofs.conditions.KnownStays.{known_stays}

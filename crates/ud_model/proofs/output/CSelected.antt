@@ -3,7 +3,7 @@
 --
 -- A directive that is decided is edited or removed, if all groups around its section are kept. So
 -- it joins no other line, and its condition ends on its line.
-use Rattle.std.proofs.Common.{◌≡◌, List, [], ◌∷◌, ◌++◌, length, Bool, true, false, not, ◌&&◌, ◌||◌, Option, Some, None, refl, sym, ◌∙◌, ap, subst, length-append, arith}
+use Rattle.std.proofs.Common.{◌≡◌, List, [], ◌∷◌, ◌++◌, length, Bool, true, false, not, ◌&&◌, ◌||◌, Option, None, refl, sym, ◌∙◌, ap, subst, length-append, arith}
 use Rattle.std.proofs.lemmas.Bool.{false_from_ne_true}
 use Rattle.ud_model.specs.text.Scans.{Reading}
 use Rattle.ud_model.specs.declared.cond.Cond.{Cond}
@@ -22,7 +22,7 @@ use Rattle.ud_model.proofs.output.CConditions.{Fits, ItemFits, item_fits}
 use Rattle.ud_model.proofs.output.Changed.{as_many_nodes, as_many_groups, as_many_elifs}
 use Rattle.ud_model.proofs.sections.Growth.{Adds}
 use Rattle.ud_model.proofs.sections.Soundness.{reading_of-item_of, sound_lines}
-use Rattle.ud_model.proofs.sections.Stages.{Stage, leading, given, going, at_true, past, stage, verdict_at, verdict_by_stage}
+use Rattle.ud_model.proofs.sections.Stages.{Stage, stage, verdict_at, verdict_by_stage}
 use Rattle.ud_model.proofs.sections.Stays.{marks_more, length_marks, marks_so_far_same}
 use Rattle.ud_model.proofs.sections.Unique as Trees
 

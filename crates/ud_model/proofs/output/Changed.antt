@@ -1,5 +1,5 @@
 -- Changed: some line of a text differs exactly if the output isn't the input.
-use Rattle.std.proofs.Common.{◌≡◌, ℕ, ◌+◌, ◌≤◌, List, [], ◌∷◌, ◌++◌, length, map, Bool, true, false, not, ◌&&◌, bytes_eq, Option, Some, None, refl, sym, ◌∙◌, ap, ap₂, subst, arith, append-nil, append_assoc, length-append}
+use Rattle.std.proofs.Common.{◌≡◌, ℕ, ◌+◌, ◌≤◌, List, [], ◌∷◌, ◌++◌, length, map, Bool, true, false, not, ◌&&◌, bytes_eq, Option, None, refl, sym, ◌∙◌, ap, ap₂, subst, arith, append-nil, append_assoc, length-append}
 use Rattle.std.specs.List.{concat}
 use Rattle.ud_model.specs.text.Lines.{Line, text_of, texts_of, lines_of}
 use Rattle.ud_model.specs.text.Scans.{Reading}
@@ -10,10 +10,9 @@ use Rattle.ud_model.specs.sections.Tree.{Item, Opener, Nodes, Groups, Elifs, Hea
 use Rattle.ud_model.specs.sections.Items.{Options, reading_of, line_of, mode_after, read_after, next_item}
 use Rattle.ud_model.specs.sections.Pruning.{Mark, Part, an_if, an_elif, an_else, marked, marks, is_kept, endif_verdict, conds_of_elifs, conds_of_groups}
 use Rattle.ud_model.specs.aids.SoFar.{verdict_so_far, nodes_so_far, groups_so_far, elifs_so_far}
-use Rattle.ud_model.specs.sections.Faults.{AreFaultless, no_lines, one_more, end_by, ends_in_comment, last_number}
+use Rattle.ud_model.specs.sections.Faults.{AreFaultless, no_lines, one_more, end_by}
 use Rattle.ud_model.specs.answer.Printing.{Judged, style_of, piece_alone, piece_after, pieces_by, some_other, judged_line, judged_lines, keyword_in, complemented, printed_by, some_differ_by}
-use Rattle.ud_model.specs.answer.Outcomes.{Outcome, HasOutcome, ran_as, output_by, differs_by}
-use Rattle.ud_model.specs.answer.Outcomes.ReadsAs.{stops, ends}
+use Rattle.ud_model.specs.answer.Outcomes.{Outcome, HasOutcome}
 use Rattle.ud_model.specs.declared.cond.Cond.{Cond}
 use Rattle.ud_model.specs.declared.cond.Cond.TheVariants.{Yes}
 use Rattle.ud_model.specs.declared.verdict.Verdict.{Verdict}
@@ -21,7 +20,6 @@ use Rattle.ud_model.specs.declared.verdict.Verdict.TheVariants.{Keep, Remove, To
 use Rattle.ud_model.specs.declared.kind.Mode.{Mode}
 use Rattle.ud_model.specs.declared.kind.Mode.TheVariants.{C, Plain}
 use Rattle.ud_model.specs.declared.settings.Settings.{Settings}
-use Rattle.ud_model.specs.declared.settings.Listing.{Listing}
 use Rattle.ud_model.specs.declared.settings.Listing.TheVariants.{Off}
 use Rattle.ud_model.proofs.output.Each.{Each, each_parts, each_both}
 use Rattle.ud_model.proofs.text.LinesLemmas.{lines_exist, map-numbered_from}
@@ -265,9 +263,7 @@ module _ (o : Options) (n : o.settings.renumber ≡ false) (off : o.settings.lis
   tree_differs : (xs : List (Item Reading)) (t : Tree Reading) → innermost t ≡ None → Each HasKeyword xs → lines t ≡ xs → map line_of xs ≡ lines_of input →
       some_differ_by o.settings xs (marks t) ≡ not (bytes_eq (printed_by o.settings xs (marks t)) input)
   tree_differs xs (open_section ns h t) e k l m = absurd (no_innermost ns t h e)
-  tree_differs xs (closed ns) e k l m =
-      subst (λ (ys : List (Item Reading)). some_differ_by o.settings ys (marks (closed ns)) ≡ not (bytes_eq (printed_by o.settings ys (marks (closed ns))) input)) l
-      (closed_differs o.settings n input ns (subst (λ (ys : List (Item Reading)). Each HasKeyword ys) (sym l) k) (ap (λ (ys : List (Item Reading)). map line_of ys) l ∙ m))
+  tree_differs xs (closed ns) e k l m = grind (arith, closed_differs)
 
   -- Some line differs exactly if the output isn't the input.
   pub changed : {r : Outcome} → HasOutcome o input r → r.fault ≡ None → r.differs ≡ not (bytes_eq r.output input)

@@ -1,6 +1,6 @@
 -- Chosen worlds: the truths that numbers for the uses of the open names give the conditions of the
 -- input are those of the simplified output.
-use Rattle.std.proofs.Common.{◌≡◌, ◌≢◌, ℕ, List, map, length, Bool, Option, Some, None, refl, sym, ◌∙◌, ap, arith}
+use Rattle.std.proofs.Common.{◌≡◌, ◌≢◌, ℕ, List, map, length, Bool, Option, None, refl, sym, ◌∙◌, ap, arith}
 use Rattle.std.proofs.lemmas.List.{length-map}
 use Rattle.ud_model.specs.text.Scans.{Reading}
 use Rattle.ud_model.specs.conditions.Table.{Argument}

@@ -34,7 +34,7 @@ use Rattle.ud_model.proofs.output.RereadLaws.{item_bytes}
 use Rattle.ud_model.proofs.output.RereadMore.{last_removed as last_removed_mark}
 use Rattle.ud_model.proofs.output.Rereads.{Again, Between, Carry, alike, gone, IsLine, start}
 use Rattle.ud_model.proofs.output.RereadStep.{More, the_more, step, plain_run, stayed_alone, goes_or_left, left_stays}
-use Rattle.ud_model.proofs.output.Inserting.{Weave, line_behind, with_line, are_more, put, put_lone, left, left_seen, lines_last, read_once, piece_of, gone_blank, gone_number, left_blank, left_number, removed_last}
+use Rattle.ud_model.proofs.output.Inserting.{Weave, line_behind, with_line, are_more, put, put_lone, left, left_seen, lines_last, read_once, piece_of, gone_blank, gone_number, left_blank, removed_last}
 
 -- 1. The positions at which lines are inserted.
 
@@ -292,8 +292,7 @@ module _ (o : Options) (m : Mode) (b n : Bool) (some : (b || n) ≡ true) where
 
         number_piece : b ≡ false → (r : Bool) → last_removed (so_far xs t) ≡ r →
             piece_of b n (so_far xs t) j ≡ (if r then number_line j.line else []) ++ piece_by j.verdict j.keyword j.line
-        number_piece f r g =
-            ap₂ (λ (c d : Bool). piece_of c d (so_far xs t) j) f (number_by n f refl) ∙ left_number j.verdict (so_far xs t) j.line j.keyword r g h
+        number_piece f r g = grind arith
 
         by_removed : b ≡ false → (r : Bool) → ends_removed (marks t) ≡ r → Ready
         by_removed f true g = ready_number g (number_piece f true (removed_t ∙ g))
@@ -439,8 +438,7 @@ module _ (o : Options) (m : Mode) (b n : Bool) (some : (b || n) ≡ true) where
     }
       where
         nothing_shown : (c : Bool) → b ≡ c → piece_of b n (so_far xs t) j ≡ []
-        nothing_shown true g = ap (λ (c : Bool). piece_of c n (so_far xs t) j) g ∙ gone_blank n (so_far xs t) j f ∙ ap (λ (z : Line). z.ending) line_j ∙ none
-        nothing_shown false g = ap₂ (λ (c d : Bool). piece_of c d (so_far xs t) j) g (number_by n g refl) ∙ gone_number (so_far xs t) j f
+        nothing_shown c g = grind arith
 
     pub next_state : HasEnd l → State (xs ++ x ∷ []) u
     next_state end = by_verdict (goes_or_left v)

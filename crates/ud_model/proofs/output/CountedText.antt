@@ -11,7 +11,6 @@ use Rattle.ud_model.specs.sections.Items.{Options, reading_of, line_of, item_of,
 use Rattle.ud_model.specs.sections.Faults.{Fault, AreFaultless, no_lines, one_more, NoneHolds, cases}
 use Rattle.ud_model.specs.answer.Printing.{Judged, piece_after, pieces_by, judged_lines}
 use Rattle.ud_model.specs.answer.Outcomes.{Outcome, output_by, ReadsAs, JudgedAs, judged_as, HasOutcome, ran_as}
-use Rattle.ud_model.specs.answer.Outcomes.ReadsAs.{stops, ends}
 use Rattle.ud_model.specs.output.Pruned.{printed}
 use Rattle.ud_model.specs.output.Rereading.{IsPlain}
 use Rattle.ud_model.specs.output.InsertedLines.{with_blank_renumber, AddsNumbers, in_mode, read_in, read_as, Counted, CountsLines}
@@ -134,11 +133,7 @@ module _ (o : Options) where
   few_items : {xs : List (Item Reading)} {t : Tree Reading} → AreFaultless o xs t → Each (λ (l : Line). l.number ≤ TEXT_LINES) (map line_of xs)
   few_items no_lines = tt
   few_items (one_more xs t s l u e w) =
-      let same : map line_of (xs ++ next_item o xs t l ∷ []) ≡ map line_of xs ++ l ∷ [] = lines_with_next o xs t l in
-      let f : TEXT_LINES < (line_of (next_item o xs t l)).number → ⊥ = w.0 in
-      let g : (line_of (next_item o xs t l)).number ≡ l.number = ap (λ (k : Line). k.number) (reading_of-next o xs t l) in
-      subst (λ (ls : List Line). Each (λ (k : Line). k.number ≤ TEXT_LINES) ls) (sym same)
-      (each_both (λ (k : Line). k.number ≤ TEXT_LINES) (map line_of xs) (l ∷ []) (few_items s) (omega (arith, f, g), tt))
+      grind (arith, lines_with_next, reading_of-next, each_both, few_items s)
 
 each_line : (js : List Judged) → Each (λ (l : Line). l.number ≤ TEXT_LINES) (map (λ (j : Judged). j.line) js) → Each (λ (j : Judged). j.line.number ≤ TEXT_LINES) js
 each_line [] h = tt

@@ -1,6 +1,6 @@
 -- The bytes before a directive's keyword, and the keyword itself.
-use Rattle.std.proofs.Common.{◌≡◌, ◌≢◌, ℕ, suc, ◌+◌, ◌==◌, List, [], ◌∷◌, ◌++◌, length, Bool, true, false, not, ◌&&◌, ◌||◌, Some, refl, sym, ◌∙◌, ap, ap₂, subst, append_assoc, arith, length-append, eqb-true, ◌⊎◌, inl, inr}
-use Rattle.std.proofs.lemmas.Bool.{and_parts, not-true, or_cases}
+use Rattle.std.proofs.Common.{◌≡◌, ◌≢◌, ℕ, suc, ◌+◌, ◌==◌, List, [], ◌∷◌, ◌++◌, length, Bool, true, false, not, ◌&&◌, ◌||◌, Some, refl, sym, ◌∙◌, ap, ap₂, append_assoc, arith, length-append}
+use Rattle.std.proofs.lemmas.Bool.{and_parts}
 use Rattle.ud_model.specs.text.Bytes.{number_sign, slash, space, newline, is_quote, is_white, are_white}
 use Rattle.ud_model.specs.text.Scans.{Scan}
 use Rattle.ud_model.specs.sections.Directives.{Directive, directive, content_of, kind_of, is_continued_outside_comment}
@@ -119,8 +119,7 @@ keyword_dark w k e = dark_by w (each_keyword (λ row. starts_dark row.0) refl w 
 
 white_unquoted : (ws t : List ℕ) → Each IsWhite ws → has_quote (ws ++ t) ≡ has_quote t
 white_unquoted [] t h = refl
-white_unquoted (b ∷ ws) t h =
-    ap (λ (q : Bool). q || has_quote (ws ++ t)) (each_white (λ c. is_quote c ≡ false) refl refl refl refl refl b h.0) ∙ white_unquoted ws t h.1
+white_unquoted (b ∷ ws) t h = grind (arith, white_unquoted ws t h.1)
 
 all_white_unquoted : (ws : List ℕ) → Each IsWhite ws → has_quote ws ≡ false
 all_white_unquoted [] h = refl

@@ -1,6 +1,6 @@
 -- The scan of an edited line: before the keyword of a directive no comment and no literal is open.
 -- So another keyword in its place changes nothing of what follows.
-use Rattle.std.proofs.Common.{◌≡◌, ℕ, ◌==◌, List, [], ◌∷◌, ◌++◌, Bool, true, false, ◌||◌, if◌then◌else◌, refl, sym, ◌∙◌, ap, append-nil, append_assoc, ◌⊎◌, inl, inr, arith}
+use Rattle.std.proofs.Common.{◌≡◌, ℕ, ◌==◌, List, [], ◌∷◌, ◌++◌, Bool, true, false, ◌||◌, if◌then◌else◌, refl, sym, ◌∙◌, ap, append-nil, append_assoc, ◌⊎◌, inl, arith}
 use Rattle.std.proofs.Math.Bool.{or-true, or_assoc}
 use Rattle.ud_model.specs.text.Bytes.{slash, star, space, newline, backslash, is_quote}
 use Rattle.ud_model.specs.aids.LexStates.{LexState, in_text, at_slash, in_block, at_star, in_line, in_literal, at_backslash, next_state, opens_comment, masked_byte, stays_white, blank_last}
@@ -47,8 +47,7 @@ first_shown (b ∷ bytes) w c = (masked_after (next_state w b) (masked_byte w b 
   where
     by_open : (o : Bool) → opens_comment w b ≡ o → (masked_after w (c ∷ []) (b ∷ bytes) ≡ c ∷ masked_after (next_state w b) (masked_byte w b ∷ []) bytes)
         ⊎ (masked_after w (c ∷ []) (b ∷ bytes) ≡ space ∷ masked_after (next_state w b) (masked_byte w b ∷ []) bytes)
-    by_open true e = inr (ap (λ (t : Bool). masked_after (next_state w b) ((if t then space ∷ [] else c ∷ []) ++ masked_byte w b ∷ []) bytes) e ∙ masked_front bytes (next_state w b) (space ∷ []) (masked_byte w b))
-    by_open false e = inl (ap (λ (t : Bool). masked_after (next_state w b) ((if t then space ∷ [] else c ∷ []) ++ masked_byte w b ∷ []) bytes) e ∙ masked_front bytes (next_state w b) (c ∷ []) (masked_byte w b))
+    by_open o e = grind (arith, masked_front)
 
 -- Between lexemes nothing in the masked text changes any more.
 pub text_front : (bytes m : List ℕ) → masked_after in_text m bytes ≡ m ++ masked_after in_text [] bytes

@@ -1,6 +1,6 @@
 -- Edits: the output for a text is no longer than the text, but that a directive that becomes the
 -- `#endif` may grow by a byte.
-use Rattle.std.proofs.Common.{◌≡◌, ℕ, suc, ◌+◌, ◌≤◌, List, [], ◌∷◌, ◌++◌, length, Bool, true, false, not, ◌&&◌, ◌==◌, eqb-true, if◌then◌else◌, refl, ap₂, arith, length-append, length-take, length-drop}
+use Rattle.std.proofs.Common.{◌≡◌, ℕ, suc, ◌+◌, ◌≤◌, List, [], ◌∷◌, ◌++◌, length, Bool, true, false, not, ◌&&◌, if◌then◌else◌, refl, arith, length-append, length-take, length-drop}
 use Rattle.ud_model.specs.text.Lines.{Line, text_of}
 use Rattle.ud_model.specs.sections.Directives.{Span}
 use Rattle.ud_model.specs.sections.Pruning.{Part, an_if, an_elif, an_else, is_removed, any_true, gives_way, ends_with_first_true, endif_verdict, later_verdict}
@@ -9,7 +9,7 @@ use Rattle.ud_model.specs.answer.Printing.{Judged, opener_keyword, piece_alone, 
 use Rattle.ud_model.specs.declared.cond.Cond.{Cond}
 use Rattle.ud_model.specs.declared.cond.Cond.TheVariants.{Yes, No, Unknown}
 use Rattle.ud_model.specs.declared.verdict.Verdict.{Verdict}
-use Rattle.ud_model.specs.declared.verdict.Verdict.TheVariants.{Keep, Remove, ToIf, ToElse, ToEndif}
+use Rattle.ud_model.specs.declared.verdict.Verdict.TheVariants.{Keep, Remove, ToEndif}
 use Rattle.ud_model.proofs.output.Sizes.{whole}
 
 -- A group has come after the first true one, and after the one whose opener became the `#endif`.
@@ -42,8 +42,7 @@ opener_moves [] an_elif Unknown = tt
 opener_moves [] an_else Unknown = tt
 opener_moves (Yes ∷ cs) part c = tt
 opener_moves (No ∷ cs) part c = opener_moves cs part c
-opener_moves (Unknown ∷ cs) part c =
-    unknown_moves part c (any_true cs) (ends_with_first_true cs) (any_true (cs ++ c ∷ [])) (ends_with_first_true (cs ++ c ∷ [])) (λ e. ends_behind cs c e)
+opener_moves (Unknown ∷ cs) part c = grind (arith, unknown_moves, ends_behind)
 
 past_by : (g a e : Bool) → (not g && a && not e) ≡ true → (if g then Remove else if not a then Keep else if e then Keep else Remove) ≡ Remove
 past_by g a e h = grind arith

@@ -1,10 +1,10 @@
 -- The content of a masked line that was made from one with a directive.
-use Rattle.std.proofs.Common.{◌≡◌, ℕ, ◌+◌, ◌-◌, ◌==◌, List, [], ◌∷◌, ◌++◌, length, take, Bool, true, false, not, ◌&&◌, Option, Some, if◌then◌else◌, refl, sym, ◌∙◌, ap, ap₂, append_assoc, arith, length-append, ◌⊎◌, inl, inr}
+use Rattle.std.proofs.Common.{◌≡◌, ℕ, ◌-◌, ◌==◌, List, [], ◌∷◌, ◌++◌, length, take, Bool, true, false, ◌&&◌, Some, if◌then◌else◌, refl, sym, ◌∙◌, ap, ap₂, append_assoc, arith, length-append, ◌⊎◌, inl, inr}
 use Rattle.std.proofs.Math.Bool.{and-false}
 use Rattle.std.proofs.lemmas.List.{take_at}
 use Rattle.ud_model.specs.text.Bytes.{skip_white, leading_word, skip_word}
 use Rattle.ud_model.specs.text.Scans.{Scan}
-use Rattle.ud_model.specs.sections.Directives.{Directive, cut_keyword, directive, text, content_of, skip_white_and_hash, skip_hash, has_split_keyword, may_split_keyword, content_after_hash, directive_at, kind_of, role_of, test_of, is_continued_outside_comment, is_in_line}
+use Rattle.ud_model.specs.sections.Directives.{Directive, directive, content_of, skip_white_and_hash, has_split_keyword, may_split_keyword, kind_of, role_of, test_of, is_continued_outside_comment}
 use Rattle.ud_model.specs.answer.Printing.{by_length, opener_keyword}
 use Rattle.ud_model.specs.declared.kind.Kind.{Kind}
 use Rattle.ud_model.specs.declared.kind.Kind.TheVariants.{If, Ifdef, Ifndef}

@@ -5,7 +5,7 @@ use Rattle.std.proofs.lemmas.List.{take-append-drop, take_at, drop_at}
 use Rattle.ud_model.specs.text.Bytes.{space, newline, is_white}
 use Rattle.ud_model.specs.text.Lines.{Line}
 use Rattle.ud_model.specs.text.Splicing.{content}
-use Rattle.ud_model.specs.aids.LexStates.{LexState, in_text, at_slash, in_block, at_star, in_line, in_literal, at_backslash, fresh_at}
+use Rattle.ud_model.specs.aids.LexStates.{LexState, in_text, in_literal, at_backslash, fresh_at}
 use Rattle.ud_model.specs.sections.Directives.{Directive, directive, content_of}
 use Rattle.ud_model.proofs.output.Each.{Each}
 use Rattle.ud_model.proofs.text.ScanLaws.{place_after, white_after, masked_after, scan_from}
@@ -99,8 +99,7 @@ spelled w white before l d s e =
 
 -- The rest after two lists.
 pub drop_two : (a b c : List ℕ) (n : ℕ) → n ≡ length a + length b → drop n (a ++ (b ++ c)) ≡ c
-drop_two a b c n e =
-    ap (λ (t : List ℕ). drop n t) (sym (append_assoc a b c)) ∙ drop_at (a ++ b) c n (length-append a b ∙ sym e)
+drop_two a b c n e = cc (append_assoc a b c, drop_at (a ++ b) c n (length-append a b ∙ sym e))
 
 -- A line whose keyword is exchanged has the scan as before but for its keyword, and ends in the
 -- same state.

@@ -39,9 +39,7 @@ whole_ending l (prefix, n, e) =
     by_tests (ends_with nat_eq l (13 ∷ 10 ∷ [])) (ends_with nat_eq l (10 ∷ [])) ((ends_is Decides-eqb l (10 ∷ []) (ends_with nat_eq l (10 ∷ [])) refl).1 prefix e)
   where
     by_tests : (a b : Bool) → b ≡ true → IsEnd (if a then 13 ∷ 10 ∷ [] else if b then 10 ∷ [] else [])
-    by_tests true b h = inl refl
-    by_tests false true h = inr refl
-    by_tests false false h = cc
+    by_tests a b h = grind arith
 
 -- A body and an ending.
 pub ended : (b e : List ℕ) → NoNewline b → IsEnd e → IsWhole (b ++ e)
@@ -182,8 +180,7 @@ test_false : (l s : List ℕ) → ((f : List ℕ) → l ≡ f ++ s → ⊥) → 
 test_false l s n = go (ends_with nat_eq l s) (ends_is Decides-eqb l s (ends_with nat_eq l s) refl).0
   where
     go : (t : Bool) → (t ≡ true → l ≡ take (length l - length s) l ++ s) → t ≡ false
-    go false h = refl
-    go true h = absurd (n (take (length l - length s) l) (h refl))
+    go t h = grind arith
 
 by_ends : (l : List ℕ) (a b : Bool) → ends_with nat_eq l (13 ∷ 10 ∷ []) ≡ a → ends_with nat_eq l (10 ∷ []) ≡ b →
     ending_of l ≡ (if a then 13 ∷ 10 ∷ [] else if b then 10 ∷ [] else [])
@@ -227,10 +224,7 @@ pub whole_keeps : (v : Verdict) (k : Span) (t : List ℕ) → IsWhole t → endi
 whole_keeps v k t w = go (whole_ending t w)
   where
     go : IsEnd (ending_of t) → ending_of (edited_body v k (body_of t) ++ ending_of t) ≡ ending_of t
-    go (inl e) = ap (λ (x : List ℕ). ending_of (edited_body v k (body_of t) ++ x)) e ∙ ending_both (edited_body v k (body_of t)) ∙ sym e
-    go (inr e) =
-        ap (λ (x : List ℕ). ending_of (edited_body v k (body_of t) ++ x)) e
-        ∙ ending_feed (edited_body v k (body_of t)) (λ h. cr_or_not t e (edited_end 13 (record { no_space = refl; no_else = refl; no_endif = refl }) v k (body_of t) h)) ∙ sym e
+    go h = grind (arith, ending_both, ending_feed, cr_or_not, edited_end)
 
 unended_keeps : (v : Verdict) (k : Span) (t : List ℕ) → IsUnterminated t → ending_of (edited_body v k (body_of t) ++ ending_of t) ≡ ending_of t
 unended_keeps v k t (s, w) =

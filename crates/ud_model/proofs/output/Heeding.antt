@@ -1,21 +1,19 @@
 -- If no argument makes sections plain text, no section is ignoring, and every line is read in one
 -- mode.
-use Rattle.std.proofs.Common.{◌≡◌, ℕ, List, [], ◌∷◌, ◌++◌, Bool, true, false, not, ◌&&◌, ◌||◌, Option, Some, None, bytes_eq, if◌then◌else◌, refl, sym, ◌∙◌, ap, ap₂, subst, arith}
+use Rattle.std.proofs.Common.{◌≡◌, ℕ, List, [], ◌∷◌, ◌++◌, Bool, false, not, ◌&&◌, ◌||◌, Option, Some, None, bytes_eq, if◌then◌else◌, refl, sym, ◌∙◌, ap, ap₂, subst, arith}
 use Rattle.std.proofs.Math.Bool.{and-false, or-false}
 use Rattle.ud_model.specs.text.Lines.{Line}
 use Rattle.ud_model.specs.text.Scans.{Reading}
-use Rattle.ud_model.specs.sections.Directives.{Content, cut_keyword, directive, text, content_of, role_of, test_of}
-use Rattle.ud_model.specs.conditions.Table.{Argument, Entry, entry_in, entry_from}
-use Rattle.ud_model.specs.conditions.Conditions.{Decision, Rules, decision_on, decision_by_test, begins_section, condition_of, ifdef_by, ifdef_decision, sole_name, undecided}
-use Rattle.ud_model.specs.sections.Tree.{Item, Elifs, Head, Tree, text_line, if_line, elif_line, else_line, endif_line, nothing, first, elif, if_head, elif_head, else_head, closed, open_section, lines, lines_of_nodes, lines_of_elifs, lines_of_head, is_ignoring, opener_of_elifs, opener_of_head}
-use Rattle.ud_model.specs.sections.Items.{Options, item_of, item_by, directive_item, mode_by, mode_after, read_after, next_item, rules_of}
+use Rattle.ud_model.specs.sections.Directives.{Content, content_of}
+use Rattle.ud_model.specs.conditions.Table.{Argument, Entry, entry_from}
+use Rattle.ud_model.specs.conditions.Conditions.{Decision, Rules, decision_by_test, condition_of, ifdef_by, ifdef_decision, undecided}
+use Rattle.ud_model.specs.sections.Tree.{Item, Elifs, Head, Tree, if_line, elif_line, else_line, nothing, first, elif, if_head, elif_head, else_head, closed, open_section, lines, lines_of_nodes, lines_of_elifs, lines_of_head, is_ignoring, opener_of_elifs, opener_of_head}
+use Rattle.ud_model.specs.sections.Items.{Options, item_of, item_by, directive_item, mode_by, mode_after, read_after, next_item}
 use Rattle.ud_model.specs.sections.Faults.{AreFaultless, no_lines, one_more}
 use Rattle.ud_model.specs.output.Rereading.{NoneIgnores, AreRead, no_items, one_item}
 use Rattle.ud_model.specs.declared.kind.Kind.{Kind}
 use Rattle.ud_model.specs.declared.kind.Role.{Role}
-use Rattle.ud_model.specs.declared.kind.Role.TheVariants.{IfGroup, ElifGroup, ElseGroup, EndifLine}
 use Rattle.ud_model.specs.declared.kind.Test.{Test}
-use Rattle.ud_model.specs.declared.kind.Test.TheVariants.{Nonzero, Defined, Undefined, Nothing}
 use Rattle.ud_model.specs.declared.kind.Mode.{Mode}
 use Rattle.ud_model.proofs.output.Each.{Each, each_parts, each_both}
 use Rattle.ud_model.proofs.sections.Growth.{Adds}

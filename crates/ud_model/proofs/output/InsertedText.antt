@@ -56,10 +56,7 @@ module _ (o : Options) (n : NoneIgnores o.table) where
   pub items_are : {xs : List (Item Reading)} {t : Tree Reading} → AreRead o xs t → xs ≡ items o (read_in (the_mode o) (map line_of xs))
   items_are no_items = refl
   items_are (one_item xs t a l u e) =
-      ap (λ (m : Mode). xs ++ item_of o (read_after xs m l) ∷ []) (one_mode o n xs t (read_lines a) (all_heed a))
-      ∙ ap (λ (ys : List (Item Reading)). ys ++ item_of o (read_after ys (the_mode o) l) ∷ []) (items_are a)
-      ∙ sym (items_more o (the_mode o) (map line_of xs) l)
-      ∙ ap (λ (ls : List Line). items o (read_in (the_mode o) ls)) (sym (lines_with_next o xs t l))
+      grind (arith, one_mode, read_lines, all_heed, items_more, lines_with_next, items_are a)
 
 -- The output's tree.
 pub inserted_in_text : (o : Options) → IsPlain o → (b n : Bool) → (b || n) ≡ true → (input : List ℕ) → {r s : Outcome} → HasOutcome o input r → HasOutcome (with_blank_renumber b n o) input s →

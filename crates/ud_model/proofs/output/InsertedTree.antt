@@ -1,13 +1,13 @@
 -- Inserted lines are text lines, so the tree stays as it is, with them.
-use Rattle.std.proofs.Common.{◌≡◌, ℕ, List, [], ◌∷◌, ◌++◌, map, codes, decimal, inl, inr, refl, sym, ◌∙◌, ap, ap₂, subst, append_assoc, append-nil, arith}
+use Rattle.std.proofs.Common.{◌≡◌, ℕ, List, [], ◌∷◌, ◌++◌, map, inl, inr, refl, sym, ◌∙◌, ap, ap₂, subst, append_assoc, append-nil, arith}
 use Rattle.std.proofs.lemmas.List.{map-append}
-use Rattle.ud_model.specs.text.Scans.{Scan, Reading, plain_scan}
-use Rattle.ud_model.specs.sections.Directives.{Content, cut_keyword, directive, text as text_content, content_of, role_of}
-use Rattle.ud_model.specs.conditions.Conditions.{Decision, decision_on}
+use Rattle.ud_model.specs.text.Scans.{Reading}
+use Rattle.ud_model.specs.sections.Directives.{Content, cut_keyword, directive, text as text_content, content_of}
+use Rattle.ud_model.specs.conditions.Conditions.{Decision}
 use Rattle.ud_model.specs.sections.Tree.{Item, Opener, Nodes, Groups, Elifs, text_line, if_line, elif_line, else_line, endif_line, nothing, text, section, conditional, otherwise, first, elif, lines_of_nodes, lines_of_groups, lines_of_elifs}
-use Rattle.ud_model.specs.sections.Items.{Options, item_of, item_by, directive_item, rules_of}
+use Rattle.ud_model.specs.sections.Items.{Options, item_of, item_by, directive_item}
 use Rattle.ud_model.specs.answer.Printing.{Judged}
-use Rattle.ud_model.specs.output.InsertedLines.{IsLone, IsPrinted, Counted, no_line, goes, blanked, counts_on, starts_anew}
+use Rattle.ud_model.specs.output.InsertedLines.{IsPrinted, Counted, no_line, goes, blanked, counts_on, starts_anew}
 use Rattle.ud_model.specs.output.InsertedNodes.{IsSame, IsSameOpener, IsInserted, NodesWithInserted, no_nodes, same_text, inserted_text, same_section, GroupsWithInserted, all_conditional, last_otherwise, ElifsWithInserted, same_first, same_elif}
 use Rattle.ud_model.specs.declared.kind.Role.{Role}
 use Rattle.ud_model.specs.declared.kind.Role.TheVariants.{IfGroup, ElifGroup, ElseGroup, EndifLine}
@@ -42,9 +42,7 @@ alike_role r s EndifLine d e h k = an_endif k
 alike_by : (o : Options) (r s : Reading) (c : Content) → IsSame r s → ItemAlike (item_by o r c) (item_by o s c)
 alike_by o r s cut_keyword k = a_text k
 alike_by o r s text_content k = a_text k
-alike_by o r s (directive d) k =
-    alike_role r s (role_of d.kind) (decision_on r.scan d o.table (rules_of o.settings)) (decision_on s.scan d o.table (rules_of o.settings))
-    (ap (λ (t : Scan). decision_on t d o.table (rules_of o.settings)) k.scanned) k
+alike_by o r s (directive d) k = grind (arith, alike_role)
 
 alike_item : (o : Options) (r s : Reading) → IsSame r s → ItemAlike (item_of o r) (item_of o s)
 alike_item o r s k = grind (arith, alike_by)
@@ -75,8 +73,7 @@ strewn_counted o (blanked {rs = rs} {ss = ss} j c g d k) =
     subst (λ (zs : List (Item Reading)). Strewn (items o rs) zs) (sym (last_item o ss d))
     (subst (λ (ys : List (Item Reading)). Strewn ys (items o ss ++ item_of o d ∷ [])) (append-nil (items o rs)) (strewn_both (strewn_counted o c) (put_one o d (inl k))))
 strewn_counted o (counts_on {rs = rs} {ss = ss} j c r s k) =
-    subst (λ (ys : List (Item Reading)). Strewn ys (items o (ss ++ s ∷ []))) (sym (last_item o rs r))
-    (subst (λ (zs : List (Item Reading)). Strewn (items o rs ++ item_of o r ∷ []) zs) (sym (last_item o ss s)) (strewn_both (strewn_counted o c) (same_one o j r s k)))
+    grind (arith, last_item, strewn_both, same_one, strewn_counted o c)
 strewn_counted o (starts_anew {rs = rs} {ss = ss} c j d q r s k) =
     subst (λ (ys : List (Item Reading)). Strewn ys (items o ((ss ++ d ∷ []) ++ s ∷ []))) (sym (last_item o rs r))
     (subst (λ (zs : List (Item Reading)). Strewn (items o rs ++ item_of o r ∷ []) zs) (sym (last_item o (ss ++ d ∷ []) s))

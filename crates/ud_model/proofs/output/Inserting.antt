@@ -1,6 +1,6 @@
 -- Inserting: the lines that `-b` and `-n` insert come between logical lines, so each other line is
 -- scanned as without them.
-use Rattle.std.proofs.Common.{◌≡◌, ◌≢◌, ℕ, suc, List, [], ◌∷◌, ◌++◌, length, map, Bool, true, false, ◌&&◌, if◌then◌else◌, refl, sym, ◌∙◌, ap, ap₂, subst, arith}
+use Rattle.std.proofs.Common.{◌≡◌, ◌≢◌, ℕ, suc, List, [], ◌∷◌, ◌++◌, length, map, Bool, true, false, refl, sym, ◌∙◌, ap, ap₂, subst, arith}
 use Rattle.std.proofs.lemmas.List.{map-append, same_from_push}
 use Rattle.ud_model.specs.text.Lines.{Line, line_at, numbered_from, ending_of}
 use Rattle.ud_model.specs.text.Scans.{Reading}
@@ -12,12 +12,12 @@ use Rattle.ud_model.specs.sections.Tree.{Item}
 use Rattle.ud_model.specs.sections.Pruning.{Mark}
 use Rattle.ud_model.specs.sections.Items.{Options, reading_of, line_of, item_of, read_after}
 use Rattle.ud_model.specs.sections.Faults.{ends_removed}
-use Rattle.ud_model.specs.answer.Printing.{Judged, Style, piece_by, piece_after, last_removed, judged_lines, number_line}
+use Rattle.ud_model.specs.answer.Printing.{Judged, Style, piece_by, piece_after, last_removed, judged_lines}
 use Rattle.ud_model.specs.output.InsertedLines.{IsLone}
 use Rattle.ud_model.specs.declared.kind.Mode.{Mode}
 use Rattle.ud_model.specs.declared.kind.Mode.TheVariants.{C, Plain}
 use Rattle.ud_model.specs.declared.verdict.Verdict.{Verdict}
-use Rattle.ud_model.specs.declared.verdict.Verdict.TheVariants.{Keep, Remove, ToIf, ToElse, ToEndif}
+use Rattle.ud_model.specs.declared.verdict.Verdict.TheVariants.{Remove}
 use Rattle.ud_model.proofs.text.LinesLemmas.{numbered_from-next}
 use Rattle.ud_model.proofs.text.Pushes.{push_not_nil}
 use Rattle.ud_model.proofs.text.ScanLaws.{place_after, white_after}
@@ -170,10 +170,6 @@ gone_number before j e = ap (λ (v : Verdict). piece_of false true before (with_
 pub left_blank : (v : Verdict) (n : Bool) (before : List Judged) (l : Line) (k : Span) → IsLeft v →
     piece_of true n before (record { line = l; verdict = v; keyword = k }) ≡ piece_by v k l
 left_blank v n before l k h = grind arith
-
-pub left_number : (v : Verdict) (before : List Judged) (l : Line) (k : Span) (r : Bool) → last_removed before ≡ r → IsLeft v →
-    piece_of false true before (record { line = l; verdict = v; keyword = k }) ≡ (if r then number_line l else []) ++ piece_by v k l
-left_number v before l k r e h = grind arith
 
 -- The last judged line is removed if the last mark means so.
 pub removed_last : (xs : List (Item Reading)) (ms : List Mark) → length xs ≡ length ms → last_removed (judged_lines xs ms) ≡ ends_removed ms

@@ -2,12 +2,11 @@
 --
 -- A position between lines is kept if all groups around it are. `before` means that the position
 -- before a line is kept, and `after` that the one after it is.
-use Rattle.std.proofs.Common.{◌≡◌, List, [], ◌∷◌, ◌++◌, Bool, true, false, not, ◌&&◌, ◌||◌, IsTrue, refl, sym, ◌∙◌, ap, subst, append-nil, append_assoc, arith}
-use Rattle.std.proofs.lemmas.Bool.{or_left, or_right}
+use Rattle.std.proofs.Common.{◌≡◌, List, [], ◌∷◌, ◌++◌, Bool, true, false, not, ◌&&◌, IsTrue, refl, append-nil, append_assoc, arith}
 use Rattle.ud_model.specs.declared.cond.Cond.{Cond}
-use Rattle.ud_model.specs.declared.cond.Cond.TheVariants.{Yes, No, Unknown}
+use Rattle.ud_model.specs.declared.cond.Cond.TheVariants.{Yes}
 use Rattle.ud_model.specs.declared.verdict.Verdict.{Verdict}
-use Rattle.ud_model.specs.declared.verdict.Verdict.TheVariants.{Keep, Remove, ToIf, ToElse, ToEndif}
+use Rattle.ud_model.specs.declared.verdict.Verdict.TheVariants.{Keep}
 use Rattle.ud_model.specs.text.Scans.{Reading, is_spanning}
 use Rattle.ud_model.specs.sections.Tree.{Item, Opener, Tree, text_line, if_line, elif_line, else_line, endif_line, closed, open_section}
 use Rattle.ud_model.specs.sections.Pruning.{Part, an_if, an_elif, an_else, Mark, marked, is_kept, is_inside_kept, is_removed, conds_of_elifs, conds_of_groups, endif_verdict}
@@ -17,7 +16,7 @@ use Rattle.ud_model.specs.sections.Faults.{keeps_rest, is_obfuscated_after}
 use Rattle.ud_model.proofs.sections.Growth.{Adds, adds_text, adds_if, elif_after_if, elif_after_elif, else_after_if, else_after_elif, adds_endif, adds_under, complete}
 use Rattle.ud_model.proofs.sections.Stays.{groups_so_far-complete}
 use Rattle.ud_model.proofs.output.Suited.{Suits, suits_marked, suits_if, suits_elif, suits_else, suits_endif}
-use Rattle.ud_model.proofs.sections.Stages.{Stage, leading, given, going, at_true, past, stage, verdict_at, kept_at, verdict_by_stage, kept_by_stage}
+use Rattle.ud_model.proofs.sections.Stages.{Stage, verdict_at, kept_at, verdict_by_stage, kept_by_stage}
 
 module _ {L : Type 0} where
   -- The end of a text is kept, by whether its beginning is.

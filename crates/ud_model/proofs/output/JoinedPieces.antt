@@ -155,8 +155,7 @@ formed_texts acc (splice b ∷ ps) e n s i = formed_more (acc ++ b) (line_texts 
 texts_joined : (acc : List ℕ) (ps : List Piece) (e : List ℕ) → concat (line_texts acc ps e) ≡ acc ++ (bytes_among ps ++ e)
 texts_joined acc [] e = append-nil (acc ++ e)
 texts_joined acc (cell c ∷ ps) e = texts_joined (acc ++ c.byte ∷ []) ps e ∙ append_assoc acc (c.byte ∷ []) (bytes_among ps ++ e)
-texts_joined acc (splice b ∷ ps) e =
-    ap (λ (x : List ℕ). (acc ++ b) ++ x) (texts_joined [] ps e) ∙ append_assoc acc b (bytes_among ps ++ e) ∙ ap (λ (x : List ℕ). acc ++ x) (sym (append_assoc b (bytes_among ps) e))
+texts_joined acc (splice b ∷ ps) e = grind (arith, append_assoc, texts_joined [] ps e)
 
 one_more : (l : Line) (ls : List Line) (e : List ℕ) → is_spliced l ≡ true → IsSplicedGroup ls e → IsSplicedGroup (l ∷ ls) e
 one_more l ls e s g = grind arith

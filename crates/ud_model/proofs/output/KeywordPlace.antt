@@ -1,9 +1,8 @@
 -- The position of a keyword: before it no comment and no literal is open, and the bytes there may
 -- be exchanged.
-use Rattle.std.proofs.Common.{◌≡◌, ◌≢◌, ℕ, ◌+◌, ◌==◌, List, [], ◌∷◌, ◌++◌, length, Bool, true, false, ◌&&◌, ◌||◌, if◌then◌else◌, refl, sym, ◌∙◌, ap, ap₂, subst, append-nil, arith, length-append, eqb-true, ◌⊎◌, inl, inr}
-use Rattle.std.proofs.Math.Bool.{and-false}
-use Rattle.ud_model.specs.text.Bytes.{slash, star, space, newline, is_quote, is_white}
-use Rattle.ud_model.specs.aids.LexStates.{LexState, in_text, at_slash, in_block, at_star, in_line, in_literal, at_backslash, next_state, opens_comment, masked_byte, stays_white, blank_last}
+use Rattle.std.proofs.Common.{◌≡◌, ◌≢◌, ℕ, ◌+◌, ◌==◌, List, [], ◌∷◌, ◌++◌, length, Bool, true, false, if◌then◌else◌, refl, sym, ◌∙◌, ap, ap₂, subst, append-nil, arith, length-append, ◌⊎◌}
+use Rattle.ud_model.specs.text.Bytes.{slash, space, newline, is_quote, is_white}
+use Rattle.ud_model.specs.aids.LexStates.{LexState, in_text, at_slash, in_literal, next_state, opens_comment, masked_byte, stays_white, blank_last}
 use Rattle.ud_model.proofs.text.LexStateLemmas.{length-blank_last}
 use Rattle.ud_model.proofs.text.ScanLaws.{place_after, white_after, masked_after}
 use Rattle.ud_model.proofs.output.SameShape.{parts}
@@ -36,11 +35,9 @@ first_byte : (w : LexState) (b c : ℕ) (bytes rest : List ℕ) → c ≢ space 
 first_byte w b c bytes rest n e = go (first_shown bytes w b)
   where
     go : (tail : List ℕ) × ((masked_after w (b ∷ []) bytes ≡ b ∷ tail) ⊎ (masked_after w (b ∷ []) bytes ≡ space ∷ tail)) → b ≡ c
-    go (t, inl h) = let q : b ∷ t ≡ c ∷ rest = sym h ∙ e in cc
-    go (t, inr h) = let q : space ∷ t ≡ c ∷ rest = sym h ∙ e in let r : c ≡ space = cc in absurd (n r)
+    go h = grind arith
 
 module _ (c : ℕ) (prefix : List ℕ) (unquoted : has_quote prefix ≡ false) (unslashed : ends_in_slash prefix ≡ false) (no_space : c ≢ space) (no_newline : c ≢ newline) where
-
   -- If the masked line goes on so, the text ends between lexemes.
   is_text : (p : LexState) (m : List ℕ) (x : ℕ) → Shown p m → (if opens_comment p x then blank_last m else m) ≡ prefix → masked_byte p x ≡ c → (p ≡ in_text) × (m ≡ prefix)
   is_text p m x h e g = grind arith
@@ -91,8 +88,7 @@ place_inert (c ∷ word) h = ap (λ (v : LexState). place_after v word) (next_in
 -- Bytes that begin nothing are shown as they are.
 pub masked_inert : (word : List ℕ) → Each IsInert word → masked_after in_text [] word ≡ word
 masked_inert [] h = refl
-masked_inert (c ∷ word) h =
-    ap (λ (v : LexState). masked_after v (c ∷ []) word) (next_inert c h.0) ∙ text_front word (c ∷ []) ∙ ap (λ (l : List ℕ). c ∷ l) (masked_inert word h.1)
+masked_inert (c ∷ word) h = grind (arith, next_inert, text_front, masked_inert word h.1)
 
 -- A word that is shown is there.
 pub word_stands : (word behind rest : List ℕ) → Each IsInert word → Each (λ c. c ≢ space) word → masked_after in_text [] behind ≡ word ++ rest →

@@ -1,13 +1,13 @@
 -- The lengths of keywords, and their positions in a line.
-use Rattle.std.proofs.Common.{◌≡◌, ℕ, ◌+◌, ◌≤◌, List, length, Bool, true, false, Option, Some, None, if◌then◌else◌, refl, sym, subst, arith}
+use Rattle.std.proofs.Common.{◌≡◌, ℕ, ◌+◌, ◌≤◌, List, length, Bool, Option, Some, if◌then◌else◌, refl, arith}
 use Rattle.std.proofs.lemmas.Bool.{leb-true}
 use Rattle.std.proofs.Math.Dec.{leb}
-use Rattle.ud_model.specs.text.Bytes.{skip_white, leading_word}
+use Rattle.ud_model.specs.text.Bytes.{leading_word}
 use Rattle.ud_model.specs.text.Scans.{Scan, Reading}
 use Rattle.ud_model.specs.sections.Directives.{Content, cut_keyword, directive, text, content_of, skip_white_and_hash, has_split_keyword, content_after_hash, directive_at, kind_of, role_of}
-use Rattle.ud_model.specs.conditions.Conditions.{Decision, decision_on}
-use Rattle.ud_model.specs.sections.Tree.{Item, text_line, if_line, elif_line, else_line, endif_line}
-use Rattle.ud_model.specs.sections.Items.{Options, directive_item, item_by, item_of, rules_of}
+use Rattle.ud_model.specs.conditions.Conditions.{Decision}
+use Rattle.ud_model.specs.sections.Tree.{Item, elif_line, else_line, endif_line}
+use Rattle.ud_model.specs.sections.Items.{Options, directive_item, item_by, item_of}
 use Rattle.ud_model.specs.answer.Printing.{keyword_in}
 use Rattle.ud_model.proofs.sections.KeywordLies.{keyword_lies}
 use Rattle.ud_model.proofs.sections.Keywords.{each_keyword}

@@ -1,14 +1,11 @@
 -- The end of lines in C mode: the state by which a line after them is scanned.
-use Rattle.std.proofs.Common.{◌≡◌, ◌≢◌, ℕ, List, [], ◌∷◌, ◌++◌, map, Bool, true, false, refl, sym, ◌∙◌, ap, ap₂, subst, if◌then◌else◌, ◌==◌, ◌&&◌, ◌⊎◌, inl, inr, eqb-true, arith}
-use Rattle.std.proofs.Math.Bool.{and-false}
+use Rattle.std.proofs.Common.{◌≡◌, ◌≢◌, ℕ, List, [], ◌∷◌, ◌++◌, map, Bool, true, false, refl, sym, ◌∙◌, ap, ap₂, subst, arith}
 use Rattle.std.proofs.lemmas.List.{map-append}
-use Rattle.std.proofs.lemmas.Bool.{or_cases}
-use Rattle.ud_model.specs.text.Bytes.{is_white, is_quote, slash, star, newline, backslash}
 use Rattle.ud_model.specs.text.Lines.{Line}
 use Rattle.ud_model.specs.text.Scans.{Reading, plain_scan}
 use Rattle.ud_model.specs.text.Splicing.{content, stays_open, spliced_text, c_run_of}
 use Rattle.ud_model.specs.text.Scanning.{joins, is_block, scan_after}
-use Rattle.ud_model.specs.aids.LexStates.{LexState, in_text, at_slash, in_block, at_star, in_line, in_literal, at_backslash, LexesTo, next_state, stays_white, state_after_line, white_after_line}
+use Rattle.ud_model.specs.aids.LexStates.{LexState, in_text, LexesTo, next_state, stays_white, state_after_line, white_after_line}
 use Rattle.ud_model.specs.sections.Tree.{Item}
 use Rattle.ud_model.specs.sections.Items.{Options, reading_of, item_of, read_after}
 use Rattle.ud_model.specs.declared.kind.Mode.{Mode}
@@ -67,14 +64,12 @@ kept_scan xs ys C w white on l k a b e f =
 -- The readings of items with one more.
 pub readings_last : (o : Options) (xs ys : List (Item Reading)) (m : Mode) (l : Line) →
     map reading_of (ys ++ item_of o (read_after xs m l) ∷ []) ≡ map reading_of ys ++ read_after xs m l ∷ []
-readings_last o xs ys m l =
-    map-append reading_of ys (item_of o (read_after xs m l) ∷ []) ∙ ap (λ (r : Reading). map reading_of ys ++ r ∷ []) (reading_of-item_of o (read_after xs m l))
+readings_last o xs ys m l = simp (map-append, reading_of-item_of)
 
 -- Lines with one more join the next one if that line does.
 pub joins_next : (o : Options) (xs : List (Item Reading)) (l : Line) →
     (scan_after (map reading_of xs) C l).joins_after ≡ joins (c_run_of (map reading_of (xs ++ item_of o (read_after xs C l) ∷ [])))
-joins_next o xs l =
-    joins_after-code (c_run_of (map reading_of xs)) l ∙ ap joins (sym (ap c_run_of (readings_last o xs xs C l) ∙ run_of_last (map reading_of xs) (read_after xs C l)))
+joins_next o xs l = simp (joins_after-code, readings_last, run_of_last)
 
 -- The state after a further line in C mode.
 pub leaves_next : (o : Options) (xs : List (Item Reading)) (w : LexState) (white on : Bool) (l : Line) → LeavesOff xs w white on →

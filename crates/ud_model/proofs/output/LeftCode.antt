@@ -6,7 +6,7 @@ use Rattle.ud_model.specs.text.Bytes.{backslash}
 use Rattle.ud_model.specs.text.Lines.{Line, text_of}
 use Rattle.ud_model.specs.text.Scans.{Scan, Reading, is_spanning}
 use Rattle.ud_model.specs.text.Splicing.{is_spliced, content, stays_open, spliced_part, spliced_text, c_run_of}
-use Rattle.ud_model.specs.text.Lexemes.{LexemeKind, block_comment, line_comment, literal, single, kind_at_end}
+use Rattle.ud_model.specs.text.Lexemes.{LexemeKind, kind_at_end}
 use Rattle.ud_model.specs.text.Scanning.{is_block, comment_at, scan_after_run, scan_after}
 use Rattle.ud_model.specs.aids.LexStates.{LexState, in_text, state_after_line, white_after_line}
 use Rattle.ud_model.specs.sections.Directives.{Content, Directive, Span, directive, content_of}
@@ -43,8 +43,7 @@ calm_alone run l e = calm_by (is_spliced l) (kind_at_end (spliced_text run ++ sp
 
 -- A state under another name.
 leaves_as : {xs : List (Item Reading)} {w v : LexState} {a b c d : Bool} → w ≡ v → a ≡ b → c ≡ d → LeavesOff xs w a c → LeavesOff xs v b d
-leaves_as {xs} {w} {v} {a} {b} {c} {d} e f g h =
-    subst (λ (q : LexState). LeavesOff xs q b d) e (subst (λ (q : Bool). LeavesOff xs w q d) f (subst (λ (q : Bool). LeavesOff xs w a q) g h))
+leaves_as {xs} {w} {v} {a} {b} {c} {d} e f g h = grind arith
 
 -- The bytes of a new keyword.
 abbrev NewWord : List ℕ → Type 0

@@ -1,24 +1,23 @@
 -- The output for a line, read again, is the item of the output for it.
-use Rattle.std.proofs.Common.{◌≡◌, ℕ, List, [], ◌∷◌, map, Bool, true, false, not, ◌&&◌, Option, None, if◌then◌else◌, ◌⊎◌, inl, inr, refl, sym, ◌∙◌, ap, ap₂, arith}
-use Rattle.std.proofs.Math.Bool.{and-false}
+use Rattle.std.proofs.Common.{◌≡◌, ℕ, List, [], ◌∷◌, map, Bool, false, not, ◌&&◌, Option, None, if◌then◌else◌, ◌⊎◌, refl, sym, ◌∙◌, ap, ap₂, arith}
 use Rattle.ud_model.specs.text.Scans.{Scan, Reading}
-use Rattle.ud_model.specs.sections.Directives.{Content, Directive, cut_keyword, directive, text, content_of, role_of, test_of}
+use Rattle.ud_model.specs.sections.Directives.{Content, Directive, directive, content_of, role_of, test_of}
 use Rattle.ud_model.specs.conditions.Table.{Argument}
-use Rattle.ud_model.specs.conditions.Conditions.{Decision, Rules, undecided, decision_by_test, begins_section, decision_on}
-use Rattle.ud_model.specs.sections.Tree.{Item, text_line, if_line, elif_line, else_line, endif_line, item_with}
+use Rattle.ud_model.specs.conditions.Conditions.{Decision, Rules, decision_on}
+use Rattle.ud_model.specs.sections.Tree.{Item, if_line, item_with}
 use Rattle.ud_model.specs.sections.Items.{Options, rules_of, directive_item, item_by, item_of}
 use Rattle.ud_model.specs.output.Pruned.{edited, kept_line}
 use Rattle.ud_model.specs.conditions.Expressions.{Expression}
 use Rattle.ud_model.specs.output.Rereading.{line_bytes, edited_bytes}
-use Rattle.ud_model.specs.output.CSelection.{condition_by_test, condition_after, condition_by, condition_in}
+use Rattle.ud_model.specs.output.CSelection.{condition_by_test, condition_by, condition_in}
 use Rattle.ud_model.specs.declared.cond.Cond.TheVariants.{Unknown}
 use Rattle.ud_model.specs.declared.kind.Kind.{Kind}
 use Rattle.ud_model.specs.declared.kind.Kind.TheVariants.{Else, Endif}
 use Rattle.ud_model.specs.declared.kind.Role.{Role}
-use Rattle.ud_model.specs.declared.kind.Role.TheVariants.{IfGroup, ElifGroup, ElseGroup, EndifLine}
+use Rattle.ud_model.specs.declared.kind.Role.TheVariants.{IfGroup, ElifGroup, ElseGroup}
 use Rattle.ud_model.specs.declared.kind.Test.{Test}
 use Rattle.ud_model.specs.declared.verdict.Verdict.{Verdict}
-use Rattle.ud_model.specs.declared.verdict.Verdict.TheVariants.{Keep, ToIf, ToElse, ToEndif}
+use Rattle.ud_model.specs.declared.verdict.Verdict.TheVariants.{ToIf, ToElse, ToEndif}
 use Rattle.ud_model.proofs.output.Suited.{Suits}
 use Rattle.ud_model.proofs.conditions.DecidedConditions.{unknown_heeds}
 use Rattle.ud_model.proofs.conditions.SpacesInFront.{condition_past, decided_past}
@@ -44,7 +43,6 @@ spaced_decision s q d k n table rules e u =
     grind (arith, decided_past, unknown_alike, unknown_heeds)
 
 module _ (o : Options) where
-
   item_as : (r : Reading) (d : Directive) (p : Role) → content_of r.scan ≡ directive d → role_of d.kind ≡ p →
       item_of o r ≡ directive_item r p (decision_on r.scan d o.table (rules_of o.settings))
   item_as r d p e h = ap (λ (c : Content). item_by o r c) e ∙ ap (λ (i : Role). directive_item r i (decision_on r.scan d o.table (rules_of o.settings))) h

@@ -81,9 +81,7 @@ module _ (keyword : Span) (l k : Line) (within : keyword.at + keyword.len ≤ le
   if_by true s h =
       (same_from_push (content k) (take keyword.at (content l) ++ (opener_keyword keyword.len ++ drop (keyword.at + keyword.len) (content l))) backslash backslash
       (sym (spliced_body k (if_splice h ∙ s)) ∙ if_spliced (spliced_body l s) h.body)).0
-  if_by false s h =
-      whole_body k (if_splice h ∙ s) ∙ h.body ∙ append_assoc (take keyword.at l.body) (opener_keyword keyword.len) (drop (keyword.at + keyword.len) l.body)
-      ∙ ap (λ (t : List ℕ). take keyword.at t ++ (opener_keyword keyword.len ++ drop (keyword.at + keyword.len) t)) (sym (whole_body l s))
+  if_by false s h = grind (arith, whole_body, if_splice, append_assoc)
 
   -- The content of a line that becomes an `#if` has its keyword exchanged.
   pub if_line_content : LeftLine ToIf keyword l k → content k ≡ take keyword.at (content l) ++ (opener_keyword keyword.len ++ drop (keyword.at + keyword.len) (content l))

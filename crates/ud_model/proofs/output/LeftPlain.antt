@@ -1,5 +1,5 @@
 -- The output for a line in plain mode, read again.
-use Rattle.std.proofs.Common.{◌≡◌, ℕ, List, ◌++◌, take, false, codes, ◌∙◌, ap, subst}
+use Rattle.std.proofs.Common.{◌≡◌, List, ◌++◌, take, false, codes, ◌∙◌, ap, subst, arith}
 use Rattle.ud_model.specs.text.Lines.{Line, text_of}
 use Rattle.ud_model.specs.text.Scans.{Reading, plain_scan}
 use Rattle.ud_model.specs.sections.Directives.{Content, Span, content_of}
@@ -23,17 +23,12 @@ module _ (o : Options) (xs ys : List (Item Reading)) (l k : Line) where
       LeftLine v (keyword_in (content_of (plain_scan l))) l k → text_of k ≡ piece_by v (keyword_in (content_of (plain_scan l))) l →
       Left o v (read_after xs Plain l) (read_after ys Plain k)
   left_plain Remove h s u b e = absurd h
-  left_plain Keep h s u b e =
-      left_kept o (read_after xs Plain l) (read_after ys Plain k)
-      (ap (λ (t : List ℕ). plain_scan (record { body = t; ending = l.ending; number = 0 })) (b.body ∙ kept_body (keyword_in (content_of (plain_scan l))) l.body)) e u
+  left_plain Keep h s u b e = grind (arith, left_kept, kept_body)
   left_plain ToIf h s u b e =
       let d = becomes_if o (read_after xs Plain l) s in
       left_if o (read_after xs Plain l) (read_after ys Plain k) d.0 d.1 d.2 d.3
       (plain_if l k d.0 d.1 (subst (λ (p : Span). LeftLine ToIf p l k) (ap keyword_in d.1) b)) e
-  left_plain ToElse h s u b e =
-      let d = becomes_else o (read_after xs Plain l) s in
-      left_else o (read_after xs Plain l) (read_after ys Plain k) d.0 d.1 d.2
-      (plain_cut l k d.0 (codes "else") (b.body ∙ else_body (keyword_in (content_of (plain_scan l))) l.body ∙ ap (λ (c : Content). take (keyword_in c).at l.body ++ codes "else") d.1)) e
+  left_plain ToElse h s u b e = grind (arith, becomes_else, left_else, plain_cut, else_body)
   left_plain ToEndif h s u b e =
       let d = becomes_endif o (read_after xs Plain l) s in
       left_endif o (read_after xs Plain l) (read_after ys Plain k) d.0 d.1 d.2

@@ -1,7 +1,7 @@
 -- The output for a line by its verdict, read again: its item, that its keyword isn't cut, and
 -- whether it ends in a comment.
 use Rattle.std.proofs.Common.{◌≡◌, false, ◌⊎◌, codes, refl, ◌∙◌, ap, arith}
-use Rattle.ud_model.specs.text.Scans.{Scan, Reading}
+use Rattle.ud_model.specs.text.Scans.{Reading}
 use Rattle.ud_model.specs.sections.Directives.{Directive, directive, content_of, role_of}
 use Rattle.ud_model.specs.conditions.Conditions.{decision_on}
 use Rattle.ud_model.specs.sections.Items.{Options, item_of, rules_of}

@@ -1,6 +1,6 @@
 -- The list of names is complete: of the symbols only those count that are listed, or to which a
 -- listed one leads.
-use Rattle.std.proofs.Common.{◌≡◌, ◌≢◌, ◌⊎◌, inl, inr, ℕ, List, [], ◌∷◌, ◌++◌, length, map, Bool, false, ◌||◌, Option, Some, None, refl, sym, ◌∙◌, ap, ap₂, subst, append_assoc, arith}
+use Rattle.std.proofs.Common.{◌≡◌, ◌≢◌, ◌⊎◌, inl, inr, ℕ, List, [], ◌∷◌, ◌++◌, length, map, false, Option, Some, None, refl, sym, ◌∙◌, ap, ap₂, subst, append_assoc, arith}
 use Rattle.std.proofs.lemmas.List.{map-append}
 use Rattle.ud_model.specs.text.Lines.{Line, split_lines, partial_line, lines_of}
 use Rattle.ud_model.specs.text.Scans.{Reading}
@@ -8,9 +8,9 @@ use Rattle.ud_model.specs.text.Scanning.{next_reading, readings_of}
 use Rattle.ud_model.specs.sections.Directives.{content_of}
 use Rattle.ud_model.specs.conditions.Table.{Argument, entry_in}
 use Rattle.ud_model.specs.conditions.Symbols.{defined_text}
-use Rattle.ud_model.specs.sections.Tree.{Item, Tree, lines, is_ignoring}
-use Rattle.ud_model.specs.sections.Items.{Options, reading_of, line_of, item_of, mode_by, mode_after, read_after, next_item, rules_of}
-use Rattle.ud_model.specs.sections.Faults.{Fault, FaultOf, AreFaultless, no_lines, one_more, NoneHolds, cases}
+use Rattle.ud_model.specs.sections.Tree.{Item, Tree, lines}
+use Rattle.ud_model.specs.sections.Items.{Options, reading_of, line_of, mode_by, mode_after, read_after, next_item, rules_of}
+use Rattle.ud_model.specs.sections.Faults.{Fault, AreFaultless, no_lines, one_more, NoneHolds, cases}
 use Rattle.ud_model.specs.answer.Listing.{names_in_content, names_at, listed_names, listed, levels}
 use Rattle.ud_model.specs.answer.Outcomes.{Outcome, outcome_of, output_by, FirstFaultAt, ReadsAs, HasOutcome, ran_as}
 use Rattle.ud_model.specs.answer.Outcomes.ReadsAs.{stops, ends}

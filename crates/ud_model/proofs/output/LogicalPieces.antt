@@ -1,23 +1,21 @@
 -- Logical pieces: the pieces of a logical line are the line, and those that stay form the line that
 -- stays of the line that they form.
-use Rattle.std.proofs.Common.{◌≡◌, ◌≢◌, ℕ, suc, ◌-◌, List, [], ◌∷◌, ◌++◌, length, map, take, drop, Bool, true, false, not, ◌&&◌, if◌then◌else◌, nat_eq, inl, inr, Option, Some, None, refl, sym, ◌∙◌, ap, ap₂, subst, append_assoc, append-nil, arith}
-use Rattle.std.specs.List.{ends_with, concat}
+use Rattle.std.proofs.Common.{◌≡◌, ◌≢◌, ℕ, suc, ◌-◌, List, [], ◌∷◌, ◌++◌, length, map, take, drop, Bool, true, false, not, ◌&&◌, if◌then◌else◌, refl, sym, ◌∙◌, ap, ap₂, subst, append_assoc, append-nil, arith}
+use Rattle.std.specs.List.{concat}
 use Rattle.std.proofs.lemmas.List.{take_at, drop_at, take-append-drop, map-append, drop-map, take-map}
-use Rattle.std.proofs.lemmas.Bool.{not-true, and_parts}
+use Rattle.std.proofs.lemmas.Bool.{and_parts}
 use Rattle.ud_model.specs.text.Lines.{Line, NoNewline, AreWhole, text_of, numbered_from, lines_of}
 use Rattle.ud_model.specs.text.Splicing.{is_empty, is_spliced, content}
-use Rattle.ud_model.specs.text.Lexemes.{Cell, shown}
+use Rattle.ud_model.specs.text.Lexemes.{Cell}
 use Rattle.ud_model.specs.text.Scanning.{content_cells}
 use Rattle.ud_model.specs.sections.Directives.{Directive}
 use Rattle.ud_model.specs.conditions.Table.{Argument}
 use Rattle.ud_model.specs.conditions.Conditions.{Rules}
-use Rattle.ud_model.specs.conditions.Expressions.{Expression}
-use Rattle.ud_model.specs.aids.Parsing.{expression_of}
 use Rattle.ud_model.specs.conditions.Sublists.{IsSublist, nothing, without, with_same}
-use Rattle.ud_model.specs.conditions.ResidualTexts.{keeps, left_cells, may_go, is_read, simplified_by, simplified_cells}
-use Rattle.ud_model.specs.conditions.SplicedTexts.{Piece, cell, splice, cells_among, bytes_among, token_of, after_token, left_pieces}
+use Rattle.ud_model.specs.conditions.ResidualTexts.{simplified_cells}
+use Rattle.ud_model.specs.conditions.SplicedTexts.{Piece, cell, splice, cells_among, bytes_among, token_of, after_token}
 use Rattle.ud_model.specs.output.SimplifiedTexts.{keyword_end, condition_cells, keeps_ending, left_line}
-use Rattle.ud_model.specs.output.SeveralLines.{are_spliced, joined_body, last_ending, one_line, pieces_of, pieces_by_tree, simplified_pieces, edited_pieces, edited_text}
+use Rattle.ud_model.specs.output.SeveralLines.{are_spliced, joined_body, last_ending, one_line, pieces_of, simplified_pieces, edited_pieces, edited_text}
 use Rattle.ud_model.proofs.text.LinesLemmas.{no_newline-append}
 use Rattle.ud_model.proofs.text.ScanBytes.{bytes-content_cells, content-prefix}
 use Rattle.ud_model.proofs.conditions.ResidualShape.{all_of_it, of_both}
@@ -32,9 +30,7 @@ use Rattle.ud_model.proofs.output.JoinedPieces.{ends_back, group_of_lines, body_
 -- Lines that are spliced form a group.
 pub are_group : (ls : List Line) → are_spliced ls ≡ true → IsSplicedGroup ls (last_ending ls) × (is_empty (last_ending ls) ≡ false)
 are_group [] e = cc
-are_group (l ∷ []) e =
-    let p : (not (is_spliced l) ≡ true) × (not (is_empty l.ending) ≡ true) = and_parts (not (is_spliced l)) (not (is_empty l.ending)) e in
-    ((not-true (is_spliced l) p.0, refl), not-true (is_empty l.ending) p.1)
+are_group (l ∷ []) e = grind arith
 are_group (l ∷ m ∷ ls) e =
     let p : (is_spliced l ≡ true) × (are_spliced (m ∷ ls) ≡ true) = and_parts (is_spliced l) (are_spliced (m ∷ ls)) e in
     let q = are_group (m ∷ ls) p.1 in
@@ -105,8 +101,7 @@ parted cs a b e = (
 -- The bytes are those of the lines.
 pub pieces_bytes : (cs : List Cell) (ls : List Line) (e : List ℕ) → map byte_of cs ≡ joined_body ls → IsSplicedGroup ls e → bytes_among (pieces_of cs ls) ++ e ≡ concat (map text_of ls)
 pieces_bytes cs [] e q g = absurd g
-pieces_bytes cs (l ∷ []) e q g =
-    ap₂ (λ (x y : List ℕ). x ++ y) (plain_bytes cs ∙ q ∙ append-nil (content l) ∙ content_by l false g.0) (sym g.1) ∙ sym (append-nil (text_of l))
+pieces_bytes cs (l ∷ []) e q g = grind (arith, plain_bytes, append-nil, content_by)
 pieces_bytes cs (l ∷ m ∷ ls) e q g =
     let n : ℕ = length (content l) in
     let p = parted cs (content l) (joined_body (m ∷ ls)) q in

@@ -37,9 +37,7 @@ pub data Joins : List (List ℕ) → Type 0 where
 
 pub pass : {run : List (List ℕ)} → Joins run → (us : List (List ℕ)) → logical_from [] (run ++ us) ≡ logical_from run us
 pass none us = refl
-pass (more {run = run} t p e) us =
-    ap (λ (ts : List (List ℕ)). logical_from [] ts) (append_assoc run (t ∷ []) us) ∙ pass p (t ∷ us)
-    ∙ ap (λ (b : Bool). if b then logical_from (run ++ t ∷ []) us else concat (run ++ t ∷ []) ∷ logical_from [] us) e
+pass (more {run = run} t p e) us = grind (arith, append_assoc, pass p (t ∷ us))
 
 -- A logical line that ends.
 pub record Closed (x : List ℕ) : Type 0 where
@@ -83,8 +81,7 @@ first_logical x c rest =
 -- The C run of lines in C mode.
 pub run_read : {ls : List Line} → ByPush ls → c_run_of (read_in C ls) ≡ ls
 run_read nothing_pushed = refl
-run_read (push {xs = ls} l p) =
-    ap c_run_of (read_more C ls l) ∙ run_of_last (read_in C ls) (next_reading (read_in C ls) C l) ∙ ap (λ (ks : List Line). ks ++ l ∷ []) (run_read p)
+run_read (push {xs = ls} l p) = grind (arith, read_more, run_of_last, run_read p)
 
 module _ (table : List Argument) (rules : Rules) where
   abbrev pub left_text : Reading → List ℕ
@@ -113,8 +110,7 @@ module _ (table : List Argument) (rules : Rules) where
         ∙ by (is_lone scan l && (keeps_ending (left_line table rules l d) && is_read_back table rules l d (scan_after_run [] (left_line table rules k d))))
       where
         by : (t : Bool) → text_of (if t then left_line table rules l d else l) ≡ text_of (if t then left_line table rules k d else k)
-        by true = refl
-        by false = refl
+        by t = grind arith
 
     renumbered : (before others : List Reading) → map bare before ≡ map bare others → left_text (next_reading before C l) ≡ left_text (next_reading others C k)
     renumbered before others h =

@@ -7,8 +7,8 @@ use Rattle.ud_model.specs.text.Lines.{Line}
 use Rattle.ud_model.specs.text.Scans.{Scan, Reading, is_spanning}
 use Rattle.ud_model.specs.text.Splicing.{is_spliced, content, is_empty}
 use Rattle.ud_model.specs.text.Lexemes.{Cell, shown}
-use Rattle.ud_model.specs.text.Scanning.{content_cells, scan_after_run, scan_after}
-use Rattle.ud_model.specs.sections.Directives.{Content, directive, Directive, content_of}
+use Rattle.ud_model.specs.text.Scanning.{content_cells, scan_after}
+use Rattle.ud_model.specs.sections.Directives.{directive, Directive, content_of}
 use Rattle.ud_model.specs.conditions.Table.{Argument}
 use Rattle.ud_model.specs.conditions.Expressions.{Expression}
 use Rattle.ud_model.specs.conditions.Conditions.{Rules, tree_cond}
@@ -17,8 +17,8 @@ use Rattle.ud_model.specs.conditions.ResidualTexts.{left_cells, keeps, is_litera
 use Rattle.ud_model.specs.conditions.Sublists.{IsSublist, nothing, without, with_same}
 use Rattle.ud_model.specs.aids.Parsing.{expression_of}
 use Rattle.ud_model.specs.output.InsertedLines.{read_in, read_as}
-use Rattle.ud_model.specs.output.SimplifiedTexts.{keyword_end, condition_cells, is_lone, left_cells_of, left_line, is_read_alone, may_change, line_by, simplified_line, simplified_text}
-use Rattle.ud_model.specs.output.LeftOperands.{IsReduced, MayStay, joins_line, not_understood, has_quote, decided, rest_decided, rest_misread, line_misread}
+use Rattle.ud_model.specs.output.SimplifiedTexts.{keyword_end, condition_cells, is_lone, left_cells_of, left_line, is_read_alone, may_change, simplified_line, simplified_text}
+use Rattle.ud_model.specs.output.LeftOperands.{IsReduced, MayStay, joins_line, not_understood, has_quote, decided, rest_decided, rest_misread}
 use Rattle.ud_model.specs.declared.kind.Mode.TheVariants.{C}
 use Rattle.ud_model.proofs.text.ScanBytes.{bytes-content_cells}
 use Rattle.ud_model.proofs.conditions.ResidualRead.{cells_go, written_left}
@@ -26,7 +26,7 @@ use Rattle.ud_model.proofs.conditions.ReducedTrees.{fixed_reduced}
 use Rattle.ud_model.proofs.output.Each.{Pairs, no_pair, pair}
 use Rattle.ud_model.proofs.output.SimplifiedLines.{byte_of, option_is, after_is}
 use Rattle.ud_model.proofs.output.SimplifiedLineTexts.{lines_left}
-use Rattle.ud_model.proofs.output.SimplifiedReadings.{ReadingSimplified, reading_stays, reading_edited, readings_simplified}
+use Rattle.ud_model.proofs.output.SimplifiedReadings.{ReadingSimplified, readings_simplified}
 use Rattle.ud_model.proofs.output.SimplifiedAgain.{unspliced, line_stays}
 
 -- 1. Sublists of the same length.

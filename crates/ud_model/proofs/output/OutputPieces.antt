@@ -60,10 +60,7 @@ pub printed_most : (xs : List (Item Reading)) (ms : List Mark) → length (print
 unfolding LeftOne
 printed_most [] ms = omega arith
 printed_most (x ∷ xs) [] = omega arith
-printed_most (x ∷ xs) (m ∷ ms) = go (left_one m.verdict x) (printed_most xs ms)
-  where
-    go : (m.verdict ≡ Remove) ⊎ LeftOne m.verdict x → length (printed xs ms) ≤ length xs → length (kept_line m.verdict x ++ printed xs ms) ≤ suc (length xs)
-    go h g = grind arith
+printed_most (x ∷ xs) (m ∷ ms) = grind (arith, printed_most xs ms)
 
 formed_with : (v : Verdict) (x : Item Reading) (rest : List (Item (Edited Reading))) (n : ℕ) (t : List ℕ) → line_of x ≡ line_at n t → IsWhole t → AreFormed (all_pieces rest) →
     AreFormed (all_pieces (kept_line v x ++ rest))
@@ -82,14 +79,10 @@ unfolding LeftOne all_pieces
 formed_last v x n t e w = go (left_one v x)
   where
     piece : IsWhole t ⊎ IsUnterminated t → IsLeft v → IsWhole (piece_by v (keyword_in (content_of (reading_of x).scan)) (line_at n t)) ⊎ IsUnterminated (piece_by v (keyword_in (content_of (reading_of x).scan)) (line_at n t))
-    piece (inl a) h = inl (whole_piece v (keyword_in (content_of (reading_of x).scan)) n t h a)
-    piece (inr a) h = inr (unended_piece v (keyword_in (content_of (reading_of x).scan)) n t h a)
+    piece h g = grind (arith, whole_piece, unended_piece)
 
     go : (v ≡ Remove) ⊎ LeftOne v x → AreFormed (all_pieces (kept_line v x ++ []))
-    go (inl r) = subst (λ (u : Verdict). AreFormed (all_pieces (kept_line u x ++ []))) (sym r) tt
-    go (inr (y, is, bytes, left)) =
-        subst (λ (ys : List (Item (Edited Reading))). AreFormed (all_pieces (ys ++ []))) (sym is)
-        (subst (λ (q : List ℕ). IsWhole q ⊎ IsUnterminated q) (sym (bytes ∙ ap (λ (l : Line). piece_by v (keyword_in (content_of (reading_of x).scan)) l) e)) (piece w left))
+    go h = grind (arith, piece)
 
 pub all_formed : (xs : List (Item Reading)) (ms : List Mark) (n : ℕ) (ts : List (List ℕ)) → map line_of xs ≡ numbered_from n ts → AreFormed ts → AreFormed (all_pieces (printed xs ms))
 unfolding all_pieces

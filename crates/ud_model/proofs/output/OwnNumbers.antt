@@ -1,11 +1,11 @@
 -- A text without a `#line`: each line's presumed number is its own.
-use Rattle.std.proofs.Common.{◌≡◌, ℕ, suc, ◌+◌, List, [], ◌∷◌, ◌++◌, length, map, Bool, true, not, ◌&&◌, Option, Some, None, is_some, decimal, refl, sym, ◌∙◌, ap, ap₂, subst, append_assoc, append-nil, length-append, arith}
+use Rattle.std.proofs.Common.{◌≡◌, ℕ, suc, ◌+◌, List, [], ◌∷◌, ◌++◌, length, map, Bool, true, Some, None, decimal, refl, sym, ◌∙◌, ap, subst, append_assoc, append-nil, length-append, arith}
 use Rattle.std.proofs.lemmas.List.{map-append, length-map}
 use Rattle.ud_model.specs.text.Lines.{Line, lines_of, texts_of}
 use Rattle.ud_model.specs.text.Scans.{Reading}
 use Rattle.ud_model.specs.text.Scanning.{next_reading, readings_after}
 use Rattle.ud_model.specs.output.InsertedLines.{in_mode, read_as}
-use Rattle.ud_model.specs.output.PresumedLines.{line_operand, HaveNoLineDirective, Presumed, Presumes, no_lines, passes, processes, obeys, HasOwnNumber, HaveOwnNumbers}
+use Rattle.ud_model.specs.output.PresumedLines.{line_operand, HaveNoLineDirective, Presumed, Presumes, HasOwnNumber, HaveOwnNumbers}
 use Rattle.ud_model.specs.declared.kind.Mode.{Mode}
 use Rattle.ud_model.proofs.text.Pushes.{ByPush, none, push, by_push, push_not_nil}
 use Rattle.ud_model.proofs.output.CountedText.{InOrder, numbered_in_order, order_last}
@@ -43,12 +43,8 @@ own_line ls d nil at h ps sure m p = by_last (last_by p ls d refl)
     longer = let e = length-append ls (d ∷ []) in omega (arith, e)
 
     by_last : {qs : List Presumed} {b : Bool} {k : ℕ} → LastLine ls d qs b k → (b ≡ true) × (k ≡ suc (length (ls ++ d ∷ []))) × HaveOwnNumbers qs
-    by_last (passed {ps = qs} {sure = b} {n = k} q) =
-        let r = h qs b k q in
-        (ap₂ (λ (c : Bool) (o : Option (List ℕ)). c && not (is_some o)) r.0 nil, ap (λ (i : ℕ). suc i) r.1 ∙ longer, r.2)
-    by_last (processed {ps = qs} {sure = b} {n = k} q e) =
-        let r = h qs b k q in
-        (r.0, ap (λ (i : ℕ). suc i) r.1 ∙ longer, own_both qs (record { line = d; number = k; sure = b }) r.2 (record { sure = r.0; number = r.1 ∙ sym at }))
+    by_last (passed {ps = qs} {sure = b} {n = k} q) = grind (arith, longer)
+    by_last (processed {ps = qs} {sure = b} {n = k} q e) = grind (arith, longer, own_both)
     by_last (obeyed {ps = qs} {sure = b} {n = k} q i g) = let e : None ≡ Some (decimal i) = sym nil ∙ g.operand in cc
 
 own_first : Own []

@@ -1,8 +1,7 @@
 -- The presumed numbers of an output under `-n` or `-b` are those that the count of its lines gives.
-use Rattle.std.proofs.Common.{◌≡◌, ℕ, suc, ◌+◌, ◌%◌, ◌<◌, ◌≤◌, ◌^◌, List, [], ◌∷◌, ◌++◌, Bool, true, false, not, ◌&&◌, Option, Some, None, is_some, if◌then◌else◌, codes, decimal, inl, inr, ◌⊎◌, refl, sym, ◌∙◌, ap, subst, append_assoc, ne_eqb, arith}
+use Rattle.std.proofs.Common.{◌≡◌, ℕ, suc, ◌+◌, ◌%◌, ◌<◌, ◌≤◌, ◌^◌, List, [], ◌∷◌, ◌++◌, Bool, true, false, not, ◌&&◌, Option, Some, None, is_some, if◌then◌else◌, codes, decimal, inl, inr, ◌⊎◌, refl, sym, ◌∙◌, ap, subst, append_assoc, arith}
 use Rattle.std.proofs.lemmas.Fmt.{decimal_by_steps, decimal_injective}
 use Rattle.std.proofs.lemmas.List.{same_from_push}
-use Rattle.std.proofs.lemmas.Bool.{and_parts}
 use Rattle.ud_model.specs.text.Bytes.{is_white, skip_white}
 use Rattle.ud_model.specs.text.Scans.{Scan, Reading, plain_scan}
 use Rattle.ud_model.specs.answer.Printing.{Judged}
@@ -103,10 +102,8 @@ right_line : (js : List Judged) (ss : List Reading) (d : Reading) (n : ℕ) → 
 right_line js ss d n none h is ps sure m p = by_last (last_by p ss d refl)
   where
     by_last : {qs : List Presumed} {b : Bool} {k : ℕ} → LastLine ss d qs b k → (b ≡ true → k ≡ suc n) × HaveInputNumbers js qs
-    by_last (passed {ps = qs} {sure = b} {n = k} q) =
-        let r = h qs b k q in (λ e. ap (λ (i : ℕ). suc i) (r.0 (and_parts b (not (is_some (line_operand d.scan))) e).0), r.1)
-    by_last (processed {ps = qs} {sure = b} {n = k} q e) =
-        let r = h qs b k q in (λ f. ap (λ (i : ℕ). suc i) (r.0 f), have_both js qs (record { line = d; number = k; sure = b }) r.1 (λ f. is k (r.0 f)))
+    by_last (passed {ps = qs} {sure = b} {n = k} q) = grind arith
+    by_last (processed {ps = qs} {sure = b} {n = k} q e) = grind (arith, have_both)
     by_last (obeyed {ps = qs} {sure = b} {n = k} q i g) = let e : None ≡ Some (decimal i) = sym none ∙ g.operand in cc
 
 -- An inserted `#line`.
@@ -117,8 +114,7 @@ right_number js ss d n k small is h ps sure m p = by_last (last_by p ss d refl)
     some = inserted_operand k d (omega (arith, small)) is
 
     unsure : (b : Bool) (o : Option (List ℕ)) → o ≡ Some (decimal k) → (b && not (is_some o)) ≡ true → ⊥
-    unsure true o e f = let g : not (is_some o) ≡ false = ap (λ (x : Option (List ℕ)). not (is_some x)) e in cc
-    unsure false o e f = cc
+    unsure b o e f = grind arith
 
     by_last : {qs : List Presumed} {b : Bool} {i : ℕ} → LastLine ss d qs b i → (b ≡ true → i ≡ k) × HaveInputNumbers js qs
     by_last (passed {ps = qs} {sure = b} {n = i} q) = let r = h qs b i q in (λ e. absurd (unsure b (line_operand d.scan) some e), r.1)

@@ -1,5 +1,5 @@
 -- The lines that are selected of a text have presumed numbers, if C obeys each `#line` among them.
-use Rattle.std.proofs.Common.{◌≡◌, ℕ, List, [], ◌∷◌, ◌++◌, map, Bool, true, false, Option, Some, None, inl, inr, refl, sym, ◌∙◌, ap, subst, append_assoc, append-nil}
+use Rattle.std.proofs.Common.{◌≡◌, ℕ, List, [], ◌∷◌, ◌++◌, map, Bool, true, Option, Some, None, inl, inr, refl, sym, ◌∙◌, ap, subst, append_assoc, append-nil}
 use Rattle.std.proofs.lemmas.List.{map-append}
 use Rattle.ud_model.specs.text.Scans.{Reading}
 use Rattle.ud_model.specs.sections.Tree.{Item, Nodes, Groups, Elifs, nothing, text, section, conditional, otherwise, first, elif, closed, text_line, elif_line, else_line, endif_line, lines_of_nodes, lines_of_groups, lines_of_elifs}

@@ -1,5 +1,5 @@
 -- The pruned tree is what the table leaves of each section and its groups.
-use Rattle.std.proofs.Common.{◌≡◌, List, [], ◌∷◌, ◌++◌, Bool, true, false, not, ◌&&◌, Some, None, if◌then◌else◌, refl, sym, ◌∙◌, ap, ap₂, subst, append_assoc, append-nil, arith}
+use Rattle.std.proofs.Common.{◌≡◌, List, [], ◌∷◌, ◌++◌, Bool, true, false, Some, None, if◌then◌else◌, refl, sym, ◌∙◌, ap, ap₂, subst, append_assoc, append-nil, arith}
 use Rattle.std.specs.Prelude.{◌↔◌}
 use Rattle.std.proofs.lemmas.Bool.{both_ways}
 use Rattle.ud_model.specs.declared.cond.Cond.{Cond}
@@ -7,7 +7,7 @@ use Rattle.ud_model.specs.declared.cond.Cond.TheVariants.{Yes, No, Unknown}
 use Rattle.ud_model.specs.declared.verdict.Verdict.{Verdict}
 use Rattle.ud_model.specs.declared.verdict.Verdict.TheVariants.{Keep, Remove, ToElse, ToEndif}
 use Rattle.ud_model.specs.sections.Tree.{Item, Opener, Nodes, Groups, Elifs, text_line, if_line, elif_line, else_line, endif_line, nothing, text, section, conditional, otherwise, first, elif, lines_of_nodes, lines_of_groups, lines_of_elifs}
-use Rattle.ud_model.specs.sections.Pruning.{Part, an_if, an_elif, an_else, given_way, first_kept, next_after, further_on, up_to_true, is_false, is_kept, any_true, all_false, gives_way, ends_with_first_true, verdict_in_position, opener_verdict, first_kept_verdict, later_verdict, endif_verdict, conds_of_elifs, conds_of_groups}
+use Rattle.ud_model.specs.sections.Pruning.{Part, an_if, an_elif, an_else, is_kept, any_true, all_false, gives_way, ends_with_first_true, opener_verdict, first_kept_verdict, later_verdict, endif_verdict, conds_of_elifs, conds_of_groups}
 use Rattle.ud_model.specs.output.Pruned.{Edited, edited, edited_opener, kept_line, IsPruned, Group, group, groups_of_elifs, groups_of, is_kept_group, left_of, others_left, IsEndif, ArePruned, no_nodes, text_stays, gives_way_to, section_stays, AreOfFirst, no_group, of_later, of_this, AreKept, no_groups, without, with_this}
 use Rattle.ud_model.proofs.sections.Stages.{Stage, leading, given, going, at_true, past, stage, stage_inside, kept_at, endif_at, kept_by_stage, endif_by_stage}
 use Rattle.ud_model.proofs.output.Each.{Each, each_both}
@@ -142,9 +142,7 @@ module _ {L : Type 0} where
   -- The openers that are left of the groups that aren't kept, with a group more.
   others_both : (all : List Cond) (gs more : List (Group L)) → others_left all (gs ++ more) ≡ others_left all gs ++ others_left all more
   others_both all [] more = refl
-  others_both all (g ∷ gs) more =
-      ap (λ (l : List (Item (Edited L))). (if is_kept_group g then [] else left_of all g) ++ l) (others_both all gs more)
-      ∙ sym (append_assoc (if is_kept_group g then [] else left_of all g) (others_left all gs) (others_left all more))
+  others_both all (g ∷ gs) more = grind (arith, append_assoc, others_both all gs more)
 
   other_kept : (all : List Cond) (g : Group L) → is_kept_group g ≡ true → others_left all (g ∷ []) ≡ []
   other_kept all g e = ap (λ (b : Bool). (if b then [] else left_of all g) ++ []) e

@@ -1,14 +1,13 @@
 -- Heights: one more line makes a text no higher than it is deep then, and pruning makes none
 -- higher.
-use Rattle.std.proofs.Common.{◌≡◌, ℕ, suc, ◌≤◌, max, Some, None, refl, ap₂, arith}
+use Rattle.std.proofs.Common.{◌≡◌, ℕ, suc, ◌≤◌, max, refl, ap₂, arith}
 use Rattle.ud_model.specs.declared.cond.Cond.{Cond}
-use Rattle.ud_model.specs.declared.cond.Cond.TheVariants.{Yes, No, Unknown}
-use Rattle.ud_model.specs.sections.Tree.{Item, Opener, Nodes, Groups, Elifs, Head, Tree, nothing, text, section, conditional, otherwise, first, elif, if_head, elif_head, else_head, depth, with_lines, groups_with_lines, elifs_with_lines}
+use Rattle.ud_model.specs.sections.Tree.{Item, Opener, Nodes, Groups, Elifs, Head, Tree, nothing, text, section, conditional, otherwise, first, elif, depth, with_lines, groups_with_lines, elifs_with_lines}
 use Rattle.ud_model.specs.sections.Pruning.{Part, an_if, an_elif}
 use Rattle.ud_model.specs.aids.Height.{height, height_of_nodes, height_of_groups, height_of_elifs, height_of_head}
 use Rattle.ud_model.specs.output.Pruned.{Edited, then_nodes}
 use Rattle.ud_model.proofs.output.Folded.{KeptGroups, none_kept, replaced, kept_groups, ended, with_group, with_else, then_kept, folded, kept_groups_of, kept_elifs_of}
-use Rattle.ud_model.proofs.sections.Growth.{Adds, adds_text, adds_if, elif_after_if, elif_after_elif, else_after_if, else_after_elif, adds_endif, adds_under, complete}
+use Rattle.ud_model.proofs.sections.Growth.{Adds, adds_endif, adds_under, complete}
 
 module _ {L : Type 0} where
   complete_most : (h : Head L) (b : Nodes L) → height_of_groups (complete h b) ≤ max (height_of_head h) (height_of_nodes b)

@@ -1,13 +1,12 @@
 -- The openers of a pruned tree stay as they are, or become an `#if`.
-use Rattle.std.proofs.Common.{[], ◌∷◌, ◌++◌, Some, None, arith}
+use Rattle.std.proofs.Common.{arith}
 use Rattle.ud_model.specs.declared.cond.Cond.{Cond}
-use Rattle.ud_model.specs.declared.cond.Cond.TheVariants.{Yes, No, Unknown}
 use Rattle.ud_model.specs.declared.verdict.Verdict.{Verdict}
-use Rattle.ud_model.specs.declared.verdict.Verdict.TheVariants.{Keep, Remove, ToIf, ToElse, ToEndif}
+use Rattle.ud_model.specs.declared.verdict.Verdict.TheVariants.{Keep, ToIf}
 use Rattle.ud_model.specs.sections.Tree.{Opener, Nodes, Groups, Elifs, nothing, text, section, conditional, otherwise, first, elif}
-use Rattle.ud_model.specs.sections.Pruning.{Part, an_if, an_elif, an_else, first_kept_verdict}
+use Rattle.ud_model.specs.sections.Pruning.{Part, an_if, an_elif, first_kept_verdict}
 use Rattle.ud_model.specs.output.Worlds.{openers, openers_of_groups, openers_of_elifs}
-use Rattle.ud_model.specs.output.Pruned.{Edited, edited, then_nodes}
+use Rattle.ud_model.specs.output.Pruned.{Edited, then_nodes}
 use Rattle.ud_model.proofs.output.Folded.{KeptGroups, none_kept, replaced, kept_groups, ended, with_group, with_else, then_kept, folded, kept_groups_of, kept_elifs_of}
 use Rattle.ud_model.proofs.output.Each.{Each, each_parts, each_both}
 

@@ -1,15 +1,12 @@
 -- Under plain options each line of a text is read in one mode: without `-t` in C mode.
-use Rattle.std.proofs.Common.{◌≡◌, ℕ, List, map, Bool, false, sym, ◌∙◌, ap, arith}
-use Rattle.ud_model.specs.text.Lines.{Line}
+use Rattle.std.proofs.Common.{◌≡◌, ℕ, List, map, Bool, false, ◌∙◌, ap, arith}
 use Rattle.ud_model.specs.text.Scans.{Reading}
 use Rattle.ud_model.specs.sections.Tree.{Item, Tree, lines}
-use Rattle.ud_model.specs.sections.Items.{Options, reading_of, line_of, mode_by}
+use Rattle.ud_model.specs.sections.Items.{Options, reading_of, mode_by}
 use Rattle.ud_model.specs.output.Rereading.{IsPlain, IsTreeOf}
-use Rattle.ud_model.specs.output.InsertedLines.{read_in, read_as}
+use Rattle.ud_model.specs.output.InsertedLines.{read_as}
 use Rattle.ud_model.specs.declared.kind.Mode.TheVariants.{C}
 use Rattle.ud_model.proofs.sections.Soundness.{read_lines}
-use Rattle.ud_model.proofs.output.Heeding.{the_mode}
-use Rattle.ud_model.proofs.output.InsertedTree.{items}
 use Rattle.ud_model.proofs.output.InsertedText.{items_are, readings_back}
 
 -- The lines of a text's tree are its lines, each read in the one mode.

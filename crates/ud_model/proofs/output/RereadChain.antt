@@ -1,5 +1,5 @@
 -- Reading an output again, line by line: the output for all lines.
-use Rattle.std.proofs.Common.{◌≡◌, ℕ, suc, List, [], ◌∷◌, ◌++◌, map, refl, sym, ◌∙◌, ap, subst, inl}
+use Rattle.std.proofs.Common.{◌≡◌, ℕ, suc, List, [], ◌∷◌, ◌++◌, map, refl, sym, ◌∙◌, ap, subst, inl, arith}
 use Rattle.ud_model.specs.text.Lines.{Line, ending_of, numbered_from, AreFormed}
 use Rattle.ud_model.specs.text.Scans.{Reading}
 use Rattle.ud_model.specs.sections.Tree.{Item, Tree, lines}
@@ -61,8 +61,4 @@ module _ (o : Options) (p : IsPlain o) where
   pub again : (xs : List (Item Reading)) (t : Tree Reading) → AreFaultless o xs t → AllButLast (map line_of xs) → (ys : List (Item Reading)) × Again o (the_mode o) xs t ys
   again _ _ no_lines h = ([], (start o (the_mode o)).again)
   again _ _ (one_more xs t s l u e n) h =
-      let k : Each IsInner (map line_of xs) × IsLine l = ends_before (map line_of xs) l (subst AllButLast (lines_with_next o xs t l) h) in
-      let b : (ys : List (Item Reading)) × Between o (the_mode o) xs t ys = between xs t s k.0 in
-      let z : (zs : List (Item Reading)) × Again o (the_mode o) (xs ++ next_item o xs t l ∷ []) u zs × (HasEnd l → Between o (the_mode o) (xs ++ next_item o xs t l ∷ []) u zs) =
-      one_step xs t s b.0 b.1 l u k.1 e n in
-      (z.0, z.1)
+      grind (arith, ends_before, lines_with_next, between, one_step)

@@ -1,27 +1,25 @@
 -- The laws of the output, from the chain of lemmas.
-use Rattle.std.proofs.Common.{◌≡◌, ℕ, ◌≤◌, List, [], ◌∷◌, ◌++◌, length, map, Bool, true, false, not, ◌||◌, Option, None, refl, sym, ◌∙◌, ap, ap₂, subst, append-nil, arith}
+use Rattle.std.proofs.Common.{◌≡◌, ℕ, ◌≤◌, List, [], ◌∷◌, length, map, Bool, true, false, not, ◌||◌, Option, None, refl, sym, ◌∙◌, ap, ap₂, subst, arith}
 use Rattle.std.specs.List.{concat}
-use Rattle.std.proofs.lemmas.List.{map-append, length-map}
-use Rattle.std.proofs.lemmas.List.Folds.{concat-append}
+use Rattle.std.proofs.lemmas.List.{length-map}
 use Rattle.ud_model.specs.text.Lines.{Line, text_of, texts_of, lines_of, numbered_from, AreFormed}
 use Rattle.ud_model.specs.text.Scans.{Reading}
-use Rattle.ud_model.specs.sections.Directives.{content_of}
-use Rattle.ud_model.specs.sections.Tree.{Item, Nodes, Groups, Elifs, Tree, text, section, conditional, otherwise, first, elif, text_line, if_line, elif_line, else_line, endif_line, closed, open_section, nothing, lines, lines_of_nodes, innermost, item_with, with_lines, groups_with_lines, elifs_with_lines}
-use Rattle.ud_model.specs.sections.Pruning.{Mark, marks, Part, an_if, an_elif, an_else, first_kept_verdict}
+use Rattle.ud_model.specs.sections.Tree.{Item, Nodes, Groups, Elifs, Tree, text, section, conditional, otherwise, first, elif, closed, open_section, nothing, lines, lines_of_nodes, innermost, item_with, with_lines, groups_with_lines, elifs_with_lines}
+use Rattle.ud_model.specs.sections.Pruning.{Mark, marks, Part, first_kept_verdict}
 use Rattle.ud_model.specs.sections.Items.{Options, reading_of, line_of}
-use Rattle.ud_model.specs.sections.Faults.{Fault, end_fault, end_by, ends_in_comment, last_number}
-use Rattle.ud_model.specs.answer.Printing.{Judged, judged_lines, piece_by, piece_after, pieces_by, style_of, some_other, keyword_in, printed_by}
+use Rattle.ud_model.specs.sections.Faults.{Fault, end_fault, ends_in_comment, last_number}
+use Rattle.ud_model.specs.answer.Printing.{Judged, judged_lines, piece_after, pieces_by, style_of, some_other, printed_by}
 use Rattle.ud_model.specs.answer.Outcomes.{Outcome, HasOutcome, ran_as, HasNoFault, output_by, differs_by}
 use Rattle.ud_model.specs.answer.Outcomes.ReadsAs.{stops, ends}
 use Rattle.ud_model.specs.output.Worlds.{World, selected, EachReached, Agrees, openers, openers_in}
-use Rattle.ud_model.specs.output.Pruned.{Edited, edited, IsPruned, pruned_lines, printed, kept_line, IsUndecided, GroupsUndecided, ElifsUndecided}
+use Rattle.ud_model.specs.output.Pruned.{Edited, edited, IsPruned, pruned_lines, printed, IsUndecided, GroupsUndecided, ElifsUndecided}
 use Rattle.ud_model.proofs.output.Folded.{folded}
-use Rattle.ud_model.specs.output.Rereading.{IsPlain, AreRead, IsTreeOf, CleanRun, KeepsTruths, LinesFit, line_bytes, edited_bytes}
+use Rattle.ud_model.specs.output.Rereading.{IsPlain, IsTreeOf, CleanRun, KeepsTruths, LinesFit, line_bytes, edited_bytes}
 use Rattle.ud_model.specs.conditions.Expressions.{Expression}
 use Rattle.ud_model.specs.output.CSelection.{condition_in, MayBe, IsCWorld}
 use Rattle.ud_model.specs.declared.settings.Listing.{Listing}
 use Rattle.ud_model.specs.declared.verdict.Verdict.{Verdict}
-use Rattle.ud_model.specs.declared.verdict.Verdict.TheVariants.{Keep, Remove, ToIf, ToElse, ToEndif}
+use Rattle.ud_model.specs.declared.verdict.Verdict.TheVariants.{Keep}
 use Rattle.ud_model.proofs.sections.Soundness.{sound_read, one_tree_of, sound_lines, read_lines}
 use Rattle.ud_model.proofs.output.Changed.{whole_lines_are, lines_join, lone, pieces_lone, no_innermost, end_parts}
 use Rattle.ud_model.proofs.output.PrintedPruned.{printed-pruned}
@@ -51,19 +49,11 @@ use Rattle.ud_model.proofs.output.RereadChain.{AllButLast, lines_end, again}
 use Rattle.ud_model.proofs.text.LinesLemmas.{lines_exist}
 use Rattle.ud_model.proofs.output.CSelected.{Clear, sound_clear, c_agrees}
 
--- The piece of a line is the output for it.
-left_bytes : (v : Verdict) (x : Item Reading) →
-    concat (map (λ y. edited_bytes (line_in y)) (kept_line v x)) ≡ piece_by v (keyword_in (content_of (reading_of x).scan)) (line_of x)
-left_bytes v x = grind (arith, append-nil)
-
 abbrev pub left_piece : Item (Edited Reading) → List ℕ
 left_piece y = edited_bytes (line_in y)
 
 printed_bytes : (xs : List (Item Reading)) (ms : List Mark) → concat (map left_piece (printed xs ms)) ≡ concat (map (lone false false) (judged_lines xs ms))
-printed_bytes (x ∷ xs) (m ∷ ms) =
-    ap (λ (l : List (List ℕ)). concat l) (map-append left_piece (kept_line m.verdict x) (printed xs ms))
-    ∙ concat-append (map left_piece (kept_line m.verdict x)) (map left_piece (printed xs ms))
-    ∙ ap₂ (λ (a b : List ℕ). a ++ b) (left_bytes m.verdict x) (printed_bytes xs ms)
+printed_bytes (x ∷ xs) (m ∷ ms) = grind (arith, printed_bytes xs ms)
 printed_bytes _ _ = refl
 
 -- Without options the pieces are the output.
@@ -221,8 +211,7 @@ module _ (k : CleanRun) (w : World Reading) (a : Agrees w k.before) (R : Option 
       (pruned_reached w (λ (l : Reading). R (condition_in l) (w l)) (λ (e : Edited Reading). R (left_seen e).condition (w e.line)) still k.before a g)
     where
       still : (part : Part) (l : Reading) → R (condition_in l) (w l) → R (left_condition (first_kept_verdict part) l) (w l)
-      still an_if l h = h
-      still _ _ h = h
+      still part l h = grind arith
 
 module _ (k : CleanRun) (w : World Reading) (g : IsCWorld k.options.table w k.before) where
   -- A world that C may give the input agrees with the decided conditions.
@@ -276,9 +265,7 @@ after_undecided k = output_undecided k.after k.before (what_is_left k)
 
 -- If each line stays, the pieces are the lines.
 whole_pieces : (ys : List (Item Reading)) (ms : List Mark) → Each Stays ms → map (lone false false) (judged_lines ys ms) ≡ map whole (judged_lines ys ms)
-whole_pieces (y ∷ ys) (m ∷ ms) h =
-    ap₂ (λ (a : List ℕ) (b : List (List ℕ)). a ∷ b)
-    (ap (λ (n : Mark). piece_by n.verdict (keyword_in (content_of (reading_of y).scan)) (line_of y)) h.0) (whole_pieces ys ms h.1)
+whole_pieces (y ∷ ys) (m ∷ ms) h = grind (arith, whole_pieces ys ms h.1)
 whole_pieces _ _ _ = refl
 
 none_differ : (js : List Judged) → some_other (map whole js) js ≡ false

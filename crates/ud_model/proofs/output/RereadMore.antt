@@ -11,7 +11,6 @@ use Rattle.ud_model.specs.sections.Faults.{ends_removed, is_cut, is_in_block, en
 use Rattle.ud_model.specs.output.Pruned.{Edited, kept_line, printed}
 use Rattle.ud_model.specs.output.Rereading.{line_bytes}
 use Rattle.ud_model.specs.declared.kind.Mode.{Mode}
-use Rattle.ud_model.specs.declared.verdict.Verdict.{Verdict}
 use Rattle.ud_model.specs.declared.verdict.Verdict.TheVariants.{Remove}
 use Rattle.ud_model.proofs.sections.Soundness.{reading_of-item_of}
 use Rattle.ud_model.proofs.output.Each.{each_both}

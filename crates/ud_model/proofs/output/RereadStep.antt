@@ -10,13 +10,13 @@ use Rattle.ud_model.specs.sections.Directives.{content_of}
 use Rattle.ud_model.specs.sections.Tree.{Item, Tree, lines}
 use Rattle.ud_model.specs.sections.Pruning.{Mark, marks, is_removed}
 use Rattle.ud_model.specs.sections.Items.{Options, reading_of, item_of, read_after}
-use Rattle.ud_model.specs.sections.Faults.{NoneHolds, cases, ends_removed, is_obfuscated_after, is_cut, ends_in_comment, is_in_block, keeps_rest}
+use Rattle.ud_model.specs.sections.Faults.{NoneHolds, cases, ends_removed, is_obfuscated_after, is_cut, ends_in_comment, keeps_rest}
 use Rattle.ud_model.specs.answer.Printing.{piece_by, keyword_in}
 use Rattle.ud_model.specs.output.Rereading.{line_bytes}
 use Rattle.ud_model.specs.declared.kind.Mode.{Mode}
 use Rattle.ud_model.specs.declared.kind.Mode.TheVariants.{C, Plain}
 use Rattle.ud_model.specs.declared.verdict.Verdict.{Verdict}
-use Rattle.ud_model.specs.declared.verdict.Verdict.TheVariants.{Keep, Remove, ToIf, ToElse, ToEndif}
+use Rattle.ud_model.specs.declared.verdict.Verdict.TheVariants.{Remove}
 use Rattle.ud_model.proofs.sections.Soundness.{reading_of-item_of}
 use Rattle.ud_model.proofs.output.Formed.{IsLeft}
 use Rattle.ud_model.proofs.output.Heeding.{ReadIn, none_read, one_read}
@@ -51,8 +51,7 @@ plain_run o _ (one_read ys r l) = ap c_run_of (readings_last o ys ys Plain l) �
 
 plain_calm : (o : Options) (ys : List (Item Reading)) → ReadIn o Plain ys → ends_in_comment ys ≡ false
 plain_calm o _ none_read = refl
-plain_calm o _ (one_read ys r l) =
-    last_comment ys (item_of o (read_after ys Plain l)) ∙ ap (λ (q : Reading). is_in_block q.scan.comment) (reading_of-item_of o (read_after ys Plain l))
+plain_calm o _ (one_read ys r l) = grind (arith, last_comment, reading_of-item_of)
 
 -- The facts of one more line.
 pub record More (o : Options) (m : Mode) (xs : List (Item Reading)) (t : Tree Reading) (l : Line) (u : Tree Reading) : Type 0 where
@@ -208,8 +207,7 @@ module _ (o : Options) (xs : List (Item Reading)) (t : Tree Reading) (ys : List 
   code_by (alike w white on a c f r) (inl e) = code_gone w white on a (r (stayed_alone w white on a f e)) e
   code_by (alike w white on a c f r) (inr h) = code_left w white on a c h
   code_by (gone w white a r e) (inl f) = code_gone w white true a r f
-  code_by (gone w white a r e) (inr h) =
-      let p : false ≡ true = sym (left_stays k.grown.mark.verdict h) ∙ both_alike (sym a.joins_on) ∙ e in cc
+  code_by (gone w white a r e) (inr h) = grind (arith, left_stays, both_alike)
 
   code_step : (zs : List (Item Reading)) × Stepped o C xs u l zs
   code_step = code_by b.carry (goes_or_left k.grown.mark.verdict)

@@ -8,7 +8,7 @@ use Rattle.ud_model.specs.output.Pruned.{Edited}
 use Rattle.ud_model.specs.output.Rereading.{line_bytes, edited_bytes}
 use Rattle.ud_model.specs.output.CSelection.{condition_in}
 use Rattle.ud_model.specs.declared.verdict.Verdict.{Verdict}
-use Rattle.ud_model.specs.declared.verdict.Verdict.TheVariants.{Keep, Remove, ToIf, ToElse, ToEndif}
+use Rattle.ud_model.specs.declared.verdict.Verdict.TheVariants.{Keep, ToIf}
 
 -- The bytes of a line, and the condition of its directive.
 pub record Seen : Type 0 where

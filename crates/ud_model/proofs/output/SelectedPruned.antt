@@ -1,9 +1,8 @@
 -- A world selects of the pruned nodes the lines that it selects of the nodes, if it agrees with the
 -- decided conditions.
-use Rattle.std.proofs.Common.{◌≡◌, List, [], ◌∷◌, ◌++◌, map, Bool, true, false, Option, Some, None, option_map, refl, sym, ◌∙◌, ap, ap₂, append-nil, append_assoc, arith}
+use Rattle.std.proofs.Common.{◌≡◌, List, [], ◌∷◌, ◌++◌, map, true, Option, Some, None, option_map, refl, sym, ◌∙◌, ap, append-nil, append_assoc, arith}
 use Rattle.std.proofs.lemmas.List.{map-append}
 use Rattle.ud_model.specs.declared.cond.Cond.{Cond}
-use Rattle.ud_model.specs.declared.cond.Cond.TheVariants.{Yes, No, Unknown}
 use Rattle.ud_model.specs.declared.verdict.Verdict.TheVariants.{Keep}
 use Rattle.ud_model.specs.sections.Tree.{Opener, Nodes, Groups, Elifs, nothing, text, section, conditional, otherwise, first, elif}
 use Rattle.ud_model.specs.sections.Pruning.{Part, an_if, an_elif}
@@ -48,11 +47,8 @@ module _ {L : Type 0} (w : World L) where
 
   selected_then : (ms ns : Nodes (Edited L)) → selected out_world (then_nodes ms ns) ≡ selected out_world ms ++ selected out_world ns
   selected_then ms nothing = sym (append-nil (selected out_world ms))
-  selected_then ms (text ns l) =
-      ap (λ (ls : List (Edited L)). ls ++ l ∷ []) (selected_then ms ns) ∙ append_assoc (selected out_world ms) (selected out_world ns) (l ∷ [])
-  selected_then ms (section ns gs e) =
-      ap (λ (ls : List (Edited L)). ls ++ selected_groups out_world gs) (selected_then ms ns)
-      ∙ append_assoc (selected out_world ms) (selected out_world ns) (selected_groups out_world gs)
+  selected_then ms (text ns l) = grind (arith, append_assoc, selected_then ms ns)
+  selected_then ms (section ns gs e) = grind (arith, append_assoc, selected_then ms ns)
 
   section_step : (before ls : List L) (ps : Nodes (Edited L)) (left : KeptGroups L) (e : L) → map kept before ≡ selected out_world ps → Final ls left →
       map kept (before ++ ls) ≡ selected out_world (then_kept ps left e)

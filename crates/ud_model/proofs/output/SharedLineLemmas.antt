@@ -18,7 +18,7 @@ use Rattle.ud_model.specs.declared.settings.Settings.{Settings}
 use Rattle.ud_model.specs.declared.settings.Listing.{Listing}
 use Rattle.ud_model.specs.declared.settings.Listing.TheVariants.{Off}
 use Rattle.ud_model.specs.declared.verdict.Verdict.{Verdict}
-use Rattle.ud_model.specs.declared.verdict.Verdict.TheVariants.{Keep, Remove, ToIf, ToElse, ToEndif}
+use Rattle.ud_model.specs.declared.verdict.Verdict.TheVariants.{Remove}
 use Rattle.ud_model.proofs.conditions.NamedAlike.{Alike}
 use Rattle.ud_model.proofs.output.Each.{Each}
 use Rattle.ud_model.proofs.output.Changed.{lone, pieces_lone}

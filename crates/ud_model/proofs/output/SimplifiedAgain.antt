@@ -1,6 +1,5 @@
 -- Simplified again: a simplified text stays as it is.
-use Rattle.std.proofs.Common.{◌≡◌, ℕ, ◌-◌, List, [], ◌∷◌, ◌++◌, length, map, take, drop, Bool, true, false, Some, None, if◌then◌else◌, refl, sym, ◌∙◌, ap, ap₂, subst, ◌⊎◌, inl, inr, arith}
-use Rattle.std.specs.List.{concat}
+use Rattle.std.proofs.Common.{◌≡◌, ℕ, ◌-◌, List, [], ◌∷◌, ◌++◌, length, map, take, drop, Bool, false, Some, None, if◌then◌else◌, refl, sym, ◌∙◌, ap, ap₂, subst, ◌⊎◌, inl, inr, arith}
 use Rattle.std.proofs.lemmas.List.{drop-map, take-append-drop}
 use Rattle.std.proofs.lemmas.Bool.{or_parts}
 use Rattle.ud_model.specs.text.Lines.{Line, text_of}
@@ -15,9 +14,7 @@ use Rattle.ud_model.specs.conditions.Conditions.{Rules}
 use Rattle.ud_model.specs.conditions.Residuals.{residual}
 use Rattle.ud_model.specs.conditions.ResidualTexts.{simplified_cells}
 use Rattle.ud_model.specs.aids.Parsing.{expression_of}
-use Rattle.ud_model.specs.output.InsertedLines.{read_in}
 use Rattle.ud_model.specs.output.SimplifiedTexts.{keyword_end, condition_cells, left_line, may_change, line_by, simplified_line, simplified_text}
-use Rattle.ud_model.specs.declared.kind.Mode.TheVariants.{C}
 use Rattle.ud_model.proofs.text.ScanLaws.{joins_after-code}
 use Rattle.ud_model.proofs.text.ScanLemmas.{joins_last}
 use Rattle.ud_model.proofs.text.ScanBytes.{bytes-content_cells}
@@ -69,16 +66,14 @@ module _ (table : List Argument) (rules : Rules) where
         ap (λ (c : Content). line_by table rules s.scan s.line c) has_now ∙ by (may_change table rules s.scan s.line now) w
       where
         by : (b : Bool) → left_line table rules s.line i.edited.now ≡ s.line → (if b then left_line table rules s.line i.edited.now else s.line) ≡ s.line
-        by true w = w
-        by false w = refl
+        by b w = grind arith
 
     edited_again : simplified_line table rules s ≡ s.line
     edited_again = by (option_is (expression_of (map shown (condition_cells r.line d))))
       where
         go : (e : Expression) → (simplified_cells table rules (condition_cells r.line d) ≡ condition_cells r.line d) ⊎ (expression_of (map shown (simplified_cells table rules (condition_cells r.line d))) ≡ Some (residual table rules e).tree) →
             simplified_line table rules s ≡ s.line
-        go e (inl q) = same_line (whole_line r.line d lone q)
-        go e (inr q) = left_again e q
+        go e h = grind (arith, same_line, whole_line, lone, left_again)
 
         by : (expression_of (map shown (condition_cells r.line d)) ≡ None) ⊎ ((e : Expression) × (expression_of (map shown (condition_cells r.line d)) ≡ Some e)) → simplified_line table rules s ≡ s.line
         by (inl n) = same_line (whole_line r.line d lone (untouched table rules (condition_cells r.line d) n))

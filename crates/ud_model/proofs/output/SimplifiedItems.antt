@@ -2,10 +2,10 @@
 -- residuals of their conditions.
 use Rattle.std.proofs.Common.{◌≡◌, List, refl, sym, ◌∙◌, ap, subst, arith}
 use Rattle.ud_model.specs.text.Scans.{Reading}
-use Rattle.ud_model.specs.sections.Directives.{Content, directive, Directive, content_of, role_of}
-use Rattle.ud_model.specs.conditions.Conditions.{Decision, decision_on}
+use Rattle.ud_model.specs.sections.Directives.{directive, Directive, content_of, role_of}
+use Rattle.ud_model.specs.conditions.Conditions.{Decision}
 use Rattle.ud_model.specs.sections.Tree.{Item, Opener, text_line, if_line, elif_line, else_line, endif_line}
-use Rattle.ud_model.specs.sections.Items.{Options, item_of, item_by, directive_item, rules_of}
+use Rattle.ud_model.specs.sections.Items.{Options, item_of, directive_item, rules_of}
 use Rattle.ud_model.specs.output.SimplifiedTrees.{LineSimplified, condition_stays}
 use Rattle.ud_model.specs.declared.kind.Kind.{Kind}
 use Rattle.ud_model.proofs.output.Each.{Pairs, no_pair, pair}

@@ -1,12 +1,12 @@
 -- The lines of a simplified text are the simplified lines.
-use Rattle.std.proofs.Common.{◌≡◌, ℕ, suc, ◌-◌, List, [], ◌∷◌, ◌++◌, length, map, take, Bool, true, false, refl, sym, ◌∙◌, ap, ap₂, subst, ◌⊎◌, inl, inr, if◌then◌else◌, nat_eq, arith}
+use Rattle.std.proofs.Common.{◌≡◌, ℕ, suc, ◌-◌, List, [], ◌∷◌, ◌++◌, length, map, take, Bool, refl, sym, ◌∙◌, ap, ap₂, subst, ◌⊎◌, inl, inr, if◌then◌else◌, nat_eq, arith}
 use Rattle.std.specs.List.{ends_with}
 use Rattle.std.proofs.lemmas.List.{map-append, drop-map}
 use Rattle.ud_model.specs.text.Lines.{Line, NoNewline, IsWhole, IsUnterminated, AreFormed, text_of, ending_of, line_at, numbered_from, lines_of, texts_of}
 use Rattle.ud_model.specs.text.Scans.{Scan, Reading}
 use Rattle.ud_model.specs.text.Splicing.{content}
 use Rattle.ud_model.specs.text.Lexemes.{Cell}
-use Rattle.ud_model.specs.text.Scanning.{content_cells, next_reading}
+use Rattle.ud_model.specs.text.Scanning.{content_cells}
 use Rattle.ud_model.specs.conditions.Table.{Argument}
 use Rattle.ud_model.specs.conditions.Conditions.{Rules}
 use Rattle.ud_model.specs.conditions.Sublists.{IsSublist, nothing, without, with_same}
@@ -122,10 +122,7 @@ module _ (table : List Argument) (rules : Rules) where
   -- The readings of lines are of these lines.
   pub read_back_by : {ls : List Line} → ByPush ls → map (λ (r : Reading). r.line) (read_in C ls) ≡ ls
   read_back_by nothing_pushed = refl
-  read_back_by (push {xs = ls} l p) =
-      ap (λ (rs : List Reading). map (λ (r : Reading). r.line) rs) (read_more C ls l)
-      ∙ map-append (λ (r : Reading). r.line) (read_in C ls) (next_reading (read_in C ls) C l ∷ [])
-      ∙ ap (λ (ks : List Line). ks ++ l ∷ []) (read_back_by p)
+  read_back_by (push {xs = ls} l p) = grind (arith, read_more, map-append, read_back_by p)
 
   -- The lines of the simplified text.
   pub lines_left : (bytes : List ℕ) → lines_of (simplified_text table rules bytes) ≡ map (simplified_line table rules) (read_as C bytes)

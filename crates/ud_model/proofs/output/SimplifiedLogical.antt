@@ -41,9 +41,7 @@ open_spliced l s = ap (λ (b : Bool). content l ++ (if b || is_empty l.ending th
 
 group_text : (ls : List Line) (e : List ℕ) → IsSplicedGroup ls e → is_empty e ≡ false → spliced_text ls ≡ joined_body ls ++ newline ∷ []
 group_text [] e g n = absurd g
-group_text (l ∷ []) e g n =
-    append-nil (spliced_part l) ∙ not_open l g.0 (ap is_empty g.1 ∙ n)
-    ∙ ap (λ (x : List ℕ). x ++ newline ∷ []) (sym (content_by l false g.0) ∙ sym (append-nil (content l)))
+group_text (l ∷ []) e g n = grind (arith, append-nil, not_open, content_by)
 group_text (l ∷ m ∷ ls) e g n =
     ap₂ (λ (x y : List ℕ). x ++ y) (open_spliced l g.0) (group_text (m ∷ ls) e g.1 n) ∙ sym (append_assoc (content l) (joined_body (m ∷ ls)) (newline ∷ []))
 
@@ -96,14 +94,8 @@ formed_split : (run : List (List ℕ)) (t : List ℕ) (us : List (List ℕ)) →
 formed_split [] t [] (inl w) = inl (w, tt)
 formed_split [] t [] (inr u) = inr (refl, u)
 formed_split [] t (u ∷ us) f = inl (f.0, tt)
-formed_split (r ∷ []) t us f = by (formed_split [] t us f.1)
-  where
-    by : AreWhole (t ∷ []) ⊎ ((us ≡ []) × IsUnterminated t) → AreWhole (r ∷ t ∷ []) ⊎ ((us ≡ []) × IsUnterminated t)
-    by h = grind arith
-formed_split (r ∷ q ∷ run) t us f = by (formed_split (q ∷ run) t us f.1)
-  where
-    by : AreWhole ((q ∷ run) ++ t ∷ []) ⊎ ((us ≡ []) × IsUnterminated t) → AreWhole ((r ∷ q ∷ run) ++ t ∷ []) ⊎ ((us ≡ []) × IsUnterminated t)
-    by h = grind arith
+formed_split (r ∷ []) t us f = grind (arith, formed_split [] t us f.1)
+formed_split (r ∷ q ∷ run) t us f = grind (arith, formed_split (q ∷ run) t us f.1)
 
 formed_tail : (run us : List (List ℕ)) → AreFormed (run ++ us) → AreFormed us
 formed_tail [] us f = f
@@ -258,10 +250,7 @@ module _ (table : List Argument) (rules : Rules) where
   wholes : (n : ℕ) (ts : List (List ℕ)) → AreFormed ts → are_spliced (numbered_from n ts) ≡ true → AreWhole ts
   wholes n [] f a = tt
   wholes n (t ∷ []) (inl w) a = (w, tt)
-  wholes n (t ∷ []) (inr u) a =
-      let p : not (is_empty (ending_of t)) ≡ true = (and_parts (not (is_spliced (line_at n t))) (not (is_empty (ending_of t))) a).1 in
-      let q : false ≡ true = ap (λ (x : List ℕ). not (is_empty x)) (sym (no_end table rules t u.1 (an_end table rules t))) ∙ p in
-      cc
+  wholes n (t ∷ []) (inr u) a = grind (arith, and_parts, no_end, an_end)
   wholes n (t ∷ v ∷ ts) f a = (f.0, wholes (suc n) (v ∷ ts) f.1 (and_parts (is_spliced (line_at n t)) (are_spliced (numbered_from (suc n) (v ∷ ts))) a).1)
 
   abbrev IsSpliced : Line → Type 0
@@ -481,45 +470,26 @@ module _ (table : List Argument) (rules : Rules) where
   -- Without its splices, the pruned text is the simplified text.
   all_joined : {xs : List (List ℕ)} → Logical xs → joined_text (simplified_all xs) ≡ simplified_text table rules (joined_all xs)
   all_joined no_lines = nothing_logical ∙ sym nothing_left
-  all_joined (open_line {x = x} o) =
-      let p : simplified_logical table rules x ≡ x = ap (λ (b : Bool). if b then logical_by table rules x (lines_of x) (content_of (scan_after_run [] (one_line (lines_of x)))) else x) o.unjoined in
-      let q : joined_logical x ≡ x = ap (λ (b : Bool). if b then text_of (one_line (lines_of x)) else x) o.unjoined in
-      ap joined_text (append-nil (simplified_logical table rules x) ∙ p) ∙ ap joined_all o.one ∙ append-nil (joined_logical x) ∙ q
-      ∙ sym (ap (λ (y : List ℕ). simplified_text table rules y) (append-nil (joined_logical x) ∙ q) ∙ o.stays)
+  all_joined (open_line {x = x} o) = grind (arith, unjoined, append-nil)
   all_joined (next_line {x = x} {xs = xs} c l) =
-      let p : Point x = point x c in
-      joined_first (simplified_logical table rules x) p.pruned (simplified_all xs)
-      ∙ ap₂ (λ (a b : List ℕ). a ++ b) p.same (all_joined l)
-      ∙ sym (simplified_apart table rules (joined_logical x) p.joined (joined_all xs))
+      grind (arith, point, joined_first, simplified_apart, all_joined l)
 
   all_bytes : {xs : List (List ℕ)} → Logical xs → IsSublist (simplified_all xs) (concat xs)
   all_bytes no_lines = nothing
-  all_bytes (open_line {x = x} o) =
-      let p : simplified_logical table rules x ≡ x = ap (λ (b : Bool). if b then logical_by table rules x (lines_of x) (content_of (scan_after_run [] (one_line (lines_of x)))) else x) o.unjoined in
-      of_both (subst (λ (y : List ℕ). IsSublist y x) (sym p) (all_of_it x)) nothing
+  all_bytes (open_line {x = x} o) = grind (arith, unjoined, of_both, all_of_it)
   all_bytes (next_line {x = x} c l) = of_both (point x c).bytes (all_bytes l)
 
   -- A second time nothing is removed.
   all_again : {xs : List (List ℕ)} → Logical xs → simplified_over_lines table rules (simplified_all xs) ≡ simplified_all xs
   all_again no_lines = nothing_again
-  all_again (open_line {x = x} o) =
-      let p : simplified_logical table rules x ≡ x = ap (λ (b : Bool). if b then logical_by table rules x (lines_of x) (content_of (scan_after_run [] (one_line (lines_of x)))) else x) o.unjoined in
-      ap (λ (y : List ℕ). simplified_over_lines table rules y) (append-nil (simplified_logical table rules x) ∙ p) ∙ ap simplified_all o.one
-  all_again (next_line {x = x} {xs = xs} c l) =
-      let p : Point x = point x c in
-      ap simplified_all (first_logical (simplified_logical table rules x) p.pruned (simplified_all xs)) ∙ ap₂ (λ (a b : List ℕ). a ++ b) p.again (all_again l)
+  all_again (open_line {x = x} o) = grind (arith, unjoined, append-nil)
+  all_again (next_line {x = x} {xs = xs} c l) = grind (arith, point, first_logical, all_again l)
 
   back : (run us : List (List ℕ)) → concat (logical_from run us) ≡ concat run ++ concat us
   back [] [] = refl
   back (t ∷ run) [] = refl
-  back run (t ∷ us) = by (joined_so (run ++ t ∷ [])) (back (run ++ t ∷ []) us) (back [] us)
-    where
-      more_there : concat (run ++ t ∷ []) ++ concat us ≡ concat run ++ concat (t ∷ us)
-      more_there = ap (λ (y : List ℕ). y ++ concat us) (concat-append run (t ∷ []) ∙ ap (λ (y : List ℕ). concat run ++ y) (append-nil t)) ∙ append_assoc (concat run) t (concat us)
-
-      by : (b : Bool) → concat (logical_from (run ++ t ∷ []) us) ≡ concat (run ++ t ∷ []) ++ concat us → concat (logical_from [] us) ≡ concat us →
-          concat (if b then logical_from (run ++ t ∷ []) us else concat (run ++ t ∷ []) ∷ logical_from [] us) ≡ concat run ++ concat (t ∷ us)
-      by b e f = grind (arith, more_there)
+  back run (t ∷ us) =
+      grind (arith, concat-append, append-nil, append_assoc, back (run ++ t ∷ []) us, back [] us)
 
   lines_back : (bytes : List ℕ) → concat (logical_texts bytes) ≡ bytes
   lines_back bytes = back [] (texts_of bytes) ∙ sym (lines_exist bytes).joined

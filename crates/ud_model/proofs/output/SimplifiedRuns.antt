@@ -1,17 +1,17 @@
 -- Simplified runs: a run over the simplified output copies it.
-use Rattle.std.proofs.Common.{◌≡◌, ◌≢◌, ℕ, suc, ◌≤◌, max, List, [], ◌∷◌, ◌++◌, length, map, Bool, true, false, not, ◌&&◌, None, if◌then◌else◌, refl, sym, ◌∙◌, ap, ap₂, subst, arith}
+use Rattle.std.proofs.Common.{◌≡◌, ◌≢◌, ℕ, suc, ◌≤◌, max, List, [], ◌∷◌, ◌++◌, length, map, Bool, false, not, ◌&&◌, None, if◌then◌else◌, refl, sym, ◌∙◌, ap, ap₂, subst, arith}
 use Rattle.std.proofs.lemmas.Bool.{or_parts}
 use Rattle.ud_model.specs.text.Lines.{Line, text_of, lines_of}
 use Rattle.ud_model.specs.text.Scans.{Scan, Reading}
 use Rattle.ud_model.specs.text.Splicing.{is_spliced, spliced_text, spliced_part}
-use Rattle.ud_model.specs.text.Lexemes.{LexemeKind, block_comment, line_comment, literal, single, shown, kind_at_end}
+use Rattle.ud_model.specs.text.Lexemes.{LexemeKind, shown, kind_at_end}
 use Rattle.ud_model.specs.text.Scanning.{is_block, comment_at, scan_after_run}
-use Rattle.ud_model.specs.sections.Directives.{Content, Directive, content_of, role_of, is_outside}
+use Rattle.ud_model.specs.sections.Directives.{Directive, content_of, role_of, is_outside}
 use Rattle.ud_model.specs.sections.DirectiveParts.{HasDirective}
 use Rattle.ud_model.specs.conditions.Table.{Argument}
 use Rattle.ud_model.specs.conditions.Conditions.{Rules, Decision, undecided, decision_on, condition_of, expression_cond}
 use Rattle.ud_model.specs.sections.Tree.{Tree, Item, Nodes, Groups, Elifs, nothing, text, section, conditional, otherwise, first, elif, closed, text_line, if_line, elif_line, else_line, endif_line, lines_of_nodes, lines_of_groups, lines_of_elifs}
-use Rattle.ud_model.specs.sections.Items.{Options, reading_of, item_of, item_by, directive_item, rules_of, mode_by}
+use Rattle.ud_model.specs.sections.Items.{Options, reading_of, item_of, directive_item, rules_of}
 use Rattle.ud_model.specs.sections.Faults.{is_cut, is_in_block, ends_in_comment, end_by, last_number}
 use Rattle.ud_model.specs.output.Pruned.{IsUndecided, GroupsUndecided, ElifsUndecided}
 use Rattle.ud_model.specs.aids.Height.{height_of_nodes, height_of_groups, height_of_elifs}
@@ -19,12 +19,11 @@ use Rattle.ud_model.specs.answer.CommandLine.{options_of}
 use Rattle.ud_model.specs.answer.Outcomes.{Outcome, HasOutcome}
 use Rattle.ud_model.specs.answer.Answer.{Answer, IsAnswer, refused, ran, copy_answer}
 use Rattle.ud_model.specs.output.Rereading.{IsPlainC, IsTreeOf, LinesFit}
-use Rattle.ud_model.specs.output.InsertedLines.{read_in, read_as}
+use Rattle.ud_model.specs.output.InsertedLines.{read_as}
 use Rattle.ud_model.specs.output.SimplifiedTrees.{no_nodes, text_stays, section_stays, conditions_alone, with_else, first_group, next_group}
 use Rattle.ud_model.specs.output.SimplifiedTexts.{condition_cells, simplified_line, simplified_text}
 use Rattle.ud_model.specs.declared.cond.Cond.TheVariants.{Unknown}
 use Rattle.ud_model.specs.declared.kind.Kind.{Kind}
-use Rattle.ud_model.specs.declared.kind.Mode.{Mode}
 use Rattle.ud_model.specs.declared.kind.Mode.TheVariants.{C}
 use Rattle.ud_model.specs.declared.limits.TheConstants.{LINE_BYTES, TEXT_LINES, OPEN_SECTIONS}
 use Rattle.ud_model.proofs.text.ScanLaws.{joins_after-code}
@@ -44,7 +43,7 @@ use Rattle.ud_model.proofs.output.SimplifiedLineTexts.{lines_left}
 use Rattle.ud_model.proofs.output.SimplifiedTree.{Like, GroupsLike, ElifsLike, simplified_tree}
 use Rattle.ud_model.proofs.output.InsertedTree.{items}
 use Rattle.ud_model.proofs.output.SimplifiedLines.{SameIf, both_if, both_elif, becomes, after_is}
-use Rattle.ud_model.proofs.output.SimplifiedReadings.{IsLeft, ReadingSimplified, reading_stays, reading_edited, readings_simplified}
+use Rattle.ud_model.proofs.output.SimplifiedReadings.{IsLeft, ReadingSimplified, readings_simplified}
 use Rattle.ud_model.proofs.output.SimplifiedAgain.{lone}
 use Rattle.ud_model.proofs.output.SimplifiedBytes.{line_bytes}
 use Rattle.ud_model.proofs.output.OperandsLeft.{sub_fewer}

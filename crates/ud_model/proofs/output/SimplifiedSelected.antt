@@ -1,5 +1,5 @@
 -- Simplified selected: of a text in which operands of the conditions went the same lines are selected.
-use Rattle.std.proofs.Common.{◌≡◌, List, [], ◌++◌, ◌∷◌, Bool, true, false, Some, refl, sym, ◌∙◌, ap, ap₂, subst, arith}
+use Rattle.std.proofs.Common.{◌≡◌, List, [], ◌++◌, ◌∷◌, Bool, Some, refl, sym, ◌∙◌, ap, ap₂, subst, arith}
 use Rattle.ud_model.specs.text.Scans.{Reading}
 use Rattle.ud_model.specs.conditions.Table.{Argument}
 use Rattle.ud_model.specs.conditions.Expressions.{Expression}

@@ -1,11 +1,10 @@
 -- Sizes: the pieces of a text are as long as their lines, each by itself, or shorter than them
 -- together.
-use Rattle.std.proofs.Common.{◌≡◌, ℕ, suc, ◌+◌, ◌==◌, ◌≤◌, ◌<◌, List, [], ◌∷◌, ◌++◌, length, map, Bool, true, false, not, ◌&&◌, ◌||◌, bytes_eq, refl, sym, ◌∙◌, ap, ap₂, arith, append-nil, length-append, ◌⊎◌, inl, inr}
+use Rattle.std.proofs.Common.{◌≡◌, ℕ, suc, ◌+◌, ◌≤◌, ◌<◌, List, [], ◌∷◌, ◌++◌, length, map, Bool, true, false, not, ◌&&◌, ◌||◌, bytes_eq, refl, ap₂, arith, append-nil, length-append, ◌⊎◌}
 use Rattle.std.specs.List.{concat}
 use Rattle.std.proofs.lemmas.List.{map-append}
 use Rattle.std.proofs.lemmas.List.Folds.{concat-append}
 use Rattle.std.proofs.lemmas.Slice.Eq.{bytes_eq-Decides}
-use Rattle.std.proofs.Math.Bool.{and_assoc}
 use Rattle.ud_model.specs.text.Lines.{text_of}
 use Rattle.ud_model.specs.answer.Printing.{Judged, some_other}
 
@@ -36,8 +35,7 @@ out-append f js ks = grind (arith, map-append, concat-append, length-append)
 
 same_out : (f : Judged → List ℕ) (js : List Judged) → KeepsSizes f js → length (out f js) ≡ length (out whole js)
 same_out f [] k = refl
-same_out f (j ∷ js) k =
-    length-append (f j) (out f js) ∙ ap₂ (λ (a b : ℕ). a + b) k.0 (same_out f js k.1) ∙ sym (length-append (whole j) (out whole js))
+same_out f (j ∷ js) k = grind (arith, length-append, same_out f js k.1)
 
 sizes-append : (f : Judged → List ℕ) (js ks : List Judged) → KeepsSizes f js → KeepsSizes f ks → KeepsSizes f (js ++ ks)
 sizes-append f [] ks a b = b
@@ -106,8 +104,7 @@ none_other f (j ∷ js) e =
 -- Texts are compared part by part, if the first parts have one length.
 bytes_eq-append : (a b c d : List ℕ) → length a ≡ length b → bytes_eq (a ++ c) (b ++ d) ≡ (bytes_eq a b && bytes_eq c d)
 bytes_eq-append [] [] c d e = refl
-bytes_eq-append (x ∷ a) (y ∷ b) c d e =
-    ap (λ (t : Bool). (x == y) && t) (bytes_eq-append a b c d (omega arith)) ∙ sym (and_assoc (x == y) (bytes_eq a b) (bytes_eq c d))
+bytes_eq-append (x ∷ a) (y ∷ b) c d e = grind (arith, bytes_eq-append a b c d (omega arith))
 bytes_eq-append a b c d e = absurd (omega arith)
 
 not_and : (a b : Bool) → (not a || not b) ≡ not (a && b)
@@ -115,10 +112,7 @@ not_and a b = grind arith
 
 alike_differs : (f : Judged → List ℕ) (js : List Judged) → KeepsSizes f js → some_other (map f js) js ≡ not (bytes_eq (out f js) (out whole js))
 alike_differs f [] k = refl
-alike_differs f (j ∷ js) k =
-    ap (λ (b : Bool). not (bytes_eq (f j) (whole j)) || b) (alike_differs f js k.1)
-    ∙ not_and (bytes_eq (f j) (whole j)) (bytes_eq (out f js) (out whole js))
-    ∙ ap (λ (b : Bool). not b) (sym (bytes_eq-append (f j) (whole j) (out f js) (out whole js) k.0))
+alike_differs f (j ∷ js) k = grind (arith, not_and, bytes_eq-append, alike_differs f js k.1)
 
 -- If lines fit, some line differs exactly if the output isn't the lines.
 pub fits_differs : (f : Judged → List ℕ) (js : List Judged) → Fits f js → some_other (map f js) js ≡ not (bytes_eq (out f js) (out whole js))

@@ -1,14 +1,13 @@
 -- Lines that were read are faultless if they keep the limits, none has a cut keyword, and each
 -- stays as it is.
-use Rattle.std.proofs.Common.{◌≡◌, ◌<◌, ◌≤◌, List, [], ◌∷◌, ◌++◌, length, Bool, true, false, ◌&&◌, refl, sym, ◌∙◌, ap, ap₂, subst, arith}
-use Rattle.std.proofs.Math.Bool.{and-false}
+use Rattle.std.proofs.Common.{◌≡◌, ◌<◌, ◌≤◌, List, [], ◌∷◌, ◌++◌, length, Bool, true, false, refl, sym, ◌∙◌, ap, ap₂, subst, arith}
 use Rattle.ud_model.specs.text.Lines.{text_of}
-use Rattle.ud_model.specs.text.Scans.{Reading, is_spanning}
+use Rattle.ud_model.specs.text.Scans.{Reading}
 use Rattle.ud_model.specs.sections.Tree.{Item, Tree, lines, depth}
 use Rattle.ud_model.specs.sections.Pruning.{Mark, marked, marks, is_removed}
 use Rattle.ud_model.specs.aids.Height.{height}
-use Rattle.ud_model.specs.sections.Items.{Options, reading_of, line_of, next_item}
-use Rattle.ud_model.specs.sections.Faults.{AreFaultless, no_lines, one_more, NoneHolds, cases, ends_removed, is_obfuscated_after, is_directive}
+use Rattle.ud_model.specs.sections.Items.{Options, line_of, next_item}
+use Rattle.ud_model.specs.sections.Faults.{AreFaultless, no_lines, one_more, NoneHolds, cases, ends_removed, is_obfuscated_after}
 use Rattle.ud_model.specs.output.Rereading.{AreRead, no_items, one_item}
 use Rattle.ud_model.specs.declared.limits.TheConstants.{LINE_BYTES, TEXT_LINES, OPEN_SECTIONS}
 use Rattle.ud_model.specs.declared.verdict.Verdict.TheVariants.{Keep}

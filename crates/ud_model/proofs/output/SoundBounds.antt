@@ -3,14 +3,12 @@ use Rattle.std.proofs.Common.{◌≡◌, ℕ, suc, ◌+◌, ◌<◌, ◌≤◌, 
 use Rattle.std.proofs.lemmas.List.{map-append, length-map}
 use Rattle.ud_model.specs.text.Lines.{Line, text_of, line_at, numbered_from}
 use Rattle.ud_model.specs.text.Scans.{Reading}
-use Rattle.ud_model.specs.sections.Tree.{Item, Tree, depth, item_with}
-use Rattle.ud_model.specs.sections.Pruning.{marks}
+use Rattle.ud_model.specs.sections.Tree.{Item, Tree, depth}
 use Rattle.ud_model.specs.aids.Height.{height}
-use Rattle.ud_model.specs.sections.Items.{Options, reading_of, line_of, next_item}
+use Rattle.ud_model.specs.sections.Items.{Options, line_of, next_item}
 use Rattle.ud_model.specs.sections.Faults.{AreFaultless, no_lines, one_more}
-use Rattle.ud_model.specs.output.Pruned.{printed}
-use Rattle.ud_model.specs.output.Rereading.{LinesFit, line_bytes}
-use Rattle.ud_model.proofs.output.SeenLines.{Seen, scanned, left_seen}
+use Rattle.ud_model.specs.output.Rereading.{LinesFit}
+use Rattle.ud_model.proofs.output.SeenLines.{scanned, left_seen}
 use Rattle.ud_model.specs.declared.kind.Mode.{Mode}
 use Rattle.ud_model.specs.declared.limits.TheConstants.{LINE_BYTES, TEXT_LINES, OPEN_SECTIONS}
 use Rattle.ud_model.proofs.output.Each.{Each}
@@ -54,12 +52,7 @@ last_numbered n (k ∷ ls) l (t ∷ ts) e = let p : ls ++ l ∷ [] ≡ numbered_
 pub sound_few : (o : Options) (xs : List (Item Reading)) (t : Tree Reading) (ts : List (List ℕ)) → AreFaultless o xs t → map line_of xs ≡ numbered_from 1 ts → length xs ≤ TEXT_LINES
 sound_few o _ _ ts no_lines e = omega arith
 sound_few o _ _ ts (one_more xs t s l u d n) e =
-    let x : Item Reading = next_item o xs t l in
-    let a : (line_of x).number ≡ 1 + length (map line_of xs) = last_numbered 1 (map line_of xs) (line_of x) ts (sym (map-append line_of xs (x ∷ [])) ∙ e) in
-    let b : length (map line_of xs) ≡ length xs = length-map xs line_of in
-    let c : (line_of x).number ≤ TEXT_LINES = not_more (line_of x).number TEXT_LINES n.0 in
-    let f : length (xs ++ x ∷ []) ≡ length xs + 1 = length-append xs (x ∷ []) in
-    omega (arith, a, b, c, f)
+    grind (arith, last_numbered, map-append, length-map, not_more, length-append)
 
 numbered_few : (n : ℕ) (ts : List (List ℕ)) (ys : List (Item Reading)) → map line_of ys ≡ numbered_from n ts → n + length ts ≤ suc TEXT_LINES → Each IsFew ys
 numbered_few n ts [] e h = tt

@@ -1,22 +1,19 @@
 -- Runs with and without `-K`, line by line: a text line that the one with `-K` removes is removed
 -- by the other.
-use Rattle.std.proofs.Common.{◌≡◌, ℕ, ◌≤◌, List, [], ◌∷◌, ◌++◌, length, map, true, false, Option, None, inl, inr, ◌⊎◌, refl, sym, ◌∙◌, ap, ap₂, subst, append_assoc, append-nil, arith}
+use Rattle.std.proofs.Common.{◌≡◌, ℕ, ◌≤◌, List, [], ◌∷◌, ◌++◌, map, false, Option, None, inl, inr, ◌⊎◌, refl, sym, ◌∙◌, ap, ap₂, subst, append_assoc, append-nil, arith}
 use Rattle.std.proofs.lemmas.List.{same_from_push, map-append}
 use Rattle.ud_model.specs.text.Lines.{Line, lines_of}
 use Rattle.ud_model.specs.text.Scans.{Reading}
-use Rattle.ud_model.specs.sections.Directives.{Content, cut_keyword, directive, text, content_of, role_of}
-use Rattle.ud_model.specs.conditions.Conditions.{Decision, decision_on}
+use Rattle.ud_model.specs.sections.Directives.{Content, content_of}
 use Rattle.ud_model.specs.sections.Tree.{Item, Tree, text_line, if_line, elif_line, else_line, endif_line, lines}
 use Rattle.ud_model.specs.sections.Pruning.{Mark, marks}
-use Rattle.ud_model.specs.sections.Items.{Options, reading_of, line_of, item_of, item_by, directive_item, mode_after, read_after, next_item, rules_of}
+use Rattle.ud_model.specs.sections.Items.{Options, reading_of, line_of, item_of, item_by, mode_after, read_after, next_item}
 use Rattle.ud_model.specs.sections.Faults.{Fault, AreFaultless, no_lines, one_more}
 use Rattle.ud_model.specs.answer.Printing.{Judged, judged_line, judged_lines, keyword_in}
 use Rattle.ud_model.specs.answer.Outcomes.{Outcome, ReadsAs, JudgedAs, judged_as, HasOutcome, ran_as}
 use Rattle.ud_model.specs.answer.Outcomes.ReadsAs.{stops, ends}
 use Rattle.ud_model.specs.output.SharedLines.{OnlyDecides}
 use Rattle.ud_model.specs.output.StrictLines.{under_strict, KeepsAsMuch, KeepAsMuch, pieces_of}
-use Rattle.ud_model.specs.declared.kind.Role.{Role}
-use Rattle.ud_model.specs.declared.kind.Role.TheVariants.{IfGroup, ElifGroup, ElseGroup, EndifLine}
 use Rattle.ud_model.proofs.text.Pushes.{ByPush, none, push, by_push, push_not_nil}
 use Rattle.ud_model.proofs.conditions.StrictItems.{LooserItem, a_text, an_if, an_elif, an_else, an_endif, item_loose}
 use Rattle.ud_model.proofs.sections.Growth.{Adds, adds-once}
@@ -25,7 +22,7 @@ use Rattle.ud_model.proofs.sections.Stays.{marks_more, length_marks}
 use Rattle.ud_model.proofs.sections.Soundness.{reading_of-item_of, lines_with_next, sound_lines, one_run}
 use Rattle.ud_model.proofs.output.BlankedLineLemmas.{judged_read}
 use Rattle.ud_model.proofs.output.Each.{Pairs, no_pair, pair, pairs_both}
-use Rattle.ud_model.proofs.output.KeywordSizes.{HasSize, least, content_size}
+use Rattle.ud_model.proofs.output.KeywordSizes.{HasSize, content_size}
 use Rattle.ud_model.proofs.output.SharedLineLemmas.{printed_lone}
 use Rattle.ud_model.proofs.output.StrictTrees.{LooserTree, none_open, loose_grows, loose_ignoring, text_mark, removed_loose}
 use Rattle.ud_model.proofs.answer.Onward.{judged_more}

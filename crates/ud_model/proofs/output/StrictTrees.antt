@@ -1,11 +1,11 @@
 -- The trees of a text with and without `-K`: the same sections are open, and a group that is kept
 -- without is kept with `-K`.
-use Rattle.std.proofs.Common.{◌≡◌, List, [], ◌∷◌, ◌++◌, Bool, true, false, not, ◌&&◌, ◌||◌, refl, sym, ◌∙◌, ap, ap₂, append_assoc, arith}
+use Rattle.std.proofs.Common.{◌≡◌, List, [], ◌∷◌, ◌++◌, Bool, true, false, not, ◌&&◌, ◌||◌, refl, ap₂, append_assoc, arith}
 use Rattle.std.proofs.lemmas.Bool.{and_parts}
 use Rattle.ud_model.specs.text.Scans.{Reading}
 use Rattle.ud_model.specs.sections.Tree.{Item, Opener, Nodes, Elifs, Head, Tree, nothing, text, section, first, elif, if_head, elif_head, else_head, closed, open_section, text_line, opener_of_elifs, opener_of_head, is_ignoring}
-use Rattle.ud_model.specs.sections.Pruning.{Mark, marked, is_false, any_true, is_kept, is_inside_kept, conds_of_elifs, is_removed, marks}
-use Rattle.ud_model.specs.aids.SoFar.{marks_so_far, nodes_so_far, head_so_far}
+use Rattle.ud_model.specs.sections.Pruning.{marked, is_false, any_true, is_kept, is_inside_kept, conds_of_elifs, is_removed, marks}
+use Rattle.ud_model.specs.aids.SoFar.{marks_so_far}
 use Rattle.ud_model.specs.declared.cond.Cond.{Cond}
 use Rattle.ud_model.specs.declared.cond.Cond.TheVariants.{Yes, No, Unknown}
 use Rattle.ud_model.specs.declared.verdict.Verdict.TheVariants.{Keep}
@@ -82,9 +82,7 @@ both_parts : (a b : Bool) → (not a && not b) ≡ true → (a ≡ false) × (b 
 both_parts a b e = grind arith
 
 kept_loose : {cs ds : List Cond} {c d : Cond} → Pairs Looser cs ds → Looser c d → is_kept ds d ≡ true → is_kept cs c ≡ true
-kept_loose {cs} {ds} {c} {d} p l e =
-    let q = both_parts (is_false d) (any_true ds) e in
-    ap₂ (λ (a b : Bool). not a && not b) (false_loose l q.0) (any_loose p q.1)
+kept_loose {cs} {ds} {c} {d} p l e = grind (arith, both_parts, false_loose, any_loose)
 
 inside_loose : {h k : Head Reading} → LooserHead h k → is_inside_kept k ≡ true → is_inside_kept h ≡ true
 inside_loose (with_if o) e = kept_loose no_pair o.cond e
@@ -108,8 +106,7 @@ text_mark_in : {t u : Tree Reading} {x : Item Reading} → Adds t x u → (r : R
     marks_so_far kept u ≡ marks_so_far kept t ++ marked (kept_at_end kept t) Keep ∷ []
 text_mark_in adds_text r e kept = refl
 text_mark_in (adds_under {ns = ns} {h = h} {t = t} {u = u} a) r e kept =
-    ap (λ (ms : List Mark). (nodes_so_far kept ns ++ head_so_far kept h) ++ ms) (text_mark_in a r e (kept && is_inside_kept h))
-    ∙ sym (append_assoc (nodes_so_far kept ns ++ head_so_far kept h) (marks_so_far (kept && is_inside_kept h) t) (marked (kept_at_end (kept && is_inside_kept h) t) Keep ∷ []))
+    grind (arith, append_assoc, text_mark_in a r e (kept && is_inside_kept h))
 text_mark_in adds_if r e kept = cc
 text_mark_in elif_after_if r e kept = cc
 text_mark_in elif_after_elif r e kept = cc
@@ -120,13 +117,9 @@ text_mark_in adds_endif r e kept = cc
 -- A text line is kept if all groups around it are.
 pub text_mark : {t u : Tree Reading} {x : Item Reading} → Adds t x u → (r : Reading) → x ≡ text_line r →
     marks u ≡ marks t ++ marked (kept_at_end true t) Keep ∷ []
-text_mark {t = t} {u = u} a r e =
-    marks_so_far_same true u ∙ text_mark_in a r e true ∙ ap (λ (ms : List Mark). ms ++ marked (kept_at_end true t) Keep ∷ []) (sym (marks_so_far_same true t))
+text_mark {t = t} {u = u} a r e = grind (arith, marks_so_far_same, text_mark_in)
 
 -- A text line that is removed with `-K` is removed without.
 pub removed_loose : {t u : Tree Reading} → LooserTree t u → is_removed (marked (kept_at_end true t) Keep).verdict ≡ true →
     is_removed (marked (kept_at_end true u) Keep).verdict ≡ true
-removed_loose {t = t} {u = u} k = by_kept (kept_at_end true t) (kept_at_end true u) (end_loose k true true (λ e. e))
-  where
-    by_kept : (a b : Bool) → (b ≡ true → a ≡ true) → is_removed (marked a Keep).verdict ≡ true → is_removed (marked b Keep).verdict ≡ true
-    by_kept a b h e = grind arith
+removed_loose {t = t} {u = u} k = grind (arith, end_loose)

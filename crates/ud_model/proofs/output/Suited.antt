@@ -1,15 +1,15 @@
 -- A directive is edited only if it can be: an `#elif` to an `#if` or `#else`, an `#elif` or `#else`
 -- to an `#endif`.
-use Rattle.std.proofs.Common.{◌≡◌, List, [], Bool, true, false, refl, sym, subst, arith}
+use Rattle.std.proofs.Common.{◌≡◌, List, [], Bool, refl, sym, subst, arith}
 use Rattle.ud_model.specs.declared.cond.Cond.{Cond}
-use Rattle.ud_model.specs.declared.cond.Cond.TheVariants.{Yes, No, Unknown}
+use Rattle.ud_model.specs.declared.cond.Cond.TheVariants.{Yes, Unknown}
 use Rattle.ud_model.specs.declared.verdict.Verdict.{Verdict}
 use Rattle.ud_model.specs.declared.verdict.Verdict.TheVariants.{Keep, Remove, ToIf, ToElse, ToEndif}
 use Rattle.ud_model.specs.sections.Tree.{Item, Opener, if_line, elif_line, else_line, endif_line}
 use Rattle.ud_model.specs.sections.Pruning.{an_if, an_elif, an_else, marked, endif_verdict}
 use Rattle.ud_model.specs.aids.SoFar.{verdict_so_far}
 use Rattle.ud_model.proofs.output.Edits.{KeepsOrGoes, endif_keeps, if_keeps}
-use Rattle.ud_model.proofs.sections.Stages.{Stage, leading, given, going, at_true, past, stage, verdict_at, verdict_by_stage}
+use Rattle.ud_model.proofs.sections.Stages.{Stage, stage, verdict_at, verdict_by_stage}
 
 -- The verdict is one that such a line may get.
 abbrev pub Suits : {L : Type 0} → Verdict → Item L → Type 0

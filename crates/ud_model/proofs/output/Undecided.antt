@@ -1,7 +1,7 @@
 -- In a pruned tree nothing is decided, and if nothing is decided each line stays as it is.
-use Rattle.std.proofs.Common.{◌≡◌, List, [], ◌∷◌, ◌++◌, Bool, true, Some, None, refl, sym, ◌∙◌, ap, ap₂, subst, arith}
+use Rattle.std.proofs.Common.{◌≡◌, List, [], ◌∷◌, ◌++◌, Bool, true, refl, sym, ◌∙◌, ap, ap₂, subst, arith}
 use Rattle.ud_model.specs.declared.cond.Cond.{Cond}
-use Rattle.ud_model.specs.declared.cond.Cond.TheVariants.{Yes, No, Unknown}
+use Rattle.ud_model.specs.declared.cond.Cond.TheVariants.{Yes}
 use Rattle.ud_model.specs.declared.verdict.Verdict.{Verdict}
 use Rattle.ud_model.specs.declared.verdict.Verdict.TheVariants.{Keep}
 use Rattle.ud_model.specs.sections.Tree.{Opener, Nodes, Groups, Elifs, nothing, text, section, conditional, otherwise, first, elif, closed}
@@ -11,7 +11,7 @@ use Rattle.ud_model.specs.output.Pruned.{Edited, IsUndecided, GroupsUndecided, E
 use Rattle.ud_model.proofs.output.Folded.{KeptGroups, none_kept, replaced, kept_groups, ended, with_group, with_else, then_kept, folded, kept_groups_of, kept_elifs_of}
 use Rattle.ud_model.proofs.output.Each.{Each, each_both}
 use Rattle.ud_model.proofs.sections.Stays.{marks_so_far_same}
-use Rattle.ud_model.proofs.sections.Stages.{Stage, going, at_true, stage, next_stage, verdict_at, kept_at, endif_at, verdict_by_stage, kept_by_stage, stage_next, endif_by_stage}
+use Rattle.ud_model.proofs.sections.Stages.{Stage, going, at_true, stage, next_stage, verdict_at, kept_at, verdict_by_stage, kept_by_stage, stage_next, endif_by_stage}
 
 -- A line that stays as it is.
 abbrev pub Stays : Mark → Type 0

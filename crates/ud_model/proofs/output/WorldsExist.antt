@@ -1,5 +1,5 @@
 -- The lines of a text have numbers of their own, so its openers can be given any truths.
-use Rattle.std.proofs.Common.{◌≡◌, ℕ, suc, ◌≤◌, ◌<◌, ◌==◌, List, [], ◌∷◌, ◌++◌, length, map, Bool, true, false, if◌then◌else◌, refl, sym, ◌∙◌, ap, ap₂, arith, ne_eqb}
+use Rattle.std.proofs.Common.{◌≡◌, ℕ, suc, ◌≤◌, ◌<◌, ◌==◌, List, [], ◌∷◌, ◌++◌, length, map, Bool, true, if◌then◌else◌, refl, sym, ◌∙◌, ap, ap₂, arith}
 use Rattle.std.proofs.lemmas.Bool.{eq-eqb}
 use Rattle.ud_model.specs.text.Lines.{Line, line_at, numbered_from, lines_of, texts_of}
 use Rattle.ud_model.specs.text.Scans.{Reading}
@@ -66,9 +66,7 @@ with_truth n b v r = if r.line.number == n then b else v r
 later_same : (n m : ℕ) (b : Bool) (v : World Reading) (rs : List Reading) → n < m → Rise m rs → map (with_truth n b v) rs ≡ map v rs
 later_same n m b v [] l h = refl
 later_same n m b v (r ∷ rs) l h =
-    let d : (r.line.number == n) ≡ false = ne_eqb r.line.number n (λ e. omega (arith, e, l, h.0)) in
-    ap₂ (λ (c : Bool) (cs : List Bool). c ∷ cs) (ap (λ (t : Bool). if t then b else v r) d)
-    (later_same n (suc r.line.number) b v rs (omega (arith, l, h.0)) h.1)
+    grind (arith, later_same n (suc r.line.number) b v rs (omega (arith, l, h.0)) h.1)
 
 truths_by : (n : ℕ) (rs : List Reading) (bs : List Bool) → length bs ≡ length rs → Rise n rs → (v : World Reading) × (map v rs ≡ bs)
 truths_by n [] [] e h = ((λ r. true), refl)

@@ -1,18 +1,15 @@
 -- Fault stays: a fault of the text so far is the fault of every longer text, and the output before
 -- it is the same.
-use Rattle.std.proofs.Common.{◌≡◌, ◌≢◌, ℕ, suc, ◌≤◌, List, [], ◌∷◌, ◌++◌, length, map, Some, None, refl, sym, ◌∙◌, ap, ap₂, subst, append_assoc, length-append, arith}
+use Rattle.std.proofs.Common.{◌≡◌, ◌≢◌, ℕ, suc, ◌≤◌, List, [], ◌∷◌, ◌++◌, length, Some, None, sym, ◌∙◌, ap, ap₂, subst, append_assoc, length-append, arith}
 use Rattle.ud_model.specs.text.Lines.{Line, text_of, line_at, lines_of, whole_lines, partial_line, texts_of, numbered_from}
 use Rattle.ud_model.specs.text.Scans.{Reading}
-use Rattle.ud_model.specs.sections.Directives.{Content, cut_keyword, directive, text, content_of, role_of}
-use Rattle.ud_model.specs.conditions.Conditions.{Decision, decision_on}
+use Rattle.ud_model.specs.sections.Directives.{Content}
 use Rattle.ud_model.specs.sections.Tree.{Item, Tree}
-use Rattle.ud_model.specs.sections.Items.{Options, rules_of, directive_item, item_by, reading_of, line_of, mode_after, read_after, next_item}
+use Rattle.ud_model.specs.sections.Items.{Options, item_by, reading_of, line_of, next_item}
 use Rattle.ud_model.specs.sections.Faults.{Fault, Case, FaultOf, Holds, NoneHolds, earlier, fault_in, past_last, too_long, too_many_lines, line_too_long}
 use Rattle.ud_model.specs.answer.Outcomes.{Outcome, FirstFaultAt, HasNoFault, ReadsAs, ReadsSoFar, HasOutcome, ran_as, HasOutcomeSoFar, came_as, RestBreaks, IsLimit, by_lines, by_bytes, lines_so_far, line_so_far, breaks}
 use Rattle.ud_model.specs.answer.Outcomes.ReadsSoFar.{stops as stops_so_far}
 use Rattle.ud_model.specs.answer.Outcomes.ReadsAs.{stops}
-use Rattle.ud_model.specs.declared.kind.Role.{Role}
-use Rattle.ud_model.specs.declared.kind.Role.TheVariants.{IfGroup, ElifGroup, ElseGroup, EndifLine}
 use Rattle.ud_model.proofs.text.LinesLemmas.{Growth, stays_open, ends_line, grows, text_of-line_at, numbered_from-next, lines_so_far-append, lines_of-append, texts_of_grows, some_front}
 
 -- An item keeps the reading of its line.

@@ -1,5 +1,5 @@
 -- The position of a keyword is within the masked line, and so within the line's body.
-use Rattle.std.proofs.Common.{◌≡◌, ℕ, suc, ◌+◌, ◌≤◌, ◌==◌, List, [], ◌∷◌, length, Bool, true, false, Option, Some, None, if◌then◌else◌, refl, subst, arith}
+use Rattle.std.proofs.Common.{◌≡◌, ℕ, suc, ◌+◌, ◌≤◌, List, [], ◌∷◌, length, Bool, Option, Some, None, if◌then◌else◌, refl, arith}
 use Rattle.ud_model.specs.text.Bytes.{skip_white, leading_word, skip_word, is_word_byte}
 use Rattle.ud_model.specs.text.Scans.{Scan}
 use Rattle.ud_model.specs.sections.Directives.{Content, cut_keyword, directive, text, content_of, skip_white_and_hash, skip_hash, has_split_keyword, content_after_hash, directive_at, kind_of}

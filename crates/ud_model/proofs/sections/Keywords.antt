@@ -1,8 +1,8 @@
 -- Keywords: a fact of each row of the table is a fact of each keyword and its kind. Two bytes show
 -- that no keyword begins a word.
-use Rattle.std.proofs.Common.{◌≡◌, ℕ, ◌==◌, List, [], ◌∷◌, Bool, true, false, ◌&&◌, ◌||◌, not, Some, None, bytes_eq, if◌then◌else◌, nat_eq, refl, sym, subst, inl, inr, arith}
+use Rattle.std.proofs.Common.{◌≡◌, ℕ, List, [], ◌∷◌, Bool, true, false, ◌&&◌, Some, None, bytes_eq, if◌then◌else◌, nat_eq, refl, arith}
 use Rattle.std.specs.List.{list_any, starts_with}
-use Rattle.std.proofs.lemmas.Bool.{and_parts, and_cases, and_right, or_parts, not-true, not-false}
+use Rattle.std.proofs.lemmas.Bool.{and_parts, or_parts, not-true}
 use Rattle.ud_model.specs.text.Bytes.{is_word_byte}
 use Rattle.std.proofs.lemmas.Slice.Eq.{bytes_eq-Decides}
 use Rattle.ud_model.specs.sections.Directives.{keywords, kind_among, kind_of, may_begin, is_no_keyword, is_prefix_of_keyword}

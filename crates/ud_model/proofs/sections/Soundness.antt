@@ -77,7 +77,6 @@ case_in_order too_deep = (obfuscated_case ∷ [], refl)
 case_in_order obfuscated_case = ([], refl)
 
 module _ (xs : List (Item Reading)) (x : Item Reading) where
-
   one_case : (cs ds : List Case) (c d : Case) (ws vs : List Case) → cs ++ c ∷ ws ≡ ds ++ d ∷ vs →
       Holds xs x c → NoneHolds xs x cs → Holds xs x d → NoneHolds xs x ds → c ≡ d
   one_case [] [] c d ws vs e h n k m = cc
@@ -141,14 +140,7 @@ compare_fronts : (ks ms : List Line) (a b : Line) (ws vs : List Line) → ks ++ 
 compare_fronts [] [] a b ws vs e = inl (refl, cc)
 compare_fronts [] (c ∷ ms) a b ws vs e = inr (inl (ms, cc))
 compare_fronts (c ∷ ks) [] a b ws vs e = inr (inr (ks, cc))
-compare_fronts (c ∷ ks) (d ∷ ms) a b ws vs e = go (compare_fronts ks ms a b ws vs (cc))
-  where
-    q : c ≡ d
-    q = cc
-
-    go : ((ks ≡ ms) × (a ≡ b)) ⊎ (((mid : List Line) × (ms ≡ ks ++ a ∷ mid)) ⊎ ((mid : List Line) × (ks ≡ ms ++ b ∷ mid))) →
-        ((c ∷ ks ≡ d ∷ ms) × (a ≡ b)) ⊎ (((mid : List Line) × (d ∷ ms ≡ c ∷ ks ++ a ∷ mid)) ⊎ ((mid : List Line) × (c ∷ ks ≡ d ∷ ms ++ b ∷ mid)))
-    go h = grind arith
+compare_fronts (c ∷ ks) (d ∷ ms) a b ws vs e = grind (arith, compare_fronts ks ms a b ws vs (cc))
 
 module _ (o : Options) (ls : List Line) where
   -- A text stops at one line, with one fault.
@@ -201,8 +193,7 @@ one_run {o = o} (ran_as {xs = xs} {t = t} {f = f} a) (ran_as {xs = ys} {t = u} {
 
 same_break : {o : Options} {given : List ℕ} {xs ys : List (Item Reading)} {t u : Tree Reading} {f : Fault} → xs ≡ ys → t ≡ u →
     RestBreaks o given xs t f → RestBreaks o given ys u f
-same_break {o = o} {given = given} {ys = ys} {t = t} {f = f} p q c =
-    subst (λ v. RestBreaks o given ys v f) q (subst (λ zs. RestBreaks o given zs t f) p c)
+same_break {o = o} {given = given} {ys = ys} {t = t} {f = f} p q c = grind arith
 
 -- A text that goes on is read in one way at most so far.
 pub reads_so_far_once : {o : Options} {given : List ℕ} {xs ys : List (Item Reading)} {t u : Tree Reading} {f g : Option Fault} →

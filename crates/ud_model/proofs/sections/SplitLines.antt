@@ -1,12 +1,12 @@
 -- The content of a line, by the parts of its masked line.
-use Rattle.std.proofs.Common.{◌≡◌, ◌≢◌, ℕ, suc, ◌+◌, ◌-◌, ◌==◌, List, [], ◌∷◌, ◌++◌, length, Bool, true, false, not, ◌&&◌, ◌||◌, Option, Some, None, if◌then◌else◌, bytes_eq, refl, sym, ◌∙◌, ap, ap₂, subst, append-nil, arith, length-append, eqb-true, ◌⊎◌, inl, inr}
+use Rattle.std.proofs.Common.{◌≡◌, ◌≢◌, ℕ, suc, ◌+◌, ◌-◌, List, [], ◌∷◌, ◌++◌, length, Bool, true, false, not, ◌&&◌, Option, Some, None, if◌then◌else◌, refl, sym, ◌∙◌, ap, ap₂, append-nil, arith, length-append}
 use Rattle.std.specs.Prelude.{◌↔◌}
-use Rattle.std.proofs.lemmas.Bool.{and_parts, not-true, or_cases, or_right, and_from}
+use Rattle.std.proofs.lemmas.Bool.{and_parts, not-true, or_cases, and_from}
 use Rattle.std.proofs.lemmas.Slice.Eq.{bytes_eq-Decides}
 use Rattle.ud_model.specs.text.Bytes.{number_sign, slash, is_white, is_word_byte, are_white, are_word_bytes, skip_white, leading_word, skip_word}
 use Rattle.ud_model.specs.text.Scans.{Scan}
-use Rattle.ud_model.specs.sections.Directives.{Content, Directive, cut_keyword, directive, text, content_of, skip_white_and_hash, skip_hash, may_split_keyword, has_split_keyword, content_after_hash, directive_at, kind_of, is_in_line, is_keyword_prefix, is_prefix_of_keyword, is_continued_outside_comment}
-use Rattle.ud_model.specs.sections.DirectiveParts.{DirectiveParts, AreParts, first_is, EndsInKeyword, nothing_follows, slash_follows, word_follows, IsSplitKeyword, HasSplitKeyword, HasDirective}
+use Rattle.ud_model.specs.sections.Directives.{Content, Directive, cut_keyword, directive, text, content_of, skip_white_and_hash, skip_hash, may_split_keyword, has_split_keyword, content_after_hash, directive_at, kind_of, is_in_line, is_prefix_of_keyword, is_continued_outside_comment}
+use Rattle.ud_model.specs.sections.DirectiveParts.{DirectiveParts, AreParts, first_is, EndsInKeyword, nothing_follows, IsSplitKeyword, HasSplitKeyword, HasDirective}
 use Rattle.ud_model.specs.declared.kind.Kind.{Kind}
 use Rattle.ud_model.proofs.text.LexLemmas.{same_front}
 
@@ -44,19 +44,11 @@ white_front (b ∷ t) = by_white (is_white b) refl (white_front t)
 
 white_gone : (t : List ℕ) → first_is is_white (skip_white t) ≡ false
 white_gone [] = refl
-white_gone (b ∷ t) = by_white (is_white b) refl (white_gone t)
-  where
-    by_white : (w : Bool) → is_white b ≡ w → first_is is_white (skip_white t) ≡ false → first_is is_white (if w then skip_white t else b ∷ t) ≡ false
-    by_white w e r = grind arith
+white_gone (b ∷ t) = grind (arith, white_gone t)
 
 word_front : (t : List ℕ) → (t ≡ leading_word t ++ skip_word t) × (are_word_bytes (leading_word t) ≡ true) × (first_is is_word_byte (skip_word t) ≡ false)
 word_front [] = (refl, refl, refl)
-word_front (b ∷ t) = by_word (is_word_byte b) refl (word_front t)
-  where
-    by_word : (w : Bool) → is_word_byte b ≡ w → ((t ≡ leading_word t ++ skip_word t) × (are_word_bytes (leading_word t) ≡ true) × (first_is is_word_byte (skip_word t) ≡ false)) →
-        (b ∷ t ≡ (if w then b ∷ leading_word t else []) ++ (if w then skip_word t else b ∷ t)) × (are_word_bytes (if w then b ∷ leading_word t else []) ≡ true)
-        × (first_is is_word_byte (if w then skip_word t else b ∷ t) ≡ false)
-    by_word w e r = grind arith
+word_front (b ∷ t) = grind (arith, word_front t)
 
 hash_front : (t rest : List ℕ) → skip_hash t ≡ Some rest → t ≡ number_sign ∷ rest
 hash_front t rest e = grind arith
@@ -99,9 +91,7 @@ computed p masked h =
 -- If all are word bytes, nothing is left after the longest word.
 no_rest : (word rest : List ℕ) → are_word_bytes (word ++ rest) ≡ true → first_is is_word_byte rest ≡ false → rest ≡ []
 no_rest [] [] h n = refl
-no_rest [] (b ∷ rest) h n =
-    let p : (is_word_byte b ≡ true) × (are_word_bytes rest ≡ true) = and_parts (is_word_byte b) (are_word_bytes rest) h in
-    let q : true ≡ false = sym p.0 ∙ n in cc
+no_rest [] (b ∷ rest) h n = grind arith
 no_rest (b ∷ word) rest h n = no_rest word rest (and_parts (is_word_byte b) (are_word_bytes (word ++ rest)) h).1 n
 
 slash_is_no_word : (b : ℕ) (t : List ℕ) → is_word_byte b ≡ true → b ∷ t ≡ slash ∷ [] → ⊥
@@ -111,29 +101,9 @@ module _ (scan : Scan) (p : DirectiveParts) where
   ends_by : (word rest : List ℕ) → p.word ≡ word → p.rest ≡ rest → are_word_bytes word ≡ true → first_is is_word_byte rest ≡ false →
       may_split_keyword scan (word ++ rest) ≡ true → EndsInKeyword scan p
   ends_by [] [] e f h n m = nothing_follows e f
-  ends_by [] (b ∷ rest) e f h n m =
-      let q : (is_continued_outside_comment scan ≡ true) × ((bytes_eq (b ∷ rest) (47 ∷ []) || is_keyword_prefix (b ∷ rest)) ≡ true) =
-      and_parts (is_continued_outside_comment scan) (bytes_eq (b ∷ rest) (47 ∷ []) || is_keyword_prefix (b ∷ rest)) m in
-      by_case q.0 (or_cases (bytes_eq (b ∷ rest) (47 ∷ [])) (is_keyword_prefix (b ∷ rest)) q.1)
-    where
-      by_case : is_continued_outside_comment scan ≡ true → (bytes_eq (b ∷ rest) (47 ∷ []) ≡ true) ⊎ (is_keyword_prefix (b ∷ rest) ≡ true) → EndsInKeyword scan p
-      by_case c (inl s) = slash_follows e (f ∙ (bytes_eq-Decides (b ∷ rest) (47 ∷ [])).0 s) c
-      by_case c (inr s) =
-          let r : b ∷ rest ≡ [] = no_rest [] (b ∷ rest) (and_parts (are_word_bytes (b ∷ rest)) (is_prefix_of_keyword (b ∷ rest)) s).0 n in cc
+  ends_by [] (b ∷ rest) e f h n m = grind (arith, and_parts, or_cases, bytes_eq-Decides, no_rest)
   ends_by (b ∷ word) rest e f h n m =
-      let q : (is_continued_outside_comment scan ≡ true) × ((bytes_eq (b ∷ (word ++ rest)) (47 ∷ []) || is_keyword_prefix (b ∷ (word ++ rest))) ≡ true) =
-      and_parts (is_continued_outside_comment scan) (bytes_eq (b ∷ (word ++ rest)) (47 ∷ []) || is_keyword_prefix (b ∷ (word ++ rest))) m in
-      by_case q.0 (or_cases (bytes_eq (b ∷ (word ++ rest)) (47 ∷ [])) (is_keyword_prefix (b ∷ (word ++ rest))) q.1)
-    where
-      by_case : is_continued_outside_comment scan ≡ true → (bytes_eq (b ∷ (word ++ rest)) (47 ∷ []) ≡ true) ⊎ (is_keyword_prefix (b ∷ (word ++ rest)) ≡ true) → EndsInKeyword scan p
-      by_case c (inl s) =
-          absurd (slash_is_no_word b (word ++ rest) (and_parts (is_word_byte b) (are_word_bytes word) h).0 ((bytes_eq-Decides (b ∷ (word ++ rest)) (47 ∷ [])).0 s))
-      by_case c (inr s) =
-          let r : (are_word_bytes (b ∷ (word ++ rest)) ≡ true) × (is_prefix_of_keyword (b ∷ (word ++ rest)) ≡ true) =
-          and_parts (are_word_bytes (b ∷ (word ++ rest))) (is_prefix_of_keyword (b ∷ (word ++ rest))) s in
-          let z : rest ≡ [] = no_rest (b ∷ word) rest r.0 n in
-          let w : b ∷ (word ++ rest) ≡ p.word = ap (λ (t : List ℕ). b ∷ (word ++ t)) z ∙ append-nil (b ∷ word) ∙ sym e in
-          word_follows (λ g. let k : b ∷ word ≡ [] = sym e ∙ g in cc) (f ∙ z) (ap is_prefix_of_keyword (sym w) ∙ r.1) c
+      grind (arith, and_parts, or_cases, slash_is_no_word, bytes_eq-Decides, no_rest, append-nil)
 
   -- A masked line that may split a keyword ends so, and the other way round.
   to_ends : AreParts p scan.masked → may_split_keyword scan (p.word ++ p.rest) ≡ true → EndsInKeyword scan p
@@ -206,13 +176,7 @@ module _ (scan : Scan) (p : DirectiveParts) where
   unsplit h n = by_split splits refl
     where
       by_split : (t : Bool) → splits ≡ t → t ≡ false
-      by_split true e = absurd (n (to_split h e))
-      by_split false e = refl
-
-same_directive : {k l : Kind} {a b n m : ℕ} {s t : List ℕ} {x y : Bool} → k ≡ l → a ≡ b → n ≡ m → s ≡ t → x ≡ y →
-    ◌≡◌ {A = Directive} (record { kind = k; keyword = record { at = a; len = n }; after = s; broken = x })
-    (record { kind = l; keyword = record { at = b; len = m }; after = t; broken = y })
-same_directive e f g h i = cc
+      by_split t e = grind (arith, to_split)
 
 -- A line without a `#` after white space is text; another one has parts.
 data Split (scan : Scan) : Type 0 where
@@ -237,9 +201,7 @@ split_is scan = (to (split_line scan), back)
         record { parts = p; are = h; split = to_split scan p h s }
 
     back : HasSplitKeyword scan → content_of scan ≡ cut_keyword
-    back s =
-        content_is scan s.parts s.are
-        ∙ ap (λ (t : Bool). content_by scan s.parts t scan.fresh (kind_of s.parts.word)) (from_split scan s.parts s.are s.split)
+    back s = cc (content_is scan s.parts s.are, from_split scan s.parts s.are s.split)
 
 -- A line has a directive exactly if its parts say so.
 pub directive_is : (scan : Scan) (d : Directive) → (content_of scan ≡ directive d) ↔ HasDirective scan d
@@ -251,13 +213,7 @@ directive_is scan d = (to (split_line scan), back)
         to_directive scan p h (splits scan p) scan.fresh (kind_of p.word) d refl refl refl (sym (content_is scan p h) ∙ e)
 
     back : HasDirective scan d → content_of scan ≡ directive d
-    back h =
-        let c = computed h.parts scan.masked h.are in
-        content_is scan h.parts h.are
-        ∙ ap (λ (t : Bool). content_by scan h.parts t scan.fresh (kind_of h.parts.word)) (unsplit scan h.parts h.are h.whole)
-        ∙ ap₂ (λ (f : Bool) (k : Option Kind). content_by scan h.parts false f k) h.fresh h.kind
-        ∙ ap directive
-        (same_directive refl (place scan h.parts h.are ∙ sym h.at) (ap (λ (w : List ℕ). length w) c.word ∙ sym h.len) (c.rest ∙ sym h.after) (sym h.broken))
+    back h = grind (arith, computed, content_is, unsplit, place)
 
 -- Each other line is text.
 pub text_is : (scan : Scan) → (content_of scan ≡ text) ↔ ((HasSplitKeyword scan → ⊥) × ((d : Directive) → HasDirective scan d → ⊥))

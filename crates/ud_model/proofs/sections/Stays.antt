@@ -1,10 +1,10 @@
 -- Stays: a line's mark is the same in every longer text, since no later group's condition changes
 -- an opener's verdict.
-use Rattle.std.proofs.Common.{◌≡◌, List, [], ◌∷◌, ◌++◌, length, Bool, true, false, not, ◌&&◌, if◌then◌else◌, refl, sym, ◌∙◌, append_assoc, append-nil, subst, length-append, arith}
+use Rattle.std.proofs.Common.{◌≡◌, List, [], ◌∷◌, ◌++◌, length, Bool, true, not, ◌&&◌, if◌then◌else◌, refl, sym, ◌∙◌, append_assoc, append-nil, subst, length-append, arith}
 use Rattle.ud_model.specs.declared.cond.Cond.{Cond}
 use Rattle.ud_model.specs.declared.cond.Cond.TheVariants.{Yes, No, Unknown}
 use Rattle.ud_model.specs.declared.verdict.Verdict.TheVariants.{Keep, Remove, ToEndif}
-use Rattle.ud_model.specs.sections.Tree.{Item, Nodes, Groups, Elifs, Head, Tree, nothing, text, section, conditional, otherwise, first, elif, if_head, elif_head, else_head, closed, open_section, lines}
+use Rattle.ud_model.specs.sections.Tree.{Item, Nodes, Groups, Elifs, Head, Tree, nothing, text, section, conditional, otherwise, first, elif, closed, open_section, lines}
 use Rattle.ud_model.specs.sections.Pruning.{Part, an_if, an_elif, an_else, given_way, false_before, next_after, further_on, up_to_true, verdict_in_position, later_verdict, any_true, ends_with_first_true, Mark, marked, is_kept, is_inside_kept, gives_way, opener_verdict, endif_verdict, conds_of_elifs, conds_of_groups, conds_of_head, marks_of_nodes, marks_of_groups, marks_of_elifs, marks_of_head, marks_in, marks}
 use Rattle.ud_model.specs.aids.SoFar.{verdict_so_far, nodes_so_far, groups_so_far, elifs_so_far, head_so_far, marks_so_far}
 use Rattle.ud_model.proofs.text.Pushes.{ByPush, none, push, by_push}

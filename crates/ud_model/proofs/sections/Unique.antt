@@ -1,7 +1,7 @@
 -- Unique: a list of lines has one tree or none, and each prefix of a list with a tree has a tree.
-use Rattle.std.proofs.Common.{◌≡◌, List, [], ◌∷◌, ◌++◌, refl, sym, ◌∙◌, ap, append_assoc, append-nil, subst, ◌⊎◌, inl, inr}
+use Rattle.std.proofs.Common.{◌≡◌, List, [], ◌∷◌, ◌++◌, refl, sym, ◌∙◌, ap, subst, ◌⊎◌, inl, inr, arith}
 use Rattle.std.proofs.lemmas.List.{same_from_push}
-use Rattle.ud_model.specs.sections.Tree.{Item, Tree, closed, nothing, lines, HasTree}
+use Rattle.ud_model.specs.sections.Tree.{Item, Tree, closed, nothing, lines}
 use Rattle.ud_model.proofs.text.Pushes.{ByPush, none, push, by_push, push_not_nil}
 use Rattle.ud_model.proofs.sections.Growth.{Adds, lines-add, adds-once, undo}
 
@@ -20,8 +20,7 @@ module _ {L : Type 0} where
   is_empty t e = go (undo t)
     where
       go : (t ≡ closed nothing) ⊎ ((u : Tree L) × (x : Item L) × Adds u x t) → t ≡ closed nothing
-      go (inl p) = p
-      go (inr (u, x, a)) = absurd (grown_not_nil a e)
+      go h = grind (arith, grown_not_nil)
 
   -- The tree before the last line.
   pub tree_before : (xs : List (Item L)) (x : Item L) (u : Tree L) → lines u ≡ xs ++ x ∷ [] → (t : Tree L) × (lines t ≡ xs) × Adds t x u

@@ -4,7 +4,7 @@ use Rattle.std.specs.List.{list_all, position, position_or_len}
 use Rattle.std.proofs.lemmas.List.Sums.{prefix_len-le-length}
 use Rattle.std.proofs.lemmas.Bool.Decides.{nat_tests}
 use Rattle.ud_model.specs.text.Bytes.{is_white, is_word_byte, are_word_bytes, is_digit, is_identifier, leading_word, skip_word, skip_white}
-use Rattle.std.proofs.Common.{◌&&◌, one-add, get_or, sym}
+use Rattle.std.proofs.Common.{◌&&◌, get_or, sym}
 
 -- `all` with `is_word_byte` tests each byte for a word byte.
 pub list_all-word : (bytes : List ℕ) → list_all (λ b. is_word_byte b) bytes ≡ are_word_bytes bytes

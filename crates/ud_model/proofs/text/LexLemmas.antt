@@ -4,7 +4,7 @@ use Rattle.std.proofs.lemmas.Bool.{eq-eqb}
 use Rattle.std.proofs.lemmas.List.{take_at, drop_at}
 use Rattle.ud_model.specs.text.Bytes.{slash, star, backslash, is_quote, starts_with_byte}
 use Rattle.ud_model.specs.text.Lines.{NoNewline}
-use Rattle.ud_model.specs.text.Lexemes.{LexemeKind, block_comment, line_comment, literal, single, Lexeme, NoClose, IsLineEnd, IsLiteralBody, nothing, plain, passed, IsLexeme, closed_comment, open_comment, to_line_end, closed_literal, open_literal, open_at_backslash, single_byte, AreLexemes, Cell, cells_in, cells_of, comment_size, line_comment_size, literal_size, Extent, lexeme_at, lex_from, lex}
+use Rattle.ud_model.specs.text.Lexemes.{LexemeKind, literal, single, Lexeme, NoClose, IsLineEnd, IsLiteralBody, nothing, plain, passed, IsLexeme, closed_comment, open_comment, to_line_end, closed_literal, open_literal, open_at_backslash, single_byte, AreLexemes, Cell, cells_in, cells_of, comment_size, line_comment_size, literal_size, Extent, lexeme_at, lex_from, lex}
 use Rattle.ud_model.proofs.text.Steps.{lex_from-zero}
 
 begins_close : (i rest : List ℕ) → starts_with_byte slash ((i ++ star ∷ slash ∷ []) ++ rest) ≡ starts_with_byte slash (i ++ star ∷ [])
@@ -14,23 +14,18 @@ begins_close (x ∷ i) rest = refl
 close_size : (inside rest : List ℕ) → NoClose (inside ++ star ∷ []) →
     comment_size ((inside ++ star ∷ slash ∷ []) ++ rest) ≡ length (inside ++ star ∷ slash ∷ [])
 close_size [] rest n = refl
-close_size (a ∷ inside) rest n =
-    ap (λ (t : Bool). if (a == star) && t then 2 else suc (comment_size ((inside ++ star ∷ slash ∷ []) ++ rest))) (begins_close inside rest)
-    ∙ ap (λ (t : Bool). if t then 2 else suc (comment_size ((inside ++ star ∷ slash ∷ []) ++ rest))) n.0
-    ∙ ap (λ (k : ℕ). suc k) (close_size inside rest n.1)
+close_size (a ∷ inside) rest n = grind (arith, begins_close, close_size inside rest n.1)
 
 open_size : (inside : List ℕ) → NoClose inside → comment_size inside ≡ length inside
 open_size [] n = refl
-open_size (a ∷ inside) n =
-    ap (λ (t : Bool). if t then 2 else suc (comment_size inside)) n.0 ∙ ap (λ (k : ℕ). suc k) (open_size inside n.1)
+open_size (a ∷ inside) n = grind (arith, open_size inside n.1)
 
 line_end_size : (rest : List ℕ) → IsLineEnd rest → line_comment_size rest ≡ 0
 line_end_size rest e = grind arith
 
 line_inside_size : (inside rest : List ℕ) → NoNewline inside → IsLineEnd rest → line_comment_size (inside ++ rest) ≡ length inside
 line_inside_size [] rest n e = line_end_size rest e
-line_inside_size (a ∷ inside) rest n e =
-    ap (λ (t : Bool). if t then 0 else suc (line_comment_size (inside ++ rest))) (ne_eqb a 10 n.0) ∙ ap (λ (k : ℕ). suc k) (line_inside_size inside rest n.1 e)
+line_inside_size (a ∷ inside) rest n e = grind (arith, line_inside_size inside rest n.1 e)
 
 literal_end_size : (q : ℕ) (p : Bool) (rest : List ℕ) → IsLineEnd rest → literal_size q p rest ≡ 0
 literal_end_size q p rest e = grind arith
@@ -46,20 +41,9 @@ inside_size : (q : ℕ) {inside : List ℕ} (rest : List ℕ) → is_quote q ≡
     literal_size q false (inside ++ rest) ≡ length inside + literal_size q false rest
 inside_size q rest h nothing = sym (zero-add (literal_size q false rest))
 inside_size q rest h (plain {a = a} {rest = inside} no_newline no_quote no_backslash i) =
-    ap (λ (t : Bool). if t then 0 else if a == q then 1 else suc (literal_size q (a == backslash) (inside ++ rest))) (ne_eqb a 10 no_newline)
-    ∙ ap (λ (t : Bool). if t then 1 else suc (literal_size q (a == backslash) (inside ++ rest))) (ne_eqb a q no_quote)
-    ∙ ap (λ (t : Bool). suc (literal_size q t (inside ++ rest))) (ne_eqb a 92 no_backslash)
-    ∙ more (literal_size q false (inside ++ rest)) (length inside) (literal_size q false rest) (inside_size q rest h i)
-  where
-    more : (x n m : ℕ) → x ≡ n + m → suc x ≡ suc n + m
-    more x n m e = omega arith
+    grind (arith, inside_size q rest h i)
 inside_size q rest h (passed {b = b} {rest = inside} no_newline i) =
-    ap (λ (t : Bool). if t then 1 else suc (if b == 10 then 0 else suc (literal_size q false (inside ++ rest)))) (ne_eqb 92 q (not_this_quote q 92 h refl))
-    ∙ ap (λ (t : Bool). suc (if t then 0 else suc (literal_size q false (inside ++ rest)))) (ne_eqb b 10 no_newline)
-    ∙ more (literal_size q false (inside ++ rest)) (length inside) (literal_size q false rest) (inside_size q rest h i)
-  where
-    more : (x n m : ℕ) → x ≡ n + m → suc (suc x) ≡ suc (suc n) + m
-    more x n m e = omega arith
+    grind (arith, inside_size q rest h i)
 
 -- A lexeme of this kind with so many bytes after its first.
 abbrev pub extent : LexemeKind → ℕ → Extent
@@ -81,16 +65,11 @@ piece_single b rest h f = grind arith
 -- A lexeme reaches as far as the computed one.
 pub piece_size : {k : LexemeKind} (a : ℕ) (tail rest : List ℕ) → IsLexeme (a ∷ tail) rest k → lexeme_at a (tail ++ rest) ≡ extent k (length tail)
 unfolding lexeme_at
-piece_size a tail rest (closed_comment inside e n) =
-    at_bytes block_comment a slash tail (star ∷ (inside ++ star ∷ slash ∷ [])) rest e
-    (ap (λ (k : ℕ). extent block_comment (suc k)) (close_size inside rest n))
+piece_size a tail rest (closed_comment inside e n) = grind (arith, at_bytes, extent, close_size)
 piece_size a tail rest (open_comment inside e n none) =
-    at_bytes block_comment a slash tail (star ∷ inside) rest e
-    (ap (λ (k : ℕ). extent block_comment (suc k))
-    (ap comment_size (ap (λ (r : List ℕ). inside ++ r) none ∙ append-nil inside) ∙ open_size inside n))
+    grind (arith, at_bytes, extent, append-nil, open_size)
 piece_size a tail rest (to_line_end inside e n at_end) =
-    at_bytes line_comment a slash tail (slash ∷ inside) rest e
-    (ap (λ (k : ℕ). extent line_comment (suc k)) (line_inside_size inside rest n at_end))
+    grind (arith, at_bytes, extent, line_inside_size)
 piece_size a tail rest (closed_literal q inside h e i) =
     at_bytes literal a q tail (inside ++ q ∷ []) rest e
     (piece_literal q ((inside ++ q ∷ []) ++ rest) h
@@ -101,10 +80,7 @@ piece_size a tail rest (closed_literal q inside h e i) =
     ∙ ap (λ (t : Bool). if t then 1 else suc (literal_size q (q == backslash) rest)) (eq-eqb q q refl))
     ∙ sym (length-append inside (q ∷ []))))
 piece_size a tail rest (open_literal q inside h e i at_end) =
-    at_bytes literal a q tail inside rest e
-    (piece_literal q (inside ++ rest) h
-    ∙ ap (λ (k : ℕ). extent literal k)
-    (inside_size q rest h i ∙ ap (λ (k : ℕ). length inside + k) (literal_end_size q false rest at_end) ∙ omega arith))
+    grind (arith, at_bytes, piece_literal, extent, inside_size, literal_end_size)
 piece_size a tail rest (open_at_backslash q inside h e i at_end) =
     at_bytes literal a q tail (inside ++ backslash ∷ []) rest e
     (piece_literal q ((inside ++ backslash ∷ []) ++ rest) h
@@ -139,8 +115,7 @@ pub cut_cells : (text : List ℕ) (pieces : List Lexeme) → AreLexemes pieces t
 unfolding lex lex_from
 cut_cells text [] e = sym (ap lex e)
 cut_cells text (p ∷ pieces) (rest, e, is, others) =
-    ap (λ (cells : List Cell). cells_in p.kind p.bytes ++ cells) (cut_cells rest pieces others)
-    ∙ sym (ap lex e ∙ cut_piece p.kind p.bytes rest is)
+    grind (arith, cut_piece, cut_cells rest pieces others)
 
 -- Two texts with parts of the same length are equal part by part.
 pub same_front : (s t rest more : List ℕ) → s ++ rest ≡ t ++ more → length s ≡ length t → (s ≡ t) × (rest ≡ more)
@@ -153,13 +128,7 @@ same_front s t rest more e n = (
 first_same : (k l : LexemeKind) (s t rest more : List ℕ) → IsLexeme s rest k → IsLexeme t more l → s ++ rest ≡ t ++ more → (k ≡ l) × (s ≡ t) × (rest ≡ more)
 first_same k l [] t rest more p q e = absurd (some_bytes rest p)
 first_same k l (a ∷ s) [] rest more p q e = absurd (some_bytes more q)
-first_same k l (a ∷ s) (b ∷ t) rest more p q e =
-    let same : a ≡ b = cc in
-    let behind : s ++ rest ≡ t ++ more = cc in
-    let reach : ◌≡◌ {A = Extent} (record { kind = k; more = length s }) (record { kind = l; more = length t }) =
-    sym (piece_size a s rest p) ∙ ap₂ lexeme_at same behind ∙ piece_size b t more q in
-    let prefix : (s ≡ t) × (rest ≡ more) = same_front s t rest more behind (ap (λ (x : Extent). x.more) reach) in
-    (ap (λ (x : Extent). x.kind) reach, ap₂ (λ (x : ℕ) (xs : List ℕ). x ∷ xs) same prefix.0, prefix.1)
+first_same k l (a ∷ s) (b ∷ t) rest more p q e = grind (arith, more, piece_size, same_front)
 
 -- A text has lexemes in one way at most.
 pub cut_unique : (text : List ℕ) (pieces others : List Lexeme) → AreLexemes pieces text → AreLexemes others text → pieces ≡ others

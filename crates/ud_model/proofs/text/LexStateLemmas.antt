@@ -1,11 +1,10 @@
 -- States: one more byte takes a text's state to the next one.
-use Rattle.std.proofs.Common.{◌≡◌, ℕ, zero, suc, ◌≤◌, ◌==◌, List, [], ◌∷◌, ◌++◌, length, drop, map, Bool, true, false, ◌&&◌, ◌||◌, if◌then◌else◌, refl, sym, ◌∙◌, ap, subst, append_assoc, append-nil, arith, length-append}
+use Rattle.std.proofs.Common.{◌≡◌, ℕ, zero, suc, ◌≤◌, ◌==◌, List, [], ◌∷◌, ◌++◌, length, drop, map, Bool, true, false, ◌&&◌, if◌then◌else◌, refl, sym, ◌∙◌, ap, subst, append_assoc, append-nil, arith, length-append}
 use Rattle.std.proofs.Math.Bool.{and-false, and-true}
-use Rattle.std.proofs.lemmas.Bool.{eqb-true}
 use Rattle.std.proofs.lemmas.List.{map-append, length-map, drop-append-le}
 use Rattle.std.proofs.lemmas.List.Folds.{list_all-append}
-use Rattle.ud_model.specs.text.Bytes.{newline, slash, star, backslash, space, is_quote, is_white}
-use Rattle.ud_model.specs.text.Lexemes.{LexemeKind, block_comment, line_comment, literal, single, Cell, lexeme_at, lex_from, lex, shown, ends_line, open_line}
+use Rattle.ud_model.specs.text.Bytes.{newline, space, is_quote, is_white}
+use Rattle.ud_model.specs.text.Lexemes.{LexemeKind, literal, single, Cell, lexeme_at, lex_from, lex, shown, ends_line, open_line}
 use Rattle.ud_model.specs.text.Scanning.{is_blank}
 use Rattle.ud_model.specs.aids.LexStates.{LexState, in_text, at_slash, in_block, at_star, in_line, in_literal, at_backslash, cells_after, LexesTo, next_state, opens_comment, masked_byte, stays_white, blank_last, mask, Masks}
 use Rattle.ud_model.proofs.text.Steps.{cell, settles, after_step}

@@ -1,5 +1,5 @@
 -- Lines: lemmas on the lines of a text, and on those of a longer one.
-use Rattle.std.proofs.Common.{◌≡◌, ◌≢◌, ℕ, suc, ◌+◌, ◌-◌, List, [], ◌∷◌, ◌++◌, length, take, map, ◌⊎◌, inl, inr, refl, sym, ◌∙◌, ap, ap₂, subst, append_assoc, append-nil, take_all, ne_eqb, nat_eq, Bool, true, false, if◌then◌else◌, arith}
+use Rattle.std.proofs.Common.{◌≡◌, ◌≢◌, ℕ, suc, ◌+◌, ◌-◌, List, [], ◌∷◌, ◌++◌, length, take, map, ◌⊎◌, inl, inr, refl, sym, ◌∙◌, ap, ap₂, subst, append_assoc, append-nil, take_all, ne_eqb, nat_eq, Bool, true, if◌then◌else◌, arith}
 use Rattle.std.specs.List.{concat, ends_with}
 use Rattle.std.proofs.lemmas.List.Folds.{concat-append}
 use Rattle.std.proofs.lemmas.Bool.{cases_eq}
@@ -34,16 +34,14 @@ no_newline-append (b ∷ bs) q hp hq = (hp.0, no_newline-append bs q hp.1 hq)
 pub split_lines-open : (p : List ℕ) → NoNewline p → split_lines p ≡ record { whole = []; rest = p }
 unfolding split_lines
 split_lines-open [] h = refl
-split_lines-open (b ∷ bs) h =
-    prepend_byte-other b (split_lines bs) h.0 ∙ ap (λ (q : SplitLines). prepend_to_first b q.whole q.rest) (split_lines-open bs h.1)
+split_lines-open (b ∷ bs) h = grind (arith, split_lines-open bs h.1)
 
 -- Up to its first newline a text is its first line.
 pub split_lines-prefix : (p t : List ℕ) → NoNewline p →
     split_lines (p ++ 10 ∷ t) ≡ record { whole = (p ++ 10 ∷ []) ∷ whole_lines t; rest = partial_line t }
 unfolding split_lines
 split_lines-prefix [] t h = refl
-split_lines-prefix (b ∷ bs) t h =
-    prepend_byte-other b (split_lines (bs ++ 10 ∷ t)) h.0 ∙ ap (λ (q : SplitLines). prepend_to_first b q.whole q.rest) (split_lines-prefix bs t h.1)
+split_lines-prefix (b ∷ bs) t h = grind (arith, split_lines-prefix bs t h.1)
 
 -- A whole line that a text begins with is its first line.
 pub split_lines-line-prefix : (l t : List ℕ) → IsWhole l → split_lines (l ++ t) ≡ record { whole = l ∷ whole_lines t; rest = partial_line t }
@@ -66,9 +64,7 @@ split_lines-append (b ∷ bs) s = ap (prepend_byte b) (split_lines-append bs s) 
 
 -- A byte before parts of a text gives parts of the text with the byte before it.
 pub put_parts : (b : ℕ) (bs : List ℕ) (q : SplitLines) → (b ≡ 10) ⊎ (b ≢ 10) → AreSplitLines bs q → AreSplitLines (b ∷ bs) (prepend_byte b q)
-put_parts b bs q (inl e) h =
-    subst (λ (n : ℕ). AreSplitLines (n ∷ bs) (prepend_byte n q)) (sym e)
-    (record { joined = ap (λ (x : List ℕ). 10 ∷ x) h.joined; whole = (([], tt, refl), h.whole); no_newline = h.no_newline })
+put_parts b bs q (inl e) h = grind arith
 put_parts b bs q (inr other) h =
     subst (AreSplitLines (b ∷ bs)) (sym (prepend_byte-other b q other)) (by_whole q.whole q.rest h.joined h.whole h.no_newline)
   where
@@ -113,9 +109,7 @@ split_lines-append-line t p h =
     split_lines-append t (p ++ 10 ∷ []) ∙ ap (λ (q : SplitLines). record { whole = whole_lines t ++ q.whole; rest = q.rest }) line
   where
     line : split_lines (partial_line t ++ (p ++ 10 ∷ [])) ≡ record { whole = (partial_line t ++ (p ++ 10 ∷ [])) ∷ []; rest = [] }
-    line =
-        subst (λ (x : List ℕ). split_lines x ≡ record { whole = x ∷ []; rest = [] }) (append_assoc (partial_line t) p (10 ∷ []))
-        (split_lines-prefix (partial_line t ++ p) [] (no_newline-append (partial_line t) p (partial_line-open t) h))
+    line = grind (arith, append_assoc, split_lines-prefix, no_newline-append, partial_line-open)
 
 -- The whole lines of a longer text begin with those of the text. Its rest is that of the text's
 -- rest with the bytes after.
@@ -154,8 +148,7 @@ grows t more = by_parts (split_lines (partial_line t ++ more)) (split_lines-appe
   where
     by_parts : (q : SplitLines) → split_lines (t ++ more) ≡ record { whole = whole_lines t ++ q.whole; rest = q.rest } →
         GoesOn (partial_line t) more q → Growth t more
-    by_parts _ e still_open =
-        stays_open (ap (λ (p : SplitLines). p.whole) e ∙ append-nil (whole_lines t)) (ap (λ (p : SplitLines). p.rest) e)
+    by_parts _ e still_open = grind (arith, append-nil)
     by_parts _ e (made_whole x ls rest) = ends_line x ls (ap (λ (p : SplitLines). p.whole) e)
 
 -- If a text has a rest, one of the lines of a longer text begins with it.
@@ -206,13 +199,11 @@ lines_exist t = record {
 pub texts_of-formed : (ls : List (List ℕ)) → AreFormed ls → ls ≡ texts_of (concat ls)
 unfolding split_lines
 texts_of-formed [] h = refl
-texts_of-formed (l ∷ []) (inl whole) =
-    sym (ap (λ (q : SplitLines). q.whole ++ last_line q.rest) (split_lines-line-prefix l [] whole))
+texts_of-formed (l ∷ []) (inl whole) = grind (arith, split_lines-line-prefix)
 texts_of-formed (l ∷ []) (inr (some, none)) =
     sym (ap texts_of (append-nil l) ∙ ap (λ (q : SplitLines). q.whole ++ last_line q.rest) (split_lines-open l none) ∙ last_line-some l some)
 texts_of-formed (l ∷ m ∷ ls) (whole, rest) =
-    ap (λ (ms : List (List ℕ)). l ∷ ms) (texts_of-formed (m ∷ ls) rest)
-    ∙ sym (ap (λ (q : SplitLines). q.whole ++ last_line q.rest) (split_lines-line-prefix l (concat (m ∷ ls)) whole))
+    grind (arith, split_lines-line-prefix, texts_of-formed (m ∷ ls) rest)
 
 -- The lines of a text are these and no others.
 pub lines_are : (t : List ℕ) (ls : List (List ℕ)) → AreLines t ls → ls ≡ texts_of t
@@ -230,9 +221,7 @@ body-ending l =
 
     by_tests : (a b : Bool) → (a ≡ true → l ≡ cut_at (13 ∷ 10 ∷ [])) → (b ≡ true → l ≡ cut_at (10 ∷ [])) →
         cut_at (if a then 13 ∷ 10 ∷ [] else if b then 10 ∷ [] else []) ≡ l
-    by_tests true b both one = sym (both refl)
-    by_tests false true both one = sym (one refl)
-    by_tests false false both one = append-nil (take (length l - length {A = ℕ} []) l) ∙ take_all (length l - length {A = ℕ} []) l (omega arith)
+    by_tests a b both one = grind (arith, append-nil, take_all)
 
 -- The line of a number and a text has this text.
 pub text_of-line_at : (n : ℕ) (l : List ℕ) → text_of (line_at n l) ≡ l
@@ -246,9 +235,7 @@ map-numbered_from n (l ∷ ls) = ap₂ (λ (x : List ℕ) (xs : List (List ℕ))
 -- The lines after these are numbered on from them.
 pub numbered_from-append : (n : ℕ) (xs ys : List (List ℕ)) → numbered_from n (xs ++ ys) ≡ numbered_from n xs ++ numbered_from (n + length xs) ys
 numbered_from-append n [] ys = ap (λ (k : ℕ). numbered_from k ys) (omega arith)
-numbered_from-append n (x ∷ xs) ys =
-    ap (λ (ls : List Line). line_at n x ∷ ls)
-    (numbered_from-append (suc n) xs ys ∙ ap (λ (k : ℕ). numbered_from (suc n) xs ++ numbered_from k ys) (omega arith))
+numbered_from-append n (x ∷ xs) ys = grind (arith, numbered_from-append (suc n) xs ys)
 
 -- A line after these is numbered on from them, if the first has the number 1.
 pub numbered_from-next : (xs : List (List ℕ)) (l : List ℕ) (ys : List (List ℕ)) →
@@ -273,8 +260,7 @@ lines_of-append t more = (
 split_lines-whole : (ls : List (List ℕ)) (r : List ℕ) → AreWhole ls → NoNewline r → split_lines (concat ls ++ r) ≡ record { whole = ls; rest = r }
 split_lines-whole [] r whole none = split_lines-open r none
 split_lines-whole (l ∷ ls) r whole none =
-    ap split_lines (append_assoc l (concat ls) r) ∙ split_lines-line-prefix l (concat ls ++ r) whole.0
-    ∙ ap (λ (q : SplitLines). record { whole = l ∷ q.whole; rest = q.rest }) (split_lines-whole ls r whole.1 none)
+    grind (arith, append_assoc, split_lines-line-prefix, split_lines-whole ls r whole.1 none)
 
 -- The parts of a text are these and no others.
 pub parts_are : (t : List ℕ) (p : SplitLines) → AreSplitLines t p → p ≡ split_lines t

@@ -1,11 +1,11 @@
 -- Scans: a masked byte has its position in the body, and the numbers of lines never count.
-use Rattle.std.proofs.Common.{◌≡◌, ℕ, zero, suc, ◌-◌, List, [], ◌∷◌, ◌++◌, length, take, drop, map, Bool, true, false, ◌||◌, if◌then◌else◌, refl, sym, ◌∙◌, ap, ap₂, append-nil, arith}
+use Rattle.std.proofs.Common.{◌≡◌, ℕ, zero, suc, ◌-◌, List, [], ◌∷◌, ◌++◌, length, take, drop, map, Bool, true, false, if◌then◌else◌, refl, sym, ◌∙◌, ap, ap₂, append-nil, arith}
 use Rattle.std.proofs.lemmas.List.{take_at, drop_at, length-map, take-map, drop-map, map-append, take-append-drop}
 use Rattle.ud_model.specs.text.Lines.{Line}
 use Rattle.ud_model.specs.text.Scans.{Reading, plain_scan}
 use Rattle.ud_model.specs.text.Splicing.{is_spliced, content, newline_of, spliced_part, spliced_text, extended_run, c_run_from, c_run_of, last_is_spliced}
-use Rattle.ud_model.specs.text.Lexemes.{LexemeKind, single, Cell, lexeme_at, lex_from, lex, shown, kind_at_end}
-use Rattle.ud_model.specs.text.Scanning.{is_block, joins, content_cells, scan_after_run, scan_after}
+use Rattle.ud_model.specs.text.Lexemes.{LexemeKind, single, Cell, lexeme_at, lex_from, lex, shown}
+use Rattle.ud_model.specs.text.Scanning.{joins, content_cells, scan_after_run, scan_after}
 use Rattle.ud_model.specs.declared.kind.Mode.{Mode}
 use Rattle.ud_model.specs.declared.kind.Mode.TheVariants.{C, Plain}
 

@@ -5,9 +5,9 @@ use Rattle.ud_model.specs.text.Bytes.{newline}
 use Rattle.ud_model.specs.text.Lines.{Line}
 use Rattle.ud_model.specs.text.Scans.{Scan, Reading}
 use Rattle.ud_model.specs.text.Splicing.{is_spliced, is_empty, content, stays_open, spliced_part, spliced_text, extended_run, c_run_from, c_run_of, last_is_spliced}
-use Rattle.ud_model.specs.text.Lexemes.{LexemeKind, kind_at_end}
+use Rattle.ud_model.specs.text.Lexemes.{kind_at_end}
 use Rattle.ud_model.specs.text.Scanning.{is_block, joins, comment_at, scan_after_run, scan_after, next_reading, readings_after, readings_of}
-use Rattle.ud_model.specs.aids.LexStates.{LexState, in_text, at_slash, in_block, at_star, in_line, in_literal, at_backslash, LexesTo, next_state, opens_comment, masked_byte, stays_white, kind_in_state, fresh_at, state_after_line, white_after_line, blank_last, Masks}
+use Rattle.ud_model.specs.aids.LexStates.{LexState, in_text, LexesTo, next_state, opens_comment, masked_byte, stays_white, kind_in_state, fresh_at, state_after_line, white_after_line, blank_last, Masks}
 use Rattle.ud_model.specs.declared.kind.Mode.{Mode}
 use Rattle.ud_model.specs.declared.kind.Mode.TheVariants.{C, Plain}
 use Rattle.ud_model.proofs.text.LexStateLemmas.{LexesTo-nil, Masks-step}
@@ -106,10 +106,8 @@ kind_from run group r =
 -- Lines before a group that don't join it never change whether the group joins the next line.
 pub group_joins : (run group : List Line) → LexesTo (spliced_text run) in_text true → joins run ≡ false → joins (run ++ group) ≡ joins group
 unfolding joins
-group_joins run [] r j =
-    ap (λ (ls : List Line). last_is_spliced ls || is_block (kind_at_end (spliced_text ls))) (append-nil run) ∙ j ∙ sym (ap is_block (kind_at_place LexesTo-nil))
-group_joins run (l ∷ group) r j =
-    ap₂ (λ (s : Bool) (k : LexemeKind). s || is_block k) (last_is_spliced-append run l group) (kind_from run (l ∷ group) r)
+group_joins run [] r j = cc (append-nil run, j, kind_at_place LexesTo-nil)
+group_joins run (l ∷ group) r j = grind (arith, last_is_spliced-append, kind_from)
 
 -- A scan doesn't depend on lines before its logical line.
 pub own_logical_line : (run group : List Line) (line : Line) → LexesTo (spliced_text run) in_text true → joins run ≡ false →

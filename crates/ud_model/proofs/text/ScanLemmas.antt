@@ -1,15 +1,14 @@
 -- Scans: the scan of a line, from the state after the text before it.
-use Rattle.std.proofs.Common.{◌≡◌, ℕ, suc, ◌+◌, ◌==◌, List, [], ◌∷◌, ◌++◌, length, take, drop, map, Bool, true, false, ◌&&◌, ◌||◌, if◌then◌else◌, refl, sym, ◌∙◌, ap, ap₂, subst, append_assoc, append-nil, arith, length-append, length-drop}
+use Rattle.std.proofs.Common.{◌≡◌, ℕ, suc, ◌+◌, List, [], ◌∷◌, ◌++◌, length, take, drop, map, Bool, true, false, ◌&&◌, ◌||◌, if◌then◌else◌, refl, sym, ◌∙◌, ap, append_assoc, append-nil, arith, length-append, length-drop}
 use Rattle.std.proofs.lemmas.List.{take_at, take_all, take-map, drop-map, drop-append-le, drop_all}
 use Rattle.std.proofs.lemmas.Grind.{flat_map-append}
 use Rattle.ud_model.specs.text.Bytes.{newline, slash, star, space, starts_with_byte}
 use Rattle.ud_model.specs.text.Lines.{Line}
 use Rattle.ud_model.specs.text.Scans.{Scan, Reading}
 use Rattle.ud_model.specs.text.Splicing.{is_spliced, content, stays_open, newline_of, spliced_part, spliced_text, extended_run, c_run_from, c_run_of, last_is_spliced}
-use Rattle.ud_model.specs.text.Lexemes.{LexemeKind, block_comment, line_comment, literal, single, Cell, Extent, comment_size, line_comment_size, lexeme_at, lex_from, lex, shown, open_line, last_kind, kind_at_end}
+use Rattle.ud_model.specs.text.Lexemes.{LexemeKind, block_comment, line_comment, single, Cell, Extent, comment_size, line_comment_size, lexeme_at, lex_from, lex, shown, open_line, last_kind, kind_at_end}
 use Rattle.ud_model.specs.text.Scanning.{is_block, joins, comment_at, is_blank, scan_after_run}
 use Rattle.ud_model.specs.aids.LexStates.{LexState, in_text, at_slash, in_block, at_star, in_line, in_literal, at_backslash, cells_after, LexesTo, opens_comment, masked_byte, kind_in_state, fresh_at, state_after_line, white_after_line, blank_last, mask, Masks}
-use Rattle.ud_model.specs.declared.kind.Mode.{Mode}
 use Rattle.ud_model.specs.declared.kind.Mode.TheVariants.{C}
 use Rattle.ud_model.specs.declared.kind.CommentAt.{CommentAt}
 use Rattle.ud_model.proofs.text.Steps.{cell}
@@ -17,8 +16,7 @@ use Rattle.ud_model.proofs.text.LexStateLemmas.{length-lex, length-mask, open_li
 
 -- The facts of a state, rewritten along equalities.
 pub LexesTo-same : {t u : List ℕ} {w x : LexState} {b c : Bool} → t ≡ u → w ≡ x → b ≡ c → LexesTo t w b → LexesTo u x c
-LexesTo-same {t} {u} {w} {x} {b} {c} e f g r =
-    subst (λ (s : List ℕ). LexesTo s x c) e (subst (λ (v : LexState). LexesTo t v c) f (subst (λ (v : Bool). LexesTo t w v) g r))
+LexesTo-same {t} {u} {w} {x} {b} {c} e f g r = grind arith
 
 -- The kind of the last of cells, and of further ones.
 pub last_kind-append : (k : LexemeKind) (xs ys : List Cell) → last_kind k (xs ++ ys) ≡ last_kind (last_kind k xs) ys
@@ -32,15 +30,11 @@ last_space k w = grind arith
 -- The kind at the end of a text, from its state.
 pub kind_at_place : {text : List ℕ} {w : LexState} {white : Bool} → LexesTo text w white → kind_at_end text ≡ kind_in_state w
 unfolding kind_at_end
-kind_at_place {text} {w} r =
-    ap (λ (cells : List Cell). last_kind single cells) (r.splits (space ∷ []))
-    ∙ last_kind-append single r.settled (cells_after w (space ∷ [])) ∙ last_space (last_kind single r.settled) w
+kind_at_place {text} {w} r = grind (arith, last_kind-append, last_space)
 
 -- The settled cells, and a slash that isn't settled, are as many as the text has bytes.
 pub settled_all : {text : List ℕ} {w : LexState} {white : Bool} (r : LexesTo text w white) → length r.settled + length (cells_after w []) ≡ length text
-settled_all {text} {w} r =
-    sym (length-append r.settled (cells_after w [])) ∙ sym (ap (λ (cells : List Cell). length cells) (r.splits []))
-    ∙ length-lex (text ++ []) ∙ ap (λ (l : List ℕ). length l) (append-nil text)
+settled_all {text} {w} r = grind (arith, length-append, length-lex, append-nil)
 
 fresh_clean : (text : List ℕ) (w : LexState) (white : Bool) (s : List ℕ) (r : LexesTo text w white) → cells_after w [] ≡ [] →
     is_blank (open_line [] (take (length text) (lex (text ++ s)))) ≡ white
@@ -102,9 +96,7 @@ LexesTo-close text line w white r = grind (arith, append_assoc, close_by)
 shown_at_end : (o : Bool) (text c : List ℕ) (w : LexState) (white : Bool) → LexesTo (text ++ c) w white →
     take (length c) (drop (length text) (mask ((text ++ c) ++ (if o then [] else newline ∷ [])))) ≡ drop (length text) (mask (text ++ c))
 shown_at_end true text c w white r =
-    ap (λ (t : List ℕ). take (length c) (drop (length text) (mask t))) (append-nil (text ++ c))
-    ∙ take_all (length c) (drop (length text) (mask (text ++ c)))
-    (omega (arith, length-drop (length text) (mask (text ++ c)), length-mask (text ++ c), length-append text c))
+    grind (arith, append-nil, take_all, length-drop, length-mask, length-append)
 shown_at_end false text c w white r =
     ap (λ (l : List ℕ). take (length c) (drop (length text) l))
     (mask_step (text ++ c) w white newline r
@@ -184,8 +176,4 @@ scan_behind_is run line masked w v white now_white before r j m =
 
 -- Nothing is shown yet after the text itself.
 pub Masks-start : {text : List ℕ} {w : LexState} {white : Bool} → LexesTo text w white → Masks (length text) text w white []
-Masks-start {text} r = record {
-  reads = r;
-  within = omega arith;
-  masked_is = sym (drop_all (length text) (mask text) (omega (arith, length-mask text)));
-}
+Masks-start {text} r = grind (arith, masked_is, drop_all, length-mask)

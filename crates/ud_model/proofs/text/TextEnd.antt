@@ -1,12 +1,12 @@
 -- The end of a text lies in its last lexeme, if that is open.
-use Rattle.std.proofs.Common.{◌≡◌, ◌≢◌, ℕ, ◌==◌, List, [], ◌∷◌, ◌++◌, Bool, true, false, ◌||◌, ◌⊎◌, inl, inr, refl, sym, ◌∙◌, ap, ap₂, subst, append_assoc, append-nil, arith}
+use Rattle.std.proofs.Common.{◌≡◌, ◌≢◌, ℕ, ◌==◌, List, [], ◌∷◌, ◌++◌, Bool, true, ◌⊎◌, refl, sym, ◌∙◌, ap, subst, append_assoc, append-nil, arith}
 use Rattle.std.specs.Prelude.{◌↔◌}
 use Rattle.std.proofs.Math.Bool.{and-false}
 use Rattle.ud_model.specs.text.Bytes.{newline, slash, star, backslash, space, is_quote}
 use Rattle.ud_model.specs.text.Lines.{Line, NoNewline}
 use Rattle.ud_model.specs.text.Scans.{Reading}
 use Rattle.ud_model.specs.text.Splicing.{is_spliced, last_is_spliced, spliced_part, spliced_text, c_run_of}
-use Rattle.ud_model.specs.text.Lexemes.{LexemeKind, block_comment, line_comment, literal, single, Lexeme, NoClose, IsLiteralBody, nothing, plain, passed, IsLexeme, closed_comment, open_comment, to_line_end, closed_literal, open_literal, open_at_backslash, single_byte, AreLexemes, IsOpen, unclosed_comment, each_line_comment, unclosed_literal, unclosed_at_backslash, LastIsOpen, Cell, cells_in, lexeme_at, lex_from, lex, last_kind, kind_at_end}
+use Rattle.ud_model.specs.text.Lexemes.{LexemeKind, block_comment, line_comment, single, Lexeme, NoClose, IsLiteralBody, nothing, plain, passed, IsLexeme, closed_comment, open_comment, to_line_end, closed_literal, open_literal, open_at_backslash, single_byte, AreLexemes, IsOpen, unclosed_comment, each_line_comment, unclosed_literal, unclosed_at_backslash, LastIsOpen, cells_in, lexeme_at, lex_from, lex, last_kind, kind_at_end}
 use Rattle.ud_model.specs.text.Scanning.{is_block, joins, comment_at, scan_after_run, scan_after}
 use Rattle.ud_model.specs.declared.kind.Mode.TheVariants.{C}
 use Rattle.ud_model.specs.declared.kind.CommentAt.TheVariants.{InLine, InBlock}
@@ -135,8 +135,7 @@ open_end before text (p ∷ q ∷ pieces) (rest, e, is, others) k h =
 
 end_open : (before : LexemeKind) (text : List ℕ) (pieces : List Lexeme) → AreLexemes pieces text → (k : LexemeKind) → k ≢ single →
     last_kind before (lex (spaced text)) ≡ k → LastIsOpen k pieces
-end_open before text [] none k n e =
-    absurd (n (sym e ∙ ap (λ (t : List ℕ). last_kind before (lex (spaced t))) none ∙ last_spaced before))
+end_open before text [] none k n e = grind (arith, last_spaced)
 end_open before text (p ∷ []) (rest, d, is, none) k n e = by_end (ends p.bytes (subst (λ (r : List ℕ). IsLexeme p.bytes r p.kind) none is))
   where
     here : last_kind before (lex (spaced p.bytes)) ≡ k
