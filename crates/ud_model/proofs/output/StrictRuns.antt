@@ -51,6 +51,25 @@ record MarkedMore (t t2 u u2 : Tree Reading) (x y : Item Reading) : Type 0 where
   pub marks_without : marks u2 ≡ marks u ++ without ∷ []
   pub keeps : KeepsAsMuch (judged_line y without) (judged_line x with)
 
+-- A directive keeps as much, since it is no text.
+directive_keeps : (x y : Item Reading) (m n : Mark) → reading_of y ≡ reading_of x →
+    1 ≤ (keyword_in (content_of (reading_of x).scan)).len →
+    KeepsAsMuch (judged_line y n) (judged_line x m)
+directive_keeps x y m n e h = record {
+  line = ap (λ (r : Reading). r.line) (sym e);
+  keyword = ap (λ (r : Reading). keyword_in (content_of r.scan)) (sym e);
+  text = λ f.
+      let g = ap (λ (r : Reading). (keyword_in (content_of r.scan)).len) e in
+      absurd (omega (arith, f, g, h));
+}
+
+marked_by : {t t2 u u2 : Tree Reading} {x y : Item Reading} → Adds t x t2 → Adds u y u2 →
+    ((m n : Mark) → KeepsAsMuch (judged_line y n) (judged_line x m)) → MarkedMore t t2 u u2 x y
+marked_by a b k =
+    let m = marks_more a in
+    let n = marks_more b in
+    record { with = m.0; without = n.0; marks_with = m.1; marks_without = n.1; keeps = k m.0 n.0 }
+
 marked_more : {t t2 u u2 : Tree Reading} {x y : Item Reading} → Adds t x t2 → Adds u y u2 → LooserTree t u → LooserItem x y → HasSome x → MarkedMore t t2 u u2 x y
 marked_more a b k (a_text {r = r}) h = record {
   with = _;
@@ -59,54 +78,14 @@ marked_more a b k (a_text {r = r}) h = record {
   marks_without = text_mark b r refl;
   keeps = record { line = refl; keyword = refl; text = λ e. removed_loose k };
 }
-marked_more a b k (an_if i) h =
-    let m = marks_more a in
-    let n = marks_more b in
-    record {
-      with = m.0;
-      without = n.0;
-      marks_with = m.1;
-      marks_without = n.1;
-      keeps = record {
-        line = ap (λ (r : Reading). r.line) (sym i.line);
-        keyword = ap (λ (r : Reading). keyword_in (content_of r.scan)) (sym i.line);
-        text = λ e. absurd (let f = ap (λ (r : Reading). (keyword_in (content_of r.scan)).len) i.line in omega (arith, e, f, h));
-      };
-    }
-marked_more a b k (an_elif i) h =
-    let m = marks_more a in
-    let n = marks_more b in
-    record {
-      with = m.0;
-      without = n.0;
-      marks_with = m.1;
-      marks_without = n.1;
-      keeps = record {
-        line = ap (λ (r : Reading). r.line) (sym i.line);
-        keyword = ap (λ (r : Reading). keyword_in (content_of r.scan)) (sym i.line);
-        text = λ e. absurd (let f = ap (λ (r : Reading). (keyword_in (content_of r.scan)).len) i.line in omega (arith, e, f, h));
-      };
-    }
-marked_more a b k an_else h =
-    let m = marks_more a in
-    let n = marks_more b in
-    record {
-      with = m.0;
-      without = n.0;
-      marks_with = m.1;
-      marks_without = n.1;
-      keeps = record { line = refl; keyword = refl; text = λ e. absurd (omega (arith, e, h)) };
-    }
-marked_more a b k an_endif h =
-    let m = marks_more a in
-    let n = marks_more b in
-    record {
-      with = m.0;
-      without = n.0;
-      marks_with = m.1;
-      marks_without = n.1;
-      keeps = record { line = refl; keyword = refl; text = λ e. absurd (omega (arith, e, h)) };
-    }
+marked_more a b k (an_if {o = o} {p = p} i) h =
+    marked_by a b (λ m n. directive_keeps (if_line o) (if_line p) m n i.line h)
+marked_more a b k (an_elif {o = o} {p = p} i) h =
+    marked_by a b (λ m n. directive_keeps (elif_line o) (elif_line p) m n i.line h)
+marked_more a b k (an_else {r = r}) h =
+    marked_by a b (λ m n. directive_keeps (else_line r) (else_line r) m n refl h)
+marked_more a b k (an_endif {r = r}) h =
+    marked_by a b (λ m n. directive_keeps (endif_line r) (endif_line r) m n refl h)
 
 judged_grown : (xs : List (Item Reading)) (t u : Tree Reading) (x : Item Reading) (m : Mark) → lines t ≡ xs → marks u ≡ marks t ++ m ∷ [] →
     judged_lines (xs ++ x ∷ []) (marks u) ≡ judged_lines xs (marks t) ++ judged_line x m ∷ []

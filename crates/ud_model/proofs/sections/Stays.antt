@@ -1,15 +1,15 @@
 -- Stays: a line's mark is the same in every longer text, since no later group's condition changes
 -- an opener's verdict.
-use Rattle.std.proofs.Common.{◌≡◌, List, [], ◌∷◌, ◌++◌, length, Bool, true, not, ◌&&◌, if◌then◌else◌, refl, sym, ◌∙◌, append_assoc, append-nil, subst, length-append, arith}
+use Rattle.std.proofs.Common.{◌≡◌, List, [], ◌∷◌, ◌++◌, length, Bool, true, not, ◌&&◌, if◌then◌else◌, refl, append_assoc, append-nil, subst, arith}
 use Rattle.ud_model.specs.declared.cond.Cond.{Cond}
 use Rattle.ud_model.specs.declared.cond.Cond.TheVariants.{Yes, No, Unknown}
 use Rattle.ud_model.specs.declared.verdict.Verdict.TheVariants.{Keep, Remove, ToEndif}
 use Rattle.ud_model.specs.sections.Tree.{Item, Nodes, Groups, Elifs, Head, Tree, nothing, text, section, conditional, otherwise, first, elif, closed, open_section, lines}
 use Rattle.ud_model.specs.sections.Pruning.{Part, an_if, an_elif, an_else, given_way, false_before, next_after, further_on, up_to_true, verdict_in_position, later_verdict, any_true, ends_with_first_true, Mark, marked, is_kept, is_inside_kept, gives_way, opener_verdict, endif_verdict, conds_of_elifs, conds_of_groups, conds_of_head, marks_of_nodes, marks_of_groups, marks_of_elifs, marks_of_head, marks_in, marks}
 use Rattle.ud_model.specs.aids.SoFar.{verdict_so_far, nodes_so_far, groups_so_far, elifs_so_far, head_so_far, marks_so_far}
-use Rattle.ud_model.proofs.text.Pushes.{ByPush, none, push, by_push}
+use Rattle.ud_model.proofs.text.Pushes.{by_push}
 use Rattle.ud_model.proofs.sections.Growth.{Adds, adds_text, adds_if, elif_after_if, elif_after_elif, else_after_if, else_after_elif, adds_endif, adds_under, complete}
-use Rattle.ud_model.proofs.sections.Unique.{unique, tree_before}
+use Rattle.ud_model.proofs.sections.Unique.{length_by, stay_by}
 
 removed_either_way : (b : Bool) (part : Part) → verdict_in_position (if b then given_way else false_before) part ≡ Remove
 removed_either_way b part = grind arith
@@ -81,30 +81,17 @@ module _ {L : Type 0} where
       let m : (m : Mark) × (marks_so_far (kept && is_inside_kept h) u ≡ marks_so_far (kept && is_inside_kept h) t ++ m ∷ []) = marks_add (kept && is_inside_kept h) a in
       (m.0, rw m.1 simp append_assoc)
 
-  length_by : {xs : List (Item L)} → ByPush xs → (kept : Bool) (t : Tree L) → lines t ≡ xs → length (marks_so_far kept t) ≡ length xs
-  length_by none kept t e = rw (unique t (closed nothing) e)
-  length_by (push {xs = xs} x p) kept t e =
-      let b : (v : Tree L) × (lines v ≡ xs) × Adds v x t = tree_before xs x t e in
-      let m : (m : Mark) × (marks_so_far kept t ≡ marks_so_far kept b.0 ++ m ∷ []) = marks_add kept b.2 in
-      rw (m.1, length-append (marks_so_far kept b.0) (m.0 ∷ []), length-append xs (x ∷ []), length_by p kept b.0 b.1)
-
   -- Each line has one mark.
   pub length_marks : (kept : Bool) (t : Tree L) → length (marks_in kept t) ≡ length (lines t)
-  length_marks kept t = rw (marks_so_far_same kept t) (length_by (by_push (lines t)) kept t refl)
-
-  stay_by : {more : List (Item L)} → ByPush more → (kept : Bool) (t u : Tree L) → lines u ≡ lines t ++ more →
-      (rest : List Mark) × (marks_so_far kept u ≡ marks_so_far kept t ++ rest)
-  stay_by none kept t u e = ([], rw (unique u t (e ∙ append-nil (lines t))) (sym (append-nil (marks_so_far kept t))))
-  stay_by (push {xs = ys} y p) kept t u e =
-      let b : (v : Tree L) × (lines v ≡ lines t ++ ys) × Adds v y u =
-      tree_before (lines t ++ ys) y u (e ∙ sym (append_assoc (lines t) ys (y ∷ []))) in
-      let m : (m : Mark) × (marks_so_far kept u ≡ marks_so_far kept b.0 ++ m ∷ []) = marks_add kept b.2 in
-      let r : (rest : List Mark) × (marks_so_far kept b.0 ≡ marks_so_far kept t ++ rest) = stay_by p kept t b.0 b.1 in
-      (r.0 ++ m.0 ∷ [], rw (m.1, r.1) (append_assoc (marks_so_far kept t) r.0 (m.0 ∷ [])))
+  length_marks kept t =
+      rw (marks_so_far_same kept t)
+      (length_by (marks_so_far kept) (λ t u x a. marks_add kept a) (by_push (lines t)) refl t refl)
 
   -- The marks of a longer text begin with those of the text.
   pub marks_stay : (t u : Tree L) (more : List (Item L)) → lines u ≡ lines t ++ more → (rest : List Mark) × (marks u ≡ marks t ++ rest)
-  marks_stay t u more e = rw (marks_so_far_same true t, marks_so_far_same true u) (stay_by (by_push more) true t u e)
+  marks_stay t u more e =
+      rw (marks_so_far_same true t, marks_so_far_same true u)
+      (stay_by (marks_so_far true) (λ t u x a. marks_add true a) (by_push more) t u e)
 
   -- One more line has one more mark.
   pub marks_more : {t u : Tree L} {x : Item L} → Adds t x u → (m : Mark) × (marks u ≡ marks t ++ m ∷ [])

@@ -1,5 +1,5 @@
 -- Unique: a list of lines has one tree or none, and each prefix of a list with a tree has a tree.
-use Rattle.std.proofs.Common.{◌≡◌, List, [], ◌∷◌, ◌++◌, refl, sym, ◌∙◌, ap, subst, ◌⊎◌, inl, inr, arith}
+use Rattle.std.proofs.Common.{◌≡◌, List, [], ◌∷◌, ◌++◌, refl, sym, ◌∙◌, ap, subst, ◌⊎◌, inl, inr, length, append_assoc, append-nil, length-append, arith}
 use Rattle.std.proofs.lemmas.List.{same_from_push}
 use Rattle.ud_model.specs.sections.Tree.{Item, Tree, closed, nothing, lines}
 use Rattle.ud_model.proofs.text.Pushes.{ByPush, none, push, by_push, push_not_nil}
@@ -46,3 +46,24 @@ module _ {L : Type 0} where
   grows t u x e =
       let a : (v : Tree L) × (lines v ≡ lines t) × Adds v x u = tree_before (lines t) x u e in
       subst (λ v. Adds v x u) (unique a.0 t a.1) a.2
+
+-- A list with one element more for each line is as long as the lines, and stays in longer texts.
+module _ {L A : Type 0} (f : Tree L → List A)
+    (add : (t u : Tree L) (x : Item L) → Adds t x u → (k : A) × (f u ≡ f t ++ k ∷ [])) where
+  pub length_by : {xs : List (Item L)} → ByPush xs → f (closed nothing) ≡ [] →
+      (t : Tree L) → lines t ≡ xs → length (f t) ≡ length xs
+  length_by none z t e = rw (unique t (closed nothing) e, z)
+  length_by (push {xs = xs} x p) z t e =
+      let b : (v : Tree L) × (lines v ≡ xs) × Adds v x t = tree_before xs x t e in
+      let m : (k : A) × (f t ≡ f b.0 ++ k ∷ []) = add b.0 t x b.2 in
+      rw (m.1, length-append (f b.0) (m.0 ∷ []), length-append xs (x ∷ []), length_by p z b.0 b.1)
+
+  pub stay_by : {more : List (Item L)} → ByPush more → (t u : Tree L) → lines u ≡ lines t ++ more →
+      (rest : List A) × (f u ≡ f t ++ rest)
+  stay_by none t u e = ([], rw (unique u t (e ∙ append-nil (lines t))) (sym (append-nil (f t))))
+  stay_by (push {xs = ys} y p) t u e =
+      let b : (v : Tree L) × (lines v ≡ lines t ++ ys) × Adds v y u =
+      tree_before (lines t ++ ys) y u (e ∙ sym (append_assoc (lines t) ys (y ∷ []))) in
+      let m : (k : A) × (f u ≡ f b.0 ++ k ∷ []) = add b.0 u y b.2 in
+      let r : (rest : List A) × (f b.0 ≡ f t ++ rest) = stay_by p t b.0 b.1 in
+      (r.0 ++ m.0 ∷ [], rw (m.1, r.1) (append_assoc (f t) r.0 (m.0 ∷ [])))
