@@ -1,5 +1,5 @@
 -- Parts: what follows a part is the same for each byte that it matches.
-use Rattle.std.proofs.Common.{◌≡◌, ◌∙◌, ℕ, ◌≤◌, List, [], ◌∷◌, length, Bool, true, false, cond, Option, Some, None, refl, sym, subst, arith, ◌==◌}
+use Rattle.std.proofs.Common.{◌≡◌, ◌∙◌, ℕ, ◌≤◌, List, [], ◌∷◌, length, Bool, true, false, cond, Option, Some, None, sym, subst, arith, ◌==◌}
 use Rattle.ud_pattern.specs.Patterns.{SetTest, set_after, after_set, after_backslash, after_byte, after_part}
 use Rattle.ud_pattern.proofs.SetLemmas.{ends, set_alike, set_shorter}
 
@@ -12,16 +12,10 @@ byte_alike : (d : ℕ) (rest : List ℕ) (b : ℕ) (r : List ℕ) → after_byte
 byte_alike d rest b r h = some_by (d == b) rest r h
 
 sets_alike : (o q : Option SetTest) (rest : List ℕ) (b c : ℕ) (r s : List ℕ) → ends o ≡ ends q → after_set o rest b ≡ Some r → after_set q rest c ≡ Some s → r ≡ s
-sets_alike None None rest b c r s e h k = sym (byte_alike 91 rest b r h) ∙ byte_alike 91 rest c s k
-sets_alike None (Some u) rest b c r s e h k = absurd cc
-sets_alike (Some t) None rest b c r s e h k = absurd cc
-sets_alike (Some t) (Some u) rest b c r s e h k =
-    let same : t.after ≡ u.after = cc in
-    sym (some_by t.has t.after r h) ∙ same ∙ some_by u.has u.after s k
+sets_alike o q rest b c r s e h k = grind arith
 
 backslash_alike : (rest : List ℕ) (b c : ℕ) (r s : List ℕ) → after_backslash rest b ≡ Some r → after_backslash rest c ≡ Some s → r ≡ s
-backslash_alike [] b c r s h k = sym (byte_alike 92 [] b r h) ∙ byte_alike 92 [] c s k
-backslash_alike (d ∷ rest) b c r s h k = sym (byte_alike d rest b r h) ∙ byte_alike d rest c s k
+backslash_alike rest b c r s h k = grind arith
 
 pub part_alike : (p : List ℕ) (b c : ℕ) (r s : List ℕ) → after_part p b ≡ Some r → after_part p c ≡ Some s → r ≡ s
 part_alike [] b c r s h k = absurd cc
@@ -40,26 +34,12 @@ as_short : (k : ℕ) (x r : List ℕ) → x ≡ r → length x ≤ k → length 
 as_short k x r e h = subst (λ (y : List ℕ). length y ≤ k) e h
 
 set_part_shorter : (o : Option SetTest) (rest : List ℕ) (b : ℕ) (r : List ℕ) → ((t : SetTest) → o ≡ Some t → length t.after ≤ length rest) → after_set o rest b ≡ Some r → length r ≤ length rest
-set_part_shorter None rest b r short h = as_short (length rest) rest r (byte_alike 91 rest b r h) (omega arith)
-set_part_shorter (Some t) rest b r short h = as_short (length rest) t.after r (some_by t.has t.after r h) (short t refl)
+set_part_shorter o rest b r short h = grind arith
 
 backslash_shorter : (rest : List ℕ) (b : ℕ) (r : List ℕ) → after_backslash rest b ≡ Some r → length r ≤ length rest
-backslash_shorter [] b r h = as_short 0 [] r (byte_alike 92 [] b r h) (omega arith)
-backslash_shorter (d ∷ rest) b r h = as_short (length (d ∷ rest)) rest r (byte_alike d rest b r h) (omega arith)
+backslash_shorter rest b r h = grind arith
 
 -- The pattern after a part is no longer than the pattern.
 pub part_shorter : (p : List ℕ) (b : ℕ) (r : List ℕ) → after_part p b ≡ Some r → length r ≤ length p
-part_shorter [] b r h = absurd cc
-part_shorter (d ∷ rest) b r h = by_kind (d == 42) (d == 63) (d == 91) (d == 92) h
-  where
-    longer : length r ≤ length rest → length r ≤ length (d ∷ rest)
-    longer k = omega arith
-
-    by_kind : (t u v w : Bool) →
-        cond t None (cond u (Some rest) (cond v (after_set (set_after rest b) rest b) (cond w (after_backslash rest b) (after_byte d rest b)))) ≡ Some r →
-        length r ≤ length (d ∷ rest)
-    by_kind true u v w h = absurd cc
-    by_kind false true v w h = let same : rest ≡ r = cc in longer (as_short (length rest) rest r same (omega arith))
-    by_kind false false true w h = longer (set_part_shorter (set_after rest b) rest b r (λ t e. set_shorter rest b t e) h)
-    by_kind false false false true h = longer (backslash_shorter rest b r h)
-    by_kind false false false false h = longer (as_short (length rest) rest r (byte_alike d rest b r h) (omega arith))
+part_shorter p b r h =
+    grind (arith, as_short, set_part_shorter, set_shorter, backslash_shorter, byte_alike)

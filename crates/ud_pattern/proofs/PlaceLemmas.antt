@@ -2,10 +2,10 @@
 use Rattle.std.proofs.Common.{◌≡◌, ◌∙◌, ℕ, ◌<◌, ◌≤◌, List, [], ◌∷◌, ◌++◌, length, Bool, true, false, Some, None, refl, sym, ap, subst, arith, append_assoc, ◌+◌, map, drop, get_or}
 use Rattle.std.specs.Prelude.{◌↔◌}
 use Rattle.std.proofs.lemmas.List.{drop_more}
-use Rattle.ud_pattern.specs.Patterns.{after_part, Matches, at_end, star, part, MatchesAny, first_does, later_does}
+use Rattle.ud_pattern.specs.Patterns.{after_part, Matches, at_end, star, part, MatchesAny}
 use Rattle.ud_pattern.specs.Places.{Parts, no_part, then_part, Reaches, IsShorter, StopsAt}
 use Rattle.ud_pattern.specs.declared.matching.Progress.{Progress}
-use Rattle.ud_pattern.specs.declared.matching.Progress.TheVariants.{Ended, Star}
+use Rattle.ud_pattern.specs.declared.matching.Progress.TheVariants.{Ended}
 use Rattle.ud_pattern.proofs.PartLemmas.{part_alike, part_shorter}
 
 -- A pattern whose first part matches a byte matches a name by its rest.
@@ -22,8 +22,7 @@ tail_is e = cc
 pub parts_match : {p n q m : List ℕ} → Parts p n q m → Matches p n → Matches q m
 parts_match no_part h = h
 parts_match (then_part {before = q} {after = r} {rest = ms} b steps is) h =
-    let found = part_matches q b r (b ∷ ms) is (parts_match steps h) in
-    subst (λ (x : List ℕ). Matches r x) (sym (tail_is found.2)) found.3
+    grind (arith, part_matches, tail_is, parts_match steps h)
 
 pub match_parts : {p n q m : List ℕ} → Parts p n q m → Matches q m → Matches p n
 match_parts no_part h = h
@@ -41,15 +40,11 @@ later_end b c ms (d ∷ bytes) rest e = (bytes ++ c ∷ [], tail_is e ∙ sym (a
 somewhere_after : {p n q m : List ℕ} → Parts p n q m → Somewhere p n → Somewhere q m
 somewhere_after no_part h = h
 somewhere_after (then_part {before = q} {after = r} {rest = ms} b steps is) h =
-    let before = somewhere_after steps h in
-    let found = part_matches q b r before.1 is before.3 in
-    let end = later_end b found.0 ms before.0 found.1 (before.2 ∙ ap (λ (x : List ℕ). before.0 ++ x) found.2) in
-    (end.0, found.1, end.1, found.3)
+    grind (arith, part_matches, later_end, somewhere_after steps h)
 
 -- A `*` matches some first bytes, and the pattern after it the rest.
 somewhere_of : (p n : List ℕ) → Matches (42 ∷ p) n → Somewhere p n
-somewhere_of p n (star bytes rest is m) = (bytes, rest, is, m)
-somewhere_of p _ (part {name = ms} b after is m) = absurd cc
+somewhere_of p n h = grind arith
 
 -- After the parts up to the next `*`, only that one counts.
 pub star_on : {p n : List ℕ} (q m : List ℕ) → Parts p n (42 ∷ q) m → Matches (42 ∷ p) n → Matches (42 ∷ q) m
@@ -97,42 +92,25 @@ ended_as (c ∷ q) m whole none h = (λ e. let wrong : true ≡ false = sym e �
 parts_shorter : {p n q m : List ℕ} → Parts p n q m → (length q ≤ length p) × (length m ≤ length n)
 parts_shorter no_part = (omega arith, omega arith)
 parts_shorter (then_part {before = q} {after = r} {rest = ms} b steps is) =
-    let before = parts_shorter steps in
-    let less : length r ≤ length q = part_shorter q b r is in
-    (omega arith, omega arith)
+    grind (arith, part_shorter, parts_shorter steps)
 
 -- The parts match up to a place where none does.
 pub reached : {p n : List ℕ} (q m : List ℕ) (at : Progress) → Parts p n q m → NoPart q m → StopsAt q m at → Reaches p n at
-reached q m (Ended whole) steps none h =
-    let same = ended_as q m whole none h in
-    (λ e. match_parts steps (same.0 e), λ k. same.1 (parts_match steps k))
-reached {p = p} {n = n} (c ∷ q) m (Star after rest) steps none h =
-    subst (λ (x : List ℕ). Parts p n (42 ∷ x) rest.now) (sym h.1)
-    (subst (λ (y : List ℕ). Parts p n (42 ∷ q) y) (sym h.2)
-    (subst (λ (d : ℕ). Parts p n (d ∷ q) m) h.0 steps))
-reached [] m (Star after rest) steps none h = absurd h
+reached q m at steps none h = grind (arith, ended_as, match_parts, parts_match)
 
 less_than : (c : ℕ) (q p : List ℕ) → length (c ∷ q) ≤ length p → length q < length p
 less_than c q p h = omega arith
 
 pub shorter : {p n : List ℕ} (q m : List ℕ) (at : Progress) → Parts p n q m → StopsAt q m at → IsShorter p n at
-shorter q m (Ended whole) steps h = tt
-shorter {p = p} {n = n} (c ∷ q) m (Star after rest) steps h =
-    let few = parts_shorter steps in (
-      subst (λ (x : List ℕ). length x < length p) (sym h.1) (less_than c q p few.0),
-      subst (λ (y : List ℕ). length y ≤ length n) (sym h.2) few.1,
-    )
-shorter [] m (Star after rest) steps h = absurd h
+shorter q m at steps h = grind (arith, parts_shorter, less_than)
 
 -- A pattern that doesn't match leaves the later ones.
 pub any_later : (name p : List ℕ) (ps : List (List ℕ)) → ¬ (Matches p name) → MatchesAny name (p ∷ ps) → MatchesAny name ps
-any_later name p ps never (first_does m) = absurd (never m)
-any_later name p ps never (later_does h) = h
+any_later name p ps never h = grind arith
 
 pub any_none : (name : List ℕ) → ¬ (MatchesAny name [])
 any_none name h = elim h [ ]
 
 -- The next pattern comes before those after it.
 pub dropped : {X : Type 0} (g : X → List ℕ) (xs : List X) (i : ℕ) (x : X) → i < length xs → x ≡ get_or xs i x → map g (drop i xs) ≡ g x ∷ map g (drop (i + 1) xs)
-dropped {X = X} g xs i x within is =
-    ap (λ (ys : List X). map g ys) (drop_more xs i x within) ∙ ap (λ (y : X). g y ∷ map g (drop (i + 1) xs)) (sym is)
+dropped g xs i x within is = grind (arith, drop_more)

@@ -1,5 +1,6 @@
 -- Sets: where they end, whatever byte is asked for.
-use Rattle.std.proofs.Common.{◌≡◌, ◌∙◌, ℕ, zero, suc, ◌≤◌, ◌||◌, List, [], ◌∷◌, length, Bool, true, false, cond, Option, Some, None, option_map, refl, sym, ap, subst, arith, ◌==◌, ◌&&◌, not}
+use Rattle.std.proofs.Common.{◌≡◌, ℕ, zero, suc, ◌≤◌, ◌||◌, List, [], ◌∷◌, length, Bool, true, false, cond, Option, Some, None, option_map, refl, ap, subst, arith}
+use Rattle.std.proofs.lemmas.Grind.{common_steps}
 use Rattle.ud_pattern.specs.Patterns.{SetTest, ends_set, item_high, item_after, within, set_within, set_from, opposite, negates, set_after}
 
 -- The pattern after a set.
@@ -11,35 +12,17 @@ pub within_alike : (n : ℕ) (first f g : Bool) (text : List ℕ) (b c : ℕ) �
 within_alike zero first f g text b c = refl
 within_alike (suc n) first f g [] b c = refl
 within_alike (suc n) first f g (d ∷ rest) b c =
-    by_end (ends_set first d) (within_alike n false (f || within d (item_high d rest) b) (g || within d (item_high d rest) c) (item_after rest) b c)
-  where
-    by_end : (e : Bool) → ends (set_within n false (f || within d (item_high d rest) b) (item_after rest) b) ≡ ends (set_within n false (g || within d (item_high d rest) c) (item_after rest) c) →
-        ends (cond e (Some (record { has = f; after = rest })) (set_within n false (f || within d (item_high d rest) b) (item_after rest) b))
-        ≡ ends (cond e (Some (record { has = g; after = rest })) (set_within n false (g || within d (item_high d rest) c) (item_after rest) c))
-    by_end true h = refl
-    by_end false h = h
+    grind (arith, within_alike n false (f || within d (item_high d rest) b) (g || within d (item_high d rest) c) (item_after rest) b c)
 
 opposite_ends : (o : Option SetTest) → ends (opposite o) ≡ ends o
-opposite_ends None = refl
-opposite_ends (Some t) = refl
+opposite_ends o = grind arith
 
 pub set_alike : (text : List ℕ) (b c : ℕ) → ends (set_after text b) ≡ ends (set_after text c)
-set_alike [] b c = refl
-set_alike (d ∷ rest) b c = by_first (negates d)
-  where
-    by_first : (n : Bool) → ends (cond n (opposite (set_from rest b)) (set_from (d ∷ rest) b)) ≡ ends (cond n (opposite (set_from rest c)) (set_from (d ∷ rest) c))
-    by_first true = opposite_ends (set_from rest b) ∙ within_alike (length rest) true false false rest b c ∙ sym (opposite_ends (set_from rest c))
-    by_first false = within_alike (length (d ∷ rest)) true false false (d ∷ rest) b c
+set_alike text b c = grind (arith, common_steps, opposite_ends, within_alike)
 
 -- The text after a byte or a range of a set is no longer than the text after its first byte.
 pub item_shorter : (rest : List ℕ) → length (item_after rest) ≤ length rest
-item_shorter [] = omega arith
-item_shorter (d ∷ []) = omega arith
-item_shorter (d ∷ e ∷ rest) = by_range (d == 45 && not (e == 93))
-  where
-    by_range : (b : Bool) → length (cond b rest (d ∷ e ∷ rest)) ≤ length (d ∷ e ∷ rest)
-    by_range true = omega arith
-    by_range false = omega arith
+item_shorter rest = grind arith
 
 -- The pattern after a set is no longer than the text of the set.
 within_shorter : (n : ℕ) (first f : Bool) (text : List ℕ) (b : ℕ) (t : SetTest) → set_within n first f text b ≡ Some t → length t.after ≤ length text
@@ -55,8 +38,7 @@ within_shorter (suc n) first f (d ∷ rest) b t e =
     by_end false is later few = let short : length t.after ≤ length (item_after rest) = later is in omega arith
 
 opposite_shorter : (k : ℕ) (o : Option SetTest) → ((t : SetTest) → o ≡ Some t → length t.after ≤ k) → (t : SetTest) → opposite o ≡ Some t → length t.after ≤ k
-opposite_shorter k None h t e = absurd cc
-opposite_shorter k (Some u) h t e = let same : u.after ≡ t.after = cc in subst (λ (r : List ℕ). length r ≤ k) same (h u refl)
+opposite_shorter k o h t e = grind arith
 
 pub set_shorter : (text : List ℕ) (b : ℕ) (t : SetTest) → set_after text b ≡ Some t → length t.after ≤ length text
 set_shorter [] b t e = absurd cc
@@ -80,8 +62,7 @@ within_next (suc n) first f c rest b few e =
 pub within_end : (n : ℕ) (first f : Bool) (c : ℕ) (rest : List ℕ) (b : ℕ) → length (c ∷ rest) ≤ n → ends_set first c ≡ true →
     set_within n first f (c ∷ rest) b ≡ Some (record { has = f; after = rest })
 within_end zero first f c rest b few e = absurd (omega arith)
-within_end (suc n) first f c rest b few e =
-    ap (λ (x : Bool). cond x (Some (record { has = f; after = rest })) (set_within n false (f || within c (item_high c rest) b) (item_after rest) b)) e
+within_end (suc n) first f c rest b few e = grind arith
 
 -- A set without an end.
 pub within_none : (n : ℕ) (first f : Bool) (b : ℕ) → set_within n first f [] b ≡ None
@@ -92,8 +73,4 @@ within_none (suc n) first f b = refl
 pub next_is : {whole : Option SetTest} {f : Bool} {after : List ℕ} (b : ℕ) (found : Bool) (rest : List ℕ) (now : Option SetTest) → whole ≡ now →
     (m : ℕ) × (length after ≤ m) × (now ≡ set_within m false f after b) → found ≡ f → rest ≡ after →
     (m : ℕ) × (length rest ≤ m) × (whole ≡ set_within m false found rest b)
-next_is {f = f} b found rest now is h e r = (
-  h.0,
-  subst (λ (x : List ℕ). length x ≤ h.0) (sym r) h.1,
-  is ∙ h.2 ∙ sym (ap (λ (x : Bool). set_within h.0 false x rest b) e ∙ ap (λ (x : List ℕ). set_within h.0 false f x b) r),
-)
+next_is b found rest now is h e r = grind arith

@@ -1,7 +1,7 @@
 -- By the parts that match, up to a place where none does.
-use Rattle.std.proofs.Common.{◌≡◌, List, ℕ, [], ◌∷◌, sym, subst, arith}
+use Rattle.std.proofs.Common.{◌≡◌, List, ℕ, ◌∷◌, sym, subst, arith}
 use Rattle.std.proofs.lemmas.Grind.{common_steps}
-use Rattle.ud_pattern.specs.Places.{Parts, no_part, then_part, StopsAt}
+use Rattle.ud_pattern.specs.Places.{Parts, no_part, then_part}
 use Rattle.ud_pattern.proofs.PlaceLemmas.{reached, shorter}
 use Rattle.ud_pattern.proofs.matching.match_parts.Goals as goal
 
@@ -14,20 +14,13 @@ parts-preserved c =
     then_part c.in-Some.byte.now (subst (λ (m : List ℕ). Parts c.args.pattern.now c.args.name.now c.parts.parts.now m) bytes c.parts.invariant) (sym c.in-Some-after_part.ensures)
 
 pub returns-in-None-clause-reaches : goal.returns-in-None-clause-reaches
-returns-in-None-clause-reaches c =
-    let bytes : c.parts.bytes.now ≡ c.in-Some.byte.now ∷ c.in-Some.rest.now = grind (arith, common_steps) in
-    reached c.parts.parts.now (c.in-Some.byte.now ∷ c.in-Some.rest.now) c.stop.result
-    (subst (λ (m : List ℕ). Parts c.args.pattern.now c.args.name.now c.parts.parts.now m) bytes c.parts.invariant) (sym c.in-None.ensures)
-    (subst (λ (m : List ℕ). StopsAt c.parts.parts.now m c.stop.result) bytes c.stop.ensures)
+returns-in-None-clause-reaches c = grind (arith, reached)
 
 pub returns-in-None-clause-shorter : goal.returns-in-None-clause-shorter
 returns-in-None-clause-shorter c = shorter c.parts.parts.now c.parts.bytes.now c.stop.result c.parts.invariant c.stop.ensures
 
 pub returns-clause-reaches : goal.returns-clause-reaches
-returns-clause-reaches c =
-    let bytes : c.parts.bytes.now ≡ [] = grind (arith, common_steps) in
-    reached c.parts.parts.now [] c.stop-2.result (subst (λ (m : List ℕ). Parts c.args.pattern.now c.args.name.now c.parts.parts.now m) bytes c.parts.invariant) tt
-    (subst (λ (m : List ℕ). StopsAt c.parts.parts.now m c.stop-2.result) bytes c.stop-2.ensures)
+returns-clause-reaches c = grind (arith, reached)
 
 pub returns-clause-shorter : goal.returns-clause-shorter
 returns-clause-shorter c = shorter c.parts.parts.now c.parts.bytes.now c.stop-2.result c.parts.invariant c.stop-2.ensures

@@ -1,6 +1,7 @@
 -- By the next pattern.
-use Rattle.std.proofs.Common.{◌≡◌, ◌∙◌, List, ℕ, [], ◌∷◌, ◌+◌, map, drop, string_bytes, refl, sym, subst, true≢false, arith}
+use Rattle.std.proofs.Common.{◌≡◌, ◌∙◌, List, ℕ, ◌∷◌, ◌+◌, map, drop, string_bytes, refl, sym, subst, true≢false, arith}
 use Rattle.std.proofs.lemmas.List.{at_drop_all}
+use Rattle.std.proofs.lemmas.Grind.{common_steps}
 use Rattle.ud_pattern.specs.Patterns.{Matches, MatchesAny, first_does, later_does}
 use Rattle.ud_pattern.proofs.PlaceLemmas.{any_later, any_none, dropped}
 use Rattle.ud_pattern.proofs.matching.matches_any.Goals as goal
@@ -23,7 +24,4 @@ loop-pattern-preserved c =
     )
 
 pub returns : goal.returns
-returns c =
-    let none : map string_bytes (drop c.loop-pattern.pattern-index c.args.patterns.now) ≡ [] =
-    at_drop_all (λ ps. map string_bytes ps) c.args.patterns.now c.loop-pattern.pattern-index (omega arith) in
-    (λ e. absurd cc, λ h. absurd (any_none c.args.name.now (subst (λ (ps : List (List ℕ)). MatchesAny c.args.name.now ps) none (c.loop-pattern.invariant.0 h))))
+returns c = grind (arith, common_steps, at_drop_all, any_none)

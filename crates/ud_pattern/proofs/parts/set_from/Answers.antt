@@ -1,17 +1,12 @@
 -- By one byte or range more.
-use Rattle.std.proofs.Common.{◌≡◌, ◌∙◌, List, ℕ, ◌≤◌, ◌||◌, [], ◌∷◌, length, true, false, sym, ap, subst, arith}
+use Rattle.std.proofs.Common.{◌≡◌, ◌∙◌, List, ℕ, ◌≤◌, ◌||◌, ◌∷◌, length, false, ap, subst, arith}
 use Rattle.std.proofs.lemmas.Grind.{common_steps}
 use Rattle.ud_pattern.specs.Patterns.{ends_set, within, item_high, set_within}
 use Rattle.ud_pattern.proofs.SetLemmas.{within_next, within_end, within_none, next_is}
 use Rattle.ud_pattern.proofs.parts.set_from.Goals as goal
 
 pub returns-then-not-first : goal.returns-then-not-first
-returns-then-not-first c =
-    let rest : c.items.rest.now ≡ c.in-Some.low.now ∷ c.in-Some.after.now = grind (arith, common_steps) in
-    let ends : ends_set c.items.first c.in-Some.low.now ≡ true = grind (arith, common_steps) in
-    let few : length (c.in-Some.low.now ∷ c.in-Some.after.now) ≤ c.items.invariant.0 = subst (λ (r : List ℕ). length r ≤ c.items.invariant.0) rest c.items.invariant.1 in
-    sym (c.items.invariant.2 ∙ ap (λ (r : List ℕ). set_within c.items.invariant.0 c.items.first c.items.found r c.args.byte) rest
-    ∙ within_end c.items.invariant.0 c.items.first c.items.found c.in-Some.low.now c.in-Some.after.now c.args.byte few ends)
+returns-then-not-first c = grind (arith, within_end)
 
 pub items-preserved : goal.items-preserved
 items-preserved c =
@@ -23,6 +18,4 @@ items-preserved c =
     (within_next c.items.invariant.0 c.items.first c.items.found c.in-Some.low.now c.in-Some.after.now c.args.byte few goes_on) found c.set_item-item.ensures.after
 
 pub returns : goal.returns
-returns c =
-    let rest : c.items.rest.now ≡ [] = grind (arith, common_steps) in
-    sym (c.items.invariant.2 ∙ ap (λ (r : List ℕ). set_within c.items.invariant.0 c.items.first c.items.found r c.args.byte) rest ∙ within_none c.items.invariant.0 c.items.first c.items.found c.args.byte)
+returns c = grind (arith, common_steps, within_none)
