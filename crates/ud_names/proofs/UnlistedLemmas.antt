@@ -6,6 +6,7 @@ use Rattle.std.proofs.lemmas.Grind.{flat_map-append}
 use Rattle.std.proofs.lemmas.List.{take_at}
 use Rattle.std.proofs.lemmas.List.Elements.{filter-append}
 use Rattle.std.proofs.lemmas.List.Sums.{sum_by-append}
+use Rattle.std.proofs.lemmas.Bool.{and_right}
 use Rattle.ud_model.specs.text.Lines.{Line, line_at, numbered_from, texts_of, whole_lines}
 use Rattle.ud_model.specs.text.Scans.{Scan, Reading}
 use Rattle.ud_model.specs.text.Scanning.{next_reading, readings_after}
@@ -15,7 +16,7 @@ use Rattle.ud_model.specs.declared.kind.Mode.{Mode}
 use Rattle.ud_text.specs.bulk.BulkScanning.{AreWholeLines, HaveNoDirective}
 use Rattle.ud_names.specs.UnlistedConditions.{fits, has_unlisted, is_unlisted_line, unlisted_in, numbered_line, unlisted_line, unlisted_text}
 use Rattle.ud_names.specs.UnlistedLines.{newlines, number_at, FindsMore, finds_none, finds_one, found_count, found_line}
-use Rattle.ud_names.proofs.TextLemmas.{after, here, reading, read_texts, read_line, number_here, k_scan}
+use Rattle.ud_text.proofs.lemmas.scan.LongerTextLemmas.{after, here, reading, read_texts, read_line, number_here, k_scan}
 
 -- 1. One line more.
 
@@ -28,12 +29,8 @@ one_more : (before : List Reading) (r : Reading) → is_unlisted_line r ≡ true
 one_more before r e =
     filter-append is_unlisted_line before (r ∷ []) ∙ ap (λ (b : Bool). filter is_unlisted_line before ++ (if b then r ∷ [] else [])) e
 
-and_false : (b : Bool) → (b && false) ≡ false
-and_false true = refl
-and_false false = refl
-
 text_listed : (r : Reading) → content_of r.scan ≡ text → is_unlisted_line r ≡ false
-text_listed r e = ap (λ (c : Content). fits r.line && has_unlisted c) e ∙ and_false (fits r.line)
+text_listed r e = ap (λ (c : Content). fits r.line && has_unlisted c) e ∙ and_right (fits r.line) false refl
 
 texts_more : (mode : Mode) (before : List Reading) (ls : List Line) → HaveNoDirective mode before ls →
     filter is_unlisted_line (readings_after before (map (in_mode mode) ls)) ≡ filter is_unlisted_line before

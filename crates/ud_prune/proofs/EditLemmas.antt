@@ -2,7 +2,7 @@
 use Rattle.std.proofs.Common.{◌≡◌, ◌≢◌, ℕ, ◌+◌, ◌-◌, ◌≤◌, ◌==◌, List, [], ◌∷◌, ◌++◌, length, map, take, drop, Bool, true, false, not, ◌&&◌, ◌||◌, if◌then◌else◌, bytes_eq, refl, sym, ◌∙◌, ap, ap₂, subst, ◌⊎◌, inl, inr, append_assoc, length-append, arith, take-append-drop}
 use Rattle.std.specs.List.{list_any}
 use Rattle.std.proofs.lemmas.List.{drop-map, take_at, take_all}
-use Rattle.std.proofs.lemmas.Bool.{eqb-true}
+use Rattle.std.proofs.lemmas.Bool.{eqb-true, and_right, or_from}
 use Rattle.std.proofs.lemmas.Slice.Eq.{bytes_eq-Decides}
 use Rattle.std.proofs.Math.ListN.{length-take}
 use Rattle.ud_model.specs.text.Lines.{Line, NoNewline, IsWhole, text_of, ending_of, line_at, is_ending}
@@ -60,10 +60,6 @@ no_condition k after (directive d) e = ap (λ (b : Bool). b && bytes_eq d.after 
 no_condition k after cut_keyword e = refl
 no_condition k after text e = refl
 
-last_false : (a b : Bool) → b ≡ false → (a && b) ≡ false
-last_false true b e = e
-last_false false b e = refl
-
 module _ (table : List Argument) (rules : Rules) (l : Line) where
   -- A directive of another kind stays.
   pub other_stays : (scan : Scan) (d : Directive) → same_if d.kind d.kind ≡ false → line_by table rules scan l (directive d) ≡ l
@@ -71,9 +67,9 @@ module _ (table : List Argument) (rules : Rules) (l : Line) where
       let k : Line = left_line table rules l d in
       let s : Scan = scan_after_run [] k in
       ap (λ (b : Bool). if b then k else l)
-      (last_false (is_lone scan l) (is_read_alone table rules l d)
-      (last_false (keeps_ending k) (is_read_back table rules l d s)
-      (last_false (not s.joins_after) (has_condition d.kind (map shown (left_cells_of table rules l d)) (content_of s)) (no_condition d.kind (map shown (left_cells_of table rules l d)) (content_of s) e))))
+      (and_right (is_lone scan l) (is_read_alone table rules l d)
+      (and_right (keeps_ending k) (is_read_back table rules l d s)
+      (and_right (not s.joins_after) (has_condition d.kind (map shown (left_cells_of table rules l d)) (content_of s)) (no_condition d.kind (map shown (left_cells_of table rules l d)) (content_of s) e))))
 
 -- 3. A line with a condition.
 
@@ -199,10 +195,6 @@ is_end (b ∷ bs) h n = by (bytes_eq (b ∷ bs) (10 ∷ [])) (bytes_eq (b ∷ bs
     by false true f g h = inl ((bytes_eq-Decides (b ∷ bs) (13 ∷ 10 ∷ [])).0 g)
     by false false f g h = cc
 
-false_or : (a b : Bool) → a ≡ false → b ≡ false → (a || b) ≡ false
-false_or false b e f = f
-false_or true b e f = cc
-
 module _ (table : List Argument) (rules : Rules) (l : Line) (scan : Scan) where
   abbrev r : Reading
   r = c_reading l scan
@@ -217,7 +209,7 @@ module _ (table : List Argument) (rules : Rules) (l : Line) (scan : Scan) where
       by text = refl
 
   pub lone_by : scan.joins_before ≡ false → scan.joins_after ≡ false → is_empty l.ending ≡ false → is_lone scan l ≡ true
-  lone_by e f g = ap₂ (λ (x y : Bool). not x && not y) (false_or scan.joins_before scan.joins_after e f) g
+  lone_by e f g = ap₂ (λ (x y : Bool). not x && not y) (or_from scan.joins_before scan.joins_after e f) g
 
   pub joins_by : (scan.joins_before ≡ true) ⊎ ((scan.joins_after ≡ true) ⊎ (is_empty l.ending ≡ true)) → is_lone scan l ≡ false
   joins_by (inl e) = ap (λ (x : Bool). not (x || scan.joins_after) && not (is_empty l.ending)) e
@@ -227,7 +219,7 @@ module _ (table : List Argument) (rules : Rules) (l : Line) (scan : Scan) where
       by true b h = refl
       by false true h = refl
       by false false h = cc
-  joins_by (inr (inr e)) = last_false (not (is_spanning scan)) (not (is_empty l.ending)) (ap not e)
+  joins_by (inr (inr e)) = and_right (not (is_spanning scan)) (not (is_empty l.ending)) (ap not e)
 
   module _ (d : Directive) (alone : IsScannedAlone scan l) (before : scan.joins_before ≡ false) (after : scan.joins_after ≡ false) (some : is_empty l.ending ≡ false) (h : content_of scan ≡ directive d) where
     pub condition_is : IsCondition l d

@@ -1,6 +1,7 @@
 -- Left cells: when the rest of a condition's text takes its place.
 use Rattle.std.proofs.Common.{◌≡◌, ℕ, List, [], ◌∷◌, ◌++◌, length, map, Bool, true, false, not, ◌&&◌, if◌then◌else◌, Option, Some, None, refl, sym, ◌∙◌, ap, ap₂, subst, append-nil, arith}
 use Rattle.std.specs.List.{list_any}
+use Rattle.std.proofs.lemmas.Bool.{and_left, and_right}
 use Rattle.ud_model.specs.text.Lexemes.{Cell, shown}
 use Rattle.ud_model.specs.conditions.Table.{Argument}
 use Rattle.ud_model.specs.conditions.Tokens.{Token}
@@ -23,14 +24,6 @@ same_size (x ∷ xs) (y ∷ ys) h = let k = same_size xs ys h in omega (arith, k
 same_size [] (y ∷ ys) h = absurd h
 same_size (x ∷ xs) [] h = absurd h
 
-false_and : (a b : Bool) → a ≡ false → (a && b) ≡ false
-false_and false b e = refl
-false_and true b e = cc
-
-and_false : (a b : Bool) → b ≡ false → (a && b) ≡ false
-and_false false b e = refl
-and_false true b e = e
-
 both : (a b c : Bool) → a ≡ true → b ≡ true → c ≡ true → (a && b && c) ≡ true
 both true true true p q r = refl
 both false b c p q r = cc
@@ -41,10 +34,6 @@ module _ (table : List Argument) (rules : Rules) where
   cond_of : (text : List ℕ) (e : Expression) → expression_of text ≡ Some e → expression_cond text table rules ≡ tree_cond e table rules
   unfolding expression_cond
   cond_of text e p = ap (λ o. tree_cond_if o table rules) p
-
-  no_cond : (text : List ℕ) → expression_of text ≡ None → expression_cond text table rules ≡ Unknown
-  unfolding expression_cond
-  no_cond text p = ap (λ o. tree_cond_if o table rules) p
 
   -- The text is that of a tree, and stays or not.
   by_tree : (cells : List Cell) (e : Expression) → expression_of (map shown cells) ≡ Some e → simplified_cells table rules cells ≡ simplified_tree table rules e cells
@@ -83,18 +72,18 @@ module _ (table : List Argument) (rules : Rules) where
   -- A condition that is decided stays.
   pub known_stays : (cells : List Cell) → is_unknown (expression_cond (map shown cells) table rules) ≡ false → simplified_cells table rules cells ≡ cells
   known_stays cells h = by_option cells (simplified_cells table rules cells ≡ cells) (without_tree cells) (λ e p.
-      stays cells e p (false_and (is_unknown (tree_cond e table rules) && is_undecided table rules (residual table rules e)) (not (list_any is_literal cells)) (false_and (is_unknown (tree_cond e table rules)) (is_undecided table rules (residual table rules e)) (ap is_unknown (sym (cond_of (map shown cells) e p)) ∙ h))))
+      stays cells e p (and_left (is_unknown (tree_cond e table rules) && is_undecided table rules (residual table rules e)) (not (list_any is_literal cells)) (and_left (is_unknown (tree_cond e table rules)) (is_undecided table rules (residual table rules e)) (ap is_unknown (sym (cond_of (map shown cells) e p)) ∙ h))))
 
   -- A condition whose residual is decided stays.
   pub settled_stays : (cells : List Cell) → ((e : Expression) → expression_of (map shown cells) ≡ Some e → is_unknown (residual table rules e).cond ≡ false) → simplified_cells table rules cells ≡ cells
   settled_stays cells h = by_option cells (simplified_cells table rules cells ≡ cells) (without_tree cells) (λ e p.
-      stays cells e p (false_and (is_unknown (tree_cond e table rules) && is_undecided table rules (residual table rules e)) (not (list_any is_literal cells))
-      (and_false (is_unknown (tree_cond e table rules)) (is_undecided table rules (residual table rules e)) (false_and (is_unknown (residual table rules e).cond) (is_unknown (tree_cond (residual table rules e).tree table rules)) (h e p)))))
+      stays cells e p (and_left (is_unknown (tree_cond e table rules) && is_undecided table rules (residual table rules e)) (not (list_any is_literal cells))
+      (and_right (is_unknown (tree_cond e table rules)) (is_undecided table rules (residual table rules e)) (and_left (is_unknown (residual table rules e).cond) (is_unknown (tree_cond (residual table rules e).tree table rules)) (h e p)))))
 
   -- A text with a quote stays.
   pub quote_stays : (cells : List Cell) → list_any is_literal cells ≡ true → simplified_cells table rules cells ≡ cells
   quote_stays cells h = by_option cells (simplified_cells table rules cells ≡ cells) (without_tree cells) (λ e p.
-      stays cells e p (and_false (is_unknown (tree_cond e table rules) && is_undecided table rules (residual table rules e)) (not (list_any is_literal cells)) (ap not h)))
+      stays cells e p (and_right (is_unknown (tree_cond e table rules) && is_undecided table rules (residual table rules e)) (not (list_any is_literal cells)) (ap not h)))
 
   -- The rest takes the text's place exactly if it is read so, and unknown.
   module _ (cells : List Cell) (e : Expression) (p : expression_of (map shown cells) ≡ Some e) (unknown : is_unknown (expression_cond (map shown cells) table rules) ≡ true)
@@ -123,9 +112,9 @@ module _ (table : List Argument) (rules : Rules) where
 
     decided : is_read table rules e left ≡ true → is_unknown (expression_cond (map shown left) table rules) ≡ false → simplified_cells table rules cells ≡ cells
     decided q r =
-        stays cells e p (false_and (is_unknown (tree_cond e table rules) && is_undecided table rules (residual table rules e)) (not (list_any is_literal cells))
-        (and_false (is_unknown (tree_cond e table rules)) (is_undecided table rules (residual table rules e))
-        (and_false (is_unknown (residual table rules e).cond) (is_unknown (tree_cond (residual table rules e).tree table rules)) (ap is_unknown (sym (rest_cond q)) ∙ r))))
+        stays cells e p (and_left (is_unknown (tree_cond e table rules) && is_undecided table rules (residual table rules e)) (not (list_any is_literal cells))
+        (and_right (is_unknown (tree_cond e table rules)) (is_undecided table rules (residual table rules e))
+        (and_right (is_unknown (residual table rules e).cond) (is_unknown (tree_cond (residual table rules e).tree table rules)) (ap is_unknown (sym (rest_cond q)) ∙ r))))
 
     -- The bytes of what is left.
     pub found_or_stays : (b : Bool) (bytes masked : List ℕ) → AreCells left bytes masked → b ≡ (is_read table rules e left && is_unknown (expression_cond (map shown left) table rules)) →

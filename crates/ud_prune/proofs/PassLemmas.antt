@@ -1,39 +1,27 @@
 -- The pass: the rest of one line more, and of many text lines more.
-use Rattle.std.proofs.Common.{◌≡◌, ◌≢◌, ℕ, suc, ◌+◌, ◌<◌, ◌≤◌, ◌==◌, List, [], ◌∷◌, ◌++◌, length, map, take, Bool, true, false, not, ◌&&◌, ◌||◌, if◌then◌else◌, bytes_eq, refl, sym, ◌∙◌, ap, ap₂, subst, append_assoc, append-nil, arith}
+use Rattle.std.proofs.Common.{◌≡◌, ℕ, suc, ◌+◌, ◌≤◌, List, [], ◌∷◌, ◌++◌, map, Bool, true, false, not, ◌&&◌, if◌then◌else◌, bytes_eq, refl, sym, ◌∙◌, ap, ap₂, subst, append_assoc, append-nil, arith}
 use Rattle.std.specs.List.{concat}
-use Rattle.std.proofs.lemmas.List.{map-append, take_all, length-take-le}
+use Rattle.std.proofs.lemmas.List.{map-append}
 use Rattle.std.proofs.lemmas.Slice.Eq.{bytes_eq-Decides}
-use Rattle.ud_model.specs.text.Lines.{Line, NoNewline, IsWhole, text_of, line_at, numbered_from, lines_of, texts_of, whole_lines, partial_line, last_line, split_lines}
+use Rattle.ud_model.specs.text.Lines.{Line, text_of, line_at, numbered_from, texts_of, whole_lines}
 use Rattle.ud_model.specs.text.Scans.{Scan, Reading}
-use Rattle.ud_model.specs.text.Splicing.{is_spliced, spliced_part, spliced_text, c_run_of}
-use Rattle.ud_model.specs.text.Lexemes.{kind_at_end}
-use Rattle.ud_model.specs.text.Scanning.{is_block, joins, scan_after_run, scan_after, next_reading, readings_after}
-use Rattle.ud_model.specs.sections.Directives.{Content, cut_keyword, directive, text, Directive, content_of}
-use Rattle.ud_model.specs.sections.Faults.{is_in_block}
+use Rattle.ud_model.specs.text.Scanning.{scan_after_run, scan_after, next_reading, readings_after}
+use Rattle.ud_model.specs.sections.Directives.{Content, cut_keyword, directive, text, content_of}
 use Rattle.ud_model.specs.conditions.Table.{Argument}
 use Rattle.ud_model.specs.conditions.Conditions.{Rules}
-use Rattle.ud_model.specs.output.InsertedLines.{read_as, read_in, in_mode}
+use Rattle.ud_model.specs.output.InsertedLines.{read_as, in_mode}
 use Rattle.ud_model.specs.output.SimplifiedTexts.{is_lone, keeps_ending, left_line, is_read_back, line_by, simplified_line}
-use Rattle.ud_model.specs.declared.kind.Mode.{Mode}
 use Rattle.ud_model.specs.declared.kind.Mode.TheVariants.{C}
-use Rattle.ud_model.proofs.text.LinesLemmas.{split_lines-append, split_lines-open, split_lines-line-prefix, last_line-some, text_of-line_at, map-numbered_from, numbered_from-append}
+use Rattle.ud_model.proofs.text.LinesLemmas.{text_of-line_at, map-numbered_from}
 use Rattle.ud_model.proofs.text.ScanBytes.{scan_after-same}
-use Rattle.ud_model.proofs.text.ScanLaws.{readings_after-append}
-use Rattle.ud_model.proofs.text.ScanLemmas.{LexesTo-same, joined_run_last, run_of_last, joins_last}
-use Rattle.ud_model.proofs.output.Each.{Pairs, no_pair, pair}
+use Rattle.ud_model.proofs.output.Each.{Pairs, pair}
 use Rattle.ud_model.proofs.output.SimplifiedReadings.{ReadingSimplified, reading_stays, reading_edited, readings_simplified}
-use Rattle.ud_text.specs.scan.ScannerState.{ScannerState, ScannerRepresents, ends_in_block}
-use Rattle.ud_text.specs.bulk.BulkScanning.{HaveNoDirective, AreWholeLines, lines_in_mode, SkipsText}
-use Rattle.ud_text.specs.lines.LinesState.{UpToNewline}
-use Rattle.ud_text.proofs.lemmas.scan.ScannerLemmas.{ends_in_block_last}
-use Rattle.ud_text.proofs.lemmas.lines.NewlineLemmas.{up_to_newline-some}
+use Rattle.ud_text.specs.bulk.BulkScanning.{HaveNoDirective, AreWholeLines}
 use Rattle.ud_text.proofs.lemmas.bulk.QuietLineLemmas.{ended_lines}
+use Rattle.ud_text.proofs.lemmas.scan.LongerTextLemmas.{after, here, reading, read_texts, read_line, k_scan}
 use Rattle.ud_prune.specs.PrunedTexts.{fits, pruned_line, pruned_bytes, pruned_text, is_edited, edited_among, edited_count}
 use Rattle.ud_prune.specs.EditedLines.{IsEditedTo, IsScannedAlone}
 use Rattle.ud_prune.specs.Passing.{PrunesMore}
-
-same : (xs : List ℕ) → bytes_eq xs xs ≡ true
-same xs = (bytes_eq-Decides xs xs).1 refl
 
 concat-append : (xs ys : List (List ℕ)) → concat (xs ++ ys) ≡ concat xs ++ concat ys
 concat-append [] ys = refl
@@ -51,7 +39,7 @@ module _ (table : List Argument) (rules : Rules) where
   pruned_long r e = ap (λ (b : Bool). if b then simplified_line table rules r else r.line) e
 
   not_edited : (r : Reading) → pruned_bytes table rules r ≡ text_of r.line → is_edited table rules r ≡ false
-  not_edited r e = ap (λ (x : List ℕ). not (bytes_eq x (text_of r.line))) e ∙ ap not (same (text_of r.line))
+  not_edited r e = ap (λ (x : List ℕ). not (bytes_eq x (text_of r.line))) e ∙ ap not ((bytes_eq-Decides (text_of r.line) (text_of r.line)).1 refl)
 
   -- The line that was edited or stays is what is left.
   pub next_edited : (r : Reading) (edited : Bool) (bytes old new : List ℕ) → fits r.line ≡ true → IsEditedTo edited (text_of (simplified_line table rules r)) r.line bytes →
@@ -149,168 +137,65 @@ module _ (table : List Argument) (rules : Rules) where
       )
 
 module _ (done p : List ℕ) (ends : AreWholeLines done) where
-  abbrev pub after : ℕ
-  after = 1 + length (texts_of done)
-
-  parts : split_lines (done ++ p) ≡ record { whole = whole_lines done ++ whole_lines p; rest = partial_line p }
-  parts = split_lines-append done p ∙ ap (λ (x : List ℕ). record { whole = whole_lines done ++ whole_lines (x ++ p); rest = partial_line (x ++ p) }) ends
-
-  done_texts : texts_of done ≡ whole_lines done
-  done_texts = ap (λ (x : List ℕ). whole_lines done ++ last_line x) ends ∙ append-nil (whole_lines done)
-
-  all_texts : texts_of (done ++ p) ≡ texts_of done ++ texts_of p
-  all_texts =
-      ap (λ q. q.whole ++ last_line q.rest) parts ∙ append_assoc (whole_lines done) (whole_lines p) (last_line (partial_line p))
-      ∙ ap (λ (x : List (List ℕ)). x ++ texts_of p) (sym done_texts)
-
-  pub read_on : read_as C (done ++ p) ≡ readings_after (read_as C done) (map (in_mode C) (numbered_from after (texts_of p)))
-  read_on =
-      ap (λ (ts : List (List ℕ)). read_in C (numbered_from 1 ts)) all_texts
-      ∙ ap (λ (ls : List Line). read_in C ls) (numbered_from-append 1 (texts_of done) (texts_of p))
-      ∙ ap (λ (xs : List (Mode × Line)). readings_after [] xs) (map-append (in_mode C) (lines_of done) (numbered_from after (texts_of p)))
-      ∙ readings_after-append [] (map (in_mode C) (lines_of done)) (map (in_mode C) (numbered_from after (texts_of p)))
-
-  pub still_whole : partial_line p ≡ [] → AreWholeLines (done ++ p)
-  still_whole e = ap (λ q. q.rest) parts ∙ e
-
   -- Many text lines.
   module _ (whole : AreWholeLines p) where
-    whole_texts : texts_of p ≡ whole_lines p
-    whole_texts = ap (λ (x : List ℕ). whole_lines p ++ last_line x) whole ∙ append-nil (whole_lines p)
-
-    pub read_texts : read_as C (done ++ p) ≡ readings_after (read_as C done) (lines_in_mode C after (whole_lines p))
-    read_texts = read_on ∙ ap (λ (ts : List (List ℕ)). readings_after (read_as C done) (map (in_mode C) (numbered_from after ts))) whole_texts
-
-    pub texts_skipped : (table : List Argument) (rules : Rules) → HaveNoDirective C (read_as C done) (numbered_from after (whole_lines p)) → (old new : List ℕ) → new ≡ old ++ p → PrunesMore table rules done p false old new
+    pub texts_skipped : (table : List Argument) (rules : Rules) → HaveNoDirective C (read_as C done) (numbered_from (after C done p ends) (whole_lines p)) → (old new : List ℕ) → new ≡ old ++ p → PrunesMore table rules done p false old new
     texts_skipped table rules h old new e =
-        let i = texts_more table rules (read_as C done) (numbered_from after (whole_lines p)) h in
-        let all : concat (map text_of (numbered_from after (whole_lines p))) ≡ p = ap concat (map-numbered_from after (whole_lines p)) ∙ sym (ended_lines p whole) in
+        let i = texts_more table rules (read_as C done) (numbered_from (after C done p ends) (whole_lines p)) h in
+        let all : concat (map text_of (numbered_from (after C done p ends) (whole_lines p))) ≡ p = ap concat (map-numbered_from (after C done p ends) (whole_lines p)) ∙ sym (ended_lines p whole) in
         record {
           piece = p;
           appended = e;
-          text = ap (λ (rs : List Reading). pieces table rules rs) read_texts ∙ i.0 ∙ ap (λ (x : List ℕ). pruned_text table rules done ++ x) all;
-          count = ap (λ (rs : List Reading). edited_among table rules rs) read_texts ∙ i.1 ∙ omega arith;
+          text = ap (λ (rs : List Reading). pieces table rules rs) (read_texts C done p ends whole) ∙ i.0 ∙ ap (λ (x : List ℕ). pruned_text table rules done ++ x) all;
+          count = ap (λ (rs : List Reading). edited_among table rules rs) (read_texts C done p ends whole) ∙ i.1 ∙ omega arith;
         }
 
   -- One line.
   module _ (one : texts_of p ≡ p ∷ []) where
-    abbrev pub here : Line
-    here = line_at after p
+    abbrev line : Line
+    line = here C done p ends one
 
-    abbrev reading : Reading
-    reading = next_reading (read_as C done) C here
-
-    pub read_line : read_as C (done ++ p) ≡ read_as C done ++ reading ∷ []
-    read_line = read_on ∙ ap (λ (ts : List (List ℕ)). readings_after (read_as C done) (map (in_mode C) (numbered_from after ts))) one
+    abbrev r : Reading
+    r = reading C done p ends one
 
     module _ (table : List Argument) (rules : Rules) where
       last_pair : {P : Reading → Reading → Type 0} (xs : List Reading) (x : Reading) (ys : List Reading) → Pairs P (xs ++ x ∷ []) ys → (y : Reading) × P x y
       last_pair [] x _ (pair {y = y} h q) = (y, h)
       last_pair (w ∷ xs) x _ (pair h q) = last_pair xs x _ q
 
-      alone : IsScannedAlone reading.scan here
+      alone : IsScannedAlone r.scan line
       alone =
-          let q = subst (λ (rs : List Reading). (ss : List Reading) × Pairs (ReadingSimplified table rules) rs ss) read_line (_, readings_simplified table rules (done ++ p)) in
-          let s = last_pair (read_as C done) reading q.0 q.1 in
+          let q = subst (λ (rs : List Reading). (ss : List Reading) × Pairs (ReadingSimplified table rules) rs ss) (read_line C done p ends one) (_, readings_simplified table rules (done ++ p)) in
+          let s = last_pair (read_as C done) r q.0 q.1 in
           by s.0 s.1
         where
-          by : (s : Reading) → ReadingSimplified table rules reading s → IsScannedAlone reading.scan here
+          by : (s : Reading) → ReadingSimplified table rules r s → IsScannedAlone r.scan line
           by s (reading_stays e q h) = h
           by s (reading_edited d i) = λ _. i.before
 
       -- The line as the program reads it, with another number.
       module _ (k : Line) (is : k ≡ line_at 1 p) where
-        k_scan : scan_after (read_as C done) C here ≡ scan_after (read_as C done) C k
-        k_scan = scans_same table rules here.body here.ending after 1 (read_as C done) ∙ ap (λ (x : Line). scan_after (read_as C done) C x) (sym is)
-
-        first_scan : scan_after [] C here ≡ scan_after [] C k
-        first_scan = scans_same table rules here.body here.ending after 1 [] ∙ ap (λ (x : Line). scan_after [] C x) (sym is)
+        first_scan : scan_after [] C line ≡ scan_after [] C k
+        first_scan = scans_same table rules line.body line.ending (after C done p ends) 1 [] ∙ ap (λ (x : Line). scan_after [] C x) (sym is)
 
         pub k_alone : IsScannedAlone (scan_after (read_as C done) C k) k
-        k_alone = λ j. sym k_scan ∙ alone (ap (λ (s : Scan). s.joins_before) k_scan ∙ j) ∙ first_scan
+        k_alone = λ j. sym (k_scan C done p ends one k is) ∙ alone (ap (λ (s : Scan). s.joins_before) (k_scan C done p ends one k is) ∙ j) ∙ first_scan
 
-        k_bytes : pruned_bytes table rules reading ≡ pruned_bytes table rules (next_reading (read_as C done) C k)
-        k_bytes = renumbered table rules here.body here.ending after 1 (read_as C done) ∙ ap (λ (x : Line). pruned_bytes table rules (next_reading (read_as C done) C x)) (sym is)
+        k_bytes : pruned_bytes table rules r ≡ pruned_bytes table rules (next_reading (read_as C done) C k)
+        k_bytes = renumbered table rules line.body line.ending (after C done p ends) 1 (read_as C done) ∙ ap (λ (x : Line). pruned_bytes table rules (next_reading (read_as C done) C x)) (sym is)
 
-        k_edited : is_edited table rules reading ≡ is_edited table rules (next_reading (read_as C done) C k)
-        k_edited = ap₂ (λ (x y : List ℕ). not (bytes_eq x y)) k_bytes (text_of-line_at after p ∙ sym (text_of-line_at 1 p) ∙ ap text_of (sym is))
+        k_edited : is_edited table rules r ≡ is_edited table rules (next_reading (read_as C done) C k)
+        k_edited = ap₂ (λ (x y : List ℕ). not (bytes_eq x y)) k_bytes (text_of-line_at (after C done p ends) p ∙ sym (text_of-line_at 1 p) ∙ ap text_of (sym is))
 
         pub line_pruned : (edited : Bool) (old new : List ℕ) →
             (new ≡ old ++ pruned_bytes table rules (next_reading (read_as C done) C k)) × (edited ≡ is_edited table rules (next_reading (read_as C done) C k)) → PrunesMore table rules done p edited old new
         line_pruned edited old new h = record {
           piece = pruned_bytes table rules (next_reading (read_as C done) C k);
           appended = h.0;
-          text = ap (λ (rs : List Reading). pieces table rules rs) read_line ∙ one_more table rules (read_as C done) reading ∙ ap (λ (x : List ℕ). pruned_text table rules done ++ x) k_bytes;
-          count = ap (λ (rs : List Reading). edited_among table rules rs) read_line ∙ count_more table rules (read_as C done) reading
+          text = ap (λ (rs : List Reading). pieces table rules rs) (read_line C done p ends one) ∙ one_more table rules (read_as C done) r ∙ ap (λ (x : List ℕ). pruned_text table rules done ++ x) k_bytes;
+          count = ap (λ (rs : List Reading). edited_among table rules rs) (read_line C done p ends one) ∙ count_more table rules (read_as C done) r
               ∙ ap (λ (b : Bool). edited_count table rules done + (if b then 1 else 0)) (k_edited ∙ sym h.1);
         }
-
--- 4. The scanner.
-
--- A scanner represents a line with another number.
-pub represents_renumbered : (s : ScannerState) (before : List Reading) (l k : Line) → l.body ≡ k.body → l.ending ≡ k.ending → ScannerRepresents s (before ++ next_reading before C l ∷ []) →
-    ScannerRepresents s (before ++ next_reading before C k ∷ [])
-represents_renumbered s before l k b e h =
-    let r : Reading = next_reading before C l in
-    let q : Reading = next_reading before C k in
-    let part : spliced_part l ≡ spliced_part k = ap₂ (λ (x y : List ℕ). spliced_part (record { body = x; ending = y; number = 0 })) b e in
-    let spliced : is_spliced l ≡ is_spliced k = ap₂ (λ (x y : List ℕ). is_spliced (record { body = x; ending = y; number = 0 })) b e in
-    let scan : scan_after before C l ≡ scan_after before C k = scan_after-same before before C l k refl b e in
-    record {
-      reads = LexesTo-same (joined_run_last before r refl ∙ ap (λ (x : List ℕ). spliced_text (c_run_of before) ++ x) part ∙ sym (joined_run_last before q refl)) refl refl h.reads;
-      joins_is = h.joins_is ∙ ap joins (run_of_last before r) ∙ joins_last (c_run_of before) l
-          ∙ ap₂ (λ (x : Bool) (y : List ℕ). x || is_block (kind_at_end (spliced_text (c_run_of before) ++ y))) spliced part
-          ∙ sym (ap joins (run_of_last before q) ∙ joins_last (c_run_of before) k);
-      block_is = h.block_is ∙ ends_in_block_last before r ∙ ap (λ (x : Scan). is_in_block x.comment) scan ∙ sym (ends_in_block_last before q);
-    }
-
--- 5. The first line of the rest.
-
-module _ (rest : List ℕ) (used : ℕ) (w : Bool) (to : UpToNewline rest used w) (some : 0 < length rest) where
-  whole_by : w ≡ true → split_lines (take used rest) ≡ record { whole = take used rest ∷ []; rest = [] }
-  unfolding split_lines
-  whole_by e =
-      ap split_lines (sym (append-nil (take used rest))) ∙ split_lines-line-prefix (take used rest) [] (to.line e)
-
-  open_by : w ≡ false → split_lines (take used rest) ≡ record { whole = []; rest = take used rest }
-  open_by e =
-      let a = to.all e in
-      let all : take used rest ≡ rest = take_all used rest (omega (arith, a.0)) in
-      split_lines-open (take used rest) (subst NoNewline (sym all) a.1)
-
-  not_none : take used rest ≢ []
-  not_none e =
-      let l : 0 < used = up_to_newline-some rest used w to some in
-      let n : length (take used rest) ≡ used = length-take-le used rest to.within in
-      let z : length (take used rest) ≡ 0 = ap (λ (x : List ℕ). length x) e in
-      absurd (omega arith)
-
-  pub one_text : texts_of (take used rest) ≡ take used rest ∷ []
-  one_text = by w refl
-    where
-      by : (t : Bool) → w ≡ t → texts_of (take used rest) ≡ take used rest ∷ []
-      by true e = ap (λ q. q.whole ++ last_line q.rest) (whole_by e)
-      by false e = ap (λ q. q.whole ++ last_line q.rest) (open_by e) ∙ last_line-some (take used rest) not_none
-
-  pub whole_if_more : used < length rest → partial_line (take used rest) ≡ []
-  whole_if_more m = by w refl
-    where
-      by : (t : Bool) → w ≡ t → partial_line (take used rest) ≡ []
-      by true e = ap (λ q. q.rest) (whole_by e)
-      by false e = let a = (to.all e).0 in absurd (omega arith)
-
--- Nothing was skipped.
-pub skipped_none : (old new : ScannerState) (n : ℕ) (rest : List ℕ) → n ≡ 0 → SkipsText C old new (take n rest) → (before : List Reading) → ScannerRepresents old before → ScannerRepresents new before
-unfolding split_lines
-skipped_none old new n rest e h before r = subst (λ (k : ℕ). ScannerRepresents new (readings_after before (lines_in_mode C 1 (whole_lines (take k rest))))) e (h.represents 1 before r)
-
-pub nothing_ends : AreWholeLines []
-unfolding split_lines
-nothing_ends = refl
-
-pub some_left : (rest : List ℕ) → (length rest == 0) ≡ false → 0 < length rest
-some_left [] e = cc
-some_left (b ∷ rest) e = omega arith
 
 pub one_at_most : (b : Bool) → (if b then 1 else 0) ≤ 1
 one_at_most true = omega arith

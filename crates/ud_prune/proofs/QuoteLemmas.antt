@@ -2,6 +2,7 @@
 use Rattle.std.proofs.Common.{◌≡◌, ℕ, zero, suc, ◌==◌, List, [], ◌∷◌, ◌++◌, length, map, take, drop, Bool, true, false, ◌&&◌, ◌||◌, if◌then◌else◌, refl, sym, ◌∙◌, ap, ap₂, subst, ne_eqb}
 use Rattle.std.specs.List.{list_any}
 use Rattle.std.proofs.lemmas.List.{drop-map}
+use Rattle.std.proofs.lemmas.Bool.{or_parts, and_parts}
 use Rattle.ud_model.specs.text.Bytes.{is_quote, is_white, are_white, is_word_byte, are_word_bytes, slash, star, starts_with_byte, number_sign, space}
 use Rattle.ud_model.specs.text.Lexemes.{LexemeKind, block_comment, line_comment, literal, single, Cell, shown, shown_as, Extent, lexeme_at, lex_from, lex, comment_size, line_comment_size, literal_size}
 use Rattle.ud_model.specs.text.Lines.{Line}
@@ -21,14 +22,10 @@ use Rattle.ud_model.proofs.output.SimplifiedLines.{after_is}
 
 -- 1. Bytes.
 
-parts_false : (a b : Bool) → (a || b) ≡ false → (a ≡ false) × (b ≡ false)
-parts_false false b e = (refl, e)
-parts_false true b e = cc
-
 pub any_append : (p : ℕ → Bool) (xs ys : List ℕ) → list_any p xs ≡ false → list_any p ys ≡ false → list_any p (xs ++ ys) ≡ false
 any_append p [] ys e f = f
 any_append p (x ∷ xs) ys e f =
-    let h = parts_false (p x) (list_any p xs) e in
+    let h = or_parts (p x) (list_any p xs) e in
     ap (λ (b : Bool). b || list_any p (xs ++ ys)) h.0 ∙ any_append p xs ys h.1 f
 
 -- 2. Cells.
@@ -159,11 +156,11 @@ none_from k n zero text l e = refl
 none_from k n (suc m) [] l e = refl
 none_from k zero (suc m) (a ∷ rest) l e =
     let x = lexeme_at a rest in
-    let p = parts_false (is_quote (shown_as x.kind a)) (list_any is_quote (map shown (take m (lex_from x.kind x.more rest)))) e in
+    let p = or_parts (is_quote (shown_as x.kind a)) (list_any is_quote (map shown (take m (lex_from x.kind x.more rest)))) e in
     let n : IsNoLiteral x.kind = none_at a rest p.0 in
     ap (λ (b : Bool). b || list_any is_literal (take m (lex_from x.kind x.more rest))) (no_literal_cell x.kind a n) ∙ none_from x.kind x.more m rest n p.1
 none_from k (suc n) (suc m) (a ∷ rest) l e =
-    let p = parts_false (is_quote (shown_as k a)) (list_any is_quote (map shown (take m (lex_from k n rest)))) e in
+    let p = or_parts (is_quote (shown_as k a)) (list_any is_quote (map shown (take m (lex_from k n rest)))) e in
     ap (λ (b : Bool). b || list_any is_literal (take m (lex_from k n rest))) (no_literal_cell k a l) ∙ none_from k n m rest l p.1
 
 none_lex : (m : ℕ) (text : List ℕ) → list_any is_quote (map shown (take m (lex text))) ≡ false → list_any is_literal (take m (lex text)) ≡ false
@@ -175,7 +172,7 @@ none_lex m text e = none_from single 0 m text tt e
 none_after : (n : ℕ) (cells : List Cell) → list_any is_literal cells ≡ false → list_any is_literal (drop n cells) ≡ false
 none_after zero cells e = e
 none_after (suc n) [] e = e
-none_after (suc n) (c ∷ cells) e = none_after n cells (parts_false (is_literal c) (list_any is_literal cells) e).1
+none_after (suc n) (c ∷ cells) e = none_after n cells (or_parts (is_literal c) (list_any is_literal cells) e).1
 
 white_no_quote : (b : ℕ) → is_white b ≡ true → is_quote b ≡ false
 white_no_quote b e = ap₂ (λ (x y : Bool). x || y) (ne_eqb b 34 (λ q. let f : is_white 34 ≡ true = subst (λ (x : ℕ). is_white x ≡ true) q e in cc)) (ne_eqb b 39 (λ q. let f : is_white 39 ≡ true = subst (λ (x : ℕ). is_white x ≡ true) q e in cc))
@@ -183,20 +180,16 @@ white_no_quote b e = ap₂ (λ (x y : Bool). x || y) (ne_eqb b 34 (λ q. let f :
 word_no_quote : (b : ℕ) → is_word_byte b ≡ true → is_quote b ≡ false
 word_no_quote b e = ap₂ (λ (x y : Bool). x || y) (ne_eqb b 34 (λ q. let f : is_word_byte 34 ≡ true = subst (λ (x : ℕ). is_word_byte x ≡ true) q e in cc)) (ne_eqb b 39 (λ q. let f : is_word_byte 39 ≡ true = subst (λ (x : ℕ). is_word_byte x ≡ true) q e in cc))
 
-both_true : (a b : Bool) → (a && b) ≡ true → (a ≡ true) × (b ≡ true)
-both_true true b e = (refl, e)
-both_true false b e = cc
-
 whites : (bytes : List ℕ) → are_white bytes ≡ true → list_any is_quote bytes ≡ false
 whites [] e = refl
 whites (b ∷ bytes) e =
-    let p = both_true (is_white b) (are_white bytes) e in
+    let p = and_parts (is_white b) (are_white bytes) e in
     ap (λ (q : Bool). q || list_any is_quote bytes) (white_no_quote b p.0) ∙ whites bytes p.1
 
 words : (bytes : List ℕ) → are_word_bytes bytes ≡ true → list_any is_quote bytes ≡ false
 words [] e = refl
 words (b ∷ bytes) e =
-    let p = both_true (is_word_byte b) (are_word_bytes bytes) e in
+    let p = and_parts (is_word_byte b) (are_word_bytes bytes) e in
     ap (λ (q : Bool). q || list_any is_quote bytes) (word_no_quote b p.0) ∙ words bytes p.1
 
 -- Without a quote after the keyword, a directive's line has none.

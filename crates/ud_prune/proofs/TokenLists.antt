@@ -1,5 +1,6 @@
 -- Token lists: the tokens of a text, one after another.
 use Rattle.std.proofs.Common.{◌≡◌, ℕ, List, [], ◌∷◌, length, Bool, true, false, ◌&&◌, Option, Some, None, option_map, refl, sym, ◌∙◌, ap, arith}
+use Rattle.std.proofs.lemmas.Bool.{and_left, and_right}
 use Rattle.ud_model.specs.conditions.Tokens.{Token, NextToken, at_end, unreadable, found, next_token}
 use Rattle.ud_model.specs.conditions.ResidualTexts.{are_tokens, same_token, same_tokens, chosen}
 use Rattle.ud_model.specs.aids.Parsing.{prepend_token, tokens_of}
@@ -10,20 +11,12 @@ by_next text x e = tokens_of-prepend_token text ∙ ap (prepend_token tokens_of)
 
 -- A text that begins with a token has the tokens of the rest after it.
 first_of : (u t : Token) (o : Option (List Token)) (tokens : List Token) → are_tokens (option_map (λ ts. u ∷ ts) o) (t ∷ tokens) ≡ (same_token u t && are_tokens o tokens)
-first_of u t None tokens = by (same_token u t)
-  where
-    by : (b : Bool) → false ≡ (b && false)
-    by true = refl
-    by false = refl
+first_of u t None tokens = sym (and_right (same_token u t) false refl)
 first_of u t (Some us) tokens = refl
 
 and_true : (a b : Bool) → a ≡ true → (a && b) ≡ b
 and_true true b e = refl
 and_true false b e = cc
-
-and_false : (a b : Bool) → a ≡ false → (a && b) ≡ false
-and_false false b e = refl
-and_false true b e = cc
 
 module _ (text : List ℕ) (t : Token) where
   -- The first token is this one.
@@ -36,7 +29,7 @@ module _ (text : List ℕ) (t : Token) where
   pub other_first : (u : Token) (rest : List ℕ) → next_token text ≡ found u rest → same_token u t ≡ false → (tokens : List Token) →
       are_tokens (tokens_of text) (t ∷ tokens) ≡ false
   other_first u rest e s tokens =
-      ap (λ o. are_tokens o (t ∷ tokens)) (by_next text (found u rest) e) ∙ first_of u t (tokens_of rest) tokens ∙ and_false (same_token u t) (are_tokens (tokens_of rest) tokens) s
+      ap (λ o. are_tokens o (t ∷ tokens)) (by_next text (found u rest) e) ∙ first_of u t (tokens_of rest) tokens ∙ and_left (same_token u t) (are_tokens (tokens_of rest) tokens) s
 
   -- There is no token.
   pub none_first : next_token text ≡ at_end → (tokens : List Token) → are_tokens (tokens_of text) (t ∷ tokens) ≡ false

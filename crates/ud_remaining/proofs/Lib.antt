@@ -1,4 +1,3 @@
 pub mod NameLemmas
 pub mod ConditionLemmas
-pub mod TextLemmas
 pub mod SearchLemmas

@@ -4,7 +4,7 @@ use Rattle.std.specs.List.{flat_map, filter, count_by}
 use Rattle.std.proofs.lemmas.Grind.{flat_map-append}
 use Rattle.std.proofs.lemmas.List.Elements.{filter-append}
 use Rattle.ud_model.specs.text.Lines.{Line, text_of, texts_of, line_at, numbered_from, whole_lines, split_lines}
-use Rattle.ud_model.specs.text.Scans.{Reading}
+use Rattle.ud_model.specs.text.Scans.{Scan, Reading}
 use Rattle.ud_model.specs.text.Scanning.{scan_after, next_reading, readings_after}
 use Rattle.ud_model.specs.conditions.Table.{Argument}
 use Rattle.ud_model.specs.output.InsertedLines.{read_as, in_mode}
@@ -12,6 +12,7 @@ use Rattle.ud_model.specs.declared.kind.Mode.{Mode}
 use Rattle.ud_text.specs.scan.ScannerState.{ScannerState, ScannerRepresents}
 use Rattle.ud_text.specs.bulk.BulkScanning.{HaveNoDirective, AreWholeLines, SkipsText, lines_in_mode}
 use Rattle.ud_text.specs.lines.LinesState.{UpToNewline}
+use Rattle.ud_text.proofs.lemmas.scan.LongerTextLemmas.{after, still_whole, read_texts, number_after_texts, here, reading, read_line, number_after_line, k_scan, represents_renumbered, one_text, whole_if_more, nothing_ends}
 use Rattle.ud_remaining.specs.Conditions.{Condition, conditions_in, conditions_of, joins_next}
 use Rattle.ud_remaining.specs.ListedNames.{names_listed}
 use Rattle.ud_remaining.specs.RemainingLists.{line_of, lines_for, named_count}
@@ -21,7 +22,6 @@ use Rattle.ud_remaining.specs.declared.listing.Listing.{Listing}
 use Rattle.ud_remaining.specs.declared.search.Search.{Search}
 use Rattle.ud_remaining.specs.declared.search.Place.{Place}
 use Rattle.ud_remaining.proofs.ConditionLemmas.{one_line, end_here, end_of_text, text_line}
-use Rattle.ud_remaining.proofs.TextLemmas.{after, still_whole, read_texts, number_after_texts, here, reading, read_line, number_after_line, reading_is, represents_renumbered, one_text, whole_if_more, nothing_ends}
 
 -- 1. The conditions of more lines.
 
@@ -89,16 +89,6 @@ module _ (table : List Argument) (name : List ℕ) where
       }
 
   -- One condition.
-  pub unnamed : (c : Condition) (old new : Search) → names_listed table c ≡ false → new.list.items ≡ old.list.items → new.count ≡ old.count → new.listing ≡ old.listing →
-      Appends table name (c ∷ []) old new
-  unnamed c old new e l k g = record {
-    list_is =
-        l ∙ sym (append-nil old.list.items)
-        ∙ ap (λ (b : Bool). old.list.items ++ flat_map (line_of table old.listing name) (if b then c ∷ [] else [])) (sym e);
-    count_is = λ few. k ∙ omega arith ∙ ap (λ (b : Bool). old.count + length (if b then c ∷ [] else [])) (sym e);
-    listing_is = g;
-  }
-
   pub named : (c : Condition) (old new : Search) → names_listed table c ≡ true → new.list.items ≡ old.list.items ++ line_of table old.listing name c →
       (old.count + 1 < 2 ^ 64 → new.count ≡ old.count + 1) → new.listing ≡ old.listing → Appends table name (c ∷ []) old new
   named c old new e l k g =
@@ -116,6 +106,14 @@ module _ (table : List Argument) (name : List ℕ) where
 pub none_begun : (b : Option Begun) (bytes : List ℕ) → is_some b ≡ false → begun_as b bytes ≡ None
 none_begun None bytes e = refl
 none_begun (Some b) bytes e = cc
+
+-- The line as the program reads it, with its number.
+reading_is : (mode : Mode) (done p : List ℕ) (ends : AreWholeLines done) (one : texts_of p ≡ p ∷ []) (k : Line) → k ≡ line_at 1 p →
+    (number : ℕ) → number ≡ after mode done p ends → reading_at mode k (scan_after (read_as mode done) mode k) number ≡ reading mode done p ends one
+reading_is mode done p ends one k is number n =
+    ap₂ (λ (l : Line) (s : Scan). let r : Reading = record { line = l; mode = mode; scan = s } in r)
+    (ap (λ (x : Line). let m : Line = record x { number = number } in m) is ∙ ap (λ (x : ℕ). let m : Line = record (here mode done p ends one) { number = x } in m) n)
+    (sym (k_scan mode done p ends one k is))
 
 module _ (table : List Argument) (mode : Mode) (name text : List ℕ) (start old : Search) (place : Place) (s : Searched table mode name text start old place) (some : 0 < length place.rest.now) where
   ends : AreWholeLines s.done

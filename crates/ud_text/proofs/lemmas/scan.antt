@@ -3,3 +3,4 @@ pub mod MaskLemmas
 pub mod ScannerLemmas
 pub mod UnmarkedLemmas
 pub mod PassLemmas
+pub mod LongerTextLemmas

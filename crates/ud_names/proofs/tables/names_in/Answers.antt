@@ -6,7 +6,7 @@ use Rattle.ud_model.specs.text.LineViews.{as_line}
 use Rattle.ud_text.proofs.lemmas.scan.PassLemmas.{nothing_left}
 use Rattle.ud_names.specs.NameTables.{body_of, names_in}
 use Rattle.ud_model.specs.declared.kind.Mode.TheVariants.{C}
-use Rattle.ud_names.proofs.TextLemmas.{after, all_lines, still_whole, one_text, whole_if_more, nothing_ends, some_left}
+use Rattle.ud_text.proofs.lemmas.scan.LongerTextLemmas.{after, all_lines, still_whole, one_text, whole_if_more, nothing_ends, some_left}
 use Rattle.ud_names.proofs.tables.names_in.Goals as goal
 
 pub loop-rest-init : goal.loop-rest-init

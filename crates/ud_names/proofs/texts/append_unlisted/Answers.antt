@@ -4,7 +4,7 @@ use Rattle.ud_model.specs.text.Lines.{split_lines, texts_of}
 use Rattle.ud_text.proofs.lemmas.scan.PassLemmas.{nothing_left}
 use Rattle.ud_names.specs.UnlistedConditions.{unlisted_text}
 use Rattle.ud_names.specs.UnlistedLines.{bytes_of, found_line, number_at}
-use Rattle.ud_names.proofs.TextLemmas.{nothing_ends, some_left}
+use Rattle.ud_text.proofs.lemmas.scan.LongerTextLemmas.{nothing_ends, some_left}
 use Rattle.ud_names.proofs.UnlistedLemmas.{text_more, number_is}
 use Rattle.ud_names.proofs.texts.append_unlisted.Goals as goal
 

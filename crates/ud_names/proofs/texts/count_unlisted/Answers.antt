@@ -4,7 +4,7 @@ use Rattle.ud_model.specs.text.Lines.{split_lines}
 use Rattle.ud_text.proofs.lemmas.scan.PassLemmas.{nothing_left}
 use Rattle.ud_names.specs.UnlistedConditions.{unlisted_in}
 use Rattle.ud_names.specs.UnlistedLines.{bytes_of}
-use Rattle.ud_names.proofs.TextLemmas.{nothing_ends, some_left}
+use Rattle.ud_text.proofs.lemmas.scan.LongerTextLemmas.{nothing_ends, some_left}
 use Rattle.ud_names.proofs.UnlistedLemmas.{count_more, one_at_most}
 use Rattle.ud_names.proofs.texts.count_unlisted.Goals as goal
 

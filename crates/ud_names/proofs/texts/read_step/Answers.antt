@@ -11,7 +11,7 @@ use Rattle.ud_text.specs.bulk.BulkScanning.{AreWholeLines}
 use Rattle.ud_text.specs.lines.LinesState.{UpToNewline}
 use Rattle.ud_names.specs.UnlistedConditions.{is_unlisted_line}
 use Rattle.ud_names.specs.UnlistedLines.{FindsMore}
-use Rattle.ud_names.proofs.TextLemmas.{after, here, read_texts, read_line, still_whole, one_text, whole_if_more, represents_renumbered, skipped_none}
+use Rattle.ud_text.proofs.lemmas.scan.LongerTextLemmas.{after, here, read_texts, read_line, still_whole, one_text, whole_if_more, represents_renumbered, skipped_none}
 use Rattle.ud_names.proofs.UnlistedLemmas.{texts_skipped, line_found, line_unfound}
 use Rattle.ud_names.proofs.texts.read_step.Goals as goal
 

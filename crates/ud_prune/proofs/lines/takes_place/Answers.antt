@@ -1,6 +1,7 @@
 -- By the line that is read of the bytes.
 use Rattle.std.proofs.Common.{◌≡◌, ℕ, ◌+◌, ◌≤◌, List, [], Bool, true, false, not, length, length-append, sym, ◌∙◌, ap₂, refl, bytes_eq, arith}
 use Rattle.std.proofs.lemmas.Slice.Eq.{bytes_eq-Decides}
+use Rattle.std.proofs.lemmas.Bool.{not-true, not-false}
 use Rattle.ud_model.specs.text.Scanning.{scan_after_run}
 use Rattle.ud_model.specs.declared.kind.Kind.{Kind}
 use Rattle.ud_prune.specs.EditedLines.{is_meant}
@@ -8,17 +9,6 @@ use Rattle.ud_model.specs.text.Lines.{Line, text_of}
 use Rattle.ud_model.specs.text.LineViews.{as_line}
 use Rattle.ud_prune.proofs.EditLemmas.{other_ending, same_bytes, edited_if, is_end}
 use Rattle.ud_prune.proofs.lines.takes_place.Goals as goal
-
-differs : (b : Bool) → not b ≡ true → b ≡ false
-differs false e = refl
-differs true e = cc
-
-same_ending : (x y : List ℕ) → not (bytes_eq x y) ≡ false → x ≡ y
-same_ending x y e = by (bytes_eq x y) refl e
-  where
-    by : (b : Bool) → bytes_eq x y ≡ b → not b ≡ false → x ≡ y
-    by true f g = (bytes_eq-Decides x y).0 f
-    by false f g = cc
 
 pub is_meant-requires-clause-fits : goal.is_meant-requires-clause-fits
 is_meant-requires-clause-fits c =
@@ -32,19 +22,19 @@ returns-then-ne c = λ table rules d i k s b.
     let l : Line = as_line c.args.line.now in
     let e : Line = as_line c.line_in-edited.result in
     let to = c.line_in-edited.ensures.bytes in
-    other_ending table rules l d i c.requires.one_line (is_end l.ending c.args.line.now.ended c.requires.ended) c.args.bytes.now b e to.0 to.1 c.line_in-edited.ensures.value (differs _ (sym c.ne.ensures ∙ c.if-ne.true))
+    other_ending table rules l d i c.requires.one_line (is_end l.ending c.args.line.now.ended c.requires.ended) c.args.bytes.now b e to.0 to.1 c.line_in-edited.ensures.value (not-true _ (sym c.ne.ensures ∙ c.if-ne.true))
 
 pub returns-then-eq : goal.returns-then-eq
 returns-then-eq c = λ table rules d i k s b.
     let l : Line = as_line c.args.line.now in
     let e : Line = as_line c.line_in-edited.result in
     let to = c.line_in-edited.ensures.bytes in
-    same_bytes table rules l d i c.requires.one_line (is_end l.ending c.args.line.now.ended c.requires.ended) c.args.bytes.now b e to.0 to.1 c.line_in-edited.ensures.value (same_ending e.ending l.ending (sym c.ne.ensures ∙ c.if-ne.false)) (sym c.eq.ensures ∙ c.if-eq.true)
+    same_bytes table rules l d i c.requires.one_line (is_end l.ending c.args.line.now.ended c.requires.ended) c.args.bytes.now b e to.0 to.1 c.line_in-edited.ensures.value ((bytes_eq-Decides e.ending l.ending).0 (not-false _ (sym c.ne.ensures ∙ c.if-ne.false))) (sym c.eq.ensures ∙ c.if-eq.true)
 
 pub returns : goal.returns
 returns c = λ table rules d i k s b.
     let l : Line = as_line c.args.line.now in
     let e : Line = as_line c.line_in-edited.result in
     let to = c.line_in-edited.ensures.bytes in
-    edited_if table rules l d i c.requires.one_line (is_end l.ending c.args.line.now.ended c.requires.ended) c.args.bytes.now b e to.0 to.1 c.line_in-edited.ensures.value (same_ending e.ending l.ending (sym c.ne.ensures ∙ c.if-ne.false)) (sym c.eq.ensures ∙ c.if-eq.false) c.is_meant.result
+    edited_if table rules l d i c.requires.one_line (is_end l.ending c.args.line.now.ended c.requires.ended) c.args.bytes.now b e to.0 to.1 c.line_in-edited.ensures.value ((bytes_eq-Decides e.ending l.ending).0 (not-false _ (sym c.ne.ensures ∙ c.if-ne.false))) (sym c.eq.ensures ∙ c.if-eq.false) c.is_meant.result
     (c.is_meant.ensures ∙ ap₂ (λ (j : Kind) (x : List ℕ). is_meant j x (scan_after_run [] e)) (sym k) (sym s))

@@ -6,7 +6,8 @@ use Rattle.ud_cond.specs.symbols.SymbolTable.{TableRepresents}
 use Rattle.ud_cond.specs.CondViews.{as_rules}
 use Rattle.ud_text.proofs.lemmas.scan.PassLemmas.{nothing_left}
 use Rattle.ud_prune.specs.PrunedTexts.{pruned_text, edited_count}
-use Rattle.ud_prune.proofs.PassLemmas.{nothing_ends, some_left, one_at_most}
+use Rattle.ud_text.proofs.lemmas.scan.LongerTextLemmas.{nothing_ends, some_left}
+use Rattle.ud_prune.proofs.PassLemmas.{one_at_most}
 use Rattle.ud_prune.proofs.texts.append_pruned.Goals as goal
 
 pub loop-rest-init : goal.loop-rest-init

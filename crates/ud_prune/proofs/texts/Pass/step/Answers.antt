@@ -10,20 +10,21 @@ use Rattle.ud_text.specs.scan.ScannerState.{ScannerRepresents}
 use Rattle.ud_text.specs.bulk.BulkScanning.{AreWholeLines}
 use Rattle.ud_prune.specs.Passing.{PrunesMore}
 use Rattle.ud_cond.specs.CondViews.{as_rules}
-use Rattle.ud_prune.proofs.PassLemmas.{after, here, texts_skipped, read_texts, still_whole, skipped_none, one_text, whole_if_more, k_alone, line_pruned, read_line, represents_renumbered}
+use Rattle.ud_text.proofs.lemmas.scan.LongerTextLemmas.{after, here, read_texts, still_whole, skipped_none, one_text, whole_if_more, read_line, represents_renumbered}
+use Rattle.ud_prune.proofs.PassLemmas.{texts_skipped, k_alone, line_pruned}
 use Rattle.ud_prune.proofs.texts.Pass.step.Goals as goal
 
 pub returns-then-skipped-gt0-clause-pruned : goal.returns-then-skipped-gt0-clause-pruned
 returns-then-skipped-gt0-clause-pruned c = λ calls h done ends r.
     let p : List ℕ = take c.skip_text-skipped.result c.args.rest.now in
-    texts_skipped done p ends c.skip_text-skipped.ensures.ends calls (as_rules c.args.rules) (c.skip_text-skipped.ensures.skips.texts (after done p ends) (read_as C done) r) c.args.out.now.items c.extend_from_slice.new.self.items
+    texts_skipped done p ends c.skip_text-skipped.ensures.ends calls (as_rules c.args.rules) (c.skip_text-skipped.ensures.skips.texts (after C done p ends) (read_as C done) r) c.args.out.now.items c.extend_from_slice.new.self.items
     c.in_ok-extend_from_slice.ensures.items
 
 pub returns-then-skipped-gt0-clause-represents : goal.returns-then-skipped-gt0-clause-represents
 returns-then-skipped-gt0-clause-represents c = λ done ends r.
     let p : List ℕ = take c.skip_text-skipped.result c.args.rest.now in (
-      λ more. still_whole done p ends c.skip_text-skipped.ensures.ends,
-      subst (λ (rs : List Reading). ScannerRepresents c.skip_text-skipped.new.self rs) (sym (read_texts done p ends c.skip_text-skipped.ensures.ends)) (c.skip_text-skipped.ensures.skips.represents (after done p ends) (read_as C done) r),
+      λ more. still_whole C done p ends c.skip_text-skipped.ensures.ends,
+      subst (λ (rs : List Reading). ScannerRepresents c.skip_text-skipped.new.self rs) (sym (read_texts C done p ends c.skip_text-skipped.ensures.ends)) (c.skip_text-skipped.ensures.skips.represents (after C done p ends) (read_as C done) r),
     )
 
 pub returns-clause-pruned : goal.returns-clause-pruned
@@ -35,7 +36,7 @@ returns-clause-pruned c = λ calls h done ends r.
     let p : List ℕ = take (length (text_of k)) rest in
     let one : texts_of p ≡ p ∷ [] = one_text rest (length (text_of k)) to.0 to.1 c.requires.some in
     let none : c.skip_text-skipped.result ≡ 0 = omega arith in
-    let before : ScannerRepresents c.skip_text-skipped.new.self (read_as C done) = skipped_none c.args.self.now.scanner c.skip_text-skipped.new.self c.skip_text-skipped.result rest none c.skip_text-skipped.ensures.skips (read_as C done) r in
+    let before : ScannerRepresents c.skip_text-skipped.new.self (read_as C done) = skipped_none C c.args.self.now.scanner c.skip_text-skipped.new.self c.skip_text-skipped.result rest none c.skip_text-skipped.ensures.skips (read_as C done) r in
     subst (λ (m : ℕ). PrunesMore calls (as_rules c.args.rules) done (take m rest) c.in_ok-edited.edited c.args.out.now.items c.read_line.new.out.items) n
     (line_pruned done p ends one calls (as_rules c.args.rules) k c.line_in-line.ensures.value c.in_ok-edited.edited c.args.out.now.items c.read_line.new.out.items
     (c.in_ok-edited.ensures.pruned calls h (read_as C done) before (k_alone done p ends one calls (as_rules c.args.rules) k c.line_in-line.ensures.value)))
@@ -49,11 +50,11 @@ returns-clause-represents c = λ done ends r.
     let p : List ℕ = take (length (text_of k)) rest in
     let one : texts_of p ≡ p ∷ [] = one_text rest (length (text_of k)) to.0 to.1 c.requires.some in
     let none : c.skip_text-skipped.result ≡ 0 = omega arith in
-    let before : ScannerRepresents c.skip_text-skipped.new.self (read_as C done) = skipped_none c.args.self.now.scanner c.skip_text-skipped.new.self c.skip_text-skipped.result rest none c.skip_text-skipped.ensures.skips (read_as C done) r in
+    let before : ScannerRepresents c.skip_text-skipped.new.self (read_as C done) = skipped_none C c.args.self.now.scanner c.skip_text-skipped.new.self c.skip_text-skipped.result rest none c.skip_text-skipped.ensures.skips (read_as C done) r in
     let is : k ≡ line_at 1 p = c.line_in-line.ensures.value in
-    let now : ScannerRepresents c.read_line.new.self.scanner (read_as C done ++ next_reading (read_as C done) C (here done p ends one) ∷ []) =
-    represents_renumbered c.read_line.new.self.scanner (read_as C done) k (here done p ends one) (ap (λ (x : Line). x.body) is) (ap (λ (x : Line). x.ending) is) (c.in_ok-edited.ensures.represents (read_as C done) before) in
+    let now : ScannerRepresents c.read_line.new.self.scanner (read_as C done ++ next_reading (read_as C done) C (here C done p ends one) ∷ []) =
+    represents_renumbered c.read_line.new.self.scanner C (read_as C done) k (here C done p ends one) (ap (λ (x : Line). x.body) is) (ap (λ (x : Line). x.ending) is) (c.in_ok-edited.ensures.represents (read_as C done) before) in
     subst (λ (m : ℕ). (m < length rest → AreWholeLines (done ++ take m rest)) × ScannerRepresents c.read_line.new.self.scanner (read_as C (done ++ take m rest))) n (
-      λ more. still_whole done p ends (whole_if_more rest (length (text_of k)) to.0 to.1 c.requires.some more),
-      subst (λ (rs : List Reading). ScannerRepresents c.read_line.new.self.scanner rs) (sym (read_line done p ends one)) now,
+      λ more. still_whole C done p ends (whole_if_more rest (length (text_of k)) to.0 to.1 c.requires.some more),
+      subst (λ (rs : List Reading). ScannerRepresents c.read_line.new.self.scanner rs) (sym (read_line C done p ends one)) now,
     )
