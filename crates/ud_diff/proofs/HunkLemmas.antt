@@ -1,12 +1,12 @@
 -- Hunks: lemmas on the hunks of a script.
 use Rattle.std.proofs.Common.{◌≡◌, ℕ, suc, ◌+◌, ◌-◌, ◌<◌, ◌≤◌, min, Bool, true, false, cond, List, [], ◌∷◌, ◌++◌, length, map, take, drop, get_or, Some, None, refl, sym, ◌∙◌, ap, ap₂, subst, ◌⊎◌, inl, inr, append_assoc, arith, filter, position, ltb}
 use Rattle.std.specs.List.{flat_map, count_by, position_or_len}
-use Rattle.std.proofs.lemmas.Bool.{cases_lt, lt-ltb}
 use Rattle.std.proofs.lemmas.List.{take_rest, length-append, length-drop, length-take, length-take-le, length-map, drop-drop, get_or-drop}
 use Rattle.std.proofs.lemmas.List.Elements.{All-map, All-head, All-tail}
 use Rattle.std.proofs.lemmas.List.Quantifiers.{position-Some}
 use Rattle.std.proofs.lemmas.List.Sums.{length-filter, count_by-le-length, fails_before_first}
 use Rattle.std.proofs.Math.Seq.{take-add}
+use Rattle.std.proofs.lemmas.Bool.{ltb-false}
 use Rattle.ud_diff.specs.declared.line.Sign.{Sign}
 use Rattle.ud_diff.specs.declared.line.Sign.TheVariants.{Kept, Removed, Added}
 use Rattle.ud_diff.specs.declared.line.DiffLine.{DiffLine}
@@ -16,7 +16,7 @@ use Rattle.ud_diff.specs.Patching.{Turns, stay, change}
 use Rattle.ud_diff.specs.Contexts.{context, IsKept, AreKept, AreChanges}
 use Rattle.ud_diff.specs.Scripts.{signed, signed_lines, hunk_of, between, gap, BeginsWithChange, IsNextHunk}
 use Rattle.ud_diff.proofs.ContextLemmas.{kept_range, begins_at, between_drop, changes_begin_at}
-use Rattle.ud_diff.proofs.ScriptLemmas.{signed_old-append, signed_new-append}
+use Rattle.ud_diff.proofs.ScriptLemmas.{side, side-append}
 
 -- Of a line and others that pass a test, as many pass as bytes are taken of.
 as_many : (b : Bool) (x : DiffLine) (y : SignedLine) (xs : List DiffLine) (ys : List SignedLine) →
@@ -25,44 +25,25 @@ as_many : (b : Bool) (x : DiffLine) (y : SignedLine) (xs : List DiffLine) (ys : 
 as_many true x y xs ys h = ap (λ (n : ℕ). suc n) h
 as_many false x y xs ys h = h
 
-old_filtered : (ls : List DiffLine) → length (filter (λ (l : DiffLine). is_old l.sign) ls) ≡ length (old_lines (signed_lines ls))
-old_filtered [] = refl
-old_filtered (l ∷ ls) =
-    as_many (is_old l.sign) l (signed l) (filter (λ (m : DiffLine). is_old m.sign) ls) (filter (λ (m : SignedLine). is_old m.sign) (signed_lines ls))
-    (old_filtered ls)
-
-new_filtered : (ls : List DiffLine) → length (filter (λ (l : DiffLine). is_new l.sign) ls) ≡ length (new_lines (signed_lines ls))
-new_filtered [] = refl
-new_filtered (l ∷ ls) =
-    as_many (is_new l.sign) l (signed l) (filter (λ (m : DiffLine). is_new m.sign) ls) (filter (λ (m : SignedLine). is_new m.sign) (signed_lines ls))
-    (new_filtered ls)
-
--- The number of lines of the old text.
-pub count_old_is : (ls : List DiffLine) → count_by (λ (l : DiffLine). is_old l.sign) ls ≡ length (old_lines (signed_lines ls))
-count_old_is ls = sym (length-filter (λ (l : DiffLine). is_old l.sign) ls) ∙ old_filtered ls
-
--- The number of lines of the new text.
-pub count_new_is : (ls : List DiffLine) → count_by (λ (l : DiffLine). is_new l.sign) ls ≡ length (new_lines (signed_lines ls))
-count_new_is ls = sym (length-filter (λ (l : DiffLine). is_new l.sign) ls) ∙ new_filtered ls
+-- The number of lines of one text.
+pub count_is : (is_in : Sign → Bool) (ls : List DiffLine) → count_by (λ (l : DiffLine). is_in l.sign) ls ≡ length (side is_in (signed_lines ls))
+count_is is_in ls = sym (length-filter (λ (l : DiffLine). is_in l.sign) ls) ∙ filtered ls
+  where
+    filtered : (ls : List DiffLine) → length (filter (λ (l : DiffLine). is_in l.sign) ls) ≡ length (side is_in (signed_lines ls))
+    filtered [] = refl
+    filtered (l ∷ ls) =
+        as_many (is_in l.sign) l (signed l) (filter (λ (m : DiffLine). is_in m.sign) ls) (filter (λ (m : SignedLine). is_in m.sign) (signed_lines ls)) (filtered ls)
 
 -- A test that gives nothing is false.
 gives_nothing : (b : Bool) (n : ℕ) → cond b (Some n) None ≡ None → b ≡ false
 gives_nothing true n e = cc
 gives_nothing false n e = refl
 
--- A number that isn't below another one is at least that.
-not_below : (m n : ℕ) → ltb m n ≡ false → n ≤ m
-not_below m n e = by_order (cases_lt m n)
-  where
-    by_order : (m < n) ⊎ (n ≤ m) → n ≤ m
-    by_order (inl low) = let is : ltb m n ≡ true = lt-ltb m n low in let wrong : true ≡ false = sym is ∙ e in cc
-    by_order (inr high) = high
-
 -- If no line is a change, all are kept ones.
 pub kept_none : (ls : List DiffLine) → position (λ (l : DiffLine). is_change l.sign) ls ≡ None → AreKept (signed_lines ls)
 kept_none ls e =
     let far : length ls ≤ position_or_len (λ (l : DiffLine). is_change l.sign) ls =
-    not_below (position_or_len (λ (l : DiffLine). is_change l.sign) ls) (length ls)
+    ltb-false (position_or_len (λ (l : DiffLine). is_change l.sign) ls) (length ls)
     (gives_nothing (ltb (position_or_len (λ (l : DiffLine). is_change l.sign) ls) (length ls)) (position_or_len (λ (l : DiffLine). is_change l.sign) ls) e) in
     All-map IsKept signed ls (λ k d low. fails_before_first (λ (l : DiffLine). is_change l.sign) ls k d (omega arith))
 
@@ -167,49 +148,35 @@ pub hunk_appended : (o p q : List ℕ) (m n a b : ℕ) (ls : List DiffLine) → 
     a ≡ count_by (λ (l : DiffLine). is_old l.sign) ls → b ≡ count_by (λ (l : DiffLine). is_new l.sign) ls → q ≡ o ++ hunk_text (hunk_of m n ls)
 hunk_appended o p q m n a b ls first later old new =
     later ∙ ap (λ (x : List ℕ). x ++ flat_map signed_text (signed_lines ls))
-    (first ∙ ap₂ (λ (i j : ℕ). o ++ ranges_text m i n j) (old ∙ count_old_is ls) (new ∙ count_new_is ls))
+    (first ∙ ap₂ (λ (i j : ℕ). o ++ ranges_text m i n j) (old ∙ count_is is_old ls) (new ∙ count_is is_new ls))
     ∙ append_assoc o (ranges_text m (length (old_lines (signed_lines ls))) n (length (new_lines (signed_lines ls)))) (flat_map signed_text (signed_lines ls))
 
--- A kept line is in the old text.
-kept_old_line : (sign : Sign) (bytes : List ℕ) (ls : List SignedLine) → is_change sign ≡ false →
-    old_lines (record { sign = sign; bytes = bytes } ∷ ls) ≡ bytes ∷ old_lines ls
-kept_old_line Kept bytes ls e = refl
-kept_old_line Removed bytes ls e = cc
-kept_old_line Added bytes ls e = cc
-
--- A kept line is in the new text.
-kept_new_line : (sign : Sign) (bytes : List ℕ) (ls : List SignedLine) → is_change sign ≡ false →
-    new_lines (record { sign = sign; bytes = bytes } ∷ ls) ≡ bytes ∷ new_lines ls
-kept_new_line Kept bytes ls e = refl
-kept_new_line Removed bytes ls e = cc
-kept_new_line Added bytes ls e = cc
+-- A kept line is in both texts.
+kept_line : (is_in : Sign → Bool) → is_in Kept ≡ true → (sign : Sign) (bytes : List ℕ) (ls : List SignedLine) → is_change sign ≡ false →
+    side is_in (record { sign = sign; bytes = bytes } ∷ ls) ≡ bytes ∷ side is_in ls
+kept_line is_in is Kept bytes ls e = rw is refl
+kept_line is_in is Removed bytes ls e = cc
+kept_line is_in is Added bytes ls e = cc
 
 -- The bytes of the lines.
 abbrev bytes_of : List DiffLine → List (List ℕ)
 bytes_of ls = map (λ (l : DiffLine). l.bytes.now) ls
 
--- Kept lines are all in the old text.
-kept_old : (ls : List DiffLine) → AreKept (signed_lines ls) → old_lines (signed_lines ls) ≡ bytes_of ls
-kept_old [] h = refl
-kept_old (l ∷ ls) h =
-    kept_old_line l.sign l.bytes.now (signed_lines ls) (All-head IsKept (signed l) (signed_lines ls) h)
-    ∙ ap (λ (xs : List (List ℕ)). l.bytes.now ∷ xs) (kept_old ls (All-tail IsKept (signed l) (signed_lines ls) h))
-
--- Kept lines are all in the new text.
-kept_new : (ls : List DiffLine) → AreKept (signed_lines ls) → new_lines (signed_lines ls) ≡ bytes_of ls
-kept_new [] h = refl
-kept_new (l ∷ ls) h =
-    kept_new_line l.sign l.bytes.now (signed_lines ls) (All-head IsKept (signed l) (signed_lines ls) h)
-    ∙ ap (λ (xs : List (List ℕ)). l.bytes.now ∷ xs) (kept_new ls (All-tail IsKept (signed l) (signed_lines ls) h))
+-- Kept lines are all in both texts.
+kept_side : (is_in : Sign → Bool) → is_in Kept ≡ true → (ls : List DiffLine) → AreKept (signed_lines ls) → side is_in (signed_lines ls) ≡ bytes_of ls
+kept_side is_in is [] h = refl
+kept_side is_in is (l ∷ ls) h =
+    kept_line is_in is l.sign l.bytes.now (signed_lines ls) (All-head IsKept (signed l) (signed_lines ls) h)
+    ∙ ap (λ (xs : List (List ℕ)). l.bytes.now ∷ xs) (kept_side is_in is ls (All-tail IsKept (signed l) (signed_lines ls) h))
 
 -- Hunks that turn some lines turn them with kept lines after them.
 pub turns_kept : (hunks : List Hunk) (xs ys : List DiffLine) → AreKept (signed_lines ys) → Turns hunks (old_lines (signed_lines xs)) (new_lines (signed_lines xs)) →
     Turns hunks (old_lines (signed_lines (xs ++ ys))) (new_lines (signed_lines (xs ++ ys)))
 turns_kept hunks xs ys kept t =
     subst (λ (o : List (List ℕ)). Turns hunks o (new_lines (signed_lines (xs ++ ys))))
-    (sym (signed_old-append xs ys ∙ ap (λ (o : List (List ℕ)). old_lines (signed_lines xs) ++ o) (kept_old ys kept)))
+    (sym (side-append is_old xs ys ∙ ap (λ (o : List (List ℕ)). old_lines (signed_lines xs) ++ o) (kept_side is_old refl ys kept)))
     (subst (λ (o : List (List ℕ)). Turns hunks (old_lines (signed_lines xs) ++ bytes_of ys) o)
-    (sym (signed_new-append xs ys ∙ ap (λ (o : List (List ℕ)). new_lines (signed_lines xs) ++ o) (kept_new ys kept)))
+    (sym (side-append is_new xs ys ∙ ap (λ (o : List (List ℕ)). new_lines (signed_lines xs) ++ o) (kept_side is_new refl ys kept)))
     (stay hunks (old_lines (signed_lines xs)) (new_lines (signed_lines xs)) (bytes_of ys) t))
 
 -- Hunks that turn some lines, and a hunk of further lines, turn them all.
@@ -218,21 +185,17 @@ pub turns_changed : (hunks : List Hunk) (m n : ℕ) (xs ys : List DiffLine) → 
     Turns (hunks ++ hunk_of m n ys ∷ []) (old_lines (signed_lines (xs ++ ys))) (new_lines (signed_lines (xs ++ ys)))
 turns_changed hunks m n xs ys a b t =
     subst (λ (o : List (List ℕ)). Turns (hunks ++ hunk_of m n ys ∷ []) o (new_lines (signed_lines (xs ++ ys))))
-    (sym (signed_old-append xs ys))
+    (sym (side-append is_old xs ys))
     (subst (λ (o : List (List ℕ)). Turns (hunks ++ hunk_of m n ys ∷ []) (old_lines (signed_lines xs) ++ old_lines (signed_lines ys)) o)
-    (sym (signed_new-append xs ys))
+    (sym (side-append is_new xs ys))
     (change hunks (old_lines (signed_lines xs)) (new_lines (signed_lines xs)) (hunk_of m n ys) t a b))
 
 -- Kept lines are as many in both texts.
-pub kept_length_old : (xs ys : List DiffLine) → AreKept (signed_lines ys) → length (old_lines (signed_lines (xs ++ ys))) ≡ length (old_lines (signed_lines xs)) + length ys
-kept_length_old xs ys kept =
-    ap length (signed_old-append xs ys) ∙ length-append (old_lines (signed_lines xs)) (old_lines (signed_lines ys))
-    ∙ ap (λ (n : ℕ). length (old_lines (signed_lines xs)) + n) (ap length (kept_old ys kept) ∙ length-map ys (λ (l : DiffLine). l.bytes.now))
-
-pub kept_length_new : (xs ys : List DiffLine) → AreKept (signed_lines ys) → length (new_lines (signed_lines (xs ++ ys))) ≡ length (new_lines (signed_lines xs)) + length ys
-kept_length_new xs ys kept =
-    ap length (signed_new-append xs ys) ∙ length-append (new_lines (signed_lines xs)) (new_lines (signed_lines ys))
-    ∙ ap (λ (n : ℕ). length (new_lines (signed_lines xs)) + n) (ap length (kept_new ys kept) ∙ length-map ys (λ (l : DiffLine). l.bytes.now))
+pub kept_length : (is_in : Sign → Bool) → is_in Kept ≡ true → (xs ys : List DiffLine) → AreKept (signed_lines ys) →
+    length (side is_in (signed_lines (xs ++ ys))) ≡ length (side is_in (signed_lines xs)) + length ys
+kept_length is_in is xs ys kept =
+    ap length (side-append is_in xs ys) ∙ length-append (side is_in (signed_lines xs)) (side is_in (signed_lines ys))
+    ∙ ap (λ (n : ℕ). length (side is_in (signed_lines xs)) + n) (ap length (kept_side is_in is ys kept) ∙ length-map ys (λ (l : DiffLine). l.bytes.now))
 
 -- The lines up to a later position.
 pub upto_later : (ls : List DiffLine) (i j : ℕ) → i ≤ j → take j ls ≡ take i ls ++ take (j - i) (drop i ls)
@@ -242,37 +205,26 @@ upto_later ls i j h = let so_many : j ≡ i + (j - i) = omega arith in ap (λ (n
 pub taken_length : (ls : List DiffLine) (i j : ℕ) → i ≤ j → j ≤ length ls → length (take (j - i) (drop i ls)) ≡ j - i
 taken_length ls i j h within = let all : length (drop i ls) ≡ length ls - i = length-drop i ls in length-take-le (j - i) (drop i ls) (omega arith)
 
--- The numbers of lines after a hunk.
-pub counted_old : (ls : List DiffLine) (start end : ℕ) → start ≤ end →
-    length (old_lines (signed_lines (take end ls))) ≡
-    length (old_lines (signed_lines (take start ls))) + count_by (λ (l : DiffLine). is_old l.sign) (take (end - start) (drop start ls))
-counted_old ls start end h =
-    ap (λ (xs : List DiffLine). length (old_lines (signed_lines xs))) (upto_later ls start end h)
-    ∙ ap length (signed_old-append (take start ls) (take (end - start) (drop start ls)))
-    ∙ length-append (old_lines (signed_lines (take start ls))) (old_lines (signed_lines (take (end - start) (drop start ls))))
-    ∙ ap (λ (n : ℕ). length (old_lines (signed_lines (take start ls))) + n) (sym (count_old_is (take (end - start) (drop start ls))))
-
-pub counted_new : (ls : List DiffLine) (start end : ℕ) → start ≤ end →
-    length (new_lines (signed_lines (take end ls))) ≡
-    length (new_lines (signed_lines (take start ls))) + count_by (λ (l : DiffLine). is_new l.sign) (take (end - start) (drop start ls))
-counted_new ls start end h =
-    ap (λ (xs : List DiffLine). length (new_lines (signed_lines xs))) (upto_later ls start end h)
-    ∙ ap length (signed_new-append (take start ls) (take (end - start) (drop start ls)))
-    ∙ length-append (new_lines (signed_lines (take start ls))) (new_lines (signed_lines (take (end - start) (drop start ls))))
-    ∙ ap (λ (n : ℕ). length (new_lines (signed_lines (take start ls))) + n) (sym (count_new_is (take (end - start) (drop start ls))))
-
--- No more lines are in the old text than there are.
-pub old_few : (ls : List DiffLine) (n : ℕ) → length (old_lines (signed_lines (take n ls))) ≤ n
-old_few ls n = let few : count_by (λ (l : DiffLine). is_old l.sign) (take n ls) ≤ length (take n ls) = count_by-le-length (λ (l : DiffLine). is_old l.sign) (take n ls) in
-    let some : length (take n ls) ≤ n = subst (λ (k : ℕ). k ≤ n) (sym (length-take n ls)) (omega arith) in
-    omega (arith, few, some, count_old_is (take n ls))
-
--- No more lines are in the new text than there are.
-pub new_few : (ls : List DiffLine) (n : ℕ) → length (new_lines (signed_lines (take n ls))) ≤ n
-new_few ls n = let few : count_by (λ (l : DiffLine). is_new l.sign) (take n ls) ≤ length (take n ls) = count_by-le-length (λ (l : DiffLine). is_new l.sign) (take n ls) in
-    let some : length (take n ls) ≤ n = subst (λ (k : ℕ). k ≤ n) (sym (length-take n ls)) (omega arith) in
-    omega (arith, few, some, count_new_is (take n ls))
+-- The number of lines after a hunk.
+pub counted : (is_in : Sign → Bool) (ls : List DiffLine) (start end : ℕ) → start ≤ end →
+    length (side is_in (signed_lines (take end ls))) ≡
+    length (side is_in (signed_lines (take start ls))) + count_by (λ (l : DiffLine). is_in l.sign) (take (end - start) (drop start ls))
+counted is_in ls start end h =
+    ap (λ (xs : List DiffLine). length (side is_in (signed_lines xs))) (upto_later ls start end h)
+    ∙ ap length (side-append is_in (take start ls) (take (end - start) (drop start ls)))
+    ∙ length-append (side is_in (signed_lines (take start ls))) (side is_in (signed_lines (take (end - start) (drop start ls))))
+    ∙ ap (λ (n : ℕ). length (side is_in (signed_lines (take start ls))) + n) (sym (count_is is_in (take (end - start) (drop start ls))))
 
 -- No more lines are taken than that.
 pub taken_few : (ls : List DiffLine) (n : ℕ) → length (take n ls) ≤ n
 taken_few ls n = subst (λ (k : ℕ). k ≤ n) (sym (length-take n ls)) (omega arith)
+
+-- No more lines are in one text than there are.
+pub side_few : (is_in : Sign → Bool) (ls : List DiffLine) (n : ℕ) → length (side is_in (signed_lines (take n ls))) ≤ n
+side_few is_in ls n =
+    let few : count_by (λ (l : DiffLine). is_in l.sign) (take n ls) ≤ length (take n ls) = count_by-le-length (λ (l : DiffLine). is_in l.sign) (take n ls) in
+    omega (arith, few, taken_few ls n, count_is is_in (take n ls))
+
+-- A number of lines of one text up to a position is at most that.
+pub upto_few : (is_in : Sign → Bool) (ls : List DiffLine) (at n : ℕ) → n ≡ length (side is_in (signed_lines (take at ls))) → n ≤ at
+upto_few is_in ls at n e = omega (arith, e, side_few is_in ls at)

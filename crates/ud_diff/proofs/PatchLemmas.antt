@@ -1,17 +1,18 @@
 -- Patching: hunks that turn lines into others make these of them, and turned round the first ones.
-use Rattle.std.proofs.Common.{◌≡◌, ℕ, ◌+◌, ◌-◌, Bool, true, List, [], ◌∷◌, ◌++◌, length, map, take, drop, Option, Some, None, refl, sym, ◌∙◌, ap, ap₂, subst, append_assoc, append-nil, arith, if◌then◌else◌, leb, ◌&&◌}
+use Rattle.std.proofs.Common.{◌≡◌, ℕ, ◌+◌, ◌-◌, Bool, true, false, cond, filter, List, [], ◌∷◌, ◌++◌, length, map, take, drop, Option, Some, None, refl, sym, ◌∙◌, ap, ap₂, subst, append_assoc, append-nil, arith, if◌then◌else◌, leb, ◌&&◌}
 use Rattle.std.specs.Prelude.{option_and_then, option_map, All}
-use Rattle.std.proofs.lemmas.Bool.{le-leb}
+use Rattle.std.proofs.lemmas.Bool.{le-leb, and_from}
 use Rattle.std.proofs.lemmas.List.{map-append, length-append, take_at, drop_at}
 use Rattle.std.proofs.lemmas.Slice.Eq.{bytes_eq-Decides}
 use Rattle.ud_model.specs.text.Lines.{texts_of}
 use Rattle.ud_diff.specs.declared.line.Sign.{Sign}
 use Rattle.ud_diff.specs.declared.line.Sign.TheVariants.{Kept, Removed, Added}
-use Rattle.ud_diff.specs.Hunks.{SignedLine, Hunk, old_lines, new_lines, turned_sign, turned_line, turned}
+use Rattle.ud_diff.specs.Hunks.{SignedLine, Hunk, old_lines, new_lines, is_old, is_new, turned_sign, turned_line, turned}
 use Rattle.ud_diff.specs.DiffTexts.{names_text}
 use Rattle.ud_diff.specs.Patching.{rest_after, is_within, patched_from, patched, Turns, nothing, stay, change, IsDiff}
 use Rattle.ud_diff.specs.Contexts.{HasContext}
 use Rattle.ud_diff.specs.Scripts.{IsScript, AppendsHunks}
+use Rattle.ud_diff.proofs.ScriptLemmas.{side}
 
 -- The hunks, applied to the lines `old`, before which `m` lines come, give the lines `new`, before
 -- which `n` come.
@@ -77,10 +78,6 @@ made_is inside front found f ls rest news later a b d e =
     ∙ ap (λ (x : Option (List (List ℕ))). made true ls x f news) d
     ∙ ap (λ (x : Option (List (List ℕ))). option_map (λ (w : List (List ℕ)). ls ++ (news ++ w)) x) e
 
--- Both tests pass.
-both_true : (a b : Bool) → a ≡ true → b ≡ true → (a && b) ≡ true
-both_true a b p q = ap₂ (λ (x y : Bool). x && y) p q
-
 -- Hunks that turn lines into others make these of them.
 makes : (m n : ℕ) (hunks : List Hunk) (old new : List (List ℕ)) → TurnsFrom m n hunks old new → patched_from m hunks old ≡ Some new
 makes _ _ _ _ _ (done m n ls) = refl
@@ -90,7 +87,7 @@ makes _ _ _ _ _ (next m n h hunks ls old new a b r) =
     made_is (is_within m h (ls ++ (old_lines h.lines ++ old))) (take (h.old_before - m) (ls ++ (old_lines h.lines ++ old)))
     (rest_after (old_lines h.lines) (drop (h.old_before - m) (ls ++ (old_lines h.lines ++ old))))
     (patched_from (h.old_before + length (old_lines h.lines)) hunks) ls old (new_lines h.lines) new
-    (both_true (leb m h.old_before) (leb (h.old_before - m) (length (ls ++ (old_lines h.lines ++ old))))
+    (and_from (leb m h.old_before) (leb (h.old_before - m) (length (ls ++ (old_lines h.lines ++ old))))
     (le-leb m h.old_before (omega arith)) (le-leb (h.old_before - m) (length (ls ++ (old_lines h.lines ++ old))) (omega arith)))
     (take_at ls (old_lines h.lines ++ old) (h.old_before - m) so_many)
     (ap (rest_after (old_lines h.lines)) (drop_at ls (old_lines h.lines ++ old) (h.old_before - m) so_many) ∙ rest_after_at (old_lines h.lines) old)
@@ -103,28 +100,14 @@ turns_makes hunks old new t =
     (subst (λ (hs : List Hunk). TurnsFrom 0 0 hs old new) (append-nil hunks)
     (turns_cast (append-nil old) (append-nil new) (turns_then hunks old new t [] [] [] (done (length old) (length new) []))))
 
--- A turned line is in the new text where it was in the old one.
-turned_line-old : (sign : Sign) (bytes : List ℕ) (ls ms : List SignedLine) → old_lines ms ≡ new_lines ls →
-    old_lines (record { sign = turned_sign sign; bytes = bytes } ∷ ms) ≡ new_lines (record { sign = sign; bytes = bytes } ∷ ls)
-turned_line-old Kept bytes ls ms e = ap (λ (xs : List (List ℕ)). bytes ∷ xs) e
-turned_line-old Removed bytes ls ms e = e
-turned_line-old Added bytes ls ms e = ap (λ (xs : List (List ℕ)). bytes ∷ xs) e
-
-turned_line-new : (sign : Sign) (bytes : List ℕ) (ls ms : List SignedLine) → new_lines ms ≡ old_lines ls →
-    new_lines (record { sign = turned_sign sign; bytes = bytes } ∷ ms) ≡ old_lines (record { sign = sign; bytes = bytes } ∷ ls)
-turned_line-new Kept bytes ls ms e = ap (λ (xs : List (List ℕ)). bytes ∷ xs) e
-turned_line-new Removed bytes ls ms e = ap (λ (xs : List (List ℕ)). bytes ∷ xs) e
-turned_line-new Added bytes ls ms e = e
-
--- The old lines of a turned hunk are its new ones.
+-- The lines of one text in a turned hunk are those of the other one.
 turned_old : (ls : List SignedLine) → old_lines (map turned_line ls) ≡ new_lines ls
 turned_old [] = refl
-turned_old (l ∷ ls) = turned_line-old l.sign l.bytes ls (map turned_line ls) (turned_old ls)
+turned_old (l ∷ ls) = grind (arith, turned_old ls)
 
--- The new lines of a turned hunk are its old ones.
 turned_new : (ls : List SignedLine) → new_lines (map turned_line ls) ≡ old_lines ls
 turned_new [] = refl
-turned_new (l ∷ ls) = turned_line-new l.sign l.bytes ls (map turned_line ls) (turned_new ls)
+turned_new (l ∷ ls) = grind (arith, turned_new ls)
 
 -- Turned hunks turn the new text into the old one.
 turns_back : (hunks : List Hunk) (old new : List (List ℕ)) → Turns hunks old new → Turns (map turned hunks) new old

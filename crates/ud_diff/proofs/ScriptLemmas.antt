@@ -1,5 +1,5 @@
 -- Scripts: lemmas on lines with their signs, and on scripts that are extended.
-use Rattle.std.proofs.Common.{◌≡◌, ℕ, List, [], ◌∷◌, ◌++◌, map, sym, ◌∙◌, ap, append_assoc, append-nil, filter}
+use Rattle.std.proofs.Common.{◌≡◌, ℕ, Bool, List, [], ◌∷◌, ◌++◌, map, sym, ◌∙◌, ap, append_assoc, append-nil, filter}
 use Rattle.std.proofs.lemmas.List.{map-append}
 use Rattle.std.proofs.lemmas.List.Elements.{filter-append}
 use Rattle.ud_model.specs.text.Lines.{split_lines, texts_of}
@@ -10,25 +10,16 @@ use Rattle.ud_diff.specs.declared.script.Script.{Script}
 use Rattle.ud_diff.specs.Hunks.{SignedLine, old_lines, new_lines, is_old, is_new}
 use Rattle.ud_diff.specs.Scripts.{signed, signed_lines, Extends, IsScript}
 
--- The old lines of two lists joined.
-pub old_lines-append : (xs ys : List SignedLine) → old_lines (xs ++ ys) ≡ old_lines xs ++ old_lines ys
-old_lines-append xs ys =
-    ap (map (λ (l : SignedLine). l.bytes)) (filter-append (λ (l : SignedLine). is_old l.sign) xs ys)
-    ∙ map-append (λ (l : SignedLine). l.bytes) (filter (λ (l : SignedLine). is_old l.sign) xs) (filter (λ (l : SignedLine). is_old l.sign) ys)
+-- `side is_in ls`: the lines of one text, whose signs pass its test, `is_old` or `is_new`.
+abbrev pub side : (Sign → Bool) → List SignedLine → List (List ℕ)
+side is_in ls = map (λ (l : SignedLine). l.bytes) (filter (λ (l : SignedLine). is_in l.sign) ls)
 
--- The new lines of two lists joined.
-pub new_lines-append : (xs ys : List SignedLine) → new_lines (xs ++ ys) ≡ new_lines xs ++ new_lines ys
-new_lines-append xs ys =
-    ap (map (λ (l : SignedLine). l.bytes)) (filter-append (λ (l : SignedLine). is_new l.sign) xs ys)
-    ∙ map-append (λ (l : SignedLine). l.bytes) (filter (λ (l : SignedLine). is_new l.sign) xs) (filter (λ (l : SignedLine). is_new l.sign) ys)
-
--- The old lines of two lists of the program joined.
-pub signed_old-append : (xs ys : List DiffLine) → old_lines (signed_lines (xs ++ ys)) ≡ old_lines (signed_lines xs) ++ old_lines (signed_lines ys)
-signed_old-append xs ys = ap old_lines (map-append signed xs ys) ∙ old_lines-append (signed_lines xs) (signed_lines ys)
-
--- The new lines of two lists of the program joined.
-pub signed_new-append : (xs ys : List DiffLine) → new_lines (signed_lines (xs ++ ys)) ≡ new_lines (signed_lines xs) ++ new_lines (signed_lines ys)
-signed_new-append xs ys = ap new_lines (map-append signed xs ys) ∙ new_lines-append (signed_lines xs) (signed_lines ys)
+-- The lines of one text among two lists joined.
+pub side-append : (is_in : Sign → Bool) (xs ys : List DiffLine) → side is_in (signed_lines (xs ++ ys)) ≡ side is_in (signed_lines xs) ++ side is_in (signed_lines ys)
+side-append is_in xs ys =
+    ap (side is_in) (map-append signed xs ys)
+    ∙ ap (map (λ (l : SignedLine). l.bytes)) (filter-append (λ (l : SignedLine). is_in l.sign) (signed_lines xs) (signed_lines ys))
+    ∙ map-append (λ (l : SignedLine). l.bytes) (filter (λ (l : SignedLine). is_in l.sign) (signed_lines xs)) (filter (λ (l : SignedLine). is_in l.sign) (signed_lines ys))
 
 -- A script that is extended twice is extended.
 pub extends_twice : (s t u : Script) → Extends s t → Extends t u → Extends s u
@@ -37,10 +28,10 @@ extends_twice s t u a b = record {
   lines = b.lines ∙ ap (λ (ls : List DiffLine). ls ++ b.taken) a.lines ∙ append_assoc s.lines.items a.taken b.taken;
   old = a.old ∙ ap (λ (ls : List (List ℕ)). old_lines (signed_lines a.taken) ++ ls) b.old
       ∙ sym (append_assoc (old_lines (signed_lines a.taken)) (old_lines (signed_lines b.taken)) (texts_of u.old_rest.now))
-      ∙ sym (ap (λ (ls : List (List ℕ)). ls ++ texts_of u.old_rest.now) (signed_old-append a.taken b.taken));
+      ∙ sym (ap (λ (ls : List (List ℕ)). ls ++ texts_of u.old_rest.now) (side-append is_old a.taken b.taken));
   new = a.new ∙ ap (λ (ls : List (List ℕ)). new_lines (signed_lines a.taken) ++ ls) b.new
       ∙ sym (append_assoc (new_lines (signed_lines a.taken)) (new_lines (signed_lines b.taken)) (texts_of u.new_rest.now))
-      ∙ sym (ap (λ (ls : List (List ℕ)). ls ++ texts_of u.new_rest.now) (signed_new-append a.taken b.taken));
+      ∙ sym (ap (λ (ls : List (List ℕ)). ls ++ texts_of u.new_rest.now) (side-append is_new a.taken b.taken));
 }
 
 -- An empty text has no lines.

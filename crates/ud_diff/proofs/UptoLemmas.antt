@@ -1,10 +1,12 @@
 -- Hunks so far: lemmas on the hunks of the lines up to a position of the script.
-use Rattle.std.proofs.Common.{◌≡◌, ℕ, ◌+◌, ◌-◌, ◌<◌, ◌≤◌, List, [], ◌∷◌, ◌++◌, length, take, drop, get_or, refl, sym, ◌∙◌, ap, ap₂, subst, inl, inr, ◌⊎◌, append-nil, arith}
+use Rattle.std.proofs.Common.{◌≡◌, ℕ, Bool, true, ◌+◌, ◌-◌, ◌<◌, ◌≤◌, List, [], ◌∷◌, ◌++◌, length, take, drop, get_or, refl, sym, ◌∙◌, ap, ap₂, subst, inl, inr, ◌⊎◌, append-nil, arith}
 use Rattle.std.specs.List.{flat_map, count_by, All, AllPairs}
 use Rattle.std.proofs.lemmas.Bool.{cases_lt}
 use Rattle.std.proofs.lemmas.List.{take-append-drop, take_all, flat_map_more}
 use Rattle.std.proofs.lemmas.List.Elements.{All-push}
 use Rattle.std.proofs.lemmas.List.Quantifiers.{all_pairs_push}
+use Rattle.ud_diff.specs.declared.line.Sign.{Sign}
+use Rattle.ud_diff.specs.declared.line.Sign.TheVariants.{Kept}
 use Rattle.ud_diff.specs.declared.line.DiffLine.{DiffLine}
 use Rattle.ud_diff.specs.Hunks.{SignedLine, Hunk, old_lines, new_lines, is_old, is_new}
 use Rattle.ud_diff.specs.DiffTexts.{hunk_text}
@@ -12,15 +14,12 @@ use Rattle.ud_diff.specs.Contexts.{context, AreKept, IsContext, HasContext, Begi
 use Rattle.ud_diff.specs.Patching.{Turns, nothing}
 use Rattle.ud_diff.specs.Scripts.{signed_lines, hunk_of, AppendsHunks, between, gap, IsNextHunk}
 use Rattle.ud_diff.proofs.ContextLemmas.{kept_at, kept_range, length-between, between_parts, changes_begin_at, change_far}
-use Rattle.ud_diff.proofs.HunkLemmas.{NextPlaces, next_places, turns_kept, turns_changed, kept_length_old, kept_length_new, upto_later, taken_length, counted_old, counted_new, old_few, new_few, count_old_is, count_new_is}
+use Rattle.ud_diff.proofs.ScriptLemmas.{side}
+use Rattle.ud_diff.proofs.HunkLemmas.{NextPlaces, next_places, turns_kept, turns_changed, kept_length, upto_later, taken_length, counted, side_few, count_is}
 
--- `old_upto ls i`: how many lines of the old text are before the position `i` of the script.
-abbrev pub old_upto : List DiffLine → ℕ → ℕ
-old_upto ls i = length (old_lines (signed_lines (take i ls)))
-
--- `new_upto ls i`: how many lines of the new text are before it.
-abbrev pub new_upto : List DiffLine → ℕ → ℕ
-new_upto ls i = length (new_lines (signed_lines (take i ls)))
+-- `upto is_in ls i`: how many lines of one text are before the position `i` of the script.
+abbrev pub upto : (Sign → Bool) → List DiffLine → ℕ → ℕ
+upto is_in ls i = length (side is_in (signed_lines (take i ls)))
 
 -- The lines before the next hunk are kept ones.
 kept_skipped : (ls : List DiffLine) (at start end : ℕ) → IsNextHunk ls at start end → AreKept (between at start ls)
@@ -28,58 +27,35 @@ kept_skipped ls at start end next =
     let places : NextPlaces ls at start next.first next.last end = next_places ls at start end next in
     kept_range ls at start (λ k d low high within. kept_at ls at next.first next.kept k d low (omega arith) within)
 
--- The numbers of lines up to where the next hunk begins.
-skipped_old : (ls : List DiffLine) (at start end : ℕ) → IsNextHunk ls at start end → old_upto ls start ≡ old_upto ls at + (start - at)
-skipped_old ls at start end next =
+-- The number of lines up to where the next hunk begins.
+skipped : (is_in : Sign → Bool) → is_in Kept ≡ true → (ls : List DiffLine) (at start end : ℕ) → IsNextHunk ls at start end → upto is_in ls start ≡ upto is_in ls at + (start - at)
+skipped is_in is ls at start end next =
     let places : NextPlaces ls at start next.first next.last end = next_places ls at start end next in
-    ap (λ (xs : List DiffLine). length (old_lines (signed_lines xs))) (upto_later ls at start places.after)
-    ∙ kept_length_old (take at ls) (take (start - at) (drop at ls)) (kept_skipped ls at start end next)
-    ∙ ap (λ (n : ℕ). old_upto ls at + n) (taken_length ls at start places.after (omega arith))
+    ap (λ (xs : List DiffLine). length (side is_in (signed_lines xs))) (upto_later ls at start places.after)
+    ∙ kept_length is_in is (take at ls) (take (start - at) (drop at ls)) (kept_skipped ls at start end next)
+    ∙ ap (λ (n : ℕ). upto is_in ls at + n) (taken_length ls at start places.after (omega arith))
 
-skipped_new : (ls : List DiffLine) (at start end : ℕ) → IsNextHunk ls at start end → new_upto ls start ≡ new_upto ls at + (start - at)
-skipped_new ls at start end next =
+-- The number of lines of one text after the next hunk.
+pub after_hunk : (is_in : Sign → Bool) → is_in Kept ≡ true → (ls : List DiffLine) (at start end m k : ℕ) → IsNextHunk ls at start end → m ≡ upto is_in ls at →
+    k ≡ count_by (λ (l : DiffLine). is_in l.sign) (take (end - start) (drop start ls)) → m + (start - at) + k ≡ upto is_in ls end
+after_hunk is_in is ls at start end m k next a b =
     let places : NextPlaces ls at start next.first next.last end = next_places ls at start end next in
-    ap (λ (xs : List DiffLine). length (new_lines (signed_lines xs))) (upto_later ls at start places.after)
-    ∙ kept_length_new (take at ls) (take (start - at) (drop at ls)) (kept_skipped ls at start end next)
-    ∙ ap (λ (n : ℕ). new_upto ls at + n) (taken_length ls at start places.after (omega arith))
+    ap₂ (λ (x y : ℕ). x + y) (ap (λ (x : ℕ). x + (start - at)) a ∙ sym (skipped is_in is ls at start end next)) b ∙ sym (counted is_in ls start end (omega arith))
 
--- The number of lines of the old text after the next hunk.
-pub after_hunk_old : (ls : List DiffLine) (at start end m k : ℕ) → IsNextHunk ls at start end → m ≡ old_upto ls at →
-    k ≡ count_by (λ (l : DiffLine). is_old l.sign) (take (end - start) (drop start ls)) → m + (start - at) + k ≡ old_upto ls end
-after_hunk_old ls at start end m k next a b =
-    let places : NextPlaces ls at start next.first next.last end = next_places ls at start end next in
-    ap₂ (λ (x y : ℕ). x + y) (ap (λ (x : ℕ). x + (start - at)) a ∙ sym (skipped_old ls at start end next)) b ∙ sym (counted_old ls start end (omega arith))
-
--- The number of lines of the new text after the next hunk.
-pub after_hunk_new : (ls : List DiffLine) (at start end m k : ℕ) → IsNextHunk ls at start end → m ≡ new_upto ls at →
-    k ≡ count_by (λ (l : DiffLine). is_new l.sign) (take (end - start) (drop start ls)) → m + (start - at) + k ≡ new_upto ls end
-after_hunk_new ls at start end m k next a b =
-    let places : NextPlaces ls at start next.first next.last end = next_places ls at start end next in
-    ap₂ (λ (x y : ℕ). x + y) (ap (λ (x : ℕ). x + (start - at)) a ∙ sym (skipped_new ls at start end next)) b ∙ sym (counted_new ls start end (omega arith))
-
--- The next hunk ends there in both texts.
-ends_old : (ls : List DiffLine) (at start end m n : ℕ) → IsNextHunk ls at start end → m ≡ old_upto ls at + (start - at) →
-    old_end (hunk_of m n (take (end - start) (drop start ls))) ≡ old_upto ls end
-ends_old ls at start end m n next a =
-    ap (λ (k : ℕ). k + length (old_lines (between start end ls))) a
-    ∙ after_hunk_old ls at start end (old_upto ls at) (length (old_lines (between start end ls))) next refl (sym (count_old_is (take (end - start) (drop start ls))))
-
-ends_new : (ls : List DiffLine) (at start end m n : ℕ) → IsNextHunk ls at start end → n ≡ new_upto ls at + (start - at) →
-    new_end (hunk_of m n (take (end - start) (drop start ls))) ≡ new_upto ls end
-ends_new ls at start end m n next b =
-    ap (λ (k : ℕ). k + length (new_lines (between start end ls))) b
-    ∙ after_hunk_new ls at start end (new_upto ls at) (length (new_lines (between start end ls))) next refl (sym (count_new_is (take (end - start) (drop start ls))))
+-- The next hunk ends there in each text.
+ends_at : (is_in : Sign → Bool) → is_in Kept ≡ true → (ls : List DiffLine) (at start end m : ℕ) → IsNextHunk ls at start end → m ≡ upto is_in ls at + (start - at) →
+    m + length (side is_in (between start end ls)) ≡ upto is_in ls end
+ends_at is_in is ls at start end m next a =
+    ap (λ (k : ℕ). k + length (side is_in (between start end ls))) a
+    ∙ after_hunk is_in is ls at start end (upto is_in ls at) (length (side is_in (between start end ls))) next refl (sym (count_is is_in (take (end - start) (drop start ls))))
 
 -- More lines have come at a later position.
-old_more : (ls : List DiffLine) (i j : ℕ) → i ≤ j → old_upto ls i ≤ old_upto ls j
-old_more ls i j h = omega (arith, counted_old ls i j h)
-
-new_more : (ls : List DiffLine) (i j : ℕ) → i ≤ j → new_upto ls i ≤ new_upto ls j
-new_more ls i j h = omega (arith, counted_new ls i j h)
+upto_more : (is_in : Sign → Bool) (ls : List DiffLine) (i j : ℕ) → i ≤ j → upto is_in ls i ≤ upto is_in ls j
+upto_more is_in ls i j h = omega (arith, counted is_in ls i j h)
 
 -- The hunk `h` ends before the position `at` of the script.
 abbrev HasPassed : List DiffLine → ℕ → Hunk → Type 0
-HasPassed ls at h = (0 < at) × (old_end h ≤ old_upto ls at) × (new_end h ≤ new_upto ls at)
+HasPassed ls at h = (0 < at) × (old_end h ≤ upto is_old ls at) × (new_end h ≤ upto is_new ls at)
 
 -- After the last hunk is a line of its own, before the next context.
 abbrev IsClear : List DiffLine → ℕ → Type 0
@@ -116,7 +92,7 @@ changes_far ls at start end next clear some =
 
 -- The context before the changes of the next hunk.
 begins_in_context : (ls : List DiffLine) (at start end m n : ℕ) (next : IsNextHunk ls at start end) → IsClear ls at →
-    m ≡ old_upto ls at + (start - at) → n ≡ new_upto ls at + (start - at) →
+    m ≡ upto is_old ls at + (start - at) → n ≡ upto is_new ls at + (start - at) →
     IsContext (between start next.first ls) (BeginsTexts (hunk_of m n (take (end - start) (drop start ls))))
 begins_in_context ls at start end m n next clear a b =
     let places : NextPlaces ls at start next.first next.last end = next_places ls at start end next in
@@ -135,12 +111,12 @@ begins_in_context ls at start end m n next clear a b =
         absurd (omega arith)
     by_order (inr none) short =
         let starts = next.starts in
-        let old : old_upto ls at ≤ at = old_few ls at in
-        let new : new_upto ls at ≤ at = new_few ls at in (omega arith, omega arith)
+        let old : upto is_old ls at ≤ at = side_few is_old ls at in
+        let new : upto is_new ls at ≤ at = side_few is_new ls at in (omega arith, omega arith)
 
 -- The context after the changes of the next hunk.
 ends_in_context : (ls : List DiffLine) (at start end m n : ℕ) (next : IsNextHunk ls at start end) →
-    m ≡ old_upto ls at + (start - at) → n ≡ new_upto ls at + (start - at) →
+    m ≡ upto is_old ls at + (start - at) → n ≡ upto is_new ls at + (start - at) →
     IsContext (between next.last end ls) (EndsTexts (old_lines (signed_lines ls)) (new_lines (signed_lines ls)) (hunk_of m n (take (end - start) (drop start ls))))
 ends_in_context ls at start end m n next a b =
     let places : NextPlaces ls at start next.first next.last end = next_places ls at start end next in
@@ -149,14 +125,14 @@ ends_in_context ls at start end m n next a b =
       few = omega arith;
       fewer = λ short. let ends = next.ends in let last : length ls ≤ end = omega arith in
           let whole : take end ls ≡ ls = take_all end ls last in (
-            ends_old ls at start end m n next a ∙ ap (λ (xs : List DiffLine). length (old_lines (signed_lines xs))) whole,
-            ends_new ls at start end m n next b ∙ ap (λ (xs : List DiffLine). length (new_lines (signed_lines xs))) whole,
+            ends_at is_old refl ls at start end m next a ∙ ap (λ (xs : List DiffLine). length (old_lines (signed_lines xs))) whole,
+            ends_at is_new refl ls at start end n next b ∙ ap (λ (xs : List DiffLine). length (new_lines (signed_lines xs))) whole,
           );
     }
 
 -- The next hunk has a context.
 has_context : (ls : List DiffLine) (at start end m n : ℕ) → IsNextHunk ls at start end → IsClear ls at →
-    m ≡ old_upto ls at + (start - at) → n ≡ new_upto ls at + (start - at) →
+    m ≡ upto is_old ls at + (start - at) → n ≡ upto is_new ls at + (start - at) →
     HasContext (old_lines (signed_lines ls)) (new_lines (signed_lines ls)) (hunk_of m n (take (end - start) (drop start ls)))
 has_context ls at start end m n next clear a b =
     let places : NextPlaces ls at start next.first next.last end = next_places ls at start end next in record {
@@ -172,7 +148,7 @@ has_context ls at start end m n next clear a b =
 
 -- The hunks so far are before the next one.
 passed_before : (ls : List DiffLine) (at start end m n : ℕ) (h : Hunk) → IsNextHunk ls at start end → IsClear ls at →
-    m ≡ old_upto ls at + (start - at) → n ≡ new_upto ls at + (start - at) → HasPassed ls at h →
+    m ≡ upto is_old ls at + (start - at) → n ≡ upto is_new ls at + (start - at) → HasPassed ls at h →
     IsBefore h (hunk_of m n (take (end - start) (drop start ls)))
 passed_before ls at start end m n h next clear a b passed =
     let far : at + context + 1 ≤ next.first = changes_far ls at start end next clear passed.0 in
@@ -188,30 +164,30 @@ clear_after ls at start end next some =
 
 -- The hunks so far, and the next one, which is appended with the numbers of lines before it.
 pub hunks_more : (ls : List DiffLine) (at start end m n : ℕ) (o p q : List ℕ) → IsNextHunk ls at start end → HunksUpto ls at o p →
-    m ≡ old_upto ls at + (start - at) → n ≡ new_upto ls at + (start - at) →
+    m ≡ upto is_old ls at + (start - at) → n ≡ upto is_new ls at + (start - at) →
     q ≡ p ++ hunk_text (hunk_of m n (take (end - start) (drop start ls))) → HunksUpto ls end o q
 hunks_more ls at start end m n o p q next h a b e =
     let places : NextPlaces ls at start next.first next.last end = next_places ls at start end next in
     let hunk : Hunk = hunk_of m n (take (end - start) (drop start ls)) in
-    let skipped : Turns h.hunks (old_lines (signed_lines (take start ls))) (new_lines (signed_lines (take start ls))) =
+    let before : Turns h.hunks (old_lines (signed_lines (take start ls))) (new_lines (signed_lines (take start ls))) =
     subst (λ (xs : List DiffLine). Turns h.hunks (old_lines (signed_lines xs)) (new_lines (signed_lines xs))) (sym (upto_later ls at start places.after))
     (turns_kept h.hunks (take at ls) (take (start - at) (drop at ls)) (kept_skipped ls at start end next) h.turns) in record {
       hunks = h.hunks ++ hunk ∷ [];
       printed = e ∙ ap (λ (x : List ℕ). x ++ hunk_text hunk) h.printed ∙ flat_map_more hunk_text o h.hunks hunk;
       turns = subst (λ (xs : List DiffLine). Turns (h.hunks ++ hunk ∷ []) (old_lines (signed_lines xs)) (new_lines (signed_lines xs)))
           (sym (upto_later ls start end (omega arith)))
-          (turns_changed h.hunks m n (take start ls) (take (end - start) (drop start ls)) (a ∙ sym (skipped_old ls at start end next))
-          (b ∙ sym (skipped_new ls at start end next)) skipped);
+          (turns_changed h.hunks m n (take start ls) (take (end - start) (drop start ls)) (a ∙ sym (skipped is_old refl ls at start end next))
+          (b ∙ sym (skipped is_new refl ls at start end next)) before);
       in_context = All-push (HasContext (old_lines (signed_lines ls)) (new_lines (signed_lines ls))) h.hunks hunk h.in_context
           (has_context ls at start end m n next h.clear a b);
       apart = all_pairs_push IsBefore h.hunks hunk h.apart
           (λ k d inside. passed_before ls at start end m n (get_or h.hunks k d) next h.clear a b (h.passed k d inside));
       passed = All-push (HasPassed ls end) h.hunks hunk
           (λ k d inside. let was = h.passed k d inside in let old = was.1 in let new = was.2 in
-          let more_old : old_upto ls at ≤ old_upto ls end = old_more ls at end (omega arith) in
-          let more_new : new_upto ls at ≤ new_upto ls end = new_more ls at end (omega arith) in (omega arith, omega arith, omega arith))
-          (let old : old_end hunk ≡ old_upto ls end = ends_old ls at start end m n next a in
-          let new : new_end hunk ≡ new_upto ls end = ends_new ls at start end m n next b in (omega arith, omega arith, omega arith));
+          let more_old : upto is_old ls at ≤ upto is_old ls end = upto_more is_old ls at end (omega arith) in
+          let more_new : upto is_new ls at ≤ upto is_new ls end = upto_more is_new ls at end (omega arith) in (omega arith, omega arith, omega arith))
+          (let old : old_end hunk ≡ upto is_old ls end = ends_at is_old refl ls at start end m next a in
+          let new : new_end hunk ≡ upto is_new ls end = ends_at is_new refl ls at start end n next b in (omega arith, omega arith, omega arith));
       clear = clear_after ls at start end next;
     }
 

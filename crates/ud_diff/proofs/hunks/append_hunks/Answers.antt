@@ -3,8 +3,8 @@ use Rattle.std.proofs.Common.{ℕ, ◌+◌, ◌-◌, ◌≤◌, List, take, drop
 use Rattle.std.proofs.lemmas.List.Sums.{count_by-le-length}
 use Rattle.ud_diff.specs.declared.line.DiffLine.{DiffLine}
 use Rattle.ud_diff.specs.Hunks.{is_old, is_new}
-use Rattle.ud_diff.proofs.HunkLemmas.{old_few, new_few, taken_few}
-use Rattle.ud_diff.proofs.UptoLemmas.{hunks_none, hunks_more, hunks_all, after_hunk_old, after_hunk_new}
+use Rattle.ud_diff.proofs.HunkLemmas.{upto_few, taken_few}
+use Rattle.ud_diff.proofs.UptoLemmas.{hunks_none, hunks_more, hunks_all, after_hunk}
 use Rattle.ud_diff.proofs.hunks.append_hunks.Goals as goal
 
 pub loop-start-init : goal.loop-start-init
@@ -12,41 +12,37 @@ loop-start-init c = (omega arith, hunks_none c.args.script.now c.args.out.now.it
 
 pub overflow_add-old_before : goal.overflow_add-old_before
 overflow_add-old_before c =
-    let few : c.loop-start.old_before ≤ c.loop-start.at = subst (λ (n : ℕ). n ≤ c.loop-start.at) (sym c.loop-start.invariant.2) (old_few c.args.script.now c.loop-start.at) in
+    let few = upto_few is_old c.args.script.now c.loop-start.at c.loop-start.old_before c.loop-start.invariant.2 in
     omega (arith, c.in-Some.ensures.after, c.in-Some.ensures.some, c.in-Some.ensures.fits)
 
 pub overflow_add-new_before : goal.overflow_add-new_before
 overflow_add-new_before c =
-    let few : c.loop-start.new_before ≤ c.loop-start.at = subst (λ (n : ℕ). n ≤ c.loop-start.at) (sym c.loop-start.invariant.3) (new_few c.args.script.now c.loop-start.at) in
+    let few = upto_few is_new c.args.script.now c.loop-start.at c.loop-start.new_before c.loop-start.invariant.3 in
     omega (arith, c.in-Some.ensures.after, c.in-Some.ensures.some, c.in-Some.ensures.fits)
 
 pub append_hunk-requires-clause-old : goal.append_hunk-requires-clause-old
 append_hunk-requires-clause-old c =
-    let few : c.loop-start.old_before ≤ c.loop-start.at = subst (λ (n : ℕ). n ≤ c.loop-start.at) (sym c.loop-start.invariant.2) (old_few c.args.script.now c.loop-start.at) in
+    let few = upto_few is_old c.args.script.now c.loop-start.at c.loop-start.old_before c.loop-start.invariant.2 in
     omega (arith, c.in-Some.ensures.after, c.in-Some.ensures.some, c.in-Some.ensures.fits, taken_few (drop c.in-Some.start c.args.script.now) (c.in-Some.end - c.in-Some.start))
 
 pub append_hunk-requires-clause-new : goal.append_hunk-requires-clause-new
 append_hunk-requires-clause-new c =
-    let few : c.loop-start.new_before ≤ c.loop-start.at = subst (λ (n : ℕ). n ≤ c.loop-start.at) (sym c.loop-start.invariant.3) (new_few c.args.script.now c.loop-start.at) in
+    let few = upto_few is_new c.args.script.now c.loop-start.at c.loop-start.new_before c.loop-start.invariant.3 in
     omega (arith, c.in-Some.ensures.after, c.in-Some.ensures.some, c.in-Some.ensures.fits, taken_few (drop c.in-Some.start c.args.script.now) (c.in-Some.end - c.in-Some.start))
 
 pub overflow_add-old_before-in-Some : goal.overflow_add-old_before-in-Some
 overflow_add-old_before-in-Some c =
-    let few : c.loop-start.old_before ≤ c.loop-start.at = subst (λ (n : ℕ). n ≤ c.loop-start.at) (sym c.loop-start.invariant.2) (old_few c.args.script.now c.loop-start.at) in
+    let few = upto_few is_old c.args.script.now c.loop-start.at c.loop-start.old_before c.loop-start.invariant.2 in
     let lines : List DiffLine = take (c.in-Some.end - c.in-Some.start) (drop c.in-Some.start c.args.script.now) in
-    let counted : c.count_old-old_before.result ≤ length lines =
-    subst (λ (n : ℕ). n ≤ length lines) (sym c.count_old-old_before.ensures) (count_by-le-length (λ (l : DiffLine). is_old l.sign) lines) in
-    let taken : length lines ≤ c.in-Some.end - c.in-Some.start = taken_few (drop c.in-Some.start c.args.script.now) (c.in-Some.end - c.in-Some.start) in
-    omega (arith, c.in-Some.ensures.after, c.in-Some.ensures.some, c.in-Some.ensures.fits)
+    let counted = count_by-le-length (λ (l : DiffLine). is_old l.sign) lines in
+    omega (arith, c.count_old-old_before.ensures, c.in-Some.ensures.after, c.in-Some.ensures.some, c.in-Some.ensures.fits, taken_few (drop c.in-Some.start c.args.script.now) (c.in-Some.end - c.in-Some.start))
 
 pub overflow_add-new_before-in-Some : goal.overflow_add-new_before-in-Some
 overflow_add-new_before-in-Some c =
-    let few : c.loop-start.new_before ≤ c.loop-start.at = subst (λ (n : ℕ). n ≤ c.loop-start.at) (sym c.loop-start.invariant.3) (new_few c.args.script.now c.loop-start.at) in
+    let few = upto_few is_new c.args.script.now c.loop-start.at c.loop-start.new_before c.loop-start.invariant.3 in
     let lines : List DiffLine = take (c.in-Some.end - c.in-Some.start) (drop c.in-Some.start c.args.script.now) in
-    let counted : c.count_new-new_before.result ≤ length lines =
-    subst (λ (n : ℕ). n ≤ length lines) (sym c.count_new-new_before.ensures) (count_by-le-length (λ (l : DiffLine). is_new l.sign) lines) in
-    let taken : length lines ≤ c.in-Some.end - c.in-Some.start = taken_few (drop c.in-Some.start c.args.script.now) (c.in-Some.end - c.in-Some.start) in
-    omega (arith, c.in-Some.ensures.after, c.in-Some.ensures.some, c.in-Some.ensures.fits)
+    let counted = count_by-le-length (λ (l : DiffLine). is_new l.sign) lines in
+    omega (arith, c.count_new-new_before.ensures, c.in-Some.ensures.after, c.in-Some.ensures.some, c.in-Some.ensures.fits, taken_few (drop c.in-Some.start c.args.script.now) (c.in-Some.end - c.in-Some.start))
 
 pub loop-start-preserved : goal.loop-start-preserved
 loop-start-preserved c = (
@@ -55,9 +51,9 @@ loop-start-preserved c = (
       (c.loop-start.new_before + (c.in-Some.start - c.loop-start.at)) c.args.out.now.items c.loop-start.out.items c.append_hunk.new.out.items c.in-Some.ensures.next
       c.loop-start.invariant.1 (ap (λ (n : ℕ). n + (c.in-Some.start - c.loop-start.at)) c.loop-start.invariant.2)
       (ap (λ (n : ℕ). n + (c.in-Some.start - c.loop-start.at)) c.loop-start.invariant.3) c.in_ok-append_hunk.ensures,
-  after_hunk_old c.args.script.now c.loop-start.at c.in-Some.start c.in-Some.end c.loop-start.old_before c.count_old-old_before.result c.in-Some.ensures.next
+  after_hunk is_old refl c.args.script.now c.loop-start.at c.in-Some.start c.in-Some.end c.loop-start.old_before c.count_old-old_before.result c.in-Some.ensures.next
       c.loop-start.invariant.2 c.count_old-old_before.ensures,
-  after_hunk_new c.args.script.now c.loop-start.at c.in-Some.start c.in-Some.end c.loop-start.new_before c.count_new-new_before.result c.in-Some.ensures.next
+  after_hunk is_new refl c.args.script.now c.loop-start.at c.in-Some.start c.in-Some.end c.loop-start.new_before c.count_new-new_before.result c.in-Some.ensures.next
       c.loop-start.invariant.3 c.count_new-new_before.ensures,
 )
 
