@@ -1,6 +1,8 @@
 -- The files after each call of a replacement, if all answers are true.
 use Rattle.std.proofs.Common.{◌≡◌, ◌⊎◌, inl, inr, ℕ, List, [], ◌∷◌, Bool, true, false, Option, Some, None, Result, Ok, Err, refl, sym, ap, ◌∙◌, subst, true≢false}
 use Rattle.std.specs.Prelude.{bytes_eq, if◌then◌else◌}
+use Rattle.std.proofs.lemmas.Bool.{cond-true, cond-false}
+use Rattle.std.proofs.lemmas.Option.{same_Some}
 use Rattle.ud_replace.specs.declared.error.Update.{Update}
 use Rattle.ud_replace.specs.declared.error.ReplaceError.{ReplaceError}
 use Rattle.ud_replace.specs.declared.node.FileId.{FileId}
@@ -14,7 +16,7 @@ use Rattle.ud_replace.specs.Replacing.{Renames, renames, removes, unrenamed, unr
 use Rattle.ud_replace.specs.Replacing.{Puts, several, read_only, one_link, several_writes}
 use Rattle.ud_replace.specs.Replacing.{Judges, no_memory, faulty, same, differs, Replaces, unread, other_file, judged}
 use Rattle.ud_replace.specs.Moments.{Files, content, AreTrue, EachCall, no_call, then_call, HasOutput, OldOrNew, touches}
-use Rattle.ud_replace.proofs.CallLemmas.{if_false, if_true, same_name, name_of_test, untouched, extended}
+use Rattle.ud_replace.proofs.CallLemmas.{same_name, name_of_test, untouched, extended}
 
 -- each call so far left each file as it was after `old`
 record Quiet (o : TextOptions) (name : List ℕ) (first : Files) (old calls : List Call) : Type 0 where
@@ -142,9 +144,6 @@ true_fills first (not_synced taken h is) t = true_appends first h (true_at first
 true_fills first (not_confirmed e taken h l) t = true_filled first taken h l t
 true_fills first (not_renamed taken seen h l is) t = true_filled first taken h l (true_at first is t).1
 
-some_is : (a b : List ℕ) → Some a ≡ Some b → a ≡ b
-some_is a b e = cc
-
 -- the name of the fresh file was free, so no file had it
 apart : (fresh : List ℕ) {o : TextOptions} {name : List ℕ} {first : Files} {old calls : List Call} → Quiet o name first old calls → content first calls fresh ≡ None → Apart first old fresh
 apart fresh {first = first} {calls = calls} q free n bytes h = by_test (bytes_eq n fresh) refl
@@ -166,18 +165,18 @@ renamed_moment {o = o} {name = name} {text = text} fresh first {old = old} {call
     by_test : (b : Bool) → bytes_eq n name ≡ b →
         (content first (renamed fresh name true ∷ calls) n ≡ Some bytes) ⊎ ((n ≡ name) × HasOutput o bytes (content first (renamed fresh name true ∷ calls) n))
     by_test false e =
-        inl (if_false (bytes_eq n name) (content first calls fresh) (if bytes_eq n fresh then None else content first calls n) e
-        ∙ if_false (bytes_eq n fresh) None (content first calls n) (away n bytes h) ∙ q.kept n bytes h)
+        inl (cond-false (bytes_eq n name) (content first calls fresh) (if bytes_eq n fresh then None else content first calls n) e
+        ∙ cond-false (bytes_eq n fresh) None (content first calls n) (away n bytes h) ∙ q.kept n bytes h)
     by_test true e =
         let own : n ≡ name = name_of_test n name e in
-        let same_text : bytes ≡ text = some_is bytes text (sym h ∙ ap (content first old) own ∙ read) in
+        let same_text : bytes ≡ text = same_Some bytes text (sym h ∙ ap (content first old) own ∙ read) in
         inr (
           own,
           record {
             outcome = a;
             has = subst (λ (t : List ℕ). HasTextOutcome o t a) (sym same_text) has;
             no_fault = sound;
-            is_output = if_true (bytes_eq n name) (content first calls fresh) (if bytes_eq n fresh then None else content first calls n) e ∙ full;
+            is_output = cond-true (bytes_eq n name) (content first calls fresh) (if bytes_eq n fresh then None else content first calls n) e ∙ full;
           },
         )
 
@@ -199,7 +198,7 @@ moments_filled {fresh = fresh} {first = first} {base = base} a has sound read q 
     let free = (true_fills first (filled taken seen h l is) t).0 in
     let away = apart fresh q free in
     let quiet = quiet_filled taken away (quiet_made away q) h l in
-    let empty = if_true (bytes_eq fresh fresh) (Some []) (content first base fresh) (same_name fresh) in
+    let empty = cond-true (bytes_eq fresh fresh) (Some []) (content first base fresh) (same_name fresh) in
     let full = bytes_of_confirms fresh first (bytes_of_appends fresh first empty h) l in
     moments_at is (then_call quiet.each (renamed_moment fresh first a has sound read away quiet full))
 
