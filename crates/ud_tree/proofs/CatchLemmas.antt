@@ -1,9 +1,10 @@
 -- Parts of a walk that take each regular file that they meet, one after another.
 use Rattle.std.proofs.Common.{◌≡◌, ◌⊎◌, inl, inr, ℕ, List, [], ◌∷◌, ◌++◌, map, Bool, true, false, refl, sym, ap, ◌∙◌, subst, arith, append_assoc}
 use Rattle.std.proofs.lemmas.List.{map-append}
-use Rattle.std.proofs.lemmas.List.Elements.{All-weaker, All-contains, All-contains_itself, Contains-append_left, Contains-append_cases, Contains-push_cases}
+use Rattle.std.proofs.lemmas.List.Elements.{All-weaker, All-contains, All-contains_itself, Contains-append_left, Contains-append_cases}
 use Rattle.std.specs.List.{All, Contains}
 use Rattle.std.specs.Prelude.{string_bytes}
+use Rattle.std.proofs.lemmas.Grind.{common_steps}
 use Rattle.ud_replace.specs.declared.node.Lookup.{Lookup}
 use Rattle.ud_replace.specs.declared.node.Lookup.TheVariants.{Present}
 use Rattle.ud_replace.specs.declared.node.Node.{Node}
@@ -46,11 +47,7 @@ taken_later w v h path id (inr left) = inr (subst (λ ps. IsLeft (map string_byt
 -- A file whose name isn't chosen is taken.
 pub taken_left : (w : Walk) (path : List ℕ) (id : FileId) (chosen : Bool) (name : List ℕ) → (¬ (map string_bytes w.patterns.now ≡ []) → IsChosen (map string_bytes w.patterns.now) name → chosen ≡ true) →
     chosen ≡ false → name ≡ last_name path → IsTaken w path id
-taken_left w path id chosen name h is named = inr (λ some here.
-    let wrong : true ≡ false = sym (h some (subst (IsChosen (map string_bytes w.patterns.now)) (sym named) here)) ∙ is in absurd (elim_wrong wrong))
-  where
-    elim_wrong : true ≡ false → ⊥
-    elim_wrong e = cc
+taken_left w path id chosen name h is named = grind (arith, common_steps)
 
 -- Nothing was asked.
 pub catches_none : (calls : List Call) (w v : Walk) → Grows w v → Catches calls calls w v
@@ -58,11 +55,7 @@ catches_none calls w v h = record { calls = []; are = refl; grows = h; taken = �
 
 -- A list of one call has no other.
 only_call : (w x : WalkCall) → Contains (w ∷ []) x → w ≡ x
-only_call w x h = by_case (Contains-push_cases [] w x h)
-  where
-    by_case : Contains [] x ⊎ (w ≡ x) → w ≡ x
-    by_case (inl none) = absurd (omega (arith, none.1))
-    by_case (inr is) = is
+only_call w x h = grind arith
 
 -- One call was made, which met no regular file, or one that is taken.
 pub catches_met : (at : List ℕ) (answer : Lookup) {old new : List Call} (w v : Walk) → new ≡ walked (met at answer) ∷ old → Grows w v →

@@ -1,9 +1,10 @@
 -- Parts of a walk that miss no name, one after another.
-use Rattle.std.proofs.Common.{◌≡◌, ◌⊎◌, inl, inr, ℕ, ◌+◌, ◌<◌, ◌≤◌, ◌^◌, List, [], ◌∷◌, ◌++◌, length, map, take, get_or, Bool, true, Option, Some, Result, refl, sym, ap, ◌∙◌, subst, arith, append_assoc, length-append}
+use Rattle.std.proofs.Common.{◌≡◌, ◌⊎◌, inl, inr, ℕ, ◌+◌, ◌<◌, ◌≤◌, ◌^◌, List, [], ◌∷◌, ◌++◌, length, map, take, get_or, Bool, true, Option, Some, Result, refl, sym, ap, ◌∙◌, subst, arith, length-append, rules}
 use Rattle.std.proofs.lemmas.List.{map-append, append_cancel_right, take_more, take_all}
 use Rattle.std.proofs.lemmas.List.Elements.{All-weaker, All-contains, All-contains_itself, All-nil, All-push, Contains-append_left, Contains-append_right, Contains-append_cases, Contains-push, Contains-push_cases}
 use Rattle.std.specs.List.{All, Contains}
-use Rattle.std.specs.Prelude.{OnOk, Ok, Err, IsUtf8, option_to_list, string_bytes}
+use Rattle.std.specs.Prelude.{OnOk, IsUtf8, option_to_list, string_bytes}
+use Rattle.std.proofs.lemmas.Grind.{common_steps}
 use Rattle.ud_replace.specs.declared.node.Lookup.{Lookup}
 use Rattle.ud_replace.specs.declared.node.Lookup.TheVariants.{Present}
 use Rattle.ud_replace.specs.declared.node.Node.{Node}
@@ -53,8 +54,7 @@ visits_within {p = p} {q = q} {folder = folder} name w d e (was_met answer seen 
 
 visits_all_within : {xs ys : List WalkCall} {p q : List ℕ → Type 0} {s t : Type 0} {folder : List ℕ} (names : List (List ℕ)) → Within xs ys → ((path : List ℕ) → p path → q path) → (s → t) →
     All (Visits xs p s folder) names → All (Visits ys q t folder) names
-visits_all_within {xs = xs} {ys = ys} {p = p} {q = q} {s = s} {t = t} {folder = folder} names w d e h =
-    All-weaker (Visits xs p s folder) (Visits ys q t folder) (λ name k. visits_within name w d e k) names h
+visits_all_within names w d e h = search (rules, All-weaker, visits_within)
 
 -- A path of the command line that can be taken stays so.
 pub begins_within : {xs ys : List WalkCall} {p q : List ℕ → Type 0} {path : List ℕ} → Within xs ys → ((path : List ℕ) → p path → q path) → Begins xs p path → Begins ys q path
@@ -98,11 +98,7 @@ lists_none folder names answer h = omega (arith, h.1)
 
 -- A list of one call has no other.
 only_one : (w x : WalkCall) → Contains (w ∷ []) x → w ≡ x
-only_one w x h = by_case (Contains-push_cases [] w x h)
-  where
-    by_case : Contains [] x ⊎ (w ≡ x) → w ≡ x
-    by_case (inl none) = absurd (omega (arith, none.1))
-    by_case (inr is) = is
+only_one w x h = grind arith
 
 lists_no_more : (w : WalkCall) (ws : List WalkCall) → ((folder : List ℕ) (names : List (List ℕ)) (answer : Bool) → ¬ (w ≡ listed folder names answer)) → ListsNone ws → ListsNone (w ∷ ws)
 lists_no_more w ws other h folder names answer there = by_case (Contains-append_cases (w ∷ []) ws (listed folder names answer) there)
@@ -144,8 +140,7 @@ waits_equal : {folders folders' : List (List ℕ)} → folders' ≡ folders → 
 waits_equal is folder there = subst (λ (fs : List (List ℕ)). Contains fs folder) (sym is) there
 
 pub waits_more : {path : List ℕ} {folders folders' : List (List ℕ)} → Waits path folders folders' → Within folders folders'
-waits_more {folders = folders} h folder there =
-    subst (λ (fs : List (List ℕ)). Contains fs folder) (sym h.grown) (Contains-append_left folders (h.folder ∷ []) folder there)
+waits_more h folder there = grind (arith, common_steps, Contains-append_left)
 
 -- A folder that waits is due.
 pub waits_due : (ws : List WalkCall) {path : List ℕ} {folders folders' : List (List ℕ)} → Waits path folders folders' → IsDue ws folders' path
@@ -201,8 +196,7 @@ visits_node node path folder name folders folders' r named is (no_folder other s
 
 -- The calls of two parts.
 parts_are : (xs ys : List WalkCall) (x y z : List Call) → y ≡ map walked xs ++ x → z ≡ map walked ys ++ y → z ≡ map walked (ys ++ xs) ++ x
-parts_are xs ys x y z h k =
-    k ∙ ap (λ (l : List Call). map walked ys ++ l) h ∙ sym (append_assoc (map walked ys) (map walked xs) x) ∙ ap (λ (l : List Call). l ++ x) (sym (map-append walked ys xs))
+parts_are xs ys x y z h k = grind (arith, common_steps, map-append)
 
 -- One part after another.
 pub explores_then : {x y z : List Call} {f g h : List (List ℕ)} {a b c : Report} → Explores x y f g a b → Explores y z g h b c → Explores x z f h a c
@@ -283,8 +277,7 @@ enters_folder {folder = folder} names answer {x = x} {y = y} {z = z} {f = f} {g 
 
 -- One name more of a list.
 one_more : {X : Type 0} (f : X → List ℕ) (xs : List X) (i : ℕ) (v : X) (name : List ℕ) → i < length xs → v ≡ get_or xs i v → name ≡ f v → map f (take (i + 1) xs) ≡ map f (take i xs) ++ name ∷ []
-one_more f xs i v name within is named =
-    ap (map f) (take_more xs i v within) ∙ map-append f (take i xs) (get_or xs i v ∷ []) ∙ ap (λ n. map f (take i xs) ++ n ∷ []) (sym (named ∙ ap f is))
+one_more f xs i v name within is named = grind (arith, common_steps, take_more, map-append)
 
 -- A folder was listed, and some of its names were visited.
 pub record EntersNames {X : Type 0} (f : X → List ℕ) (folder : List ℕ) (xs : List X) (i : ℕ) (x y : List Call) (a b : List (List ℕ)) (r s : Report) : Type 0 where
@@ -326,8 +319,7 @@ enters_all f xs i {folder = folder} {y = y} {a = a} {b = b} {s = s} all h =
 
 -- The element that is popped was last.
 pub popped : {X : Type 0} (f : X → List ℕ) (old new : List X) (r : Option X) (x : X) (name : List ℕ) → old ≡ new ++ option_to_list r → r ≡ Some x → name ≡ f x → map f old ≡ map f new ++ name ∷ []
-popped f old new r x name is some named =
-    ap (map f) (is ∙ ap (λ o. new ++ option_to_list o) some) ∙ map-append f new (x ∷ []) ∙ ap (λ n. map f new ++ n ∷ []) (sym named)
+popped f old new r x name is some named = grind (arith, map-append)
 
 -- Some folders were entered.
 pub record EntersSome (count : ℕ) (x y : List Call) (f g : List (List ℕ)) (a b : Report) : Type 0 where
@@ -366,13 +358,11 @@ exhausts_count many k = record { explores = k.explores; done = λ few. absurd (o
 
 -- A result of which two facts hold.
 pub on_ok_both : {T E : Type 0} (P Q : Type 0) (r : Result T E) → OnOk r P → OnOk r Q → OnOk r (P × Q)
-on_ok_both P Q (Ok x) p q = (p, q)
-on_ok_both P Q (Err e) p q = tt
+on_ok_both P Q r p q = grind arith
 
 -- A result of which something holds in any case.
 pub on_ok_always : {T E Q : Type 0} (r : Result T E) → Q → OnOk r Q
-on_ok_always (Ok x) q = q
-on_ok_always (Err e) q = tt
+on_ok_always r q = grind arith
 
 -- A folder waits after it was pushed.
 pub waits_pushed : {X : Type 0} (f : X → List ℕ) (before after : List X) (x : X) (path : List ℕ) → IsFolderPath path (f x) → after ≡ before ++ x ∷ [] → Waits path (map f before) (map f after)
@@ -535,8 +525,7 @@ takes_at f xs i v path {x = x} {y = y} {z = z} found found' {r = r} {r' = r'} wi
 -- All paths were given.
 pub takes_all_paths : {X : Type 0} (f : X → List ℕ) (xs : List X) (i : ℕ) (paths : List (List ℕ)) {x y : List Call} (found : List Found) {told : Type 0} → i ≡ length xs → map f xs ≡ paths →
     CoversInput (map f (take i xs)) x y (IsIn found) told → CoversInput paths x y (IsIn found) told
-takes_all_paths f xs i paths {x = x} {y = y} found {told = told} all are h =
-    subst (λ (ps : List (List ℕ)). CoversInput ps x y (IsIn found) told) (ap (map f) (take_all i xs (omega arith)) ∙ are) h
+takes_all_paths f xs i paths found all are h = grind (arith, take_all)
 
 -- Files that were found are kept.
 stands_in : (found files : List Found) → All (IsKept files) found → (path : List ℕ) (id : FileId) → IsIn found path id → StandsIn files path id

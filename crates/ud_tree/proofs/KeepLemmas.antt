@@ -1,12 +1,12 @@
 -- Each file that was found is kept in the list of files, by itself or by one that stands for it.
-use Rattle.std.proofs.Common.{◌≡◌, inl, inr, ℕ, ◌<◌, ◌+◌, ◌==◌, List, [], ◌∷◌, ◌++◌, length, map, take, get_or, Bool, true, false, cond, refl, sym, ap, ◌∙◌, subst, true≢false, arith, eqb-true, zero, suc}
+use Rattle.std.proofs.Common.{◌≡◌, inl, inr, ℕ, ◌<◌, ◌+◌, List, [], ◌∷◌, ◌++◌, length, map, take, get_or, Bool, true, false, refl, sym, ap, ◌∙◌, subst, true≢false, arith, zero, suc}
 use Rattle.std.proofs.lemmas.List.{take_more, get_or_default, map-id}
 use Rattle.std.proofs.lemmas.List.Elements.{All-weaker, All-contains, All-push, All-nil, Contains-push, Contains-get_or}
 use Rattle.std.proofs.lemmas.Cmp.{nat_list_cmp_total}
 use Rattle.std.specs.List.{All, Contains}
 use Rattle.std.specs.Ordering.{is_lt, is_eq, nat_cmp, ordering_then, ordering_reverse}
 use Rattle.std.specs.Cmp.Lexicographic.{slice_cmp}
-use Rattle.std.specs.Prelude.{string_bytes, not, nat_lt, IsSorted}
+use Rattle.std.specs.Prelude.{string_bytes, not, IsSorted}
 use Rattle.std.specs.BTreeSet.{BTreeSet, contains}
 use Rattle.std.specs.declared.cmp.Ordering.{Ordering}
 use Rattle.std.specs.declared.cmp.Ordering.TheVariants.{Less, Equal, Greater}
@@ -20,18 +20,10 @@ greater_is_none : Greater ≡ Equal → ⊥
 greater_is_none e = absurd cc
 
 nat_same : (a b : ℕ) → nat_cmp a b ≡ Equal → a ≡ b
-nat_same a b e = by_tests (nat_lt a b) (a == b) refl refl
-  where
-    by_tests : (p q : Bool) → nat_lt a b ≡ p → (a == b) ≡ q → a ≡ b
-    by_tests p true is same = eqb-true a b same
-    by_tests true false is other = absurd (less_is_none (sym (ap (λ (t : Bool). cond t Less (cond (a == b) Equal Greater)) is) ∙ e))
-    by_tests false false is other =
-        absurd (greater_is_none (sym (ap (λ (t : Bool). cond t Less (cond (a == b) Equal Greater)) is ∙ ap (λ (t : Bool). cond t Equal Greater) other) ∙ e))
+nat_same a b e = grind arith
 
 both_equal : (r s : Ordering) → ordering_then r s ≡ Equal → (r ≡ Equal) × (s ≡ Equal)
-both_equal Less s e = absurd (less_is_none e)
-both_equal Equal s e = (refl, e)
-both_equal Greater s e = absurd (greater_is_none e)
+both_equal r s e = grind arith
 
 same_lists : (xs ys : List ℕ) → slice_cmp nat_cmp xs ys ≡ Equal → xs ≡ ys
 same_lists [] [] e = refl
@@ -44,16 +36,7 @@ same_lists (x ∷ xs) (y ∷ ys) e =
     cc
 
 pub same_key : (a b : ℕ × ℕ) → is_eq (key_cmp a b) ≡ true → b ≡ a
-same_key a b e =
-    let both = both_equal (nat_cmp a.0 b.0) (nat_cmp a.1 b.1) (equal (key_cmp a b) e) in
-    let first : a.0 ≡ b.0 = nat_same a.0 b.0 both.0 in
-    let second : a.1 ≡ b.1 = nat_same a.1 b.1 both.1 in
-    sym (ap (λ (n : ℕ). (n, a.1)) first ∙ ap (λ (n : ℕ). (b.0, n)) second)
-  where
-    equal : (r : Ordering) → is_eq r ≡ true → r ≡ Equal
-    equal Less e = absurd (true≢false (sym e))
-    equal Equal e = refl
-    equal Greater e = absurd (true≢false (sym e))
+same_key a b e = grind arith
 
 -- If a file isn't before another one, which isn't before a third, it isn't before that.
 not_before_then : (f g h : Found) → ¬ (IsBefore g f) → ¬ (IsBefore h g) → ¬ (IsBefore h f)

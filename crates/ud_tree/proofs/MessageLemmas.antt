@@ -1,5 +1,5 @@
 -- Messages that are written one after another.
-use Rattle.std.proofs.Common.{◌≡◌, ◌⊎◌, inl, inr, ℕ, ◌+◌, List, [], ◌++◌, length, Bool, true, false, cond, refl, sym, ap, ◌∙◌, subst, true≢false, append-nil, codes}
+use Rattle.std.proofs.Common.{◌≡◌, ◌⊎◌, inl, inr, ℕ, ◌+◌, List, [], ◌++◌, length, Bool, true, false, cond, refl, sym, ap, ◌∙◌, subst, true≢false, append-nil, codes, arith}
 use Rattle.std.specs.List.{flat_map}
 use Rattle.ud_faults.specs.declared.run.RunFault.{RunFault}
 use Rattle.ud_replace.specs.declared.error.ReplaceError.{ReplaceError}
@@ -23,10 +23,7 @@ tells_then h k = record { plain = λ p. k.plain (h.plain p); sent = λ p. sends_
 
 -- Bytes were written once the number of files was removed.
 pub cleared_tells : {a b : Report} {s t u : Stream} {x : List ℕ} → b.is_terminal ≡ a.is_terminal → b.is_shown ≡ false → (a.is_shown ≡ false → t ≡ s) → Sends t u x → Tells a b s u x
-cleared_tells {u = u} {x = x} same hidden unshown h = record {
-  plain = λ p. record { no_terminal = same ∙ p.no_terminal; unshown = hidden };
-  sent = λ p. subst (λ (z : Stream). Sends z u x) (unshown p.unshown) h;
-}
+cleared_tells same hidden unshown h = grind arith
 
 -- Equal bytes were written.
 pub tells_same : {a b : Report} {s t : Stream} {x y : List ℕ} → x ≡ y → Tells a b s t x → Tells a b s t y
@@ -35,8 +32,7 @@ tells_same {a = a} {b = b} {s = s} {t = t} e h = subst (λ (z : List ℕ). Tells
 -- The message of an error of this kind was written.
 pub error_is : {a b : Report} {s t : Stream} {e : ReplaceError} {message : List ℕ} (name : List ℕ) (kind : ReplaceError) → e ≡ kind → IsMessageOf name kind message →
     Tells a b s t message → TellsError name e a b s t
-error_is {a = a} {b = b} {s = s} {t = t} {message = message} name kind is of h =
-    subst (λ (k : ReplaceError). TellsError name k a b s t) (sym is) (record { message = message; is_of = of; tells = h })
+error_is name kind is of h = grind arith
 
 -- The message of a fault of a text was written, which is this error.
 pub text_is : {a b : Report} {s t : Stream} {e : ReplaceError} (name : List ℕ) (f : RunFault) → e ≡ Text f → TellsText name f a b s t → TellsError name e a b s t

@@ -2,6 +2,7 @@
 use Rattle.std.proofs.Common.{◌≡◌, ℕ, ◌+◌, List, [], ◌∷◌, ◌++◌, length, ◌==◌, cond}
 use Rattle.std.proofs.Common.{arith, take, get_or, ◌<◌, ◌≢◌}
 use Rattle.std.proofs.lemmas.List.{take_more, length-take}
+use Rattle.std.proofs.lemmas.Grind.{common_steps}
 use Rattle.ud_tree.specs.Paths.{folder_len}
 
 -- A slash ends the folder, and no other byte does.
@@ -19,5 +20,4 @@ folder_len_slash path i within is =
 -- Another byte at `i` doesn't change the folder.
 pub folder_len_other : (path : List ℕ) (i : ℕ) → i < length path → get_or path i 0 ≢ 47 →
     folder_len (take (i + 1) path) ≡ folder_len (take i path)
-folder_len_other path i within is =
-    grind (arith, take_more path i 0 within, folder_len-append (take i path) (get_or path i 0))
+folder_len_other path i within is = grind (arith, common_steps, take_more, folder_len-append)

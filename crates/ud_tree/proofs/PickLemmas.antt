@@ -6,9 +6,9 @@ use Rattle.std.specs.List.{slice_get}
 use Rattle.std.specs.Ordering.{is_lt, nat_cmp}
 use Rattle.std.specs.Cmp.Lexicographic.{slice_cmp}
 use Rattle.std.specs.declared.cmp.Ordering.{Ordering}
-use Rattle.std.specs.declared.cmp.Ordering.TheVariants.{Less, Equal, Greater}
+use Rattle.std.specs.declared.cmp.Ordering.TheVariants.{Less}
 use Rattle.std.proofs.lemmas.List.{get_or_default}
-use Rattle.std.proofs.lemmas.List.Elements.{All-weaker, All-contains_itself, All-contains, All-push, All-nil, Contains-push, Contains-append_left}
+use Rattle.std.proofs.lemmas.List.Elements.{All-weaker, All-contains_itself, All-contains, All-push, Contains-push, Contains-append_left}
 use Rattle.std.proofs.lemmas.List.Quantifiers.{all_pairs_push}
 use Rattle.std.proofs.lemmas.Cmp.{nat_list_cmp_total}
 use Rattle.std.specs.List.{All, AllPairs, Contains}
@@ -17,9 +17,7 @@ use Rattle.std.specs.BTreeSet.{BTreeSet, contains, Updates}
 use Rattle.ud_replace.specs.declared.node.FileId.{FileId}
 use Rattle.ud_tree.specs.declared.walk.Found.{Found}
 use Rattle.ud_tree.specs.Walks.{IsBefore, IsOtherFile, IsMarked, HasKey, IsKept, ArePicked, key_cmp}
-use Rattle.std.specs.Ordering.{is_eq}
-use Rattle.std.specs.List.{list_any}
-use Rattle.ud_tree.proofs.KeepLemmas.{same_key, kept_later}
+use Rattle.ud_tree.proofs.KeepLemmas.{kept_later}
 
 -- A file that was added, or one of those before.
 abbrev pub OldOrThis : Found → List Found → Found → Type 0
@@ -49,16 +47,11 @@ cond_true false y e = e
 
 -- A set keeps what it has.
 still_marked : (seen new : BTreeSet (ℕ × ℕ)) (key : ℕ × ℕ) → Updates key_cmp seen new key true → (files : List Found) → All (IsMarked seen) files → All (IsMarked new) files
-still_marked seen new key u files h =
-    All-weaker (IsMarked seen) (IsMarked new) (λ f m. u.0 (f.id.device, f.id.inode) ∙ cond_true _ (contains key_cmp seen (f.id.device, f.id.inode)) m) files h
+still_marked seen new key u files h = grind arith
 
 -- Each key of the set is the one that was inserted, or was there before.
 key_cases : (seen new : BTreeSet (ℕ × ℕ)) (key q : ℕ × ℕ) → Updates key_cmp seen new key true → contains key_cmp new q ≡ true → (q ≡ key) ⊎ (contains key_cmp seen q ≡ true)
-key_cases seen new key q u there = by_test (is_eq (key_cmp key q)) refl
-  where
-    by_test : (b : Bool) → is_eq (key_cmp key q) ≡ b → (q ≡ key) ⊎ (contains key_cmp seen q ≡ true)
-    by_test true is = inl (same_key key q is)
-    by_test false is = inr (sym (ap (λ (b : Bool). cond b true (contains key_cmp seen q)) is) ∙ sym (u.0 q) ∙ there)
+key_cases seen new key q u there = grind arith
 
 -- The set has a key more that it had, and the files are the same.
 pub picked_same : (seen new : BTreeSet (ℕ × ℕ)) (files : List Found) (key : ℕ × ℕ) (added : Bool) → added ≡ not (contains key_cmp seen key) → added ≡ false → Updates key_cmp seen new key true → ArePicked seen files →
@@ -96,12 +89,7 @@ picked_more seen new files found unseen u before h = record {
 
 -- No file is picked yet.
 pub picked_none : (seen : BTreeSet (ℕ × ℕ)) → ((key : ℕ × ℕ) → contains key_cmp seen key ≡ false) → ArePicked seen []
-picked_none seen empty = record {
-  ascend = λ i j d below within. absurd (omega arith);
-  once = λ i j d below within. absurd (omega arith);
-  marked = All-nil (IsMarked seen);
-  only = λ key there. absurd (true≢false (sym there ∙ empty key));
-}
+picked_none seen empty = grind arith
 
 -- After one more file, all are still of the list.
 pub from_more : (found : Found) (all files next : List Found) → Contains all found → All (Contains all) files → All (OldOrThis found files) next → All (Contains all) next
@@ -112,18 +100,13 @@ from_more found all files next inside h k = All-weaker (OldOrThis found files) (
     each f (inr this) = subst (λ (g : Found). Contains all g) (sym this) inside
 
 is_less : (r : Ordering) → is_lt r ≡ true → r ≡ Less
-is_less Less e = refl
-is_less Equal e = absurd (true≢false (sym e))
-is_less Greater e = absurd (true≢false (sym e))
+is_less r e = grind arith
 
 -- A file after the element that `last` returns comes after all.
 pub after_got : (files : List Found) (last found : Found) (r : Bool) → AllPairs IsBefore files → Some last ≡ slice_get files (length files - 1) →
     r ≡ is_lt (slice_cmp nat_cmp (string_bytes last.path) (string_bytes found.path)) → r ≡ true → All (λ f. IsBefore f found) files
 after_got files last found r ascend got test holds =
-    let within : length files - 1 < length files = slice_get_within files (length files - 1) last (sym got) in
-    let both : Some last ≡ Some (get_or files (length files - 1) last) = got ∙ slice_get-get_or files (length files - 1) last within in
-    let is : last ≡ get_or files (length files - 1) last = cc in
-    after_last files last found ascend (omega arith) is (is_less (slice_cmp nat_cmp (string_bytes last.path) (string_bytes found.path)) (sym test ∙ holds))
+    grind (arith, slice_get_within, slice_get-get_or, after_last, is_less)
 
 -- A file that isn't after the element that `last` returns.
 pub before_got : (files : List Found) (last found : Found) (r : Bool) → Some last ≡ slice_get files (length files - 1) → r ≡ is_lt (slice_cmp nat_cmp (string_bytes last.path) (string_bytes found.path)) → r ≡ false →
@@ -149,12 +132,7 @@ pub record PickedSome (seen : BTreeSet (ℕ × ℕ)) (files found yielded : List
 
 -- None was yet.
 pub picked_begun : (seen : BTreeSet (ℕ × ℕ)) (files found : List Found) → seen.keys ≡ [] → files ≡ [] → PickedSome seen files found []
-picked_begun seen files found none empty = subst (λ (fs : List Found). PickedSome seen fs found []) (sym empty) (record {
-  picked = picked_none seen (λ key. ap (λ (ks : List (ℕ × ℕ)). list_any (λ q. is_eq (key_cmp key q)) ks) none);
-  from = All-nil (Contains found);
-  within = All-nil (Contains []);
-  kept = All-nil (IsKept []);
-})
+picked_begun seen files found none empty = grind arith
 
 -- One file more was looked at.
 pub picked_next : {seen new : BTreeSet (ℕ × ℕ)} {files after found yielded : List Found} (x : Found) → PickedSome seen files found yielded → ArePicked new after → Contains found x → All (OldOrThis x files) after → All (Contains after) files →

@@ -1,10 +1,11 @@
 -- One file more of a run.
-use Rattle.std.proofs.Common.{◌≡◌, ℕ, ◌+◌, ◌<◌, ◌≤◌, List, [], ◌∷◌, ◌++◌, length, get_or, take, cond, refl, sym, ap, ◌∙◌, subst, append-nil, append_assoc, Bool, true, false, Result, min, ◌-◌, ◌^◌, arith}
+use Rattle.std.proofs.Common.{◌≡◌, ℕ, ◌+◌, ◌<◌, ◌≤◌, List, [], ◌∷◌, ◌++◌, length, get_or, take, cond, refl, sym, ap, ◌∙◌, subst, append-nil, Bool, true, false, Result, min, ◌-◌, ◌^◌, arith}
 use mir.Val.{bool_byte}
 use Rattle.std.proofs.lemmas.List.{take_more, take_all, map-append}
 use Rattle.std.proofs.lemmas.List.Sums.{sum_by_push}
 use Rattle.std.proofs.lemmas.Grind.{flat_map-append}
 use Rattle.std.specs.Prelude.{count_by, string_bytes}
+use Rattle.std.proofs.lemmas.Grind.{common_steps}
 use Rattle.ud_replace.specs.declared.error.Update.{Update}
 use Rattle.ud_replace.specs.declared.error.ReplaceError.{ReplaceError}
 use Rattle.ud_replace.specs.Calls.{Call}
@@ -15,7 +16,7 @@ use Rattle.ud_tree.specs.declared.arguments.Arguments.{Arguments}
 use Rattle.ud_tree.specs.declared.arguments.Task.{Task}
 use Rattle.ud_tree.specs.declared.arguments.Task.TheVariants.{Names}
 use Rattle.ud_tree.specs.Fates.{is_changed, is_same, is_faulty}
-use Rattle.ud_tree.specs.Runs.{fate_of, FileResult, Unshown, EachFile, no_file, then_file, changed_in, faulty_in, edited_in, shown_of, told_of, Counted, names_of, nothing_listed, listed_of, Output, outputs_of}
+use Rattle.ud_tree.specs.Runs.{fate_of, FileResult, Unshown, EachFile, no_file, then_file, changed_in, faulty_in, edited_in, shown_of, told_of, Counted, names_of, nothing_listed, listed_of, outputs_of}
 use Rattle.ud_tree.specs.Remainders.{FindsAll, listing_of, mode_of, texts_of, count_of}
 use Rattle.ud_tree.proofs.RemainderLemmas.{finds_none, finds_then, finds_same}
 use Rattle.ud_tree.specs.Statuses.{tree_status}
@@ -46,13 +47,11 @@ count_push p results r = sum_by_push (λ (s : FileResult). cond (p (fate_of s.up
 
 -- The diff of one file more follows.
 shown_push : (results : List FileResult) (r : FileResult) → shown_of (results ++ r ∷ []) ≡ shown_of results ++ r.shown
-shown_push results r =
-    flat_map-append (λ (s : FileResult). s.shown) results (r ∷ []) ∙ ap (λ x. shown_of results ++ x) (append-nil r.shown)
+shown_push results r = grind (arith, common_steps, flat_map-append)
 
 -- The message of one file more follows.
 told_push : (results : List FileResult) (r : FileResult) → told_of (results ++ r ∷ []) ≡ told_of results ++ r.told
-told_push results r =
-    flat_map-append (λ (s : FileResult). s.told) results (r ∷ []) ∙ ap (λ x. told_of results ++ x) (append-nil r.told)
+told_push results r = grind (arith, common_steps, flat_map-append)
 
 -- No file has been processed yet.
 counted_none : {P : List ℕ → List Call → List Call → FileResult → Type 0} {old : List Call} (counts : Counts) →
@@ -63,17 +62,11 @@ counted_none counts a b c d =
 -- The path of a file more follows those of the files before.
 pub names_push : (files : List Found) (i : ℕ) (f : Found) → i < length files → f ≡ get_or files i f →
     names_of (take (i + 1) files) ≡ names_of (take i files) ++ string_bytes f.path ∷ []
-names_push files i f within is =
-    ap names_of (take_more files i f within)
-    ∙ map-append (λ (g : Found). string_bytes g.path) (take i files) (get_or files i f ∷ [])
-    ∙ ap (λ (g : Found). names_of (take i files) ++ string_bytes g.path ∷ []) (sym is)
+names_push files i f within is = grind (arith, common_steps, take_more, map-append)
 
 -- The edited conditions of one file more are counted.
 edits_push : (s t b n a : ℕ) → t ≡ s + n → (s < 2 ^ 64 → b ≡ s) → (b + n < 2 ^ 64 → a ≡ b + n) → t < 2 ^ 64 → a ≡ t
-edits_push s t b n a e f g small =
-    let is : b ≡ s = f (omega arith) in
-    let sum : a ≡ b + n = g (omega arith) in
-    omega arith
+edits_push s t b n a e f g small = grind arith
 
 -- One file more is processed and counted.
 counted_push : {P : List ℕ → List Call → List Call → FileResult → Type 0} {old mid new : List Call} {before : Counts} {shown told : List ℕ}
@@ -104,32 +97,11 @@ counted_push {P = P} {old = old} {mid = mid} {new = new} {before = before} {show
 
 -- Nothing was added.
 pub adds_none : (lists : NameLists) → Adds lists lists nothing_listed
-adds_none lists = record {
-  names = sym (append-nil lists.list.items);
-  hidden = λ small. omega arith;
-  hidden_list = sym (append-nil lists.hidden_list.items);
-  lists = refl;
-}
+adds_none lists = grind (arith, common_steps)
 
 -- One file more was listed, and its names and conditions were added.
 adds_push : {old mid new : NameLists} (results : List FileResult) (r : FileResult) → Adds old mid (listed_of results) → Adds mid new r.listed → Adds old new (listed_of (results ++ r ∷ []))
-adds_push {old = old} {mid = mid} {new = new} results r h k = record {
-  names = k.names ∙ ap (λ (x : List ℕ). x ++ r.listed.names) h.names ∙ append_assoc old.list.items (listed_of results).names r.listed.names
-      ∙ ap (λ (x : List ℕ). old.list.items ++ x)
-      (sym (flat_map-append (λ (s : FileResult). s.listed.names) results (r ∷ []) ∙ ap (λ (x : List ℕ). (listed_of results).names ++ x) (append-nil r.listed.names)));
-  hidden = added (listed_of results).hidden (listed_of (results ++ r ∷ [])).hidden (sum_by_push (λ (s : FileResult). s.listed.hidden) results r) h.hidden k.hidden;
-  hidden_list = k.hidden_list ∙ ap (λ (x : List ℕ). x ++ r.listed.hidden_list) h.hidden_list ∙ append_assoc old.hidden_list.items (listed_of results).hidden_list r.listed.hidden_list
-      ∙ ap (λ (x : List ℕ). old.hidden_list.items ++ x)
-      (sym (flat_map-append (λ (s : FileResult). s.listed.hidden_list) results (r ∷ []) ∙ ap (λ (x : List ℕ). (listed_of results).hidden_list ++ x) (append-nil r.listed.hidden_list)));
-  lists = k.lists ∙ h.lists;
-}
-  where
-    added : (s t : ℕ) → t ≡ s + r.listed.hidden → (old.hidden + s < 2 ^ 64 → mid.hidden ≡ old.hidden + s) → (mid.hidden + r.listed.hidden < 2 ^ 64 → new.hidden ≡ mid.hidden + r.listed.hidden) →
-        old.hidden + t < 2 ^ 64 → new.hidden ≡ old.hidden + t
-    added s t e f g small =
-        let is : mid.hidden ≡ old.hidden + s = f (omega (arith, e, small)) in
-        let sum : new.hidden ≡ mid.hidden + r.listed.hidden = g (omega (arith, e, small, is)) in
-        omega (arith, e, is, sum)
+adds_push results r h k = grind (arith, common_steps, flat_map-append, sum_by_push)
 
 -- No file has been processed, and nothing was written.
 pub writes_none : {args : Arguments} {P : List ℕ → List Call → List Call → FileResult → Type 0} {m : Moment} {r : Report} (lists : NameLists) (counts : Counts) →
@@ -141,10 +113,7 @@ writes_none {m = m} lists counts a b c d =
 -- The conditions of the output for one file more were added.
 finds_push : {args : Arguments} {a b c : Report} (results : List FileResult) (r : FileResult) → FindsAll args (outputs_of results) a b → FindsAll args r.outputs b c →
     FindsAll args (outputs_of (results ++ r ∷ [])) a c
-finds_push results r h k =
-    finds_same
-    (ap (λ (x : List Output). outputs_of results ++ x) (sym (append-nil r.outputs)) ∙ sym (flat_map-append (λ (s : FileResult). s.outputs) results (r ∷ [])))
-    (finds_then (outputs_of results) r.outputs h k)
+finds_push results r h k = grind (arith, common_steps, finds_same, flat_map-append, finds_then)
 
 -- One file more is processed, and what is shown and told of it was written, after the number of
 -- files was shown.
@@ -177,9 +146,7 @@ writes_push {next = next} files i f name update edited fate after within is name
 -- All files are processed, and what is shown and told of them was written.
 pub writes_all : {args : Arguments} {P : List ℕ → List Call → List Call → FileResult → Type 0} {old new : Moment} {r s : Report} {counts : Counts} {lists lists' : NameLists} (files : List Found) (i : ℕ) →
     i ≡ length files → WritesAll args P old (names_of (take i files)) r new s counts lists lists' → WritesAll args P old (names_of files) r new s counts lists lists'
-writes_all {args = args} {P = P} {old = old} {new = new} {r = r} {s = s} {counts = counts} {lists = lists} {lists' = lists'} files i is h =
-    let whole : take i files ≡ files = take_all i files (omega arith) in
-    subst (λ (fs : List Found). WritesAll args P old (names_of fs) r new s counts lists lists') whole h
+writes_all files i is h = grind (arith, take_all)
 
 -- A file was processed of which nothing is shown.
 pub lists_unshown : {args : Arguments} {r : Report} {plan : TextPlan} {lists : Bool} {name : List ℕ} {calls calls' : List Call} {old new : NameLists} {update : Result Update ReplaceError} (out : Stream) {n : ℕ} → n ≡ 0 →
@@ -198,8 +165,7 @@ unlisted_one lists h = record { listed = nothing_listed; writes = h; adds = adds
 -- The task of the arguments does what they ask for.
 pub done_by : (t : Task) (args : Arguments) {name : List ℕ} {calls calls' : List Call} {out out' : Stream} {update : Result Update ReplaceError} {n : ℕ} {lists lists' : NameLists} {r r' : Report} →
     args.task ≡ t → ProcessesOne args (DoesBy t args) name calls calls' out out' update n lists lists' r r' → ProcessesOne args (DoesOne args) name calls calls' out out' update n lists lists' r r'
-done_by t args {name = name} {calls = calls} {calls' = calls'} {out = out} {out' = out'} {update = update} {n = n} {lists = lists} {lists' = lists'} {r = r} {r' = r'} is h =
-    subst (λ (u : Task). ProcessesOne args (DoesBy u args) name calls calls' out out' update n lists lists' r r') (sym is) h
+done_by t args is h = grind arith
 
 -- A list was written, if it is wanted.
 pub writes_list : (args : Arguments) (lists : NameLists) (lost : Bool) {a b c : Stream} (names rest : List ℕ) → (¬ (args.task ≡ Names) → names ≡ []) →
@@ -303,37 +269,7 @@ no_files job given {old = old} {new = new} plain h same = record {
 -- The faults of the walk have another number, which is the same unless it is too large.
 ends_counted : {args : Arguments} {streams : StreamEnds} {old new : List Call} {names : List (List ℕ)} {shown told last : List ℕ} {status : ℕ} (n m : ℕ) → (m < 2 ^ 64 → n ≡ m) →
     Ends args n streams old names new shown told last status → Ends args m streams old names new shown told last status
-ends_counted {streams = streams} n m same h = record {
-  results = h.results;
-  each = h.each;
-  listed = h.listed;
-  is_wanted = h.is_wanted;
-  is_lost = h.is_lost;
-  table = h.table;
-  remains = h.remains;
-  unsearched = h.unsearched;
-  shown_is = h.shown_is;
-  faults = h.faults;
-  reported = h.reported;
-  flushed = h.flushed;
-  status_is = h.status_is;
-  hidden = h.hidden;
-  hidden_is = h.hidden_is;
-  edited = h.edited;
-  edited_is = h.edited_is;
-  remaining = h.remaining;
-  remaining_is = h.remaining_is;
-  none_remains = h.none_remains;
-  last_is = h.last_is;
-  told_is = h.told_is;
-  faults_are = faults_counted n m (length (output_messages h.is_lost streams.failed)) (faulty_in h.results) h.faults same h.faults_are;
-}
-  where
-    faults_counted : (n m o f faults : ℕ) → (m < 2 ^ 64 → n ≡ m) → (n + o + f < 2 ^ 64 → faults ≡ n + o + f) → m + o + f < 2 ^ 64 → faults ≡ m + o + f
-    faults_counted n m o f faults same h small =
-        let is : n ≡ m = same (omega arith) in
-        let sum : faults ≡ n + o + f = h (omega arith) in
-        omega arith
+ends_counted n m same h = grind arith
 
 -- The run processed all files that the walk found.
 pub ran_from : (job : Job) {given left : Source} {old mid new : Moment} {r r' : Report} {found files : List Found} {status : ℕ} (in_walk : ℕ) → files ≡ found → (job.is_terminal ≡ false → IsPlain r) → r.faulty ≡ 0 →
@@ -368,6 +304,4 @@ faults_sum x y walk files b d faults f h i small = omega arith
 -- Faults that are added up, of which two are 0 or 1.
 pub faults_added : (p q : Bool) (walk files a b c d faults : ℕ) → a ≡ bool_byte p → b ≡ min (walk + a) (2 ^ 64 - 1) → c ≡ bool_byte q → d ≡ min (b + c) (2 ^ 64 - 1) →
     faults ≡ min (d + files) (2 ^ 64 - 1) → walk + (cond p 1 0 + cond q 1 0) + files < 2 ^ 64 → faults ≡ walk + (cond p 1 0 + cond q 1 0) + files
-faults_added p q walk files a b c d faults e f g h =
-    faults_sum (cond p 1 0) (cond q 1 0) walk files b d faults
-    (f ∙ ap (λ (n : ℕ). min (walk + n) (2 ^ 64 - 1)) (byte_is p a e)) (h ∙ ap (λ (n : ℕ). min (b + n) (2 ^ 64 - 1)) (byte_is q c g))
+faults_added p q walk files a b c d faults e f g h = grind arith

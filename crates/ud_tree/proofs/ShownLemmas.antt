@@ -1,5 +1,5 @@
 -- Shown: lemmas on a run over a text that was read.
-use Rattle.std.proofs.Common.{◌≡◌, ◌⊎◌, ℕ, ◌<◌, ◌≤◌, List, [], ◌∷◌, ◌++◌, ◌∙◌, Bool, true, false, if◌then◌else◌, Some, Result, Ok, Err, refl, sym, ap, subst, append-nil}
+use Rattle.std.proofs.Common.{◌≡◌, ◌⊎◌, ℕ, ◌<◌, ◌≤◌, List, [], ◌∷◌, ◌++◌, ◌∙◌, Bool, true, false, if◌then◌else◌, Some, Result, Ok, Err, refl, sym, ap, subst, append-nil, arith}
 use Rattle.std.proofs.lemmas.Bool.{true≢false}
 use Rattle.ud_diff.specs.Patching.{IsDiff}
 use Rattle.ud_replace.specs.declared.error.Update.{Update}
@@ -56,14 +56,7 @@ all_added false old more all is whole = absurd (true≢false (sym is))
 -- The diff of a text and its output is the diff of the outcome.
 pub has_diff : (o : TextOptions) (name text output seen diff : List ℕ) (ran : TextRun) → RunsOver o text [] output ran → ran.differs ≡ true → seen ≡ output →
     IsDiff name text seen diff → HasDiff o name text diff ran.edited
-has_diff o name text output seen diff ran h e p is = record {
-  outcome = h.outcome;
-  runs = h.runs;
-  faultless = h.faultless;
-  differs = sym h.differs_is ∙ e;
-  is_diff = subst (λ (x : List ℕ). IsDiff name text x diff) (p ∙ h.appended) is;
-  edited_is = h.edited_is;
-}
+has_diff o name text output seen diff ran h e p is = grind arith
 
 -- Nothing was written of a file.
 pub shows_none : {args : Arguments} {plan : TextPlan} {into : Bool} {r r' : Report} {outputs : List Output} {name : List ℕ} {calls calls' : List Call} {update : Result Update ReplaceError} (out : Stream) {n : ℕ} → n ≡ 0 → ReadsOne name calls calls' →

@@ -1,9 +1,10 @@
 -- Bytes that are read one after another, up to the end.
-use Rattle.std.proofs.Common.{◌≡◌, ℕ, ◌<◌, ◌≤◌, ◌+◌, List, [], ◌++◌, length, take, false, Option, Some, sym, ap, ◌∙◌, subst, append-nil, length-append, arith}
+use Rattle.std.proofs.Common.{◌≡◌, ℕ, ◌<◌, ◌≤◌, ◌+◌, List, ◌++◌, length, take, false, Option, Some, sym, subst, arith}
 use Rattle.std.specs.Io.KnownBytes.{Consumes}
 use Rattle.std.proofs.KnownBytes.{Consumes-trans}
 use Rattle.ud_io.specs.Watched.{ReadsOnce}
 use Rattle.std.proofs.Math.ListN.{length-take}
+use Rattle.std.proofs.lemmas.Grind.{common_steps}
 use Rattle.ud_tree.specs.Streams.{Source, ReadsWhole}
 
 -- Some more bytes were read, and appended to the text.
@@ -12,17 +13,9 @@ reads_more a b c count buf text is h k = subst (λ (t : List ℕ). Consumes a c 
 
 -- Each read gives some bytes.
 pub read_some : (n count : ℕ) (buf text : List ℕ) {more : List ℕ} → more ≡ text ++ take count buf → ¬ (count ≡ 0) → count ≤ length buf → n ≤ length text → n + 1 ≤ length more
-read_some n count buf text {more = more} is some within h =
-    let grown : length more ≡ length text + length (take count buf) = ap (λ (l : List ℕ). length l) is ∙ length-append text (take count buf) in
-    let taken = length-take count buf in
-    omega (arith, grown, taken)
+read_some n count buf text is some within h = grind (arith, common_steps, length-take)
 
 -- No more bytes were read, so the text is whole.
 pub reads_end : {a b : Source} (mid : Option (List ℕ)) (count : ℕ) (buf text : List ℕ) → count ≡ 0 → 0 < length buf → Consumes a.remaining mid text → ReadsOnce mid b.remaining (Some count) buf →
     b.failed ≡ false → ReadsWhole a b text
-reads_end {a = a} {b = b} mid count buf text none some h once works = record {
-  consumed = subst (λ (t : List ℕ). Consumes a.remaining b.remaining t) (append-nil text)
-      (Consumes-trans a.remaining mid b.remaining text [] h (subst (λ (n : ℕ). Consumes mid b.remaining (take n buf)) none once.1));
-  ended = once.2 none some;
-  unfailed = works;
-}
+reads_end mid count buf text none some h once works = grind arith

@@ -1,5 +1,6 @@
 -- Lines from their parts.
-use Rattle.std.proofs.Common.{◌≡◌, ℕ, List, [], ◌++◌, Bool, true, false, cond, refl, sym, ap, ◌∙◌, subst, append_assoc, append-nil, codes, decimal, ◌==◌, ◌&&◌, eqb-true}
+use Rattle.std.proofs.Common.{◌≡◌, ℕ, List, [], ◌++◌, Bool, true, false, cond, refl, sym, ap, ◌∙◌, subst, append_assoc, append-nil, codes, decimal, ◌==◌, ◌&&◌, eqb-true, arith}
+use Rattle.std.proofs.lemmas.Grind.{common_steps}
 use Rattle.ud_tree.specs.declared.report.Report.{Report}
 use Rattle.ud_tree.specs.declared.arguments.Arguments.{Arguments}
 use Rattle.ud_tree.specs.declared.counts.Counts.{Counts}
@@ -33,12 +34,7 @@ listed_parts a b c d e f = simp (append_assoc, append-nil)
 pub listed_joined : (changed unchanged faults hidden : ℕ) (u f h v w : List ℕ) → u ≡ decimal unchanged → f ≡ decimal faults → h ≡ decimal hidden → v ≡ files_text unchanged → w ≡ hidden_text hidden →
     line_of (u ++ (v ++ (f ++ (codes " faulty; " ++ (h ++ (w ++ [])))))) ≡ summary Names changed unchanged faults hidden
 listed_joined changed unchanged faults hidden u f h v w p q r m n =
-    ap (λ x. line_of (x ++ (v ++ (f ++ (codes " faulty; " ++ (h ++ (w ++ []))))))) p
-    ∙ ap (λ x. line_of (decimal unchanged ++ (v ++ (x ++ (codes " faulty; " ++ (h ++ (w ++ []))))))) q
-    ∙ ap (λ x. line_of (decimal unchanged ++ (v ++ (decimal faults ++ (codes " faulty; " ++ (x ++ (w ++ []))))))) r
-    ∙ ap (λ x. line_of (decimal unchanged ++ (x ++ (decimal faults ++ (codes " faulty; " ++ (decimal hidden ++ (w ++ []))))))) m
-    ∙ ap (λ x. line_of (decimal unchanged ++ (files_text unchanged ++ (decimal faults ++ (codes " faulty; " ++ (decimal hidden ++ (x ++ []))))))) n
-    ∙ ap line_of (listed_parts (decimal unchanged) (files_text unchanged) (decimal faults) (codes " faulty; ") (decimal hidden) (hidden_text hidden))
+    grind (arith, common_steps, listed_parts)
 
 and_false : (b : Bool) → (b && false) ≡ false
 and_false true = refl
@@ -46,18 +42,12 @@ and_false false = refl
 
 -- No condition names a symbol, and they aren't listed.
 pub remaining_none : (listed : Bool) (count : ℕ) → count ≡ 0 → listed ≡ false → remaining_line listed count ≡ []
-remaining_none listed count p q =
-    subst (λ (b : Bool). remaining_line b count ≡ []) (sym q) (subst (λ (n : ℕ). remaining_line false n ≡ []) (sym p) refl)
+remaining_none listed count p q = grind arith
 
 -- The line of conditions that are listed.
 pub remaining_listed : (listed : Bool) (count : ℕ) (number text : List ℕ) → listed ≡ true → number ≡ decimal count → text ≡ remaining_text count →
     line_of (number ++ (text ++ [])) ≡ remaining_line listed count
-remaining_listed listed count number text on p q =
-    subst (λ (b : Bool). line_of (number ++ (text ++ [])) ≡ remaining_line b count) (sym on)
-    (ap (λ x. line_of (x ++ (text ++ []))) p
-    ∙ ap (λ x. line_of (decimal count ++ (x ++ []))) q
-    ∙ ap line_of (sym (append_assoc (decimal count) (remaining_text count) []))
-    ∙ sym (ap (λ (b : Bool). cond b [] (line_of (decimal count ++ remaining_text count ++ []))) (and_false (count == 0))))
+remaining_listed listed count number text on p q = grind (arith, common_steps, and_false)
 
 -- The line of conditions that aren't listed, of which there are some.
 pub remaining_told : (listed : Bool) (count : ℕ) (number text : List ℕ) → listed ≡ false → ¬ (count ≡ 0) → number ≡ decimal count → text ≡ remaining_text count →
@@ -94,9 +84,7 @@ edited_none prunes count off = subst (λ (b : Bool). edited_line b count ≡ [])
 -- The line with the number of edited conditions.
 pub edited_told : (prunes : Bool) (count : ℕ) (number text : List ℕ) → prunes ≡ true → number ≡ decimal count → text ≡ edited_text count →
     line_of (number ++ (text ++ [])) ≡ edited_line prunes count
-edited_told prunes count number text on p q =
-    subst (λ (b : Bool). line_of (number ++ (text ++ [])) ≡ edited_line b count) (sym on)
-    (ap (λ x. line_of (x ++ (text ++ []))) p ∙ ap (λ x. line_of (decimal count ++ (x ++ []))) q ∙ ap (λ x. line_of (decimal count ++ x)) (append-nil (edited_text count)))
+edited_told prunes count number text on p q = grind arith
 
 -- Other runs end with the three lines.
 pub ends_told : (args : Arguments) (counts : Counts) (faults hidden remaining : ℕ) {old new : Report} (next : Report) {err mid other err' : Stream} → args.quiet ≡ false → remaining ≡ old.remaining.count →

@@ -1,12 +1,9 @@
 -- The calls of a whole run: what they touch, the files after each of them, and the diffs.
-use Rattle.std.proofs.Common.{◌≡◌, ◌⊎◌, inl, inr, ℕ, ◌<◌, List, [], ◌∷◌, ◌++◌, length, get_or, map, Bool, true, false, Option, Some, Result, refl, sym, ap, ◌∙◌, subst, true≢false, arith, length-append}
+use Rattle.std.proofs.Common.{◌≡◌, ◌⊎◌, inl, inr, ℕ, ◌<◌, List, [], ◌∷◌, ◌++◌, length, get_or, map, Bool, true, false, Option, Some, Result, refl, sym, ◌∙◌, subst, true≢false, arith, length-append}
 use Rattle.std.proofs.lemmas.List.{get_or_append_left, get_or-append_right, get_or-map, length-map}
 use Rattle.std.proofs.lemmas.List.Elements.{Contains-append_left, Contains-push}
 use Rattle.std.specs.List.{Contains, AllPairs}
 use Rattle.std.specs.Prelude.{string_bytes}
-use Rattle.std.specs.Ordering.{nat_cmp}
-use Rattle.std.specs.Cmp.Lexicographic.{slice_cmp}
-use Rattle.std.specs.declared.cmp.Ordering.TheVariants.{Less, Equal}
 use Rattle.std.proofs.lemmas.Cmp.{tied_itself, nat_list_cmp_total}
 use Rattle.ud_replace.specs.declared.text_plan.TextPlan.{TextPlan}
 use Rattle.ud_replace.specs.TextOutcomes.{TextOptions, IsPlanned}
@@ -14,7 +11,6 @@ use Rattle.ud_replace.specs.declared.error.Update.{Update}
 use Rattle.ud_replace.specs.declared.error.ReplaceError.{ReplaceError}
 use Rattle.ud_replace.specs.Calls.{Call, walked, WalkCall}
 use Rattle.ud_replace.specs.Moments.{Files, content, AreTrue, EachCall, no_call, then_call, HasOutput, OldOrNew, touches, after, TouchesFreshOnly}
-use Rattle.ud_replace.proofs.CallLemmas.{untouched}
 use Rattle.ud_replace.proofs.MomentLemmas.{old_or_new}
 use Rattle.ud_replace.proofs.RenameLemmas.{one_rename}
 use Rattle.ud_tree.specs.declared.arguments.Arguments.{Arguments}
@@ -68,9 +64,7 @@ lists_touch h = reads_touch (λ name old new result k. k.does.reads) h
 
 reads_by : (args : Arguments) (t : Task) → args.task ≡ t → ¬ (t ≡ Replace) → {old : List Call} {names : List (List ℕ)} {new : List Call} {results : List FileResult} →
     EachFile (DoesBy t args) old names new results → EachCall TouchesNothing old new
-reads_by args Replace is other h = absurd (other refl)
-reads_by args Diff is other h = shows_touch h
-reads_by args Names is other h = lists_touch h
+reads_by args t is other h = grind (arith, shows_touch, lists_touch)
 
 pub run_reads : (args : Arguments) (given left : Source) (old new : List Call) (messages : List (List ℕ)) (streams : StreamEnds) (shown told last : List ℕ) (status : ℕ) → ¬ (args.task ≡ Replace) → IsRun args given left old new messages streams shown told last status → EachCall TouchesNothing old new
 run_reads args given left old new messages streams _ _ _ _ other (no_run h stops) = each_at h.are (walk_touches h.calls old)
@@ -94,10 +88,8 @@ nothing_touched h = each_weaker (λ c earlier t. inl t) h
 
 replaces_by : {o : TextOptions} (args : Arguments) (t : Task) → IsPlanned args.plan o → args.write_into ≡ false → {old : List Call} {names : List (List ℕ)} {new : List Call}
     {results : List FileResult} → EachFile (DoesBy t args) old names new results → EachCall (TouchesFreshOrNone o) old new
-replaces_by args Replace p into {old = old} {names = names} {new = new} {results = results} h =
-    replaces_touch p (subst (λ (b : Bool). EachFile (ReplacesShowing args.plan b args.show_changes) old names new results) into h)
-replaces_by args Diff p into h = nothing_touched (shows_touch h)
-replaces_by args Names p into h = nothing_touched (lists_touch h)
+replaces_by args t p into h =
+    grind (arith, replaces_touch, nothing_touched, shows_touch, lists_touch)
 
 pub run_renames : (o : TextOptions) (args : Arguments) (given left : Source) (old new : List Call) (messages : List (List ℕ)) (streams : StreamEnds) (shown told last : List ℕ) (status : ℕ) → IsPlanned args.plan o → args.write_into ≡ false →
     IsRun args given left old new messages streams shown told last status → EachCall (TouchesFreshOrNone o) old new
@@ -107,11 +99,7 @@ run_renames o args given left old new messages streams shown told last status p 
 
 -- Calls that touch nothing leave each file as it is.
 same_after : (c : Call) (f : Files) (n : List ℕ) → ¬ (touches c n ≡ true) → after c f n ≡ f n
-same_after c f n t = untouched c f n (by_test (touches c n) refl)
-  where
-    by_test : (b : Bool) → touches c n ≡ b → touches c n ≡ false
-    by_test false e = e
-    by_test true e = absurd (t e)
+same_after c f n t = grind arith
 
 -- The files after some calls, of which some were replaced: each has its old bytes, or its output.
 abbrev Later : TextOptions → List (List ℕ) → List ℕ → List ℕ → Option (List ℕ) → Type 0
@@ -126,11 +114,7 @@ record Moments (o : TextOptions) (first : Files) (old : List Call) (names : List
   last : OutputIn o first old names new
 
 forget : (o : TextOptions) (first : Files) (old : List Call) (names : List (List ℕ)) (calls : List Call) → OutputIn o first old names calls → OldOrOutput o first old calls
-forget o first old names calls h n bytes e = either (h n bytes e)
-  where
-    either : Later o names n bytes (content first calls n) → (content first calls n ≡ Some bytes) ⊎ HasOutput o bytes (content first calls n)
-    either (inl same) = inl same
-    either (inr made) = inr made.1
+forget o first old names calls h n bytes e = grind arith
 
 moments_none : (o : TextOptions) (first : Files) (old : List Call) → Moments o first old [] old
 moments_none o first old = record { each = no_call; last = λ n bytes e. inl e }
@@ -224,11 +208,7 @@ moments_all p (then_file {names = names} {name = name} h k told) apart t m =
 
 -- Paths that ascend differ.
 not_before_itself : (f g : Found) → IsBefore f g → Apart (string_bytes f.path) (string_bytes g.path)
-not_before_itself f g h e =
-    let tied : slice_cmp nat_cmp (string_bytes f.path) (string_bytes f.path) ≡ Equal = tied_itself nat_list_cmp_total (string_bytes f.path) in
-    let less : slice_cmp nat_cmp (string_bytes f.path) (string_bytes f.path) ≡ Less =
-    ap (λ (n : List ℕ). slice_cmp nat_cmp (string_bytes f.path) n) e ∙ h in
-    absurd cc
+not_before_itself f g h e = grind (arith, tied_itself, nat_list_cmp_total)
 
 apart_names : (files : List Found) → AllPairs IsBefore files → AllPairs Apart (names_of files)
 apart_names [] h i j d below within = absurd (omega arith)

@@ -1,6 +1,5 @@
 -- Messages with visible control bytes, and messages that are written at once.
-use Rattle.std.proofs.Common.{◌≡◌, ℕ, List, [], ◌∷◌, ◌++◌, Bool, false, Option, Some, sym, ap, ◌∙◌, subst, refl}
-use Rattle.std.specs.Io.KnownBytes.{Appends}
+use Rattle.std.proofs.Common.{◌≡◌, ℕ, List, [], ◌∷◌, ◌++◌, Bool, false, Option, Some, sym, ap, ◌∙◌, refl, arith}
 use Rattle.std.specs.List.{flat_map}
 use Rattle.std.proofs.lemmas.Grind.{flat_map-append}
 use Rattle.ud_io.specs.Watched.{AppendsAllOrPrefix}
@@ -25,10 +24,7 @@ visible_sent text h = h
 
 -- All is appended to an empty buffer, if no write fails.
 appended_all : (failed : Bool) (o p : Option (List ℕ)) {x y : List ℕ} → AppendsAllOrPrefix failed o p x → failed ≡ false → o ≡ Some [] → p ≡ Some y → y ≡ x
-appended_all failed o p {x = x} h works first now =
-    subst (λ (q : Option (List ℕ)). Appends (Some []) q x) now
-    (subst (λ (q : Option (List ℕ)). Appends q p x) first
-    (subst (λ (b : Bool). AppendsAllOrPrefix b o p x) works h))
+appended_all failed o p h works first now = grind arith
 
 -- One write has all that was appended to an empty buffer.
 pub appended_whole : (failed : Bool) (o p : Option (List ℕ)) {a b : Stream} {x y : List ℕ} → AppendsAllOrPrefix failed o p x → failed ≡ false → o ≡ Some [] → p ≡ Some y → Sends a b y → Sends a b x

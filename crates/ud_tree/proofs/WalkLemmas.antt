@@ -16,20 +16,10 @@ abbrev pub Origin : List WalkCall → List Found → Found → Type 0
 Origin calls before f = Contains before f ⊎ WasMet calls f
 
 met_left : (xs ys : List WalkCall) (f : Found) → WasMet xs f → WasMet (xs ++ ys) f
-met_left xs ys f h = record {
-  node = h.node;
-  seen = Contains-append_left xs ys (met (string_bytes f.path) (Present h.node)) h.seen;
-  is_file = h.is_file;
-  same_id = h.same_id;
-}
+met_left xs ys f h = grind (arith, Contains-append_left)
 
 met_right : (xs ys : List WalkCall) (f : Found) → WasMet ys f → WasMet (xs ++ ys) f
-met_right xs ys f h = record {
-  node = h.node;
-  seen = Contains-append_right xs ys (met (string_bytes f.path) (Present h.node)) h.seen;
-  is_file = h.is_file;
-  same_id = h.same_id;
-}
+met_right xs ys f h = grind (arith, Contains-append_right)
 
 -- All files were there before.
 same_origin : (calls : List WalkCall) (found : List Found) → All (Origin calls found) found
@@ -48,12 +38,7 @@ pub finds_same : {old new : List Call} {before found after : List Found} → aft
 finds_same {old = old} {new = new} {before = before} is h = subst (λ (fs : List Found). Finds old new before fs) (sym is) h
 
 later_origin : (xs ys : List WalkCall) (a b : List Found) → All (Origin xs a) b → (f : Found) → Origin ys b f → Origin (ys ++ xs) a f
-later_origin xs ys a b h f (inl inside) = first (All-contains (Origin xs a) b f h inside)
-  where
-    first : Origin xs a f → Origin (ys ++ xs) a f
-    first (inl was) = inl was
-    first (inr m) = inr (met_right ys xs f m)
-later_origin xs ys a b h f (inr m) = inr (met_left ys xs f m)
+later_origin xs ys a b h f k = grind (arith, All-contains, met_right, met_left)
 
 -- One part after another.
 pub finds_then : {old mid new : List Call} {a b c : List Found} → Finds old mid a b → Finds mid new b c → Finds old new a c
@@ -67,12 +52,7 @@ finds_then {old = old} {a = a} {b = b} {c = c} h k = record {
 -- The call that found a file met it.
 met_now : (node : Node) (f : Found) (path : List ℕ) → node.kind ≡ File → string_bytes f.path ≡ path → f.id ≡ node.id →
     WasMet (met path (Present node) ∷ []) f
-met_now node f path file named same = record {
-  node = node;
-  seen = (0, omega arith, ap (λ (n : List ℕ). met n (Present node)) (sym named));
-  is_file = file;
-  same_id = sym same;
-}
+met_now node f path file named same = grind arith
 
 -- A file was found and added.
 pub finds_file : {old new : List Call} {before after : List Found} (path : List ℕ) (node : Node) → new ≡ walked (met path (Present node)) ∷ old →

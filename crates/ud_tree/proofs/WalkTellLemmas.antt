@@ -1,6 +1,5 @@
 -- The messages of parts of a walk, one after another.
-use Rattle.std.proofs.Common.{String, Global, ◌≡◌, ◌⊎◌, inl, inr, ⊎_elim, ◌==◌, true≢false, ℕ, suc, ◌+◌, ◌<◌, ◌≤◌, ◌-◌, ◌^◌, min, List, [], ◌∷◌, ◌++◌, length, take, map, get_or, Bool, true, false, refl, sym, ap, ◌∙◌, subst, arith, append_assoc, append-nil, codes, length-append}
-use Rattle.std.proofs.lemmas.Bool.{cases_lt}
+use Rattle.std.proofs.Common.{String, Global, ◌≡◌, ◌==◌, true≢false, ℕ, suc, ◌+◌, ◌<◌, ◌-◌, ◌^◌, min, List, [], ◌∷◌, ◌++◌, length, take, map, get_or, Bool, true, false, refl, sym, ap, ◌∙◌, subst, arith, append_assoc, append-nil, codes, length-append}
 use Rattle.std.proofs.lemmas.List.{map-append, get_or-map, length-map}
 use Rattle.std.proofs.lemmas.Grind.{flat_map-append}
 use Rattle.std.proofs.lemmas.List.Elements.{Contains-append_left, Contains-append_right, Contains-get_or}
@@ -18,10 +17,11 @@ use Rattle.ud_tree.specs.Messages.{locked_line, fault_line, IsFailureOf, no_reas
 use Rattle.ud_tree.specs.Streams.{Source, takes_all, takes_none}
 use Rattle.ud_io.specs.Streams.{Stream}
 use Rattle.std.specs.Prelude.{string_bytes}
+use Rattle.std.proofs.lemmas.Grind.{common_steps}
 use Rattle.ud_tree.specs.declared.arguments.Arguments.{Arguments}
 use Rattle.ud_tree.specs.Covering.{CoversPaths, misses_no_path, misses_no_input}
 use Rattle.ud_tree.specs.Summaries.{line_of}
-use Rattle.ud_tree.specs.WalkMessages.{is_refused, is_missing, is_unknown, is_unread, IsRemark, is_link, is_other, is_no_text, no_input, AreTold, none_told, then_answered, then_refused, then_vanished, then_remark, joined, WasListed, ReportsRefusal, ReportsWalk, ReportsNames, VisitTells, is_gone, is_told, TellsGiven, is_quiet, is_irregular, input_message, no_memory, bad_input, bad_path, no_match, StopsWalk, TakesEach, TakesPaths}
+use Rattle.ud_tree.specs.WalkMessages.{is_refused, is_missing, is_unknown, is_unread, IsRemark, is_link, is_other, is_no_text, no_input, AreTold, none_told, then_answered, then_refused, then_vanished, then_remark, joined, WasListed, ReportsRefusal, ReportsWalk, ReportsNames, VisitTells, is_gone, is_told, TellsGiven, is_quiet, is_irregular, input_message, no_memory, bad_input, no_match, StopsWalk, TakesEach, TakesPaths}
 use Rattle.ud_tree.proofs.MessageLemmas.{tells_kept, tells_then}
 
 -- One fault more is counted, unless the number is too large.
@@ -35,11 +35,7 @@ some_more a b c is same = omega arith
 -- A line was written once one fault more was counted.
 line_reported : {a b c : Report} {s t : Stream} {x : List ℕ} (name text : List ℕ) → x ≡ name ++ codes ": " ++ text → b.is_terminal ≡ a.is_terminal → b.is_shown ≡ a.is_shown →
     b.faulty ≡ min (a.faulty + 1) (2 ^ 64 - 1) → c.faulty ≡ b.faulty → Tells b c s t (line_of x) → ReportsOne (fault_line name text) a c s t
-line_reported {a = a} {b = b} {c = c} {s = s} {t = t} name text is same hidden more faults h = record {
-  tells = subst (λ (y : List ℕ). Tells a c s t (line_of y)) is (tells_then (tells_kept s same hidden) h);
-  counted = one_more a.faulty b.faulty c.faulty more faults;
-  some = some_more a.faulty b.faulty c.faulty more faults;
-}
+line_reported name text is same hidden more faults h = grind arith
 
 -- A message was written, and is counted.
 pub reported : {a b : Report} {s t : Stream} {message : List ℕ} → Tells a b s t message → (a.faulty + 1 < 2 ^ 64 → b.faulty ≡ a.faulty + 1) → 0 < b.faulty → ReportsOne message a b s t
@@ -48,19 +44,14 @@ reported h more some = record { tells = h; counted = more; some = some }
 -- The line of a fault was written, from its parts.
 pub fault_reported : {a b c : Report} {s t : Stream} (name text : List ℕ) → b.is_terminal ≡ a.is_terminal → b.is_shown ≡ a.is_shown → b.faulty ≡ min (a.faulty + 1) (2 ^ 64 - 1) →
     c.faulty ≡ b.faulty → Tells b c s t (line_of (name ++ (codes ": " ++ (text ++ [])))) → ReportsOne (fault_line name text) a c s t
-fault_reported name text same hidden more faults h = line_reported name text joins same hidden more faults h
-  where
-    joins : name ++ (codes ": " ++ (text ++ [])) ≡ (name ++ codes ": ") ++ text
-    joins = simp (append_assoc, append-nil)
+fault_reported name text same hidden more faults h = grind (arith, common_steps, line_reported)
 
 -- The line of a fault of a name in a folder was written, from its parts.
 pub fault_in_reported : {a b c : Report} {s t : Stream} (folder name text : List ℕ) → b.is_terminal ≡ a.is_terminal → b.is_shown ≡ a.is_shown →
     b.faulty ≡ min (a.faulty + 1) (2 ^ 64 - 1) → c.faulty ≡ b.faulty → Tells b c s t (line_of (folder ++ (name ++ (codes ": " ++ (text ++ []))))) →
     ReportsOne (fault_line (folder ++ name) text) a c s t
-fault_in_reported folder name text same hidden more faults h = line_reported (folder ++ name) text joins same hidden more faults h
-  where
-    joins : folder ++ (name ++ (codes ": " ++ (text ++ []))) ≡ ((folder ++ name) ++ codes ": ") ++ text
-    joins = simp (append_assoc, append-nil)
+fault_in_reported folder name text same hidden more faults h =
+    grind (arith, common_steps, line_reported)
 
 -- The line of a file that another run replaces was written, from its parts.
 pub locked_reported : {a b c : Report} {s t : Stream} (name : List ℕ) (folder end : List ℕ) → b.is_terminal ≡ a.is_terminal → b.is_shown ≡ a.is_shown →
@@ -214,15 +205,7 @@ remark_after xs ys (no_input is) = no_input is
 
 -- A path that was listed by some calls stays one after earlier calls.
 listed_after : {path : List ℕ} (xs ys : List WalkCall) → WasListed ys path → WasListed (ys ++ xs) path
-listed_after xs ys h = record {
-  folder = h.folder;
-  name = h.name;
-  names = h.names;
-  answer = h.answer;
-  listing = Contains-append_left ys xs (listed h.folder h.names h.answer) h.listing;
-  has = h.has;
-  path_is = h.path_is;
-}
+listed_after xs ys h = grind (arith, Contains-append_left)
 
 -- The messages of some calls, and those of later ones.
 told_both : {xs ys : List WalkCall} {ms ns : List (List ℕ)} → AreTold xs ms → AreTold ys ns → AreTold (ys ++ xs) (ms ++ ns)
@@ -236,10 +219,7 @@ told_both {xs = xs} {ms = ms} h (then_remark {calls = calls} {messages = message
 
 -- Faults are counted after others.
 counted_both : (a b c m n : ℕ) → (a + m < 2 ^ 64 → b ≡ a + m) → (b + n < 2 ^ 64 → c ≡ b + n) → a + (m + n) < 2 ^ 64 → c ≡ a + (m + n)
-counted_both a b c m n h k small =
-    let first : b ≡ a + m = h (omega arith) in
-    let second : c ≡ b + n = k (omega arith) in
-    omega arith
+counted_both a b c m n h k small = grind arith
 
 -- One part of a walk after another.
 pub walk_then : {calls mid calls' : List Call} {a b c : Report} {s t u : Stream} → ReportsWalk calls mid a b s t → ReportsWalk mid calls' b c t u → ReportsWalk calls calls' a c s u
@@ -263,23 +243,12 @@ walk_then {calls = calls} {a = a} {b = b} {c = c} {s = s} {u = u} h k = record {
 
 -- Faults that were counted have messages.
 pub some_told : (a b n : ℕ) → a ≡ 0 → (a + n < 2 ^ 64 → b ≡ a + n) → 0 < b → 0 < n
-some_told a b n none h some = ⊎_elim (λ lt. lt) at_zero (cases_lt 0 n)
-  where
-    at_zero : n ≤ 0 → 0 < n
-    at_zero le =
-        let is : b ≡ a + n = h (omega arith) in
-        omega arith
+some_told a b n none h some = grind arith
 
 -- A path of the command line has a fault, so nothing follows.
 pub stops_bad : {from_input : Bool} (left : Source) {calls calls' : List Call} {r r' : Report} {s s' : Stream} → r.faulty ≡ 0 → from_input ≡ false → 0 < r'.faulty → ReportsWalk calls calls' r r' s s' →
     StopsWalk from_input left calls calls' r r' s s'
-stops_bad left {r = r} {r' = r'} {s = s} {s' = s'} none args bad h = record {
-  messages = h.messages;
-  told = [];
-  walk = h.walk;
-  stops = bad_path args (some_told r.faulty r'.faulty (length h.messages) none h.counted bad) refl;
-  tells = subst (λ (x : List ℕ). Tells r r' s s' x) (sym (append-nil (joined h.messages))) h.tells;
-}
+stops_bad left none args bad h = grind (arith, common_steps, some_told)
 
 -- The input couldn't be read, and a line says so.
 pub stops_unread : {left : Source} {r r' : Report} {s s' : Stream} (calls : List Call) → left.failed ≡ true → ReportsOne input_message r r' s s' → StopsWalk true left calls calls r r' s s'
@@ -339,12 +308,7 @@ visit_none {path = path} {calls = calls} h = is_told no_call h
 -- A name of a folder was visited, and something has it, or that isn't known.
 pub visit_met : (answer : Lookup) (met_path : List ℕ) {path : List ℕ} {calls calls' : List Call} {r r' : Report} {s s' : Stream} → ¬ (answer ≡ Absent) → calls' ≡ walked (met met_path answer) ∷ calls →
     ReportsWalk calls calls' r r' s s' → VisitTells path calls calls' r r' s s'
-visit_met answer met_path {path = path} {calls = calls} {calls' = calls'} other is h = is_told answered h
-  where
-    answered : ¬ (calls' ≡ walked (met path Absent) ∷ calls)
-    answered e =
-        let same : answer ≡ Absent = cc in
-        other same
+visit_met answer met_path other is h = grind arith
 
 -- A name of a list is among the names.
 pub name_listed : {X : Type 0} (f : X → List ℕ) (xs : List X) (i : ℕ) (x : X) (name : List ℕ) → i < length xs → x ≡ get_or xs i x → name ≡ f x → Contains (map f xs) name
@@ -355,8 +319,7 @@ name_listed f xs i x name within is named =
 -- The names of an equal list were listed.
 pub names_same : {X : Type 0} (f : X → List ℕ) (xs ys : List X) {folder : List ℕ} {calls calls' : List Call} {r r' : Report} {s s' : Stream} → ys ≡ xs → ReportsNames folder (map f xs) calls calls' r r' s s' →
     ReportsNames folder (map f ys) calls calls' r r' s s'
-names_same {X = X} f xs ys {folder = folder} {calls = calls} {calls' = calls'} {r = r} {r' = r'} {s = s} {s' = s'} is h =
-    subst (λ (ls : List X). ReportsNames folder (map f ls) calls calls' r r' s s') (sym is) h
+names_same f xs ys is h = grind arith
 
 -- A name of a folder that was listed vanished, and nothing was written.
 walk_gone : {folder name : List ℕ} {names : List (List ℕ)} {calls mid calls' : List Call} {a b c : Report} {s t u : Stream} → ReportsNames folder names calls mid a b s t → Contains names name →
@@ -395,16 +358,7 @@ walk_unmet answer path name {r = r} {r' = r'} {s = s} {s' = s'} same is h = walk
 
 -- A list that isn't empty has some files.
 pub some_files : (from_input b : Bool) (n len : ℕ) → n ≡ len → b ≡ (len == 0) → b ≡ false → from_input ≡ false → 0 < n
-some_files from_input b n len counts is test args = by_zero (cases_lt 0 n)
-  where
-    zero : n ≤ 0 → (len == 0) ≡ true
-    zero le =
-        let none : len ≡ 0 = omega (arith, counts) in
-        ap (λ (m : ℕ). m == 0) none
-
-    by_zero : (0 < n) ⊎ (n ≤ 0) → 0 < n
-    by_zero (inl some) = some
-    by_zero (inr le) = absurd (true≢false (sym (zero le) ∙ sym is ∙ test))
+some_files from_input b n len counts is test args = grind arith
 
 -- Nothing is claimed of paths of the input.
 pub some_unless : (from_input : Bool) (n : ℕ) → from_input ≡ true → from_input ≡ false → 0 < n
