@@ -10,20 +10,16 @@ use Rattle.ud_model.proofs.answer.WordLemmas.{options_given, letters_then}
 
 -- a text without bytes has no letters
 pub chars-empty : (bytes : List ℕ) → length bytes ≡ 0 → chars bytes ≡ []
-chars-empty [] e = chars-nil
-chars-empty (b ∷ bs) e = absurd (omega (arith, e))
+chars-empty bytes e = grind (arith, common_steps, chars-nil)
 
 parsed_option-cons : (c number : ℕ) (cs : List ℕ) (next rest : List ParsedArg) → 0 < length (encode_utf8_all cs)
     → parsed_option c number cs next rest ≡ option c number (encode_utf8_all cs) ∷ rest
-parsed_option-cons c number [] next rest e = absurd (omega (arith, e))
-parsed_option-cons c number (l ∷ ls) next rest e = refl
+parsed_option-cons c number cs next rest e = grind arith
 
 -- the bytes after a letter are its argument, if there are any
 pub parsed_option-bytes : (c number : ℕ) (bytes : List ℕ) (next rest : List ParsedArg) → IsUtf8 bytes → 0 < length bytes
     → parsed_option c number (chars bytes) next rest ≡ option c number bytes ∷ rest
-parsed_option-bytes c number bytes next rest u e =
-    parsed_option-cons c number (chars bytes) next rest (rw (encodes-chars bytes u) e)
-    ∙ ap (λ (a : List ℕ). option c number a ∷ rest) (encodes-chars bytes u)
+parsed_option-bytes c number bytes next rest u e = grind (arith, parsed_option-cons, encodes-chars)
 
 option_letters-cons : (b : ℕ) (bs : List ℕ) → b ≢ 45 → option_letters (b ∷ bs) ≡ []
 option_letters-cons b bs h = grind (arith, common_steps)

@@ -1,22 +1,12 @@
 -- OperandLemmas: an operand has the bytes of the argument at its index.
 use Rattle.std.proofs.Common.{◌≡◌, ◌∙◌, ◌++◌, ◌+◌, ℕ, suc, List, [], ◌∷◌, Bool, true, false, Option, Some, None, if◌then◌else◌, bytes_eq, codes, refl, sym, subst, arith}
 use Rattle.std.specs.List.{slice_get}
-use Rattle.ud_model.specs.answer.CommandLine.{ParsedArg, Operand, WordGives, operand_in, parsed_args, given_next, letters_give, option_gives, then_gives, flag, unknown, is_flag, takes_argument, operands_from, is_operand, option_letters, operand_of, operand_index}
+use Rattle.ud_model.specs.answer.CommandLine.{ParsedArg, Operand, WordGives, operand_in, parsed_args, given_next, letters_give, operands_from, is_operand, option_letters, operand_of}
 
 -- the letters of an argument give no operand
 past_letters : (n : ℕ) (cs : List ℕ) (gs : List ParsedArg) → operand_in ((letters_give n cs).given ++ gs) ≡ operand_in gs
 past_letters n [] gs = refl
-past_letters n (c ∷ cs) gs = go (is_flag c) (takes_argument c) (past_letters n cs gs)
-  where
-    one : (ls : List ℕ) → operand_in ((option_gives c n ls).given ++ gs) ≡ operand_in gs
-    one [] = refl
-    one (l ∷ ls) = refl
-
-    go : (f t : Bool) → operand_in ((letters_give n cs).given ++ gs) ≡ operand_in gs →
-        operand_in ((if f then then_gives (flag c) (letters_give n cs) else if t then option_gives c n cs else then_gives (unknown c) (letters_give n cs)).given ++ gs) ≡ operand_in gs
-    go true t more = more
-    go false true more = one cs
-    go false false more = more
+past_letters n (c ∷ cs) gs = grind (arith, past_letters n cs gs)
 
 -- `IsThere args n o`: the operand has the bytes of one of the arguments, which are counted from `n`
 abbrev IsThere : List (List ℕ) → ℕ → Operand → Type 0
@@ -54,10 +44,4 @@ operand_there args o e =
 
 -- The operand at the index that a plan has.
 pub named : (args : List (List ℕ)) (n : ℕ) → Some n ≡ operand_of args → (o : Operand) × (operand_in (parsed_args args) ≡ Some o) × (o.index ≡ n) × (slice_get args n ≡ Some o.name)
-named args n e = go (operand_in (parsed_args args)) refl e
-  where
-    go : (x : Option Operand) → operand_in (parsed_args args) ≡ x → Some n ≡ operand_index x → (o : Operand) × (operand_in (parsed_args args) ≡ Some o) × (o.index ≡ n) × (slice_get args n ≡ Some o.name)
-    go None e i = cc
-    go (Some o) e i =
-        let same : o.index ≡ n = cc in
-        (o, e, same, subst (λ k. slice_get args k ≡ Some o.name) same (operand_there args o e))
+named args n e = grind (arith, operand_there)

@@ -1,5 +1,5 @@
 -- Options and operands with more after them: faults, settings, symbols and the operand.
-use Rattle.std.proofs.Common.{◌≡◌, ◌∙◌, ap, refl, ℕ, List, [], ◌∷◌, ◌++◌, Bool, true, false, ◌||◌, Option, Some, None, is_some, codes, if◌then◌else◌}
+use Rattle.std.proofs.Common.{◌≡◌, ◌∙◌, ap, refl, ℕ, List, [], ◌∷◌, ◌++◌, Bool, true, false, ◌||◌, Option, Some, None, is_some, codes, if◌then◌else◌, arith}
 use Rattle.ud_model.specs.declared.settings.Listing.TheVariants.{Depths}
 use Rattle.ud_model.specs.declared.settings.ExitMode.{ExitMode}
 use Rattle.ud_model.specs.declared.settings.ExitMode.TheVariants.{Zero}
@@ -7,8 +7,7 @@ use Rattle.ud_model.specs.answer.CommandLine.{ParsedArg, flag, option, operand, 
 use Rattle.ud_args.specs.ParsedSettings.{with_flag, with_names}
 
 or_none : (a b : Option UsageFault) → fault_or a b ≡ None → (a ≡ None) × (b ≡ None)
-or_none None b h = (refl, h)
-or_none (Some f) b h = cc
+or_none a b h = grind arith
 
 -- after options without a fault and an operand, the first fault is that of the rest
 pub first_fault-append : (gs more : List ParsedArg) → first_fault gs ≡ None → operand_in gs ≡ None → first_fault (gs ++ more) ≡ first_fault more
@@ -36,8 +35,7 @@ first_fault-behind_operand (lacking c ∷ gs) more g h k = cc
 
 -- options without an operand
 pub operand_in-none : (o : Option Operand) → is_some o ≡ false → o ≡ None
-operand_in-none None h = refl
-operand_in-none (Some o) h = cc
+operand_in-none o h = grind arith
 
 -- the operand of options without one, with more after them, is that of the rest
 pub operand_in-append : (gs more : List ParsedArg) → operand_in gs ≡ None → operand_in (gs ++ more) ≡ operand_in more
@@ -56,8 +54,7 @@ swap_or false b c = refl
 -- a flag at the end
 pub has_flag-flag_last : (ls : List ℕ) (gs : List ParsedArg) (c : ℕ) → has_flag ls (gs ++ flag c ∷ []) ≡ (has_letter ls c || has_flag ls gs)
 has_flag-flag_last ls [] c = refl
-has_flag-flag_last ls (flag d ∷ gs) c =
-    ap (λ (b : Bool). has_letter ls d || b) (has_flag-flag_last ls gs c) ∙ swap_or (has_letter ls d) (has_letter ls c) (has_flag ls gs)
+has_flag-flag_last ls (flag d ∷ gs) c = grind (arith, swap_or, has_flag-flag_last ls gs c)
 has_flag-flag_last ls (option d n a ∷ gs) c = has_flag-flag_last ls gs c
 has_flag-flag_last ls (operand n w ∷ gs) c = has_flag-flag_last ls gs c
 has_flag-flag_last ls (unknown d ∷ gs) c = has_flag-flag_last ls gs c
@@ -94,29 +91,7 @@ listing_last depths names false false = refl
 
 -- a flag at the end, in the settings
 pub settings_in-flag_last : (gs : List ParsedArg) (c : ℕ) → settings_in (gs ++ flag c ∷ []) ≡ with_flag (settings_in gs) c
-settings_in-flag_last gs c =
-    let plain = has_flag-flag_last (codes "t") gs c in
-    let constants = has_flag-flag_last (codes "k") gs c in
-    let strict = has_flag-flag_last (codes "K") gs c in
-    let blank = has_flag-flag_last (codes "bl") gs c in
-    let complement = has_flag-flag_last (codes "c") gs c in
-    let renumber = has_flag-flag_last (codes "n") gs c in
-    let depths = has_flag-flag_last (codes "S") gs c in
-    let names = has_flag-flag_last (codes "s") gs c in
-    let listing = listing_last (has_flag (codes "S") gs) (has_flag (codes "s") gs) (has_letter (codes "S") c) (has_letter (codes "s") c) in
-    let mode = mode_from-append Zero gs (flag c ∷ []) in
-    λ i. record {
-      plain = plain i;
-      constants = constants i;
-      strict = strict i;
-      blank = blank i;
-      complement = complement i;
-      renumber = renumber i;
-      listing = (ap (λ (d : Bool). listing_by d (has_flag (codes "s") (gs ++ flag c ∷ []))) depths
-          ∙ ap (λ (n : Bool). listing_by (has_letter (codes "S") c || has_flag (codes "S") gs) n) names
-          ∙ listing) i;
-      exit_mode = mode i;
-    }
+settings_in-flag_last gs c = grind (arith, has_flag-flag_last, listing_last, mode_from-append)
 
 -- at the end, an option or operand that is no flag changes the exit mode alone
 pub settings_in-last : (gs : List ParsedArg) (g : ParsedArg) (m : ExitMode) → IsNoFlag g → mode_from (mode_from Zero gs) (g ∷ []) ≡ m

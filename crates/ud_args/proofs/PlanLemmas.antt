@@ -1,5 +1,5 @@
 -- Plans with more options and operands.
-use Rattle.std.proofs.Common.{◌≡◌, ◌∙◌, ap, sym, subst, refl, ℕ, List, [], ◌∷◌, ◌++◌, Bool, true, false, if◌then◌else◌, Option, Some, None, is_some, append-nil, append_assoc, bytes_eq, option_map, IsSome}
+use Rattle.std.proofs.Common.{◌≡◌, ◌∙◌, ap, sym, subst, refl, ℕ, List, [], ◌∷◌, ◌++◌, Bool, true, false, if◌then◌else◌, Option, Some, None, is_some, append-nil, append_assoc, bytes_eq, option_map, IsSome, arith}
 use Rattle.std.proofs.lemmas.List.Elements.{filter_map-append}
 use Rattle.std.specs.List.{filter_map}
 use Rattle.ud_cond.specs.symbols.SymbolTable.{TableRepresents}
@@ -14,18 +14,16 @@ use Rattle.ud_args.specs.ParsedSettings.{with_flag, SetsSymbol, IsSetting, IsFau
 use Rattle.ud_args.specs.declared.options.Setting.{Setting}
 use Rattle.ud_args.specs.declared.options.Setting.TheVariants as said
 use Rattle.ud_args.specs.declared.usage.Usage.{Usage}
-use Rattle.ud_args.specs.declared.usage.Usage.TheVariants.{UnknownOption, MissingArgument, BadSymbol, BadMode, TooManyFiles, OutOfMemory}
+use Rattle.ud_args.specs.declared.usage.Usage.TheVariants.{OutOfMemory}
 use Rattle.ud_args.specs.Plans.{PlanState, PlanRepresents}
 use Rattle.ud_args.proofs.ParsedArgLemmas.{first_fault-append, first_fault-prefix, operand_in-append, settings_in-flag_last, settings_in-last}
 
 place_none : (o : Option Operand) → operand_index o ≡ None → o ≡ None
-place_none None h = refl
-place_none (Some o) h = cc
+place_none o h = grind arith
 
 -- an operand has an index
 is_some-operand_index : (o : Option Operand) → is_some (operand_index o) ≡ is_some o
-is_some-operand_index None = refl
-is_some-operand_index (Some o) = refl
+is_some-operand_index o = grind arith
 
 -- a plan has an operand if one was given
 pub is_some-operand_in : (plan : PlanState) (gs : List ParsedArg) (o : Option ℕ) (found : Bool) → PlanRepresents plan gs → o ≡ plan.operand → found ≡ is_some o
@@ -40,13 +38,7 @@ represents_last : (old new : PlanState) (gs : List ParsedArg) (g : ParsedArg) �
     → new.settings ≡ settings_in (gs ++ g ∷ []) → TableRepresents new.symbols (filter_map argument_in gs ++ filter_map argument_in (g ∷ []))
     → new.operand ≡ operand_index (operand_in (g ∷ [])) → PlanRepresents new (gs ++ g ∷ [])
 represents_last old new gs g p free right said represents index =
-    let none : operand_in gs ≡ None = place_none (operand_in gs) (sym p.index ∙ free) in
-    record {
-      right = first_fault-append gs (g ∷ []) p.right none ∙ right;
-      said = said;
-      represents = rw (filter_map-append argument_in gs (g ∷ [])) represents;
-      index = index ∙ ap operand_index (sym (operand_in-append gs (g ∷ []) none));
-    }
+    grind (arith, place_none, first_fault-append, filter_map-append, operand_in-append)
 
 -- an option or operand without a symbol keeps the table
 represents_same : (old new : PlanState) (gs : List ParsedArg) (g : ParsedArg) → PlanRepresents old gs → old.operand ≡ None → first_fault (g ∷ []) ≡ None
@@ -96,38 +88,20 @@ represents_operand old new gs n name p free said same index =
 
 -- an option or operand with a setting has no fault
 pub first_fault-said : (g : ParsedArg) (s : Setting) → IsSetting g s → first_fault (g ∷ []) ≡ None
-first_fault-said g (said.Flag letter) h = rw h refl
-first_fault-said g (said.Mode mode) h = rw (h.2, h.3) refl
-first_fault-said g (said.Symbol a) h = rw (h.is, h.other, h.sets) refl
-first_fault-said g (said.Operand index name) h = rw h refl
+first_fault-said g s h = grind arith
 
 -- a fault of the command line is one that `plan` may return
 pub IsUsageOf-fault : (gs : List ParsedArg) (u : Usage) → IsFaultOf (first_fault gs) u → IsUsageOf gs u
-IsUsageOf-fault gs (UnknownOption letter) h = h
-IsUsageOf-fault gs (MissingArgument letter) h = h
-IsUsageOf-fault gs (BadSymbol word) h = h
-IsUsageOf-fault gs (BadMode word) h = h
-IsUsageOf-fault gs TooManyFiles h = h
-IsUsageOf-fault gs OutOfMemory h = absurd h
+IsUsageOf-fault gs u h = grind arith
 
 -- a failed allocation for a symbol, with no fault before, is one too
 pub IsUsageOf-memory : (gs more : List ParsedArg) (g : ParsedArg) (s : Setting) (u : Usage) → first_fault gs ≡ None → operand_in gs ≡ None → IsSetting g s
     → (u ≡ OutOfMemory) × IsSome (argument_in g) → IsUsageOf (gs ++ g ∷ more) u
-IsUsageOf-memory gs more g s u right none is h =
-    let puts : StoresSymbol (gs ++ g ∷ more) = record {
-      before = gs;
-      symbol = g;
-      more = more;
-      is = refl;
-      right = first_fault-append gs (g ∷ []) right none ∙ first_fault-said g s is;
-      sets = h.1;
-    } in
-    rw h.0 puts
+IsUsageOf-memory gs more g s u right none is h = grind (arith, first_fault-append, first_fault-said)
 
 -- an option stays `Some` or `None` if its value is mapped
 pub is_some-turned : {A B : Type 0} (f : A → B) (o : Option A) → is_some (option_map f o) ≡ is_some o
-is_some-turned f None = refl
-is_some-turned f (Some a) = refl
+is_some-turned f o = grind arith
 
 -- an option with a symbol, between those before it and those after it
 record SymbolIn (gs : List ParsedArg) : Type 0 where

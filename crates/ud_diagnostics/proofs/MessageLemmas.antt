@@ -1,5 +1,6 @@
 -- Messages from their parts.
-use Rattle.std.proofs.Common.{◌≡◌, ℕ, List, [], ◌++◌, ap, sym, ◌∙◌, append_assoc, append-nil, codes, decimal}
+use Rattle.std.proofs.Common.{◌≡◌, ℕ, List, [], ◌++◌, ap, sym, ◌∙◌, append_assoc, append-nil, codes, decimal, arith}
+use Rattle.std.proofs.lemmas.Grind.{common_steps}
 use Rattle.ud_model.specs.answer.Messages.{about, about_line, message_of}
 use Rattle.ud_model.specs.sections.Faults.{premature_eof}
 
@@ -14,8 +15,7 @@ about_joined name text = simp append_assoc
 -- a message about a line, from its seven parts
 pub line_joined : (line : ℕ) (name number text : List ℕ) → number ≡ decimal line
     → codes "unifdef: " ++ (name ++ (codes ": " ++ (number ++ (codes ": " ++ (text ++ (codes "\n" ++ [])))))) ≡ about_line name line text
-line_joined line name number text e =
-    ap (λ n. codes "unifdef: " ++ (name ++ (codes ": " ++ (n ++ (codes ": " ++ (text ++ (codes "\n" ++ []))))))) e ∙ simp append_assoc
+line_joined line name number text e = grind (arith, common_steps)
 
 seven_joined : (u n b l c m d e : List ℕ) → u ++ (n ++ (b ++ (l ++ ((b ++ c) ++ (m ++ ((d ++ e) ++ [])))))) ≡ u ++ n ++ b ++ l ++ b ++ (c ++ m ++ d) ++ e
 seven_joined u n b l c m d e = simp (append_assoc, append-nil)

@@ -9,20 +9,16 @@ use Rattle.ud_tree_args.specs.CommandLines.{Parsed, option, option_then}
 
 -- A text without bytes has no letters.
 pub chars-empty : (bytes : List ℕ) → length bytes ≡ 0 → chars bytes ≡ []
-chars-empty [] e = chars-nil
-chars-empty (b ∷ bs) e = absurd (omega (arith, e))
+chars-empty bytes e = grind (arith, common_steps, chars-nil)
 
 option_then-cons : (c : ℕ) (cs : List ℕ) (next rest : List Parsed) → 0 < length (encode_utf8_all cs) →
     option_then c cs next rest ≡ option c (encode_utf8_all cs) ∷ rest
-option_then-cons c [] next rest e = absurd (omega (arith, e))
-option_then-cons c (l ∷ ls) next rest e = refl
+option_then-cons c cs next rest e = grind arith
 
 -- The bytes after a letter are its argument, if there are any.
 pub option_then-bytes : (c : ℕ) (bytes : List ℕ) (next rest : List Parsed) → IsUtf8 bytes → 0 < length bytes →
     option_then c (chars bytes) next rest ≡ option c bytes ∷ rest
-option_then-bytes c bytes next rest u e =
-    option_then-cons c (chars bytes) next rest (rw (encodes-chars bytes u) e)
-    ∙ ap (λ (a : List ℕ). option c a ∷ rest) (encodes-chars bytes u)
+option_then-bytes c bytes next rest u e = grind (arith, option_then-cons, encodes-chars)
 
 option_letters-cons : (b : ℕ) (bs : List ℕ) → b ≢ 45 → option_letters (b ∷ bs) ≡ []
 option_letters-cons b bs h = grind (arith, common_steps)
