@@ -6,3 +6,4 @@ pub mod CheckLemmas
 pub mod TransitionLemmas
 pub mod MachineLemmas
 pub mod NextLemmas
+pub mod SettledLemmas
