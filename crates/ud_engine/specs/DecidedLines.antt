@@ -4,12 +4,14 @@
 --   DeciderRepresents o r xs t        a decider has read these items
 --   DecidesLine o r xs t l step       it has also read this line
 --   DecidesNext symbols r new l result   it did, whatever it had read, or the line is faulty
+--   line_with body ending number      the line of these parts
+--   DecidesAs symbols r new l keyword verdict   `DecidesNext`, by a verdict and the keyword's span
 --   consumed lines bytes              a line buffer once these bytes are consumed
 --   AreText xs                        these items are text lines
 --   DecidesBulk o r xs t ls verdict   a decider has also read these text lines
 --   DecidesText r new lines bytes     it did, whatever it had read
-use Rattle.std.specs.Prelude.{◌≡◌, ℕ, suc, ◌+◌, List, [], ◌∷◌, ◌++◌, length, map, None, Result}
-use Rattle.std.specs.Prelude.{MatchResult}
+use Rattle.std.specs.Prelude.{◌≡◌, ℕ, suc, ◌+◌, List, [], ◌∷◌, ◌++◌, length, map, Option, Some, None}
+use Rattle.std.specs.Prelude.{Result, Ok, Err, MatchResult}
 use Rattle.ud_model.specs.text.Lines.{Line, whole_lines, numbered_from}
 use Rattle.ud_model.specs.text.Scans.{Reading}
 use Rattle.ud_model.specs.sections.Directives.{text, content_of}
@@ -29,6 +31,7 @@ use Rattle.ud_sections.specs.sections.MachineState.{MachineRepresents, machine_f
 use Rattle.ud_sections.specs.sections.Transitions.{text_verdict}
 use Rattle.ud_sections.specs.printing.PrinterOutputs.{judged_text}
 use Rattle.ud_sections.specs.sections.StepViews.{as_span}
+use Rattle.ud_sections.specs.declared.sections.step.Span.{Span}
 use Rattle.ud_sections.specs.declared.sections.step.Step.{Step}
 use Rattle.ud_sections.specs.declared.sections.machine.Machine.{Machine}
 use Rattle.ud_engine.specs.declared.line_decider.LineDecider.{LineDecider}
@@ -65,6 +68,19 @@ DecidesNext symbols r new l result =
     TableRepresents symbols o.table → DeciderRepresents o r xs t →
     MatchResult result (DecidesLine o new xs t l)
     (λ f. FaultOf xs (next_item o xs t l) (fault_of f))
+
+-- `line_with body ending number`: the line of these parts.
+abbrev pub line_with : List ℕ → List ℕ → ℕ → Line
+line_with body ending number = record { body = body; ending = ending; number = number }
+
+-- `DecidesAs symbols r new l keyword verdict`: `DecidesNext` with the step of this verdict, whose
+-- keyword has this span; or with the fault that the machine of `new` has.
+abbrev pub DecidesAs : List Argument → LineDecider → LineDecider → Line → Span → Option Verdict →
+    Type 0
+DecidesAs symbols r new l keyword (Some verdict) =
+    DecidesNext symbols r new l (Ok (record { verdict = verdict; keyword = keyword }))
+DecidesAs symbols r new l keyword None =
+    (f : SectionFault) × (machine_fault new.machine ≡ Some f) × DecidesNext symbols r new l (Err f)
 
 -- `consumed lines bytes`: `lines` once the whole lines of `bytes` are consumed too.
 abbrev pub consumed : LinesState → List ℕ → LinesState

@@ -1,8 +1,9 @@
 //! Deciding lines, one after another, by a scanner and a machine.
 
 ghost use Rattle.std.specs.Prelude.{◌≡◌, ◌≤◌, ◌++◌, [], ℕ, List, length, take, IfOk};
-ghost use Rattle.std.specs.Prelude.{false, OnErr};
-ghost use Rattle.ud_model.specs.text.Lines.{NoNewline};
+ghost use Rattle.std.specs.Prelude.{false, OnErr, IsTrue, IfSome, IfNone, IfErr, Some, None, true};
+ghost use Rattle.std.specs.Prelude.{is_some, codes};
+ghost use Rattle.ud_model.specs.text.Lines.{NoNewline, is_ending};
 ghost use Rattle.ud_model.specs.text.Scans.{Reading};
 ghost use Rattle.ud_model.specs.sections.Tree.{Item, Tree, closed, nothing};
 ghost use Rattle.ud_model.specs.sections.Items.{Options};
@@ -13,11 +14,11 @@ ghost use Rattle.ud_model.specs.text.LineViews.{as_line};
 ghost use Rattle.ud_text.specs.bulk.BulkScanning.{AreWholeLines};
 ghost use Rattle.ud_text.specs.lines.Consuming.{CanConsume};
 ghost use Rattle.ud_sections.specs.sections.Limits.{IsWithinLimits};
-ghost use Rattle.ud_sections.specs.sections.StepViews.{HoldsKeyword};
-ghost use Rattle.ud_sections.specs.sections.MachineState.{end_fault_of};
+ghost use Rattle.ud_sections.specs.sections.StepViews.{HoldsKeyword, KeywordIsWithin};
+ghost use Rattle.ud_sections.specs.sections.MachineState.{end_fault_of, machine_fault};
 ghost use Rattle.ud_sections.specs.sections.Transitions.{text_policy_of};
 ghost use Rattle.ud_engine.specs.DecidedLines.{DeciderRepresents, DecidesNext, DecidesText};
-ghost use Rattle.ud_engine.specs.DecidedLines.{consumed, decider_of};
+ghost use Rattle.ud_engine.specs.DecidedLines.{DecidesAs, consumed, decider_of, line_with};
 ghost use Rattle.ud_engine.specs.NameListing.{ListsNext, ListsWith};
 
 use crate::listing::append_names;
@@ -25,8 +26,8 @@ use crate::output::Output;
 use std::io::Write;
 use ud_cond::Symbols;
 use ud_io::Watched;
-use ud_model::Settings;
-use ud_sections::{Lister, Machine, SectionFault, Step, TextPolicy, directive};
+use ud_model::{Settings, Verdict};
+use ud_sections::{Lister, Machine, SectionFault, Span, Step, TextPolicy, directive};
 use ud_text::{Line, LineBuffer, Lines, Scanner, ScannerOf};
 
 /// The most bytes of a short line's body.
@@ -54,11 +55,12 @@ impl LineDecider {
     /// Decides the next line. Returns its step.
     ///
     /// Every section has an `#endif`, and many have an `#else`. Their body is a constant here, so
-    /// that the compiler knows their scan and their directive.
+    /// that the compiler knows their scan and their directive. The parts of the line and the result
+    /// go by registers, so that the line and its step mostly need no memory.
     ///
     /// # Errors
     /// Fails if the line is faulty.
-    #[inline(never)]
+    #[inline(always)]
     pub(crate) fn decide(
         &mut self,
         line: &Line<'_>,
@@ -69,87 +71,204 @@ impl LineDecider {
         ensures decides { DecidesNext symbols.now self.old self.new (as_line line.now) result }
         ensures cursor { IfOk result (λ s. HoldsKeyword s line.now) }
     {
-        match line.body {
-            b"#endif" => {
-                let known = Line {
-                    body: b"#endif",
-                    ending: line.ending,
-                    number: line.number,
-                };
-                self.decide_unmarked(&known, symbols)
-            }
-            b"#else" => {
-                let known = Line {
-                    body: b"#else",
-                    ending: line.ending,
-                    number: line.number,
-                };
-                self.decide_unmarked(&known, symbols)
-            }
-            _ => self.decide_unmarked(line, symbols),
+        let mut keyword = Span { at: 0, len: 0 };
+        match self.decide_by_body(line, symbols, &mut keyword) {
+            Some(verdict) => Ok(Step { verdict, keyword }),
+            None => Err(self.fault()),
         }
     }
 
-    /// Decides the next line. Its scan is mostly known at once. A copy of the line is passed on, so
-    /// that the line itself needs no memory.
-    ///
-    /// # Errors
-    /// As `decide`.
+    /// Decides the next line, as `decide_endif` does, by the function for its body.
     #[inline(always)]
-    fn decide_unmarked(&mut self, line: &Line<'_>, symbols: &Symbols) -> Result<Step, SectionFault>
+    fn decide_by_body(
+        &mut self,
+        line: &Line<'_>,
+        symbols: &Symbols,
+        keyword: &mut Span,
+    ) -> Option<Verdict>
         requires within { IsWithinLimits (as_line line.now) }
         requires one_line { NoNewline line.now.body.now }
-        ensures decides { DecidesNext symbols.now self.old self.new (as_line line.now) result }
-        ensures cursor { IfOk result (λ s. HoldsKeyword s line.now) }
+        ensures decides { DecidesAs symbols.now self.old self.new (as_line line.now) keyword.new
+            result }
+        ensures cursor { IfSome result (λ v. KeywordIsWithin v keyword.new line.now.body.now) }
     {
-        if let Some(scan) = self.scanner.read_unmarked(line) {
-            return self.machine.step(&scan, line, symbols);
+        if is_endif(line.body) {
+            return self.decide_endif(line.ending, line.number, symbols, keyword);
         }
-        let copy = Line {
-            body: line.body,
-            ending: line.ending,
-            number: line.number,
+        if is_else(line.body) {
+            return self.decide_else(line.ending, line.number, symbols, keyword);
+        }
+        self.decide_other(line.body, line.ending, line.number, symbols, keyword)
+    }
+
+    /// Decides the next line, an `#endif`. Returns its verdict, and sets the span of its keyword.
+    /// Returns `None` if the line is faulty, and then the machine has the fault.
+    #[inline(never)]
+    fn decide_endif(
+        &mut self,
+        ending: &[u8],
+        number: u32,
+        symbols: &Symbols,
+        keyword: &mut Span,
+    ) -> Option<Verdict>
+        requires ended { IsTrue (is_ending ending.now) }
+        requires within { IsWithinLimits (line_with (codes "#endif") ending.now number) }
+        ensures decides { DecidesAs symbols.now self.old self.new
+            (line_with (codes "#endif") ending.now number) keyword.new result }
+        ensures cursor { IfSome result (λ v. KeywordIsWithin v keyword.new (codes "#endif")) }
+    {
+        self.decide_parts(b"#endif", ending, number, symbols, keyword)
+    }
+
+    /// Decides the next line, an `#else`, as `decide_endif` does.
+    #[inline(never)]
+    fn decide_else(
+        &mut self,
+        ending: &[u8],
+        number: u32,
+        symbols: &Symbols,
+        keyword: &mut Span,
+    ) -> Option<Verdict>
+        requires ended { IsTrue (is_ending ending.now) }
+        requires within { IsWithinLimits (line_with (codes "#else") ending.now number) }
+        ensures decides { DecidesAs symbols.now self.old self.new
+            (line_with (codes "#else") ending.now number) keyword.new result }
+        ensures cursor { IfSome result (λ v. KeywordIsWithin v keyword.new (codes "#else")) }
+    {
+        self.decide_parts(b"#else", ending, number, symbols, keyword)
+    }
+
+    /// Decides the next line, whatever its body is, as `decide_endif` does.
+    #[inline(never)]
+    fn decide_other(
+        &mut self,
+        body: &[u8],
+        ending: &[u8],
+        number: u32,
+        symbols: &Symbols,
+        keyword: &mut Span,
+    ) -> Option<Verdict>
+        requires ended { IsTrue (is_ending ending.now) }
+        requires within { IsWithinLimits (line_with body.now ending.now number) }
+        requires one_line { NoNewline body.now }
+        ensures decides { DecidesAs symbols.now self.old self.new
+            (line_with body.now ending.now number) keyword.new result }
+        ensures cursor { IfSome result (λ v. KeywordIsWithin v keyword.new body.now) }
+    {
+        self.decide_parts(body, ending, number, symbols, keyword)
+    }
+
+    /// Decides the next line as `decide_endif` does. Its scan is mostly known at once.
+    #[inline(always)]
+    fn decide_parts(
+        &mut self,
+        body: &[u8],
+        ending: &[u8],
+        number: u32,
+        symbols: &Symbols,
+        keyword: &mut Span,
+    ) -> Option<Verdict>
+        requires ended { IsTrue (is_ending ending.now) }
+        requires within { IsWithinLimits (line_with body.now ending.now number) }
+        requires one_line { NoNewline body.now }
+        ensures decides { DecidesAs symbols.now self.old self.new
+            (line_with body.now ending.now number) keyword.new result }
+        ensures cursor { IfSome result (λ v. KeywordIsWithin v keyword.new body.now) }
+    {
+        let line = Line {
+            body,
+            ending,
+            number,
         };
-        match self.decide_marked(&copy, symbols) {
-            Ok(step) => Ok(step),
-            Err(fault) => Err(fault),
+        match self.decide_unmarked(&line, symbols) {
+            Some(decided) => verdict_of(decided, keyword),
+            None => self.decide_marked(body, ending, number, symbols, keyword),
         }
     }
 
-    /// Decides the next line, whatever it has and whatever is carried from the lines before.
-    ///
-    /// # Errors
-    /// As `decide`.
-    #[inline(never)]
-    fn decide_marked(&mut self, line: &Line<'_>, symbols: &Symbols) -> Result<Step, SectionFault>
+    /// Decides the next line, if its scan is known at once. Otherwise changes nothing.
+    #[inline(always)]
+    fn decide_unmarked(
+        &mut self,
+        line: &Line<'_>,
+        symbols: &Symbols,
+    ) -> Option<Result<Step, SectionFault>>
         requires within { IsWithinLimits (as_line line.now) }
         requires one_line { NoNewline line.now.body.now }
-        ensures decides { DecidesNext symbols.now self.old self.new (as_line line.now) result }
-        ensures cursor { IfOk result (λ s. HoldsKeyword s line.now) }
+        ensures decides { IfSome result (DecidesNext symbols.now self.old self.new
+            (as_line line.now)) }
+        ensures cursor { IfSome result (λ r. IfOk r (λ s. HoldsKeyword s line.now)) }
+        ensures fault { IfSome result (λ r. IfErr r
+            (λ f. machine_fault self.new.machine ≡ Some f)) }
+        ensures unchanged { IfNone result (self.new ≡ self.old) }
     {
-        if line.body.len() > SHORT_LINE_BYTES {
-            return self.decide_long(line, symbols);
-        }
-        decide_with(&mut self.scanner, &mut self.machine, line, symbols)
+        let scan = self.scanner.read_unmarked(line)?;
+        Some(self.machine.step(&scan, line, symbols))
     }
 
-    /// Decides the next line if it is longer than `SHORT_LINE_BYTES`. The scanner for it is a local
-    /// of this function, so that shorter lines don't clear its memory.
-    ///
-    /// # Errors
-    /// As `decide`.
+    /// Decides the next line as `decide_endif` does, whatever it has and whatever is carried from
+    /// the lines before.
     #[inline(never)]
-    fn decide_long(&mut self, line: &Line<'_>, symbols: &Symbols) -> Result<Step, SectionFault>
+    fn decide_marked(
+        &mut self,
+        body: &[u8],
+        ending: &[u8],
+        number: u32,
+        symbols: &Symbols,
+        keyword: &mut Span,
+    ) -> Option<Verdict>
+        requires ended { IsTrue (is_ending ending.now) }
+        requires within { IsWithinLimits (line_with body.now ending.now number) }
+        requires one_line { NoNewline body.now }
+        ensures decides { DecidesAs symbols.now self.old self.new
+            (line_with body.now ending.now number) keyword.new result }
+        ensures cursor { IfSome result (λ v. KeywordIsWithin v keyword.new body.now) }
+    {
+        let line = Line {
+            body,
+            ending,
+            number,
+        };
+        if body.len() > SHORT_LINE_BYTES {
+            return self.decide_long(&line, symbols, keyword);
+        }
+        let decided = decide_with(&mut self.scanner, &mut self.machine, &line, symbols);
+        verdict_of(decided, keyword)
+    }
+
+    /// Decides the next line, if it is longer than `SHORT_LINE_BYTES`, as `decide_endif` does. The
+    /// scanner for it is a local of this function, so that shorter lines don't clear its memory.
+    #[inline(never)]
+    fn decide_long(
+        &mut self,
+        line: &Line<'_>,
+        symbols: &Symbols,
+        keyword: &mut Span,
+    ) -> Option<Verdict>
         requires within { IsWithinLimits (as_line line.now) }
         requires one_line { NoNewline line.now.body.now }
-        ensures decides { DecidesNext symbols.now self.old self.new (as_line line.now) result }
-        ensures cursor { IfOk result (λ s. HoldsKeyword s line.now) }
+        ensures decides { DecidesAs symbols.now self.old self.new (as_line line.now) keyword.new
+            result }
+        ensures cursor { IfSome result (λ v. KeywordIsWithin v keyword.new line.now.body.now) }
     {
         let mut scanner = Scanner::new();
         scanner.copy_state_of(&self.scanner);
         let decided = decide_with(&mut scanner, &mut self.machine, line, symbols);
         self.scanner.copy_state_of(&scanner);
-        decided
+        verdict_of(decided, keyword)
+    }
+
+    /// Returns the fault of the last line.
+    #[cold]
+    #[inline(never)]
+    fn fault(&self) -> SectionFault
+        requires { is_some (machine_fault self.now.machine) ≡ true }
+        ensures { machine_fault self.now.machine ≡ Some result }
+    {
+        match self.machine.finish(false) {
+            Err(fault) => fault,
+            Ok(()) => unreachable!(),
+        }
     }
 
     /// Decides the next line, and appends `pending` and the line's names.
@@ -310,6 +429,22 @@ impl LineDecider {
     }
 }
 
+/// Returns whether a line's body is `#endif` alone.
+#[inline(always)]
+fn is_endif(body: &[u8]) -> bool
+    ensures { result ≡ true → body.now ≡ codes "#endif" }
+{
+    matches!(body, b"#endif")
+}
+
+/// Returns whether a line's body is `#else` alone.
+#[inline(always)]
+fn is_else(body: &[u8]) -> bool
+    ensures { result ≡ true → body.now ≡ codes "#else" }
+{
+    matches!(body, b"#else")
+}
+
 /// Decides the next line by a scanner that takes it, and by a machine. Returns its step.
 ///
 /// # Errors
@@ -327,10 +462,26 @@ fn decide_with<const N: usize>(
     ensures decides { DecidesNext symbols.now (decider_of scanner.old machine.old)
         (decider_of scanner.new machine.new) (as_line line.now) result }
     ensures cursor { IfOk result (λ s. HoldsKeyword s line.now) }
+    ensures fault { IfErr result (λ f. machine_fault machine.new ≡ Some f) }
 {
     let mode = machine.mode();
     let scan = scanner.read(mode, line);
     machine.step(&scan, line, symbols)
+}
+
+/// Returns the verdict of a step, and sets the span of its keyword; `None` for a fault.
+#[inline(always)]
+fn verdict_of(decided: Result<Step, SectionFault>, keyword: &mut Span) -> Option<Verdict>
+    ensures ok { IfOk decided (λ s. (result ≡ Some s.verdict) × (keyword.new ≡ s.keyword)) }
+    ensures err { OnErr decided (result ≡ None) }
+{
+    match decided {
+        Ok(step) => {
+            *keyword = step.keyword;
+            Some(step.verdict)
+        }
+        Err(_) => None,
+    }
 }
 
 /// Decides the next line by a scanner that takes it, and by a machine. Appends `pending` and the

@@ -5,13 +5,13 @@ use Rattle.ud_model.specs.text.LineViews.{as_line}
 use Rattle.ud_engine.proofs.DeciderLemmas.{reads_one, second}
 use Rattle.ud_engine.proofs.line_decider.LineDecider.decide_unmarked.Goals as goal
 
-pub returns-in-Some-clause-decides : goal.returns-in-Some-clause-decides
-returns-in-Some-clause-decides c = λ o xs t represents h.
+pub returns-clause-decides : goal.returns-clause-decides
+returns-clause-decides c = λ o xs t represents h.
     let mode = mode_after o t in
     let before = map reading_of xs in
-    let scanned = c.in-Some.ensures.value mode before h.carries in
+    let scanned = c.in_ok-scan.ensures.value mode before h.carries in
     MatchResult-from_both c.step.result _ _
     (reads_one o _ xs t (as_line c.args.line.now) mode refl c.step.result
     (c.step.ensures.represents o xs t h.read (record { scanned = scanned; represents = represents })) (second _ _ c.step.result c.step.ensures.no_fault)
-    (c.in-Some.ensures.represents mode before h.carries))
+    (c.in_ok-scan.ensures.represents mode before h.carries))
     (c.step.ensures.finds_fault o xs t h.read (record { scanned = scanned; represents = represents }) h.no_fault)
