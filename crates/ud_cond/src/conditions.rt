@@ -136,6 +136,7 @@ fn general_expression_cond(text: &[u8], symbols: &Symbols, rules: Rules) -> Cond
 }
 
 /// Returns the one identifier that a text is, but for white space around it.
+#[inline(always)]
 pub(crate) fn sole_name(text: &[u8]) -> Option<&[u8]>
     ensures { option_map (λ n. n.now) result ≡ spec.sole_name text.now }
 {

@@ -4,10 +4,13 @@
 -- value, after fewer bytes.
 --
 --   ReadsDefined m text r           `r` is the value of a `defined` and what follows; or nothing
+--   IsAfterNot text rest            `rest` follows the `!` with which `text` begins
 --   ReadsDefinedInParens m text r   `r` is the value of a `defined (` and what follows the
 --                                   parenthesis; or nothing
 use Rattle.std.specs.Prelude.{◌≡◌, ℕ, ◌<◌, false, List, length, Option, Some, None}
-use Rattle.ud_model.specs.conditions.Tokens.{name, closing, NextToken, found}
+use Rattle.ud_model.specs.text.Bytes.{skip_white}
+use Rattle.ud_model.specs.conditions.Tokens.{name, closing, operator, NextToken, found, next_token}
+use Rattle.ud_model.specs.declared.operator.Operator.TheVariants.{Not}
 use Rattle.ud_model.specs.aids.Parsing.{Meaning, Frame, ParseState, has, asks, asks_inside, reads}
 
 -- `plain_name next`: the name and what follows it, if the next token is a name without arguments
@@ -40,3 +43,9 @@ ReadsDefined m = ReadsValueOrNothing m asks
 -- `ReadsDefinedInParens m text r`: `ReadsValueOrNothing` after `defined (`
 abbrev pub ReadsDefinedInParens : {A : Type 0} → Meaning A → List ℕ → Option (A × List ℕ) → Type 0
 ReadsDefinedInParens m = ReadsValueOrNothing m asks_inside
+
+-- `IsAfterNot text rest`: `text` begins with a `!`, and `rest` follows it and its white space
+pub record IsAfterNot (text rest : List ℕ) : Type 0 where
+  pub behind : List ℕ
+  pub begins : next_token text ≡ found (operator Not) behind
+  pub trimmed : skip_white behind ≡ rest

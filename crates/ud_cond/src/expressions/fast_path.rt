@@ -4,31 +4,36 @@
 //! Such an expression is read with two slots and no stacks. `parsing` reads every other one, from
 //! its beginning.
 
-ghost use Rattle.std.specs.Prelude.{◌≡◌, ◌∷◌, [], List, IfSome, IsTrue, Some, false};
+ghost use Rattle.std.specs.Prelude.{◌≡◌, ◌∷◌, [], ℕ, List, IfSome, OnSome, IsTrue, Some, false};
 ghost use Rattle.ud_model.specs.conditions.Tokens as tokens;
 ghost use Rattle.ud_model.specs.conditions.Tokens.{next_token as token_of};
 ghost use Rattle.ud_model.specs.aids.Parsing as spec;
 ghost use Rattle.ud_model.specs.aids.Parsing.{Frame, left};
 ghost use Rattle.ud_model.specs.text.Bytes.{skip_white};
-ghost use Rattle.ud_cond.specs.expressions.DefinedOperands.{Asked};
+ghost use Rattle.ud_cond.specs.expressions.DefinedOperands.{Asked, IsAfterNot};
 ghost use Rattle.ud_cond.specs.expressions.TwoSlots.{pending_in_slots, pending_in};
 ghost use Rattle.ud_cond.specs.expressions.Evaluation.{value_meaning_in, reduce_in};
 
 use crate::expressions::operators::precedence;
-use crate::expressions::tokens::{NextToken, Token, next_token, starts_with_byte};
+use crate::expressions::tokens::{
+    NextToken, Token, leading_token, next_token, starts_with_byte,
+};
 use crate::expressions::values::{
     NO_VALUE, Scope, Value, apply_binary, apply_unary, constant, defined, named,
 };
 use ud_model::Operator;
 use ud_model::bytes::skip_white;
 
-/// A slot for an operator and its left operand, which are pending until the right one comes.
+/// A slot for an operator and its left operand, which are pending until the right one comes. The
+/// operand has no `u`, and is no undefined symbol with arguments.
 #[derive(Clone, Copy)]
 pub(crate) struct PendingSlot {
     /// The pending operator, if any.
     operator: Option<Operator>,
-    /// The value of its left operand.
-    operand: Value,
+    /// The number of its left operand.
+    number: Option<i64>,
+    /// `true` if its left operand names a symbol of the table.
+    listed: bool,
 }
 
 /// The two slots of the operators that are pending.
@@ -40,31 +45,34 @@ pub(crate) struct TwoSlots {
     outer: PendingSlot,
 }
 
-/// Copies a value field by field. A copy as a whole would also copy the bytes between the fields.
-#[inline(always)]
-fn copy_value(to: &mut Value, from: &Value)
-    ensures { to.new ≡ from.now }
-{
-    to.number = from.number;
-    to.unsigned = from.unsigned;
-    to.listed = from.listed;
-    to.calls_undefined = from.calls_undefined;
-}
+/// A slot in which nothing is pending.
+const EMPTY_SLOT: PendingSlot = PendingSlot {
+    operator: None,
+    number: None,
+    listed: false,
+};
 
 impl PendingSlot {
-    /// Fills the slot with an operator and its left operand.
+    /// Returns a slot with an operator and its left operand.
     #[inline(always)]
-    fn set(&mut self, operator: Operator, operand: &Value)
-        ensures { (s : List (Frame Value)) → pending_in self.new s ≡ left operator operand.now ∷ s }
+    fn of(operator: Operator, operand: &Value) -> PendingSlot
+        requires signed { operand.now.unsigned ≡ false }
+        requires no_call { operand.now.calls_undefined ≡ false }
+        ensures { (s : List (Frame Value)) → pending_in result s ≡ left operator operand.now ∷ s }
     {
-        self.operator = Some(operator);
-        copy_value(&mut self.operand, operand);
+        PendingSlot {
+            operator: Some(operator),
+            number: operand.number,
+            listed: operand.listed,
+        }
     }
 
     /// Applies the pending operator to `value` if it binds at least as tightly as `least`. Returns
     /// whether the slot is now empty.
     #[inline(always)]
     fn apply_pending(&mut self, scope: &Scope<'_>, least: u8, value: &mut Value) -> bool
+        ensures signed { value.new.unsigned ≡ value.old.unsigned }
+        ensures no_call { value.new.calls_undefined ≡ value.old.calls_undefined }
         ensures yes { IsTrue result → (s : List (Frame Value)) →
             (reduce_in scope.now least value.old (pending_in self.old s)
             ≡ reduce_in scope.now least value.new s) × (pending_in self.new s ≡ s) }
@@ -83,17 +91,34 @@ impl PendingSlot {
             scope.strict,
             scope.unsigned,
             operator,
-            self.operand.number,
+            self.number,
             value.number,
         );
-        value.unsigned = self.operand.unsigned || value.unsigned;
-        value.listed = self.operand.listed || value.listed;
-        value.calls_undefined = self.operand.calls_undefined || value.calls_undefined;
+        value.listed = self.listed || value.listed;
         true
     }
 }
 
 impl TwoSlots {
+    /// Returns the slots after the first operator and its left operand; `None` if the operator isn't
+    /// binary.
+    #[inline(always)]
+    fn of(operator: Operator, operand: &Value) -> Option<TwoSlots>
+        requires signed { operand.now.unsigned ≡ false }
+        requires no_call { operand.now.calls_undefined ≡ false }
+        ensures { IfSome result (λ few. (scope : Scope) → spec.step (value_meaning_in scope)
+            (spec.has operand.now []) (tokens.operator operator) ≡
+            spec.needs (pending_in_slots few)) }
+    {
+        if precedence(operator) == 0 {
+            return None;
+        }
+        Some(TwoSlots {
+            inner: PendingSlot::of(operator, operand),
+            outer: EMPTY_SLOT,
+        })
+    }
+
     /// Returns whether nothing is pending.
     #[inline(always)]
     fn is_empty(&self) -> bool
@@ -106,7 +131,9 @@ impl TwoSlots {
     /// their last operand.
     #[inline(always)]
     fn reduce(&mut self, scope: &Scope<'_>, least: u8, value: &mut Value)
-        ensures { spec.reduce (value_meaning_in scope.now) least value.old
+        ensures signed { value.new.unsigned ≡ value.old.unsigned }
+        ensures no_call { value.new.calls_undefined ≡ value.old.calls_undefined }
+        ensures reduced { spec.reduce (value_meaning_in scope.now) least value.old
             (pending_in_slots self.old) ≡ (value.new, pending_in_slots self.new) }
     {
         if !self.inner.apply_pending(scope, least, value) {
@@ -118,24 +145,28 @@ impl TwoSlots {
     /// Pushes an operator with its left operand. Returns whether a slot was free.
     #[inline(always)]
     fn push(&mut self, operator: Operator, operand: &Value) -> bool
+        requires signed { operand.now.unsigned ≡ false }
+        requires no_call { operand.now.calls_undefined ≡ false }
         ensures { IsTrue result → pending_in_slots self.new ≡ left operator operand.now ∷
             pending_in_slots self.old }
     {
-        let Some(waiting) = self.inner.operator else {
-            self.inner.set(operator, operand);
+        if self.inner.operator.is_none() {
+            self.inner = PendingSlot::of(operator, operand);
             return true;
-        };
+        }
         if self.outer.operator.is_some() {
             return false;
         }
-        self.outer.set(waiting, &self.inner.operand);
-        self.inner.set(operator, operand);
+        self.outer = self.inner;
+        self.inner = PendingSlot::of(operator, operand);
         true
     }
 
     /// Reads an operator after an operand. Returns `false` if it isn't binary or no slot is free.
     #[inline(always)]
     fn read_operator(&mut self, scope: &Scope<'_>, value: &mut Value, operator: Operator) -> bool
+        requires signed { value.old.unsigned ≡ false }
+        requires no_call { value.old.calls_undefined ≡ false }
         ensures { IsTrue result → spec.step (value_meaning_in scope.now)
             (spec.has value.old (pending_in_slots self.old)) (tokens.operator operator) ≡
             spec.needs (pending_in_slots self.new) }
@@ -149,23 +180,34 @@ impl TwoSlots {
     }
 }
 
-/// Skips white space and a `!`. Returns whether there was a `!`, and the rest of the text.
+/// Skips white space, a `!`, and white space after that. Returns whether there was a `!`, and the
+/// rest of the text.
 #[inline(always)]
-#[tactic(auto, unfolding(ud_model::specs::conditions::Tokens::next_token))]
 fn skip_not(text: &[u8]) -> (bool, &[u8])
-    ensures yes { IsTrue result.0 →
-        token_of text.now ≡ tokens.found (tokens.operator Operator.Not) result.1.now }
-    ensures no { result.0 ≡ false → result.1.now ≡ skip_white text.now }
+    ensures yes { IsTrue result.0 → IsAfterNot text.now result.1.now }
+    ensures no { result.0 ≡ false → skip_white text.now ≡ result.1.now }
 {
     let start = skip_white(text);
-    match start {
+    match after_not(start) {
+        Some(rest) => (true, skip_white(rest)),
+        None => (false, start),
+    }
+}
+
+/// Returns what follows a leading `!`, if the text begins with one.
+#[inline(always)]
+fn after_not(text: &[u8]) -> Option<&[u8]>
+    ensures { IfSome result (λ rest. tokens.leading_token text.now ≡
+        tokens.found (tokens.operator Operator.Not) rest.now) }
+{
+    match text {
         [b'!', rest @ ..] => {
             if starts_with_byte(b'=', rest) {
-                return (false, start);
+                return None;
             }
-            (true, rest)
+            Some(rest)
         }
-        _ => (false, start),
+        _ => None,
     }
 }
 
@@ -222,13 +264,14 @@ fn defined_operand<'a>(scope: &Scope<'_>, text: &'a [u8], value: &mut Value) -> 
     skip_close_paren(end)
 }
 
-/// Evaluates the leading operand if no operator stands before it. Returns what follows it.
+/// Evaluates the leading operand if no operator and no white space stands before it. Returns what
+/// follows it.
 #[inline(always)]
 fn primary_operand<'a>(scope: &Scope<'_>, text: &'a [u8], value: &mut Value) -> Option<&'a [u8]>
-    ensures { IfSome result (λ rest. Asked (value_meaning_in scope.now) spec.needs text.now
-        value.new rest.now) }
+    ensures { (whole : List ℕ) → skip_white whole ≡ text.now → IfSome result (λ rest.
+        Asked (value_meaning_in scope.now) spec.needs whole value.new rest.now) }
 {
-    match next_token(text) {
+    match leading_token(text) {
         NextToken::AtEnd => None,
         NextToken::Unreadable => None,
         NextToken::Found(token, rest) => match token {
@@ -261,28 +304,56 @@ fn operand<'a>(scope: &Scope<'_>, text: &'a [u8], value: &mut Value) -> Option<&
     Some(rest)
 }
 
-/// Evaluates an expression if it is a sequence of operands with few pending operators. No operand
-/// has a `u` or is an undefined symbol with arguments, so no value that is kept is one of these.
+/// Evaluates the leading operand after at most one `!`. Returns what follows it, unless the operand
+/// has a `u` or is an undefined symbol with arguments.
+#[inline(always)]
+fn kept_operand<'a>(scope: &Scope<'_>, text: &'a [u8], value: &mut Value) -> Option<&'a [u8]>
+    ensures asked { IfSome result (λ rest. Asked (value_meaning_in scope.now) spec.needs text.now
+        value.new rest.now) }
+    ensures signed { OnSome result (value.new.unsigned ≡ false) }
+    ensures no_call { OnSome result (value.new.calls_undefined ≡ false) }
+{
+    let rest = operand(scope, text, value)?;
+    if value.unsigned || value.calls_undefined {
+        return None;
+    }
+    Some(rest)
+}
+
+/// Evaluates an expression if it is a sequence of operands with few pending operators.
+///
+/// Many expressions are one operand, for which no slot is filled.
 #[inline(always)]
 pub(crate) fn evaluate_fast(scope: &Scope<'_>, text: &[u8]) -> Option<Value>
     ensures { IfSome result (λ v. Some v ≡
         spec.reads (value_meaning_in scope.now) (spec.needs []) text.now) }
 {
-    let empty = PendingSlot {
-        operator: None,
-        operand: NO_VALUE,
-    };
-    let mut few = TwoSlots {
-        inner: empty,
-        outer: empty,
-    };
+    let mut value = NO_VALUE;
+    let after = kept_operand(scope, text, &mut value)?;
+    match next_token(after) {
+        NextToken::AtEnd => Some(value),
+        NextToken::Unreadable => None,
+        NextToken::Found(token, end) => {
+            let Token::Operator(operator) = token else {
+                return None;
+            };
+            let few = TwoSlots::of(operator, &value)?;
+            evaluate_pending(scope, few, end)
+        }
+    }
+}
+
+/// Evaluates an expression of which operators are pending.
+#[inline(always)]
+fn evaluate_pending(scope: &Scope<'_>, pending: TwoSlots, text: &[u8]) -> Option<Value>
+    ensures { IfSome result (λ v. Some v ≡ spec.reads (value_meaning_in scope.now)
+        (spec.needs (pending_in_slots pending)) text.now) }
+{
+    let mut few = pending;
     let mut rest = text;
     'operands: loop {
         let mut value = NO_VALUE;
-        let after = operand(scope, rest, &mut value)?;
-        if value.unsigned || value.calls_undefined {
-            return None;
-        }
+        let after = kept_operand(scope, rest, &mut value)?;
         match next_token(after) {
             NextToken::AtEnd => {
                 few.reduce(scope, 0, &mut value);

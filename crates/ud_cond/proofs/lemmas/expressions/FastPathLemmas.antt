@@ -24,6 +24,11 @@ next_token-skip_white : (text : List ℕ) → next_token (skip_white text) ≡ n
 unfolding next_token
 next_token-skip_white text = ap leading_token (skip_white-skip_white text)
 
+-- the leading token of a text without leading white space
+pub token_of-trimmed : (whole text : List ℕ) → skip_white whole ≡ text → leading_token text ≡ next_token whole
+unfolding next_token
+token_of-trimmed whole text e = ap leading_token (sym e)
+
 module _ {A : Type 0} (m : Meaning A) where
   -- a token that is an operand
   pub needs-one : (text rest : List ℕ) (t : Token) (v : A) → ((s : List (Frame A)) → step m (needs s) t ≡ has v s) → found t rest ≡ next_token text → Asked m needs text v rest
