@@ -190,7 +190,7 @@ mode_added e (lacking c ∷ xs) l n a f k = mode_added e xs l n a f k
 
 settings_added : (xs : List ParsedArg) (l n : ℕ) (a : List ℕ) {hs gs : List ParsedArg} → has_letter (codes "x") l ≡ false → Same hs gs →
     settings_in (xs ++ option l n a ∷ hs) ≡ settings_in (xs ++ gs)
-settings_added xs l n a {hs} {gs} f k = grind (arith, settings_parts, mode_added, flag_added)
+settings_added xs l n a {hs} {gs} f k = grind (arith, mode_added, flag_added)
 
 no_fault_added : {xs : List ParsedArg} → NoOperand xs → (l n : ℕ) (a : List ℕ) {hs gs : List ParsedArg} → argument_fault l n a ≡ None → Same gs hs →
     first_fault (xs ++ gs) ≡ None → first_fault (xs ++ option l n a ∷ hs) ≡ None

@@ -28,6 +28,6 @@ printed-more piece js j = grind (arith, pieces_by-more, concat-append, append-ni
 pub differ-more : (piece : List Judged → Judged → List ℕ) (before js : List Judged) (j : Judged) →
     some_other (pieces_by piece before (js ++ j ∷ [])) (js ++ j ∷ [])
     ≡ (some_other (pieces_by piece before js) js || not (bytes_eq (piece (before ++ js) j) (text_of j.line)))
-differ-more piece before [] j = grind (arith, append-nil, or-false)
+differ-more piece before [] j = grind (arith, append-nil)
 differ-more piece before (k ∷ js) j =
     grind (arith, append_assoc, differ-more piece (before ++ k ∷ []) js j)

@@ -99,7 +99,7 @@ pub settings_parts : {t u k l s r b d c e n m : Bool} {p q : Listing} {x y : Exi
 settings_parts f g h i j o v w = rw (f, g, h, i, j, o, v, w) refl
 
 pub settings_same : (gs hs : List ParsedArg) → Same gs hs → settings_in gs ≡ settings_in hs
-settings_same gs hs k = grind (arith, settings_parts, flag_same, mode_same)
+settings_same gs hs k = grind (arith, flag_same, mode_same)
 
 -- an argument is right or wrong in each place
 argument_right : (c n m : ℕ) (a : List ℕ) → argument_fault c n a ≡ None → argument_fault c m a ≡ None

@@ -35,4 +35,4 @@ options_given n w args c cs e l = rw (e, l) refl
 -- The options of letters, and then those of further arguments.
 pub letters_then : (n : ℕ) (cs : List ℕ) (args : List (List ℕ)) →
     parsed_letters n cs (λ d. parsed_after_option d n args) (parsed_from n args) ≡ (letters_give n cs).given ++ given_next (letters_give n cs).waits n args
-letters_then n cs args = grind (arith, letters_split, next_is)
+letters_then n cs args = grind (arith, letters_split)

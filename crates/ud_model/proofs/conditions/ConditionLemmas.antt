@@ -74,7 +74,7 @@ module _ (t u : List Argument) (same : SaySame t u) where
   ifdef_decision_same o = grind arith
 
   decided_by_same : (p : Test) (text : List ℕ) (rules : Rules) → decision_by_test p text t rules ≡ decision_by_test p text u rules
-  decided_by_same p text rules = grind (arith, expression_cond_same, ifdef_decision_same)
+  decided_by_same p text rules = grind (arith, expression_cond_same)
 
   pub condition_of_same : (k : Kind) (text : List ℕ) (rules : Rules) → condition_of k text t rules ≡ condition_of k text u rules
   condition_of_same k text rules = grind (arith, decided_by_same)

@@ -52,11 +52,11 @@ no_by b o e = grind arith
 
 -- A condition that is true has only C values other than 0.
 pub yes_is_true : (table : List Argument) (rules : Rules) (e : Expression) (c : Number) → tree_cond e table rules ≡ Yes → IsCValue table e c → number c ≢ pos 0
-yes_is_true table rules e c d v h = grind (arith, yes_by, false≢true, zero_decides, known_stays)
+yes_is_true table rules e c d v h = grind (arith, known_stays)
 
 -- A condition that is false has no C value but 0.
 pub no_is_false : (table : List Argument) (rules : Rules) (e : Expression) (c : Number) → tree_cond e table rules ≡ No → IsCValue table e c → number c ≡ pos 0
-no_is_false table rules e c d v = grind (arith, no_by, known_stays, zero_decides)
+no_is_false table rules e c d v = grind (arith, known_stays)
 
 pub negated_unknown : (c : Cond) → negate c ≡ Unknown → c ≡ Unknown
 negated_unknown c e = grind arith

@@ -95,7 +95,7 @@ natural_of a f = grind arith
 
 gives_by : (u : Bool) (o : Operator) (a b n : ℤ) (c : Number) (j k : ℕ) → u ≡ true → fits u a ≡ true → fits u b ≡ true → j ≡ cast_unsigned w64 a → k ≡ cast_unsigned w64 b →
     apply_binary_known u o a b ≡ Some n → GivesUnsigned o j k c → Agrees u n c
-gives_by u o a b n c j k t f g p q e h = grind (arith, natural_of, unsigned_agrees, false≢true)
+gives_by u o a b n c j k t f g p q e h = grind (arith, unsigned_agrees)
 
 -- The result of C's operator between two operands agrees with the known one.
 pub gives_agrees : (u : Bool) (o : Operator) (a b n : ℤ) (x y c : Number) → Agrees u a x → Agrees u b y → apply_binary_known u o a b ≡ Some n → Gives o x y c → Agrees u n c

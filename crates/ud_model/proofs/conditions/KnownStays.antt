@@ -137,7 +137,7 @@ module _ (table : List Argument) (strict u : Bool) where
   -- Each known value of a tree agrees with each C value that it may have.
   pub known : {e : Expression} {c : Number} → CValue table u e c → (has_unsigned table e ≡ true → u ≡ true) → Knows u (number_of table strict u e) c
   known (of_constant {w = w} {c = c} p) v = constant_known u w c p v
-  known (of_known_name {n = name} {z = z} p) v = grind (arith, same_Some, typed_known, name_fits)
+  known (of_known_name {n = name} {z = z} p) v = grind (arith, name_fits)
   known (of_open_name p r) v = λ n e. absurd (none-some n (sym p ∙ e))
   known (of_known_defined {n = name} {z = z} p) v = λ n e. defined_known table u name z n p e
   known (of_open_defined p r) v = λ n e. absurd (none-some n (sym p ∙ e))

@@ -32,7 +32,7 @@ unfolding apply_unary_known
 change_after b c o x = grind arith
 
 alter_after : (b c : Bool) (o : Operator) (x y : Option ℤ) → After x y → After (apply_unary b o x) (apply_unary c o y)
-alter_after b c o x y h z e = grind (arith, none-some, change_after)
+alter_after b c o x y h z e = grind (arith, change_after)
 
 -- 1. One operand that decides, and both.
 
@@ -189,4 +189,4 @@ module _ (t u : List Argument) (more : ExtendsTable t u) where
 
   -- A condition stays, or is unknown.
   pub cond_after : (e : Expression) (r : Rules) → tree_cond e t r ≢ Unknown → (tree_cond e u r ≡ tree_cond e t r) ⊎ (tree_cond e u r ≡ Unknown)
-  cond_after e r n = grind (arith, unless_known, truth_after, value_after)
+  cond_after e r n = grind (arith, value_after)

@@ -59,7 +59,7 @@ reduced_here j x s f i t h = record { same = refl; fits = f; in_hole = i; tight 
 
 left_if : (b : Bool) (j : ℕ) (o : Operator) (a x : Expression) (s : List (Frame Expression)) (r : Expression × List (Frame Expression)) → leb j (precedence o) ≡ b → Fits (left o a ∷ s) → HasPrecedence (precedence o + 1) x →
     HasPrecedence j x → (j ≤ precedence o → Reduced j (binary o a x) s r) → Reduced j x (left o a ∷ s) (if b then r else (x, left o a ∷ s))
-left_if b j o a x s r e f i t g = grind (arith, leb_tells, append_assoc, reduced_here)
+left_if b j o a x s r e f i t g = grind (arith, append_assoc)
 
 reduced : (j : ℕ) (x : Expression) (s : List (Frame Expression)) → Fits s → HasPrecedence (hole s) x → HasPrecedence j x → Reduced j x s (reduce itself j x s)
 reduced j x [] f i t = reduced_here j x [] f i t (λ h. h)
@@ -80,11 +80,11 @@ wait_holds o x s us (y, t) l e q = ((q.tight, l, q.further l, q.fits), pushed (w
 
 wait_if : (b : Bool) (o : Operator) (x : Expression) (s : List (Frame Expression)) (us : List Token) → leb 1 (precedence o) ≡ b → Holds us (has x s) →
     Holds (us ++ operator o ∷ []) (if b then wait itself o (reduce itself (precedence o) x s) else stuck)
-wait_if b o x s us e h = grind (arith, leb_tells, wait_holds, reduced, loosen)
+wait_if b o x s us e h = grind (arith, wait_holds, reduced, loosen)
 
 close_holds : (x : Expression) (s : List (Frame Expression)) (us : List Token) (r : Expression × List (Frame Expression)) →
     written s ++ spelling x ≡ us → Reduced 0 x s r → Holds (us ++ closing ∷ []) (close itself r)
-close_holds x s us r e q = grind (arith, append_assoc, pushed)
+close_holds x s us r e q = grind (arith, append_assoc)
 
 prefix_if : (b : Bool) (o : Operator) (s : List (Frame Expression)) (us : List Token) → is_prefix o ≡ b → Fits s → written s ≡ us →
     Holds (us ++ operator o ∷ []) (if b then needs (before o ∷ s) else stuck)

@@ -54,10 +54,10 @@ module _ {A : Type 0} (m : Meaning A) where
   infix_meant false o e s = refl
 
   step_meant : (s : ParseState Expression) (t : Token) → step m (state_meant s) t ≡ state_meant (step itself s t)
-  step_meant s t = grind (arith, prefix_meant, reduce_meant, close_meant)
+  step_meant s t = grind (arith, reduce_meant)
 
   finish_meant : (s : ParseState Expression) → finish m (state_meant s) ≡ option_map (meaning m) (finish itself s)
-  finish_meant s = grind (arith, reduce_meant, alone_meant)
+  finish_meant s = grind (arith, reduce_meant)
 
   -- Tokens mean what their tree means.
   pub run_meant : (s : ParseState Expression) (ts : List Token) → parse_tokens m (state_meant s) ts ≡ option_map (meaning m) (parse_tokens itself s ts)

@@ -34,4 +34,4 @@ module _ (table : List Argument) (rules : Rules) where
 
   -- A tree that is its own unknown residual is reduced.
   pub fixed_reduced : (e : Expression) → (residual table rules e).tree ≡ e → is_unknown (residual table rules e).cond ≡ true → IsReduced table rules e
-  fixed_reduced e p u = grind (arith, no_unit, fixed_true, operands_undecided, unknown_is)
+  fixed_reduced e p u = grind (arith, no_unit, fixed_true, operands_undecided)

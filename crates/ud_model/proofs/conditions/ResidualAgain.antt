@@ -42,7 +42,7 @@ gap_stays operand gap = grind arith
 
 token_stays : (operand : Bool) (further : Bool → List Cell → List Cell) → ((o : Bool) (c : List Cell) → further o c ≡ c) → (cells : List Cell) (x : NextToken) →
     left_by true operand true further cells x ≡ cells
-token_stays operand further h cells x = grind (arith, gap_stays, take-append-drop)
+token_stays operand further h cells x = grind (arith, take-append-drop)
 
 all_stay : (operand : Bool) (flags : List Bool) → AreTrue flags → (cells : List Cell) → left_from true operand flags cells ≡ cells
 all_stay operand [] h cells = refl

@@ -35,7 +35,7 @@ operators_same : (o p : Operator) → bytes_eq (operator_bytes o) (operator_byte
 operators_same o p e = sym (read_off o) ∙ ap (λ w. operator_in (leading_token w)) ((bytes_eq-Decides (operator_bytes o) (operator_bytes p)).0 e) ∙ read_off p
 
 tokens_alike : (t u : Token) → same_token t u ≡ true → t ≡ u
-tokens_alike t u e = grind (arith, bytes_eq-Decides, and_parts, flags_same, operators_same)
+tokens_alike t u e = grind (arith, bytes_eq-Decides)
 
 lists_alike : (ts us : List Token) → same_tokens ts us ≡ true → ts ≡ us
 lists_alike [] [] e = refl
@@ -68,7 +68,7 @@ module _ (table : List Argument) (rules : Rules) where
     where
       by : (b : Bool) → (may_go table rules e cells && is_read table rules e (left_cells (keeps table rules e) cells)) ≡ b →
           ((if b then left_cells (keeps table rules e) cells else cells) ≡ cells) ⊎ (expression_of (map shown (if b then left_cells (keeps table rules e) cells else cells)) ≡ Some (rest_of e))
-      by b q = grind (arith, written_left, and_parts)
+      by b q = grind (arith, written_left)
 
   -- A text without a tree stays.
   pub untouched : (cells : List Cell) → expression_of (map shown cells) ≡ None → simplified_cells table rules cells ≡ cells

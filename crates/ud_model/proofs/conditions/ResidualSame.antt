@@ -31,5 +31,5 @@ module _ (t u : List Argument) (same : SaySame t u) (rules : Rules) where
   keeps_same (unary Not a) = ap (λ (fs : List Bool). true ∷ fs) (keeps_same a)
   keeps_same (binary And a b) = λ i. joined_flags (is_unit And (residual_same a i).cond) (is_unit And (residual_same b i).cond) a b (keeps_same a i) (keeps_same b i)
   keeps_same (binary Or a b) = λ i. joined_flags (is_unit Or (residual_same a i).cond) (is_unit Or (residual_same b i).cond) a b (keeps_same a i) (keeps_same b i)
-  keeps_same (parens a) = grind (arith, residual_same, keeps_same a)
+  keeps_same (parens a) = grind (arith, residual_same)
   keeps_same _ = refl

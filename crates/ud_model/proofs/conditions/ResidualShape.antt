@@ -89,7 +89,7 @@ joined_precedence : (b d : Bool) (o : Operator) (c : Cond) (x y : Residual) (k :
 joined_precedence b d o c x y k l p q = grind (arith, looser)
 
 enclosed_precedence : (b : Bool) (x : Residual) (k : ℕ) → (x.lost && stands_alone x.tree) ≡ b → HasPrecedence 1 x.tree → HasPrecedence k (if b then x else record x { tree = parens x.tree }).tree
-enclosed_precedence b x k e p = grind (arith, any_precedence, and_parts)
+enclosed_precedence b x k e p = grind (arith, any_precedence)
 
 module _ (table : List Argument) (rules : Rules) where
   -- The residual is nested by precedence, like the expression.
@@ -166,11 +166,11 @@ module _ (table : List Argument) (rules : Rules) where
 
   and_alike : (b d : Bool) (x y : Residual) → rules.strict ≡ false → is_unit And x.cond ≡ b → is_unit And y.cond ≡ d → Alike x → Alike y →
       Alike (if b then record y { lost = true } else if d then record x { lost = true } else record { cond = settled rules.strict And x.cond y.cond; tree = binary And x.tree y.tree; lost = false })
-  and_alike b d x y s e f p q h = grind (arith, both_unknown_and, both_undecided)
+  and_alike b d x y s e f p q h = grind (arith, both_undecided)
 
   or_alike : (b d : Bool) (x y : Residual) → rules.strict ≡ false → is_unit Or x.cond ≡ b → is_unit Or y.cond ≡ d → Alike x → Alike y →
       Alike (if b then record y { lost = true } else if d then record x { lost = true } else record { cond = settled rules.strict Or x.cond y.cond; tree = binary Or x.tree y.tree; lost = false })
-  or_alike b d x y s e f p q h = grind (arith, both_unknown_or, both_undecided)
+  or_alike b d x y s e f p q h = grind (arith, both_undecided)
 
   enclosed_alike : (b : Bool) (x : Residual) → Alike x → Alike (if b then x else record x { tree = parens x.tree })
   enclosed_alike b x p h = grind arith

@@ -49,8 +49,8 @@ name_past b t e = ap (λ (w : List ℕ). if is_identifier (leading_word w) && ar
 
 -- The expression that a condition is is the same with leading white space.
 pub condition_past : (p : Test) (b : ℕ) (t : List ℕ) → is_white b ≡ true → condition_by_test p (b ∷ t) ≡ condition_by_test p t
-condition_past p b t e = grind (arith, expression_past, name_past)
+condition_past p b t e = grind (arith, expression_past)
 
 -- The decision is the same with leading white space.
 pub decided_past : (p : Test) (b : ℕ) (t : List ℕ) (table : List Argument) (rules : Rules) → is_white b ≡ true → decision_by_test p (b ∷ t) table rules ≡ decision_by_test p t table rules
-decided_past p b t table rules e = grind (arith, cond_past, name_past)
+decided_past p b t table rules e = grind (arith, cond_past)

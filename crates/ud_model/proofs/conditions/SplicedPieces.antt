@@ -43,12 +43,12 @@ white_cells stays ps cs e = grind arith
 
 token_both : (f : Bool) (further : Bool → List Piece → List Piece) (more : Bool → List Cell → List Cell) (rest : List ℕ) (o : Bool) (ps : List Piece) (cs : List Cell) →
     cells_among ps ≡ cs → ((b : Bool) (qs : List Piece) → cells_among (further b qs) ≡ more b (cells_among qs)) → cells_among (pieces_left f further rest o ps) ≡ token_left f more rest o cs
-token_both f further more rest o ps cs e h = grind (arith, both, if_cells, token_cells, token_rest)
+token_both f further more rest o ps cs e h = grind (arith, both, token_cells, token_rest)
 
 by_both : (prev operand f : Bool) (further : Bool → List Piece → List Piece) (more : Bool → List Cell → List Cell) (ps : List Piece) (x : NextToken) →
     ((b : Bool) (qs : List Piece) → cells_among (further b qs) ≡ more b (cells_among qs)) → cells_among (pieces_by prev operand f further ps x) ≡ left_by prev operand f more (cells_among ps) x
 by_both prev operand f further more ps x h =
-    grind (arith, both, white_cells, gap_cells, token_both, gap_rest)
+    grind (arith, both, gap_cells, token_both, gap_rest)
 
 -- The cells that are left are those that are left without splices.
 pub cells_from : (prev operand : Bool) (flags : List Bool) (ps : List Piece) → cells_among (pieces_from prev operand flags ps) ≡ left_from prev operand flags (cells_among ps)

@@ -39,4 +39,4 @@ module _ (table : List Argument) where
   -- A decided condition stays decided alike.
   pub cond_keeps : (e : Expression) (k : Bool) → tree_cond e table (record { constants = k; strict = true }) ≢ Unknown →
       tree_cond e table (record { constants = k; strict = false }) ≡ tree_cond e table (record { constants = k; strict = true })
-  cond_keeps e k n = grind (arith, unless_keeps, truth_keeps, value_keeps)
+  cond_keeps e k n = grind (arith, value_keeps)

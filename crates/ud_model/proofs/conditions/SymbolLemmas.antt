@@ -110,10 +110,10 @@ listed_by : (o : Option Entry) (w : List ℕ) → text_in o ≡ Some w → (x : 
 listed_by o w e = grind arith
 
 fewer : (n w : List ℕ) (t : List Argument) → defined_text t n ≡ Some w → length (without n t) < length t
-fewer n w t d = grind (arith, listed_by, without_fewer, none-some)
+fewer n w t d = grind (arith, without_fewer)
 
 follows_by : (n : List ℕ) (t : List Argument) (m w : List ℕ) (b : Bool) → bytes_eq n m ≡ b → defined_text (without n t) m ≡ Some w → defined_text t m ≡ Some w
-follows_by n t m w b q d = grind (arith, bytes_eq-Decides, without_none, none-some, without_other)
+follows_by n t m w b q d = grind (arith, bytes_eq-Decides, without_none, without_other)
 
 -- The table of all arguments follows that of those that name another.
 follows : (n : List ℕ) (t : List Argument) → Follows (without n t) t
@@ -127,7 +127,7 @@ split_on : (k : ℕ) (t : List Argument) (n w v x : List ℕ) → defined_text (
 split_on k t n w v x d i h = grind arith
 
 split_other : (k : ℕ) (t : List Argument) (n w v : List ℕ) → bytes_eq n w ≡ false → Goes t k w v → ((x : List ℕ) → resolve_within k t x ≡ Some v → Splits k t n x v) → Splits (suc k) t n w v
-split_other k t n w v q g further = grind (arith, without_other, ends_here, split_on)
+split_other k t n w v q g further = grind (arith, without_other)
 
 split_by : (k : ℕ) (t : List Argument) (n w v : List ℕ) (b : Bool) → bytes_eq n w ≡ b → resolve_within (suc k) t w ≡ Some v → ((x : List ℕ) → resolve_within k t x ≡ Some v → Splits k t n x v) →
     Splits (suc k) t n w v
@@ -152,7 +152,7 @@ same_follows t n w d = d
 -- One step, and then a path over fewer arguments.
 soon_behind : (t : List Argument) (n w v : List ℕ) → defined_text t n ≡ Some w → is_identifier w ≡ true → resolve_within (length (without n t)) (without n t) w ≡ Some v →
     resolve_within (length t) t n ≡ Some v
-soon_behind t n w v d i e = grind (arith, fewer, ends_more, follows, same_follows, ends_behind)
+soon_behind t n w v d i e = grind (arith, fewer, ends_more, follows, ends_behind)
 
 soon_split : (most : ℕ) (t : List Argument) → ((n w : List ℕ) → defined_text t n ≡ Some w → Soon (without n t)) → SoonWithin most t →
     (k : ℕ) (n w v : List ℕ) → k ≤ most → defined_text t n ≡ Some w → is_identifier w ≡ true → Splits k t n w v → resolve_within (length t) t n ≡ Some v

@@ -45,7 +45,7 @@ with_shorter k j w o l p = grind arith
 
 name_shorter : (k : ℕ) (w rest : List ℕ) → length rest < k → Shorter k (name_token w rest)
 name_shorter k w rest l =
-    grind (arith, length-skip_white, drop_one_most, shorter_either, with_shorter, behind_within)
+    grind (arith, length-skip_white, drop_one_most, with_shorter, behind_within)
 
 word_shorter : (k : ℕ) (w rest : List ℕ) → length rest < k → Shorter k (word_token w rest)
 word_shorter k w rest l =

@@ -143,4 +143,4 @@ remainder_by_zero_unknown = refl
 
 pub remainder_by_zero_none : (table : List Argument) (u : Bool) (z : Number) →
     CValue table u remainder_by_zero z → ⊥
-remainder_by_zero_none table u z h = grind (arith, no_remainder, nought_of)
+remainder_by_zero_none table u z h = grind (arith, nought_of)

@@ -49,4 +49,4 @@ pub answered_status : {args : List (List ℕ)} {input : List ℕ} {a : Answer} �
     a.status ≡ status_by (options_of args).settings.exit_mode (not (bytes_eq a.output input))
 answered_status (refused f e) n k off = absurd (n refl)
 answered_status {args = args} {input = input} (ran r e d) n k off =
-    grind (arith, faultless, changed)
+    grind (arith, changed)

@@ -34,7 +34,7 @@ false_by b c h e = grind arith
 
 module _ (table : List Argument) where
   tree_fits : (rules : Rules) (e : Expression) (b : Bool) → MayBe table (Some e) b → (c : Cond) → tree_cond e table rules ≡ c → Fits c b
-  tree_fits rules e b h c d = grind (arith, true_by, yes_is_true, false_by, no_is_false)
+  tree_fits rules e b h c d = grind (arith, yes_is_true, no_is_false)
 
   tree_if_fits : (rules : Rules) (o : Option Expression) (b : Bool) → MayBe table o b → Fits (tree_cond_if o table rules) b
   tree_if_fits rules o b h = grind (arith, tree_fits)
@@ -99,7 +99,7 @@ directive_fits : (r : Reading) (p : Role) (d : Decision) (b : Bool) → Fits d.c
 directive_fits r p d b h = grind arith
 
 content_fits : (o : Options) (r : Reading) (c : Content) (b : Bool) → r.scan.joins_after ≡ false → MayBe o.table (condition_by r.scan c) b → ItemFits (item_by o r c) b
-content_fits o r c b j h = grind (arith, directive_fits, unless_broken, condition_fits)
+content_fits o r c b j h = grind (arith, condition_fits)
 
 -- A decision on a condition that ends on its line has each truth that C may give it.
 pub item_fits : (o : Options) (r : Reading) (b : Bool) → r.scan.joins_after ≡ false → MayBe o.table (condition_in r) b → ItemFits (item_of o r) b

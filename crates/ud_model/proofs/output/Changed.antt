@@ -267,4 +267,4 @@ module _ (o : Options) (n : o.settings.renumber ≡ false) (off : o.settings.lis
 
   -- Some line differs exactly if the output isn't the input.
   pub changed : {r : Outcome} → HasOutcome o input r → r.fault ≡ None → r.differs ≡ not (bytes_eq r.output input)
-  changed h e = grind (arith, tree_differs, end_parts, keywords, sound_lines)
+  changed h e = grind (arith, tree_differs, keywords, sound_lines)

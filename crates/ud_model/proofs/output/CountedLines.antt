@@ -131,7 +131,7 @@ some_ending : (t : List ℕ) → IsWhole t → ending_of t ≢ []
 some_ending t w = end_is_some (ending_of t) (whole_ending t w)
 
 piece_unended : (v : Verdict) (k : Span) (l : Line) → IsLine l → l.ending ≡ [] → IsLeft v → IsUnterminated (piece_by v k l)
-piece_unended v k l h g left = grind (arith, k, left, some_ending, unended_piece)
+piece_unended v k l h g left = grind (arith, some_ending, unended_piece)
 
 quiet_by : (l k : Line) → l ≡ k → IsQuiet k → IsQuiet l
 quiet_by l k e q = subst IsQuiet (sym e) q
@@ -172,7 +172,7 @@ module _ (o : Options) (m : Mode) (b n : Bool) (some : (b || n) ≡ true) where
     pub counted : Counted (so_far xs t) (map reading_of ys) (map reading_of zs) next
 
   pub done : (xs : List (Item Reading)) (t : Tree Reading) → State xs t → Done xs t
-  done xs t s = grind (arith, formed, formed_all)
+  done xs t s = grind (arith, formed_all)
 
   pub first_state : State [] (closed nothing)
   first_state = record {

@@ -141,4 +141,4 @@ each_line (j ∷ js) h = (h.0, each_line js h.1)
 
 -- Judged lines have numbers within the limit.
 pub judged_few : (o : Options) (input : List ℕ) {js : List Judged} → JudgedAs o input js → Each (λ (j : Judged). j.line.number ≤ TEXT_LINES) js
-judged_few o input h = grind (arith, each_line, judged_read, few_items, reads_sound)
+judged_few o input h = grind (arith, each_line, judged_read, few_items)

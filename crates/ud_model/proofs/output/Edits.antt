@@ -42,7 +42,7 @@ opener_moves [] an_elif Unknown = tt
 opener_moves [] an_else Unknown = tt
 opener_moves (Yes ∷ cs) part c = tt
 opener_moves (No ∷ cs) part c = opener_moves cs part c
-opener_moves (Unknown ∷ cs) part c = grind (arith, unknown_moves, ends_behind)
+opener_moves (Unknown ∷ cs) part c = grind (arith, ends_behind)
 
 past_by : (g a e : Bool) → (not g && a && not e) ≡ true → (if g then Remove else if not a then Keep else if e then Keep else Remove) ≡ Remove
 past_by g a e h = grind arith
@@ -94,7 +94,7 @@ if_size n h = grind arith
 pub edited_size : (blank : Bool) (v : Verdict) (k : Span) (l : Line) → 4 ≤ k.len → k.at + k.len ≤ length l.body →
     AtMost v (length (piece_alone blank (record { line = l; verdict = v; keyword = k }))) (length (text_of l))
 edited_size blank v k l e h =
-    grind (arith, keeps_size, length-append, length-take, length-drop, if_size)
+    grind (arith, length-append, length-take, length-drop, if_size)
 
 turned_by : (blank : Bool) (r : Bool) (k : Span) (l : Line) → length (piece_alone blank (record { line = l; verdict = if r then Keep else Remove; keyword = k })) ≤ length (text_of l)
 turned_by blank r k l = grind (arith, keeps_size)

@@ -38,7 +38,7 @@ module _ (now : Scan) (ws gs tail : List ℕ) (k : Kind) (w : Each IsWhite ws) (
   tail_is = past_all gs tail g d
 
   not_cut : has_split_keyword now (skip_white_and_hash now.masked) ≡ false
-  not_cut = grind (arith, sign_is, tail_is, uncut)
+  not_cut = grind (arith, sign_is, tail_is)
 
   at_is : length now.masked - length tail ≡ length (ws ++ 35 ∷ gs)
   at_is = grind (arith, length-append)
@@ -50,7 +50,7 @@ module _ (now : Scan) (ws gs tail : List ℕ) (k : Kind) (w : Each IsWhite ws) (
     after = skip_word tail;
     broken = is_continued_outside_comment now;
   })
-  carries = grind (arith, not_cut, sign_is, tail_is, at_is)
+  carries = grind (arith, sign_is, tail_is, at_is)
 
 -- A directive with another keyword, and two spaces more after it.
 abbrev pub spaced : Directive → Kind → ℕ → Directive

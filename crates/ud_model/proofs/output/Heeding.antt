@@ -50,13 +50,13 @@ calm_by : (e : Option Entry) → Calm e → (ifdef_by e).ignoring ≡ false
 calm_by e c = grind arith
 
 calm_ifdef : (name : Option (List ℕ)) (table : List Argument) → NoneIgnores table → (ifdef_decision name table).ignoring ≡ false
-calm_ifdef name table n = grind (arith, calm_by, calm_from)
+calm_ifdef name table n = grind (arith, calm_from)
 
 calm_test : (p : Test) (after : List ℕ) (table : List Argument) (rules : Rules) → NoneIgnores table → (decision_by_test p after table rules).ignoring ≡ false
 calm_test p after table rules n = grind (arith, calm_ifdef)
 
 calm_condition : (k : Kind) (after : List ℕ) (table : List Argument) (rules : Rules) → NoneIgnores table → (condition_of k after table rules).ignoring ≡ false
-calm_condition k after table rules n = grind (arith, calm_test, and-false)
+calm_condition k after table rules n = grind (arith, calm_test)
 
 calm_unless : (b : Bool) (d : Decision) (j : Bool) → d.ignoring ≡ false → (if b then undecided else record d { ignoring = d.ignoring && not j }).ignoring ≡ false
 calm_unless b d j h = grind arith
@@ -65,7 +65,7 @@ calm_item : (r : Reading) (p : Role) (d : Decision) → d.ignoring ≡ false →
 calm_item r p d h = grind arith
 
 by_content : (o : Options) (r : Reading) (c : Content) → NoneIgnores o.table → Heeds (item_by o r c)
-by_content o r c n = grind (arith, calm_item, calm_unless, calm_condition)
+by_content o r c n = grind (arith, calm_condition)
 
 -- The opener of an item that was read so isn't ignoring.
 pub item_heeds : (o : Options) (r : Reading) → NoneIgnores o.table → Heeds (item_of o r)
@@ -91,7 +91,7 @@ tree_heeds (open_section ns h t) e =
 module _ (o : Options) (n : NoneIgnores o.table) where
   -- After lines none of which is ignoring the mode is the one mode.
   pub one_mode : (xs : List (Item Reading)) (t : Tree Reading) → lines t ≡ xs → Each Heeds xs → mode_after o t ≡ the_mode o
-  one_mode xs t e h = grind (arith, tree_heeds, or-false)
+  one_mode xs t e h = grind (arith, tree_heeds)
 
   all_heed : (m : Mode) (ys : List (Item Reading)) → ReadIn o m ys → Each Heeds ys
   all_heed m _ none_read = tt

@@ -44,7 +44,7 @@ stage_keeps s part c h = grind arith
 
 -- The group of an opener that stays as an opener is kept.
 keeps_inside : (cs : List Cond) (part : Part) (c : Cond) → IsTrue (keeps_rest (verdict_so_far cs part c)) → is_kept cs c ≡ true
-keeps_inside cs part c h = grind (arith, kept_by_stage, stage_keeps, verdict_by_stage)
+keeps_inside cs part c h = grind (arith, kept_by_stage, verdict_by_stage)
 
 module _ {L : Type 0} where
   pub record Grows (kept : Bool) (t u : Tree L) (x : Item L) : Type 0 where

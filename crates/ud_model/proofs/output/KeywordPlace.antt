@@ -88,7 +88,7 @@ place_inert (c ∷ word) h = ap (λ (v : LexState). place_after v word) (next_in
 -- Bytes that begin nothing are shown as they are.
 pub masked_inert : (word : List ℕ) → Each IsInert word → masked_after in_text [] word ≡ word
 masked_inert [] h = refl
-masked_inert (c ∷ word) h = grind (arith, next_inert, text_front, masked_inert word h.1)
+masked_inert (c ∷ word) h = grind (arith, text_front, masked_inert word h.1)
 
 -- A word that is shown is there.
 pub word_stands : (word behind rest : List ℕ) → Each IsInert word → Each (λ c. c ≢ space) word → masked_after in_text [] behind ≡ word ++ rest →
@@ -128,4 +128,4 @@ module _ (w : LexState) (before more prefix rest : List ℕ) (place : place_afte
   pub white_other : (white : Bool) (c : ℕ) (word : List ℕ) → Each IsInert (c ∷ word) → is_white c ≡ false →
       white_after w white (before ++ ((c ∷ word) ++ more)) ≡ white_after in_text false more
   white_other white c word h d =
-      grind (arith, white_after-append, next_inert, dark_first, place_inert, dark_word)
+      grind (arith, white_after-append, place_inert, dark_word)

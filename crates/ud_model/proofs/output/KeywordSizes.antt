@@ -62,7 +62,7 @@ item_keyword : (r : Reading) (p : Role) (d : Decision) → HasWord r (least p) �
 item_keyword r p d h = grind arith
 
 by_content : (o : Options) (r : Reading) (c : Content) → content_of r.scan ≡ c → HasSize c → length r.scan.masked ≤ length r.line.body → HasKeyword (item_by o r c)
-by_content o r c e s h = grind (arith, keyword_lies, item_keyword)
+by_content o r c e s h = grind (arith, keyword_lies)
 
 -- The keyword of an item lies in its line, if the masked line isn't longer.
 pub has_keyword : (o : Options) (r : Reading) → length r.scan.masked ≤ length r.line.body → HasKeyword (item_of o r)

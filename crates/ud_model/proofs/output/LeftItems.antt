@@ -40,7 +40,7 @@ unknown_alike a b i j c e = grind arith
 spaced_decision : (s q : Scan) (d : Directive) (k : Kind) (n : ℕ) (table : List Argument) (rules : Rules) → test_of k ≡ test_of d.kind →
     (decision_on s d table rules).cond ≡ Unknown → decision_on q (spaced d k n) table rules ≡ decision_on s d table rules
 spaced_decision s q d k n table rules e u =
-    grind (arith, decided_past, unknown_alike, unknown_heeds)
+    grind (arith, decided_past)
 
 module _ (o : Options) where
   item_as : (r : Reading) (d : Directive) (p : Role) → content_of r.scan ≡ directive d → role_of d.kind ≡ p →

@@ -81,7 +81,7 @@ module _ (keyword : Span) (l k : Line) (within : keyword.at + keyword.len ≤ le
   if_by true s h =
       (same_from_push (content k) (take keyword.at (content l) ++ (opener_keyword keyword.len ++ drop (keyword.at + keyword.len) (content l))) backslash backslash
       (sym (spliced_body k (if_splice h ∙ s)) ∙ if_spliced (spliced_body l s) h.body)).0
-  if_by false s h = grind (arith, whole_body, if_splice, append_assoc)
+  if_by false s h = grind (arith, if_splice, append_assoc)
 
   -- The content of a line that becomes an `#if` has its keyword exchanged.
   pub if_line_content : LeftLine ToIf keyword l k → content k ≡ take keyword.at (content l) ++ (opener_keyword keyword.len ++ drop (keyword.at + keyword.len) (content l))
@@ -99,7 +99,7 @@ module _ (keyword : Span) (l k : Line) (within : keyword.at + keyword.len ≤ le
 
     -- The content of a line that ends after its new keyword ends there.
     pub cut_line_content : content k ≡ take keyword.at (content l) ++ word
-    cut_line_content = grind (arith, whole_body, cut_splice, front_within)
+    cut_line_content = grind (arith, cut_splice, front_within)
 
 -- The bodies of lines that are left, by verdict.
 pub else_body : (keyword : Span) (b : List ℕ) → edited_body ToElse keyword b ≡ take keyword.at b ++ codes "else"

@@ -23,7 +23,7 @@ module _ (o : Options) (xs ys : List (Item Reading)) (l k : Line) where
       LeftLine v (keyword_in (content_of (plain_scan l))) l k → text_of k ≡ piece_by v (keyword_in (content_of (plain_scan l))) l →
       Left o v (read_after xs Plain l) (read_after ys Plain k)
   left_plain Remove h s u b e = absurd h
-  left_plain Keep h s u b e = grind (arith, left_kept, kept_body)
+  left_plain Keep h s u b e = grind (arith, kept_body)
   left_plain ToIf h s u b e =
       let d = becomes_if o (read_after xs Plain l) s in
       left_if o (read_after xs Plain l) (read_after ys Plain k) d.0 d.1 d.2 d.3

@@ -60,7 +60,7 @@ content_by l b e = ap (λ (a : Bool). if a then take (length l.body - 1) l.body 
 
 -- A spliced line ends in a backslash.
 spliced_body : (l : Line) → is_spliced l ≡ true → l.body ≡ content l ++ 92 ∷ []
-spliced_body l e = grind (arith, ends_back, and_parts, content_by)
+spliced_body l e = grind (arith, ends_back)
 
 pub joined_tidy : (ls : List Line) → Each IsTidy ls → NoNewline (joined_body ls)
 joined_tidy [] h = tt
@@ -101,7 +101,7 @@ parted cs a b e = (
 -- The bytes are those of the lines.
 pub pieces_bytes : (cs : List Cell) (ls : List Line) (e : List ℕ) → map byte_of cs ≡ joined_body ls → IsSplicedGroup ls e → bytes_among (pieces_of cs ls) ++ e ≡ concat (map text_of ls)
 pieces_bytes cs [] e q g = absurd g
-pieces_bytes cs (l ∷ []) e q g = grind (arith, plain_bytes, append-nil, content_by)
+pieces_bytes cs (l ∷ []) e q g = grind (arith, plain_bytes, append-nil)
 pieces_bytes cs (l ∷ m ∷ ls) e q g =
     let n : ℕ = length (content l) in
     let p = parted cs (content l) (joined_body (m ∷ ls)) q in
@@ -152,10 +152,10 @@ module _ (table : List Argument) (rules : Rules) where
 
   left_cells_are : (ps : List Piece) → cells_among (simplified_pieces table rules ps) ≡ simplified_cells table rules (cells_among ps)
   unfolding simplified_cells
-  left_cells_are ps = grind (arith, if_both, cells_from)
+  left_cells_are ps = grind (arith, cells_from)
 
   left_sub : (ps : List Piece) → IsSublist (simplified_pieces table rules ps) ps
-  left_sub ps = grind (arith, all_of_it, if_sub, pieces_go)
+  left_sub ps = grind (arith, all_of_it, pieces_go)
 
   edited_sub : (ps : List Piece) (d : Directive) → IsSublist (edited_pieces table rules ps d) ps
   edited_sub ps d =

@@ -115,11 +115,11 @@ module _ (l : Line) (q : IsQuiet l) where
   closed = ap₂ (λ (a b : Bool). a || b) (spliced_not l q) (end_some l.ending q.end)
 
   lands : state_after_line (stays_open l) (place_after in_text (content l)) ≡ in_text
-  lands = grind (arith, closed, all_content, place_quiet)
+  lands = grind (arith, all_content, place_quiet)
 
   seen_quiet : scan_from in_text true false l ≡ plain_scan l
   unfolding scan_from
-  seen_quiet = grind (arith, all_content, masked_quiet, spliced_not, lands)
+  seen_quiet = grind (arith, masked_quiet, spliced_not, lands)
 
 -- Between logical lines a quiet line is scanned by itself.
 pub lone_scan : (zs : List (Item Reading)) (m : Mode) (l : Line) → LeavesOff zs in_text true false → IsQuiet l → scan_after (map reading_of zs) m l ≡ plain_scan l

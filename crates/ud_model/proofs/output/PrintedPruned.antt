@@ -62,13 +62,13 @@ module _ {L : Type 0} where
       (left_lines left ++ kept_line (verdict_at (stage_of left) an_elif c) (elif_line o)) ++ if_lines (kept_at (stage_of left) c) ps
       ≡ left_lines (with_group left an_elif o c ps)
   unfolding if_lines
-  elif_lines left o c ps = grind (arith, two_nils, append-nil)
+  elif_lines left o c ps = grind (arith, append-nil)
 
   else_lines : (left : KeptGroups L) (l : L) (ps : Nodes (Edited L)) →
       (left_lines left ++ kept_line (verdict_at (stage_of left) an_else Yes) (else_line l)) ++ if_lines (kept_at (stage_of left) Yes) ps
       ≡ left_lines (with_else left l ps)
   unfolding if_lines
-  else_lines left l ps = grind (arith, two_nils, append-nil)
+  else_lines left l ps = grind (arith, append-nil)
 
   stage_else : (left : KeptGroups L) (l : L) (ps : Nodes (Edited L)) → next_stage (stage_of left) Yes ≡ stage_of (with_else left l ps)
   stage_else left l ps = grind arith
@@ -82,7 +82,7 @@ module _ {L : Type 0} where
 
   endif_lines : (ps : Nodes (Edited L)) (left : KeptGroups L) (e : L) →
       (lines_of_nodes ps ++ left_lines left) ++ kept_line (endif_at (stage_of left)) (endif_line e) ≡ lines_of_nodes (then_kept ps left e)
-  endif_lines ps left e = grind (arith, two_nils, append-nil, lines_then, append_assoc)
+  endif_lines ps left e = grind (arith, append-nil, lines_then, append_assoc)
 
   two_empty : (a b : List (Item (Edited L))) → a ≡ [] → b ≡ [] → a ++ b ≡ []
   two_empty a b d e = ap₂ (λ (p q : List (Item (Edited L))). p ++ q) d e
@@ -93,12 +93,12 @@ module _ {L : Type 0} where
   -- The output for a list, a line and another list.
   printed_between : (xs : List (Item L)) (x : Item L) (ys : List (Item L)) (ms : List Mark) (m : Mark) (ns : List Mark) → length xs ≡ length ms →
       printed ((xs ++ x ∷ []) ++ ys) ((ms ++ m ∷ []) ++ ns) ≡ (printed xs ms ++ kept_line m.verdict x) ++ printed ys ns
-  printed_between xs x ys ms m ns e = grind (arith, printed-append, more_long, append-nil)
+  printed_between xs x ys ms m ns e = grind (arith, printed-append, more_long)
 
   -- The output for two lists and a line.
   printed_behind : (xs ys : List (Item L)) (x : Item L) (ms ns : List Mark) (m : Mark) → length xs ≡ length ms → length ys ≡ length ns →
       printed ((xs ++ ys) ++ x ∷ []) ((ms ++ ns) ++ m ∷ []) ≡ (printed xs ms ++ printed ys ns) ++ kept_line m.verdict x
-  printed_behind xs ys x ms ns m d e = grind (arith, printed-append, length-append, append-nil)
+  printed_behind xs ys x ms ns m d e = grind (arith, printed-append, length-append)
 
   mutual
     -- If a group around is removed, nothing is left.

@@ -177,7 +177,7 @@ module _ {L : Type 0} where
   -- One more group isn't kept.
   one_gone : (all : List Cond) (gs : List (Group L)) (hs : List (Group (Edited L))) (g : Group L) (ends m : List (Item (Edited L))) → Left all gs hs ends → is_kept_group g ≡ false → left_of all g ≡ m →
       Left all (gs ++ g ∷ []) hs (ends ++ m)
-  one_gone all gs hs g ends m l e o = grind (arith, kept_longer, others_then, other_gone)
+  one_gone all gs hs g ends m l e o = grind (arith, kept_longer, others_then)
 
   start_leaves : (part : Part) (x : Item L) (o : Opener L) → kept_line (first_kept_verdict part) x ≡ if_line (edited_opener (first_kept_verdict part) o) ∷ [] →
       (cs : List Cond) (gs : List (Group L)) → stage cs ≡ leading → Leaves gs none_kept → (c : Cond) (ns : Nodes L) (ps : Nodes (Edited L)) → ArePruned ns ps →

@@ -30,7 +30,7 @@ module _ {L : Type 0} where
   LeftKeep (ended es l ms k) = Each Keeps (openers_of_elifs es) × Each Keeps (openers ms)
 
   group_keeps : (left : KeptGroups L) (part : Part) (o : Opener L) (c : Cond) (ps : Nodes (Edited L)) → LeftKeep left → Each Keeps (openers ps) → LeftKeep (with_group left part o c ps)
-  group_keeps left part o c ps h n = grind (arith, first_keeps, each_both)
+  group_keeps left part o c ps h n = grind (arith, each_both)
 
   else_keeps : (left : KeptGroups L) (l : L) (ps : Nodes (Edited L)) → LeftKeep left → Each Keeps (openers ps) → LeftKeep (with_else left l ps)
   else_keeps left l ps h n = grind arith

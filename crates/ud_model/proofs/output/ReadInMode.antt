@@ -12,7 +12,7 @@ use Rattle.ud_model.proofs.output.InsertedText.{items_are, readings_back}
 -- The lines of a text's tree are its lines, each read in the one mode.
 pub read_in_one_mode : (o : Options) → IsPlain o → (text : List ℕ) (t : Tree Reading) → IsTreeOf o text t →
     map (λ (x : Item Reading). reading_of x) (lines t) ≡ read_as (mode_by o.settings.plain) text
-read_in_one_mode o p text t i = grind (arith, readings_back, read_lines, items_are)
+read_in_one_mode o p text t i = grind (arith, readings_back, items_are)
 
 -- Without `-t` that is C mode.
 pub read_in_c : (o : Options) → IsPlain o → o.settings.plain ≡ false → (text : List ℕ) (t : Tree Reading) → IsTreeOf o text t →

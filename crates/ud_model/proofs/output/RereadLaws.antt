@@ -316,7 +316,7 @@ input_nodes (open_section ns h t) e = absurd (no_innermost ns t h e)
 
 -- An input without a fault has a tree whose sections are closed.
 pub input_tree : (o : Options) (input : List ℕ) → {r : Outcome} → HasOutcome o input r → r.fault ≡ None → (ns : Nodes Reading) × IsTreeOf o input (closed ns)
-input_tree o input h e = grind (arith, input_nodes, end_parts, sound_read)
+input_tree o input h e = grind (arith, input_nodes, sound_read)
 
 -- An output whose lines fit is printed as it is.
 pub runs_output : (o : Options) → IsPlain o → (input : List ℕ) → {r : Outcome} → HasOutcome o input r → r.fault ≡ None → LinesFit (lines_of r.output) →

@@ -41,11 +41,11 @@ piece_behind_all ys piece = line_at (suc (length (map (λ (y : Item Reading). li
 module _ (o : Options) (m : Mode) (xs : List (Item Reading)) (t u : Tree Reading) (ys : List (Item Reading)) (x : Item Reading) (mark : Mark)
     (more : marks u ≡ marks t ++ mark ∷ []) (long : length xs ≡ length (marks t)) (a : Again o m xs t ys) where
   printed_next : printed (xs ++ x ∷ []) (marks u) ≡ printed xs (marks t) ++ kept_line mark.verdict x
-  printed_next = grind (arith, printed-append, append-nil)
+  printed_next = grind (arith, printed-append)
 
   -- The case of a removed line.
   pub gone_again : mark.verdict ≡ Remove → ends_in_comment ys ≡ false → Again o m (xs ++ x ∷ []) u ys
-  gone_again e c = grind (arith, left_seen, printed_next, append-nil)
+  gone_again e c = grind (arith, printed_next, append-nil)
 
   -- The case of a line that is left.
   pub left_again : (r : Reading) (piece : List ℕ) → x ≡ item_of o r → Left o mark.verdict r (read_after ys m (piece_behind_all ys piece)) →

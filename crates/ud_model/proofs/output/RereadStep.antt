@@ -51,7 +51,7 @@ plain_run o _ (one_read ys r l) = ap c_run_of (readings_last o ys ys Plain l) �
 
 plain_calm : (o : Options) (ys : List (Item Reading)) → ReadIn o Plain ys → ends_in_comment ys ≡ false
 plain_calm o _ none_read = refl
-plain_calm o _ (one_read ys r l) = grind (arith, last_comment, reading_of-item_of)
+plain_calm o _ (one_read ys r l) = grind (arith, last_comment)
 
 -- The facts of one more line.
 pub record More (o : Options) (m : Mode) (xs : List (Item Reading)) (t : Tree Reading) (l : Line) (u : Tree Reading) : Type 0 where
@@ -156,7 +156,7 @@ module _ (o : Options) (xs : List (Item Reading)) (t : Tree Reading) (ys : List 
 
   -- An edited line, but for one to an `#if`, is alone.
   is_alone : IsLeft k.grown.mark.verdict → keeps_rest k.grown.mark.verdict ≡ false → is_spanning (scan_after (map reading_of xs) C l) ≡ false
-  is_alone h e = grind (arith, line_reading, edited_alone, left_stays)
+  is_alone h e = grind (arith, line_reading, edited_alone)
 
   carried_on : joins (c_run_of (map reading_of (xs ++ line_new ∷ []))) ≡ true → ends_removed (marks u) ≡ not (ends_kept true u)
   carried_on j =
@@ -207,7 +207,7 @@ module _ (o : Options) (xs : List (Item Reading)) (t : Tree Reading) (ys : List 
   code_by (alike w white on a c f r) (inl e) = code_gone w white on a (r (stayed_alone w white on a f e)) e
   code_by (alike w white on a c f r) (inr h) = code_left w white on a c h
   code_by (gone w white a r e) (inl f) = code_gone w white true a r f
-  code_by (gone w white a r e) (inr h) = grind (arith, left_stays, both_alike)
+  code_by (gone w white a r e) (inr h) = grind (arith, both_alike)
 
   code_step : (zs : List (Item Reading)) × Stepped o C xs u l zs
   code_step = code_by b.carry (goes_or_left k.grown.mark.verdict)

@@ -73,7 +73,7 @@ module _ (table : List Argument) (rules : Rules) where
       where
         go : (e : Expression) → (simplified_cells table rules (condition_cells r.line d) ≡ condition_cells r.line d) ⊎ (expression_of (map shown (simplified_cells table rules (condition_cells r.line d))) ≡ Some (residual table rules e).tree) →
             simplified_line table rules s ≡ s.line
-        go e h = grind (arith, same_line, whole_line, lone, left_again)
+        go e h = grind (arith, whole_line, lone, left_again)
 
         by : (expression_of (map shown (condition_cells r.line d)) ≡ None) ⊎ ((e : Expression) × (expression_of (map shown (condition_cells r.line d)) ≡ Some e)) → simplified_line table rules s ≡ s.line
         by (inl n) = same_line (whole_line r.line d lone (untouched table rules (condition_cells r.line d) n))

@@ -67,11 +67,11 @@ module _ (table : List Argument) (rules : Rules) where
     it_changes : (d : Directive) → IsEdited l scan d → Becomes l scan (left_line table rules l d)
 
   the_condition : (kind : Kind) (after : List ℕ) (c : Content) → has_condition kind after c ≡ true → (d : Directive) × (c ≡ directive d) × SameIf kind d.kind × (d.after ≡ after)
-  the_condition kind after c e = grind (arith, and_parts, same_kind, bytes_eq-Decides)
+  the_condition kind after c e = grind (arith, same_kind, bytes_eq-Decides)
 
   edited : (l : Line) (scan : Scan) (d : Directive) → content_of scan ≡ directive d → may_change table rules scan l d ≡ true → IsEdited l scan d
   edited l scan d h e =
-      grind (arith, and_parts, the_condition, not-true, not_empty, bytes_eq-Decides)
+      grind (arith, and_parts, the_condition, bytes_eq-Decides)
 
   becomes_by : (l : Line) (scan : Scan) (c : Content) → content_of scan ≡ c → Becomes l scan (line_by table rules scan l c)
   becomes_by l scan cut_keyword e = it_stays

@@ -41,7 +41,7 @@ open_spliced l s = ap (λ (b : Bool). content l ++ (if b || is_empty l.ending th
 
 group_text : (ls : List Line) (e : List ℕ) → IsSplicedGroup ls e → is_empty e ≡ false → spliced_text ls ≡ joined_body ls ++ newline ∷ []
 group_text [] e g n = absurd g
-group_text (l ∷ []) e g n = grind (arith, append-nil, not_open, content_by)
+group_text (l ∷ []) e g n = grind (arith, append-nil)
 group_text (l ∷ m ∷ ls) e g n =
     ap₂ (λ (x y : List ℕ). x ++ y) (open_spliced l g.0) (group_text (m ∷ ls) e g.1 n) ∙ sym (append_assoc (content l) (joined_body (m ∷ ls)) (newline ∷ []))
 
@@ -73,7 +73,7 @@ record IsJoinable (ls : List Line) : Type 0 where
   pub ends : (scan_after_run [] (one_line ls)).joins_after ≡ false
 
 joinable : (ls : List Line) → is_joinable ls ≡ true → IsJoinable ls
-joinable ls e = grind (arith, and_parts, not-true)
+joinable ls e = grind (arith, and_parts)
 
 joinable_so : (ls : List Line) → IsJoinable ls → is_joinable ls ≡ true
 joinable_so ls j = grind arith
@@ -94,7 +94,7 @@ formed_split : (run : List (List ℕ)) (t : List ℕ) (us : List (List ℕ)) →
 formed_split [] t [] (inl w) = inl (w, tt)
 formed_split [] t [] (inr u) = inr (refl, u)
 formed_split [] t (u ∷ us) f = inl (f.0, tt)
-formed_split (r ∷ []) t us f = grind (arith, formed_split [] t us f.1)
+formed_split (r ∷ []) t us f = grind arith
 formed_split (r ∷ q ∷ run) t us f = grind (arith, formed_split (q ∷ run) t us f.1)
 
 formed_tail : (run us : List (List ℕ)) → AreFormed (run ++ us) → AreFormed us
@@ -250,7 +250,7 @@ module _ (table : List Argument) (rules : Rules) where
   wholes : (n : ℕ) (ts : List (List ℕ)) → AreFormed ts → are_spliced (numbered_from n ts) ≡ true → AreWhole ts
   wholes n [] f a = tt
   wholes n (t ∷ []) (inl w) a = (w, tt)
-  wholes n (t ∷ []) (inr u) a = grind (arith, and_parts, no_end, an_end)
+  wholes n (t ∷ []) (inr u) a = grind (arith, no_end)
   wholes n (t ∷ v ∷ ts) f a = (f.0, wholes (suc n) (v ∷ ts) f.1 (and_parts (is_spliced (line_at n t)) (are_spliced (numbered_from (suc n) (v ∷ ts))) a).1)
 
   abbrev IsSpliced : Line → Type 0
@@ -313,10 +313,10 @@ module _ (table : List Argument) (rules : Rules) where
     whole = unspliced whole_line j.ends
 
     joined_is : joined_logical x ≡ text_of whole_line
-    joined_is = grind (arith, its_lines, joinable_so)
+    joined_is = grind (arith, its_lines)
 
     simplified_is : simplified_logical table rules x ≡ logical_by table rules x here (content_of its_scan)
-    simplified_is = grind (arith, its_lines, joinable_so)
+    simplified_is = grind (arith, its_lines)
 
     line_left : simplified_text table rules (text_of whole_line) ≡ text_of (line_by table rules its_scan whole_line (content_of its_scan))
     line_left = one_simplified whole_line.body whole_line.ending body_there end_there kept_end j.ends
@@ -344,7 +344,7 @@ module _ (table : List Argument) (rules : Rules) where
       rest_keeps = (and_parts (keeps_ending rest) (is_read_back table rules whole_line d (scan_after_run [] rest)) alone).0
 
       rest_ends : (scan_after_run [] rest).joins_after ≡ false
-      rest_ends = grind (arith, and_parts, alone)
+      rest_ends = grind (arith, and_parts)
 
       rest_whole : is_spliced rest ≡ false
       rest_whole = unspliced rest rest_ends
@@ -392,7 +392,7 @@ module _ (table : List Argument) (rules : Rules) where
           by false g = refl
 
       left_again : simplified_logical table rules left ≡ left
-      left_again = grind (arith, joinable_so, left_joinable, left_stays, left_line_is, rest_line)
+      left_again = grind (arith, left_joinable, left_stays, left_line_is, rest_line)
 
       it_changes : Gives left
       it_changes = record {
@@ -470,26 +470,26 @@ module _ (table : List Argument) (rules : Rules) where
   -- Without its splices, the pruned text is the simplified text.
   all_joined : {xs : List (List ℕ)} → Logical xs → joined_text (simplified_all xs) ≡ simplified_text table rules (joined_all xs)
   all_joined no_lines = nothing_logical ∙ sym nothing_left
-  all_joined (open_line {x = x} o) = grind (arith, unjoined, append-nil)
+  all_joined (open_line {x = x} o) = grind (arith, append-nil)
   all_joined (next_line {x = x} {xs = xs} c l) =
       grind (arith, point, joined_first, simplified_apart, all_joined l)
 
   all_bytes : {xs : List (List ℕ)} → Logical xs → IsSublist (simplified_all xs) (concat xs)
   all_bytes no_lines = nothing
-  all_bytes (open_line {x = x} o) = grind (arith, unjoined, of_both, all_of_it)
+  all_bytes (open_line {x = x} o) = grind (arith, all_of_it)
   all_bytes (next_line {x = x} c l) = of_both (point x c).bytes (all_bytes l)
 
   -- A second time nothing is removed.
   all_again : {xs : List (List ℕ)} → Logical xs → simplified_over_lines table rules (simplified_all xs) ≡ simplified_all xs
   all_again no_lines = nothing_again
-  all_again (open_line {x = x} o) = grind (arith, unjoined, append-nil)
+  all_again (open_line {x = x} o) = grind (arith, append-nil)
   all_again (next_line {x = x} {xs = xs} c l) = grind (arith, point, first_logical, all_again l)
 
   back : (run us : List (List ℕ)) → concat (logical_from run us) ≡ concat run ++ concat us
   back [] [] = refl
   back (t ∷ run) [] = refl
   back run (t ∷ us) =
-      grind (arith, concat-append, append-nil, append_assoc, back (run ++ t ∷ []) us, back [] us)
+      grind (arith, concat-append, append_assoc, back (run ++ t ∷ []) us, back [] us)
 
   lines_back : (bytes : List ℕ) → concat (logical_texts bytes) ≡ bytes
   lines_back bytes = back [] (texts_of bytes) ∙ sym (lines_exist bytes).joined

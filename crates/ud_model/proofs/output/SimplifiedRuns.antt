@@ -176,7 +176,7 @@ module _ (o : Options) where
   Simplified r s = ReadingSimplified o.table (rules_of o.settings) r s
 
   open_left : (r s : Reading) → Simplified r s → IsOpen (item_of o r) → IsOpen (item_of o s)
-  open_left r s h g = grind (arith, open_by, still_unknown)
+  open_left r s h g = grind (arith, still_unknown)
 
   -- A property of the lines is one of the items.
   of_reading : (P : Reading → Type 0) (r s : Reading) → (P r → P s) → P (reading_of (item_of o r)) → P (reading_of (item_of o s))

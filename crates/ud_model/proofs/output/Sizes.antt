@@ -73,7 +73,7 @@ split_le a b h = grind arith
 
 -- A line that doesn't grow fits.
 pub fits_one : (f : Judged → List ℕ) (j : Judged) → length (f j) ≤ length (whole j) → Fits f (j ∷ [])
-fits_one f j h = grind (arith, split_le, append-nil)
+fits_one f j h = grind (arith, append-nil)
 
 -- The case of a line that grows by a byte.
 pub loose_one : (f : Judged → List ℕ) (j : Judged) → length (f j) ≤ suc (length (whole j)) → Loose f (j ∷ [])
@@ -112,7 +112,7 @@ not_and a b = grind arith
 
 alike_differs : (f : Judged → List ℕ) (js : List Judged) → KeepsSizes f js → some_other (map f js) js ≡ not (bytes_eq (out f js) (out whole js))
 alike_differs f [] k = refl
-alike_differs f (j ∷ js) k = grind (arith, not_and, bytes_eq-append, alike_differs f js k.1)
+alike_differs f (j ∷ js) k = grind (arith, bytes_eq-append, alike_differs f js k.1)
 
 -- If lines fit, some line differs exactly if the output isn't the lines.
 pub fits_differs : (f : Judged → List ℕ) (js : List Judged) → Fits f js → some_other (map f js) js ≡ not (bytes_eq (out f js) (out whole js))

@@ -52,7 +52,7 @@ last_numbered n (k ∷ ls) l (t ∷ ts) e = let p : ls ++ l ∷ [] ≡ numbered_
 pub sound_few : (o : Options) (xs : List (Item Reading)) (t : Tree Reading) (ts : List (List ℕ)) → AreFaultless o xs t → map line_of xs ≡ numbered_from 1 ts → length xs ≤ TEXT_LINES
 sound_few o _ _ ts no_lines e = omega arith
 sound_few o _ _ ts (one_more xs t s l u d n) e =
-    grind (arith, last_numbered, map-append, length-map, not_more, length-append)
+    grind (arith, last_numbered, map-append, length-map, length-append)
 
 numbered_few : (n : ℕ) (ts : List (List ℕ)) (ys : List (Item Reading)) → map line_of ys ≡ numbered_from n ts → n + length ts ≤ suc TEXT_LINES → Each IsFew ys
 numbered_few n ts [] e h = tt
@@ -66,7 +66,7 @@ numbered_few n (t ∷ ts) (y ∷ ys) e h =
 -- Neither has the output for it.
 pub again_few : (o : Options) (m : Mode) (xs : List (Item Reading)) (t : Tree Reading) (ys : List (Item Reading)) → Again o m xs t ys → length xs ≤ TEXT_LINES → Each IsFew ys
 again_few o m xs t ys a h =
-    grind (arith, scanned, left_seen, length-map, printed_most, numbered_few)
+    grind (arith, length-map, printed_most, numbered_few)
 
 -- Lines that fit are short.
 pub fit_short : (ys : List (Item Reading)) → LinesFit (map line_of ys) → Each IsShort ys

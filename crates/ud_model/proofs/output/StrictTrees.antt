@@ -82,7 +82,7 @@ both_parts : (a b : Bool) → (not a && not b) ≡ true → (a ≡ false) × (b 
 both_parts a b e = grind arith
 
 kept_loose : {cs ds : List Cond} {c d : Cond} → Pairs Looser cs ds → Looser c d → is_kept ds d ≡ true → is_kept cs c ≡ true
-kept_loose {cs} {ds} {c} {d} p l e = grind (arith, both_parts, false_loose, any_loose)
+kept_loose {cs} {ds} {c} {d} p l e = grind (arith, any_loose)
 
 inside_loose : {h k : Head Reading} → LooserHead h k → is_inside_kept k ≡ true → is_inside_kept h ≡ true
 inside_loose (with_if o) e = kept_loose no_pair o.cond e

@@ -160,7 +160,7 @@ module _ (o : Options) (ls : List Line) where
   gone_from (l ∷ rest) xs t s e = go (represents xs t (sound_lines s) (next_item o xs t l)) (λ ys u r d. gone_from rest ys u r d)
     where
       further : ls ≡ map line_of (xs ++ next_item o xs t l ∷ []) ++ rest
-      further = grind (arith, e, append_assoc, lines_with_next)
+      further = grind (arith, append_assoc, lines_with_next)
 
       go : Stands xs (next_item o xs t l) → ((ys : List (Item Reading)) (u : Tree Reading) → AreFaultless o ys u → ls ≡ map line_of ys ++ rest → Gone o ls) → Gone o ls
       go (faulty f g) on = stopped xs t f (record { sound = s; faulty = l; later = rest; are = e; fault = g })

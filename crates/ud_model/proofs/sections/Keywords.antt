@@ -51,4 +51,4 @@ no_row b c w v (row ∷ rows) e f =
 
 -- A word that begins with two such bytes is no keyword, and no prefix of one.
 pub no_keyword : (b c : ℕ) (w v : List ℕ) → is_no_keyword b c ≡ true → (is_word_byte c ≡ true → w ≡ c ∷ v) → (kind_of (b ∷ w) ≡ None) × (is_prefix_of_keyword (b ∷ w) ≡ false)
-no_keyword b c w v e f = grind (arith, no_row, not-true, and_parts)
+no_keyword b c w v e f = grind (arith, and_parts)

@@ -101,9 +101,9 @@ module _ (scan : Scan) (p : DirectiveParts) where
   ends_by : (word rest : List ℕ) → p.word ≡ word → p.rest ≡ rest → are_word_bytes word ≡ true → first_is is_word_byte rest ≡ false →
       may_split_keyword scan (word ++ rest) ≡ true → EndsInKeyword scan p
   ends_by [] [] e f h n m = nothing_follows e f
-  ends_by [] (b ∷ rest) e f h n m = grind (arith, and_parts, or_cases, bytes_eq-Decides, no_rest)
+  ends_by [] (b ∷ rest) e f h n m = grind (arith, bytes_eq-Decides)
   ends_by (b ∷ word) rest e f h n m =
-      grind (arith, and_parts, or_cases, slash_is_no_word, bytes_eq-Decides, no_rest, append-nil)
+      grind (arith, or_cases, no_rest, append-nil)
 
   -- A masked line that may split a keyword ends so, and the other way round.
   to_ends : AreParts p scan.masked → may_split_keyword scan (p.word ++ p.rest) ≡ true → EndsInKeyword scan p
@@ -113,17 +113,17 @@ module _ (scan : Scan) (p : DirectiveParts) where
   word_may word n h e c = grind arith
 
   from_ends : AreParts p scan.masked → EndsInKeyword scan p → may_split_keyword scan (p.word ++ p.rest) ≡ true
-  from_ends h g = grind (arith, append-nil, word_may)
+  from_ends h g = grind (arith, append-nil)
 
   -- The keyword is split, as it is computed.
   abbrev splits : Bool
   splits = scan.fresh && scan.joins_after && not (is_in_line scan.comment) && may_split_keyword scan (p.word ++ p.rest)
 
   to_split : AreParts p scan.masked → splits ≡ true → IsSplitKeyword scan p
-  to_split h e = grind (arith, and_parts, not-true, to_ends)
+  to_split h e = grind (arith, to_ends)
 
   from_split : AreParts p scan.masked → IsSplitKeyword scan p → splits ≡ true
-  from_split h s = grind (arith, and_from, from_ends)
+  from_split h s = grind (arith, from_ends)
 
   -- The content of a line with these parts, by three choices.
   abbrev content_by : Bool → Bool → Option Kind → Content
@@ -213,7 +213,7 @@ directive_is scan d = (to (split_line scan), back)
         to_directive scan p h (splits scan p) scan.fresh (kind_of p.word) d refl refl refl (sym (content_is scan p h) ∙ e)
 
     back : HasDirective scan d → content_of scan ≡ directive d
-    back h = grind (arith, computed, content_is, unsplit, place)
+    back h = grind (arith, computed, unsplit, place)
 
 -- Each other line is text.
 pub text_is : (scan : Scan) → (content_of scan ≡ text) ↔ ((HasSplitKeyword scan → ⊥) × ((d : Directive) → HasDirective scan d → ⊥))

@@ -53,7 +53,7 @@ module _ {L : Type 0} where
         )
 
   head_same : (kept : Bool) (h : Head L) → marks_of_head kept (conds_of_head h) h ≡ head_so_far kept h
-  head_same kept h = grind (arith, table_so_far, elifs_same)
+  head_same kept h = grind (arith, elifs_same)
 
   -- The marks by the table over the whole section are those by the groups so far.
   pub marks_so_far_same : (kept : Bool) (t : Tree L) → marks_in kept t ≡ marks_so_far kept t

@@ -162,7 +162,7 @@ first_piece a u = by_quote (is_quote a) refl
     by_quote false h = by_slash (a == slash) refl h
 
 less_left : {k : LexemeKind} (text bytes rest : List ℕ) (n : ℕ) → text ≡ bytes ++ rest → IsLexeme bytes rest k → length text ≤ suc n → length rest ≤ n
-less_left text h rest n e p g = grind (arith, some_bytes, length-append)
+less_left text h rest n e p g = grind (arith, length-append)
 
 cut_within : (n : ℕ) (text : List ℕ) → length text ≤ n → (pieces : List Lexeme) × AreLexemes pieces text
 cut_within n [] h = ([], refl)

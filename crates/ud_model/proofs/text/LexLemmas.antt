@@ -65,11 +65,11 @@ piece_single b rest h f = grind arith
 -- A lexeme reaches as far as the computed one.
 pub piece_size : {k : LexemeKind} (a : ℕ) (tail rest : List ℕ) → IsLexeme (a ∷ tail) rest k → lexeme_at a (tail ++ rest) ≡ extent k (length tail)
 unfolding lexeme_at
-piece_size a tail rest (closed_comment inside e n) = grind (arith, at_bytes, extent, close_size)
+piece_size a tail rest (closed_comment inside e n) = grind (arith, extent, close_size)
 piece_size a tail rest (open_comment inside e n none) =
-    grind (arith, at_bytes, extent, append-nil, open_size)
+    grind (arith, extent, append-nil, open_size)
 piece_size a tail rest (to_line_end inside e n at_end) =
-    grind (arith, at_bytes, extent, line_inside_size)
+    grind (arith, extent, line_inside_size)
 piece_size a tail rest (closed_literal q inside h e i) =
     at_bytes literal a q tail (inside ++ q ∷ []) rest e
     (piece_literal q ((inside ++ q ∷ []) ++ rest) h
@@ -80,7 +80,7 @@ piece_size a tail rest (closed_literal q inside h e i) =
     ∙ ap (λ (t : Bool). if t then 1 else suc (literal_size q (q == backslash) rest)) (eq-eqb q q refl))
     ∙ sym (length-append inside (q ∷ []))))
 piece_size a tail rest (open_literal q inside h e i at_end) =
-    grind (arith, at_bytes, piece_literal, extent, inside_size, literal_end_size)
+    grind (arith, piece_literal, extent, inside_size, literal_end_size)
 piece_size a tail rest (open_at_backslash q inside h e i at_end) =
     at_bytes literal a q tail (inside ++ backslash ∷ []) rest e
     (piece_literal q ((inside ++ backslash ∷ []) ++ rest) h
@@ -128,7 +128,7 @@ same_front s t rest more e n = (
 first_same : (k l : LexemeKind) (s t rest more : List ℕ) → IsLexeme s rest k → IsLexeme t more l → s ++ rest ≡ t ++ more → (k ≡ l) × (s ≡ t) × (rest ≡ more)
 first_same k l [] t rest more p q e = absurd (some_bytes rest p)
 first_same k l (a ∷ s) [] rest more p q e = absurd (some_bytes more q)
-first_same k l (a ∷ s) (b ∷ t) rest more p q e = grind (arith, more, piece_size, same_front)
+first_same k l (a ∷ s) (b ∷ t) rest more p q e = grind (arith, piece_size, same_front)
 
 -- A text has lexemes in one way at most.
 pub cut_unique : (text : List ℕ) (pieces others : List Lexeme) → AreLexemes pieces text → AreLexemes others text → pieces ≡ others

@@ -55,26 +55,26 @@ single_white b x = grind (arith, is_blank_last)
 
 literal_white : (b : ℕ) (x : List Cell) → is_quote b ≡ true →
     is_blank (open_line x (cell literal b ∷ [])) ≡ (if b == newline then true else is_blank x && is_white b)
-literal_white b x q = grind (arith, is_blank_last, quote_is_no_feed)
+literal_white b x q = grind (arith, is_blank_last)
 
 white-in_text : (b : ℕ) (x : List Cell) → is_blank (open_line x (settles in_text b)) ≡ stays_white in_text (is_blank x) b
 white-in_text b x = grind (arith, literal_white, single_white)
 
 white-at_slash : (b : ℕ) (x : List Cell) → is_blank (open_line x (settles at_slash b)) ≡ stays_white at_slash (is_blank x) b
-white-at_slash b x = grind (arith, black_last, comment_last, literal_white, single_white)
+white-at_slash b x = grind (arith, black_last, comment_last)
 
 white-in_line : (b : ℕ) (x : List Cell) → is_blank (open_line x (settles in_line b)) ≡ stays_white in_line (is_blank x) b
-white-in_line b x = grind (arith, single_white, comment_last)
+white-in_line b x = grind (arith, comment_last)
 
 white_inside : (b : ℕ) (x : List Cell) →
     is_blank (open_line x (if b == newline then cell single b ∷ [] else cell literal b ∷ []))
     ≡ (if b == newline then true else is_blank x && is_white b)
-white_inside b x = grind (arith, single_white, is_blank_last)
+white_inside b x = grind (arith, is_blank_last)
 
 -- The open line after a byte is white as `stays_white` computes it.
 pub white_step : (w : LexState) (b : ℕ) (x : List Cell) → is_blank (open_line x (settles w b)) ≡ stays_white w (is_blank x) b
 white_step w b x =
-    grind (arith, white-in_text, white-at_slash, white-in_line, white_inside, comment_last)
+    grind (arith, white-in_text, white-at_slash, white_inside, comment_last)
 
 -- One more byte takes the text to the next state.
 pub LexesTo-step : {text : List ℕ} {w : LexState} {white : Bool} (b : ℕ) → LexesTo text w white → LexesTo (text ++ b ∷ []) (next_state w b) (stays_white w white b)

@@ -154,7 +154,7 @@ anew_code prefix group last line alone some =
 
 anew_plain : (prefix group : List Reading) (last line : Line) →
     scan_after_run (c_run_of ((prefix ++ next_reading prefix Plain last ∷ []) ++ group)) line ≡ scan_after_run (c_run_of group) line
-anew_plain prefix group last line = grind (arith, c_run_from-append, run_of_last)
+anew_plain prefix group last line = grind (arith, c_run_from-append)
 
 -- After a line that has an ending and doesn't join the next one, lines are scanned as if no line
 -- came before them.

@@ -176,4 +176,4 @@ scan_behind_is run line masked w v white now_white before r j m =
 
 -- Nothing is shown yet after the text itself.
 pub Masks-start : {text : List ℕ} {w : LexState} {white : Bool} → LexesTo text w white → Masks (length text) text w white []
-Masks-start {text} r = grind (arith, masked_is, drop_all, length-mask)
+Masks-start {text} r = grind (arith, drop_all, length-mask)

@@ -110,7 +110,7 @@ text_other b u e = text_by (b == slash) (is_quote b) b u _ _ e
 
 step-in_text : (b : ℕ) (u : List ℕ) → cells_after in_text (b ∷ u) ≡ settles in_text b ++ cells_after (next_state in_text b) u
 unfolding cells_after
-step-in_text b u = grind (arith, eqb-true, text_other)
+step-in_text b u = grind (arith, text_other)
 
 slash_by : (t s : Bool) (b : ℕ) (u : List ℕ) → (b == slash) ≡ s →
     cells_from slash

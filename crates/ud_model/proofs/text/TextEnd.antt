@@ -158,7 +158,7 @@ block_is k e = grind arith
 -- Lines join the next one if the last is spliced, or if the last lexeme is an open block comment.
 pub joins_open : (lines : List Line) (pieces : List Lexeme) → AreLexemes pieces (spliced_text lines) → (joins lines ≡ true) ↔ ((last_is_spliced lines ≡ true) ⊎ LastIsOpen block_comment pieces)
 unfolding joins
-joins_open lines pieces h = grind (arith, end_in_open, block_is)
+joins_open lines pieces h = grind (arith, end_in_open)
 
 block_at : (t : Bool) (k : LexemeKind) → comment_at t k ≡ InBlock → k ≡ block_comment
 block_at t k e = grind arith
@@ -170,10 +170,10 @@ line_at t k e = grind arith
 pub block_open : (before : List Reading) (l : Line) (pieces : List Lexeme) → AreLexemes pieces (spliced_text (c_run_of before) ++ spliced_part l) →
     ((scan_after before C l).comment ≡ InBlock) ↔ LastIsOpen block_comment pieces
 unfolding scan_after_run
-block_open before l pieces h = grind (arith, block_at, end_in_open)
+block_open before l pieces h = grind (arith, end_in_open)
 
 -- It lies in a line comment that goes on exactly if the line is spliced and the last lexeme is one.
 pub line_open : (before : List Reading) (l : Line) (pieces : List Lexeme) → AreLexemes pieces (spliced_text (c_run_of before) ++ spliced_part l) →
     ((scan_after before C l).comment ≡ InLine) ↔ ((is_spliced l ≡ true) × LastIsOpen line_comment pieces)
 unfolding scan_after_run
-line_open before l pieces h = grind (arith, end_in_open, line_at)
+line_open before l pieces h = grind (arith, end_in_open)
