@@ -1,5 +1,5 @@
 -- StreamLemmas: from what a stream did to what a call from C did.
-use Rattle.std.proofs.Common.{◌≡◌, ◌∙◌, refl, sym, subst, ℕ, ℤ, pos, negsuc, List, length, Bool, true, false, Option, None, Some, Result, Ok, Err}
+use Rattle.std.proofs.Common.{◌≡◌, ◌∙◌, refl, sym, subst, ℕ, ℤ, pos, negsuc, List, length, Bool, true, false, Option, None, Some, Result, arith}
 use Rattle.std.specs.Prelude.{IfOk, is_some}
 use Rattle.ud_model.specs.answer.CommandLine.{usage_fault, options_of, display_name}
 use Rattle.ud_model.specs.declared.settings.Settings.{Settings}
@@ -15,8 +15,7 @@ use Rattle.unifdef_c.specs.declared.stream.Fed.TheVariants as is
 
 -- what is true of each value is true of the one in a result
 pub ok_then : {X E : Type 0} (r : Result X E) (P Q : X → Type 0) → ((x : X) → P x → Q x) → IfOk r P → IfOk r Q
-ok_then (Ok x) P Q f p = f x p
-ok_then (Err e) P Q f p = tt
+ok_then r P Q f p = grind arith
 
 -- a text has ended before
 pub was_ended : (s : Stream) (chunk : List ℕ) (o : Option (Result Bool RunFault)) → s.ended ≡ o → is_some o ≡ true → FeedsStream s s chunk is.Ended
@@ -24,8 +23,7 @@ was_ended s chunk None e k = cc
 was_ended s chunk (Some r) e k = has_ended r e refl
 
 pub not_ended : {X : Type 0} (o : Option X) → is_some o ≡ false → o ≡ None
-not_ended None k = refl
-not_ended (Some r) k = cc
+not_ended o k = grind arith
 
 -- a stream of a plan is one of the arguments of the plan
 pub begins : (args : List (List ℕ)) (plan : PlanState) (name : List ℕ) (s : Stream) → IsPlanOf args plan →
@@ -72,8 +70,7 @@ takes_none buffer h h' e e' =
 
 pub tells : (name name' : List ℕ) (settings settings' : Settings) (r : Result Bool RunFault) (message message' : List ℕ) (size' n : ℕ) → name ≡ name' → settings ≡ settings' →
     TellsEnd name settings r message message' size' n → TellsEnd name' settings' r message message' size' n
-tells name name' settings settings' r message message' size' n e e' w =
-    subst (λ (x : List ℕ). TellsEnd x settings' r message message' size' n) e (subst (λ (x : Settings). TellsEnd name x r message message' size' n) e' w)
+tells name name' settings settings' r message message' size' n e e' w = grind arith
 
 pub ends : (message message' : List ℕ) (size size' : ℕ) (h h' : Option Stream) (s t : Stream) (r : Result Bool RunFault) (n : ℕ) (z : ℤ) → h ≡ Some s → h' ≡ Some t → z ≡ pos n →
     EndsStream s t r → TellsEnd t.name.items t.settings r message message' size' n → EndsHandle message message' size size' h h' z

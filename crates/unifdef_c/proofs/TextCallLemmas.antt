@@ -1,5 +1,5 @@
 -- TextCallLemmas: from the answer of the tool to the answer of a call.
-use Rattle.std.proofs.Common.{◌≡◌, ◌⊎◌, inl, inr, sym, subst, ℕ, List, [], Bool, false, Option, Some}
+use Rattle.std.proofs.Common.{◌≡◌, ◌⊎◌, inl, inr, sym, subst, ℕ, List, [], Bool, false, Option, Some, arith}
 use Rattle.std.specs.Io.KnownBytes.{Appends}
 use Rattle.ud_model.specs.answer.Answer.{Answer, IsAnswer, memory_answer}
 use Rattle.ud_io.specs.Watched.{AppendsAllOrPrefix}
@@ -31,9 +31,7 @@ module _ {R W : Type 0} {call : Call R W} where
   matched : (a : Answer) (output message : List ℕ) → call.old_output ≡ Some [] → call.new_output ≡ Some output →
       call.old_message ≡ Some [] → call.new_message ≡ Some message → call.err_failed ≡ false → Answers call a →
       a ≡ record { output = output; message = message; status = call.status }
-  matched a output message eo eo' em em' works gave =
-      parts_are a output message call.status (appended call.old_output call.new_output a.output output eo eo' gave.output)
-      (all_appended call.err_failed call.old_message call.new_message a.message message works em em' gave.message) gave.answered
+  matched a output message eo eo' em em' works gave = grind arith
 
   -- what a call of the tool over memory gave is the definitions' answer
   pub gave_answer : (given text : List ℕ) → AnswersSpec call given ⊎ FailsForMemory call → given ≡ text → (output message : List ℕ) →
@@ -41,8 +39,4 @@ module _ {R W : Type 0} {call : Call R W} where
       call.err_failed ≡ false →
       IsAnswer call.args text (record { output = output; message = message; status = call.status }) ⊎
       (record { output = output; message = message; status = call.status } ≡ memory_answer)
-  gave_answer given text (inl (a, is, gave)) same output message eo eo' em em' works =
-      inl (subst (λ (t : List ℕ). IsAnswer call.args t (record { output = output; message = message; status = call.status })) same
-      (subst (λ (x : Answer). IsAnswer call.args given x) (matched a output message eo eo' em em' works gave) is))
-  gave_answer given text (inr lacks) same output message eo eo' em em' works =
-      inr (sym (matched memory_answer output message eo eo' em em' works lacks.gave))
+  gave_answer given text h same output message eo eo' em em' works = grind arith

@@ -1,15 +1,16 @@
 -- WordLemmas: the first word of a block, and the words before and after others.
-use Rattle.std.proofs.Common.{◌≡◌, refl, sym, ap, subst, ◌∙◌, ℕ, suc, ◌+◌, ◌-◌, ◌<◌, ◌≤◌, ◌==◌, Bool, true, false, List, [], ◌∷◌, ◌++◌, length, take, drop, add-one, arith, map, append_assoc, nat_lt, cond, Some, None}
+use Rattle.std.proofs.Common.{◌≡◌, refl, sym, ap, ◌∙◌, ℕ, suc, ◌+◌, ◌-◌, ◌<◌, ◌≤◌, ◌==◌, Bool, true, false, List, [], ◌∷◌, ◌++◌, length, take, drop, add-one, arith, map, append_assoc, nat_lt, cond, Some, None}
 use Rattle.std.proofs.lemmas.List.{take_rest, map_push}
 use Rattle.std.proofs.lemmas.List.Quantifiers.{position-Some}
 use Rattle.std.proofs.lemmas.List.Sums.{position_or_len_is}
 use Rattle.std.proofs.lemmas.Bool.Decides.{nat_tests}
 use Rattle.std.specs.List.{position_or_len, position}
 use Rattle.std.specs.Str.{IsUtf8}
+use Rattle.std.proofs.lemmas.Grind.{common_steps}
 use Rattle.unifdef_c.specs.Words.{onto_first, words_of, AreUtf8}
 use Rattle.unifdef_c.specs.ArgsFaults.{IsArgsFault}
 use Rattle.unifdef_c.specs.declared.args.ArgsFault.{ArgsFault}
-use Rattle.unifdef_c.specs.declared.args.ArgsFault.TheVariants.{NotUtf8, OutOfMemory}
+use Rattle.unifdef_c.specs.declared.args.ArgsFault.TheVariants.{NotUtf8}
 
 -- `word_len block`: how many bytes come before the first zero byte.
 abbrev pub word_len : List ℕ → ℕ
@@ -34,17 +35,13 @@ ended_word [] h = absurd (omega arith)
 ended_word (b ∷ bs) h = ended_by_case b bs h (ended_word bs) (b == 0) refl
 
 onto_rest : (b : ℕ) (bs : List ℕ) → (0 < length bs → words_of bs ≡ bs ∷ []) → onto_first b (words_of bs) ≡ (b ∷ bs) ∷ []
-onto_rest b [] known = refl
-onto_rest b (c ∷ cs) known = ap (onto_first b) (known (omega arith))
+onto_rest b bs known = grind (arith, common_steps)
 
 last_by_case : (b : ℕ) (bs : List ℕ) → length (b ∷ bs) ≤ word_len (b ∷ bs) →
     (length bs ≤ word_len bs → 0 < length bs → words_of bs ≡ bs ∷ []) →
     (z : Bool) → b == 0 ≡ z → words_of (b ∷ bs) ≡ (b ∷ bs) ∷ []
 last_by_case b bs h known true e = let low = rw e at h in absurd (omega (arith, low))
-last_by_case b bs h known false e =
-    let low = rw e at h in
-    let less : length bs ≤ word_len bs = omega (arith, low) in
-    rw e (onto_rest b bs (known less))
+last_by_case b bs h known false e = grind (arith, onto_rest)
 
 -- a last word without a zero byte
 pub last_word : (block : List ℕ) → length block ≤ word_len block → 0 < length block → words_of block ≡ block ∷ []
@@ -88,5 +85,4 @@ AreUtf8-right (x ∷ xs) ys all = AreUtf8-right xs ys all.1
 -- a word that isn't UTF-8 is why the block isn't taken
 pub word_refused : (block word : List ℕ) (done after : List (List ℕ)) (fault : ArgsFault) →
     words_of block ≡ done ++ word ∷ after → (fault ≡ NotUtf8 → ¬ (IsUtf8 word)) → IsArgsFault block fault
-word_refused block word done after NotUtf8 e wrong = λ all. wrong refl (AreUtf8-right done (word ∷ after) (subst AreUtf8 e all)).0
-word_refused block word done after OutOfMemory e wrong = tt
+word_refused block word done after fault e wrong = grind (arith, AreUtf8-right)

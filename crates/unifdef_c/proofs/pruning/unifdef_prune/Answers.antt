@@ -1,7 +1,6 @@
 -- The pruned text is handed out, or nothing is written.
-use Rattle.std.proofs.Common.{◌≡◌, ℕ, List, Bool, true, false, length, nat_le, if◌then◌else◌, ℤ, pos, refl, sym, ◌∙◌, ap, ap₂, subst, w32, to_z, of_z}
+use Rattle.std.proofs.Common.{◌≡◌, ℕ, List, Bool, true, false, length, nat_le, if◌then◌else◌, ℤ, pos, refl, sym, ◌∙◌, ap, subst, w32, to_z, of_z}
 use Rattle.unifdef_c.specs.Words.{words_of}
-use Rattle.unifdef_c.specs.TextCalls.{overwritten}
 use Rattle.unifdef_c.specs.Prunings.{PruneAnswer, pruned, bad_words, no_memory, HandsOutPruned, text_left, some_edited}
 use Rattle.unifdef_c.proofs.pruning.unifdef_prune.Goals as goal
 

@@ -1,17 +1,11 @@
-use Rattle.std.proofs.Common.{map, string_bytes}
+use Rattle.std.proofs.Common.{arith}
 use Rattle.ud_model.specs.answer.Answer.{memory_answer}
 use Rattle.unifdef_c.specs.TextCalls.{words_answer, not_words, no_memory}
 use Rattle.unifdef_c.proofs.TextCallLemmas.{text_answered}
 use Rattle.unifdef_c.proofs.text.answer_text.Goals as goal
 
 pub returns-in-Ok : goal.returns-in-Ok
-returns-in-Ok c =
-    let r = c.run_tool.ensures in (
-      r.0,
-      text_answered c.args.words.now c.args.text.now (map string_bytes c.as_slice.result.now) r.0
-          (rw c.as_slice.ensures.value c.in-Ok.ensures.ok) c.in-Ok.ensures.utf8 r.1,
-      r.2,
-    )
+returns-in-Ok c = grind (arith, text_answered)
 
 pub returns-in-Err-NotUtf8 : goal.returns-in-Err-NotUtf8
 returns-in-Err-NotUtf8 c = (words_answer, not_words (rw c.in-Err-NotUtf8.field-0-is at c.in-Err-NotUtf8.ensures.err), c.refuse_words.ensures)

@@ -1,32 +1,6 @@
 -- `closed` makes a handle of null.
-use Rattle.std.specs.Prelude.{None}
-use Rattle.std.proofs.Common.{List, [], ◌∷◌, ◌++◌, refl, sym, subst, lit<}
-use seplogic.Ra.Ura.{Ura}
-use mir.Val.{Val}
-use base.Logic.{SProp, ent, emp}
-use base.Fml.{ftrue, fsep}
-use prog.Memory.{Memory}
-use prog.Routine.{Routine}
-use prog.Wp.{WpFn, Tables}
-use types.Logic.{Logic}
-use contract.Monad.{Fun}
+use Rattle.unifdef_c.proofs.WalkWords.{None, List, [], ◌∷◌, ◌++◌, refl, sym, subst, lit<, Ura, Val, SProp, ent, emp, ftrue, fsep, Memory, Routine, WpFn, Tables, Logic, Fun, WpFn-mono, Item, ‵, raw, ◌⊛◌, ◌$◌, ◌∵◌, !, qed, by, keep, drop, join, split, fsplit, fjoin, suffices, done, agg, lit, no_more, and_then, returns, enter, alloc_all, pass_all, free_all, look_at, get, sets, yes, null_ptr, ptr_val, Slot, plain, handle_tells, nothing, triple_of, entered, says, Stays, stay_dropped, walk_of, ends_at, Goes-dropped, walk_Meets, Good, layout, and_tt}
 use contract.Running.{tables, tables_of}
-use sound.WpLaws.{WpFn-mono}
-use types.Kit.{Item, ‵, raw, ◌⊛◌, at_ret, ◌$◌, ◌∵◌, !, qed, by, move, keep, drop, use0, use1, join, split, fsplit, fjoin, suffices, done}
-use types.Part.{agg}
-use types.Run.{lit, no_more, and_then, returns, enter}
-use types.ByLocal.{alloc_all, pass_all, free_all, look_at, get, sets}
-use denote.Exit.{yes}
-use denote.RawPtr.{null_ptr, ptr_val}
-use denote.Signature.{Slot, plain}
-use Rattle.std.proofs.alloc.Calls.{handle_tells}
-use denote.Steps.{nothing}
-use denote.Triple.Spec.{triple_of}
-use denote.Triple.Table.{entered}
-use denote.Triple.Walked.{says, Stays, stay_dropped, walk_of, ends_at, Goes-dropped, walk_Meets}
-use Rattle.std.proofs.cell.Inside.{Good}
-use denote.Param.{layout}
-use Rattle.std.proofs.ResultValues.{and_tt}
 use Rattle.unifdef_c.specs.contracts.handle.Handle as handle
 use Rattle.unifdef_c.proofs.HandleBox.{E}
 use Rattle.unifdef_c.proofs.HandleSteps.{Z, both, null_in}

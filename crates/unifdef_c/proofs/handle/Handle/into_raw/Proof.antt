@@ -1,37 +1,9 @@
 -- `into_raw` reads the pointer. If it isn't null, what the handle owns goes with the parts.
-use Rattle.std.specs.Prelude.{None, Some}
-use Rattle.std.proofs.Common.{List, [], ◌∷◌, ◌++◌, refl, sym, ap, ◌∙◌, subst, lit<}
-use seplogic.Ra.Ura.{Ura}
-use mir.Val.{Val, vcons, vnil}
-use base.Logic.{SProp, ent, emp, id⊢}
-use base.Fml.{ftrue, fsep}
-use prog.Memory.{Memory}
-use prog.Routine.{Routine}
-use prog.Wp.{WpFn, Tables}
-use types.Logic.{Logic}
-use contract.Monad.{Fun}
+use Rattle.unifdef_c.proofs.WalkWords.{None, Some, List, [], ◌∷◌, ◌++◌, refl, sym, ap, ◌∙◌, subst, lit<, Ura, Val, vcons, vnil, SProp, ent, emp, id⊢, ftrue, fsep, Memory, Routine, WpFn, Tables, Logic, Fun, WpFn-mono, Item, ‵, raw, ◌⊛◌, at_ret, ◌$◌, ◌∵◌, !, qed, by, keep, drop, use0, use1, join, split, fsplit, fjoin, suffices, done, whole, sub, agg, stop, fld, lit, bin, no_more, and_then, of_opd, first, branches, exec, returns, enter, alloc_all, pass_all, free_all, look_at, get, get_in, sets, sets_last, env, RattleType, yes, block_ptr, null_ptr, ptr_val, tests_null, type_at, nothing, triple_of, entered, says, Stays, stay_dropped, walk_of, ends_at, Goes-dropped, walk_Meets, Good, layout, and_tt, D, word, box_typed, box_in}
 use contract.Running.{tables, tables_of}
-use sound.WpLaws.{WpFn-mono}
-use types.Kit.{Item, ‵, raw, ◌⊛◌, at_ret, ◌$◌, ◌∵◌, !, qed, by, move, keep, drop, use0, use1, join, split, fsplit, fjoin, suffices, done}
-use types.Part.{whole, sub, agg}
-use types.Run.{stop, fld, lit, bin, no_more, and_then, of_opd, first, branches, exec, returns, enter}
-use types.ByLocal.{alloc_all, pass_all, free_all, look_at, get, get_in, sets, sets_last, env}
 use types.Match.{live}
-use denote.RattleType.{RattleType}
-use denote.Exit.{yes}
-use denote.RawPtr.{block_ptr, null_ptr, ptr_val, tests_null}
-use denote.Signature.{type_at}
-use denote.Steps.{nothing}
-use denote.Triple.Spec.{triple_of}
-use denote.Triple.Table.{entered}
-use denote.Triple.Walked.{says, Stays, stay_dropped, walk_of, ends_at, Goes-dropped, walk_Meets}
 use Rattle.std.proofs.alloc.Shapes.{after}
 use Rattle.std.proofs.option.Made.{Some-of, none_of}
-use Rattle.std.proofs.cell.Inside.{Good}
-use denote.Param.{layout}
-use Rattle.std.proofs.ResultValues.{and_tt}
-use Rattle.std.proofs.BoxSteps.Form.{D, word, box_typed}
-use Rattle.std.proofs.BoxSteps.Steps.{box_in}
 use Rattle.std.specs.contracts.impls.GlobalAllocator.TheImpl.{ghosts}
 use Rattle.unifdef_c.specs.contracts.raw_box.RawBox as raw_box
 use Rattle.unifdef_c.specs.contracts.handle.Handle as handle
