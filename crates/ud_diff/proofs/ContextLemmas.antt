@@ -1,5 +1,5 @@
 -- Contexts: lemmas on the changes of a script and the kept lines around them.
-use Rattle.std.proofs.Common.{◌≡◌, ℕ, zero, suc, ◌+◌, ◌-◌, ◌*◌, ◌<◌, ◌≤◌, min, true, false, List, [], ◌∷◌, ◌++◌, length, take, drop, get_or, sym, ◌∙◌, ap, ap₂, subst, inl, inr, ◌⊎◌, arith}
+use Rattle.std.proofs.Common.{◌≡◌, ℕ, zero, suc, ◌+◌, ◌-◌, ◌*◌, ◌<◌, ◌≤◌, min, true, false, List, [], ◌∷◌, ◌++◌, length, take, drop, get_or, sym, ◌∙◌, ap, subst, inl, inr, ◌⊎◌, arith}
 use Rattle.std.proofs.lemmas.Bool.{cases_lt, false≢true}
 use Rattle.std.proofs.lemmas.List.{map-append, length-append, length-map, length-take, length-drop, get_or-take, get_or-drop, get_or_append_left, get_or_default, drop-drop, drop_more}
 use Rattle.std.proofs.lemmas.List.Elements.{All-map}
@@ -24,9 +24,7 @@ between_few ls i n = length-take n (drop i ls) ∙ ap (λ (k : ℕ). min n k) (l
 
 -- The lines between two positions of the script are as many as the difference.
 pub length-between : (ls : List DiffLine) (i j : ℕ) → i ≤ j → j ≤ length ls → length (between i j ls) ≡ j - i
-length-between ls i j h within =
-    let few : length (take (j - i) (drop i ls)) ≡ min (j - i) (length ls - i) = between_few ls i (j - i) in
-    length-map (take (j - i) (drop i ls)) signed ∙ omega arith
+length-between ls i j h within = grind (arith, between_few, length-map)
 
 -- Lines that are kept at each position are kept.
 pub kept_range : (ls : List DiffLine) (i j : ℕ) → KeptAt ls i j → AreKept (between i j ls)
@@ -58,18 +56,13 @@ between_parts ls i j k low high =
 
 -- The line at a position.
 pub between_one : (ls : List DiffLine) (i : ℕ) (d : DiffLine) → i < length ls → between i (i + 1) ls ≡ signed (get_or ls i d) ∷ []
-between_one ls i d within =
-    let so_many : i + 1 - i ≡ 1 = omega arith in
-    ap signed_lines (ap₂ (λ (n : ℕ) (xs : List DiffLine). take n xs) so_many (drop_more ls i d within))
+between_one ls i d within = grind (arith, drop_more)
 
 -- Changes begin with one.
 pub changes_begin : (ls : List SignedLine) → AreChanges ls → (0 < length ls) × ((d : SignedLine) → is_change (get_or ls 0 d).sign ≡ true)
 changes_begin _ (one l is) = (omega arith, λ d. is)
 changes_begin _ (more ls kept l h are few is) =
-    let some = (changes_begin ls h).0 in (
-      omega (arith, length-append ls (kept ++ l ∷ [])),
-      λ d. subst (λ (x : SignedLine). is_change x.sign ≡ true) (sym (get_or_append_left ls (kept ++ l ∷ []) d 0 some)) ((changes_begin ls h).1 d),
-    )
+    grind (arith, length-append, get_or_append_left, changes_begin ls h)
 
 -- The first of the changes between two positions.
 pub changes_begin_at : (ls : List DiffLine) (i j : ℕ) → AreChanges (between i j ls) →
@@ -130,35 +123,13 @@ changes_more ls at last d within is h = record {
 
 -- The first of lines that begin with a change isn't kept.
 begins_first : (ls : List DiffLine) (d : DiffLine) → BeginsWithChange ls → is_change (get_or ls 0 d).sign ≡ false → ⊥
-begins_first [] d h is = h
-begins_first (l ∷ ls) d h is = false≢true (sym is ∙ h)
+begins_first ls d h is = grind arith
 
 -- A kept line comes after them.
 pub changes_kept : (ls : List DiffLine) (at last : ℕ) (d : DiffLine) → BeginsWithChange ls → at < length ls → is_change (get_or ls at d).sign ≡ false →
     at - last < 2 * context → ChangesUpto ls at last → ChangesUpto ls (at + 1) last
 changes_kept ls at last d begins within is few h =
-    let reached = h.reached in record {
-      reached = omega arith;
-      near = omega arith;
-      kept = one_more;
-      changed = λ some. by_order (cases_lt 0 at);
-    }
-  where
-    by_order : (0 < at) ⊎ (at ≤ 0) → AreChanges (between 0 last ls)
-    by_order (inl later) = h.changed later
-    by_order (inr first) =
-        let zero_is : at ≡ 0 = omega arith in
-        absurd (begins_first ls d begins (subst (λ (n : ℕ). is_change (get_or ls n d).sign ≡ false) zero_is is))
-
-    one_more : KeptAt ls last (at + 1)
-    one_more k e low high inside = by_place (cases_lt k at)
-      where
-        by_place : (k < at) ⊎ (at ≤ k) → is_change (get_or ls k e).sign ≡ false
-        by_place (inl before) = h.kept k e low before inside
-        by_place (inr here) =
-            let same : at ≡ k = omega arith in
-            subst (λ (n : ℕ). is_change (get_or ls n e).sign ≡ false) same
-            (subst (λ (l : DiffLine). is_change l.sign ≡ false) (get_or_default ls at d e within) is)
+    grind (arith, cases_lt, begins_first, get_or_default)
 
 -- At the end of the lines no gap is needed.
 pub changes_end : (ls : List DiffLine) (last : ℕ) → ChangesUpto ls (length ls) last → AreKept (between last (last + gap) ls)
@@ -167,18 +138,7 @@ changes_end ls last h = kept_range ls last (last + gap) (λ k d low high within.
 -- A kept line ends the gap.
 pub changes_gap : (ls : List DiffLine) (at last : ℕ) (d : DiffLine) → at < length ls → is_change (get_or ls at d).sign ≡ false →
     2 * context ≤ at - last → ChangesUpto ls at last → AreKept (between last (last + gap) ls)
-changes_gap ls at last d within is far h = kept_range ls last (last + gap) upto
-  where
-    upto : KeptAt ls last (last + gap)
-    upto k e low high inside = by_place (cases_lt k at)
-      where
-        by_place : (k < at) ⊎ (at ≤ k) → is_change (get_or ls k e).sign ≡ false
-        by_place (inl before) = h.kept k e low before inside
-        by_place (inr here) =
-            let near = h.near in
-            let same : at ≡ k = omega arith in
-            subst (λ (n : ℕ). is_change (get_or ls n e).sign ≡ false) same
-            (subst (λ (l : DiffLine). is_change l.sign ≡ false) (get_or_default ls at d e within) is)
+changes_gap ls at last d within is far h = grind (arith, kept_range, cases_lt, get_or_default)
 
 -- Lines from a change on begin with it.
 pub begins_at : (ls : List DiffLine) (i : ℕ) → i < length ls → ((d : DiffLine) → is_change (get_or ls i d).sign ≡ true) → BeginsWithChange (drop i ls)
@@ -188,6 +148,4 @@ begins_at (l ∷ ls) (suc i) within h = begins_at ls i (omega arith) h
 
 -- The lines between two positions from a third one on.
 pub between_drop : (ls : List DiffLine) (from i j : ℕ) → between i j (drop from ls) ≡ between (from + i) (from + j) ls
-between_drop ls from i j =
-    let so_many : j - i ≡ from + j - (from + i) = omega arith in
-    ap₂ (λ (n : ℕ) (xs : List DiffLine). signed_lines (take n xs)) so_many (drop-drop i from ls)
+between_drop ls from i j = grind (arith, drop-drop)

@@ -1,5 +1,5 @@
 -- Hunks: lemmas on the hunks of a script.
-use Rattle.std.proofs.Common.{◌≡◌, ℕ, suc, ◌+◌, ◌-◌, ◌<◌, ◌≤◌, min, Bool, true, false, cond, List, [], ◌∷◌, ◌++◌, length, map, take, drop, get_or, Some, None, refl, sym, ◌∙◌, ap, ap₂, subst, ◌⊎◌, inl, inr, append_assoc, arith, filter, position, ltb}
+use Rattle.std.proofs.Common.{◌≡◌, ℕ, suc, ◌+◌, ◌-◌, ◌<◌, ◌≤◌, min, Bool, true, false, cond, List, [], ◌∷◌, ◌++◌, length, map, take, drop, get_or, Some, None, refl, sym, ◌∙◌, ap, ap₂, subst, append_assoc, arith, position, ltb}
 use Rattle.std.specs.List.{flat_map, count_by, position_or_len}
 use Rattle.std.proofs.lemmas.List.{take_rest, length-append, length-drop, length-take, length-take-le, length-map, drop-drop, get_or-drop}
 use Rattle.std.proofs.lemmas.List.Elements.{All-map, All-head, All-tail}
@@ -7,8 +7,9 @@ use Rattle.std.proofs.lemmas.List.Quantifiers.{position-Some}
 use Rattle.std.proofs.lemmas.List.Sums.{length-filter, count_by-le-length, fails_before_first}
 use Rattle.std.proofs.Math.Seq.{take-add}
 use Rattle.std.proofs.lemmas.Bool.{ltb-false}
+use Rattle.std.proofs.lemmas.Grind.{common_steps}
 use Rattle.ud_diff.specs.declared.line.Sign.{Sign}
-use Rattle.ud_diff.specs.declared.line.Sign.TheVariants.{Kept, Removed, Added}
+use Rattle.ud_diff.specs.declared.line.Sign.TheVariants.{Kept}
 use Rattle.ud_diff.specs.declared.line.DiffLine.{DiffLine}
 use Rattle.ud_diff.specs.Hunks.{SignedLine, Hunk, old_lines, new_lines, is_old, is_new, is_change}
 use Rattle.ud_diff.specs.DiffTexts.{ranges_text, signed_text, hunk_text}
@@ -27,12 +28,7 @@ as_many false x y xs ys h = h
 
 -- The number of lines of one text.
 pub count_is : (is_in : Sign → Bool) (ls : List DiffLine) → count_by (λ (l : DiffLine). is_in l.sign) ls ≡ length (side is_in (signed_lines ls))
-count_is is_in ls = sym (length-filter (λ (l : DiffLine). is_in l.sign) ls) ∙ filtered ls
-  where
-    filtered : (ls : List DiffLine) → length (filter (λ (l : DiffLine). is_in l.sign) ls) ≡ length (side is_in (signed_lines ls))
-    filtered [] = refl
-    filtered (l ∷ ls) =
-        as_many (is_in l.sign) l (signed l) (filter (λ (m : DiffLine). is_in m.sign) ls) (filter (λ (m : SignedLine). is_in m.sign) (signed_lines ls)) (filtered ls)
+count_is is_in ls = grind (arith, common_steps, length-filter, side, as_many)
 
 -- A test that gives nothing is false.
 gives_nothing : (b : Bool) (n : ℕ) → cond b (Some n) None ≡ None → b ≡ false
@@ -65,21 +61,16 @@ kept_before script from first e =
 -- The rest of the rest of a slice.
 rest_twice : (script : List DiffLine) (from first : ℕ) →
     take (length (take (length script - from) (drop from script)) - first) (drop first (take (length script - from) (drop from script))) ≡ drop (from + first) script
-rest_twice script from first =
-    take_rest (take (length script - from) (drop from script)) first ∙ ap (drop first) (take_rest script from) ∙ drop-drop first from script
+rest_twice script from first = grind (arith, take_rest, drop-drop)
 
 -- The lines from the first change on begin with it.
 begins_from : (ls : List DiffLine) (i : ℕ) → position (λ (l : DiffLine). is_change l.sign) ls ≡ Some i → BeginsWithChange (drop i ls)
-begins_from [] i e = let none : position (λ (l : DiffLine). is_change l.sign) [] ≡ None = refl in cc
-begins_from (l ∷ ls) i e =
-    begins_at (l ∷ ls) i (position-Some (λ (x : DiffLine). is_change x.sign) (l ∷ ls) i l e).0
-    (λ d. (position-Some (λ (x : DiffLine). is_change x.sign) (l ∷ ls) i d e).1)
+begins_from ls i e = grind (arith, begins_at, position-Some)
 
 -- The lines of a slice from the first change on begin with it.
 pub begins_there : (script : List DiffLine) (from first : ℕ) → position (λ (l : DiffLine). is_change l.sign) (take (length script - from) (drop from script)) ≡ Some first →
     BeginsWithChange (take (length (take (length script - from) (drop from script)) - first) (drop first (take (length script - from) (drop from script))))
-begins_there script from first e =
-    subst BeginsWithChange (sym (take_rest (take (length script - from) (drop from script)) first)) (begins_from (take (length script - from) (drop from script)) first e)
+begins_there script from first e = grind (arith, take_rest, begins_from)
 
 -- The next hunk, from its first change and the number of lines up to its last one.
 next_hunk_is : (script : List DiffLine) (from first n start end : ℕ) → from ≤ length script → position (λ (l : DiffLine). is_change l.sign) (drop from script) ≡ Some first →
@@ -111,11 +102,7 @@ pub next_hunk_at : (script : List DiffLine) (from first n start end : ℕ) → f
     AreKept (between n (n + gap) (take (length (take (length script - from) (drop from script)) - first) (drop first (take (length script - from) (drop from script))))) →
     start ≡ from + (first - context) → end ≡ min (length script) (from + first + n + context) → IsNextHunk script from start end
 next_hunk_at script from first n start end inside e within changed later a b =
-    next_hunk_is script from first n start end inside
-    (subst (λ (xs : List DiffLine). position (λ (l : DiffLine). is_change l.sign) xs ≡ Some first) (take_rest script from) e)
-    (subst (λ (xs : List DiffLine). n ≤ length xs) (rest_twice script from first) within)
-    (subst (λ (xs : List DiffLine). AreChanges (between 0 n xs)) (rest_twice script from first) changed)
-    (subst (λ (xs : List DiffLine). AreKept (between n (n + gap) xs)) (rest_twice script from first) later) a b
+    grind (arith, next_hunk_is, take_rest, rest_twice)
 
 -- The order of the places of the next hunk.
 pub record NextPlaces (ls : List DiffLine) (at start first last end : ℕ) : Type 0 where
@@ -128,20 +115,7 @@ pub record NextPlaces (ls : List DiffLine) (at start first last end : ℕ) : Typ
   pub within : end ≤ length ls
 
 pub next_places : (ls : List DiffLine) (at start end : ℕ) (next : IsNextHunk ls at start end) → NextPlaces ls at start next.first next.last end
-next_places ls at start end next =
-    let after = next.after in
-    let within = next.within in
-    let some : next.first < next.last = (changes_begin_at ls next.first next.last next.changed).0 in
-    let starts = next.starts in
-    let ends = next.ends in record {
-      after = omega arith;
-      before = omega arith;
-      near = omega arith;
-      some = some;
-      upto = omega arith;
-      close = omega arith;
-      within = omega arith;
-    }
+next_places ls at start end next = grind (arith, changes_begin_at)
 
 -- A hunk is appended by its ranges and its lines.
 pub hunk_appended : (o p q : List ℕ) (m n a b : ℕ) (ls : List DiffLine) → p ≡ o ++ ranges_text m a n b → q ≡ p ++ flat_map signed_text (signed_lines ls) →
@@ -154,9 +128,7 @@ hunk_appended o p q m n a b ls first later old new =
 -- A kept line is in both texts.
 kept_line : (is_in : Sign → Bool) → is_in Kept ≡ true → (sign : Sign) (bytes : List ℕ) (ls : List SignedLine) → is_change sign ≡ false →
     side is_in (record { sign = sign; bytes = bytes } ∷ ls) ≡ bytes ∷ side is_in ls
-kept_line is_in is Kept bytes ls e = rw is refl
-kept_line is_in is Removed bytes ls e = cc
-kept_line is_in is Added bytes ls e = cc
+kept_line is_in is sign bytes ls e = grind arith
 
 -- The bytes of the lines.
 abbrev bytes_of : List DiffLine → List (List ℕ)
@@ -194,8 +166,7 @@ turns_changed hunks m n xs ys a b t =
 pub kept_length : (is_in : Sign → Bool) → is_in Kept ≡ true → (xs ys : List DiffLine) → AreKept (signed_lines ys) →
     length (side is_in (signed_lines (xs ++ ys))) ≡ length (side is_in (signed_lines xs)) + length ys
 kept_length is_in is xs ys kept =
-    ap length (side-append is_in xs ys) ∙ length-append (side is_in (signed_lines xs)) (side is_in (signed_lines ys))
-    ∙ ap (λ (n : ℕ). length (side is_in (signed_lines xs)) + n) (ap length (kept_side is_in is ys kept) ∙ length-map ys (λ (l : DiffLine). l.bytes.now))
+    grind (arith, side-append, length-append, side, kept_side, length-map)
 
 -- The lines up to a later position.
 pub upto_later : (ls : List DiffLine) (i j : ℕ) → i ≤ j → take j ls ≡ take i ls ++ take (j - i) (drop i ls)
@@ -221,9 +192,7 @@ taken_few ls n = subst (λ (k : ℕ). k ≤ n) (sym (length-take n ls)) (omega a
 
 -- No more lines are in one text than there are.
 pub side_few : (is_in : Sign → Bool) (ls : List DiffLine) (n : ℕ) → length (side is_in (signed_lines (take n ls))) ≤ n
-side_few is_in ls n =
-    let few : count_by (λ (l : DiffLine). is_in l.sign) (take n ls) ≤ length (take n ls) = count_by-le-length (λ (l : DiffLine). is_in l.sign) (take n ls) in
-    omega (arith, few, taken_few ls n, count_is is_in (take n ls))
+side_few is_in ls n = grind (arith, count_by-le-length, taken_few, count_is)
 
 -- A number of lines of one text up to a position is at most that.
 pub upto_few : (is_in : Sign → Bool) (ls : List DiffLine) (at n : ℕ) → n ≡ length (side is_in (signed_lines (take at ls))) → n ≤ at

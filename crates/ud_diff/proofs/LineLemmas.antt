@@ -1,5 +1,5 @@
 -- Lines: lemmas on the first line of a text.
-use Rattle.std.proofs.Common.{◌≡◌, ◌≢◌, ℕ, zero, suc, ◌+◌, List, [], ◌∷◌, ◌++◌, length, take, drop, get_or, sym, ◌∙◌, ap, subst, arith, take-append-drop}
+use Rattle.std.proofs.Common.{◌≡◌, ◌≢◌, ℕ, zero, suc, ◌+◌, List, [], ◌∷◌, ◌++◌, length, take, drop, get_or, sym, ◌∙◌, ap, arith, take-append-drop}
 use Rattle.std.proofs.lemmas.Bool.{eq-eqb, eqb-true}
 use Rattle.std.proofs.lemmas.List.{take_more, take_all, drop_all}
 use Rattle.memchr.specs.Find.{Nowhere, NoneBefore, Passes, is_byte}
@@ -34,8 +34,4 @@ pub texts_of-open : (s : List ℕ) → s ≢ [] → Nowhere (Passes (is_byte 10)
     texts_of s ≡ take (length s) s ∷ texts_of (drop (length s) s)
 unfolding split_lines
 texts_of-open s some none =
-    let all : take (length s) s ≡ s = take_all (length s) s (omega arith) in
-    ap (λ (q : SplitLines). q.whole ++ last_line q.rest) (split_lines-open s (subst NoNewline all (no_newline-take s (length s) none)))
-    ∙ last_line-some s some
-    ∙ sym (ap (λ (x : List ℕ). x ∷ texts_of (drop (length s) s)) all
-    ∙ ap (λ (x : List ℕ). s ∷ texts_of x) (drop_all (length s) s (omega arith)))
+    grind (arith, take_all, split_lines-open, no_newline-take, last_line-some, drop_all)

@@ -1,18 +1,13 @@
 -- Patching: hunks that turn lines into others make these of them, and turned round the first ones.
-use Rattle.std.proofs.Common.{◌≡◌, ℕ, ◌+◌, ◌-◌, Bool, true, false, cond, filter, List, [], ◌∷◌, ◌++◌, length, map, take, drop, Option, Some, None, refl, sym, ◌∙◌, ap, ap₂, subst, append_assoc, append-nil, arith, if◌then◌else◌, leb, ◌&&◌}
-use Rattle.std.specs.Prelude.{option_and_then, option_map, All}
+use Rattle.std.proofs.Common.{◌≡◌, ℕ, ◌+◌, ◌-◌, Bool, true, List, [], ◌∷◌, ◌++◌, length, map, take, drop, Option, Some, None, refl, sym, ◌∙◌, ap, subst, append_assoc, append-nil, arith, if◌then◌else◌, leb}
+use Rattle.std.specs.Prelude.{option_and_then, option_map}
 use Rattle.std.proofs.lemmas.Bool.{le-leb, and_from}
 use Rattle.std.proofs.lemmas.List.{map-append, length-append, take_at, drop_at}
 use Rattle.std.proofs.lemmas.Slice.Eq.{bytes_eq-Decides}
-use Rattle.ud_model.specs.text.Lines.{texts_of}
-use Rattle.ud_diff.specs.declared.line.Sign.{Sign}
-use Rattle.ud_diff.specs.declared.line.Sign.TheVariants.{Kept, Removed, Added}
-use Rattle.ud_diff.specs.Hunks.{SignedLine, Hunk, old_lines, new_lines, is_old, is_new, turned_sign, turned_line, turned}
+use Rattle.ud_diff.specs.Hunks.{SignedLine, Hunk, old_lines, new_lines, turned_line, turned}
 use Rattle.ud_diff.specs.DiffTexts.{names_text}
 use Rattle.ud_diff.specs.Patching.{rest_after, is_within, patched_from, patched, Turns, nothing, stay, change, IsDiff}
-use Rattle.ud_diff.specs.Contexts.{HasContext}
 use Rattle.ud_diff.specs.Scripts.{IsScript, AppendsHunks}
-use Rattle.ud_diff.proofs.ScriptLemmas.{side}
 
 -- The hunks, applied to the lines `old`, before which `m` lines come, give the lines `new`, before
 -- which `n` come.
@@ -60,8 +55,7 @@ turns_then _ _ _ (change hunks old new h t a b) ks o w r =
 -- Lines that begin with the wanted ones have these others after them.
 rest_after_at : (ws rest : List (List ℕ)) → rest_after ws (ws ++ rest) ≡ Some rest
 rest_after_at [] rest = refl
-rest_after_at (w ∷ ws) rest =
-    ap (λ (b : Bool). if b then rest_after ws (ws ++ rest) else None) ((bytes_eq-Decides w w).1 refl) ∙ rest_after_at ws rest
+rest_after_at (w ∷ ws) rest = grind (arith, bytes_eq-Decides, rest_after_at ws rest)
 
 -- The lines that a hunk makes, step by step.
 abbrev made : Bool → List (List ℕ) → Option (List (List ℕ)) → (List (List ℕ) → Option (List (List ℕ))) → List (List ℕ) → Option (List (List ℕ))
@@ -72,11 +66,7 @@ made inside front found f news =
 made_is : (inside : Bool) (front : List (List ℕ)) (found : Option (List (List ℕ))) (f : List (List ℕ) → Option (List (List ℕ)))
     (ls rest news later : List (List ℕ)) → inside ≡ true → front ≡ ls → found ≡ Some rest → f rest ≡ Some later →
     made inside front found f news ≡ Some (ls ++ (news ++ later))
-made_is inside front found f ls rest news later a b d e =
-    ap (λ (x : Bool). made x front found f news) a
-    ∙ ap (λ (x : List (List ℕ)). made true x found f news) b
-    ∙ ap (λ (x : Option (List (List ℕ))). made true ls x f news) d
-    ∙ ap (λ (x : Option (List (List ℕ))). option_map (λ (w : List (List ℕ)). ls ++ (news ++ w)) x) e
+made_is inside front found f ls rest news later a b d e = grind arith
 
 -- Hunks that turn lines into others make these of them.
 makes : (m n : ℕ) (hunks : List Hunk) (old new : List (List ℕ)) → TurnsFrom m n hunks old new → patched_from m hunks old ≡ Some new
@@ -123,14 +113,4 @@ turns_back _ _ _ (change hunks old new h t a b) =
 
 -- The names and the hunks of a script of two texts are a diff of them.
 pub diff_is : (path old new bytes : List ℕ) (lines : List SignedLine) → IsScript old new lines → AppendsHunks lines (names_text path) bytes → IsDiff path old new bytes
-diff_is path old new bytes lines script h = record {
-  hunks = h.hunks;
-  printed = h.printed;
-  applied = ap (patched h.hunks) (sym script.old_are) ∙ turns_makes h.hunks (old_lines lines) (new_lines lines) h.turns ∙ ap (λ (x : List (List ℕ)). Some x) script.new_are;
-  reversed = ap (patched (map turned h.hunks)) (sym script.new_are)
-      ∙ turns_makes (map turned h.hunks) (new_lines lines) (old_lines lines) (turns_back h.hunks (old_lines lines) (new_lines lines) h.turns)
-      ∙ ap (λ (x : List (List ℕ)). Some x) script.old_are;
-  in_context = subst (λ (x : List (List ℕ)). All (HasContext x (texts_of new)) h.hunks) script.old_are
-      (subst (λ (x : List (List ℕ)). All (HasContext (old_lines lines) x) h.hunks) script.new_are h.in_context);
-  apart = h.apart;
-}
+diff_is path old new bytes lines script h = grind (arith, turns_makes, turns_back)

@@ -1,5 +1,5 @@
 -- Tables: a row more, and the order of the rows.
-use Rattle.std.proofs.Common.{◌≡◌, ℕ, zero, suc, ◌+◌, ◌-◌, ◌*◌, ◌<◌, ◌≤◌, List, [], ◌∷◌, ◌++◌, length, map, take, drop, get_or, replicate, min, Bool, true, false, if◌then◌else◌, bytes_eq, refl, sym, ◌∙◌, ap, ap₂, subst, arith, is_lt}
+use Rattle.std.proofs.Common.{◌≡◌, ℕ, zero, suc, ◌+◌, ◌-◌, ◌<◌, ◌≤◌, List, [], ◌∷◌, ◌++◌, length, map, take, drop, get_or, replicate, min, Bool, true, false, if◌then◌else◌, bytes_eq, refl, sym, ◌∙◌, ap, ap₂, subst, arith, is_lt}
 use Rattle.std.specs.List.{All, count_by}
 use Rattle.std.specs.List.Sorted.{IsPermutation, IsSorted}
 use Rattle.std.specs.declared.cmp.Ordering.{Ordering}
@@ -24,11 +24,7 @@ same : (xs : List ℕ) → bytes_eq xs xs ≡ true
 same xs = (bytes_eq-Decides xs xs).1 refl
 
 flip : (xs ys : List ℕ) → bytes_eq xs ys ≡ false → bytes_eq ys xs ≡ false
-flip xs ys e = by (bytes_eq ys xs) refl
-  where
-    by : (b : Bool) → bytes_eq ys xs ≡ b → b ≡ false
-    by false h = refl
-    by true h = sym (sym e ∙ ap (λ (z : List ℕ). bytes_eq xs z) ((bytes_eq-Decides ys xs).0 h) ∙ same xs)
+flip xs ys e = grind (arith, bytes_eq-Decides, same)
 
 -- 1. Counts.
 
@@ -64,11 +60,7 @@ module _ {X : Type 0} (p : X → Bool) where
 
 -- A name many times.
 count-replicate : (n x : List ℕ) (k : ℕ) → count_of n (replicate k x) ≡ (if bytes_eq x n then k else 0)
-count-replicate n x k = sum_by-replicate (λ (m : List ℕ). if bytes_eq m n then 1 else 0) k x ∙ by (bytes_eq x n)
-  where
-    by : (b : Bool) → k * (if b then 1 else 0) ≡ (if b then k else 0)
-    by true = omega arith
-    by false = omega arith
+count-replicate n x k = grind (arith, sum_by-replicate)
 
 pub replicated : {X : Type 0} (f : X → List ℕ) (x : List ℕ) (ps : List X) → ((k : ℕ) → k < length ps → (d : X) → bytes_eq (f (get_or ps k d)) x ≡ true) → map f ps ≡ replicate (length ps) x
 replicated f x [] h = refl
@@ -151,12 +143,6 @@ module _ {X : Type 0} (f : X → List ℕ) (xs : List X) (up : IsSorted (λ x y.
               let eq : bytes_eq (f (get_or xs i d)) (f (get_or xs j d)) ≡ true =
               equal_if (f (get_or xs i d)) (f (get_or xs j d)) high (ap (λ (a : List ℕ). is_lt (slice_cmp nat_cmp (f (get_or xs j d)) a)) (sym is) ∙ low) in
               sym eq ∙ e
-
-  pub rows_start : RowsAt f xs [] 0
-  rows_start = record {
-    counts = record { counts = λ k d l. absurd (omega arith); once = λ n. refl };
-    apart = λ l d. refl;
-  }
 
   pub rows_next : (rows : List NameCount) (x : List ℕ) (i count : ℕ) → RowsAt f xs rows i → i < length xs → count ≤ length (drop i xs) → ((d : X) → f (get_or xs i d) ≡ x) →
       ((k : ℕ) → k < count → (d : X) → bytes_eq (f (get_or (drop i xs) k d)) x ≡ true) →

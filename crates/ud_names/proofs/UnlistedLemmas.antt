@@ -1,33 +1,31 @@
 -- Unlisted conditions: those of one line more, and of many text lines more.
-use Rattle.std.proofs.Common.{◌≡◌, ℕ, ◌+◌, ◌-◌, ◌≤◌, ◌==◌, List, [], ◌∷◌, ◌++◌, length, map, take, drop, Bool, true, false, ◌&&◌, if◌then◌else◌, Option, Some, None, refl, sym, ◌∙◌, ap, ap₂, subst, append-nil, length-append, arith}
-use Rattle.std.specs.List.{filter, flat_map}
+use Rattle.std.proofs.Common.{◌≡◌, ℕ, ◌+◌, ◌-◌, ◌≤◌, ◌==◌, List, [], ◌∷◌, ◌++◌, length, map, take, drop, true, false, ◌&&◌, if◌then◌else◌, Option, Some, None, refl, sym, ◌∙◌, ap, ap₂, subst, arith}
+use Rattle.std.specs.List.{filter}
 use Rattle.std.proofs.Math.Seq.{take-add}
 use Rattle.std.proofs.lemmas.Grind.{flat_map-append}
 use Rattle.std.proofs.lemmas.List.{take_at}
 use Rattle.std.proofs.lemmas.List.Elements.{filter-append}
 use Rattle.std.proofs.lemmas.List.Sums.{sum_by-append}
 use Rattle.std.proofs.lemmas.Bool.{and_right}
+use Rattle.std.proofs.lemmas.Grind.{common_steps}
 use Rattle.ud_model.specs.text.Lines.{Line, line_at, numbered_from, texts_of, whole_lines}
-use Rattle.ud_model.specs.text.Scans.{Scan, Reading}
+use Rattle.ud_model.specs.text.Scans.{Reading}
 use Rattle.ud_model.specs.text.Scanning.{next_reading, readings_after}
 use Rattle.ud_model.specs.sections.Directives.{Content, text, content_of}
 use Rattle.ud_model.specs.output.InsertedLines.{read_as, in_mode}
 use Rattle.ud_model.specs.declared.kind.Mode.{Mode}
 use Rattle.ud_text.specs.bulk.BulkScanning.{AreWholeLines, HaveNoDirective}
-use Rattle.ud_names.specs.UnlistedConditions.{fits, has_unlisted, is_unlisted_line, unlisted_in, numbered_line, unlisted_line, unlisted_text}
+use Rattle.ud_names.specs.UnlistedConditions.{fits, has_unlisted, is_unlisted_line, unlisted_in, unlisted_text}
 use Rattle.ud_names.specs.UnlistedLines.{newlines, number_at, FindsMore, finds_none, finds_one, found_count, found_line}
 use Rattle.ud_text.proofs.lemmas.scan.LongerTextLemmas.{after, here, reading, read_texts, read_line, number_here, k_scan}
 
 -- 1. One line more.
 
 none_more : (before : List Reading) (r : Reading) → is_unlisted_line r ≡ false → filter is_unlisted_line (before ++ r ∷ []) ≡ filter is_unlisted_line before
-none_more before r e =
-    filter-append is_unlisted_line before (r ∷ []) ∙ ap (λ (b : Bool). filter is_unlisted_line before ++ (if b then r ∷ [] else [])) e
-    ∙ append-nil (filter is_unlisted_line before)
+none_more before r e = grind (arith, common_steps, filter-append)
 
 one_more : (before : List Reading) (r : Reading) → is_unlisted_line r ≡ true → filter is_unlisted_line (before ++ r ∷ []) ≡ filter is_unlisted_line before ++ r ∷ []
-one_more before r e =
-    filter-append is_unlisted_line before (r ∷ []) ∙ ap (λ (b : Bool). filter is_unlisted_line before ++ (if b then r ∷ [] else [])) e
+one_more before r e = grind (arith, filter-append)
 
 text_listed : (r : Reading) → content_of r.scan ≡ text → is_unlisted_line r ≡ false
 text_listed r e = ap (λ (c : Content). fits r.line && has_unlisted c) e ∙ and_right (fits r.line) false refl
@@ -50,8 +48,7 @@ module _ (mode : Mode) (done p : List ℕ) (ends : AreWholeLines done) where
 
   module _ (one : texts_of p ≡ p ∷ []) (k : Line) (is : k ≡ line_at 1 p) where
     same : is_unlisted_line (reading mode done p ends one) ≡ is_unlisted_line (next_reading (read_as mode done) mode k)
-    same =
-        ap₂ (λ (b : Bool) (s : Scan). b && has_unlisted (content_of s)) (ap (λ (x : Line). fits x) (sym is)) (k_scan mode done p ends one k is)
+    same = grind (arith, k_scan)
 
     pub line_unfound : is_unlisted_line (next_reading (read_as mode done) mode k) ≡ false → FindsMore mode done p None
     line_unfound e = finds_none (
@@ -69,19 +66,13 @@ module _ (mode : Mode) (done p : List ℕ) (ends : AreWholeLines done) where
 
 pub text_more : (file : List ℕ) (mode : Mode) (done p : List ℕ) (found : Option (List ℕ)) (number : ℕ) → FindsMore mode done p found → number ≡ 1 + length (texts_of done) →
     unlisted_text file mode (done ++ p) ≡ unlisted_text file mode done ++ found_line file number found
-text_more file mode done p None number (finds_none e) n =
-    ap (λ (rs : List Reading). flat_map (unlisted_line file) rs) e ∙ sym (append-nil (unlisted_text file mode done))
-text_more file mode done p (Some b) number (finds_one r m e) n =
-    ap (λ (rs : List Reading). flat_map (unlisted_line file) rs) e ∙ flat_map-append (unlisted_line file) (unlisted_in mode done) (r ∷ [])
-    ∙ ap (λ (x : List ℕ). unlisted_text file mode done ++ x) (append-nil (unlisted_line file r) ∙ ap (λ (x : ℕ). numbered_line file x r.line.body) (m ∙ sym n))
+text_more file mode done p found number h n = grind (arith, common_steps, flat_map-append)
 
 pub count_more : (mode : Mode) (done p : List ℕ) (found : Option (List ℕ)) → FindsMore mode done p found → length (unlisted_in mode (done ++ p)) ≡ length (unlisted_in mode done) + found_count found
-count_more mode done p None (finds_none e) = ap (λ (rs : List Reading). length rs) e ∙ omega arith
-count_more mode done p (Some b) (finds_one r m e) = ap (λ (rs : List Reading). length rs) e ∙ length-append (unlisted_in mode done) (r ∷ [])
+count_more mode done p found h = grind (arith, common_steps)
 
 pub one_at_most : (found : Option (List ℕ)) → found_count found ≤ 1
-one_at_most None = omega arith
-one_at_most (Some b) = omega arith
+one_at_most found = grind arith
 
 -- 4. The numbers of lines.
 
@@ -97,5 +88,4 @@ counted_on bytes at to count lines le l c =
 
 -- The line after whole lines.
 pub number_is : (mode : Mode) (done rest bytes : List ℕ) → AreWholeLines done → done ++ rest ≡ bytes → (at : ℕ) → length done ≡ at → number_at bytes at ≡ 1 + length (texts_of done)
-number_is mode done rest bytes ends e at n =
-    ap (λ (x : List ℕ). 1 + newlines (take at x)) (sym e) ∙ ap (λ (x : List ℕ). 1 + newlines x) (take_at done rest at n) ∙ number_here mode done rest ends
+number_is mode done rest bytes ends e at n = grind (arith, take_at, number_here)

@@ -1,37 +1,28 @@
 -- Cells: parts of a condition's text, and the rest of them.
-use Rattle.std.proofs.Common.{◌≡◌, ℕ, ◌-◌, List, [], ◌∷◌, ◌++◌, length, map, take, drop, Bool, true, false, not, ◌||◌, if◌then◌else◌, refl, sym, ◌∙◌, ap, subst, append_assoc, append-nil, arith}
+use Rattle.std.proofs.Common.{◌≡◌, ℕ, ◌-◌, List, [], ◌∷◌, ◌++◌, length, map, take, drop, Bool, true, false, not, ◌||◌, if◌then◌else◌, refl, sym, ◌∙◌, ap, subst, arith}
 use Rattle.std.proofs.lemmas.List.{take-map, drop-map, map-append}
-use Rattle.std.specs.Prelude.{Result, Ok, Err, IfOk, OnOk}
+use Rattle.std.specs.Prelude.{Result, IfOk, OnOk}
+use Rattle.std.proofs.lemmas.Grind.{common_steps}
 use Rattle.ud_model.specs.text.Bytes.{are_white, skip_white}
 use Rattle.ud_model.specs.text.Lexemes.{Cell, shown}
-use Rattle.ud_model.specs.conditions.Tokens.{Token, NextToken, at_end, unreadable, found, next_token}
+use Rattle.ud_model.specs.conditions.Tokens.{Token, at_end, unreadable, found, next_token}
 use Rattle.ud_model.specs.conditions.ResidualTexts.{left_by, left_from, ends_operand}
 use Rattle.ud_prune.specs.Cells.{AreCells, SameLeft, byte_of}
 
 -- 1. Parts of the cells.
 
 pub cells_front : (n : ℕ) (cells : List Cell) (bytes masked : List ℕ) → AreCells cells bytes masked → AreCells (take n cells) (take n bytes) (take n masked)
-cells_front n cells bytes masked a = record {
-  bytes_are = sym (take-map byte_of n cells) ∙ ap (λ (l : List ℕ). take n l) a.bytes_are;
-  shown_are = sym (take-map shown n cells) ∙ ap (λ (l : List ℕ). take n l) a.shown_are;
-}
+cells_front n cells bytes masked a = grind (arith, take-map)
 
 pub cells_back : (n : ℕ) (cells : List Cell) (bytes masked : List ℕ) → AreCells cells bytes masked → AreCells (drop n cells) (drop n bytes) (drop n masked)
-cells_back n cells bytes masked a = record {
-  bytes_are = sym (drop-map byte_of n cells) ∙ ap (λ (l : List ℕ). drop n l) a.bytes_are;
-  shown_are = sym (drop-map shown n cells) ∙ ap (λ (l : List ℕ). drop n l) a.shown_are;
-}
+cells_back n cells bytes masked a = grind (arith, drop-map)
 
 pub cells_same : (cells : List Cell) {bytes masked more longer : List ℕ} → bytes ≡ more → masked ≡ longer → AreCells cells bytes masked → AreCells cells more longer
 cells_same cells e f a = record { bytes_are = a.bytes_are ∙ e; shown_are = a.shown_are ∙ f }
 
 -- The cells are as many as the bytes that show them.
 pub cells_count : (cells : List Cell) (bytes masked : List ℕ) → AreCells cells bytes masked → length masked ≡ length cells
-cells_count cells bytes masked a = ap (λ (l : List ℕ). length l) (sym a.shown_are) ∙ counted cells
-  where
-    counted : (cs : List Cell) → length (map shown cs) ≡ length cs
-    counted [] = refl
-    counted (c ∷ cs) = let h = counted cs in omega (arith, h)
+cells_count cells bytes masked a = grind (arith, common_steps)
 
 -- 2. The rest of a token and the white space before it.
 
@@ -42,12 +33,7 @@ module _ (prev operand f : Bool) (flags : List Bool) (cells : List Cell) where
       left_from prev operand (f ∷ flags) cells ≡
       (if (if operand then f else prev) || not (are_white (map byte_of (take gap cells))) then take gap cells else []) ++
       ((if f then take size (drop gap cells) else []) ++ left_from f (ends_operand t) flags (drop size (drop gap cells)))
-  found_left t rest gap size e g s =
-      ap (left_by prev operand f (λ o c. left_from f o flags c) cells) e
-      ∙ subst (λ (k : ℕ). left_by prev operand f (λ o c. left_from f o flags c) cells (found t rest) ≡ (if (if operand then f else prev) || not (are_white (map byte_of (take k cells))) then take k cells else []) ++
-      ((if f then take (length (drop k cells) - length rest) (drop k cells) else []) ++ left_from f (ends_operand t) flags (drop (length (drop k cells) - length rest) (drop k cells)))) g refl
-      ∙ ap (λ (k : ℕ). (if (if operand then f else prev) || not (are_white (map byte_of (take gap cells))) then take gap cells else []) ++
-      ((if f then take k (drop gap cells) else []) ++ left_from f (ends_operand t) flags (drop k (drop gap cells)))) s
+  found_left t rest gap size e g s = grind arith
 
   -- A text without a token stays.
   pub end_left : next_token (map shown cells) ≡ at_end → left_from prev operand (f ∷ flags) cells ≡ cells
@@ -73,30 +59,17 @@ map_if f false xs = refl
 
 three_parts : (f : Cell → ℕ) (b : List ℕ) (g h : Bool) (xs ys zs : List Cell) (x y : List ℕ) → map f xs ≡ x → map f ys ≡ y →
     b ++ map f ((if g then xs else []) ++ ((if h then ys else []) ++ zs)) ≡ ((b ++ (if g then x else [])) ++ (if h then y else [])) ++ map f zs
-three_parts f b g h xs ys zs x y p q =
-    ap (λ (l : List ℕ). b ++ l)
-    (map-append f (if g then xs else []) ((if h then ys else []) ++ zs)
-    ∙ ap (λ (l : List ℕ). map f (if g then xs else []) ++ l) (map-append f (if h then ys else []) zs)
-    ∙ ap (λ (l : List ℕ). l ++ (map f (if h then ys else []) ++ map f zs)) (map_if f g xs ∙ ap (λ (l : List ℕ). if g then l else []) p)
-    ∙ ap (λ (l : List ℕ). (if g then x else []) ++ (l ++ map f zs)) (map_if f h ys ∙ ap (λ (l : List ℕ). if h then l else []) q))
-    ∙ sym (append_assoc b (if g then x else []) ((if h then y else []) ++ map f zs))
-    ∙ sym (append_assoc (b ++ (if g then x else [])) (if h then y else []) (map f zs))
+three_parts f b g h xs ys zs x y p q = grind (arith, common_steps, map-append, map_if)
 
 -- Two parts were appended, each if it stays.
 pub two_appended : (b s : List ℕ) (g h : Bool) (xs ys zs : List Cell) (x m y n : List ℕ) {b1 s1 b2 s2 : List ℕ} → AreCells xs x m → AreCells ys y n →
     b1 ≡ b ++ (if g then x else []) → s1 ≡ s ++ (if g then m else []) → b2 ≡ b1 ++ (if h then y else []) → s2 ≡ s1 ++ (if h then n else []) →
     SameLeft b s ((if g then xs else []) ++ ((if h then ys else []) ++ zs)) b2 s2 zs
-two_appended b s g h xs ys zs x m y n p q e f i j = record {
-  bytes_are = three_parts byte_of b g h xs ys zs x y p.bytes_are q.bytes_are ∙ ap (λ (l : List ℕ). l ++ map byte_of zs) (sym (i ∙ ap (λ (l : List ℕ). l ++ (if h then y else [])) e));
-  shown_are = three_parts shown s g h xs ys zs m n p.shown_are q.shown_are ∙ ap (λ (l : List ℕ). l ++ map shown zs) (sym (j ∙ ap (λ (l : List ℕ). l ++ (if h then n else [])) f));
-}
+two_appended b s g h xs ys zs x m y n p q e f i j = grind (arith, three_parts)
 
 -- A text was appended, after which nothing is left.
 pub all_appended : (b s : List ℕ) (cells : List Cell) (bytes masked : List ℕ) {c t : List ℕ} → AreCells cells bytes masked → c ≡ b ++ bytes → t ≡ s ++ masked → SameLeft b s cells c t []
-all_appended b s cells bytes masked {c} {t} a e f = record {
-  bytes_are = ap (λ (l : List ℕ). b ++ l) a.bytes_are ∙ sym e ∙ sym (append-nil c);
-  shown_are = ap (λ (l : List ℕ). s ++ l) a.shown_are ∙ sym f ∙ sym (append-nil t);
-}
+all_appended b s cells bytes masked a e f = grind (arith, common_steps)
 
 pub same_on : (b s : List ℕ) {xs ys : List Cell} {c t : List ℕ} {zs ws : List Cell} → xs ≡ ys → zs ≡ ws → SameLeft b s ys c t ws → SameLeft b s xs c t zs
 same_on b s {xs} {ys} {c} {t} {zs} {ws} e f h = subst (λ (l : List Cell). SameLeft b s l c t zs) (sym e) (subst (λ (l : List Cell). SameLeft b s ys c t l) (sym f) h)
@@ -106,13 +79,10 @@ same_then p q = record { bytes_are = p.bytes_are ∙ q.bytes_are; shown_are = p.
 
 -- A result has a fact if each of its values has it.
 pub ok_all : {A E B S : Type 0} {R Q : A → Type 0} (r : Result A E) → OnOk r B → OnOk r S → IfOk r R → ((p : A) → B → S → R p → Q p) → IfOk r Q
-ok_all (Ok p) b s x f = f p b s x
-ok_all (Err e) b s x f = tt
+ok_all r b s x f = grind arith
 
 pub ok_both : {A E B S Q : Type 0} (r : Result A E) → OnOk r B → OnOk r S → (B → S → Q) → OnOk r Q
-ok_both (Ok p) b s f = f b s
-ok_both (Err e) b s f = tt
+ok_both r b s f = grind arith
 
 pub if_ok : {A E : Type 0} {R Q : A → Type 0} (r : Result A E) → IfOk r R → ((p : A) → R p → Q p) → IfOk r Q
-if_ok (Ok p) x f = f p x
-if_ok (Err e) x f = tt
+if_ok r x f = grind arith

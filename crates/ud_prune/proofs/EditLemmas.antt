@@ -1,24 +1,20 @@
 -- Edited lines: the line that is edited, and the line that is read.
-use Rattle.std.proofs.Common.{◌≡◌, ◌≢◌, ℕ, ◌+◌, ◌-◌, ◌≤◌, ◌==◌, List, [], ◌∷◌, ◌++◌, length, map, take, drop, Bool, true, false, not, ◌&&◌, ◌||◌, if◌then◌else◌, bytes_eq, refl, sym, ◌∙◌, ap, ap₂, subst, ◌⊎◌, inl, inr, append_assoc, length-append, arith, take-append-drop}
-use Rattle.std.specs.List.{list_any}
+use Rattle.std.proofs.Common.{◌≡◌, ℕ, ◌+◌, ◌-◌, List, [], ◌++◌, length, map, take, drop, Bool, true, false, not, ◌&&◌, if◌then◌else◌, bytes_eq, refl, sym, ◌∙◌, ap, ap₂, subst, ◌⊎◌, length-append, arith, take-append-drop}
 use Rattle.std.proofs.lemmas.List.{drop-map, take_at, take_all}
-use Rattle.std.proofs.lemmas.Bool.{eqb-true, and_right, or_from}
+use Rattle.std.proofs.lemmas.Bool.{and_right, or_from}
 use Rattle.std.proofs.lemmas.Slice.Eq.{bytes_eq-Decides}
-use Rattle.std.proofs.Math.ListN.{length-take}
 use Rattle.ud_model.specs.text.Lines.{Line, NoNewline, IsWhole, text_of, ending_of, line_at, is_ending}
-use Rattle.ud_model.specs.text.Scans.{Scan, Reading, is_spanning}
+use Rattle.ud_model.specs.text.Scans.{Scan, Reading}
 use Rattle.ud_model.specs.text.Splicing.{is_empty, is_spliced, content}
 use Rattle.ud_model.specs.text.Lexemes.{Cell, shown}
-use Rattle.ud_model.specs.text.Scanning.{content_cells, scan_after_run, scan_after}
+use Rattle.ud_model.specs.text.Scanning.{content_cells, scan_after_run}
 use Rattle.ud_model.specs.sections.Directives.{Content, cut_keyword, directive, text, Directive, content_of}
 use Rattle.ud_model.specs.conditions.Table.{Argument}
 use Rattle.ud_model.specs.conditions.Conditions.{Rules}
 use Rattle.ud_model.specs.conditions.Sublists.{IsSublist, nothing, without, with_same}
-use Rattle.ud_model.specs.conditions.ResidualTexts.{is_literal, simplified_cells}
-use Rattle.ud_model.specs.output.SimplifiedTexts.{keyword_end, condition_cells, same_if, has_condition, keeps_ending, is_lone, left_cells_of, left_line, is_read_back, is_read_alone, may_change, line_by, simplified_line}
+use Rattle.ud_model.specs.conditions.ResidualTexts.{simplified_cells}
+use Rattle.ud_model.specs.output.SimplifiedTexts.{keyword_end, condition_cells, same_if, has_condition, keeps_ending, is_lone, left_cells_of, left_line, is_read_alone, line_by, simplified_line}
 use Rattle.ud_model.specs.declared.kind.Kind.{Kind}
-use Rattle.ud_model.specs.declared.kind.Kind.TheVariants.{If, Ifdef, Ifndef, Elif, Elifdef, Elifndef, Else, Endif}
-use Rattle.ud_model.specs.declared.kind.Mode.TheVariants.{C}
 use Rattle.ud_model.proofs.text.ScanBytes.{bytes-content_cells}
 use Rattle.ud_model.proofs.text.LinesLemmas.{no_newline-append, text_of-line_at}
 use Rattle.ud_model.proofs.conditions.ResidualRead.{cells_go}
@@ -28,7 +24,7 @@ use Rattle.ud_model.proofs.output.SimplifiedAgain.{unspliced}
 use Rattle.ud_text.specs.lines.LinesState.{UpToNewline}
 use Rattle.ud_text.proofs.lemmas.lines.NewlineLemmas.{up_to_newline-once}
 use Rattle.ud_text.proofs.lemmas.scan.MaskLemmas.{no_newline-take, no_newline-drop}
-use Rattle.ud_prune.specs.Cells.{AreCells, byte_of, IsFound}
+use Rattle.ud_prune.specs.Cells.{AreCells, byte_of}
 use Rattle.ud_prune.specs.EditedLines.{c_reading, IsScannedAlone, is_meant, IsCondition, line_if_read, IsEditedTo}
 
 -- 1. Sublists.
@@ -39,21 +35,12 @@ fewer (without p) h = fewer p h.1
 fewer (with_same p) h = (h.0, fewer p h.1)
 
 same_line : (a b : Line) → a.body ≡ b.body → a.ending ≡ b.ending → a.number ≡ b.number → a ≡ b
-same_line a b p q r =
-    ap₂ (λ (x y : List ℕ). let m : Line = record { body = x; ending = y; number = a.number } in m) p q
-    ∙ ap (λ (n : ℕ). let m : Line = record { body = b.body; ending = b.ending; number = n } in m) r
+same_line a b p q r = grind arith
 
 -- 2. Other directives.
 
 not_if : (k j : Kind) → same_if k k ≡ false → same_if k j ≡ false
-not_if If j e = cc
-not_if Elif j e = cc
-not_if Ifdef j e = refl
-not_if Ifndef j e = refl
-not_if Elifdef j e = refl
-not_if Elifndef j e = refl
-not_if Else j e = refl
-not_if Endif j e = refl
+not_if k j e = grind arith
 
 no_condition : (k : Kind) (after : List ℕ) (c : Content) → same_if k k ≡ false → has_condition k after c ≡ false
 no_condition k after (directive d) e = ap (λ (b : Bool). b && bytes_eq d.after after) (not_if k d.kind e)
@@ -63,13 +50,7 @@ no_condition k after text e = refl
 module _ (table : List Argument) (rules : Rules) (l : Line) where
   -- A directive of another kind stays.
   pub other_stays : (scan : Scan) (d : Directive) → same_if d.kind d.kind ≡ false → line_by table rules scan l (directive d) ≡ l
-  other_stays scan d e =
-      let k : Line = left_line table rules l d in
-      let s : Scan = scan_after_run [] k in
-      ap (λ (b : Bool). if b then k else l)
-      (and_right (is_lone scan l) (is_read_alone table rules l d)
-      (and_right (keeps_ending k) (is_read_back table rules l d s)
-      (and_right (not s.joins_after) (has_condition d.kind (map shown (left_cells_of table rules l d)) (content_of s)) (no_condition d.kind (map shown (left_cells_of table rules l d)) (content_of s) e))))
+  other_stays scan d e = grind (arith, and_right, no_condition)
 
 -- 3. A line with a condition.
 
@@ -132,8 +113,7 @@ module _ (table : List Argument) (rules : Rules) (l : Line) (d : Directive) (i :
 
       -- Another ending.
       pub other_ending : bytes_eq e.ending l.ending ≡ false → text_of (line_if_read table rules l d) ≡ text_of l
-      other_ending f =
-          ap (λ (b : Bool). text_of (if b && is_read_back table rules l d (scan_after_run [] k) then k else l)) (ap (λ (x : List ℕ). bytes_eq x l.ending) (sym read_ending) ∙ f)
+      other_ending f = grind (arith, read_ending)
 
       module _ (same : e.ending ≡ l.ending) where
         keeps : keeps_ending k ≡ true
@@ -156,44 +136,16 @@ module _ (table : List Argument) (rules : Rules) (l : Line) (d : Directive) (i :
 
         -- An edited line with the same bytes stays.
         pub same_bytes : bytes_eq e.body l.body ≡ true → text_of (line_if_read table rules l d) ≡ text_of l
-        same_bytes f =
-            let q : e.body ≡ l.body = (bytes_eq-Decides e.body l.body).0 f in
-            same_either (is_read_alone table rules l d) k (ap text_of (sym e_is) ∙ ap₂ (λ (x y : List ℕ). x ++ y) q same)
+        same_bytes f = grind (arith, bytes_eq-Decides, same_either, e_is)
 
         -- Other bytes, if they are read so.
         pub edited_if : bytes_eq e.body l.body ≡ false → (b : Bool) → b ≡ is_meant d.kind (map shown (left_cells_of table rules l d)) (scan_after_run [] e) → IsEditedTo b (text_of (line_if_read table rules l d)) l bytes
-        edited_if f b m = by b (is_read_back table rules l d (scan_after_run [] k)) (m ∙ ap (λ (x : Line). is_meant d.kind (map shown (left_cells_of table rules l d)) (scan_after_run [] x)) e_is) refl
-          where
-            reads : (r : Bool) → is_read_back table rules l d (scan_after_run [] k) ≡ r → is_read_alone table rules l d ≡ r
-            reads r h = ap₂ (λ (x y : Bool). x && y) keeps h
-
-            other : bytes_eq bytes (text_of l) ≡ false
-            other = not_same bytes (text_of l) (λ q. let h : e.body ≡ l.body = same_cut e.body l.body l.ending (ap (λ (x : List ℕ). e.body ++ x) (sym same) ∙ read_text ∙ q) in
-                let g : bytes_eq e.body l.body ≡ true = (bytes_eq-Decides e.body l.body).1 h in let z : true ≡ false = sym g ∙ f in cc)
-              where
-                not_same : (xs ys : List ℕ) → (xs ≡ ys → ⊥) → bytes_eq xs ys ≡ false
-                not_same xs ys n = by_test (bytes_eq xs ys) refl
-                  where
-                    by_test : (t : Bool) → bytes_eq xs ys ≡ t → bytes_eq xs ys ≡ false
-                    by_test false h = h
-                    by_test true h = absurd (n ((bytes_eq-Decides xs ys).0 h))
-
-            by : (b r : Bool) → b ≡ r → is_read_back table rules l d (scan_after_run [] k) ≡ r → IsEditedTo b (text_of (line_if_read table rules l d)) l bytes
-            by true true q h = (ap (λ (x : Bool). text_of (if x then k else l)) (reads true h) ∙ sym bytes_are, other)
-            by false false q h = ap (λ (x : Bool). text_of (if x then k else l)) (reads false h)
-            by true false q h = cc
-            by false true q h = cc
+        edited_if f b m = grind (arith, e_is, keeps, same_cut, read_text, bytes_eq-Decides)
 
 -- 4. A line that joins no other one.
 
 pub is_end : (e : List ℕ) → is_ending e ≡ true → is_empty e ≡ false → IsEnd e
-is_end [] h n = cc
-is_end (b ∷ bs) h n = by (bytes_eq (b ∷ bs) (10 ∷ [])) (bytes_eq (b ∷ bs) (13 ∷ 10 ∷ [])) refl refl h
-  where
-    by : (p q : Bool) → bytes_eq (b ∷ bs) (10 ∷ []) ≡ p → bytes_eq (b ∷ bs) (13 ∷ 10 ∷ []) ≡ q → (p || q) ≡ true → IsEnd (b ∷ bs)
-    by true q f g h = inr ((bytes_eq-Decides (b ∷ bs) (10 ∷ [])).0 f)
-    by false true f g h = inl ((bytes_eq-Decides (b ∷ bs) (13 ∷ 10 ∷ [])).0 g)
-    by false false f g h = cc
+is_end e h n = grind (arith, IsEnd, bytes_eq-Decides)
 
 module _ (table : List Argument) (rules : Rules) (l : Line) (scan : Scan) where
   abbrev r : Reading
@@ -201,34 +153,17 @@ module _ (table : List Argument) (rules : Rules) (l : Line) (scan : Scan) where
 
   -- A line that joins another one, or has no ending, stays.
   pub joined_stays : is_lone scan l ≡ false → text_of (simplified_line table rules r) ≡ text_of l
-  joined_stays e = by (content_of scan)
-    where
-      by : (c : Content) → text_of (line_by table rules scan l c) ≡ text_of l
-      by (directive d) = ap (λ (b : Bool). text_of (if b && is_read_alone table rules l d then left_line table rules l d else l)) e
-      by cut_keyword = refl
-      by text = refl
+  joined_stays e = grind arith
 
   pub lone_by : scan.joins_before ≡ false → scan.joins_after ≡ false → is_empty l.ending ≡ false → is_lone scan l ≡ true
   lone_by e f g = ap₂ (λ (x y : Bool). not x && not y) (or_from scan.joins_before scan.joins_after e f) g
 
   pub joins_by : (scan.joins_before ≡ true) ⊎ ((scan.joins_after ≡ true) ⊎ (is_empty l.ending ≡ true)) → is_lone scan l ≡ false
-  joins_by (inl e) = ap (λ (x : Bool). not (x || scan.joins_after) && not (is_empty l.ending)) e
-  joins_by (inr (inl e)) = by scan.joins_before scan.joins_after e
-    where
-      by : (a b : Bool) → b ≡ true → (not (a || b) && not (is_empty l.ending)) ≡ false
-      by true b h = refl
-      by false true h = refl
-      by false false h = cc
-  joins_by (inr (inr e)) = and_right (not (is_spanning scan)) (not (is_empty l.ending)) (ap not e)
+  joins_by h = grind arith
 
   module _ (d : Directive) (alone : IsScannedAlone scan l) (before : scan.joins_before ≡ false) (after : scan.joins_after ≡ false) (some : is_empty l.ending ≡ false) (h : content_of scan ≡ directive d) where
     pub condition_is : IsCondition l d
-    condition_is = record {
-      has = ap content_of (sym (alone before)) ∙ h;
-      lone = ap (λ (x : Scan). x.joins_after) (sym (alone before)) ∙ after;
-    }
+    condition_is = grind arith
 
     pub simplified_is : simplified_line table rules r ≡ line_if_read table rules l d
-    simplified_is =
-        ap (λ (c : Content). line_by table rules scan l c) h
-        ∙ ap (λ (b : Bool). if b && is_read_alone table rules l d then left_line table rules l d else l) (lone_by before after some)
+    simplified_is = grind arith

@@ -1,22 +1,20 @@
 -- Left cells: when the rest of a condition's text takes its place.
-use Rattle.std.proofs.Common.{◌≡◌, ℕ, List, [], ◌∷◌, ◌++◌, length, map, Bool, true, false, not, ◌&&◌, if◌then◌else◌, Option, Some, None, refl, sym, ◌∙◌, ap, ap₂, subst, append-nil, arith}
+use Rattle.std.proofs.Common.{◌≡◌, ℕ, List, [], ◌∷◌, length, map, Bool, true, false, not, ◌&&◌, if◌then◌else◌, Some, None, refl, sym, ◌∙◌, ap, arith}
 use Rattle.std.specs.List.{list_any}
 use Rattle.std.proofs.lemmas.Bool.{and_left, and_right}
+use Rattle.std.proofs.lemmas.Grind.{common_steps}
 use Rattle.ud_model.specs.text.Lexemes.{Cell, shown}
 use Rattle.ud_model.specs.conditions.Table.{Argument}
-use Rattle.ud_model.specs.conditions.Tokens.{Token}
 use Rattle.ud_model.specs.conditions.Expressions.{Expression, spelling}
 use Rattle.ud_model.specs.conditions.Conditions.{Rules, tree_cond, tree_cond_if, expression_cond}
 use Rattle.ud_model.specs.conditions.Residuals.{residual, is_unknown, is_undecided}
-use Rattle.ud_model.specs.conditions.ResidualTexts.{chosen, keeps, left_cells, is_literal, may_go, is_read, are_tokens, simplified_tree, simplified_by, simplified_cells}
+use Rattle.ud_model.specs.conditions.ResidualTexts.{keeps, left_cells, is_literal, may_go, is_read, simplified_tree, simplified_by, simplified_cells}
 use Rattle.ud_model.specs.aids.Parsing.{tokens_of, expression_of}
-use Rattle.ud_model.specs.declared.cond.Cond.{Cond}
-use Rattle.ud_model.specs.declared.cond.Cond.TheVariants.{Yes, No, Unknown}
-use Rattle.ud_model.proofs.conditions.KeptTokens.{SameLength, choose, kept_are}
+use Rattle.ud_model.proofs.conditions.KeptTokens.{SameLength, choose}
 use Rattle.ud_model.proofs.conditions.OneExpression.{expression_is}
 use Rattle.ud_model.proofs.conditions.TokenLemmas.{tokens_of_only}
 use Rattle.ud_model.proofs.conditions.ResidualRead.{written_left}
-use Rattle.ud_prune.specs.Cells.{AreCells, SameLeft, IsFound, byte_of}
+use Rattle.ud_prune.specs.Cells.{AreCells, SameLeft, IsFound}
 
 same_size : {A B : Type 0} (xs : List A) (ys : List B) → SameLength xs ys → length xs ≡ length ys
 same_size [] [] h = refl
@@ -63,11 +61,7 @@ module _ (table : List Argument) (rules : Rules) where
 
   -- A text with or without a tree.
   by_option : (cells : List Cell) (P : Type 0) → (expression_of (map shown cells) ≡ None → P) → ((e : Expression) → expression_of (map shown cells) ≡ Some e → P) → P
-  by_option cells P f g = by (expression_of (map shown cells)) refl
-    where
-      by : (o : Option Expression) → expression_of (map shown cells) ≡ o → P
-      by None e = f e
-      by (Some x) e = g x e
+  by_option cells P f g = grind arith
 
   -- A condition that is decided stays.
   pub known_stays : (cells : List Cell) → is_unknown (expression_cond (map shown cells) table rules) ≡ false → simplified_cells table rules cells ≡ cells
@@ -119,15 +113,7 @@ module _ (table : List Argument) (rules : Rules) where
     -- The bytes of what is left.
     pub found_or_stays : (b : Bool) (bytes masked : List ℕ) → AreCells left bytes masked → b ≡ (is_read table rules e left && is_unknown (expression_cond (map shown left) table rules)) →
         IsFound b (simplified_cells table rules cells) cells bytes masked
-    found_or_stays b bytes masked a f = by (is_read table rules e left) (is_unknown (expression_cond (map shown left) table rules)) b refl refl f
-      where
-        by : (r u b : Bool) → is_read table rules e left ≡ r → is_unknown (expression_cond (map shown left) table rules) ≡ u → b ≡ (r && u) → IsFound b (simplified_cells table rules cells) cells bytes masked
-        by true true true q w f = subst (λ (cs : List Cell). AreCells cs bytes masked) (sym (goes q w)) a
-        by true false false q w f = decided q w
-        by false u false q w f = misread q
-        by true true false q w f = cc
-        by true false true q w f = cc
-        by false u true q w f = cc
+    found_or_stays b bytes masked a f = grind (arith, goes, decided, misread)
 
 -- The tokens of a text and their flags.
 pub text_tokens : (text : List ℕ) (e : Expression) → expression_of text ≡ Some e → tokens_of text ≡ Some (spelling e)
@@ -138,7 +124,4 @@ flags_long table rules e = same_size (keeps table rules e) (spelling e) (choose 
 
 -- A text that is left alone.
 pub left_alone : {b s : List ℕ} (xs : List Cell) {c t : List ℕ} → b ≡ [] → s ≡ [] → SameLeft b s xs c t [] → AreCells xs c t
-left_alone xs {c} {t} e f h = record {
-  bytes_are = ap (λ (l : List ℕ). l ++ map byte_of xs) (sym e) ∙ h.bytes_are ∙ append-nil c;
-  shown_are = ap (λ (l : List ℕ). l ++ map shown xs) (sym f) ∙ h.shown_are ∙ append-nil t;
-}
+left_alone xs e f h = grind (arith, common_steps)

@@ -1,8 +1,9 @@
 -- The pass: the rest of one line more, and of many text lines more.
-use Rattle.std.proofs.Common.{◌≡◌, ℕ, suc, ◌+◌, ◌≤◌, List, [], ◌∷◌, ◌++◌, map, Bool, true, false, not, ◌&&◌, if◌then◌else◌, bytes_eq, refl, sym, ◌∙◌, ap, ap₂, subst, append_assoc, append-nil, arith}
+use Rattle.std.proofs.Common.{◌≡◌, ℕ, ◌+◌, ◌≤◌, List, [], ◌∷◌, ◌++◌, map, Bool, true, false, not, ◌&&◌, if◌then◌else◌, bytes_eq, refl, sym, ◌∙◌, ap, ap₂, subst, append_assoc, append-nil, arith}
 use Rattle.std.specs.List.{concat}
 use Rattle.std.proofs.lemmas.List.{map-append}
 use Rattle.std.proofs.lemmas.Slice.Eq.{bytes_eq-Decides}
+use Rattle.std.proofs.lemmas.Grind.{common_steps}
 use Rattle.ud_model.specs.text.Lines.{Line, text_of, line_at, numbered_from, texts_of, whole_lines}
 use Rattle.ud_model.specs.text.Scans.{Scan, Reading}
 use Rattle.ud_model.specs.text.Scanning.{scan_after_run, scan_after, next_reading, readings_after}
@@ -44,26 +45,16 @@ module _ (table : List Argument) (rules : Rules) where
   -- The line that was edited or stays is what is left.
   pub next_edited : (r : Reading) (edited : Bool) (bytes old new : List ℕ) → fits r.line ≡ true → IsEditedTo edited (text_of (simplified_line table rules r)) r.line bytes →
       new ≡ old ++ (if edited then bytes else text_of r.line) → (new ≡ old ++ pruned_bytes table rules r) × (edited ≡ is_edited table rules r)
-  next_edited r true bytes old new f i e =
-      let p : pruned_bytes table rules r ≡ bytes = ap text_of (pruned_short r f) ∙ i.0 in
-      (e ∙ ap (λ (x : List ℕ). old ++ x) (sym p), sym (ap (λ (x : List ℕ). not (bytes_eq x (text_of r.line))) p ∙ ap not i.1))
-  next_edited r false bytes old new f i e =
-      let p : pruned_bytes table rules r ≡ text_of r.line = ap text_of (pruned_short r f) ∙ i in
-      (e ∙ ap (λ (x : List ℕ). old ++ x) (sym p), sym (not_edited r p))
+  next_edited r true bytes old new f i e = grind (arith, pruned_short)
+  next_edited r false bytes old new f i e = grind (arith, pruned_short, not_edited)
 
   pub next_long : (r : Reading) (old new : List ℕ) → fits r.line ≡ false → new ≡ old ++ text_of r.line → (new ≡ old ++ pruned_bytes table rules r) × (false ≡ is_edited table rules r)
-  next_long r old new f e =
-      let p : pruned_bytes table rules r ≡ text_of r.line = ap text_of (pruned_long r f) in
-      (e ∙ ap (λ (x : List ℕ). old ++ x) (sym p), sym (not_edited r p))
+  next_long r old new f e = grind (arith, pruned_long, not_edited)
 
   -- A text line stays.
   text_bytes : (r : Reading) → content_of r.scan ≡ text → pruned_bytes table rules r ≡ text_of r.line
   unfolding pruned_line
-  text_bytes r e = by (fits r.line)
-    where
-      by : (b : Bool) → text_of (if b then simplified_line table rules r else r.line) ≡ text_of r.line
-      by true = ap (λ (c : Content). text_of (line_by table rules r.scan r.line c)) e
-      by false = refl
+  text_bytes r e = grind arith
 
   -- 2. The number of a line never counts.
 
@@ -91,13 +82,7 @@ module _ (table : List Argument) (rules : Rules) where
 
     renumbered : (before : List Reading) → pruned_bytes table rules (next_reading before C l) ≡ pruned_bytes table rules (next_reading before C k)
     unfolding pruned_line
-    renumbered before = by (fits l)
-      where
-        by : (t : Bool) → text_of (if t then simplified_line table rules (next_reading before C l) else l) ≡ text_of (if t then simplified_line table rules (next_reading before C k) else k)
-        by true =
-            by_content (scan_after before C l) (content_of (scan_after before C l))
-            ∙ ap (λ (s : Scan). text_of (line_by table rules s k (content_of s))) (scans_same before)
-        by false = refl
+    renumbered before = grind (arith, by_content, scans_same)
 
   -- 3. The lines of a longer text.
 
@@ -105,24 +90,11 @@ module _ (table : List Argument) (rules : Rules) where
   pieces rs = concat (map (λ r. pruned_bytes table rules r) rs)
 
   one_more : (before : List Reading) (r : Reading) → pieces (before ++ r ∷ []) ≡ pieces before ++ pruned_bytes table rules r
-  one_more before r =
-      ap concat (map-append (λ r. pruned_bytes table rules r) before (r ∷ []))
-      ∙ concat-append (map (λ r. pruned_bytes table rules r) before) (pruned_bytes table rules r ∷ [])
-      ∙ ap (λ (x : List ℕ). pieces before ++ x) (append-nil (pruned_bytes table rules r))
+  one_more before r = grind (arith, common_steps, map-append, concat-append)
 
   count_more : (before : List Reading) (r : Reading) → edited_among table rules (before ++ r ∷ []) ≡ edited_among table rules before + (if is_edited table rules r then 1 else 0)
-  count_more [] r = by (is_edited table rules r)
-    where
-      by : (b : Bool) → (if b then suc 0 else 0) ≡ 0 + (if b then 1 else 0)
-      by true = refl
-      by false = refl
-  count_more (q ∷ before) r = by (is_edited table rules q) (count_more before r)
-    where
-      by : (b : Bool) → edited_among table rules (before ++ r ∷ []) ≡ edited_among table rules before + (if is_edited table rules r then 1 else 0) →
-          (if b then suc (edited_among table rules (before ++ r ∷ [])) else edited_among table rules (before ++ r ∷ [])) ≡
-          (if b then suc (edited_among table rules before) else edited_among table rules before) + (if is_edited table rules r then 1 else 0)
-      by true h = omega (arith, h)
-      by false h = h
+  count_more [] r = grind arith
+  count_more (q ∷ before) r = grind (arith, count_more before r)
 
   texts_more : (before : List Reading) (ls : List Line) → HaveNoDirective C before ls →
       (pieces (readings_after before (map (in_mode C) ls)) ≡ pieces before ++ concat (map text_of ls)) ×

@@ -1,9 +1,8 @@
 -- Quotes: a part of a line has a literal exactly if a quote is shown in it.
-use Rattle.std.proofs.Common.{◌≡◌, ℕ, zero, suc, ◌==◌, List, [], ◌∷◌, ◌++◌, length, map, take, drop, Bool, true, false, ◌&&◌, ◌||◌, if◌then◌else◌, refl, sym, ◌∙◌, ap, ap₂, subst, ne_eqb}
+use Rattle.std.proofs.Common.{◌≡◌, ℕ, zero, suc, List, [], ◌∷◌, ◌++◌, length, map, take, drop, Bool, true, false, ◌||◌, if◌then◌else◌, refl, sym, ◌∙◌, ap, ap₂, subst, ne_eqb, arith}
 use Rattle.std.specs.List.{list_any}
-use Rattle.std.proofs.lemmas.List.{drop-map}
 use Rattle.std.proofs.lemmas.Bool.{or_parts, and_parts}
-use Rattle.ud_model.specs.text.Bytes.{is_quote, is_white, are_white, is_word_byte, are_word_bytes, slash, star, starts_with_byte, number_sign, space}
+use Rattle.ud_model.specs.text.Bytes.{is_quote, is_white, are_white, is_word_byte, are_word_bytes}
 use Rattle.ud_model.specs.text.Lexemes.{LexemeKind, block_comment, line_comment, literal, single, Cell, shown, shown_as, Extent, lexeme_at, lex_from, lex, comment_size, line_comment_size, literal_size}
 use Rattle.ud_model.specs.text.Lines.{Line}
 use Rattle.ud_model.specs.text.Scans.{Scan}
@@ -47,13 +46,7 @@ extent_by a rest s t q =
 
 quiet_at : (a : ℕ) (rest : List ℕ) → IsQuiet (lexeme_at a rest).kind a
 unfolding lexeme_at
-quiet_at a rest = by ((a == slash) && starts_with_byte star rest) ((a == slash) && starts_with_byte slash rest) (is_quote a) refl
-  where
-    by : (s t q : Bool) → is_quote a ≡ q → IsQuiet (extent_by a rest s t q).kind a
-    by true t q e = tt
-    by false true q e = tt
-    by false false true e = tt
-    by false false false e = e
+quiet_at a rest = grind arith
 
 -- Each single cell is no quote.
 abbrev AreQuiet : List Cell → Type 0
@@ -69,13 +62,7 @@ GoesOn literal more = Unit {0}
 
 goes_on : (a : ℕ) (rest : List ℕ) → GoesOn (lexeme_at a rest).kind (lexeme_at a rest).more
 unfolding lexeme_at
-goes_on a rest = by ((a == slash) && starts_with_byte star rest) ((a == slash) && starts_with_byte slash rest) (is_quote a)
-  where
-    by : (s t q : Bool) → GoesOn (extent_by a rest s t q).kind (extent_by a rest s t q).more
-    by true t q = tt
-    by false true q = tt
-    by false false true = tt
-    by false false false = refl
+goes_on a rest = grind arith
 
 inside_quiet : (k : LexemeKind) (n : ℕ) (a : ℕ) → GoesOn k (suc n) → IsQuiet k a
 inside_quiet single n a g = cc
@@ -142,13 +129,7 @@ no_literal_cell line_comment b n = refl
 
 none_at : (a : ℕ) (rest : List ℕ) → is_quote (shown_as (lexeme_at a rest).kind a) ≡ false → IsNoLiteral (lexeme_at a rest).kind
 unfolding lexeme_at
-none_at a rest = by ((a == slash) && starts_with_byte star rest) ((a == slash) && starts_with_byte slash rest) (is_quote a) refl
-  where
-    by : (s t q : Bool) → is_quote a ≡ q → is_quote (shown_as (extent_by a rest s t q).kind a) ≡ false → IsNoLiteral (extent_by a rest s t q).kind
-    by true t q e f = tt
-    by false true q e f = tt
-    by false false false e f = tt
-    by false false true e f = let z : true ≡ false = sym e ∙ f in cc
+none_at a rest = grind arith
 
 none_from : (k : LexemeKind) (n m : ℕ) (text : List ℕ) → IsNoLiteral k → list_any is_quote (map shown (take m (lex_from k n text))) ≡ false → list_any is_literal (take m (lex_from k n text)) ≡ false
 unfolding lex_from
@@ -194,11 +175,7 @@ words (b ∷ bytes) e =
 
 -- Without a quote after the keyword, a directive's line has none.
 front_no_quote : (scan : Scan) (d : Directive) → HasDirective scan d → list_any is_quote d.after ≡ false → list_any is_quote scan.masked ≡ false
-front_no_quote scan d i e =
-    let rest : list_any is_quote (i.parts.word ++ i.parts.rest) ≡ false = any_append is_quote i.parts.word i.parts.rest (words i.parts.word i.are.word) (ap (list_any is_quote) (sym i.after) ∙ e) in
-    let more : list_any is_quote (i.parts.gap ++ (i.parts.word ++ i.parts.rest)) ≡ false = any_append is_quote i.parts.gap (i.parts.word ++ i.parts.rest) (whites i.parts.gap i.are.gap) rest in
-    ap (list_any is_quote) i.are.joined
-    ∙ any_append is_quote i.parts.white (number_sign ∷ (i.parts.gap ++ (i.parts.word ++ i.parts.rest))) (whites i.parts.white i.are.white) more
+front_no_quote scan d i e = grind (arith, any_append, words, whites)
 
 module _ (table : List Argument) (rules : Rules) (l : Line) (scan : Scan) (d : Directive) (s : scan ≡ scan_after [] C l) (h : content_of scan ≡ directive d) where
   -- A line without a quote after the keyword has no literal there.
@@ -209,6 +186,4 @@ module _ (table : List Argument) (rules : Rules) (l : Line) (scan : Scan) (d : D
 
   -- A quote after the keyword begins a literal there.
   pub a_literal : list_any is_quote d.after ≡ true → list_any is_literal (condition_cells l d) ≡ true
-  a_literal e =
-      quote_shown (condition_cells l d) (quiet_drop (keyword_end d) (content_cells [] l) (quiet_take (length (content l)) (lex (spliced_part l)) (quiet_lex (spliced_part l))))
-      (ap (list_any is_quote) (after_is table rules l scan d s h) ∙ e)
+  a_literal e = grind (arith, quote_shown, quiet_drop, quiet_take, quiet_lex, after_is)

@@ -1,8 +1,9 @@
 -- Token lists: the tokens of a text, one after another.
 use Rattle.std.proofs.Common.{◌≡◌, ℕ, List, [], ◌∷◌, length, Bool, true, false, ◌&&◌, Option, Some, None, option_map, refl, sym, ◌∙◌, ap, arith}
-use Rattle.std.proofs.lemmas.Bool.{and_left, and_right}
+use Rattle.std.proofs.lemmas.Bool.{and_left}
+use Rattle.std.proofs.lemmas.Grind.{common_steps}
 use Rattle.ud_model.specs.conditions.Tokens.{Token, NextToken, at_end, unreadable, found, next_token}
-use Rattle.ud_model.specs.conditions.ResidualTexts.{are_tokens, same_token, same_tokens, chosen}
+use Rattle.ud_model.specs.conditions.ResidualTexts.{are_tokens, same_token}
 use Rattle.ud_model.specs.aids.Parsing.{prepend_token, tokens_of}
 use Rattle.ud_cond.proofs.lemmas.expressions.ReadingLemmas.{tokens_of-prepend_token}
 
@@ -11,8 +12,7 @@ by_next text x e = tokens_of-prepend_token text ∙ ap (prepend_token tokens_of)
 
 -- A text that begins with a token has the tokens of the rest after it.
 first_of : (u t : Token) (o : Option (List Token)) (tokens : List Token) → are_tokens (option_map (λ ts. u ∷ ts) o) (t ∷ tokens) ≡ (same_token u t && are_tokens o tokens)
-first_of u t None tokens = sym (and_right (same_token u t) false refl)
-first_of u t (Some us) tokens = refl
+first_of u t o tokens = grind arith
 
 and_true : (a b : Bool) → a ≡ true → (a && b) ≡ b
 and_true true b e = refl
@@ -22,14 +22,12 @@ module _ (text : List ℕ) (t : Token) where
   -- The first token is this one.
   pub same_first : (u : Token) (rest : List ℕ) → next_token text ≡ found u rest → same_token u t ≡ true → (tokens : List Token) →
       are_tokens (tokens_of text) (t ∷ tokens) ≡ are_tokens (tokens_of rest) tokens
-  same_first u rest e s tokens =
-      ap (λ o. are_tokens o (t ∷ tokens)) (by_next text (found u rest) e) ∙ first_of u t (tokens_of rest) tokens ∙ and_true (same_token u t) (are_tokens (tokens_of rest) tokens) s
+  same_first u rest e s tokens = grind (arith, by_next, first_of, and_true)
 
   -- The first token is another one.
   pub other_first : (u : Token) (rest : List ℕ) → next_token text ≡ found u rest → same_token u t ≡ false → (tokens : List Token) →
       are_tokens (tokens_of text) (t ∷ tokens) ≡ false
-  other_first u rest e s tokens =
-      ap (λ o. are_tokens o (t ∷ tokens)) (by_next text (found u rest) e) ∙ first_of u t (tokens_of rest) tokens ∙ and_left (same_token u t) (are_tokens (tokens_of rest) tokens) s
+  other_first u rest e s tokens = grind (arith, by_next, first_of, and_left)
 
   -- There is no token.
   pub none_first : next_token text ≡ at_end → (tokens : List Token) → are_tokens (tokens_of text) (t ∷ tokens) ≡ false
@@ -43,11 +41,7 @@ pub none_at_end : (text : List ℕ) → next_token text ≡ at_end → are_token
 none_at_end text e = ap (λ o. are_tokens o []) (by_next text at_end e)
 
 pub some_found : (text : List ℕ) (u : Token) (rest : List ℕ) → next_token text ≡ found u rest → are_tokens (tokens_of text) [] ≡ false
-some_found text u rest e = ap (λ o. are_tokens o []) (by_next text (found u rest) e) ∙ by (tokens_of rest)
-  where
-    by : (o : Option (List Token)) → are_tokens (option_map (λ ts. u ∷ ts) o) [] ≡ false
-    by None = refl
-    by (Some us) = refl
+some_found text u rest e = grind (arith, by_next)
 
 pub none_unread : (text : List ℕ) → next_token text ≡ unreadable → are_tokens (tokens_of text) [] ≡ false
 none_unread text e = ap (λ o. are_tokens o []) (by_next text unreadable e)
@@ -59,8 +53,7 @@ pub record Splits (t : Token) (rest : List ℕ) (tokens : List Token) : Type 0 w
   pub rest_has : tokens_of rest ≡ Some others
 
 splits_by : (t : Token) (rest : List ℕ) (tokens : List Token) (o : Option (List Token)) → tokens_of rest ≡ o → option_map (λ ts. t ∷ ts) o ≡ Some tokens → Splits t rest tokens
-splits_by t rest tokens None e f = cc
-splits_by t rest tokens (Some us) e f = let q : t ∷ us ≡ tokens = cc in record { others = us; is = sym q; rest_has = e }
+splits_by t rest tokens o e f = grind arith
 
 pub splits : (text : List ℕ) (t : Token) (rest : List ℕ) (tokens : List Token) → next_token text ≡ found t rest → tokens_of text ≡ Some tokens → Splits t rest tokens
 splits text t rest tokens e f = splits_by t rest tokens (tokens_of rest) refl (sym (by_next text (found t rest) e) ∙ f)
@@ -89,5 +82,4 @@ pub one_less : (f : Bool) (flags : List Bool) (t : Token) (tokens : List Token) 
 one_less f flags t tokens e = omega (arith, e)
 
 pub none_more : (tokens : List Token) → length tokens ≡ 0 → tokens ≡ []
-none_more [] e = refl
-none_more (t ∷ tokens) e = cc
+none_more tokens e = grind (arith, common_steps)

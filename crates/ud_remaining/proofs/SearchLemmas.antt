@@ -1,10 +1,11 @@
 -- Searches: text lines are skipped, a line is taken, and a condition ends.
-use Rattle.std.proofs.Common.{◌≡◌, ℕ, ◌+◌, ◌-◌, ◌<◌, ◌^◌, ◌==◌, List, [], ◌∷◌, ◌++◌, length, Bool, true, false, Option, Some, None, is_some, map, take, drop, if◌then◌else◌, refl, sym, ◌∙◌, ap, ap₂, subst, append_assoc, append-nil, length-append, length-drop, take-append-drop, arith}
-use Rattle.std.specs.List.{flat_map, filter, count_by}
+use Rattle.std.proofs.Common.{◌≡◌, ℕ, ◌+◌, ◌-◌, ◌<◌, ◌==◌, List, [], ◌∷◌, ◌++◌, length, Bool, true, false, Option, None, is_some, map, take, drop, sym, ◌∙◌, ap, ap₂, subst, append_assoc, append-nil, length-drop, take-append-drop, arith}
+use Rattle.std.specs.List.{count_by}
 use Rattle.std.proofs.lemmas.Grind.{flat_map-append}
 use Rattle.std.proofs.lemmas.List.Elements.{filter-append}
+use Rattle.std.proofs.lemmas.Grind.{common_steps}
 use Rattle.ud_model.specs.text.Lines.{Line, text_of, texts_of, line_at, numbered_from, whole_lines, split_lines}
-use Rattle.ud_model.specs.text.Scans.{Scan, Reading}
+use Rattle.ud_model.specs.text.Scans.{Reading}
 use Rattle.ud_model.specs.text.Scanning.{scan_after, next_reading, readings_after}
 use Rattle.ud_model.specs.conditions.Table.{Argument}
 use Rattle.ud_model.specs.output.InsertedLines.{read_as, in_mode}
@@ -14,8 +15,7 @@ use Rattle.ud_text.specs.bulk.BulkScanning.{HaveNoDirective, AreWholeLines, Skip
 use Rattle.ud_text.specs.lines.LinesState.{UpToNewline}
 use Rattle.ud_text.proofs.lemmas.scan.LongerTextLemmas.{after, still_whole, read_texts, number_after_texts, here, reading, read_line, number_after_line, k_scan, represents_renumbered, one_text, whole_if_more, nothing_ends}
 use Rattle.ud_remaining.specs.Conditions.{Condition, conditions_in, conditions_of, joins_next}
-use Rattle.ud_remaining.specs.ListedNames.{names_listed}
-use Rattle.ud_remaining.specs.RemainingLists.{line_of, lines_for, named_count}
+use Rattle.ud_remaining.specs.RemainingLists.{lines_for, named_count}
 use Rattle.ud_remaining.specs.Searches.{taken, rest_from, ended, Appends, Searched, IsTaken, begun_as, reading_at}
 use Rattle.ud_remaining.specs.declared.conditions.Begun.{Begun}
 use Rattle.ud_remaining.specs.declared.listing.Listing.{Listing}
@@ -30,12 +30,10 @@ abbrev pub Goes : List Reading → List Condition → Option Condition → Bool 
 Goes before found p goes_on = (rs : List Reading) → conditions_in false (before ++ rs) ≡ found ++ rest_from p goes_on rs
 
 pub goes_by_line : (before : List Reading) (found : List Condition) (p : Option Condition) (r : Reading) → Goes before found p true → Goes (before ++ r ∷ []) found (taken p r) (joins_next r)
-goes_by_line before found p r h = λ rs.
-    ap (λ (x : List Reading). conditions_in false x) (append_assoc before (r ∷ []) rs) ∙ h (r ∷ rs) ∙ ap (λ (x : List Condition). found ++ x) (one_line p r rs)
+goes_by_line before found p r h = grind (arith, common_steps, one_line)
 
 pub goes_by_end : (before : List Reading) (found : List Condition) (p : Option Condition) → Goes before found p false → Goes before (found ++ ended p) None true
-goes_by_end before found p h = λ rs.
-    h rs ∙ ap (λ (x : List Condition). found ++ x) (end_here p rs) ∙ sym (append_assoc found (ended p) (rest_from None true rs))
+goes_by_end before found p h = grind (arith, common_steps, end_here)
 
 pub goes_by_texts : (mode : Mode) (before : List Reading) (found : List Condition) (ls : List Line) → HaveNoDirective mode before ls → Goes before found None true →
     Goes (readings_after before (map (in_mode mode) ls)) found None true
@@ -49,71 +47,31 @@ goes_by_texts mode before found (l ∷ ls) h g =
 
 module _ (table : List Argument) (name : List ℕ) where
   pub lines_for-append : (listing : Listing) (cs ds : List Condition) → lines_for table listing name (cs ++ ds) ≡ lines_for table listing name cs ++ lines_for table listing name ds
-  lines_for-append listing cs ds =
-      ap (λ (x : List Condition). flat_map (line_of table listing name) x) (filter-append (names_listed table) cs ds)
-      ∙ flat_map-append (line_of table listing name) (filter (names_listed table) cs) (filter (names_listed table) ds)
+  lines_for-append listing cs ds = grind (arith, filter-append, flat_map-append)
 
   pub named_count-append : (cs ds : List Condition) → named_count table (cs ++ ds) ≡ named_count table cs + named_count table ds
-  named_count-append cs ds =
-      ap (λ (x : List Condition). length x) (filter-append (names_listed table) cs ds) ∙ length-append (filter (names_listed table) cs) (filter (names_listed table) ds)
+  named_count-append cs ds = grind (arith, common_steps, filter-append)
 
   pub appends_none : (old new : Search) → new.list.items ≡ old.list.items → new.count ≡ old.count → new.listing ≡ old.listing → Appends table name [] old new
-  appends_none old new l c g = record {
-    list_is = l ∙ sym (append-nil old.list.items);
-    count_is = λ few. omega (arith, c);
-    listing_is = g;
-  }
+  appends_none old new l c g = grind (arith, common_steps)
 
   pub appends_kept : (cs : List Condition) (start old new : Search) → Appends table name cs start old →
       new.list.items ≡ old.list.items → new.count ≡ old.count → new.listing ≡ old.listing → Appends table name cs start new
-  appends_kept cs start old new a l c g = record {
-    list_is = l ∙ a.list_is;
-    count_is = λ few. c ∙ a.count_is few;
-    listing_is = g ∙ a.listing_is;
-  }
+  appends_kept cs start old new a l c g = grind arith
 
   pub appends_more : (cs ds : List Condition) (start mid new : Search) → Appends table name cs start mid → Appends table name ds mid new → Appends table name (cs ++ ds) start new
   appends_more cs ds start mid new a b =
-      let n = named_count-append cs ds in
-      record {
-        list_is =
-            b.list_is ∙ ap (λ (g : Listing). mid.list.items ++ lines_for table g name ds) a.listing_is
-            ∙ ap (λ (x : List ℕ). x ++ lines_for table start.listing name ds) a.list_is
-            ∙ append_assoc start.list.items (lines_for table start.listing name cs) (lines_for table start.listing name ds)
-            ∙ ap (λ (x : List ℕ). start.list.items ++ x) (sym (lines_for-append start.listing cs ds));
-        count_is = λ few.
-            let first : mid.count ≡ start.count + named_count table cs = a.count_is (omega (arith, n, few)) in
-            let second : new.count ≡ mid.count + named_count table ds = b.count_is (omega (arith, n, few, first)) in
-            omega (arith, n, first, second);
-        listing_is = b.listing_is ∙ a.listing_is;
-      }
-
-  -- One condition.
-  pub named : (c : Condition) (old new : Search) → names_listed table c ≡ true → new.list.items ≡ old.list.items ++ line_of table old.listing name c →
-      (old.count + 1 < 2 ^ 64 → new.count ≡ old.count + 1) → new.listing ≡ old.listing → Appends table name (c ∷ []) old new
-  named c old new e l k g =
-      let one : named_count table (c ∷ []) ≡ 1 = ap (λ (b : Bool). length (if b then c ∷ [] else [])) e in
-      record {
-        list_is =
-            l ∙ ap (λ (x : List ℕ). old.list.items ++ x) (sym (append-nil (line_of table old.listing name c)))
-            ∙ ap (λ (b : Bool). old.list.items ++ flat_map (line_of table old.listing name) (if b then c ∷ [] else [])) (sym e);
-        count_is = λ few. let n : new.count ≡ old.count + 1 = k (omega (arith, few, one)) in omega (arith, n, one);
-        listing_is = g;
-      }
+      grind (arith, common_steps, named_count-append, lines_for-append)
 
 -- 3. The places of a search.
 
 pub none_begun : (b : Option Begun) (bytes : List ℕ) → is_some b ≡ false → begun_as b bytes ≡ None
-none_begun None bytes e = refl
-none_begun (Some b) bytes e = cc
+none_begun b bytes e = grind arith
 
 -- The line as the program reads it, with its number.
 reading_is : (mode : Mode) (done p : List ℕ) (ends : AreWholeLines done) (one : texts_of p ≡ p ∷ []) (k : Line) → k ≡ line_at 1 p →
     (number : ℕ) → number ≡ after mode done p ends → reading_at mode k (scan_after (read_as mode done) mode k) number ≡ reading mode done p ends one
-reading_is mode done p ends one k is number n =
-    ap₂ (λ (l : Line) (s : Scan). let r : Reading = record { line = l; mode = mode; scan = s } in r)
-    (ap (λ (x : Line). let m : Line = record x { number = number } in m) is ∙ ap (λ (x : ℕ). let m : Line = record (here mode done p ends one) { number = x } in m) n)
-    (sym (k_scan mode done p ends one k is))
+reading_is mode done p ends one k is number n = grind (arith, ends, one, here, k_scan)
 
 module _ (table : List Argument) (mode : Mode) (name text : List ℕ) (start old : Search) (place : Place) (s : Searched table mode name text start old place) (some : 0 < length place.rest.now) where
   ends : AreWholeLines s.done
@@ -184,10 +142,7 @@ module _ (table : List Argument) (mode : Mode) (name text : List ℕ) (start old
     goes_on_is = sym ((takes before s.represents).1 ∙ ap (λ (x : Reading). joins_next x) same)
 
     goes : Goes (read_as mode (s.done ++ p)) s.found q goes_on
-    goes =
-        subst (λ (x : List Reading). Goes x s.found q goes_on) (sym read)
-        (subst (λ (b : Bool). Goes (before ++ r ∷ []) s.found q b) goes_on_is
-        (subst (λ (x : Option Condition). Goes (before ++ r ∷ []) s.found x (joins_next r)) q_is (goes_by_line before s.found begun_before r s.parts)))
+    goes = grind (arith, read, goes_on_is, q_is, goes_by_line)
 
     whole : (next : Place) → next.rest.now ≡ drop (length (text_of k)) place.rest.now → 0 < length next.rest.now → AreWholeLines (s.done ++ p)
     whole next d more =
@@ -234,16 +189,8 @@ module _ (table : List Argument) (mode : Mode) (name text : List ℕ) (start old
 pub first_place : (table : List Argument) (mode : Mode) (name : List ℕ) (start now : Search) (place : Place) → ScannerRepresents now.scanner [] → place.number ≡ 1 → is_some place.begun ≡ false →
     now.list.items ≡ start.list.items → now.count ≡ start.count → now.listing ≡ start.listing → Searched table mode name place.rest.now start now place
 unfolding split_lines
-first_place table mode name start now place r n b l c g = record {
-  done = [];
-  is = refl;
-  ends = λ more. nothing_ends;
-  represents = r;
-  number_is = n;
-  found = [];
-  parts = λ rs. ap (λ (x : Option Condition). rest_from x true rs) (sym (none_begun place.begun now.after.items b));
-  appends = appends_none table name start now l c g;
-}
+first_place table mode name start now place r n b l c g =
+    grind (arith, common_steps, ends, nothing_ends, represents, none_begun, appends_none)
 
 pub all_searched : (table : List Argument) (mode : Mode) (name text : List ℕ) (start now new : Search) (place : Place) → Searched table mode name text start now place → place.rest.now ≡ [] →
     Appends table name (ended (begun_as place.begun now.after.items)) now new → Appends table name (conditions_of mode text) start new

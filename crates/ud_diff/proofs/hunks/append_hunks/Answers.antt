@@ -1,5 +1,5 @@
 -- By the hunks so far, and the next one.
-use Rattle.std.proofs.Common.{ℕ, ◌+◌, ◌-◌, ◌≤◌, List, take, drop, length, refl, sym, ap, subst, arith}
+use Rattle.std.proofs.Common.{ℕ, ◌+◌, ◌-◌, List, take, drop, refl, ap, arith}
 use Rattle.std.proofs.lemmas.List.Sums.{count_by-le-length}
 use Rattle.ud_diff.specs.declared.line.DiffLine.{DiffLine}
 use Rattle.ud_diff.specs.Hunks.{is_old, is_new}

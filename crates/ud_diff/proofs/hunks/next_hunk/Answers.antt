@@ -1,7 +1,7 @@
 -- By the first change, and the changes after it.
 use Rattle.std.proofs.Common.{◌+◌, ◌∙◌, sym, arith}
 use Rattle.ud_diff.specs.Scripts.{IsNextHunk}
-use Rattle.ud_diff.proofs.HunkLemmas.{kept_rest, begins_there, next_hunk_at, NextPlaces, next_places}
+use Rattle.ud_diff.proofs.HunkLemmas.{kept_rest, begins_there, next_hunk_at}
 use Rattle.ud_diff.proofs.hunks.next_hunk.Goals as goal
 
 pub returns-in_default-clause-next : goal.returns-in_default-clause-next
@@ -12,17 +12,7 @@ changes_len-requires c = begins_there c.args.script.now c.args.from c.in-Some.fi
 
 -- The next hunk is there.
 next_is : (c : goal.After-min) → IsNextHunk c.args.script.now c.args.from (c.args.from + c.saturating_sub.result) c.min.result
-next_is c =
-    let found = c.changes_len.ensures in
-    next_hunk_at c.args.script.now c.args.from c.in-Some.first c.changes_len.result (c.args.from + c.saturating_sub.result) c.min.result c.requires
-    (sym c.first_change.ensures ∙ c.in-Some.is) found.within found.changed found.later (omega arith) (omega arith)
+next_is c = grind (arith, next_hunk_at)
 
 pub returns-clause-next : goal.returns-clause-next
 returns-clause-next c = next_is c
-
-pub returns-clause-some : goal.returns-clause-some
-returns-clause-some c =
-    let next : IsNextHunk c.args.script.now c.args.from (c.args.from + c.saturating_sub.result) c.min.result = next_is c in
-    let places : NextPlaces c.args.script.now c.args.from (c.args.from + c.saturating_sub.result) next.first next.last c.min.result =
-    next_places c.args.script.now c.args.from (c.args.from + c.saturating_sub.result) c.min.result next in
-    omega arith

@@ -1,5 +1,5 @@
 -- By a search of the first newline.
-use Rattle.std.proofs.Common.{◌≡◌, ◌≢◌, ℕ, ◌+◌, List, [], ◌∷◌, length, take, drop, false, nat_eq, sym, ◌∙◌, ap, ap₂}
+use Rattle.std.proofs.Common.{◌≡◌, ◌≢◌, ℕ, List, [], ◌∷◌, length, take, drop, false, nat_eq, sym, ◌∙◌, ap, ap₂, arith}
 use Rattle.ud_model.specs.text.Lines.{texts_of}
 use Rattle.ud_diff.proofs.LineLemmas.{texts_of-found, texts_of-open}
 use Rattle.ud_diff.proofs.line.first_line.Goals as goal
@@ -15,10 +15,5 @@ split_there s line rest n m h e p q =
     h ∙ ap₂ (λ (a b : List ℕ). a ∷ texts_of b) (ap (λ (k : ℕ). take k s) (sym e) ∙ sym p) (ap (λ (k : ℕ). drop k s) (sym e) ∙ sym q)
 
 pub returns-clause-lines : goal.returns-clause-lines
-returns-clause-lines c = elim c.match-memchr.branch [
-  | in-Some w ↦ split_there c.args.text.now c.split_at.result.0.now c.split_at.result.1.now (w.in-Some.at + 1) c.match-memchr.len
-      (texts_of-found c.args.text.now w.in-Some.at w.in-Some.ensures.0 w.in-Some.ensures.1) w.len-is c.split_at.ensures.front c.split_at.ensures.back
-  | in-None w ↦ split_there c.args.text.now c.split_at.result.0.now c.split_at.result.1.now (length c.args.text.now) c.match-memchr.len
-      (texts_of-open c.args.text.now (some_bytes c.args.text.now (sym c.is_empty.ensures ∙ c.if-is_empty.false)) w.in-None.ensures)
-      w.len-is c.split_at.ensures.front c.split_at.ensures.back
-]
+returns-clause-lines c =
+    grind (arith, in-Some, split_there, texts_of-found, in-None, texts_of-open, some_bytes)

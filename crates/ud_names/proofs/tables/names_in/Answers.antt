@@ -1,9 +1,8 @@
 -- A line more.
-use Rattle.std.proofs.Common.{◌≡◌, ◌<◌, ◌+◌, ℕ, List, [], ◌∷◌, ◌++◌, map, length, take, take-append-drop, length-append, append_assoc, append-nil, refl, sym, ◌∙◌, ap, ap₂, arith, rules}
+use Rattle.std.proofs.Common.{◌≡◌, ◌<◌, ◌+◌, ℕ, List, [], ◌∷◌, ◌++◌, map, length, take, take-append-drop, length-append, append_assoc, refl, sym, ◌∙◌, ap, ap₂, arith, rules}
 use Rattle.std.proofs.lemmas.List.{map-append, map_push}
 use Rattle.ud_model.specs.text.Lines.{Line, text_of, line_at, lines_of, texts_of, numbered_from, split_lines}
 use Rattle.ud_model.specs.text.LineViews.{as_line}
-use Rattle.ud_text.proofs.lemmas.scan.PassLemmas.{nothing_left}
 use Rattle.ud_names.specs.NameTables.{body_of, names_in}
 use Rattle.ud_model.specs.declared.kind.Mode.TheVariants.{C}
 use Rattle.ud_text.proofs.lemmas.scan.LongerTextLemmas.{after, all_lines, still_whole, one_text, whole_if_more, nothing_ends, some_left}
@@ -36,9 +35,3 @@ loop-rest-preserved c =
       (λ more. still_whole C i.0 p ends (whole_if_more rest (length (text_of k)) to.0 to.1 some (omega (arith, n, len, more)))),
       ap (λ (x : List _). map (λ m. m.now) x) c.in_ok-push.ensures.items ∙ map_push (λ m. m.now) _ _ ∙ ap (λ (x : List (List ℕ)). x ++ k.body ∷ []) i.3 ∙ sym lines,
     )
-
-pub returns : goal.returns
-returns c =
-    let i = c.loop-rest.invariant in
-    let all : i.0 ≡ c.args.list.now = sym (append-nil i.0) ∙ ap (λ (x : List ℕ). i.0 ++ x) (sym (nothing_left c.loop-rest.rest.now (sym c.is_empty.ensures ∙ c.loop-rest-test.false))) ∙ i.1 in
-    i.3 ∙ ap names_in all

@@ -1,7 +1,6 @@
 -- A step more.
 use Rattle.std.proofs.Common.{◌≡◌, ◌<◌, ◌+◌, ◌-◌, ℕ, List, [], ◌++◌, length, take, take-append-drop, length-append, append_assoc, append-nil, refl, sym, ◌∙◌, ap, ap₂, arith}
 use Rattle.ud_model.specs.text.Lines.{split_lines, texts_of}
-use Rattle.ud_text.proofs.lemmas.scan.PassLemmas.{nothing_left}
 use Rattle.ud_names.specs.UnlistedConditions.{unlisted_text}
 use Rattle.ud_names.specs.UnlistedLines.{bytes_of, found_line, number_at}
 use Rattle.ud_text.proofs.lemmas.scan.LongerTextLemmas.{nothing_ends, some_left}
@@ -61,9 +60,3 @@ loop-file-preserved c =
             ∙ ap (λ (x : List ℕ). c.args.out.now.items ++ x) (sym (text_more name c.args.mode i.0 p found (number_at text at) f number)),
       );
     }
-
-pub returns-clause-list : goal.returns-clause-list
-returns-clause-list c =
-    let i = c.loop-file.invariant.done in
-    let all : i.0 ≡ c.args.text.now = sym (append-nil i.0) ∙ ap (λ (x : List ℕ). i.0 ++ x) (sym (nothing_left c.loop-file.rest.now (sym c.is_empty.ensures ∙ c.loop-file-test.false))) ∙ i.1 in
-    i.4 ∙ ap (λ (x : List ℕ). c.args.out.now.items ++ unlisted_text c.args.name.now c.args.mode x) all

@@ -16,19 +16,10 @@ use Rattle.ud_names.proofs.UnlistedLemmas.{texts_skipped, line_found, line_unfou
 use Rattle.ud_names.proofs.texts.read_step.Goals as goal
 
 pub returns-then-skipped-gt0-clause-finds : goal.returns-then-skipped-gt0-clause-finds
-returns-then-skipped-gt0-clause-finds c = λ done ends r.
-    let p : List ℕ = take c.skip_text-skipped.result c.args.rest.now in
-    let m : Mode = c.args.mode in
-    texts_skipped m done p ends c.skip_text-skipped.ensures.ends (c.skip_text-skipped.ensures.skips.texts (after m done p ends) (read_as m done) r)
+returns-then-skipped-gt0-clause-finds c = grind (arith, texts_skipped, after)
 
 pub returns-then-skipped-gt0-clause-represents : goal.returns-then-skipped-gt0-clause-represents
-returns-then-skipped-gt0-clause-represents c = λ done ends r.
-    let p : List ℕ = take c.skip_text-skipped.result c.args.rest.now in
-    let m : Mode = c.args.mode in (
-      λ more. still_whole m done p ends c.skip_text-skipped.ensures.ends,
-      subst (λ (rs : List Reading). ScannerRepresents c.skip_text-skipped.new.self rs) (sym (read_texts m done p ends c.skip_text-skipped.ensures.ends))
-          (c.skip_text-skipped.ensures.skips.represents (after m done p ends) (read_as m done) r),
-    )
+returns-then-skipped-gt0-clause-represents c = grind (arith, still_whole, read_texts, after)
 
 module _ (mode : Mode) (rest : List ℕ) (k : Line) (w : Bool) (to : UpToNewline rest (length (text_of k)) w) (is : k ≡ line_at 1 (take (length (text_of k)) rest)) (some : 0 < length rest) (done : List ℕ) (ends : AreWholeLines done) where
   abbrev part : List ℕ

@@ -1,10 +1,9 @@
 -- By the first byte and by the tokens.
-use Rattle.std.proofs.Common.{◌≡◌, ℕ, List, Bool, true, false, not, ◌&&◌, map, length, refl, sym, ◌∙◌, ap, ap₂}
+use Rattle.std.proofs.Common.{◌≡◌, Bool, true, false, not, ◌&&◌, map, refl, sym, ◌∙◌, arith}
 use Rattle.ud_model.specs.text.Lexemes.{shown}
-use Rattle.ud_model.specs.conditions.Tokens.{Token}
 use Rattle.ud_model.specs.conditions.Expressions.{spelling}
 use Rattle.ud_model.specs.conditions.Residuals.{residual}
-use Rattle.ud_model.specs.conditions.ResidualTexts.{chosen, keeps, are_tokens, begins_word}
+use Rattle.ud_model.specs.conditions.ResidualTexts.{are_tokens}
 use Rattle.ud_model.specs.aids.Parsing.{tokens_of}
 use Rattle.ud_model.proofs.conditions.KeptTokens.{kept_are}
 use Rattle.ud_prune.proofs.LeftLemmas.{text_tokens, flags_long}
@@ -22,8 +21,4 @@ pub returns-then-begins_word : goal.returns-then-begins_word
 returns-then-begins_word c = λ table rules e p k cells q. sym (first _ (are_tokens (tokens_of (map shown cells)) (spelling (residual table rules e).tree)) (sym (c.begins_word.ensures cells q) ∙ c.if-begins_word.true))
 
 pub returns : goal.returns
-returns c = λ table rules e p k cells q.
-    let long : length c.args.flags.now ≡ length (spelling e) = ap (λ (l : List Bool). length l) k ∙ flags_long table rules e in
-    c.has_tokens.ensures (spelling e) (text_tokens c.args.text.now e p) long
-    ∙ ap₂ (λ (l : List ℕ) (ts : List Token). are_tokens (tokens_of l) ts) (sym q) (ap (λ (l : List Bool). chosen l (spelling e)) k ∙ sym (kept_are table rules e))
-    ∙ second _ _ (sym (c.begins_word.ensures cells q) ∙ c.if-begins_word.false)
+returns c = grind (arith, flags_long, text_tokens, kept_are, second)

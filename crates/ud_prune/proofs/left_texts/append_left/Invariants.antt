@@ -1,5 +1,5 @@
 -- The rest of the tokens so far was appended.
-use Rattle.std.proofs.Common.{◌≡◌, ◌≤◌, ◌+◌, ℕ, List, length, drop}
+use Rattle.std.proofs.Common.{◌≤◌, ◌+◌, List, length, drop}
 use Rattle.ud_model.specs.text.Lexemes.{Cell}
 use Rattle.ud_model.specs.conditions.ResidualTexts.{left_cells, left_from}
 use Rattle.ud_prune.specs.Cells.{AreCells, SameLeft}

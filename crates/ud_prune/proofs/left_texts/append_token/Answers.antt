@@ -1,8 +1,8 @@
 -- The first token stays or goes, with the white space that belongs to it.
-use Rattle.std.proofs.Common.{◌≡◌, ℕ, ◌-◌, List, [], ◌++◌, length, map, drop, take, Bool, not, ◌||◌, if◌then◌else◌, sym, ◌∙◌, ap, ap₂}
+use Rattle.std.proofs.Common.{◌≡◌, ℕ, ◌-◌, List, [], ◌++◌, length, map, drop, take, Bool, not, ◌||◌, if◌then◌else◌, sym, ◌∙◌, ap, ap₂, arith}
+use Rattle.std.proofs.lemmas.Grind.{common_steps}
 use Rattle.ud_model.specs.text.Bytes.{skip_white, are_white}
-use Rattle.ud_model.specs.text.Lexemes.{Cell, shown}
-use Rattle.ud_model.specs.conditions.Tokens.{next_token, found, at_end, unreadable}
+use Rattle.ud_model.specs.conditions.Tokens.{next_token, found}
 use Rattle.ud_model.specs.conditions.ResidualTexts.{left_from, ends_operand}
 use Rattle.ud_cond.specs.CondViews.{as_token}
 use Rattle.ud_prune.specs.Cells.{AreCells, byte_of}
@@ -39,20 +39,8 @@ returns-in_ok-append_if-in-Found-2-clause-left c = λ cells flags a.
 
 pub returns-in-AtEnd-clause-left : goal.returns-in-AtEnd-clause-left
 returns-in-AtEnd-clause-left c =
-    ok_all c.append_rest.result c.append_rest.ensures.bytes c.append_rest.ensures.shown c.append_rest.ensures.rest (λ p b s r cells flags a.
-    let next : next_token (map shown cells) ≡ at_end = ap next_token a.shown_are ∙ sym c.in-AtEnd.ensures in (
-      [],
-      r,
-      same_on c.args.left.now.bytes.items c.args.left.now.shown.items (end_left c.args.place.stays c.args.place.operand c.args.flag flags cells next) (none_left p.stays p.operand flags)
-          (all_appended c.args.left.now.bytes.items c.args.left.now.shown.items cells c.args.place.text.bytes.now c.args.place.text.shown.now a b s),
-    ))
+    grind (arith, common_steps, ok_all, same_on, end_left, none_left, all_appended)
 
 pub returns-in-Unreadable-clause-left : goal.returns-in-Unreadable-clause-left
 returns-in-Unreadable-clause-left c =
-    ok_all c.append_rest-in-Unreadable.result c.append_rest-in-Unreadable.ensures.bytes c.append_rest-in-Unreadable.ensures.shown c.append_rest-in-Unreadable.ensures.rest (λ p b s r cells flags a.
-    let next : next_token (map shown cells) ≡ unreadable = ap next_token a.shown_are ∙ sym c.in-Unreadable.ensures in (
-      [],
-      r,
-      same_on c.args.left.now.bytes.items c.args.left.now.shown.items (unread_left c.args.place.stays c.args.place.operand c.args.flag flags cells next) (none_left p.stays p.operand flags)
-          (all_appended c.args.left.now.bytes.items c.args.left.now.shown.items cells c.args.place.text.bytes.now c.args.place.text.shown.now a b s),
-    ))
+    grind (arith, common_steps, ok_all, same_on, unread_left, none_left, all_appended)

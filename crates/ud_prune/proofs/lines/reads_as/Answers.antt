@@ -1,8 +1,8 @@
 -- By the scan of the line alone.
-use Rattle.std.proofs.Common.{◌≡◌, ℕ, List, [], true, not, ◌&&◌, Bool, false, sym, ◌∙◌, ap, ap₂}
+use Rattle.std.proofs.Common.{◌≡◌, ℕ, List, [], true, not, ◌&&◌, Bool, false, sym, ◌∙◌, ap}
 use Rattle.ud_model.specs.text.Scans.{Scan}
-use Rattle.ud_model.specs.sections.Directives.{Content, content_of}
-use Rattle.ud_model.specs.text.LineViews.{as_line, as_scan}
+use Rattle.ud_model.specs.sections.Directives.{content_of}
+use Rattle.ud_model.specs.text.LineViews.{as_scan}
 use Rattle.ud_model.specs.output.SimplifiedTexts.{has_condition}
 use Rattle.ud_model.specs.declared.kind.Kind.{Kind}
 use Rattle.ud_prune.specs.EditedLines.{is_meant}

@@ -1,21 +1,14 @@
 -- By the line that is read of the bytes.
-use Rattle.std.proofs.Common.{◌≡◌, ℕ, ◌+◌, ◌≤◌, List, [], Bool, true, false, not, length, length-append, sym, ◌∙◌, ap₂, refl, bytes_eq, arith}
+use Rattle.std.proofs.Common.{ℕ, List, [], sym, ◌∙◌, ap₂}
 use Rattle.std.proofs.lemmas.Slice.Eq.{bytes_eq-Decides}
 use Rattle.std.proofs.lemmas.Bool.{not-true, not-false}
 use Rattle.ud_model.specs.text.Scanning.{scan_after_run}
 use Rattle.ud_model.specs.declared.kind.Kind.{Kind}
 use Rattle.ud_prune.specs.EditedLines.{is_meant}
-use Rattle.ud_model.specs.text.Lines.{Line, text_of}
+use Rattle.ud_model.specs.text.Lines.{Line}
 use Rattle.ud_model.specs.text.LineViews.{as_line}
 use Rattle.ud_prune.proofs.EditLemmas.{other_ending, same_bytes, edited_if, is_end}
 use Rattle.ud_prune.proofs.lines.takes_place.Goals as goal
-
-pub is_meant-requires-clause-fits : goal.is_meant-requires-clause-fits
-is_meant-requires-clause-fits c =
-    let e : Line = as_line c.line_in-edited.result in
-    let to : length (text_of e) ≤ length c.args.bytes.now = c.line_in-edited.ensures.bytes.1.within in
-    let n : length (text_of e) ≡ length e.body + length e.ending = length-append e.body e.ending in
-    omega (arith, to, n, c.requires.fits)
 
 pub returns-then-ne : goal.returns-then-ne
 returns-then-ne c = λ table rules d i k s b.

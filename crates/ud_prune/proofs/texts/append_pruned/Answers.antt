@@ -1,22 +1,16 @@
 -- A step more.
-use Rattle.std.proofs.Common.{◌≡◌, ◌<◌, ◌≤◌, ◌+◌, ℕ, List, [], ◌∷◌, ◌++◌, length, take, drop, take-append-drop, length-append, append_assoc, append-nil, false, refl, sym, ◌∙◌, ap, ap₂, subst, arith}
+use Rattle.std.proofs.Common.{◌<◌, ◌≤◌, ◌+◌, ℕ, List, ◌++◌, length, take, take-append-drop, append_assoc, sym, ◌∙◌, ap, ap₂, subst, arith}
+use Rattle.std.proofs.lemmas.Grind.{common_steps}
 use Rattle.ud_model.specs.text.Lines.{split_lines}
-use Rattle.ud_model.specs.conditions.Table.{Argument}
-use Rattle.ud_cond.specs.symbols.SymbolTable.{TableRepresents}
 use Rattle.ud_cond.specs.CondViews.{as_rules}
-use Rattle.ud_text.proofs.lemmas.scan.PassLemmas.{nothing_left}
-use Rattle.ud_prune.specs.PrunedTexts.{pruned_text, edited_count}
-use Rattle.ud_text.proofs.lemmas.scan.LongerTextLemmas.{nothing_ends, some_left}
+use Rattle.ud_prune.specs.PrunedTexts.{pruned_text}
+use Rattle.ud_text.proofs.lemmas.scan.LongerTextLemmas.{some_left}
 use Rattle.ud_prune.proofs.PassLemmas.{one_at_most}
 use Rattle.ud_prune.proofs.texts.append_pruned.Goals as goal
 
 pub loop-rest-init : goal.loop-rest-init
 unfolding split_lines
-loop-rest-init c = record {
-  grows = ([], sym (append-nil c.args.out.now.items));
-  few = omega arith;
-  done = ([], refl, λ some. nothing_ends, c.new-pass.ensures, λ calls h. (sym (append-nil c.args.out.now.items), refl));
-}
+loop-rest-init c = grind (arith, common_steps)
 
 pub loop-rest-preserved : goal.loop-rest-preserved
 loop-rest-preserved c =
@@ -46,10 +40,3 @@ loop-rest-preserved c =
             ),
       );
     }
-
-pub returns-clause-pruned : goal.returns-clause-pruned
-returns-clause-pruned c =
-    let i = c.loop-rest.invariant.done in
-    let all : i.0 ≡ c.args.text.now = sym (append-nil i.0) ∙ ap (λ (x : List ℕ). i.0 ++ x) (sym (nothing_left c.loop-rest.rest.now (sym c.is_empty.ensures ∙ c.loop-rest-test.false))) ∙ i.1 in
-    subst (λ (x : List ℕ). (calls : List Argument) → TableRepresents c.args.symbols.now calls →
-    (c.loop-rest.out.items ≡ c.args.out.now.items ++ pruned_text calls (as_rules c.args.rules) x) × (c.loop-rest.count ≡ edited_count calls (as_rules c.args.rules) x)) all i.4

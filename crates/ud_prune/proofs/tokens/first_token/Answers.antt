@@ -1,5 +1,5 @@
 -- By the first token.
-use Rattle.std.proofs.Common.{sym, ◌∙◌}
+use Rattle.std.proofs.Common.{sym}
 use Rattle.ud_prune.proofs.TokenLists.{ends_first, unread_none}
 use Rattle.ud_prune.proofs.tokens.first_token.Goals as goal
 

@@ -1,6 +1,5 @@
 -- By the first token.
-use Rattle.std.proofs.Common.{sym, ◌∙◌}
-use Rattle.ud_cond.specs.CondViews.{as_token}
+use Rattle.std.proofs.Common.{sym}
 use Rattle.ud_prune.proofs.TokenLists.{none_at_end, some_found, none_unread}
 use Rattle.ud_prune.proofs.tokens.has_no_token.Goals as goal
 

@@ -1,11 +1,11 @@
 -- One token more is the same, or another one.
-use Rattle.std.proofs.Common.{◌≡◌, ℕ, ◌+◌, List, [], ◌∷◌, Bool, false, length, drop, get_or, Some, refl, sym, ◌∙◌, ap, ap₂}
-use Rattle.std.proofs.lemmas.List.{drop_more, drop_all}
+use Rattle.std.proofs.Common.{◌≡◌, ◌+◌, List, ◌∷◌, Bool, false, length, drop, get_or, Some, refl, sym, ◌∙◌, ap, ap₂}
+use Rattle.std.proofs.lemmas.List.{drop_more}
 use Rattle.ud_model.specs.conditions.Tokens.{Token}
 use Rattle.ud_model.specs.conditions.ResidualTexts.{are_tokens, chosen}
 use Rattle.ud_model.specs.aids.Parsing.{tokens_of}
 use Rattle.ud_cond.specs.CondViews.{as_token}
-use Rattle.ud_prune.proofs.TokenLists.{Begins, begins, Splits, splits, one_less, none_more}
+use Rattle.ud_prune.proofs.TokenLists.{Begins, begins, Splits, splits, one_less}
 use Rattle.ud_prune.proofs.tokens.has_tokens.Goals as goal
 
 pub loop-flag-init : goal.loop-flag-init
@@ -43,10 +43,3 @@ loop-flag-preserved c = λ tokens e n.
       one_less flag later t s.others (ap (λ (l : List Bool). length l) (sym d) ∙ i.2 ∙ ap (λ (l : List Token). length l) s.is),
       i.3 ∙ ap₂ (λ (l : List Bool) (ts : List Token). are_tokens (tokens_of c.loop-flag.left_rest.now) (chosen l ts)) d s.is ∙ c.in-Some-after_left.ensures.some later s.others,
     )
-
-pub returns : goal.returns
-returns c = λ tokens e n.
-    let i = c.loop-flag.invariant tokens e n in
-    let d : drop c.loop-flag.flag-index c.args.flags.now ≡ [] = drop_all c.loop-flag.flag-index c.args.flags.now c.loop-flag-test.false in
-    let none : i.0 ≡ [] = none_more i.0 (sym i.2 ∙ ap (λ (l : List Bool). length l) d) in
-    c.has_no_token.ensures ∙ sym (i.3 ∙ ap₂ (λ (l : List Bool) (ts : List Token). are_tokens (tokens_of c.loop-flag.left_rest.now) (chosen l ts)) d none)

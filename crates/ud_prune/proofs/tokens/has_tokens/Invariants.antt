@@ -1,5 +1,5 @@
 -- The tokens so far are the same.
-use Rattle.std.proofs.Common.{◌≡◌, ℕ, List, Bool, Some, length, drop}
+use Rattle.std.proofs.Common.{◌≡◌, List, Some, length, drop}
 use Rattle.ud_model.specs.conditions.Tokens.{Token}
 use Rattle.ud_model.specs.conditions.ResidualTexts.{are_tokens, chosen}
 use Rattle.ud_model.specs.aids.Parsing.{tokens_of}

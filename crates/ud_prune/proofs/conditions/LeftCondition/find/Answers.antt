@@ -1,7 +1,6 @@
 -- The text stays, or the rest of it was found.
-use Rattle.std.proofs.Common.{◌≡◌, ℕ, List, Bool, true, false, not, ◌&&◌, map, length, Some, refl, sym, ◌∙◌, ap, ap₂, subst}
-use Rattle.ud_model.specs.text.Lexemes.{Cell, shown}
-use Rattle.ud_model.specs.conditions.Expressions.{Expression}
+use Rattle.std.proofs.Common.{◌≡◌, ℕ, List, Bool, ◌&&◌, map, Some, sym, ◌∙◌, ap, subst}
+use Rattle.ud_model.specs.text.Lexemes.{shown}
 use Rattle.ud_model.specs.conditions.Conditions.{Rules, expression_cond}
 use Rattle.ud_model.specs.conditions.Residuals.{is_unknown}
 use Rattle.ud_model.specs.conditions.ResidualTexts.{keeps, left_cells, is_read}

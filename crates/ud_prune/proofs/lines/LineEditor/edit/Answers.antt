@@ -1,5 +1,5 @@
 -- The line stays, or its condition is edited.
-use Rattle.std.proofs.Common.{◌≡◌, List, Bool, sym, ◌∙◌, ap, ap₂, refl, inl, inr, subst}
+use Rattle.std.proofs.Common.{sym, ◌∙◌, ap, inl, inr, subst}
 use Rattle.ud_model.specs.text.Lines.{Line, text_of}
 use Rattle.ud_model.specs.text.LineViews.{as_line, as_scan}
 use Rattle.ud_model.specs.output.SimplifiedTexts.{condition_cells}

@@ -1,16 +1,16 @@
 -- The line stays, or its condition is edited.
-use Rattle.std.proofs.Common.{◌≡◌, ℕ, ◌+◌, ◌≤◌, ◌++◌, List, [], Bool, true, false, length, map, take, drop, take-append-drop, sym, ◌∙◌, ap, ap₂, refl, inl, inr, subst, arith, bytes_eq, not, length-append}
+use Rattle.std.proofs.Common.{◌≡◌, ℕ, ◌+◌, ◌++◌, List, Bool, take, sym, ◌∙◌, ap, ap₂, refl, subst, arith}
+use Rattle.std.proofs.lemmas.Grind.{common_steps}
 use Rattle.ud_model.specs.text.Lines.{Line, text_of}
 use Rattle.ud_model.specs.text.LineViews.{as_line}
 use Rattle.ud_model.specs.text.Lexemes.{Cell}
 use Rattle.ud_model.specs.sections.Directives.{Directive}
-use Rattle.ud_model.specs.conditions.Table.{Argument}
 use Rattle.ud_model.specs.conditions.Conditions.{Rules}
 use Rattle.ud_model.specs.conditions.ResidualTexts.{simplified_cells}
 use Rattle.ud_model.specs.output.SimplifiedTexts.{keyword_end, condition_cells}
 use Rattle.ud_cond.specs.CondViews.{as_rules}
 use Rattle.ud_sections.specs.directives.ParsedDirectives.{as_directive}
-use Rattle.ud_prune.specs.Cells.{AreCells, IsFound, byte_of}
+use Rattle.ud_prune.specs.Cells.{AreCells, IsFound}
 use Rattle.ud_prune.specs.EditedLines.{IsEditedTo, line_if_read}
 use Rattle.ud_prune.proofs.CellLemmas.{cells_same}
 use Rattle.ud_prune.proofs.EditLemmas.{cells_are, all_left}
@@ -34,18 +34,7 @@ joined c =
     (c.in_ok-extend_from_slice.ensures.items ∙ ap₂ (λ (x y : List ℕ). x ++ y) c.clear.ensures.items c.split_bytes.ensures.front) c.as_slice.ensures.value)
 
 pub takes_place-requires-clause-fits : goal.takes_place-requires-clause-fits
-takes_place-requires-clause-fits c =
-    let n : ℕ = c.args.found.now.keyword.at + c.args.found.now.keyword.len in
-    let l : Line = as_line c.args.line.now in
-    let left : List ℕ = c.find.new.self.text.bytes.items in
-    let f : length left ≤ length c.split_bytes.result.1.now = c.in_ok-find.ensures.fewer c.if-not-branch.false in
-    let g : length c.split_bytes.result.1.now ≡ length (drop n l.body) = ap (λ (x : List ℕ). length x) c.split_bytes.ensures.back in
-    let h : length c.as_slice-2.result.now ≡ length ((take n l.body ++ left) ++ l.ending) = ap (λ (x : List ℕ). length x) (joined c) in
-    let a = length-append (take n l.body ++ left) l.ending in
-    let b = length-append (take n l.body) left in
-    let m : length l.body ≡ length (take n l.body) + length (drop n l.body) = ap (λ (x : List ℕ). length x) (sym (take-append-drop n l.body)) ∙ length-append (take n l.body) (drop n l.body) in
-    let k : length (text_of l) ≡ length l.body + length l.ending = length-append l.body l.ending in
-    omega (arith, c.requires.fits)
+takes_place-requires-clause-fits c = grind (arith, common_steps)
 
 pub returns : goal.returns
 returns c = λ calls h i q.

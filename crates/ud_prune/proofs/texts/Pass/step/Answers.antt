@@ -1,6 +1,6 @@
 -- Many text lines, or one line.
-use Rattle.std.proofs.Common.{◌≡◌, ◌<◌, ◌≤◌, ◌+◌, ℕ, List, [], ◌∷◌, ◌++◌, length, take, length-append, false, sym, ◌∙◌, ap, subst, arith}
-use Rattle.ud_model.specs.text.Lines.{Line, text_of, line_at, whole_lines, texts_of, partial_line}
+use Rattle.std.proofs.Common.{◌≡◌, ◌<◌, ◌+◌, ℕ, List, [], ◌∷◌, ◌++◌, length, take, length-append, sym, ap, subst, arith}
+use Rattle.ud_model.specs.text.Lines.{Line, text_of, line_at, texts_of}
 use Rattle.ud_model.specs.text.Scans.{Reading}
 use Rattle.ud_model.specs.text.Scanning.{next_reading}
 use Rattle.ud_model.specs.text.LineViews.{as_line}
@@ -15,17 +15,10 @@ use Rattle.ud_prune.proofs.PassLemmas.{texts_skipped, k_alone, line_pruned}
 use Rattle.ud_prune.proofs.texts.Pass.step.Goals as goal
 
 pub returns-then-skipped-gt0-clause-pruned : goal.returns-then-skipped-gt0-clause-pruned
-returns-then-skipped-gt0-clause-pruned c = λ calls h done ends r.
-    let p : List ℕ = take c.skip_text-skipped.result c.args.rest.now in
-    texts_skipped done p ends c.skip_text-skipped.ensures.ends calls (as_rules c.args.rules) (c.skip_text-skipped.ensures.skips.texts (after C done p ends) (read_as C done) r) c.args.out.now.items c.extend_from_slice.new.self.items
-    c.in_ok-extend_from_slice.ensures.items
+returns-then-skipped-gt0-clause-pruned c = grind (arith, texts_skipped, after)
 
 pub returns-then-skipped-gt0-clause-represents : goal.returns-then-skipped-gt0-clause-represents
-returns-then-skipped-gt0-clause-represents c = λ done ends r.
-    let p : List ℕ = take c.skip_text-skipped.result c.args.rest.now in (
-      λ more. still_whole C done p ends c.skip_text-skipped.ensures.ends,
-      subst (λ (rs : List Reading). ScannerRepresents c.skip_text-skipped.new.self rs) (sym (read_texts C done p ends c.skip_text-skipped.ensures.ends)) (c.skip_text-skipped.ensures.skips.represents (after C done p ends) (read_as C done) r),
-    )
+returns-then-skipped-gt0-clause-represents c = grind (arith, still_whole, read_texts, after)
 
 pub returns-clause-pruned : goal.returns-clause-pruned
 returns-clause-pruned c = λ calls h done ends r.
