@@ -1,5 +1,5 @@
 -- EndedLemmas: from how a run ended to how the tool ended.
-use Rattle.std.proofs.Common.{◌≡◌, ℕ, List, Bool, true, false, not, ◌||◌, Option, Result, Ok, Err, refl}
+use Rattle.std.proofs.Common.{◌≡◌, ℕ, List, Bool, true, false, not, ◌||◌, Option, Result, Ok, Err, arith}
 use Rattle.std.specs.Io.KnownBytes.{Keeps}
 use Rattle.ud_model.specs.text.Lines.{Line}
 use Rattle.ud_model.specs.sections.Items.{Options}
@@ -12,12 +12,7 @@ use Rattle.unifdef.specs.ToolEnded.{is_read_error, is_write_error}
 
 module _ (o : Options) (given : List ℕ) (left uo um un : Option (List ℕ)) (keeps : Keeps um un) where
   short_kept : (ls : List Line) → AppendsPrefixOfOutput o ls uo um → AppendsPrefixOfOutput o ls uo un
-  short_kept ls h = record {
-    items = h.items;
-    tree = h.tree;
-    goes = h.goes;
-    prefix = (h.prefix.0, h.prefix.1, h.prefix.2, appends_kept uo um un h.prefix.0 h.prefix.3 keeps);
-  }
+  short_kept ls h = grind arith
 
   cut_kept : Truncated o given left uo um → Truncated o given left uo un
   cut_kept (in_course ls later are h) = in_course ls later are (short_kept ls h)
@@ -28,10 +23,7 @@ module _ (o : Options) (given : List ℕ) (left uo um un : Option (List ℕ)) (k
 
   -- what was written stays written after a flush
   ends_kept : (r : Result Bool RunFault) → EndsWith o given left uo um r → EndsWith o given left uo un r
-  ends_kept (Ok differs) h = (
-    h.0,
-    record { outcome = h.1.outcome; runs = h.1.runs; output = appends_kept uo um un h.1.outcome.output h.1.output keeps; answered = h.1.answered },
-  )
+  ends_kept (Ok differs) h = grind (arith, appends_kept)
   ends_kept (Err (Text f)) h = found_kept _ h
   ends_kept (Err (Section f)) h = found_kept _ h
   ends_kept (Err Read) h = record { outcome = h.outcome; runs = h.runs; right = h.right; appended = appends_kept uo um un h.outcome.output h.appended keeps }
@@ -39,35 +31,15 @@ module _ (o : Options) (given : List ℕ) (left uo um un : Option (List ℕ)) (k
 
 -- the end of a run is the same after a flush
 pub flushed_went : (o : Options) (read_old read_new uo um un : Option (List ℕ)) (r : Result Bool RunFault) → RunEnded o read_old read_new uo um r → Keeps um un → RunEnded o read_old read_new uo un r
-flushed_went o read_old read_new uo um un r w keeps = record {
-  given = w.given;
-  consumed = w.consumed;
-  ends = ends_kept o w.given read_new uo um un keeps r w.ends;
-}
+flushed_went o read_old read_new uo um un r w keeps = grind (arith, ends_kept)
 
 -- a reader has failed exactly if the run returned a read error
 pub read_reported : (failed : Bool) (r : Result Bool RunFault) → (failed ≡ true → r ≡ Err Read) → (r ≡ Err Read → failed ≡ true) → failed ≡ is_read_error r
-read_reported failed (Err Read) only if_so = if_so refl
-read_reported true (Ok differs) only if_so = let no = only refl in cc
-read_reported true (Err (Text f)) only if_so = let no = only refl in cc
-read_reported true (Err (Section f)) only if_so = let no = only refl in cc
-read_reported true (Err Write) only if_so = let no = only refl in cc
-read_reported false (Ok differs) only if_so = refl
-read_reported false (Err (Text f)) only if_so = refl
-read_reported false (Err (Section f)) only if_so = refl
-read_reported false (Err Write) only if_so = refl
+read_reported failed r only if_so = grind arith
 
 -- the output has failed before the flush exactly if the run returned a write error
 wrote_told : (failed : Bool) (r : Result Bool RunFault) → (failed ≡ true → r ≡ Err Write) → (r ≡ Err Write → failed ≡ true) → failed ≡ is_write_error r
-wrote_told failed (Err Write) only if_so = if_so refl
-wrote_told true (Ok differs) only if_so = let no = only refl in cc
-wrote_told true (Err (Text f)) only if_so = let no = only refl in cc
-wrote_told true (Err (Section f)) only if_so = let no = only refl in cc
-wrote_told true (Err Read) only if_so = let no = only refl in cc
-wrote_told false (Ok differs) only if_so = refl
-wrote_told false (Err (Text f)) only if_so = refl
-wrote_told false (Err (Section f)) only if_so = refl
-wrote_told false (Err Read) only if_so = refl
+wrote_told failed r only if_so = grind arith
 
 after_flush : (mid wrote new flushed : Bool) → mid ≡ wrote → (mid ≡ false → new ≡ not flushed) → (mid ≡ true → new ≡ true) → new ≡ (wrote || not flushed)
 after_flush mid true new flushed e fails again = again e

@@ -1,5 +1,5 @@
 -- FailureLemmas: from how a call of the tool ended to what it says of a stream that failed.
-use Rattle.std.proofs.Common.{◌≡◌, ℕ, List, ◌++◌, Bool, true, false, not, ◌||◌, Option, Some, None, Result, Ok, Err, refl, sym, ◌∙◌, ap, subst, ◌⊎◌, inl, inr}
+use Rattle.std.proofs.Common.{◌≡◌, ℕ, List, Bool, true, false, not, ◌||◌, Option, Some, None, Result, Ok, Err, refl, sym, ◌∙◌, ap, subst, ◌⊎◌, inl, inr, arith}
 use Rattle.std.specs.Prelude.{IfSome}
 use Rattle.std.specs.Io.KnownBytes.{Consumes, IsAtEnd}
 use Rattle.std.proofs.KnownBytes.{Keeps-refl}
@@ -8,9 +8,8 @@ use Rattle.std.proofs.lemmas.List.{append-nil}
 use Rattle.ud_model.specs.sections.Items.{Options}
 use Rattle.ud_model.specs.sections.Faults.{Fault}
 use Rattle.ud_model.specs.answer.CommandLine.{UsageFault, options_of, display_name, usage_fault}
-use Rattle.ud_model.specs.answer.Messages.{read_error, write_error}
+use Rattle.ud_model.specs.answer.Messages.{write_error}
 use Rattle.ud_model.specs.answer.Outcomes.{Outcome, HasOutcome, HasOutcomeSoFar}
-use Rattle.ud_model.specs.declared.settings.Settings.{Settings}
 use Rattle.ud_model.proofs.sections.FaultStays.{fault_stays}
 use Rattle.ud_faults.specs.declared.run.RunFault.{RunFault}
 use Rattle.ud_faults.specs.declared.run.RunFault.TheVariants.{Text, Section, Read, Write}
@@ -20,36 +19,17 @@ use Rattle.ud_engine.specs.Finishing.{text_fault_of}
 use Rattle.ud_faults.specs.Faults.{limit_of, fault_of}
 use Rattle.ud_diagnostics.specs.RunMessages.{final_result, result_message, result_status}
 use Rattle.unifdef.specs.ToolCall.{Call}
-use Rattle.unifdef.specs.ToolAnswer.{AnswersSpec, FailsForMemory, RefusesArgs}
+use Rattle.unifdef.specs.ToolAnswer.{AnswersSpec, RefusesArgs}
 use Rattle.unifdef.specs.ToolEnded.{is_read_error, is_write_error, ToolEnded, EndsAsRun, CallEnds}
 use Rattle.unifdef.proofs.RefusalLemmas.{works_fails}
 use Rattle.unifdef.proofs.HeadlineLemmas.{run_answers}
-
--- a run that returned a read error has status 2
-read_status : (s : Settings) (ran : Result Bool RunFault) (flushed : Bool) → is_read_error ran ≡ true → result_status s (final_result ran flushed) ≡ 2
-read_status s (Ok differs) flushed e = let no : false ≡ true = e in cc
-read_status s (Err f) flushed e = refl
-
--- and so has one whose output failed
-write_status : (s : Settings) (ran : Result Bool RunFault) (flushed : Bool) → (is_write_error ran || not flushed) ≡ true → result_status s (final_result ran flushed) ≡ 2
-write_status s (Ok differs) true e = let no : false ≡ true = e in cc
-write_status s (Ok differs) false e = refl
-write_status s (Err f) flushed e = refl
-
-read_result : (ran : Result Bool RunFault) (flushed : Bool) → is_read_error ran ≡ true → final_result ran flushed ≡ Err Read
-read_result (Ok differs) flushed e = let no : false ≡ true = e in cc
-read_result (Err Read) flushed e = refl
-read_result (Err (Text f)) flushed e = let no : false ≡ true = e in cc
-read_result (Err (Section f)) flushed e = let no : false ≡ true = e in cc
-read_result (Err Write) flushed e = let no : false ≡ true = e in cc
 
 -- the bytes given, and those that are left, are the input
 has_outcome : (o : Options) (input given : List ℕ) (rest : Option (List ℕ)) (r : Outcome) (f : Fault) → Consumes (Some input) rest given →
     HasOutcomeSoFar o given r ⊎ (IsAtEnd rest × HasOutcome o given r) → r.fault ≡ Some f → HasOutcome o input r
 has_outcome o input given None r f e h is = absurd e
 has_outcome o input given (Some rest) r f e (inl h) is = subst (λ (x : List ℕ). HasOutcome o x r) (sym e) (fault_stays o given rest r h f is).1
-has_outcome o input given (Some rest) r f e (inr h) is =
-    subst (λ (x : List ℕ). HasOutcome o x r) (sym (append-nil given) ∙ ap (λ (x : List ℕ). given ++ x) (sym h.0) ∙ sym e) h.1
+has_outcome o input given (Some rest) r f e (inr h) is = grind (arith, append-nil)
 
 module _ {R W : Type 0} (call : Call R W) where
   -- the reader and the output are as they were
@@ -61,12 +41,7 @@ module _ {R W : Type 0} (call : Call R W) where
   RunCall = (usage_fault call.args ≡ None) × ToolEnded call
 
   ended_by : (fault : Option UsageFault) → usage_fault call.args ≡ fault → IfSome fault (RefusesArgs call) → EndsAsRun call → RunCall ⊎ Untouched
-  ended_by (Some fault) is refused ended = inr (refused.unread, refused.unwritten)
-  ended_by None is refused ended = by_run (ended is)
-    where
-      by_run : ToolEnded call ⊎ FailsForMemory call → RunCall ⊎ Untouched
-      by_run (inl t) = inl (is, t)
-      by_run (inr m) = inr (m.unread, m.unwritten)
+  ended_by fault is refused ended = grind arith
 
   -- the message is this one, or a prefix of it
   abbrev pub Reports : List ℕ → Type 0
@@ -102,34 +77,8 @@ module _ {R W : Type 0} (call : Call R W) where
     ends : RunCall ⊎ Untouched
     ends = ended_by (usage_fault call.args) refl h.usage h.ended
 
-    no_read : call.new_reader ≡ call.old_reader → call.new_reader.failed ≡ true → ⊥
-    no_read same fails = works_fails call.old_reader.failed h.reader_worked (sym (ap (λ (w : WatchedState R). w.failed) same) ∙ fails)
-
     no_write : call.new_out ≡ call.old_out → call.new_out.failed ≡ true → ⊥
     no_write same fails = works_fails call.old_out.failed h.out_worked (sym (ap (λ (w : WatchedState W). w.failed) same) ∙ fails)
-
-    pub failed_read_status : call.new_reader.failed ≡ true → call.status ≡ 2
-    failed_read_status fails = by_end ends
-      where
-        by_end : RunCall ⊎ Untouched → call.status ≡ 2
-        by_end (inl (right, t)) = t.answered ∙ read_status (options_of call.args).settings t.ran t.flushed (sym t.read_failed ∙ fails)
-        by_end (inr u) = absurd (no_read u.0 fails)
-
-    pub failed_write_status : call.new_out.failed ≡ true → call.status ≡ 2
-    failed_write_status fails = by_end ends
-      where
-        by_end : RunCall ⊎ Untouched → call.status ≡ 2
-        by_end (inl (right, t)) = t.answered ∙ write_status (options_of call.args).settings t.ran t.flushed (sym t.write_failed ∙ fails)
-        by_end (inr u) = absurd (no_write u.1 fails)
-
-    pub failed_read_message : call.new_reader.failed ≡ true → Reports (read_error (display_name call.args))
-    failed_read_message fails = by_end ends
-      where
-        by_end : RunCall ⊎ Untouched → Reports (read_error (display_name call.args))
-        by_end (inl (right, t)) =
-            subst (λ (r : Result Bool RunFault). Reports (result_message (display_name call.args) r))
-            (read_result t.ran t.flushed (sym t.read_failed ∙ fails)) t.reported
-        by_end (inr u) = absurd (no_read u.0 fails)
 
     pub failed_write_message : call.new_out.failed ≡ true → call.new_reader.failed ≡ false →
         IfSome call.input (λ input. Reports (write_error (display_name call.args)) ⊎ AnswersSpec call input)

@@ -1,12 +1,12 @@
 -- HeadlineLemmas: from the result of a run to the definitions' answer.
-use Rattle.std.proofs.Common.{◌≡◌, ℕ, List, [], ◌++◌, Bool, true, false, not, Option, Some, None, Result, Ok, Err, refl, sym, ◌∙◌, ap, subst, ◌⊎◌, inl, inr}
+use Rattle.std.proofs.Common.{◌≡◌, ℕ, List, [], Bool, true, false, not, Option, Some, None, Result, Ok, Err, refl, sym, ◌∙◌, ap, subst, ◌⊎◌, inl, inr, arith}
 use Rattle.std.specs.Prelude.{IfSome}
-use Rattle.std.proofs.lemmas.Option.{IfSome_then, none-some}
-use Rattle.std.specs.Io.KnownBytes.{Appends, Keeps}
+use Rattle.std.proofs.lemmas.Option.{IfSome_then}
+use Rattle.std.specs.Io.KnownBytes.{Keeps}
 use Rattle.std.proofs.KnownBytes.{Appends-nil}
 use Rattle.ud_model.specs.sections.Items.{Options}
 use Rattle.ud_model.specs.answer.CommandLine.{parsed_args, usage_fault, options_of, display_name}
-use Rattle.ud_model.specs.answer.Answer.{Answer, usage_answer, memory_answer, refused, ran, message_or_none, status_of, status_under}
+use Rattle.ud_model.specs.answer.Answer.{Answer, usage_answer, memory_answer, refused, ran, message_or_none, status_of}
 use Rattle.ud_model.specs.answer.Outcomes.{Outcome}
 use Rattle.ud_model.specs.declared.settings.Settings.{Settings}
 use Rattle.ud_args.specs.ParsedSettings.{IsUsageOf}
@@ -17,10 +17,9 @@ use Rattle.ud_engine.specs.Finishing.{RunAnswers, ResultIs}
 use Rattle.ud_engine.specs.Runs.{LagsOneRead}
 use Rattle.ud_io.specs.Watched.{AppendsAllOrPrefix}
 use Rattle.ud_faults.specs.declared.run.RunFault.{RunFault}
-use Rattle.ud_faults.specs.declared.run.RunFault.TheVariants.{Text, Section, Read, Write}
 use Rattle.unifdef.specs.ToolCall.{Call}
-use Rattle.unifdef.specs.ToolAnswer.{Answers, AnswersSpec, FailsForMemory, RefusesFaultyArgs}
-use Rattle.ud_diagnostics.specs.UsageMessages.{usage_text, ReportsUsage}
+use Rattle.unifdef.specs.ToolAnswer.{Answers, AnswersSpec, FailsForMemory}
+use Rattle.ud_diagnostics.specs.UsageMessages.{usage_text}
 use Rattle.ud_diagnostics.specs.RunMessages.{final_result, result_message, result_status}
 use Rattle.unifdef.proofs.RefusalLemmas.{TellsFault, tells-IsUsageOf}
 
@@ -30,20 +29,7 @@ pub record TellsOutcome (name : List ℕ) (s : Settings) (ended : Result Bool Ru
   pub status : result_status s ended ≡ status_of s r.differs r.fault
 
 pub tells_outcome : (name : List ℕ) (s : Settings) (ended : Result Bool RunFault) (r : Outcome) → ResultIs ended r → TellsOutcome name s ended r
-tells_outcome name s (Ok differs) r h = record {
-  message = sym (ap (message_or_none name) h.0);
-  status = ap (status_under s.listing s.exit_mode) h.1 ∙ sym (ap (status_of s r.differs) h.0);
-}
-tells_outcome name s (Err (Text f)) r h = record {
-  message = sym (ap (message_or_none name) h.0);
-  status = sym (ap (status_of s r.differs) h.0);
-}
-tells_outcome name s (Err (Section f)) r h = record {
-  message = sym (ap (message_or_none name) h.0);
-  status = sym (ap (status_of s r.differs) h.0);
-}
-tells_outcome name s (Err Read) r h = absurd (h.1 h.0)
-tells_outcome name s (Err Write) r h = absurd (h.1 h.0)
+tells_outcome name s ended r h = grind arith
 
 -- a flush after which the stream hasn't failed changes no result
 flushed_well : (mid new flushed : Bool) (answer : Result Bool RunFault) → (mid ≡ false → new ≡ not flushed) → mid ≡ false → new ≡ false → final_result answer flushed ≡ answer
@@ -59,15 +45,7 @@ worked false new again stays = refl
 
 -- the output lags no more after a flush
 pub flushed_kept_up : (o : Options) (read_old read_new uo um un : Option (List ℕ)) → LagsOneRead o read_old read_new uo um → Keeps um un → LagsOneRead o read_old read_new uo un
-flushed_kept_up o read_old read_new uo um un k keeps = record {
-  given = k.given;
-  consumed = k.consumed;
-  outcome = k.outcome;
-  runs = k.runs;
-  right = k.right;
-  more = k.more;
-  appended = appends_kept uo um un (k.outcome.output ++ k.more) k.appended keeps;
-}
+flushed_kept_up o read_old read_new uo um un k keeps = grind arith
 
 module _ {R W : Type 0} (call : Call R W) where
   -- a run with this end gave the definitions' answer
@@ -102,35 +80,16 @@ module _ {R W : Type 0} (call : Call R W) where
       (subst (λ (a : Result Bool RunFault). AppendsAllOrPrefix call.err_failed call.old_message call.new_message (result_message (display_name call.args) a)) same said)
       (status ∙ ap (result_status (options_of call.args).settings) same)))
 
-  -- arguments whose fault was reported, and nothing else done, are refused
-  pub refuses : call.new_reader ≡ call.old_reader → call.new_out ≡ call.old_out →
-      IfSome (usage_fault call.args) (λ fault. ReportsUsage (parsed_args call.args) fault call.err_failed call.old_message call.new_message call.status) →
-      RefusesFaultyArgs call
-  refuses unread unwritten said = IfSome_then (usage_fault call.args) said (λ fault h. record { unread = unread; unwritten = unwritten; reported = h })
-
   module _ (u : Usage) (unread : call.new_reader ≡ call.old_reader) (unwritten : call.new_out ≡ call.old_out)
       (kept : call.new_output ≡ call.old_output)
       (said : AppendsAllOrPrefix call.err_failed call.old_message call.new_message (usage_text u)) (status : call.status ≡ 2) where
     -- nothing was written but this text
     told : (a : Answer) → a.output ≡ [] → usage_text u ≡ a.message → a.status ≡ 2 → Answers call a
-    told a none text two = record {
-      output = subst (λ (x : List ℕ). Appends call.old_output call.new_output x) (sym none)
-          (subst (λ (x : Option (List ℕ)). Appends call.old_output x []) (sym kept) (Appends-nil call.old_output));
-      message = subst (λ (x : List ℕ). AppendsAllOrPrefix call.err_failed call.old_message call.new_message x) text said;
-      answered = status ∙ sym two;
-    }
+    told a none text two = grind (arith, Appends-nil)
 
     -- memory for a symbol couldn't be allocated, and that was reported
     memory_refused : StoresSymbol (parsed_args call.args) → usage_text u ≡ memory_answer.message → FailsForMemory call
     memory_refused asked text = record { asked = asked; unread = unread; unwritten = unwritten; gave = told memory_answer refl text refl }
-
-    -- if arguments without a fault are rejected, memory for a symbol couldn't be allocated
-    pub lacks_memory : usage_fault call.args ≡ None → IsUsageOf (parsed_args call.args) u → FailsForMemory call
-    lacks_memory right wrong = by_case (tells-IsUsageOf (parsed_args call.args) u wrong)
-      where
-        by_case : TellsFault (usage_fault call.args) u ⊎ (StoresSymbol (parsed_args call.args) × (usage_text u ≡ memory_answer.message)) → FailsForMemory call
-        by_case (inl t) = absurd (none-some t.reported (sym right ∙ t.is))
-        by_case (inr t) = memory_refused t.0 t.1
 
     -- rejected arguments have a fault, or memory for a symbol couldn't be allocated
     pub usage_answers : IsUsageOf (parsed_args call.args) u → IfSome call.input (λ input. AnswersSpec call input ⊎ FailsForMemory call)

@@ -1,12 +1,10 @@
-use Rattle.std.proofs.Common.{◌≡◌, refl, sym, ap₂, map, string_bytes, ◌∙◌, inl, inr}
-use Rattle.ud_model.specs.answer.CommandLine.{parsed_args, options_of, display_name, usage_fault}
+use Rattle.std.proofs.Common.{◌≡◌, refl, sym, ap₂, map, string_bytes, ◌∙◌, inl}
+use Rattle.ud_model.specs.answer.CommandLine.{options_of, display_name}
 use Rattle.ud_io.specs.Watched.{AppendsAllOrPrefix}
 use Rattle.ud_io.proofs.BufferingLemmas.{all_or_prefix_same}
 use Rattle.ud_diagnostics.specs.RunMessages.{final_result, result_message, result_status}
-use Rattle.unifdef.specs.ToolCall.{call_of}
 use Rattle.unifdef.proofs.EndedLemmas.{flushed_went, read_reported, write_reported}
-use Rattle.unifdef.proofs.HeadlineLemmas.{usage_answers, lacks_memory, refuses, flushed_answers, flushed_kept_up}
-use Rattle.unifdef.proofs.RefusalLemmas.{tells_usage, none_told}
+use Rattle.unifdef.proofs.HeadlineLemmas.{usage_answers, flushed_answers, flushed_kept_up}
 use Rattle.unifdef.proofs.running.tool.Goals as goal
 use Rattle.unifdef.proofs.running.tool.Given.{Over}
 
@@ -49,36 +47,7 @@ returns-in-Ok-clause-answer g c = λ read_works write_works.
     ((c.run-ran.ensures.finished (options_of (map string_bytes c.args.args.now)) (sym c.in-Ok.ensures.ok.said) c.in-Ok.ensures.ok.represents).ran read_works)
     c.flush-flushed.ensures.unchanged c.flush-flushed.ensures.failed c.flush-flushed.ensures.fused write_works (message_is g c) (status_is g c)
 
--- the arguments of a plan have no fault
-pub returns-in-Ok-clause-usage : goal.returns-in-Ok-clause-usage
-returns-in-Ok-clause-usage g c = none_told (usage_fault (map string_bytes c.args.args.now)) _ c.in-Ok.ensures.ok.right
-
 -- rejected arguments have a fault, or memory couldn't be allocated
 pub returns-in-Err-clause-answer : goal.returns-in-Err-clause-answer
 returns-in-Err-clause-answer g c = λ read_works write_works.
     usage_answers _ c.in-Err.fault refl refl refl c.report_usage.ensures refl c.in-Err.ensures.err
-
--- if arguments without a fault are rejected, memory couldn't be allocated
-pub returns-in-Err-clause-lag : goal.returns-in-Err-clause-lag
-returns-in-Err-clause-lag g c = λ right. inr (lacks_memory _ c.in-Err.fault refl refl refl c.report_usage.ensures refl right c.in-Err.ensures.err)
-
-pub returns-in-Err-clause-ended : goal.returns-in-Err-clause-ended
-returns-in-Err-clause-ended g c = λ right. inr (lacks_memory _ c.in-Err.fault refl refl refl c.report_usage.ensures refl right c.in-Err.ensures.err)
-
--- at a fault of the arguments, the streams are only used to report it
-pub returns-in-Err-clause-usage : goal.returns-in-Err-clause-usage
-returns-in-Err-clause-usage g c =
-    refuses
-    (call_of g.R.Read.remaining g.W.Write.contents g.E.Write.contents (map string_bytes c.args.args.now) c.args.reader.now c.args.reader.now
-    c.args.out.now c.args.out.now c.args.err.now c.report_usage.new.err 2)
-    refl refl (tells_usage (parsed_args (map string_bytes c.args.args.now)) c.in-Err.fault _ _ _ _ 2 refl c.in-Err.ensures.err c.report_usage.ensures refl)
-
--- the streams haven't failed before they are used
-pub run-ran-requires : goal.run-ran-requires
-run-ran-requires g c = record { reader = c.requires.reader; out = c.requires.out }
-
-pub report_result-requires : goal.report_result-requires
-report_result-requires g c = record { not_failed = c.requires.err }
-
-pub report_usage-requires : goal.report_usage-requires
-report_usage-requires g c = record { not_failed = c.requires.err }
