@@ -1,21 +1,21 @@
 -- The files after each call of a replacement, if all answers are true.
-use Rattle.std.proofs.Common.{◌≡◌, ◌⊎◌, inl, inr, ℕ, List, [], ◌∷◌, Bool, true, false, Option, Some, None, Result, Ok, Err, refl, sym, ap, ◌∙◌, subst, true≢false}
-use Rattle.std.specs.Prelude.{bytes_eq, if◌then◌else◌}
+use Rattle.std.proofs.Common.{◌≡◌, inl, ℕ, List, [], ◌∷◌, Bool, true, false, Option, Some, None, Result, Ok, Err, refl, sym, ◌∙◌, subst, true≢false, arith}
+use Rattle.std.specs.Prelude.{bytes_eq}
 use Rattle.std.proofs.lemmas.Bool.{cond-true, cond-false}
 use Rattle.std.proofs.lemmas.Option.{same_Some}
 use Rattle.ud_replace.specs.declared.error.Update.{Update}
 use Rattle.ud_replace.specs.declared.error.ReplaceError.{ReplaceError}
 use Rattle.ud_replace.specs.declared.node.FileId.{FileId}
 use Rattle.ud_replace.specs.declared.stat.FileStat.{FileStat}
-use Rattle.ud_replace.specs.Calls.{Call, was_read, asked, made, appended, given, synced, looked, renamed, removed}
+use Rattle.ud_replace.specs.Calls.{Call, was_read, asked, made, appended, given, synced, renamed, removed}
 use Rattle.ud_replace.specs.TextOutcomes.{TextOptions, TextOutcome, HasTextOutcome}
-use Rattle.ud_replace.specs.Filling.{Takes, nothing, part, AppendsAll, all, stopped, LooksAgain, seen_same, seen_other}
+use Rattle.ud_replace.specs.Filling.{Takes, nothing, part, AppendsAll, all, stopped, LooksAgain}
 use Rattle.ud_replace.specs.Filling.{Confirms, confirmed, not_read, other_text, other_facts, other_version}
 use Rattle.ud_replace.specs.Filling.{Fills, filled, not_taken, not_given, not_synced, not_confirmed, not_renamed}
 use Rattle.ud_replace.specs.Replacing.{Renames, renames, removes, unrenamed, unrenamed_writes, not_made, locked, denied, denied_writes}
 use Rattle.ud_replace.specs.Replacing.{Puts, several, read_only, one_link, several_writes}
-use Rattle.ud_replace.specs.Replacing.{Judges, no_memory, faulty, same, differs, Replaces, unread, other_file, judged}
-use Rattle.ud_replace.specs.Moments.{Files, content, AreTrue, EachCall, no_call, then_call, HasOutput, OldOrNew, touches}
+use Rattle.ud_replace.specs.Replacing.{Judges, no_memory, faulty, same, differs, Replaces}
+use Rattle.ud_replace.specs.Moments.{Files, content, AreTrue, EachCall, no_call, then_call, OldOrNew, touches}
 use Rattle.ud_replace.proofs.CallLemmas.{same_name, name_of_test, untouched, extended}
 
 -- each call so far left each file as it was after `old`
@@ -56,8 +56,7 @@ quiet_appends {fresh = fresh} a q (stopped taken rest calls answer joined took n
 
 quiet_looks : {o : TextOptions} {name : List ℕ} {stat : FileStat} {first : Files} {old base new : List Call} {found : Bool} →
     Quiet o name first old base → LooksAgain name stat base new found → Quiet o name first old new
-quiet_looks {name = name} q (seen_same seen version e) = quiet_at e (quiet_next (looked name seen) q (λ n bytes h. refl))
-quiet_looks {name = name} q (seen_other seen version e) = quiet_at e (quiet_next (looked name seen) q (λ n bytes h. refl))
+quiet_looks q h = grind (arith, quiet_at, quiet_next)
 
 -- the file is read and looked at once more
 quiet_confirms : {o : TextOptions} {name text : List ℕ} {stat : FileStat} {first : Files} {old base new : List Call} {r : Result Unit ReplaceError} →
@@ -99,8 +98,7 @@ bytes_of_takes fresh first _ _ e (part {bytes = before} {calls = earlier} rest n
 
 bytes_of_looks : (fresh : List ℕ) (first : Files) {name text : List ℕ} {stat : FileStat} {base new : List Call} {found : Bool} →
     content first base fresh ≡ Some text → LooksAgain name stat base new found → content first new fresh ≡ Some text
-bytes_of_looks fresh first {text = text} h (seen_same seen version e) = subst (λ (l : List Call). content first l fresh ≡ Some text) (sym e) h
-bytes_of_looks fresh first {text = text} h (seen_other seen version e) = subst (λ (l : List Call). content first l fresh ≡ Some text) (sym e) h
+bytes_of_looks fresh first h k = grind arith
 
 bytes_of_confirms : (fresh : List ℕ) (first : Files) {name before text : List ℕ} {stat : FileStat} {base new : List Call} →
     content first base fresh ≡ Some text → Confirms name before stat base new (Ok tt) → content first new fresh ≡ Some text
@@ -116,20 +114,14 @@ true_takes first bytes calls nothing t = t
 true_takes first _ _ (part {bytes = before} {calls = earlier} rest n taken fits) t = true_takes first before earlier taken t.1
 
 true_appends : (first : Files) {fresh text : List ℕ} {base new : List Call} {whole : Bool} → AppendsAll fresh text base new whole → AreTrue first new → AreTrue first base
-true_appends first (all taken) t = true_takes first _ _ taken t
-true_appends first (stopped taken rest calls answer joined took none e) t = true_takes first taken calls took (true_at first e t).1
+true_appends first h t = grind (arith, true_takes, true_at)
 
 true_looks : (first : Files) {name : List ℕ} {stat : FileStat} {base new : List Call} {found : Bool} → LooksAgain name stat base new found → AreTrue first new → AreTrue first base
-true_looks first (seen_same seen version e) t = (true_at first e t).1
-true_looks first (seen_other seen version e) t = (true_at first e t).1
+true_looks first h t = grind arith
 
 true_confirms : (first : Files) {name text : List ℕ} {stat : FileStat} {base new : List Call} {r : Result Unit ReplaceError} →
     Confirms name text stat base new r → AreTrue first new → AreTrue first base
-true_confirms first (confirmed seen kept l) t = (true_looks first l t).1
-true_confirms first (not_read again is) t = (true_at first is t).1
-true_confirms first (other_text again seen other is) t = (true_at first is t).1
-true_confirms first (other_facts seen other is) t = (true_at first is t).1
-true_confirms first (other_version seen kept l) t = (true_looks first l t).1
+true_confirms first h t = grind arith
 
 true_filled : (first : Files) {name fresh before text : List ℕ} {stat : FileStat} {base new : List Call} {r : Result Unit ReplaceError} (taken : List Call) →
     AppendsAll fresh text base taken true → Confirms name before stat (synced fresh true ∷ given fresh stat true ∷ taken) new r → AreTrue first new → AreTrue first base
@@ -137,48 +129,18 @@ true_filled first taken h l t = true_appends first h (true_confirms first l t).1
 
 true_fills : (first : Files) {name fresh before text : List ℕ} {stat : FileStat} {base new : List Call} {r : Result Bool ReplaceError} →
     Fills name fresh before text stat base new r → AreTrue first new → AreTrue first base
-true_fills first (filled taken seen h l is) t = true_filled first taken h l (true_at first is t).1
-true_fills first (not_taken h) t = true_appends first h t
-true_fills first (not_given taken h is) t = true_appends first h (true_at first is t).1
-true_fills first (not_synced taken h is) t = true_appends first h (true_at first is t).1.1
-true_fills first (not_confirmed e taken h l) t = true_filled first taken h l t
-true_fills first (not_renamed taken seen h l is) t = true_filled first taken h l (true_at first is t).1
+true_fills first h t = grind (arith, true_filled, true_at, true_appends)
 
 -- the name of the fresh file was free, so no file had it
 apart : (fresh : List ℕ) {o : TextOptions} {name : List ℕ} {first : Files} {old calls : List Call} → Quiet o name first old calls → content first calls fresh ≡ None → Apart first old fresh
-apart fresh {first = first} {calls = calls} q free n bytes h = by_test (bytes_eq n fresh) refl
-  where
-    by_test : (b : Bool) → bytes_eq n fresh ≡ b → bytes_eq n fresh ≡ false
-    by_test false e = e
-    by_test true e =
-        let there : content first calls n ≡ Some bytes = q.kept n bytes h in
-        let gone : content first calls n ≡ None = ap (content first calls) (name_of_test n fresh e) ∙ free in
-        absurd cc
+apart fresh q free n bytes h = grind (arith, name_of_test)
 
 -- the rename of a fresh file with the output
 renamed_moment : {o : TextOptions} {name text : List ℕ} (fresh : List ℕ) (first : Files) {old calls : List Call} (a : TextOutcome) →
     HasTextOutcome o text a → a.fault ≡ None → content first old name ≡ Some text → Apart first old fresh → Quiet o name first old calls →
     content first calls fresh ≡ Some a.output → OldOrNew o name first old (renamed fresh name true ∷ calls)
-renamed_moment {o = o} {name = name} {text = text} fresh first {old = old} {calls = calls} a has sound read away q full n bytes h =
-    by_test (bytes_eq n name) refl
-  where
-    by_test : (b : Bool) → bytes_eq n name ≡ b →
-        (content first (renamed fresh name true ∷ calls) n ≡ Some bytes) ⊎ ((n ≡ name) × HasOutput o bytes (content first (renamed fresh name true ∷ calls) n))
-    by_test false e =
-        inl (cond-false (bytes_eq n name) (content first calls fresh) (if bytes_eq n fresh then None else content first calls n) e
-        ∙ cond-false (bytes_eq n fresh) None (content first calls n) (away n bytes h) ∙ q.kept n bytes h)
-    by_test true e =
-        let own : n ≡ name = name_of_test n name e in
-        let same_text : bytes ≡ text = same_Some bytes text (sym h ∙ ap (content first old) own ∙ read) in
-        inr (
-          own,
-          record {
-            outcome = a;
-            has = subst (λ (t : List ℕ). HasTextOutcome o t a) (sym same_text) has;
-            no_fault = sound;
-            is_output = cond-true (bytes_eq n name) (content first calls fresh) (if bytes_eq n fresh then None else content first calls n) e ∙ full;
-          },
-        )
+renamed_moment fresh first a has sound read away q full n bytes h =
+    grind (arith, cond-false, name_of_test, same_Some, cond-true)
 
 -- what a replacement shows at each of its moments
 abbrev Moments : TextOptions → List ℕ → Files → List Call → List Call → Type 0
@@ -228,21 +190,11 @@ moments_puts a has sound read q t (several_writes many into h) = absurd (true≢
 
 true_renames : (first : Files) {name fresh before text : List ℕ} {stat : FileStat} {base new : List Call} {r : Result Update ReplaceError} →
     Renames false name fresh before text stat base new r → AreTrue first new → AreTrue first base
-true_renames first (renames h) t = (true_fills first h t).1
-true_renames first (removes e calls gone h is) t = (true_fills first h (true_at first is t).1).1
-true_renames first (unrenamed calls gone not_into h is) t = (true_fills first h (true_at first is t).1).1
-true_renames first (unrenamed_writes calls gone into h l) t = absurd (true≢false (sym into))
-true_renames first (not_made is) t = (true_at first is t).1
-true_renames first (locked is) t = (true_at first is t).1
-true_renames first (denied not_into is) t = (true_at first is t).1
-true_renames first (denied_writes into h) t = absurd (true≢false (sym into))
+true_renames first h t = grind (arith, true_fills, true_at)
 
 true_puts : (first : Files) {name fresh before text : List ℕ} {stat : FileStat} {base new : List Call} {r : Result Update ReplaceError} →
     Puts false name fresh before text stat base new r → AreTrue first new → AreTrue first base
-true_puts first (several many not_into is) t = true_at first is t
-true_puts first (read_only may is) t = (true_at first is t).1
-true_puts first (one_link few h) t = (true_renames first h t).1
-true_puts first (several_writes many into h) t = absurd (true≢false (sym into))
+true_puts first h t = grind (arith, true_at, true_renames)
 
 -- nothing was asked but to read the file
 quiet_read : (o : TextOptions) (name : List ℕ) (first : Files) (old : List Call) (text : List ℕ) (seen : Option FileStat) → Quiet o name first old (was_read name text seen ∷ old)
@@ -260,6 +212,4 @@ moments_judges o name fresh text stat first old new _ t (differs a has sound som
 
 pub old_or_new : (o : TextOptions) (first : Files) (id : FileId) (name fresh : List ℕ) (old new : List Call) (r : Result Update ReplaceError) → Replaces o false id name fresh old new r →
     AreTrue first new → EachCall (λ (c : Call) (earlier : List Call). OldOrNew o name first old (c ∷ earlier)) old new
-old_or_new o first id name fresh old new _ (unread text is) t = (quiet_at is (quiet_read o name first old text None)).each
-old_or_new o first id name fresh old new _ (other_file text stat other is) t = (quiet_at is (quiet_read o name first old text (Some stat))).each
-old_or_new o first id name fresh old new r (judged text stat its h) t = moments_judges o name fresh text stat first old new r t h
+old_or_new o first id name fresh old new r h t = grind (arith, quiet_at, quiet_read, moments_judges)

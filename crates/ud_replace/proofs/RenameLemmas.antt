@@ -1,17 +1,17 @@
 -- The calls of a replacement touch no file but the fresh one, up to the rename.
-use Rattle.std.proofs.Common.{◌≡◌, inl, inr, ℕ, List, ◌∷◌, Bool, true, false, Option, Some, None, Result, Ok, refl, sym, ◌∙◌, subst, true≢false}
+use Rattle.std.proofs.Common.{◌≡◌, inl, inr, ℕ, List, ◌∷◌, Bool, true, false, Option, Some, None, Result, Ok, refl, sym, ◌∙◌, subst, true≢false, arith}
 use Rattle.ud_replace.specs.declared.error.Update.{Update}
 use Rattle.ud_replace.specs.declared.error.ReplaceError.{ReplaceError}
 use Rattle.ud_replace.specs.declared.node.FileId.{FileId}
 use Rattle.ud_replace.specs.declared.stat.FileStat.{FileStat}
-use Rattle.ud_replace.specs.Calls.{Call, was_read, asked, made, given, synced, looked}
+use Rattle.ud_replace.specs.Calls.{Call, was_read, asked, made, given, synced}
 use Rattle.ud_replace.specs.TextOutcomes.{TextOptions, TextOutcome, HasTextOutcome}
-use Rattle.ud_replace.specs.Filling.{Takes, nothing, part, AppendsAll, all, stopped, LooksAgain, seen_same, seen_other}
+use Rattle.ud_replace.specs.Filling.{Takes, nothing, part, AppendsAll, all, stopped, LooksAgain}
 use Rattle.ud_replace.specs.Filling.{Confirms, confirmed, not_read, other_text, other_facts, other_version}
 use Rattle.ud_replace.specs.Filling.{Fills, filled, not_taken, not_given, not_synced, not_confirmed, not_renamed}
 use Rattle.ud_replace.specs.Replacing.{Renames, renames, removes, unrenamed, unrenamed_writes, not_made, locked, denied, denied_writes}
 use Rattle.ud_replace.specs.Replacing.{Puts, several, read_only, one_link, several_writes}
-use Rattle.ud_replace.specs.Replacing.{Judges, no_memory, faulty, same, differs, Replaces, unread, other_file, judged}
+use Rattle.ud_replace.specs.Replacing.{Judges, no_memory, faulty, same, differs, Replaces}
 use Rattle.ud_replace.specs.Moments.{EachCall, no_call, then_call, touches, TookOutput, TouchesFreshOnly}
 use Rattle.ud_replace.proofs.CallLemmas.{name_of_test}
 
@@ -39,8 +39,7 @@ appends_careful {fresh = fresh} q (stopped taken rest calls answer joined took n
 
 looks_careful : {o : TextOptions} {name fresh : List ℕ} {stat : FileStat} {old base new : List Call} {found : Bool} →
     Careful o name fresh old base → LooksAgain name stat base new found → Careful o name fresh old new
-looks_careful {name = name} q (seen_same seen version e) = careful_at e (touches_none (looked name seen) q (λ n. refl))
-looks_careful {name = name} q (seen_other seen version e) = careful_at e (touches_none (looked name seen) q (λ n. refl))
+looks_careful q h = grind (arith, careful_at, touches_none)
 
 -- the file is read and looked at once more
 confirms_careful : {o : TextOptions} {name fresh text : List ℕ} {stat : FileStat} {old base new : List Call} {r : Result Unit ReplaceError} →
@@ -67,16 +66,7 @@ up_to_made name fresh text stat old = made fresh (Ok tt) ∷ asked name true ∷
 took_output : {o : TextOptions} {name fresh text : List ℕ} {stat : FileStat} {old new : List Call} (a : TextOutcome) (taken : List Call) → HasTextOutcome o text a → a.fault ≡ None →
     AppendsAll fresh a.output (up_to_made name fresh text stat old) taken true →
     Confirms name text stat (synced fresh true ∷ given fresh stat true ∷ taken) new (Ok tt) → TookOutput o name fresh old new
-took_output {text = text} {stat = stat} a taken has sound h confirms = record {
-  text = text;
-  stat = stat;
-  outcome = a;
-  has = has;
-  no_fault = sound;
-  taken = taken;
-  took = took_all h;
-  confirms = confirms;
-}
+took_output a taken has sound h confirms = grind arith
 
 fills_careful : {o : TextOptions} {name fresh text : List ℕ} {stat : FileStat} {old new : List Call} {r : Result Bool ReplaceError} (a : TextOutcome) → HasTextOutcome o text a → a.fault ≡ None →
     Careful o name fresh old (up_to_made name fresh text stat old) →
@@ -126,6 +116,4 @@ judges_careful o name fresh text stat old new _ (differs a has sound some h) = p
 
 pub one_rename : (o : TextOptions) (id : FileId) (name fresh : List ℕ) (old new : List Call) (r : Result Update ReplaceError) → Replaces o false id name fresh old new r →
     EachCall (TouchesFreshOnly o name fresh old) old new
-one_rename o id name fresh old new _ (unread text is) = careful_at is (reads_careful o name fresh old text None)
-one_rename o id name fresh old new _ (other_file text stat other is) = careful_at is (reads_careful o name fresh old text (Some stat))
-one_rename o id name fresh old new r (judged text stat its h) = judges_careful o name fresh text stat old new r h
+one_rename o id name fresh old new r h = grind (arith, careful_at, reads_careful, judges_careful)

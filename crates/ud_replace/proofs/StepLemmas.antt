@@ -1,5 +1,5 @@
 -- A relation between calls goes on from the calls that the step before made.
-use Rattle.std.proofs.Common.{◌≡◌, ℕ, List, ◌∷◌, Bool, true, false, not, Result, Ok, Err, refl, sym, ◌∙◌, subst, true≢false}
+use Rattle.std.proofs.Common.{◌≡◌, ℕ, List, ◌∷◌, Bool, true, false, not, Result, Ok, Err, refl, subst, arith}
 use Rattle.std.specs.Prelude.{bytes_eq}
 use Rattle.std.proofs.lemmas.Slice.Eq.{bytes_eq-Decides}
 use Rattle.ud_faults.specs.declared.run.RunFault.{RunFault}
@@ -19,44 +19,30 @@ confirms_from {name = name} {text = text} {stat = stat} {new = new} {r = r} e h 
 
 pub fills_from : {name fresh before text : List ℕ} {stat : FileStat} {old base new : List Call} {r : Result Bool ReplaceError} → old ≡ base →
     Fills name fresh before text stat old new r → Fills name fresh before text stat base new r
-fills_from {name = name} {fresh = fresh} {before = before} {text = text} {stat = stat} {new = new} {r = r} e h =
-    subst (λ (l : List Call). Fills name fresh before text stat l new r) e h
+fills_from e h = grind arith
 
 pub overwrites_from : {name before text : List ℕ} {stat : FileStat} {old base new : List Call} {r : Result Update ReplaceError} → old ≡ base → Overwrites name before text stat old new r → Overwrites name before text stat base new r
 overwrites_from {name = name} {before = before} {text = text} {stat = stat} {new = new} {r = r} e h = subst (λ (l : List Call). Overwrites name before text stat l new r) e h
 
 pub renames_from : {into : Bool} {name fresh before text : List ℕ} {stat : FileStat} {old base new : List Call} {r : Result Update ReplaceError} → old ≡ base →
     Renames into name fresh before text stat old new r → Renames into name fresh before text stat base new r
-renames_from {into = into} {name = name} {fresh = fresh} {before = before} {text = text} {stat = stat} {new = new} {r = r} e h =
-    subst (λ (l : List Call). Renames into name fresh before text stat l new r) e h
+renames_from e h = grind arith
 
 pub judges_from : {o : TextOptions} {into : Bool} {name fresh text : List ℕ} {stat : FileStat} {old base new : List Call} {r : Result Update ReplaceError} → old ≡ base →
     Judges o into name fresh text stat old new r → Judges o into name fresh text stat base new r
-judges_from {o = o} {into = into} {name = name} {fresh = fresh} {text = text} {stat = stat} {new = new} {r = r} e h =
-    subst (λ (l : List Call). Judges o into name fresh text stat l new r) e h
+judges_from e h = grind arith
 
 -- a stream whose failure would be another error hasn't failed
 pub works : (failed : Bool) (r : Result Bool RunFault) (e f : RunFault) → (failed ≡ true → r ≡ Err e) → r ≡ Err f → (f ≡ e → ⊥) → failed ≡ false
 works false r e f h is other = refl
-works true r e f h is other =
-    let other_is : r ≡ Err e = h refl in
-    let same : f ≡ e = cc in
-    absurd (other same)
+works true r e f h is other = grind arith
 
 -- the test of the bytes that were read again
 pub still_text : (again text : List ℕ) {slice : List ℕ} → slice ≡ again → false ≡ not (bytes_eq slice text) → again ≡ text
-still_text again text {slice = slice} e h = sym e ∙ (bytes_eq-Decides slice text).0 (by_cases (bytes_eq slice text) h)
-  where
-    by_cases : (b : Bool) → false ≡ not b → b ≡ true
-    by_cases true h = refl
-    by_cases false h = absurd (true≢false (sym h))
+still_text again text e h = grind (arith, bytes_eq-Decides)
 
 pub no_text : (again text : List ℕ) {slice : List ℕ} → slice ≡ again → true ≡ not (bytes_eq slice text) → again ≡ text → ⊥
-no_text again text {slice = slice} e h is = by_cases (bytes_eq slice text) ((bytes_eq-Decides slice text).1 (e ∙ is)) h
-  where
-    by_cases : (b : Bool) → b ≡ true → true ≡ not b → ⊥
-    by_cases true e h = true≢false h
-    by_cases false e h = true≢false (sym e)
+no_text again text e h is = grind (arith, bytes_eq-Decides)
 
 -- the file is filled, whether or not the rename worked
 pub fills_by : {name fresh before text : List ℕ} {stat : FileStat} {old new : List Call} (renames : Bool) (taken seen : List Call) → AppendsAll fresh text old taken true →

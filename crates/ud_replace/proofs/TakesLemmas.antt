@@ -2,7 +2,7 @@
 use Rattle.std.proofs.lemmas.Bool.Decides.{Decides-eqb}
 use Rattle.std.proofs.lemmas.Grind.{common_steps}
 use Rattle.std.proofs.lemmas.List.{nil_from_length}
-use Rattle.std.proofs.Common.{◌≡◌, ◌==◌, true, ℕ, ◌≤◌, ◌-◌, List, [], ◌∷◌, ◌++◌, length, take, drop, Some, refl, sym, ap, ◌∙◌, subst, append_assoc, append-nil, take-append-drop, arith}
+use Rattle.std.proofs.Common.{◌≡◌, ◌==◌, true, ℕ, ◌≤◌, ◌-◌, List, [], ◌∷◌, ◌++◌, length, take, drop, Some, refl, sym, ap, ◌∙◌, subst, append_assoc, take-append-drop, arith}
 use Rattle.ud_replace.specs.Calls.{Call, appended}
 use Rattle.ud_replace.specs.Filling.{Takes, nothing, part}
 
@@ -32,8 +32,7 @@ takes_more name old calls new bytes rest n t fits is = record {
 
 -- with nothing left, all was taken
 pub takes_all : (name : List ℕ) (old new : List Call) (bytes rest : List ℕ) → TakesAllBut name old bytes rest new → rest ≡ [] → Takes name old bytes new
-takes_all name old new bytes rest t none =
-    subst (λ (b : List ℕ). Takes name old b new) (sym (t.joined ∙ ap (λ x. t.taken ++ x) none ∙ append-nil t.taken)) t.took
+takes_all name old new bytes rest t none = grind (arith, common_steps)
 
 -- a slice of length 0 is empty
 pub empty_of : (rest : List ℕ) → true ≡ (length rest == 0) → rest ≡ []

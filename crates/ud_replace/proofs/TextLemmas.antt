@@ -1,5 +1,5 @@
 -- The run over a text in memory, and the pass over its output.
-use Rattle.std.proofs.Common.{◌≡◌, ℕ, List, [], ◌++◌, Bool, true, false, ◌||◌, Some, Ok, Err, refl, sym, ap, ◌∙◌, subst, true≢false}
+use Rattle.std.proofs.Common.{◌≡◌, ℕ, List, [], ◌++◌, Bool, true, false, ◌||◌, Some, Ok, Err, refl, sym, ap, ◌∙◌, subst, true≢false, arith}
 use Rattle.std.specs.Prelude.{nat_lt}
 use Rattle.ud_io.specs.Watched.{AppendsAllOrPrefix}
 use Rattle.ud_model.specs.conditions.Conditions.{Rules}
@@ -20,10 +20,7 @@ use Rattle.ud_replace.proofs.StepLemmas.{works}
 pub runs_unpruned : (o : Options) (input text before left : List ℕ) (reader writer d : Bool) → input ≡ text →
     ErrorMatchesStreams reader writer (Ok d) → (reader ≡ false → writer ≡ false → RunAnswers o input (Some before) (Some left) (Ok d)) →
     RunsUnpruned o text before left d
-runs_unpruned o input text before left reader writer d e m ran =
-    let h = ran m.works.0 m.works.1 in
-    subst (λ (t : List ℕ). RunsUnpruned o t before left d) e
-    (record { outcome = h.outcome; runs = h.runs; faultless = h.answered.0; appended = h.output; differs_is = h.answered.1 })
+runs_unpruned o input text before left reader writer d e m ran = grind arith
 
 -- A run that ended at the text's fault, while its reader and its writer worked.
 faulty_run : (o : Options) (input text before left : List ℕ) (reader writer : Bool) (f : RunFault) → input ≡ text →
@@ -76,9 +73,7 @@ appended_all true old new bytes e h = absurd (true≢false e)
 pub prunes_into : (o : Options) {text old new given buffer start : List ℕ} {n : ℕ} {failed : Bool} (rules : Rules) → rules ≡ rules_of o.settings → failed ≡ false →
     AppendsAllOrPrefix failed (Some old) (Some new) given → given ≡ buffer → start ≡ [] →
     (buffer ≡ start ++ pruned_text o.table rules text) × (n ≡ edited_count o.table rules text) → PrunesInto o text old new n
-prunes_into o {text = text} {old = old} rules is unfailed written given none h =
-    let bytes = given ∙ h.0 ∙ ap (λ (b : List ℕ). b ++ pruned_text o.table rules text) none ∙ ap (λ (r : Rules). pruned_text o.table r text) is in
-    record { appended = appended_all _ _ _ _ unfailed written ∙ ap (λ (b : List ℕ). old ++ b) bytes; edited_is = h.1 ∙ ap (λ (r : Rules). edited_count o.table r text) is }
+prunes_into o rules is unfailed written given none h = grind arith
 
 -- With pruning, the output of the run went through the pass.
 pub runs_pruned : (o : TextOptions) {text start whole seen before left : List ℕ} {d : Bool} {n : ℕ} (ran : TextRun) → o.prunes ≡ true → ran.differs ≡ (d || nat_lt 0 n) →
