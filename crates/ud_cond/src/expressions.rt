@@ -16,6 +16,7 @@ mod operators;
 pub(crate) mod parsing;
 mod part_stacks;
 mod parts;
+mod pending_slot;
 pub(crate) mod residuals;
 mod stacks;
 pub(crate) mod tokens;

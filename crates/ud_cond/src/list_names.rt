@@ -55,6 +55,7 @@ fn expression_names(text: &[u8]) -> Names<'_>
 }
 
 /// Returns the one name that a text is, but for white space around it; else none.
+#[inline(never)]
 fn single_name(text: &[u8]) -> Names<'_>
     ensures { result ≡ name_alone (sole_name text.now) }
 {

@@ -8,7 +8,7 @@ use Rattle.std.specs.Prelude.{List, [], ◌∷◌, false, Option, Some, None}
 use Rattle.ud_model.specs.aids.Parsing.{Frame, left}
 use Rattle.ud_model.specs.declared.operator.Operator.{Operator}
 use Rattle.ud_cond.specs.declared.expressions.values.Value.{Value}
-use Rattle.ud_cond.specs.declared.expressions.fast_path.PendingSlot.{PendingSlot}
+use Rattle.ud_cond.specs.declared.expressions.pending_slot.PendingSlot.{PendingSlot}
 use Rattle.ud_cond.specs.declared.expressions.fast_path.TwoSlots.{TwoSlots}
 
 -- `pending_by o a s`: the operator with its left operand `a`, if there is an operator, before `s`

@@ -6,6 +6,7 @@
 
 ghost use Rattle.std.specs.Prelude.{◌≡◌, ◌∷◌, [], ℕ, List, IfSome, OnSome, IsTrue, Some, false};
 ghost use Rattle.ud_model.specs.conditions.Tokens as tokens;
+ghost use Rattle.ud_model.specs.conditions.Expressions as trees;
 ghost use Rattle.ud_model.specs.conditions.Tokens.{next_token as token_of};
 ghost use Rattle.ud_model.specs.aids.Parsing as spec;
 ghost use Rattle.ud_model.specs.aids.Parsing.{Frame, left};
@@ -15,26 +16,13 @@ ghost use Rattle.ud_cond.specs.expressions.TwoSlots.{pending_in_slots, pending_i
 ghost use Rattle.ud_cond.specs.expressions.Evaluation.{value_meaning_in, reduce_in};
 
 use crate::expressions::operators::precedence;
-use crate::expressions::tokens::{
-    NextToken, Token, leading_token, next_token, starts_with_byte,
-};
+use crate::expressions::pending_slot::{EMPTY_SLOT, PendingSlot};
+use crate::expressions::tokens::{NextToken, Token, leading_token, next_token, starts_with_byte};
 use crate::expressions::values::{
     NO_VALUE, Scope, Value, apply_binary, apply_unary, constant, defined, named,
 };
 use ud_model::Operator;
 use ud_model::bytes::skip_white;
-
-/// A slot for an operator and its left operand, which are pending until the right one comes. The
-/// operand has no `u`, and is no undefined symbol with arguments.
-#[derive(Clone, Copy)]
-pub(crate) struct PendingSlot {
-    /// The pending operator, if any.
-    operator: Option<Operator>,
-    /// The number of its left operand.
-    number: Option<i64>,
-    /// `true` if its left operand names a symbol of the table.
-    listed: bool,
-}
 
 /// The two slots of the operators that are pending.
 #[derive(Clone, Copy)]
@@ -45,23 +33,18 @@ pub(crate) struct TwoSlots {
     outer: PendingSlot,
 }
 
-/// A slot in which nothing is pending.
-const EMPTY_SLOT: PendingSlot = PendingSlot {
-    operator: None,
-    number: None,
-    listed: false,
-};
-
 impl PendingSlot {
-    /// Returns a slot with an operator and its left operand.
+    /// Returns a slot with an operator of this precedence and its left operand.
     #[inline(always)]
-    fn of(operator: Operator, operand: &Value) -> PendingSlot
+    fn of(operator: Operator, tightness: u8, operand: &Value) -> PendingSlot
+        requires tight { tightness ≡ trees.precedence operator }
         requires signed { operand.now.unsigned ≡ false }
         requires no_call { operand.now.calls_undefined ≡ false }
         ensures { (s : List (Frame Value)) → pending_in result s ≡ left operator operand.now ∷ s }
     {
         PendingSlot {
             operator: Some(operator),
+            tightness,
             number: operand.number,
             listed: operand.listed,
         }
@@ -83,7 +66,7 @@ impl PendingSlot {
         let Some(operator) = self.operator else {
             return true;
         };
-        if precedence(operator) < least {
+        if self.tightness < least {
             return false;
         }
         self.operator = None;
@@ -100,25 +83,6 @@ impl PendingSlot {
 }
 
 impl TwoSlots {
-    /// Returns the slots after the first operator and its left operand; `None` if the operator isn't
-    /// binary.
-    #[inline(always)]
-    fn of(operator: Operator, operand: &Value) -> Option<TwoSlots>
-        requires signed { operand.now.unsigned ≡ false }
-        requires no_call { operand.now.calls_undefined ≡ false }
-        ensures { IfSome result (λ few. (scope : Scope) → spec.step (value_meaning_in scope)
-            (spec.has operand.now []) (tokens.operator operator) ≡
-            spec.needs (pending_in_slots few)) }
-    {
-        if precedence(operator) == 0 {
-            return None;
-        }
-        Some(TwoSlots {
-            inner: PendingSlot::of(operator, operand),
-            outer: EMPTY_SLOT,
-        })
-    }
-
     /// Returns whether nothing is pending.
     #[inline(always)]
     fn is_empty(&self) -> bool
@@ -142,23 +106,25 @@ impl TwoSlots {
         self.outer.apply_pending(scope, least, value);
     }
 
-    /// Pushes an operator with its left operand. Returns whether a slot was free.
+    /// Pushes an operator of this precedence with its left operand. Returns whether a slot was
+    /// free.
     #[inline(always)]
-    fn push(&mut self, operator: Operator, operand: &Value) -> bool
+    fn push(&mut self, operator: Operator, tightness: u8, operand: &Value) -> bool
+        requires tight { tightness ≡ trees.precedence operator }
         requires signed { operand.now.unsigned ≡ false }
         requires no_call { operand.now.calls_undefined ≡ false }
         ensures { IsTrue result → pending_in_slots self.new ≡ left operator operand.now ∷
             pending_in_slots self.old }
     {
         if self.inner.operator.is_none() {
-            self.inner = PendingSlot::of(operator, operand);
+            self.inner = PendingSlot::of(operator, tightness, operand);
             return true;
         }
         if self.outer.operator.is_some() {
             return false;
         }
         self.outer = self.inner;
-        self.inner = PendingSlot::of(operator, operand);
+        self.inner = PendingSlot::of(operator, tightness, operand);
         true
     }
 
@@ -176,7 +142,7 @@ impl TwoSlots {
             return false;
         }
         self.reduce(scope, tightness, value);
-        self.push(operator, value)
+        self.push(operator, tightness, value)
     }
 }
 
@@ -321,35 +287,15 @@ fn kept_operand<'a>(scope: &Scope<'_>, text: &'a [u8], value: &mut Value) -> Opt
 }
 
 /// Evaluates an expression if it is a sequence of operands with few pending operators.
-///
-/// Many expressions are one operand, for which no slot is filled.
 #[inline(always)]
 pub(crate) fn evaluate_fast(scope: &Scope<'_>, text: &[u8]) -> Option<Value>
     ensures { IfSome result (λ v. Some v ≡
         spec.reads (value_meaning_in scope.now) (spec.needs []) text.now) }
 {
-    let mut value = NO_VALUE;
-    let after = kept_operand(scope, text, &mut value)?;
-    match next_token(after) {
-        NextToken::AtEnd => Some(value),
-        NextToken::Unreadable => None,
-        NextToken::Found(token, end) => {
-            let Token::Operator(operator) = token else {
-                return None;
-            };
-            let few = TwoSlots::of(operator, &value)?;
-            evaluate_pending(scope, few, end)
-        }
-    }
-}
-
-/// Evaluates an expression of which operators are pending.
-#[inline(always)]
-fn evaluate_pending(scope: &Scope<'_>, pending: TwoSlots, text: &[u8]) -> Option<Value>
-    ensures { IfSome result (λ v. Some v ≡ spec.reads (value_meaning_in scope.now)
-        (spec.needs (pending_in_slots pending)) text.now) }
-{
-    let mut few = pending;
+    let mut few = TwoSlots {
+        inner: EMPTY_SLOT,
+        outer: EMPTY_SLOT,
+    };
     let mut rest = text;
     'operands: loop {
         let mut value = NO_VALUE;

@@ -25,7 +25,8 @@ unfolding next_token
 next_token-skip_white text = ap leading_token (skip_white-skip_white text)
 
 -- the leading token of a text without leading white space
-pub token_of-trimmed : (whole text : List ℕ) → skip_white whole ≡ text → leading_token text ≡ next_token whole
+pub token_of-trimmed : (whole text : List ℕ) → skip_white whole ≡ text →
+    leading_token text ≡ next_token whole
 unfolding next_token
 token_of-trimmed whole text e = ap leading_token (sym e)
 

@@ -7,7 +7,8 @@ pub returns-then-negated : goal.returns-then-negated
 returns-then-negated c =
     let begins = c.skip_not-negated.ensures.yes (search rules) in
     rw c.apply_unary-value.ensures
-    (row.needs-not (value_meaning_in c.args.scope.now) c.args.text.now begins.behind c.primary_operand.new.value c.in_ok-rest.rest.now begins.begins
+    (row.needs-not (value_meaning_in c.args.scope.now) c.args.text.now begins.behind
+    c.primary_operand.new.value c.in_ok-rest.rest.now begins.begins
     (c.in_ok-rest.ensures begins.behind begins.trimmed))
 
 pub returns : goal.returns
