@@ -2,6 +2,7 @@
 
 ghost use Rattle.std.specs.Prelude.{◌≡◌, ◌+◌, length, IfOk, IfNone, IfSome, MatchOption, Some};
 ghost use Rattle.std.specs.Prelude.{None};
+ghost use Rattle.ud_model.specs.text.Bytes.{skip_white};
 ghost use Rattle.ud_model.specs.sections.Directives.{text, content_of, skip_white_and_hash};
 ghost use Rattle.ud_model.specs.sections.Directives.{is_continued_outside_comment};
 ghost use Rattle.ud_model.specs.sections.Directives.{is_keyword_prefix, may_split_keyword};
@@ -13,7 +14,7 @@ ghost use Rattle.ud_sections.specs.directives.ParsedDirectives.{content_found, d
 use crate::directives::keywords::leading_keyword;
 use crate::directives::{Cut, Directive};
 use crate::sections::Span;
-use ud_model::bytes::{are_word_bytes, skip_white};
+use ud_model::bytes::{are_word_bytes, is_white, skip_white};
 use ud_model::keywords::is_prefix_of_keyword;
 use ud_model::{CommentAt, Scan};
 
@@ -69,14 +70,29 @@ fn directive_after_hash<'a>(scan: &Scan<'a>, after: &'a [u8]) -> Result<Option<D
     Ok(parse_after_hash(scan, after))
 }
 
-/// Returns what follows the `#`, if one comes first but for white space.
+/// Returns what follows the `#`, if one comes first but for white space. Most begin their line.
+#[inline(always)]
 fn skip_hash(masked: &[u8]) -> Option<&[u8]>
     ensures { MatchOption result (skip_white_and_hash masked.now ≡ None)
         (λ rest. skip_white_and_hash masked.now ≡ Some rest.now) }
 {
+    if let [b'#', rest @ ..] = masked {
+        return Some(rest);
+    }
     match skip_white(masked).split_first() {
         Some((b'#', rest)) => Some(rest),
         _ => None,
+    }
+}
+
+/// Returns the rest after the leading white space. Most texts have none.
+#[inline(always)]
+fn skip_rare_white(text: &[u8]) -> &[u8]
+    ensures { result.now ≡ skip_white text.now }
+{
+    match text {
+        [first, ..] if !is_white(*first) => text,
+        _ => skip_white(text),
     }
 }
 
@@ -130,7 +146,7 @@ fn parse_after_hash<'a>(scan: &Scan<'a>, after: &'a [u8]) -> Option<Directive<'a
     if !scan.fresh {
         return None;
     }
-    let rest = skip_white(after);
+    let rest = skip_rare_white(after);
     let keyword = leading_keyword(rest)?;
     Some(Directive {
         kind: keyword.kind,

@@ -362,11 +362,11 @@ impl Machine {
     {
         let enclosing = self.enclosing();
         match found.kind {
-            Kind::If if !enclosing.is_kept() => LineKind::If {
+            Kind::If if known.is_none() && !enclosing.is_kept() => LineKind::If {
                 cond: Cond::Unknown,
                 ignoring: false,
             },
-            Kind::Elif if enclosing.is_settled() => LineKind::Elif {
+            Kind::Elif if known.is_none() && enclosing.is_settled() => LineKind::Elif {
                 cond: Cond::Unknown,
             },
             _ => line_kind_of(scan, found, known, symbols, self.settings),

@@ -113,10 +113,10 @@ impl SectionState {
         ensures { result ≡ is_settled self }
     {
         match self {
-            SectionState::InRemoved
-            | SectionState::OnlyTrue
+            SectionState::OnlyTrue
             | SectionState::LastTrue
-            | SectionState::AfterTrue => true,
+            | SectionState::AfterTrue
+            | SectionState::InRemoved => true,
             SectionState::NoneKept | SectionState::LastUnknown | SectionState::LastFalse => false,
         }
     }
