@@ -1,5 +1,6 @@
 -- The state of a line decider after a line.
-use Rattle.std.proofs.Common.{◌≡◌, List, [], ◌∷◌, ◌++◌, map, Result, Ok, Err, Option, Some, None, IfOk, IfErr, OnOk, OnErr, sym, ◌∙◌, ap, subst}
+use Rattle.std.proofs.Common.{◌≡◌, List, [], ◌∷◌, ◌++◌, map, Result, Ok, Err, Option, Some, None}
+use Rattle.std.proofs.Common.{IfOk, IfErr, OnOk, OnErr, sym, ◌∙◌, ap, subst}
 use Rattle.ud_model.specs.text.Lines.{Line}
 use Rattle.ud_model.specs.text.Scans.{Reading}
 use Rattle.ud_model.specs.text.Scanning.{next_reading}
@@ -45,8 +46,10 @@ second P Q (Ok s) h = h.1
 second P Q (Err f) h = tt
 
 -- A step or a fault, as a verdict and the span of the keyword.
-pub as_verdict : (symbols : List Argument) (r new : TheReader) (l : Line) (decided : Result Step SectionFault) (verdict : Option Verdict) (keyword : Span) →
-    DecidesNext symbols r new l decided → IfErr decided (λ f. machine_fault new.machine ≡ Some f) → IfOk decided (λ s. (verdict ≡ Some s.verdict) × (keyword ≡ s.keyword)) →
+pub as_verdict : (symbols : List Argument) (r new : TheReader) (l : Line) (decided : Result Step
+    SectionFault) (verdict : Option Verdict) (keyword : Span) →
+    DecidesNext symbols r new l decided → IfErr decided (λ f. machine_fault new.machine ≡ Some f) →
+    IfOk decided (λ s. (verdict ≡ Some s.verdict) × (keyword ≡ s.keyword)) →
     OnErr decided (verdict ≡ None) → DecidesAs symbols r new l keyword verdict
 as_verdict symbols r new l (Ok s) verdict keyword h fault (v, k) none = rw (v, k) h
 as_verdict symbols r new l (Err f) verdict keyword h fault ok none = rw none (f, fault, h)

@@ -10,8 +10,8 @@
 --   AreText xs                        these items are text lines
 --   DecidesBulk o r xs t ls verdict   a decider has also read these text lines
 --   DecidesText r new lines bytes     it did, whatever it had read
-use Rattle.std.specs.Prelude.{◌≡◌, ℕ, suc, ◌+◌, List, [], ◌∷◌, ◌++◌, length, map, Option, Some, None}
-use Rattle.std.specs.Prelude.{Result, Ok, Err, MatchResult}
+use Rattle.std.specs.Prelude.{◌≡◌, ℕ, suc, ◌+◌, List, [], ◌∷◌, ◌++◌, length, map, Option}
+use Rattle.std.specs.Prelude.{Some, None, Result, Ok, Err, MatchResult}
 use Rattle.ud_model.specs.text.Lines.{Line, whole_lines, numbered_from}
 use Rattle.ud_model.specs.text.Scans.{Reading}
 use Rattle.ud_model.specs.sections.Directives.{text, content_of}

@@ -138,9 +138,115 @@ impl LineDecider {
         self.decide_parts(b"#else", ending, number, symbols, keyword)
     }
 
-    /// Decides the next line, whatever its body is, as `decide_endif` does.
+    /// Decides the next line, whatever its body is, as `decide_endif` does. The most frequent
+    /// directives have functions of their own, in which the compiler knows the keyword.
     #[inline(never)]
     fn decide_other(
+        &mut self,
+        body: &[u8],
+        ending: &[u8],
+        number: u32,
+        symbols: &Symbols,
+        keyword: &mut Span,
+    ) -> Option<Verdict>
+        requires ended { IsTrue (is_ending ending.now) }
+        requires within { IsWithinLimits (line_with body.now ending.now number) }
+        requires one_line { NoNewline body.now }
+        ensures decides { DecidesAs symbols.now self.old self.new
+            (line_with body.now ending.now number) keyword.new result }
+        ensures cursor { IfSome result (λ v. KeywordIsWithin v keyword.new body.now) }
+    {
+        match body {
+            [b'#', b'i', b'f', b' ', ..] => self.decide_if(body, ending, number, symbols, keyword),
+            [b'#', b'i', b'f', b'd', b'e', b'f', b' ', ..] => self.decide_ifdef(
+                body, ending, number, symbols, keyword,
+            ),
+            [b'#', b'e', b'l', b'i', b'f', b' ', ..] => self.decide_elif(
+                body, ending, number, symbols, keyword,
+            ),
+            _ => self.decide_any(body, ending, number, symbols, keyword),
+        }
+    }
+
+    /// Decides the next line, which begins with `#if` and a space, as `decide_endif` does.
+    #[inline(never)]
+    fn decide_if(
+        &mut self,
+        body: &[u8],
+        ending: &[u8],
+        number: u32,
+        symbols: &Symbols,
+        keyword: &mut Span,
+    ) -> Option<Verdict>
+        requires ended { IsTrue (is_ending ending.now) }
+        requires within { IsWithinLimits (line_with body.now ending.now number) }
+        requires one_line { NoNewline body.now }
+        ensures decides { DecidesAs symbols.now self.old self.new
+            (line_with body.now ending.now number) keyword.new result }
+        ensures cursor { IfSome result (λ v. KeywordIsWithin v keyword.new body.now) }
+    {
+        match body {
+            [b'#', b'i', b'f', b' ', ..] => self.decide_parts(
+                body, ending, number, symbols, keyword,
+            ),
+            _ => self.decide_marked(body, ending, number, symbols, keyword),
+        }
+    }
+
+    /// Decides the next line, which begins with `#ifdef` and a space, as `decide_endif` does.
+    #[inline(never)]
+    fn decide_ifdef(
+        &mut self,
+        body: &[u8],
+        ending: &[u8],
+        number: u32,
+        symbols: &Symbols,
+        keyword: &mut Span,
+    ) -> Option<Verdict>
+        requires ended { IsTrue (is_ending ending.now) }
+        requires within { IsWithinLimits (line_with body.now ending.now number) }
+        requires one_line { NoNewline body.now }
+        ensures decides { DecidesAs symbols.now self.old self.new
+            (line_with body.now ending.now number) keyword.new result }
+        ensures cursor { IfSome result (λ v. KeywordIsWithin v keyword.new body.now) }
+    {
+        match body {
+            [b'#', b'i', b'f', b'd', b'e', b'f', b' ', ..] => self.decide_parts(
+                body, ending, number, symbols, keyword,
+            ),
+            _ => self.decide_marked(body, ending, number, symbols, keyword),
+        }
+    }
+
+    /// Decides the next line, which begins with `#elif` and a space, as `decide_endif` does.
+    #[inline(never)]
+    fn decide_elif(
+        &mut self,
+        body: &[u8],
+        ending: &[u8],
+        number: u32,
+        symbols: &Symbols,
+        keyword: &mut Span,
+    ) -> Option<Verdict>
+        requires ended { IsTrue (is_ending ending.now) }
+        requires within { IsWithinLimits (line_with body.now ending.now number) }
+        requires one_line { NoNewline body.now }
+        ensures decides { DecidesAs symbols.now self.old self.new
+            (line_with body.now ending.now number) keyword.new result }
+        ensures cursor { IfSome result (λ v. KeywordIsWithin v keyword.new body.now) }
+    {
+        match body {
+            [b'#', b'e', b'l', b'i', b'f', b' ', ..] => self.decide_parts(
+                body, ending, number, symbols, keyword,
+            ),
+            _ => self.decide_marked(body, ending, number, symbols, keyword),
+        }
+    }
+
+    /// Decides the next line, whatever its body is, as `decide_endif` does, without a look at which
+    /// directive it is.
+    #[inline(never)]
+    fn decide_any(
         &mut self,
         body: &[u8],
         ending: &[u8],

@@ -8,8 +8,12 @@ use Rattle.ud_engine.proofs.line_decider.LineDecider.decide_long.Goals as goal
 pub returns-clause-decides : goal.returns-clause-decides
 returns-clause-decides c =
     let machine = c.decide_with-decided.new.machine in
-    let next = λ (before after : ScannerState). DecidesNext c.args.symbols.now (decider_of before c.args.self.now.machine) (decider_of after machine) (as_line c.args.line.now) c.decide_with-decided.result in
-    as_verdict c.args.symbols.now c.args.self.now (decider_of c.copy_state_of-2.new.self machine) (as_line c.args.line.now) c.decide_with-decided.result _ _
+    let next = λ (before after : ScannerState). DecidesNext c.args.symbols.now (decider_of before
+    c.args.self.now.machine) (decider_of after machine) (as_line c.args.line.now)
+    c.decide_with-decided.result in
+    as_verdict c.args.symbols.now c.args.self.now (decider_of c.copy_state_of-2.new.self machine)
+    (as_line c.args.line.now) c.decide_with-decided.result _ _
     (subst (λ s. next s c.copy_state_of-2.new.self) c.copy_state_of.ensures
-    (subst (λ s. next c.copy_state_of.new.self s) (sym c.copy_state_of-2.ensures) c.decide_with-decided.ensures.decides))
+    (subst (λ s. next c.copy_state_of.new.self s) (sym c.copy_state_of-2.ensures)
+    c.decide_with-decided.ensures.decides))
     c.decide_with-decided.ensures.fault c.verdict_of.ensures.ok c.verdict_of.ensures.err

@@ -4,6 +4,8 @@ use Rattle.ud_engine.proofs.line_decider.LineDecider.decide_marked.Goals as goal
 
 pub returns-clause-decides : goal.returns-clause-decides
 returns-clause-decides c =
-    as_verdict c.args.symbols.now c.args.self.now (decider_of c.decide_with-decided.new.scanner c.decide_with-decided.new.machine)
+    as_verdict c.args.symbols.now c.args.self.now (decider_of c.decide_with-decided.new.scanner
+    c.decide_with-decided.new.machine)
     (line_with c.args.body.now c.args.ending.now c.args.number) c.decide_with-decided.result _ _
-    c.decide_with-decided.ensures.decides c.decide_with-decided.ensures.fault c.verdict_of.ensures.ok c.verdict_of.ensures.err
+    c.decide_with-decided.ensures.decides c.decide_with-decided.ensures.fault
+    c.verdict_of.ensures.ok c.verdict_of.ensures.err
