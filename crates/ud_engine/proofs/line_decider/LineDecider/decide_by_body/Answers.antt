@@ -1,4 +1,4 @@
-use Rattle.std.proofs.Common.{List, ℕ, sym, subst, rules}
+use Rattle.std.proofs.Common.{List, ℕ, sym, subst}
 use Rattle.ud_engine.specs.DecidedLines.{DecidesAs, line_with}
 use Rattle.ud_engine.proofs.line_decider.LineDecider.decide_by_body.Goals as goal
 
