@@ -215,6 +215,12 @@ const PASSES: &[(&[u8], usize)] = &[
     (b"/* b */ /* c\n */ #\\\n", 13),
     (b"// a \\b\n// \\ \r\nc\n", 17),
     (b"don't\nx\n", 8),
+    (b"don't\r\nx\n", 9),
+    (b"'\n'\r\n\"/\n/x\n", 11),
+    (b"\"a/b\" 'c' \\\" #if\nx\n", 19),
+    (b"\"a\" \"/* b\" /* c\n*/ 'd\nx\n", 24),
+    (b"'a' /* b */ \"/*\" /* c */ 'd // e\nx\n", 35),
+    (b"'a */*/ b\n*/ c\nx\n", 17),
     (b"a \"b\\\"\n/* c */\n", 15),
     // A skip goes through splices.
     (b"a\nb\\\nc\n", 7),
@@ -247,7 +253,8 @@ const PASSES: &[(&[u8], usize)] = &[
     (b"/* a \\\n b */\nc\n", 15),
     (b"a\n/* b */ /* c */ #if\n", 2),
     (b"don't\\\\\nx\n", 0),
-    (b"don't\r\nx\n", 0),
+    (b"a\nb 'c\\\r\nd\n", 2),
+    (b"a\n\"b\" // c\\\nd\n", 2),
 ];
 
 #[test]

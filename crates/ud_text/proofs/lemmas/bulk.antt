@@ -7,6 +7,7 @@ pub mod SpliceLemmas
 pub mod LexemeLemmas
 pub mod NameLemmas
 pub mod LookLemmas
+pub mod QuotedLemmas
 pub mod ProgressLemmas
 pub mod HashLemmas
 pub mod BlockLemmas

@@ -5,12 +5,14 @@
 //! line on which a comment ends needs what is left out. The result is then `None`, and `skip_again`
 //! of bulk.rt reads the bytes anew.
 //!
+//! From a quote on, the rest of a line is mostly read at once, whatever its literals are.
+//!
 //! A new kind of lexeme is a step here and one in bulk.rt.
 
 ghost use Rattle.std.specs.Prelude.{◌≡◌, ◌≤◌, ◌<◌, ◌+◌, ◌-◌, Bool, ℕ, [], ◌∷◌, length, take, drop};
 ghost use Rattle.std.specs.Prelude.{slice_index, true};
 ghost use Rattle.std.specs.Prelude.{false, IfSome};
-ghost use Rattle.ud_model.specs.text.Bytes.{slash, star, number_sign};
+ghost use Rattle.ud_model.specs.text.Bytes.{slash, star, number_sign, is_quote};
 ghost use Rattle.ud_text.specs.bulk.BulkStates.{BulkState, can_start};
 ghost use Rattle.ud_text.specs.bulk.Blocks.{IsBlock};
 ghost use Rattle.ud_text.specs.bulk.BulkLexemes.{is_star_pair, IsSplice};
@@ -21,7 +23,9 @@ ghost use Rattle.ud_text.specs.scan.LexerViews.{lex_state_of};
 use crate::bulk::LineStart;
 use crate::bulk::blocks::{Block, next_significant, no_block};
 use crate::bulk::hash_sign::{is_line_white_after, other_word_len};
-use crate::bulk::lexeme_lengths::{lexeme_len, line_comment_len, splice_len};
+use crate::bulk::lexeme_lengths::{
+    is_quote, lexeme_len, line_comment_len, quoted_line_len, splice_len,
+};
 use crate::scan::lexer::{LexState, Lexer};
 use crate::searching::{is_star_pair, last_line_start};
 
@@ -37,6 +41,9 @@ struct Reach {
     begins: bool,
     /// The position up to which the bytes are read.
     at: usize,
+    /// A position before which no quote is looked at with the rest of its line. It limits what a
+    /// line costs, and says nothing of the bytes.
+    searched: usize,
 }
 
 /// Returns the last line that begins at or before `p.at`; `None` if a block comment ends on it.
@@ -144,6 +151,7 @@ fn comment_step(lines: &[u8], p: Reach) -> Option<Reach>
         at_line_start: true,
         begins: true,
         at,
+        ..p
     })
 }
 
@@ -185,6 +193,7 @@ fn splice_step(lines: &[u8], p: Reach, count: usize) -> Option<Reach>
         at_line_start: true,
         begins: false,
         at,
+        ..p
     })
 }
 
@@ -205,6 +214,37 @@ fn text_step(lines: &[u8], p: Reach) -> Option<Reach>
     })
 }
 
+/// Skips the rest of the line, from a quote on. Skips the literal alone if the line may end in a
+/// block comment or in a splice.
+#[inline(always)]
+fn quote_step(lines: &[u8], p: Reach) -> Option<Reach>
+    requires order { InReach p lines.now }
+    requires some { p.at < length lines.now }
+    requires first { is_quote (slice_index lines.now p.at) ≡ true }
+    ensures further { IfSome result (λ q. InReach q lines.now × (p.at < q.at)) }
+    ensures read { GoesOn lines.now p result }
+{
+    if p.at < p.searched {
+        return text_step(lines, p);
+    }
+    match quoted_line_len(&lines[p.at..]) {
+        Ok(count) => {
+            let at = p.at + count;
+            Some(Reach {
+                base: at,
+                at_line_start: true,
+                begins: true,
+                at,
+                ..p
+            })
+        }
+        Err(count) => {
+            let searched = p.at + count;
+            text_step(lines, Reach { searched, ..p })
+        }
+    }
+}
+
 /// Skips what a significant byte begins, but for a block comment.
 #[inline(always)]
 fn code_step(lines: &[u8], p: Reach) -> Option<Reach>
@@ -218,6 +258,8 @@ fn code_step(lines: &[u8], p: Reach) -> Option<Reach>
         hash_step(lines, p)
     } else if rest.starts_with(b"//") {
         comment_step(lines, p)
+    } else if is_quote(lines[p.at]) {
+        quote_step(lines, p)
     } else if let Some(count) = splice_len(rest) {
         splice_step(lines, p, count)
     } else {
@@ -245,6 +287,7 @@ fn block_step(lines: &[u8], row: Block, p: Reach) -> (Option<Reach>, Block)
         at_line_start: false,
         begins: false,
         at: end,
+        ..p
     };
     (Some(next), last)
 }
@@ -304,6 +347,7 @@ pub(crate) fn skip_text_lines(lexer: Lexer, lines: &[u8]) -> Option<LineStart>
                 at_line_start: true,
                 begins: lexer.white,
                 at: 0,
+                searched: 0,
             };
             skip_text_from(lines, no_block(lines), begun)
         }
@@ -317,6 +361,7 @@ pub(crate) fn skip_text_lines(lexer: Lexer, lines: &[u8]) -> Option<LineStart>
                 at_line_start: false,
                 begins: false,
                 at: end,
+                searched: 0,
             };
             skip_text_from(lines, row, begun)
         }

@@ -5,7 +5,7 @@
 
 ghost use Rattle.std.specs.Prelude.{◌≡◌, ◌≤◌, ◌<◌, ◌-◌, Bool, [], ◌∷◌, length, take, true};
 ghost use Rattle.std.specs.Prelude.{slice_index};
-ghost use Rattle.std.specs.Prelude.{false, IfSome, OnSome};
+ghost use Rattle.std.specs.Prelude.{false, IfSome, OnSome, IfOk, IfErr};
 ghost use Rattle.ud_model.specs.text.Bytes.{slash, backslash, newline, is_quote};
 ghost use Rattle.ud_text.specs.bulk.BulkLexemes.{is_significant, CodeLexeme, LineLexeme, IsSplice};
 ghost use Rattle.ud_text.specs.bulk.BulkLexemes.{may_splice};
@@ -13,6 +13,13 @@ ghost use Rattle.ud_text.specs.bulk.BulkLexemes.{may_splice};
 use crate::searching::is_significant;
 use crate::searching::simd::find_near;
 use memchr::memchr;
+
+/// Returns whether `byte` is a quote.
+pub(crate) fn is_quote(byte: u8) -> bool
+    ensures { result ≡ is_quote byte }
+{
+    byte == b'"' || byte == b'\''
+}
 
 /// Returns the second byte, if it is insignificant outside comments and literals.
 fn insignificant_second(rest: &[u8]) -> Option<u8>
@@ -118,6 +125,60 @@ fn literal_len(rest: &[u8], quote: u8) -> Option<usize>
     None
 }
 
+/// Returns whether a newline may end a splice, if these two bytes come directly before it.
+fn may_splice(first: u8, second: u8) -> bool
+    ensures { result ≡ may_splice first second }
+{
+    second == b'\\' || second == b'\r' && (first == b'\\' || first == b'\r')
+}
+
+/// Returns the length of the rest of a line with its newline, which begins with a quote outside
+/// comments and literals. Whatever its literals and comments are, the next line begins outside
+/// them.
+///
+/// That isn't known if a block comment may be open at the newline, or if the newline may belong to
+/// a splice. Then `Err` has the position up to which the line was looked at.
+pub(crate) fn quoted_line_len(rest: &[u8]) -> Result<usize, usize>
+    requires some { 0 < length rest.now }
+    requires first { is_quote (slice_index rest.now 0) ≡ true }
+    ensures bound { IfOk result (λ n. (0 < n) × (n ≤ length rest.now)) }
+    ensures read { IfOk result (λ n. (white : Bool) → LineLexeme white (take n rest.now)) }
+    ensures ends { IfOk result (λ n. slice_index rest.now (n - 1) ≡ newline) }
+    ensures stop { IfErr result (λ n. n ≤ length rest.now) }
+{
+    let mut at = 1;
+    // The end of the last `/*`, or 0 if no block comment can be open.
+    let mut begun = 0;
+    while at < rest.len() {
+        let stop = at + find_near(&rest[at..], [b'\n', b'/', b'/', b'/', b'/']);
+        if stop >= rest.len() {
+            return Err(stop);
+        }
+        if rest[stop] == b'\n' {
+            if begun > 0 || rest[stop - 1] == b'\\' {
+                return Err(stop);
+            }
+            if rest[stop - 1] == b'\r' && may_splice(rest[stop - 2], b'\r') {
+                return Err(stop);
+            }
+            return Ok(stop + 1);
+        }
+        if stop + 1 >= rest.len() {
+            return Err(stop);
+        }
+        if rest[stop + 1] == b'*' {
+            begun = stop + 2;
+            at = stop + 2;
+        } else {
+            if begun < stop && rest[stop - 1] == b'*' {
+                begun = 0;
+            }
+            at = stop + 1;
+        }
+    }
+    Err(at)
+}
+
 /// Returns the length of what a slash, a backslash or a quote begins outside comments.
 pub(crate) fn lexeme_len(rest: &[u8]) -> Option<usize>
     requires some { 0 < length rest.now }
@@ -133,13 +194,6 @@ pub(crate) fn lexeme_len(rest: &[u8]) -> Option<usize>
     }
 }
 
-/// Returns whether a newline may end a splice, if these two bytes come directly before it.
-fn may_splice(first: u8, second: u8) -> bool
-    ensures { result ≡ may_splice first second }
-{
-    second == b'\\' || second == b'\r' && (first == b'\\' || first == b'\r')
-}
-
 /// Returns the length of a line comment with its newline. `None` if a backslash may join the next
 /// line to it (C11 6.4.9).
 pub(crate) fn line_comment_len(rest: &[u8]) -> Option<usize>
@@ -152,7 +206,11 @@ pub(crate) fn line_comment_len(rest: &[u8]) -> Option<usize>
     let Some(count) = memchr(b'\n', &rest[2..]) else {
         return None;
     };
-    if may_splice(rest[count], rest[count + 1]) {
+    let last = rest[count + 1];
+    if last == b'\\' {
+        return None;
+    }
+    if last == b'\r' && may_splice(rest[count], b'\r') {
         return None;
     }
     Some(2 + count + 1)

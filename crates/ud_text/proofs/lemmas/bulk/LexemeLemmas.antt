@@ -165,7 +165,8 @@ unfoldable pub spliced_by : Bool → List ℕ → Bool
 spliced_by spliced [] = spliced
 spliced_by spliced (b ∷ bytes) = spliced_by (spliced_after in_line spliced b) bytes
 
-last_clear : (c : Bool) (bytes : List ℕ) (n : ℕ) → length bytes ≡ suc n → (get_or bytes n 0 == backslash) ≡ false → (get_or bytes n 0 == carriage_return) ≡ false →
+pub last_clear : (c : Bool) (bytes : List ℕ) (n : ℕ) → length bytes ≡ suc n →
+    (get_or bytes n 0 == backslash) ≡ false → (get_or bytes n 0 == carriage_return) ≡ false →
     spliced_by c bytes ≡ false
 unfolding spliced_by
 last_clear c [] n e f g = absurd (omega arith)

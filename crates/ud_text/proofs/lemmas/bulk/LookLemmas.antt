@@ -108,7 +108,7 @@ white_on (b ∷ bytes) e =
     stays : (b == slash) ≡ false → is_quote b ≡ false → (b == newline) ≡ false → (b == backslash) ≡ false → is_white b ≡ true → next_bulk_state (code_state true) b ≡ code_state true
     stays e q i t w = rw (e, q, i, t, w) (by_return (b == carriage_return))
 
-white_false : (w : LexState) (b : ℕ) → (b == newline) ≡ false → stays_white w false b ≡ false
+pub white_false : (w : LexState) (b : ℕ) → (b == newline) ≡ false → stays_white w false b ≡ false
 white_false in_text b e = rw e (by_slash (b == slash))
   where
     by_slash : (t : Bool) → (if t then false else false) ≡ false

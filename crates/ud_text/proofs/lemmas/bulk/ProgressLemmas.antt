@@ -23,7 +23,8 @@ take_front p q n e = ap (λ (k : ℕ). take k (p ++ q)) e ∙ take-append_seam p
 pub begins-append : (p q : List ℕ) → IsLineStart (q ++ newline ∷ []) → IsLineStart (p ++ (q ++ newline ∷ []))
 begins-append p q h = subst IsLineStart (append_assoc p q (newline ∷ [])) (after_newline (p ++ q))
 
-feed_open : (s : BulkState) → is_block (kind_in_state s.state) ≡ false → next_bulk_state s newline ≡ code_state true
+pub feed_open : (s : BulkState) → is_block (kind_in_state s.state) ≡ false →
+    next_bulk_state s newline ≡ code_state true
 feed_open s e = by_place s.state e
   where
     by_place : (w : LexState) → is_block (kind_in_state w) ≡ false → ◌≡◌ {A = BulkState} (record { state = next_state w newline; white = stays_white w s.white newline; spliced = false }) (code_state true)

@@ -89,10 +89,33 @@ sign_alone_black {bytes = bytes} {at = at} r first e =
     some [] e = cc
     some (x ∷ l) e = omega arith
 
+-- `moved p at`: the position `at`, with the base of `p`
+abbrev pub moved : Reach → ℕ → Reach
+moved p at = record {
+  base = p.base;
+  at_line_start = p.at_line_start;
+  begins = p.begins;
+  at = at;
+  searched = p.searched;
+}
+
+-- `at_base base at_line_start begins searched`: a position that is its own base
+abbrev pub at_base : ℕ → Bool → Bool → ℕ → Reach
+at_base base at_line_start begins searched = record {
+  base = base;
+  at_line_start = at_line_start;
+  begins = begins;
+  at = base;
+  searched = searched;
+}
+
 -- The bytes up to the end of a block comment are read.
 pub reach_close : {start : BulkState} {bytes : List ℕ} {line : ℕ} {kept : BulkState} {at : ℕ} {u : Bool} → ReadTo start bytes line kept at (block_state u) →
-    (end : ℕ) → ClosesAt bytes at end → Reached start bytes (record { base = end; at_line_start = false; begins = false; at = end })
-reach_close {start = start} {bytes = bytes} {at = at} {u = u} r end c = by_line (last_line_of (take count (drop at bytes))).0 (last_line_of (take count (drop at bytes))).1
+    (end : ℕ) → ClosesAt bytes at end → (searched : ℕ) →
+    Reached start bytes (at_base end false false searched)
+reach_close {start = start} {bytes = bytes} {at = at} {u = u} r end c searched =
+    by_line (last_line_of (take count (drop at bytes))).0
+    (last_line_of (take count (drop at bytes))).1
   where
     count : ℕ
     count = end - 2 - at
@@ -118,7 +141,8 @@ reach_close {start = start} {bytes = bytes} {at = at} {u = u} r end c = by_line 
     free : NoStarPair (take count (drop at bytes))
     free = by_count count refl
 
-    closed : (l : ℕ) (s : BulkState) (b : Bool) → ReadTo start bytes l s (at + count) (inside_state b u) → Reached start bytes (record { base = end; at_line_start = false; begins = false; at = end })
+    closed : (l : ℕ) (s : BulkState) (b : Bool) → ReadTo start bytes l s (at + count)
+        (inside_state b u) → Reached start bytes (at_base end false false searched)
     closed l s b x =
         let o : at + 2 ≤ end = c.order in
         let w : end ≤ length bytes = c.within in
@@ -126,7 +150,8 @@ reach_close {start = start} {bytes = bytes} {at = at} {u = u} r end c = by_line 
         block_closed b u x (omega (arith, length-drop (at + count) bytes, there, w, o)) (sym (ap (λ (n : ℕ). take 2 (drop n bytes)) there ∙ c.pair)) in
         record { line = l; kept = s; begins = u; read = subst (λ (n : ℕ). ReadOutside start bytes l s n u n) then_end out; at_line_start = λ e. cc }
 
-    by_line : (n : ℕ) → LastLineStarts (take count (drop at bytes)) n → Reached start bytes (record { base = end; at_line_start = false; begins = false; at = end })
+    by_line : (n : ℕ) → LastLineStarts (take count (drop at bytes)) n →
+        Reached start bytes (at_base end false false searched)
     by_line zero h = closed _ _ _ (block_same r count fits free h.one_line)
     by_line (suc n) h = closed _ _ _ (block_later r count fits free (suc n) h (omega arith))
 
@@ -134,27 +159,28 @@ module _ {start : BulkState} {bytes : List ℕ} {p : Reach} (r : Reached start b
   -- Bytes without a comment are read.
   pub reach_text : (k : ℕ) → k ≤ length (take (length bytes - p.at) (drop p.at bytes)) →
       ((u : Bool) → CodeLexeme u (take k (take (length bytes - p.at) (drop p.at bytes)))) →
-      Reached start bytes (record { base = p.base; at_line_start = p.at_line_start; begins = p.begins; at = p.at + k })
+      Reached start bytes (moved p (p.at + k))
   reach_text k h t = record { line = r.line; kept = r.kept; begins = r.begins; read = text_step_read r.read k h t; at_line_start = r.at_line_start }
 
   -- Plain text is read, up to the next significant byte.
   pub reach_plain : (next : ℕ) → next ≡ p.at + position_or_len is_significant (drop p.at bytes) →
-      Reached start bytes (record { base = p.base; at_line_start = p.at_line_start; begins = p.begins; at = next })
+      Reached start bytes (moved p next)
   reach_plain next e = record { line = r.line; kept = r.kept; begins = r.begins; read = plain_step_read r.read next e; at_line_start = r.at_line_start }
 
   -- A `#` that belongs to no directive is read, with plain bytes after it.
   pub reach_sign : take 1 (drop p.at bytes) ≡ number_sign ∷ [] → (k : ℕ) → k ≤ length (drop (p.at + 1) bytes) → NoSignificant (take k (drop (p.at + 1) bytes)) →
-      is_other_word (take k (drop (p.at + 1) bytes)) ≡ true → Reached start bytes (record { base = p.base; at_line_start = p.at_line_start; begins = p.begins; at = p.at + 1 + k })
+      is_other_word (take k (drop (p.at + 1) bytes)) ≡ true →
+      Reached start bytes (moved p (p.at + 1 + k))
   reach_sign first k h none other = record { line = r.line; kept = r.kept; begins = r.begins; read = sign_step_read r.read first k h none (inl other); at_line_start = r.at_line_start }
 
   -- Such a `#` is read alone.
   pub reach_sign_alone : take 1 (drop p.at bytes) ≡ number_sign ∷ [] → r.read.now_white ≡ false →
-      Reached start bytes (record { base = p.base; at_line_start = p.at_line_start; begins = p.begins; at = p.at + 1 })
+      Reached start bytes (moved p (p.at + 1))
   reach_sign_alone first e = record { line = r.line; kept = r.kept; begins = r.begins; read = sign_alone_black r.read first e; at_line_start = r.at_line_start }
 
   -- A splice is read, on a logical line that isn't white.
   pub reach_splice : r.read.now_white ≡ false → (k : ℕ) → k ≤ length (drop p.at bytes) → IsSplice (take k (drop p.at bytes)) →
-      Reached start bytes (record { base = p.at + k; at_line_start = true; begins = false; at = p.at + k })
+      Reached start bytes (at_base (p.at + k) true false p.searched)
   reach_splice e k h s = record {
     line = p.at + k;
     kept = code_state false;
@@ -167,7 +193,7 @@ module _ {start : BulkState} {bytes : List ℕ} {p : Reach} (r : Reached start b
   pub reach_comment : (k : ℕ) → 0 < k → k ≤ length (take (length bytes - p.at) (drop p.at bytes)) →
       ((u : Bool) → LineLexeme u (take k (take (length bytes - p.at) (drop p.at bytes)))) →
       get_or (take (length bytes - p.at) (drop p.at bytes)) (k - 1) 0 ≡ newline →
-      Reached start bytes (record { base = p.at + k; at_line_start = true; begins = true; at = p.at + k })
+      Reached start bytes (at_base (p.at + k) true true p.searched)
   reach_comment k z h t e =
       let now : Bool = r.read.now_white in
       let x : LineLexeme now (take k (drop p.at bytes)) = subst (λ (l : List ℕ). LineLexeme r.read.now_white (take k l)) (take_rest bytes p.at) (t now) in
@@ -193,8 +219,19 @@ module _ {start : BulkState} {bytes : List ℕ} {p : Reach} (r : Reached start b
 
   -- A block comment is read.
   pub reach_block : 2 ≤ length (drop p.at bytes) → take 2 (drop p.at bytes) ≡ slash ∷ star ∷ [] → (end : ℕ) → ClosesAt bytes (p.at + 2) end →
-      Reached start bytes (record { base = end; at_line_start = false; begins = false; at = end })
+      Reached start bytes (at_base end false false p.searched)
   reach_block h e end c = reach_close (block_opened r.read.now_white r.read.so_far h (sym e)) end c
+      p.searched
+
+  -- Which quotes are looked at says nothing of the bytes.
+  pub reach_searched : (searched : ℕ) → Reached start bytes (record p { searched = searched })
+  reach_searched searched = record {
+    line = r.line;
+    kept = r.kept;
+    begins = r.begins;
+    read = r.read;
+    at_line_start = r.at_line_start;
+  }
 
   turned : (l : List ℕ) (a v : Bool) → IsWhiteAfter l a v → v ≡ false → (a ≡ false → r.begins ≡ false) → IsWhiteAfter l r.begins false
   turned l a _ (all_white w) e f = subst (λ (u : Bool). IsWhiteAfter l r.begins u) (f e) (all_white w)
@@ -232,7 +269,7 @@ module _ {start : BulkState} {bytes : List ℕ} {p : Reach} (r : Reached start b
 
 -- Nothing is read yet.
 pub reach_start : (bytes : List ℕ) (w : LexState) (white : Bool) → w ≡ in_text →
-    Reached (line_state w white) bytes (record { base = 0; at_line_start = true; begins = white; at = 0 })
+    Reached (line_state w white) bytes (at_base 0 true white 0)
 reach_start bytes w white e = record { line = 0; kept = line_state w white; begins = white; read = start_read bytes w white e; at_line_start = λ _. (refl, refl) }
 
 -- No star pair ends before the next significant byte.

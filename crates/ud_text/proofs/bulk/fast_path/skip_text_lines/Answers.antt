@@ -11,4 +11,7 @@ returns-in-Text-clause-skipped c = c.skip_text_from.ensures.skipped _ (reach_sta
 
 pub returns-in-Some-clause-skipped : goal.returns-in-Some-clause-skipped
 returns-in-Some-clause-skipped c = c.skip_text_from-in-Block.ensures.skipped _
-    (reach_close (start_block c.args.lines.now (lex_state_of c.args.lexer.state) c.args.lexer.white (ap lex_state_of c.in-Block.is)) c.in-Some.end (subst (λ o. IfSome o (λ end. ClosesAt c.args.lines.now 0 end)) c.in-Some.is c.block_end-end.ensures.closes))
+    (reach_close (start_block c.args.lines.now (lex_state_of c.args.lexer.state) c.args.lexer.white
+    (ap lex_state_of c.in-Block.is)) c.in-Some.end
+    (subst (λ o. IfSome o (λ end. ClosesAt c.args.lines.now 0 end)) c.in-Some.is
+    c.block_end-end.ensures.closes) 0)
