@@ -10,7 +10,6 @@ use Rattle.ud_model.specs.text.Scans.{Reading}
 use Rattle.ud_model.specs.text.Splicing.{is_spliced, is_empty, content, stays_open, spliced_text, c_run_of}
 use Rattle.ud_model.specs.text.Scanning.{is_block, comment_at, scan_after, next_reading}
 use Rattle.ud_model.specs.aids.LexStates.{LexState, in_text, kind_in_state, fresh_at, state_after_line, white_after_line, Masks}
-use Rattle.ud_model.specs.declared.kind.Mode.{Mode}
 use Rattle.ud_model.specs.declared.kind.Mode.TheVariants.{C, Plain}
 use Rattle.ud_model.specs.declared.kind.CommentAt.TheVariants.{Outside}
 use Rattle.ud_text.specs.scan.ScannerState.{ScannerState, ScannerRepresents, initial_scanner_state, StaysAfter, IsScanOf}

@@ -1,7 +1,6 @@
 -- A piece more is read.
-use Rattle.std.proofs.Common.{◌≡◌, ◌++◌, [], List, ℕ, Bool, sym, ◌∙◌, ap, refl, subst, append-nil, append_assoc, take, drop, take-append-drop, length, ◌==◌, arith, rules, min}
+use Rattle.std.proofs.Common.{◌≡◌, ◌++◌, [], List, ℕ, sym, ◌∙◌, ap, refl, subst, append-nil, append_assoc, take, take-append-drop, length, arith, rules, min}
 use Rattle.std.proofs.Math.ListN.{length-take}
-use Rattle.std.proofs.lemmas.Bool.{eqb-true}
 use Rattle.ud_model.specs.text.Lines.{NoNewline}
 use Rattle.ud_model.specs.aids.LexStates.{LexesTo}
 use Rattle.ud_text.specs.scan.LexerViews.{lex_state_of}

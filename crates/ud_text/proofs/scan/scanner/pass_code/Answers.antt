@@ -1,9 +1,7 @@
 -- The state carried over the line, by the lexer's state after its content.
-use Rattle.std.proofs.Common.{◌≡◌, ◌∙◌, sym, ap, refl, subst, List, ℕ, Bool, true, false, ◌||◌, ◌++◌}
+use Rattle.std.proofs.Common.{◌≡◌, ◌∙◌, sym, refl, subst, List, ℕ, Bool, true, false, ◌||◌, ◌++◌}
 use Rattle.ud_model.specs.text.Lines.{NoNewline}
-use Rattle.ud_model.specs.text.Splicing.{is_spliced, content}
-use Rattle.ud_model.specs.text.Scanning.{is_block}
-use Rattle.ud_model.specs.aids.LexStates.{LexesTo, kind_in_state}
+use Rattle.ud_model.specs.aids.LexStates.{LexesTo}
 use Rattle.ud_model.specs.text.LineViews.{as_line}
 use Rattle.ud_text.specs.scan.LexerViews.{lex_state_of}
 use Rattle.ud_text.specs.scan.ScannerState.{scanner_state_of}
