@@ -2,8 +2,6 @@
 use Rattle.std.proofs.Common.{◌≡◌, ℕ, suc, List, [], ◌∷◌, ◌++◌, Bool, ◌||◌, if◌then◌else◌, bytes_eq, codes, encode_utf8_all, Option, Some, None, refl, ◌∙◌, ap, subst, arith}
 use Rattle.std.specs.List.{filter_map}
 use Rattle.ud_model.specs.answer.CommandLine.{ParsedArg, flag, option, operand, unknown, lacking, has_letter, is_flag, takes_argument, option_letters, operands_from, is_operand, WordGives, then_gives, option_gives, letters_give, given_next, parsed_from, mode_or, parse_exit_mode, parse_symbol, mode_from, has_flag, settings_in, argument_in, UsageFault, unless_right, bad_symbol_in, bad_mode_in, argument_fault, fault_or, first_fault, operand_in, name_or_stdin}
-use Rattle.ud_model.specs.declared.settings.Settings.{Settings}
-use Rattle.ud_model.specs.declared.settings.Listing.{Listing}
 use Rattle.ud_model.specs.declared.settings.ExitMode.{ExitMode}
 
 -- the same is given, in other places
@@ -88,15 +86,6 @@ table_same (an_option c n m a k) = grind (arith, table_same k)
 table_same (an_operand n m w k) = table_same k
 table_same (an_unknown c k) = table_same k
 table_same (a_lacking c k) = table_same k
-
--- the settings by each of them
-abbrev pub settings_by : Bool → Bool → Bool → Bool → Bool → Bool → Listing → ExitMode → Settings
-settings_by t k s b c n l e = record { plain = t; constants = k; strict = s; blank = b; complement = c; renumber = n; listing = l; exit_mode = e }
-
--- settings with the same parts are the same
-pub settings_parts : {t u k l s r b d c e n m : Bool} {p q : Listing} {x y : ExitMode} → t ≡ u → k ≡ l → s ≡ r → b ≡ d → c ≡ e → n ≡ m → p ≡ q → x ≡ y →
-    settings_by t k s b c n p x ≡ settings_by u l r d e m q y
-settings_parts f g h i j o v w = rw (f, g, h, i, j, o, v, w) refl
 
 pub settings_same : (gs hs : List ParsedArg) → Same gs hs → settings_in gs ≡ settings_in hs
 settings_same gs hs k = grind (arith, flag_same, mode_same)

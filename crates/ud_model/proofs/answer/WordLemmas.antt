@@ -15,9 +15,6 @@ letters_split : (number : ℕ) (cs : List ℕ) (next : ℕ → List ParsedArg) (
 letters_split number [] next rest = refl
 letters_split number (c ∷ cs) next rest = grind (arith, letters_split number cs next rest)
 
-next_is : (o : Option ℕ) (n : ℕ) (args : List (List ℕ)) → waited o (λ c. parsed_after_option c n args) (parsed_from n args) ≡ given_next o n args
-next_is o n args = grind arith
-
 -- After `--` each argument is an operand.
 pub after_end : (n : ℕ) (args : List (List ℕ)) → parsed_from n (codes "--" ∷ args) ≡ operands_from (suc n) args
 after_end n args = refl

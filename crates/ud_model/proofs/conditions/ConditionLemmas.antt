@@ -4,7 +4,7 @@ use Rattle.ud_model.specs.conditions.Table.{Argument, Entry}
 use Rattle.ud_model.specs.conditions.Expressions.{Expression, constant, named, is_defined, unary, binary, parens}
 use Rattle.ud_model.specs.aids.Parsing.{expression_of}
 use Rattle.ud_model.specs.conditions.Values.{apply_unary, apply_binary, name_value, name_value_by, name_has_u, end_has_u, defined_value, defined_value_by, number_of, has_unsigned, value_of}
-use Rattle.ud_model.specs.conditions.Conditions.{Rules, mentions_listed, undefined_by, calls_undefined, tree_cond, tree_cond_if, expression_cond, decision_by_test, condition_of, ifdef_decision}
+use Rattle.ud_model.specs.conditions.Conditions.{Rules, mentions_listed, undefined_by, calls_undefined, tree_cond, tree_cond_if, expression_cond, decision_by_test, condition_of}
 use Rattle.ud_model.specs.declared.kind.Kind.{Kind}
 use Rattle.ud_model.specs.declared.kind.Test.{Test}
 use Rattle.ud_model.proofs.conditions.SymbolLemmas.{SaySame, end_same}
@@ -69,9 +69,6 @@ module _ (t u : List Argument) (same : SaySame t u) where
   pub expression_cond_same : (text : List ℕ) (rules : Rules) → expression_cond text t rules ≡ expression_cond text u rules
   unfolding expression_cond
   expression_cond_same text rules = tree_cond_if_same (expression_of text) rules
-
-  ifdef_decision_same : (o : Option (List ℕ)) → ifdef_decision o t ≡ ifdef_decision o u
-  ifdef_decision_same o = grind arith
 
   decided_by_same : (p : Test) (text : List ℕ) (rules : Rules) → decision_by_test p text t rules ≡ decision_by_test p text u rules
   decided_by_same p text rules = grind (arith, expression_cond_same)

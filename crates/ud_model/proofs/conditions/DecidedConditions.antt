@@ -1,20 +1,16 @@
 -- Decided conditions: the condition of a text is that of its tree, and a decided condition has C's
 -- truth.
-use Rattle.std.proofs.Common.{◌≡◌, ◌≢◌, ℕ, List, [], Bool, true, false, if◌then◌else◌, Option, Some, None, refl, ap, ℤ, pos, arith}
-use Rattle.std.proofs.lemmas.Bool.{false≢true}
+use Rattle.std.proofs.Common.{◌≡◌, ◌≢◌, ℕ, List, [], Option, Some, None, refl, ap, pos, arith}
 use Rattle.ud_model.specs.conditions.Table.{Argument}
 use Rattle.ud_model.specs.conditions.Expressions.{Expression, IsWritten}
 use Rattle.ud_model.specs.aids.Parsing.{expression_of}
-use Rattle.ud_model.specs.conditions.Values.{is_zero}
-use Rattle.ud_model.specs.conditions.Conditions.{Rules, truth_of, tree_cond, tree_cond_if, expression_cond, negate, decision_by_test}
+use Rattle.ud_model.specs.conditions.Conditions.{Rules, tree_cond, tree_cond_if, expression_cond, negate}
 use Rattle.ud_model.specs.conditions.Names.{names_in, names_in_tree, names_of}
 use Rattle.ud_model.specs.conditions.CValues.{Number, number, IsCValue}
 use Rattle.ud_model.specs.declared.cond.Cond.{Cond}
 use Rattle.ud_model.specs.declared.cond.Cond.TheVariants.{Yes, No, Unknown}
 use Rattle.ud_model.specs.declared.kind.Kind.TheVariants.{If}
-use Rattle.ud_model.specs.declared.kind.Test.{Test}
 use Rattle.ud_model.proofs.conditions.OneExpression.{expression_only, expression_is}
-use Rattle.ud_model.proofs.conditions.KnownNumbers.{zero_decides}
 use Rattle.ud_model.proofs.conditions.KnownStays.{known_stays}
 
 -- The condition of a text is that of its tree.
@@ -44,12 +40,6 @@ names_of_none text (Some e) d h = absurd (h e (expression_is text e d))
 pub names_without_tree : (text : List ℕ) → ((e : Expression) → IsWritten text e → ⊥) → names_of If text ≡ []
 names_without_tree text h = names_of_none text (expression_of text) refl h
 
-yes_by : (b : Bool) (o : Option ℤ) → (if b then Unknown else truth_of o) ≡ Yes → (z : ℤ) × (o ≡ Some z) × (is_zero z ≡ false)
-yes_by b o e = grind arith
-
-no_by : (b : Bool) (o : Option ℤ) → (if b then Unknown else truth_of o) ≡ No → (z : ℤ) × (o ≡ Some z) × (is_zero z ≡ true)
-no_by b o e = grind arith
-
 -- A condition that is true has only C values other than 0.
 pub yes_is_true : (table : List Argument) (rules : Rules) (e : Expression) (c : Number) → tree_cond e table rules ≡ Yes → IsCValue table e c → number c ≢ pos 0
 yes_is_true table rules e c d v h = grind (arith, known_stays)
@@ -60,7 +50,3 @@ no_is_false table rules e c d v = grind (arith, known_stays)
 
 pub negated_unknown : (c : Cond) → negate c ≡ Unknown → c ≡ Unknown
 negated_unknown c e = grind arith
-
--- A condition that is unknown makes no section plain text.
-pub unknown_heeds : (p : Test) (after : List ℕ) (table : List Argument) (rules : Rules) → (decision_by_test p after table rules).cond ≡ Unknown → (decision_by_test p after table rules).ignoring ≡ false
-unknown_heeds p after table rules e = grind arith

@@ -5,7 +5,6 @@
 -- the least number is for.
 use Rattle.std.proofs.Common.{◌≡◌, ◌≢◌, ℕ, ◌^◌, ◌<◌, Bool, true, not, if◌then◌else◌, Option, Some, None, refl, sym, ◌∙◌, ap, subst, arith, ℤ, pos, ◌<ℤ◌, ◌≤ℤ◌, int_lt, int_le, int_div, Decides, T}
 use Rattle.std.specs.Int.{cast_unsigned}
-use Rattle.std.proofs.lemmas.Bool.{false≢true}
 use mir.Syntax.{w64}
 use Rattle.ud_model.specs.conditions.Values.{fits, fit, truth, is_zero, equal_numbers, apply_binary_known, apply_unary_known}
 use Rattle.ud_model.specs.conditions.CValues.{GivesUnary, Number, signed, unsigned, number, IsTruth, GivesSigned, GivesUnsigned, Gives}
@@ -88,10 +87,6 @@ pub unsigned_agrees : (o : Operator) (a b : ℕ) (n : ℤ) (c : Number) → a < 
     Agrees true n c
 unfolding apply_binary_known
 unsigned_agrees o a b n c k l e g = grind arith
-
--- A known number beside a `u` is one of uintmax_t.
-natural_of : (a : ℤ) → fits true a ≡ true → (j : ℕ) × (a ≡ pos j) × (j < 2 ^ 63)
-natural_of a f = grind arith
 
 gives_by : (u : Bool) (o : Operator) (a b n : ℤ) (c : Number) (j k : ℕ) → u ≡ true → fits u a ≡ true → fits u b ≡ true → j ≡ cast_unsigned w64 a → k ≡ cast_unsigned w64 b →
     apply_binary_known u o a b ≡ Some n → GivesUnsigned o j k c → Agrees u n c

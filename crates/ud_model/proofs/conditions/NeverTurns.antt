@@ -5,9 +5,8 @@ use Rattle.ud_model.specs.conditions.Table.{Argument, Entry, entry_in}
 use Rattle.ud_model.specs.conditions.Symbols.{defined_text, text_in, ResolvesTo, at_text, by_name, resolve}
 use Rattle.ud_model.specs.conditions.Expressions.{Expression, constant, named, is_defined, unary, binary, parens}
 use Rattle.ud_model.specs.conditions.Values.{truth, is_zero, apply_binary_known, short_circuit, short_circuits, apply_binary, apply_unary_known, apply_unary, constant_value, end_value, defined_name_value, name_value_by, name_value, defined_value_by, defined_value, number_of, has_unsigned, value_of}
-use Rattle.ud_model.specs.conditions.Conditions.{Rules, truth_of, tree_cond}
+use Rattle.ud_model.specs.conditions.Conditions.{Rules, tree_cond}
 use Rattle.ud_model.specs.output.ListedNames.{ExtendsTable}
-use Rattle.ud_model.specs.declared.cond.Cond.{Cond}
 use Rattle.ud_model.specs.declared.cond.Cond.TheVariants.{Unknown}
 use Rattle.ud_model.specs.declared.operator.Operator.{Operator}
 use Rattle.ud_model.specs.declared.operator.Operator.TheVariants.{Or, And}
@@ -179,13 +178,6 @@ module _ (t u : List Argument) (more : ExtendsTable t u) where
   -- The value of an expression stays, or is unknown.
   pub value_after : (s : Bool) (e : Expression) (z : ℤ) → value_of t s e ≡ Some z → (value_of u s e ≡ Some z) ⊎ (value_of u s e ≡ None)
   value_after s e z h = number_after s (has_unsigned t e) (has_unsigned u e) e z h
-
-  truth_after : (a b : Option ℤ) → After a b → truth_of a ≢ Unknown → (truth_of b ≡ truth_of a) ⊎ (truth_of b ≡ Unknown)
-  truth_after a b h n = grind arith
-
-  unless_known : (p q : Bool) (a b : Cond) → (a ≢ Unknown → (b ≡ a) ⊎ (b ≡ Unknown)) → (if p then Unknown else a) ≢ Unknown →
-      ((if q then Unknown else b) ≡ (if p then Unknown else a)) ⊎ ((if q then Unknown else b) ≡ Unknown)
-  unless_known p q a b h n = grind arith
 
   -- A condition stays, or is unknown.
   pub cond_after : (e : Expression) (r : Rules) → tree_cond e t r ≢ Unknown → (tree_cond e u r ≡ tree_cond e t r) ⊎ (tree_cond e u r ≡ Unknown)

@@ -3,7 +3,6 @@
 -- The tokens so far are those of the state: of the stack, and of the operand that has come.
 use Rattle.std.proofs.Common.{◌≡◌, ℕ, ◌+◌, ◌≤◌, List, [], ◌∷◌, ◌++◌, Bool, false, IsTrue, if◌then◌else◌, leb, Some, refl, sym, ◌∙◌, ap, append_assoc, append-nil, arith}
 use Rattle.std.proofs.lemmas.Option.{none-some}
-use Rattle.std.proofs.lemmas.Bool.Decides.{leb_tells}
 use Rattle.ud_model.specs.conditions.Tokens.{Token, number, name, defined, operator, opening, closing}
 use Rattle.ud_model.specs.conditions.Expressions.{Expression, unary, binary, parens, precedence, is_prefix, spelling, HasPrecedence}
 use Rattle.ud_model.specs.aids.Parsing.{Frame, left, before, paren, ParseState, needs, has, asks, asks_inside, asks_end, stuck, reduce, close, wait, step, alone, finish, parse_tokens, itself}

@@ -2,7 +2,7 @@
 use Rattle.std.proofs.Common.{◌≡◌, ℕ, List, [], ◌∷◌, Bool, true, false, if◌then◌else◌, leb, Option, option_map, refl, ◌∙◌, ap, arith}
 use Rattle.ud_model.specs.conditions.Tokens.{Token}
 use Rattle.ud_model.specs.conditions.Expressions.{Expression, precedence}
-use Rattle.ud_model.specs.aids.Parsing.{Meaning, meaning, Frame, left, before, paren, ParseState, needs, has, asks, asks_inside, asks_end, stuck, reduce, close, wait, step, alone, finish, parse_tokens, parse_all_tokens, tokens_of, reads, itself, expression_of}
+use Rattle.ud_model.specs.aids.Parsing.{Meaning, meaning, Frame, left, before, paren, ParseState, needs, has, asks, asks_inside, asks_end, stuck, reduce, wait, step, finish, parse_tokens, parse_all_tokens, tokens_of, reads, itself, expression_of}
 use Rattle.ud_model.specs.declared.operator.Operator.{Operator}
 
 module _ {A : Type 0} (m : Meaning A) where
@@ -35,18 +35,8 @@ module _ {A : Type 0} (m : Meaning A) where
   reduce_meant j e (before o ∷ s) = reduce_meant j (itself.unary o e) s
   reduce_meant _ _ _ = refl
 
-  close_meant : (r : Expression × List (Frame Expression)) → close m (pair_meant r) ≡ state_meant (close itself r)
-  close_meant r = grind arith
-
   wait_meant : (o : Operator) (r : Expression × List (Frame Expression)) → wait m o (pair_meant r) ≡ state_meant (wait itself o r)
   wait_meant o (e, s) = refl
-
-  alone_meant : (r : Expression × List (Frame Expression)) → alone m (pair_meant r) ≡ option_map (meaning m) (alone itself r)
-  alone_meant r = grind arith
-
-  prefix_meant : (b : Bool) (o : Operator) (s : List (Frame Expression)) →
-      (if b then needs (before o ∷ frames_meant s) else stuck) ≡ state_meant (if b then needs (before o ∷ s) else stuck)
-  prefix_meant b o s = grind arith
 
   infix_meant : (b : Bool) (o : Operator) (e : Expression) (s : List (Frame Expression)) →
       (if b then wait m o (reduce m (precedence o) (meaning m e) (frames_meant s)) else stuck) ≡ state_meant (if b then wait itself o (reduce itself (precedence o) e s) else stuck)

@@ -1,5 +1,5 @@
 -- Residual again: the text of a residual stays as it is.
-use Rattle.std.proofs.Common.{◌≡◌, ◌≤◌, Bool, true, false, if◌then◌else◌, List, [], ◌∷◌, length, map, Option, Some, None, refl, sym, ◌∙◌, ap, ◌⊎◌, arith}
+use Rattle.std.proofs.Common.{◌≡◌, ◌≤◌, Bool, true, false, List, [], ◌∷◌, length, map, Option, Some, None, refl, sym, ◌∙◌, ap, ◌⊎◌, arith}
 use Rattle.std.proofs.lemmas.List.{take-append-drop}
 use Rattle.ud_model.specs.text.Lexemes.{Cell, shown}
 use Rattle.ud_model.specs.conditions.Table.{Argument}
@@ -8,7 +8,7 @@ use Rattle.ud_model.specs.conditions.Expressions.{Expression, spelling}
 use Rattle.ud_model.specs.aids.Parsing.{expression_of}
 use Rattle.ud_model.specs.conditions.Conditions.{Rules}
 use Rattle.ud_model.specs.conditions.Residuals.{residual}
-use Rattle.ud_model.specs.conditions.ResidualTexts.{chosen, keeps, gap_left, left_by, left_from, simplified_cells}
+use Rattle.ud_model.specs.conditions.ResidualTexts.{chosen, keeps, left_by, left_from, simplified_cells}
 use Rattle.ud_model.proofs.conditions.KeptTokens.{SameLength, choose, kept_are}
 use Rattle.ud_model.proofs.conditions.ResidualShape.{again}
 use Rattle.ud_model.proofs.conditions.ResidualRead.{same_or_left, untouched}
@@ -36,9 +36,6 @@ all_true (false ∷ flags) (x ∷ xs) h e =
 all_true (f ∷ flags) [] h e = absurd h
 
 -- 2. A text all of whose tokens stay.
-
-gap_stays : (operand : Bool) (gap : List Cell) → gap_left (if operand then true else true) gap ≡ gap
-gap_stays operand gap = grind arith
 
 token_stays : (operand : Bool) (further : Bool → List Cell → List Cell) → ((o : Bool) (c : List Cell) → further o c ≡ c) → (cells : List Cell) (x : NextToken) →
     left_by true operand true further cells x ≡ cells

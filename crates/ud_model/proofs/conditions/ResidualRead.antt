@@ -1,38 +1,22 @@
 -- Residual read: a simplified text is read as the residual of its tree, and cells are only removed.
-use Rattle.std.proofs.Common.{◌≡◌, ℕ, zero, suc, ◌-◌, Bool, true, not, ◌&&◌, ◌||◌, if◌then◌else◌, List, [], ◌∷◌, ◌++◌, length, map, take, drop, Option, Some, None, bytes_eq, refl, sym, ◌∙◌, ap, ap₂, subst, inl, inr, ◌⊎◌, arith}
+use Rattle.std.proofs.Common.{◌≡◌, ℕ, zero, suc, ◌-◌, Bool, true, not, ◌&&◌, ◌||◌, if◌then◌else◌, List, [], ◌∷◌, ◌++◌, length, map, take, drop, Option, Some, None, refl, sym, ◌∙◌, ap, ap₂, subst, inl, inr, ◌⊎◌, arith}
 use Rattle.std.proofs.lemmas.Slice.Eq.{bytes_eq-Decides}
 use Rattle.std.proofs.lemmas.Bool.{and_parts}
 use Rattle.ud_model.specs.text.Bytes.{skip_white, are_white}
 use Rattle.ud_model.specs.text.Lexemes.{Cell, shown}
 use Rattle.ud_model.specs.conditions.Table.{Argument}
-use Rattle.ud_model.specs.conditions.Tokens.{Token, operator, NextToken, found, leading_token, next_token}
+use Rattle.ud_model.specs.conditions.Tokens.{Token, NextToken, found, next_token}
 use Rattle.ud_model.specs.conditions.Expressions.{Expression, spelling, IsWritten}
 use Rattle.ud_model.specs.aids.Parsing.{tokens_of, expression_of}
 use Rattle.ud_model.specs.conditions.Conditions.{Rules}
 use Rattle.ud_model.specs.conditions.Residuals.{residual}
-use Rattle.ud_model.specs.conditions.ResidualTexts.{cells_before, cells_after, token_left, left_by, left_from, left_cells, keeps, ends_operand, operator_bytes, same_flag, same_token, same_tokens, are_tokens, begins_word, may_go, is_read, simplified_by, simplified_cells}
+use Rattle.ud_model.specs.conditions.ResidualTexts.{cells_before, cells_after, token_left, left_by, left_from, left_cells, keeps, ends_operand, same_token, same_tokens, are_tokens, begins_word, may_go, is_read, simplified_by, simplified_cells}
 use Rattle.ud_model.specs.conditions.Sublists.{IsSublist, nothing, without, with_same}
-use Rattle.ud_model.specs.declared.operator.Operator.{Operator}
-use Rattle.ud_model.specs.declared.operator.Operator.TheVariants.{Or}
 use Rattle.ud_model.proofs.conditions.TokenLemmas.{tokens_of_are}
 use Rattle.ud_model.proofs.conditions.OneExpression.{expression_only, expression_is}
 use Rattle.ud_model.proofs.conditions.ResidualShape.{precedence_stays, all_of_it, none_of_it}
 
 -- 1. Tokens that look alike are the same.
-
-abbrev operator_in : NextToken → Operator
-operator_in (found (operator o) rest) = o
-operator_in _ = Or
-
--- An operator is read off its bytes.
-read_off : (o : Operator) → operator_in (leading_token (operator_bytes o)) ≡ o
-read_off o = grind arith
-
-flags_same : (a b : Bool) → same_flag a b ≡ true → a ≡ b
-flags_same a b e = grind arith
-
-operators_same : (o p : Operator) → bytes_eq (operator_bytes o) (operator_bytes p) ≡ true → o ≡ p
-operators_same o p e = sym (read_off o) ∙ ap (λ w. operator_in (leading_token w)) ((bytes_eq-Decides (operator_bytes o) (operator_bytes p)).0 e) ∙ read_off p
 
 tokens_alike : (t u : Token) → same_token t u ≡ true → t ≡ u
 tokens_alike t u e = grind (arith, bytes_eq-Decides)

@@ -1,7 +1,6 @@
 -- Residual shape: the residual of an expression has only undecided operands, and is its own
 -- residual.
 use Rattle.std.proofs.Common.{◌≡◌, ℕ, ◌+◌, ◌≤◌, Bool, true, false, ◌&&◌, if◌then◌else◌, List, [], ◌∷◌, ◌++◌, refl, ap, arith}
-use Rattle.std.proofs.lemmas.Bool.{and_parts}
 use Rattle.ud_model.specs.conditions.Table.{Argument}
 use Rattle.ud_model.specs.conditions.Tokens.{operator, opening, closing}
 use Rattle.ud_model.specs.conditions.Expressions.{Expression, constant, named, is_defined, unary, binary, parens, precedence, spelling, HasPrecedence}
@@ -119,9 +118,6 @@ enclosed_again : (b : Bool) (x : Residual) (res : Expression → Residual) → (
     res (if b then x else record x { tree = parens x.tree }).tree ≡ settled_down (if b then x else record x { tree = parens x.tree })
 enclosed_again b x res r p = grind arith
 
-pub unknown_is : (c : Cond) → is_unknown c ≡ true → c ≡ Unknown
-unknown_is c e = grind arith
-
 module _ (table : List Argument) (rules : Rules) where
   -- Nothing more is removed.
   pub again : (e : Expression) → residual table rules (residual table rules e).tree ≡ settled_down (residual table rules e)
@@ -149,12 +145,6 @@ module _ (table : List Argument) (rules : Rules) where
   simplified_unknown e h = unknown_by (residual table rules e) e (is_unknown (residual table rules e).cond) (is_unknown (tree_cond (residual table rules e).tree table rules)) refl refl h
 
 -- 5. Each operand that is left is undecided.
-
-both_unknown_and : (c d : Cond) → is_unit And c ≡ false → is_unit And d ≡ false → settled false And c d ≡ Unknown → (c ≡ Unknown) × (d ≡ Unknown)
-both_unknown_and c d p q e = grind arith
-
-both_unknown_or : (c d : Cond) → is_unit Or c ≡ false → is_unit Or d ≡ false → settled false Or c d ≡ Unknown → (c ≡ Unknown) × (d ≡ Unknown)
-both_unknown_or c d p q e = grind arith
 
 module _ (table : List Argument) (rules : Rules) where
   abbrev Alike : Residual → Type 0

@@ -7,8 +7,6 @@ use Rattle.ud_model.specs.aids.Parsing.{expression_of}
 use Rattle.ud_model.specs.conditions.Conditions.{Rules, tree_cond_if, expression_cond}
 use Rattle.ud_model.specs.conditions.ResidualTexts.{left_cells, keeps, may_go, is_read, simplified_by, simplified_cells}
 use Rattle.ud_model.specs.declared.cond.Cond.TheVariants.{Unknown}
-use Rattle.std.proofs.lemmas.Bool.{and_parts}
-use Rattle.ud_model.proofs.conditions.ResidualShape.{unknown_is}
 use Rattle.ud_model.proofs.conditions.ResidualRead.{written_left}
 
 module _ (table : List Argument) (rules : Rules) where

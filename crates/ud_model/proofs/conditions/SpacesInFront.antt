@@ -1,11 +1,11 @@
 -- Leading white space of a condition means nothing.
-use Rattle.std.proofs.Common.{◌≡◌, ℕ, List, [], ◌∷◌, Option, Some, None, Bool, true, ◌&&◌, if◌then◌else◌, refl, sym, ◌∙◌, ap, arith}
-use Rattle.ud_model.specs.text.Bytes.{is_white, skip_white, leading_word, skip_word, are_white, is_identifier}
+use Rattle.std.proofs.Common.{◌≡◌, ℕ, List, [], ◌∷◌, Option, Some, None, Bool, true, if◌then◌else◌, refl, sym, ◌∙◌, ap, arith}
+use Rattle.ud_model.specs.text.Bytes.{is_white, skip_white}
 use Rattle.ud_model.specs.conditions.Table.{Argument}
 use Rattle.ud_model.specs.conditions.Expressions.{Expression}
 use Rattle.ud_model.specs.conditions.Tokens.{Token, next_token, leading_token, AreTokens}
 use Rattle.ud_model.specs.aids.Parsing.{tokens_of, reads, parse_all_tokens, itself, needs, expression_of}
-use Rattle.ud_model.specs.conditions.Conditions.{Rules, sole_name, expression_cond, tree_cond_if, decision_by_test}
+use Rattle.ud_model.specs.conditions.Conditions.{Rules, expression_cond, tree_cond_if, decision_by_test}
 use Rattle.ud_model.specs.output.CSelection.{condition_by_test}
 use Rattle.ud_model.specs.declared.kind.Test.{Test}
 use Rattle.ud_model.proofs.conditions.TokenLemmas.{tokens_of_only, tokens_of_are}
@@ -42,10 +42,6 @@ expression_past b t e = ap (λ (ts : Option (List Token)). parse_all_tokens itse
 cond_past : (b : ℕ) (t : List ℕ) (table : List Argument) (rules : Rules) → is_white b ≡ true → expression_cond (b ∷ t) table rules ≡ expression_cond t table rules
 unfolding expression_cond
 cond_past b t table rules e = ap (λ (o : Option Expression). tree_cond_if o table rules) (expression_past b t e)
-
--- The sole name of a text is the one with leading white space.
-name_past : (b : ℕ) (t : List ℕ) → is_white b ≡ true → sole_name (b ∷ t) ≡ sole_name t
-name_past b t e = ap (λ (w : List ℕ). if is_identifier (leading_word w) && are_white (skip_word w) then Some (leading_word w) else None) (past_one b t e)
 
 -- The expression that a condition is is the same with leading white space.
 pub condition_past : (p : Test) (b : ℕ) (t : List ℕ) → is_white b ≡ true → condition_by_test p (b ∷ t) ≡ condition_by_test p t

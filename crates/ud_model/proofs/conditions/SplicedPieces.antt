@@ -3,10 +3,10 @@ use Rattle.std.proofs.Common.{◌≡◌, ℕ, zero, suc, List, [], ◌∷◌, �
 use Rattle.ud_model.specs.text.Bytes.{skip_white, are_white}
 use Rattle.ud_model.specs.text.Lexemes.{Cell, shown}
 use Rattle.ud_model.specs.conditions.Tokens.{NextToken, found, next_token}
-use Rattle.ud_model.specs.conditions.ResidualTexts.{gap_left, token_left, left_by, left_from, ends_operand}
+use Rattle.ud_model.specs.conditions.ResidualTexts.{token_left, left_by, left_from, ends_operand}
 use Rattle.ud_model.specs.conditions.Sublists.{IsSublist, nothing, without, with_same}
 use Rattle.ud_model.proofs.conditions.ResidualShape.{all_of_it, none_of_it, of_both}
-use Rattle.ud_model.specs.conditions.SplicedTexts.{Piece, cell, splice, cells_among, bytes_among, gap_of, after_gap, token_of, after_token, size_before, white_left, pieces_left, pieces_by, pieces_from}
+use Rattle.ud_model.specs.conditions.SplicedTexts.{Piece, cell, splice, cells_among, bytes_among, gap_of, after_gap, token_of, after_token, size_before, pieces_left, pieces_by, pieces_from}
 
 pub both : (ps qs : List Piece) → cells_among (ps ++ qs) ≡ cells_among ps ++ cells_among qs
 both [] qs = refl
@@ -34,12 +34,6 @@ pub token_rest : (n : ℕ) (ps : List Piece) → cells_among (after_token n ps) 
 token_rest (suc n) (splice b ∷ ps) = token_rest (suc n) ps
 token_rest (suc n) (cell c ∷ ps) = token_rest n ps
 token_rest _ _ = refl
-
-if_cells : (b : Bool) (ps : List Piece) (cs : List Cell) → cells_among ps ≡ cs → cells_among (if b then ps else []) ≡ (if b then cs else [])
-if_cells b ps cs e = grind arith
-
-white_cells : (stays : Bool) (ps : List Piece) (cs : List Cell) → cells_among ps ≡ cs → cells_among (white_left stays ps) ≡ gap_left stays cs
-white_cells stays ps cs e = grind arith
 
 token_both : (f : Bool) (further : Bool → List Piece → List Piece) (more : Bool → List Cell → List Cell) (rest : List ℕ) (o : Bool) (ps : List Piece) (cs : List Cell) →
     cells_among ps ≡ cs → ((b : Bool) (qs : List Piece) → cells_among (further b qs) ≡ more b (cells_among qs)) → cells_among (pieces_left f further rest o ps) ≡ token_left f more rest o cs

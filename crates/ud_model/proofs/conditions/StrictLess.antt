@@ -1,10 +1,9 @@
 -- Strict: a value that is known under `-K` is known without it, and is the same.
-use Rattle.std.proofs.Common.{◌≡◌, ◌≢◌, List, Bool, true, false, Option, Some, if◌then◌else◌, ℤ, arith}
+use Rattle.std.proofs.Common.{◌≡◌, ◌≢◌, List, Bool, true, false, Option, Some, ℤ, arith}
 use Rattle.ud_model.specs.conditions.Table.{Argument}
 use Rattle.ud_model.specs.conditions.Expressions.{Expression, unary, binary, parens}
 use Rattle.ud_model.specs.conditions.Values.{apply_unary, apply_binary, number_of, has_unsigned, value_of}
-use Rattle.ud_model.specs.conditions.Conditions.{truth_of, tree_cond}
-use Rattle.ud_model.specs.declared.cond.Cond.{Cond}
+use Rattle.ud_model.specs.conditions.Conditions.{tree_cond}
 use Rattle.ud_model.specs.declared.cond.Cond.TheVariants.{Unknown}
 use Rattle.ud_model.specs.declared.operator.Operator.{Operator}
 
@@ -29,12 +28,6 @@ module _ (table : List Argument) where
   -- The value of an expression stays known.
   pub value_keeps : (e : Expression) → Keeps (value_of table true e) (value_of table false e)
   value_keeps e = number_keeps (has_unsigned table e) e
-
-  truth_keeps : (a b : Option ℤ) → Keeps a b → truth_of a ≢ Unknown → truth_of b ≡ truth_of a
-  truth_keeps a b h n = grind arith
-
-  unless_keeps : (c : Bool) (a b : Cond) → ((a ≢ Unknown) → b ≡ a) → ((if c then Unknown else a) ≢ Unknown) → (if c then Unknown else b) ≡ (if c then Unknown else a)
-  unless_keeps c a b h n = grind arith
 
   -- A decided condition stays decided alike.
   pub cond_keeps : (e : Expression) (k : Bool) → tree_cond e table (record { constants = k; strict = true }) ≢ Unknown →

@@ -105,10 +105,6 @@ without_fewer : (n : List ℕ) (t : List Argument) (e : Option Entry) (x : Entry
 without_fewer n [] e x h = inl h
 without_fewer n (a ∷ t) e x h = fewer_by n a t e x (without_most n t) (λ f. without_fewer n t f x) (bytes_eq a.name n) h
 
--- A name with a text is listed.
-listed_by : (o : Option Entry) (w : List ℕ) → text_in o ≡ Some w → (x : Entry) × (o ≡ Some x)
-listed_by o w e = grind arith
-
 fewer : (n w : List ℕ) (t : List Argument) → defined_text t n ≡ Some w → length (without n t) < length t
 fewer n w t d = grind (arith, without_fewer)
 
@@ -122,9 +118,6 @@ follows n t m w d = follows_by n t m w (bytes_eq n m) refl d
 -- A path of so many steps that ends avoids a name, or its rest begins there.
 abbrev pub Splits : ℕ → List Argument → List ℕ → List ℕ → List ℕ → Type 0
 Splits k t n w v = (resolve_within k (without n t) w ≡ Some v) ⊎ ((j : ℕ) × (j ≤ k) × (resolve_within j t n ≡ Some v))
-
-split_on : (k : ℕ) (t : List Argument) (n w v x : List ℕ) → defined_text (without n t) w ≡ Some x → is_identifier x ≡ true → Splits k t n x v → Splits (suc k) t n w v
-split_on k t n w v x d i h = grind arith
 
 split_other : (k : ℕ) (t : List Argument) (n w v : List ℕ) → bytes_eq n w ≡ false → Goes t k w v → ((x : List ℕ) → resolve_within k t x ≡ Some v → Splits k t n x v) → Splits (suc k) t n w v
 split_other k t n w v q g further = grind (arith, without_other)

@@ -1,20 +1,19 @@
 -- A decided condition has the truth that C gives it.
-use Rattle.std.proofs.Common.{◌≡◌, ◌≢◌, ℕ, List, Bool, true, false, Option, Some, None, is_some, option_map, if◌then◌else◌, ap, pos, arith}
+use Rattle.std.proofs.Common.{◌≡◌, ℕ, List, Bool, true, false, Option, Some, None, is_some, option_map, ap, arith}
 use Rattle.ud_model.specs.text.Scans.{Reading}
 use Rattle.ud_model.specs.sections.Directives.{Content, content_of, test_of}
 use Rattle.ud_model.specs.conditions.Table.{Argument, Entry, entry_in}
 use Rattle.ud_model.specs.conditions.Expressions.{Expression, is_defined, unary}
 use Rattle.ud_model.specs.aids.Parsing.{expression_of}
 use Rattle.ud_model.specs.conditions.Values.{truth, is_zero, apply_unary_known, apply_unary, defined_value, defined_value_by, value_of}
-use Rattle.ud_model.specs.conditions.Conditions.{Decision, Rules, undecided, ifdef_by, ifdef_decision, negate, tree_cond, tree_cond_if, expression_cond, decision_by_test, condition_of}
+use Rattle.ud_model.specs.conditions.Conditions.{Rules, ifdef_by, ifdef_decision, negate, tree_cond, tree_cond_if, expression_cond, decision_by_test, condition_of}
 use Rattle.ud_model.specs.conditions.CValues.{Number, number}
 use Rattle.ud_model.specs.output.CSelection.{condition_by_test, condition_after, condition_by, condition_in, HasTruth, MayBe}
 use Rattle.ud_model.specs.sections.Tree.{Item, if_line, elif_line}
-use Rattle.ud_model.specs.sections.Items.{Options, directive_item, item_by, item_of}
+use Rattle.ud_model.specs.sections.Items.{Options, item_by, item_of}
 use Rattle.ud_model.specs.declared.cond.Cond.{Cond}
 use Rattle.ud_model.specs.declared.cond.Cond.TheVariants.{Yes, No, Unknown}
 use Rattle.ud_model.specs.declared.kind.Kind.{Kind}
-use Rattle.ud_model.specs.declared.kind.Role.{Role}
 use Rattle.ud_model.specs.declared.kind.Test.{Test}
 use Rattle.ud_model.specs.declared.operator.Operator.TheVariants.{Not}
 use Rattle.ud_model.proofs.conditions.DecidedConditions.{yes_is_true, no_is_false}
@@ -25,12 +24,6 @@ abbrev pub Fits : Cond → Bool → Type 0
 Fits Yes b = b ≡ true
 Fits No b = b ≡ false
 Fits Unknown b = Unit {0}
-
-true_by : (b : Bool) (c : Number) → HasTruth b c → number c ≢ pos 0 → b ≡ true
-true_by b c h n = grind arith
-
-false_by : (b : Bool) (c : Number) → HasTruth b c → number c ≡ pos 0 → b ≡ false
-false_by b c h e = grind arith
 
 module _ (table : List Argument) where
   tree_fits : (rules : Rules) (e : Expression) (b : Bool) → MayBe table (Some e) b → (c : Cond) → tree_cond e table rules ≡ c → Fits c b
@@ -85,18 +78,11 @@ module _ (table : List Argument) where
   condition_fits : (rules : Rules) (k : Kind) (after : List ℕ) (b : Bool) → MayBe table (condition_after k after) b → Fits (condition_of k after table rules).cond b
   condition_fits rules k after b h = test_fits rules (test_of k) after b h
 
--- The case of a directive that a continuation doesn't cut.
-unless_broken : (broken b : Bool) (d : Decision) (i : Bool) → Fits d.cond b → Fits (if broken then undecided else record d { ignoring = i }).cond b
-unless_broken broken b d i h = grind arith
-
 -- The opener of an item is decided so.
 abbrev pub ItemFits : Item Reading → Bool → Type 0
 ItemFits (if_line p) b = Fits p.cond b
 ItemFits (elif_line p) b = Fits p.cond b
 ItemFits _ _ = Unit {0}
-
-directive_fits : (r : Reading) (p : Role) (d : Decision) (b : Bool) → Fits d.cond b → ItemFits (directive_item r p d) b
-directive_fits r p d b h = grind arith
 
 content_fits : (o : Options) (r : Reading) (c : Content) (b : Bool) → r.scan.joins_after ≡ false → MayBe o.table (condition_by r.scan c) b → ItemFits (item_by o r c) b
 content_fits o r c b j h = grind (arith, condition_fits)

@@ -3,7 +3,7 @@
 use Rattle.std.proofs.Common.{◌≡◌, ℕ, suc, ◌+◌, ◌≤◌, List, [], ◌∷◌, ◌++◌, length, Bool, true, false, not, ◌&&◌, if◌then◌else◌, refl, arith, length-append, length-take, length-drop}
 use Rattle.ud_model.specs.text.Lines.{Line, text_of}
 use Rattle.ud_model.specs.sections.Directives.{Span}
-use Rattle.ud_model.specs.sections.Pruning.{Part, an_if, an_elif, an_else, is_removed, any_true, gives_way, ends_with_first_true, endif_verdict, later_verdict}
+use Rattle.ud_model.specs.sections.Pruning.{Part, an_if, an_elif, an_else, is_removed, any_true, gives_way, ends_with_first_true, endif_verdict}
 use Rattle.ud_model.specs.aids.SoFar.{verdict_so_far}
 use Rattle.ud_model.specs.answer.Printing.{Judged, opener_keyword, piece_alone, complemented}
 use Rattle.ud_model.specs.declared.cond.Cond.{Cond}
@@ -28,10 +28,6 @@ ends_behind (Yes ∷ []) c e = (refl, refl)
 ends_behind (Yes ∷ d ∷ cs) c e = (refl, refl)
 ends_behind (No ∷ cs) c e = ends_behind cs c e
 ends_behind (Unknown ∷ cs) c e = ends_behind cs c e
-
-unknown_moves : (part : Part) (c : Cond) (some ends now_some now_ends : Bool) → (some ≡ true → (now_some ≡ true) × (now_ends ≡ false)) →
-    Moves (some && not ends) (if not some then later_verdict part c else if ends then ToEndif else Remove) (now_some && not now_ends)
-unknown_moves part c some ends now_some now_ends h = grind arith
 
 -- Each opener does so.
 pub opener_moves : (cs : List Cond) (part : Part) (c : Cond) → Moves (is_past cs) (verdict_so_far cs part c) (is_past (cs ++ c ∷ []))

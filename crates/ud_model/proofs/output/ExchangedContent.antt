@@ -1,10 +1,10 @@
 -- The content of a masked line that was made from one with a directive.
-use Rattle.std.proofs.Common.{◌≡◌, ℕ, ◌-◌, ◌==◌, List, [], ◌∷◌, ◌++◌, length, take, Bool, true, false, ◌&&◌, Some, if◌then◌else◌, refl, sym, ◌∙◌, ap, ap₂, append_assoc, arith, length-append, ◌⊎◌, inl, inr}
+use Rattle.std.proofs.Common.{◌≡◌, ℕ, ◌-◌, ◌==◌, List, [], ◌∷◌, ◌++◌, length, take, Bool, true, false, Some, if◌then◌else◌, refl, sym, ◌∙◌, ap, ap₂, append_assoc, arith, length-append, ◌⊎◌, inl, inr}
 use Rattle.std.proofs.Math.Bool.{and-false}
 use Rattle.std.proofs.lemmas.List.{take_at}
 use Rattle.ud_model.specs.text.Bytes.{skip_white, leading_word, skip_word}
 use Rattle.ud_model.specs.text.Scans.{Scan}
-use Rattle.ud_model.specs.sections.Directives.{Directive, directive, content_of, skip_white_and_hash, has_split_keyword, may_split_keyword, kind_of, role_of, test_of, is_continued_outside_comment}
+use Rattle.ud_model.specs.sections.Directives.{Directive, directive, content_of, skip_white_and_hash, may_split_keyword, kind_of, role_of, test_of, is_continued_outside_comment}
 use Rattle.ud_model.specs.answer.Printing.{by_length, opener_keyword}
 use Rattle.ud_model.specs.declared.kind.Kind.{Kind}
 use Rattle.ud_model.specs.declared.kind.Kind.TheVariants.{If, Ifdef, Ifndef}
@@ -26,9 +26,6 @@ past_all (b ∷ ws) t h d = ap (λ (w : Bool). if w then skip_white (ws ++ t) el
 abbrev pub Settled : Scan → List ℕ → Type 0
 Settled now tail = (now.joins_after ≡ false) ⊎ (may_split_keyword now tail ≡ false)
 
-uncut : (f j c l : Bool) → (j ≡ false) ⊎ (l ≡ false) → (f && j && c && l) ≡ false
-uncut f j c l h = grind arith
-
 module _ (now : Scan) (ws gs tail : List ℕ) (k : Kind) (w : Each IsWhite ws) (g : Each IsWhite gs) (d : StartsDark tail) (m : now.masked ≡ (ws ++ 35 ∷ gs) ++ tail)
     (f : now.fresh ≡ true) (s : Settled now tail) (kind : kind_of (leading_word tail) ≡ Some k) where
   sign_is : skip_white_and_hash now.masked ≡ Some (gs ++ tail)
@@ -36,9 +33,6 @@ module _ (now : Scan) (ws gs tail : List ℕ) (k : Kind) (w : Each IsWhite ws) (
 
   tail_is : skip_white (gs ++ tail) ≡ tail
   tail_is = past_all gs tail g d
-
-  not_cut : has_split_keyword now (skip_white_and_hash now.masked) ≡ false
-  not_cut = grind (arith, sign_is, tail_is)
 
   at_is : length now.masked - length tail ≡ length (ws ++ 35 ∷ gs)
   at_is = grind (arith, length-append)

@@ -1,18 +1,16 @@
 -- If no argument makes sections plain text, no section is ignoring, and every line is read in one
 -- mode.
-use Rattle.std.proofs.Common.{◌≡◌, ℕ, List, [], ◌∷◌, ◌++◌, Bool, false, not, ◌&&◌, ◌||◌, Option, Some, None, bytes_eq, if◌then◌else◌, refl, sym, ◌∙◌, ap, ap₂, subst, arith}
-use Rattle.std.proofs.Math.Bool.{and-false, or-false}
+use Rattle.std.proofs.Common.{◌≡◌, ℕ, List, [], ◌∷◌, ◌++◌, Bool, false, ◌||◌, Option, Some, None, bytes_eq, if◌then◌else◌, refl, sym, ◌∙◌, ap, ap₂, subst, arith}
 use Rattle.ud_model.specs.text.Lines.{Line}
 use Rattle.ud_model.specs.text.Scans.{Reading}
 use Rattle.ud_model.specs.sections.Directives.{Content, content_of}
 use Rattle.ud_model.specs.conditions.Table.{Argument, Entry, entry_from}
-use Rattle.ud_model.specs.conditions.Conditions.{Decision, Rules, decision_by_test, condition_of, ifdef_by, ifdef_decision, undecided}
+use Rattle.ud_model.specs.conditions.Conditions.{Rules, decision_by_test, condition_of, ifdef_decision}
 use Rattle.ud_model.specs.sections.Tree.{Item, Elifs, Head, Tree, if_line, elif_line, else_line, nothing, first, elif, if_head, elif_head, else_head, closed, open_section, lines, lines_of_nodes, lines_of_elifs, lines_of_head, is_ignoring, opener_of_elifs, opener_of_head}
-use Rattle.ud_model.specs.sections.Items.{Options, item_of, item_by, directive_item, mode_by, mode_after, read_after, next_item}
+use Rattle.ud_model.specs.sections.Items.{Options, item_of, item_by, mode_by, mode_after, read_after, next_item}
 use Rattle.ud_model.specs.sections.Faults.{AreFaultless, no_lines, one_more}
 use Rattle.ud_model.specs.output.Rereading.{NoneIgnores, AreRead, no_items, one_item}
 use Rattle.ud_model.specs.declared.kind.Kind.{Kind}
-use Rattle.ud_model.specs.declared.kind.Role.{Role}
 use Rattle.ud_model.specs.declared.kind.Test.{Test}
 use Rattle.ud_model.specs.declared.kind.Mode.{Mode}
 use Rattle.ud_model.proofs.output.Each.{Each, each_parts, each_both}
@@ -46,9 +44,6 @@ calm_from earlier [] name c n = c
 calm_from earlier (a ∷ table) name c n =
     calm_from (if bytes_eq a.name name then Some a.entry else earlier) table name (calm_if (bytes_eq a.name name) a.entry earlier n.0 c) n.1
 
-calm_by : (e : Option Entry) → Calm e → (ifdef_by e).ignoring ≡ false
-calm_by e c = grind arith
-
 calm_ifdef : (name : Option (List ℕ)) (table : List Argument) → NoneIgnores table → (ifdef_decision name table).ignoring ≡ false
 calm_ifdef name table n = grind (arith, calm_from)
 
@@ -57,12 +52,6 @@ calm_test p after table rules n = grind (arith, calm_ifdef)
 
 calm_condition : (k : Kind) (after : List ℕ) (table : List Argument) (rules : Rules) → NoneIgnores table → (condition_of k after table rules).ignoring ≡ false
 calm_condition k after table rules n = grind (arith, calm_test)
-
-calm_unless : (b : Bool) (d : Decision) (j : Bool) → d.ignoring ≡ false → (if b then undecided else record d { ignoring = d.ignoring && not j }).ignoring ≡ false
-calm_unless b d j h = grind arith
-
-calm_item : (r : Reading) (p : Role) (d : Decision) → d.ignoring ≡ false → Heeds (directive_item r p d)
-calm_item r p d h = grind arith
 
 by_content : (o : Options) (r : Reading) (c : Content) → NoneIgnores o.table → Heeds (item_by o r c)
 by_content o r c n = grind (arith, calm_condition)

@@ -16,7 +16,7 @@ use Rattle.ud_model.specs.sections.Faults.{keeps_rest, is_obfuscated_after}
 use Rattle.ud_model.proofs.sections.Growth.{Adds, adds_text, adds_if, elif_after_if, elif_after_elif, else_after_if, else_after_elif, adds_endif, adds_under, complete}
 use Rattle.ud_model.proofs.sections.Stays.{groups_so_far-complete}
 use Rattle.ud_model.proofs.output.Suited.{Suits, suits_marked, suits_if, suits_elif, suits_else, suits_endif}
-use Rattle.ud_model.proofs.sections.Stages.{Stage, verdict_at, kept_at, verdict_by_stage, kept_by_stage}
+use Rattle.ud_model.proofs.sections.Stages.{verdict_by_stage, kept_by_stage}
 
 module _ {L : Type 0} where
   -- The end of a text is kept, by whether its beginning is.
@@ -38,9 +38,6 @@ pub data Does {L : Type 0} : Item L → Bool → Mark → Bool → Type 0 where
   does_else : (l : L) (kept was : Bool) (v : Verdict) (inside : Bool) → (IsTrue (keeps_rest v) → inside ≡ true) →
       Does (else_line l) (kept && was) (marked kept v) (kept && inside)
   does_endif : (l : L) (kept was : Bool) (v : Verdict) → Does (endif_line l) (kept && was) (marked kept v) kept
-
-stage_keeps : (s : Stage) (part : Part) (c : Cond) → IsTrue (keeps_rest (verdict_at s part c)) → kept_at s c ≡ true
-stage_keeps s part c h = grind arith
 
 -- The group of an opener that stays as an opener is kept.
 keeps_inside : (cs : List Cond) (part : Part) (c : Cond) → IsTrue (keeps_rest (verdict_so_far cs part c)) → is_kept cs c ≡ true

@@ -121,9 +121,6 @@ module _ (w : LexState) (before more prefix rest : List ℕ) (place : place_afte
   dark_word [] h = refl
   dark_word (c ∷ word) h = ap₂ (λ (v : LexState) (b : Bool). white_after v b word) (next_inert c h.0) (dark_inert c h.0) ∙ dark_word word h.1
 
-  dark_first : (c : ℕ) (white : Bool) → IsInert c → is_white c ≡ false → stays_white in_text white c ≡ false
-  dark_first c white i d = grind arith
-
   -- After another word, the line is white or not as before.
   pub white_other : (white : Bool) (c : ℕ) (word : List ℕ) → Each IsInert (c ∷ word) → is_white c ≡ false →
       white_after w white (before ++ ((c ∷ word) ++ more)) ≡ white_after in_text false more

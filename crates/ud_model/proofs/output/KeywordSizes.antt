@@ -5,9 +5,8 @@ use Rattle.std.proofs.Math.Dec.{leb}
 use Rattle.ud_model.specs.text.Bytes.{leading_word}
 use Rattle.ud_model.specs.text.Scans.{Scan, Reading}
 use Rattle.ud_model.specs.sections.Directives.{Content, cut_keyword, directive, text, content_of, skip_white_and_hash, has_split_keyword, content_after_hash, directive_at, kind_of, role_of}
-use Rattle.ud_model.specs.conditions.Conditions.{Decision}
 use Rattle.ud_model.specs.sections.Tree.{Item, elif_line, else_line, endif_line}
-use Rattle.ud_model.specs.sections.Items.{Options, directive_item, item_by, item_of}
+use Rattle.ud_model.specs.sections.Items.{Options, item_by, item_of}
 use Rattle.ud_model.specs.answer.Printing.{keyword_in}
 use Rattle.ud_model.proofs.sections.KeywordLies.{keyword_lies}
 use Rattle.ud_model.proofs.sections.Keywords.{each_keyword}
@@ -57,9 +56,6 @@ HasKeyword (elif_line o) = HasWord o.line (least ElifGroup)
 HasKeyword (else_line r) = HasWord r (least ElseGroup)
 HasKeyword (endif_line r) = HasWord r (least EndifLine)
 HasKeyword _ = Unit {0}
-
-item_keyword : (r : Reading) (p : Role) (d : Decision) → HasWord r (least p) → HasKeyword (directive_item r p d)
-item_keyword r p d h = grind arith
 
 by_content : (o : Options) (r : Reading) (c : Content) → content_of r.scan ≡ c → HasSize c → length r.scan.masked ≤ length r.line.body → HasKeyword (item_by o r c)
 by_content o r c e s h = grind (arith, keyword_lies)

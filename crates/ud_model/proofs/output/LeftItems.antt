@@ -1,5 +1,5 @@
 -- The output for a line, read again, is the item of the output for it.
-use Rattle.std.proofs.Common.{◌≡◌, ℕ, List, [], ◌∷◌, map, Bool, false, not, ◌&&◌, Option, None, if◌then◌else◌, ◌⊎◌, refl, sym, ◌∙◌, ap, ap₂, arith}
+use Rattle.std.proofs.Common.{◌≡◌, ℕ, List, [], ◌∷◌, map, Bool, Option, None, if◌then◌else◌, ◌⊎◌, refl, sym, ◌∙◌, ap, ap₂, arith}
 use Rattle.ud_model.specs.text.Scans.{Scan, Reading}
 use Rattle.ud_model.specs.sections.Directives.{Content, Directive, directive, content_of, role_of, test_of}
 use Rattle.ud_model.specs.conditions.Table.{Argument}
@@ -19,7 +19,6 @@ use Rattle.ud_model.specs.declared.kind.Test.{Test}
 use Rattle.ud_model.specs.declared.verdict.Verdict.{Verdict}
 use Rattle.ud_model.specs.declared.verdict.Verdict.TheVariants.{ToIf, ToElse, ToEndif}
 use Rattle.ud_model.proofs.output.Suited.{Suits}
-use Rattle.ud_model.proofs.conditions.DecidedConditions.{unknown_heeds}
 use Rattle.ud_model.proofs.conditions.SpacesInFront.{condition_past, decided_past}
 use Rattle.ud_model.proofs.output.ExchangedContent.{spaced}
 use Rattle.ud_model.proofs.output.SeenLines.{Seen, scanned, left_seen}
@@ -27,13 +26,6 @@ use Rattle.ud_model.proofs.output.SeenLines.{Seen, scanned, left_seen}
 -- The second item is the output for the first one with this verdict.
 abbrev pub IsLeftOf : Verdict → Item Reading → Item Reading → Type 0
 IsLeftOf v x y = item_with scanned y ∷ [] ≡ map (item_with left_seen) (kept_line v x)
-
--- The decision on a directive without a continuation, whether it begins a section or not.
-abbrev decided_so : Bool → Decision → Bool → Decision
-decided_so begins c joins = record c { ignoring = (begins && c.ignoring) && not joins }
-
-unknown_alike : (a b i j : Bool) (c : Decision) → c.ignoring ≡ false → decided_so a c i ≡ decided_so b c j
-unknown_alike a b i j c e = grind arith
 
 -- If a condition is unknown, it is so with a keyword by which it is tested alike. The section is
 -- plain text under neither keyword.

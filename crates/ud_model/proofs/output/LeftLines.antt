@@ -47,9 +47,6 @@ spliced_body l s =
     (ends_is Decides-eqb l.body (backslash ∷ []) (ends_with nat_eq l.body (backslash ∷ [])) refl).0 (and_parts (ends_with nat_eq l.body (backslash ∷ [])) (not (is_empty l.ending)) s).0
     ∙ sym (ap (λ (t : Bool). (if t then take (length l.body - 1) l.body else l.body) ++ backslash ∷ []) s)
 
-whole_body : (l : Line) → is_spliced l ≡ false → content l ≡ l.body
-whole_body l s = ap (λ (t : Bool). if t then take (length l.body - 1) l.body else l.body) s
-
 -- A line with the same splice and ending stays open as before.
 pub same_open : (l k : Line) → is_spliced k ≡ is_spliced l → k.ending ≡ l.ending → stays_open k ≡ stays_open l
 same_open l k s e = ap₂ (λ (t : Bool) (x : List ℕ). t || is_empty x) s e

@@ -13,7 +13,7 @@ use Rattle.ud_model.specs.declared.verdict.Verdict.TheVariants.{Keep, Remove, To
 use Rattle.ud_model.proofs.output.Formed.{IsLeft}
 use Rattle.ud_model.proofs.output.LeftItems.{becomes_if, becomes_else, becomes_endif}
 use Rattle.ud_model.proofs.output.LeftLines.{LeftLine, kept_body, else_body, endif_body}
-use Rattle.ud_model.proofs.output.LeftReadings.{Left, left_kept, left_if, left_else, left_endif}
+use Rattle.ud_model.proofs.output.LeftReadings.{Left, left_if, left_else, left_endif}
 use Rattle.ud_model.proofs.output.LeftScans.{plain_if, plain_cut}
 use Rattle.ud_model.proofs.output.Suited.{Suits}
 

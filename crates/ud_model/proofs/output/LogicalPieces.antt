@@ -144,12 +144,6 @@ fewer_spliced (with_same {y = splice b} p) h = (h.0, fewer_spliced p h.1)
 -- 3. What is left.
 
 module _ (table : List Argument) (rules : Rules) where
-  if_both : (b : Bool) (ps qs : List Piece) (cs ds : List Cell) → cells_among ps ≡ cs → cells_among qs ≡ ds → cells_among (if b then ps else qs) ≡ (if b then cs else ds)
-  if_both b ps qs cs ds e f = grind arith
-
-  if_sub : (b : Bool) (xs ps : List Piece) → IsSublist xs ps → IsSublist (if b then xs else ps) ps
-  if_sub b xs ps p = grind (arith, all_of_it)
-
   left_cells_are : (ps : List Piece) → cells_among (simplified_pieces table rules ps) ≡ simplified_cells table rules (cells_among ps)
   unfolding simplified_cells
   left_cells_are ps = grind (arith, cells_from)

@@ -1,6 +1,6 @@
 -- Lone lines: a blank line and a `#line`, inserted between logical lines, are scanned by
 -- themselves, and end between lines.
-use Rattle.std.proofs.Common.{◌≡◌, ◌≢◌, ℕ, ◌+◌, ◌-◌, ◌^◌, ◌%◌, ◌<◌, List, [], ◌∷◌, ◌++◌, length, take, map, Bool, true, false, not, ◌&&◌, ◌||◌, ◌==◌, nat_eq, if◌then◌else◌, inl, inr, codes, decimal, refl, sym, ◌∙◌, ap, ap₂, subst, append_assoc, append-nil, length-append, arith}
+use Rattle.std.proofs.Common.{◌≡◌, ◌≢◌, ℕ, ◌+◌, ◌-◌, ◌^◌, ◌%◌, ◌<◌, List, [], ◌∷◌, ◌++◌, length, take, map, Bool, true, false, not, ◌&&◌, ◌==◌, nat_eq, if◌then◌else◌, inl, inr, codes, decimal, refl, sym, ◌∙◌, ap, ap₂, subst, append_assoc, append-nil, length-append, arith}
 use Rattle.std.specs.List.{ends_with}
 use Rattle.std.proofs.lemmas.Bool.Decides.{Decides-eqb}
 use Rattle.std.proofs.lemmas.Slice.Eq.{ends_is}
@@ -18,7 +18,7 @@ use Rattle.ud_model.specs.answer.Printing.{number_line, ending_or_newline}
 use Rattle.ud_model.specs.declared.kind.Mode.{Mode}
 use Rattle.ud_model.specs.declared.kind.Mode.TheVariants.{C, Plain}
 use Rattle.ud_model.proofs.output.Each.{Each, each_both}
-use Rattle.ud_model.proofs.output.Formed.{IsEnd, EndsIn, ending_both, ending_feed, end_some}
+use Rattle.ud_model.proofs.output.Formed.{IsEnd, EndsIn, ending_both, ending_feed}
 use Rattle.ud_model.proofs.output.LeavesOff.{LeavesOff}
 use Rattle.ud_model.proofs.text.LinesLemmas.{no_newline-append}
 use Rattle.ud_model.proofs.text.ScanLaws.{place_after, masked_after, scan_from, scan_after_run-from}
@@ -110,9 +110,6 @@ spliced_not l q = go (ends_with nat_eq l.body (backslash ∷ [])) refl
 module _ (l : Line) (q : IsQuiet l) where
   all_content : content l ≡ l.body
   all_content = ap (λ (s : Bool). if s then take (length l.body - 1) l.body else l.body) (spliced_not l q)
-
-  closed : stays_open l ≡ false
-  closed = ap₂ (λ (a b : Bool). a || b) (spliced_not l q) (end_some l.ending q.end)
 
   lands : state_after_line (stays_open l) (place_after in_text (content l)) ≡ in_text
   lands = grind (arith, all_content, place_quiet)

@@ -43,9 +43,6 @@ module _ {L : Type 0} where
     pub represents : stage cs ≡ stage_of left
     pub are : xs ≡ left_lines left
 
-  two_nils : (xs : List (Item (Edited L))) → (xs ++ []) ++ [] ≡ xs
-  two_nils xs = append-nil (xs ++ []) ∙ append-nil xs
-
   if_lines : (b : Bool) → Nodes (Edited L) → List (Item (Edited L))
   if_lines true ps = lines_of_nodes ps
   if_lines false ps = []

@@ -4,7 +4,7 @@ use Rattle.ud_model.specs.declared.cond.Cond.{Cond}
 use Rattle.ud_model.specs.declared.verdict.Verdict.{Verdict}
 use Rattle.ud_model.specs.declared.verdict.Verdict.TheVariants.{Keep, ToIf}
 use Rattle.ud_model.specs.sections.Tree.{Opener, Nodes, Groups, Elifs, nothing, text, section, conditional, otherwise, first, elif}
-use Rattle.ud_model.specs.sections.Pruning.{Part, an_if, an_elif, first_kept_verdict}
+use Rattle.ud_model.specs.sections.Pruning.{Part, an_if, an_elif}
 use Rattle.ud_model.specs.output.Worlds.{openers, openers_of_groups, openers_of_elifs}
 use Rattle.ud_model.specs.output.Pruned.{Edited, then_nodes}
 use Rattle.ud_model.proofs.output.Folded.{KeptGroups, none_kept, replaced, kept_groups, ended, with_group, with_else, then_kept, folded, kept_groups_of, kept_elifs_of}
@@ -15,9 +15,6 @@ abbrev pub KeepsCondition : Verdict → Type 0
 KeepsCondition Keep = Unit {0}
 KeepsCondition ToIf = Unit {0}
 KeepsCondition _ = ⊥
-
-first_keeps : (part : Part) → KeepsCondition (first_kept_verdict part)
-first_keeps part = grind arith
 
 module _ {L : Type 0} where
   abbrev pub Keeps : Edited L → Type 0

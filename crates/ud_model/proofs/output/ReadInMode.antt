@@ -6,7 +6,6 @@ use Rattle.ud_model.specs.sections.Items.{Options, reading_of, mode_by}
 use Rattle.ud_model.specs.output.Rereading.{IsPlain, IsTreeOf}
 use Rattle.ud_model.specs.output.InsertedLines.{read_as}
 use Rattle.ud_model.specs.declared.kind.Mode.TheVariants.{C}
-use Rattle.ud_model.proofs.sections.Soundness.{read_lines}
 use Rattle.ud_model.proofs.output.InsertedText.{items_are, readings_back}
 
 -- The lines of a text's tree are its lines, each read in the one mode.

@@ -2,7 +2,7 @@
 use Rattle.std.proofs.Common.{◌≡◌, ℕ, suc, ◌+◌, ◌-◌, take, List, [], ◌∷◌, ◌++◌, length, map, Bool, true, false, not, ◌&&◌, ◌||◌, if◌then◌else◌, ◌⊎◌, inl, inr, refl, sym, ◌∙◌, ap, ap₂, subst, append_assoc, append-nil, bytes_eq, arith}
 use Rattle.std.specs.List.{concat}
 use Rattle.std.proofs.lemmas.Slice.Eq.{bytes_eq-Decides}
-use Rattle.std.proofs.lemmas.Bool.{and_parts, not-true, false_from_ne_true}
+use Rattle.std.proofs.lemmas.Bool.{and_parts, false_from_ne_true}
 use Rattle.std.proofs.Math.Bool.{and-false}
 use Rattle.ud_model.specs.text.Bytes.{newline}
 use Rattle.ud_model.specs.text.Lines.{Line, NoNewline, IsUnterminated, AreWhole, AreFormed, text_of, ending_of, line_at, numbered_from, lines_of, texts_of, split_lines}

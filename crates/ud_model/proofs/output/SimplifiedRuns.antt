@@ -6,12 +6,12 @@ use Rattle.ud_model.specs.text.Scans.{Scan, Reading}
 use Rattle.ud_model.specs.text.Splicing.{is_spliced, spliced_text, spliced_part}
 use Rattle.ud_model.specs.text.Lexemes.{LexemeKind, shown, kind_at_end}
 use Rattle.ud_model.specs.text.Scanning.{is_block, comment_at, scan_after_run}
-use Rattle.ud_model.specs.sections.Directives.{Directive, content_of, role_of, is_outside}
+use Rattle.ud_model.specs.sections.Directives.{Directive, content_of, is_outside}
 use Rattle.ud_model.specs.sections.DirectiveParts.{HasDirective}
 use Rattle.ud_model.specs.conditions.Table.{Argument}
 use Rattle.ud_model.specs.conditions.Conditions.{Rules, Decision, undecided, decision_on, condition_of, expression_cond}
 use Rattle.ud_model.specs.sections.Tree.{Tree, Item, Nodes, Groups, Elifs, nothing, text, section, conditional, otherwise, first, elif, closed, text_line, if_line, elif_line, else_line, endif_line, lines_of_nodes, lines_of_groups, lines_of_elifs}
-use Rattle.ud_model.specs.sections.Items.{Options, reading_of, item_of, directive_item, rules_of}
+use Rattle.ud_model.specs.sections.Items.{Options, reading_of, item_of, rules_of}
 use Rattle.ud_model.specs.sections.Faults.{is_cut, is_in_block, ends_in_comment, end_by, last_number}
 use Rattle.ud_model.specs.output.Pruned.{IsUndecided, GroupsUndecided, ElifsUndecided}
 use Rattle.ud_model.specs.aids.Height.{height_of_nodes, height_of_groups, height_of_elifs}
@@ -133,10 +133,6 @@ module _ (table : List Argument) (rules : Rules) where
 
   calm_left : (r s : Reading) → ReadingSimplified table rules r s → is_in_block r.scan.comment ≡ false → is_in_block s.scan.comment ≡ false
   calm_left r s h g = grind (arith, out_of_comment)
-
-  open_by : (r s : Reading) (j k : Kind) (d e : Decision) → SameIf j k → (d.cond ≡ Unknown → e.cond ≡ Unknown) → IsOpen (directive_item r (role_of j) d) → IsOpen (directive_item s (role_of k) e)
-  open_by r s _ _ d e both_if h = h
-  open_by r s _ _ d e both_elif h = h
 
   cond_first : (j k : Kind) (after : List ℕ) → SameIf j k → ((condition_of j after table rules).cond ≡ expression_cond after table rules) × ((condition_of k after table rules).cond ≡ expression_cond after table rules)
   cond_first _ _ after both_if = (refl, refl)

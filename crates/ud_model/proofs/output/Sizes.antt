@@ -1,6 +1,6 @@
 -- Sizes: the pieces of a text are as long as their lines, each by itself, or shorter than them
 -- together.
-use Rattle.std.proofs.Common.{◌≡◌, ℕ, suc, ◌+◌, ◌≤◌, ◌<◌, List, [], ◌∷◌, ◌++◌, length, map, Bool, true, false, not, ◌&&◌, ◌||◌, bytes_eq, refl, ap₂, arith, append-nil, length-append, ◌⊎◌}
+use Rattle.std.proofs.Common.{◌≡◌, ℕ, suc, ◌+◌, ◌≤◌, ◌<◌, List, [], ◌∷◌, ◌++◌, length, map, Bool, true, false, not, ◌&&◌, ◌||◌, bytes_eq, refl, ap₂, arith, append-nil, length-append}
 use Rattle.std.specs.List.{concat}
 use Rattle.std.proofs.lemmas.List.{map-append}
 use Rattle.std.proofs.lemmas.List.Folds.{concat-append}
@@ -68,9 +68,6 @@ fits_loose f js ks a b = let m : length (out f js) ≤ length (out whole js) = f
 pub loose_closed : (f : Judged → List ℕ) (js : List Judged) (j : Judged) → Loose f js → length (f j) + 2 ≤ length (whole j) → Fits f (js ++ j ∷ [])
 loose_closed f js j a h = grind (arith, append-nil, less_together)
 
-split_le : (a b : ℕ) → a ≤ b → (a ≡ b) ⊎ (a < b)
-split_le a b h = grind arith
-
 -- A line that doesn't grow fits.
 pub fits_one : (f : Judged → List ℕ) (j : Judged) → length (f j) ≤ length (whole j) → Fits f (j ∷ [])
 fits_one f j h = grind (arith, append-nil)
@@ -106,9 +103,6 @@ bytes_eq-append : (a b c d : List ℕ) → length a ≡ length b → bytes_eq (a
 bytes_eq-append [] [] c d e = refl
 bytes_eq-append (x ∷ a) (y ∷ b) c d e = grind (arith, bytes_eq-append a b c d (omega arith))
 bytes_eq-append a b c d e = absurd (omega arith)
-
-not_and : (a b : Bool) → (not a || not b) ≡ not (a && b)
-not_and a b = grind arith
 
 alike_differs : (f : Judged → List ℕ) (js : List Judged) → KeepsSizes f js → some_other (map f js) js ≡ not (bytes_eq (out f js) (out whole js))
 alike_differs f [] k = refl

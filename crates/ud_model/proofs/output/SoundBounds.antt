@@ -8,7 +8,6 @@ use Rattle.ud_model.specs.aids.Height.{height}
 use Rattle.ud_model.specs.sections.Items.{Options, line_of, next_item}
 use Rattle.ud_model.specs.sections.Faults.{AreFaultless, no_lines, one_more}
 use Rattle.ud_model.specs.output.Rereading.{LinesFit}
-use Rattle.ud_model.proofs.output.SeenLines.{scanned, left_seen}
 use Rattle.ud_model.specs.declared.kind.Mode.{Mode}
 use Rattle.ud_model.specs.declared.limits.TheConstants.{LINE_BYTES, TEXT_LINES, OPEN_SECTIONS}
 use Rattle.ud_model.proofs.output.Each.{Each}

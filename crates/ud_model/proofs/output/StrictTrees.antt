@@ -1,10 +1,10 @@
 -- The trees of a text with and without `-K`: the same sections are open, and a group that is kept
 -- without is kept with `-K`.
-use Rattle.std.proofs.Common.{◌≡◌, List, [], ◌∷◌, ◌++◌, Bool, true, false, not, ◌&&◌, ◌||◌, refl, ap₂, append_assoc, arith}
+use Rattle.std.proofs.Common.{◌≡◌, List, [], ◌∷◌, ◌++◌, Bool, true, false, ◌&&◌, ◌||◌, refl, ap₂, append_assoc, arith}
 use Rattle.std.proofs.lemmas.Bool.{and_parts}
 use Rattle.ud_model.specs.text.Scans.{Reading}
 use Rattle.ud_model.specs.sections.Tree.{Item, Opener, Nodes, Elifs, Head, Tree, nothing, text, section, first, elif, if_head, elif_head, else_head, closed, open_section, text_line, opener_of_elifs, opener_of_head, is_ignoring}
-use Rattle.ud_model.specs.sections.Pruning.{marked, is_false, any_true, is_kept, is_inside_kept, conds_of_elifs, is_removed, marks}
+use Rattle.ud_model.specs.sections.Pruning.{marked, any_true, is_kept, is_inside_kept, conds_of_elifs, is_removed, marks}
 use Rattle.ud_model.specs.aids.SoFar.{marks_so_far}
 use Rattle.ud_model.specs.declared.cond.Cond.{Cond}
 use Rattle.ud_model.specs.declared.cond.Cond.TheVariants.{Yes, No, Unknown}
@@ -65,10 +65,6 @@ loose_ignoring (one_open h t) = ap₂ (λ (a b : Bool). a || b) (head_ignoring h
 
 -- 2. Kept groups.
 
-false_loose : {c d : Cond} → Looser c d → is_false d ≡ false → is_false c ≡ false
-false_loose alike e = e
-false_loose unknown e = refl
-
 any_loose : {cs ds : List Cond} → Pairs Looser cs ds → any_true ds ≡ false → any_true cs ≡ false
 any_loose no_pair e = refl
 any_loose (pair (alike {c = Yes}) p) e = cc
@@ -77,9 +73,6 @@ any_loose (pair (alike {c = Unknown}) p) e = any_loose p e
 any_loose (pair (unknown {d = Yes}) p) e = cc
 any_loose (pair (unknown {d = No}) p) e = any_loose p e
 any_loose (pair (unknown {d = Unknown}) p) e = any_loose p e
-
-both_parts : (a b : Bool) → (not a && not b) ≡ true → (a ≡ false) × (b ≡ false)
-both_parts a b e = grind arith
 
 kept_loose : {cs ds : List Cond} {c d : Cond} → Pairs Looser cs ds → Looser c d → is_kept ds d ≡ true → is_kept cs c ≡ true
 kept_loose {cs} {ds} {c} {d} p l e = grind (arith, any_loose)

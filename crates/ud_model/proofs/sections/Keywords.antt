@@ -1,11 +1,10 @@
 -- Keywords: a fact of each row of the table is a fact of each keyword and its kind. Two bytes show
 -- that no keyword begins a word.
-use Rattle.std.proofs.Common.{◌≡◌, ℕ, List, [], ◌∷◌, Bool, true, false, ◌&&◌, Some, None, bytes_eq, if◌then◌else◌, nat_eq, refl, arith}
-use Rattle.std.specs.List.{list_any, starts_with}
-use Rattle.std.proofs.lemmas.Bool.{and_parts, or_parts, not-true}
+use Rattle.std.proofs.Common.{◌≡◌, ℕ, List, [], ◌∷◌, Bool, true, false, ◌&&◌, Some, None, bytes_eq, if◌then◌else◌, arith}
+use Rattle.std.proofs.lemmas.Bool.{and_parts}
 use Rattle.ud_model.specs.text.Bytes.{is_word_byte}
 use Rattle.std.proofs.lemmas.Slice.Eq.{bytes_eq-Decides}
-use Rattle.ud_model.specs.sections.Directives.{keywords, kind_among, kind_of, may_begin, is_no_keyword, is_prefix_of_keyword}
+use Rattle.ud_model.specs.sections.Directives.{keywords, kind_among, kind_of, is_no_keyword, is_prefix_of_keyword}
 use Rattle.ud_model.specs.declared.kind.Kind.{Kind}
 use Rattle.ud_model.proofs.output.Each.{Each}
 
@@ -35,19 +34,6 @@ each_passes p (row ∷ rows) a =
 -- A test that each row of the table passes is true of each keyword.
 pub each_keyword : (p : List ℕ × Kind → Bool) → all_pass p keywords ≡ true → (w : List ℕ) (k : Kind) → kind_of w ≡ Some k → p (w, k) ≡ true
 each_keyword p a w k e = keyword_holds (λ row. p row ≡ true) (each_passes p keywords a) w k e
-
--- A word that a keyword can't begin with is neither that keyword nor a prefix of it.
-differs : (b c : ℕ) (w v key : List ℕ) → may_begin key b c ≡ false → (is_word_byte c ≡ true → w ≡ c ∷ v) → (bytes_eq (b ∷ w) key ≡ false) × (starts_with nat_eq key (b ∷ w) ≡ false)
-differs b c w v key m f = grind arith
-
-no_row : (b c : ℕ) (w v : List ℕ) (rows : List (List ℕ × Kind)) → list_any (λ (row : List ℕ × Kind). may_begin row.0 b c) rows ≡ false → (is_word_byte c ≡ true → w ≡ c ∷ v) →
-    (kind_among rows (b ∷ w) ≡ None) × (list_any (λ (row : List ℕ × Kind). starts_with nat_eq row.0 (b ∷ w)) rows ≡ false)
-no_row b c w v [] e f = (refl, refl)
-no_row b c w v (row ∷ rows) e f =
-    let p = or_parts (may_begin row.0 b c) (list_any (λ (r : List ℕ × Kind). may_begin r.0 b c) rows) e in
-    let d = differs b c w v row.0 p.0 f in
-    let h = no_row b c w v rows p.1 f in
-    (rw d.0 h.0, rw d.1 h.1)
 
 -- A word that begins with two such bytes is no keyword, and no prefix of one.
 pub no_keyword : (b c : ℕ) (w v : List ℕ) → is_no_keyword b c ≡ true → (is_word_byte c ≡ true → w ≡ c ∷ v) → (kind_of (b ∷ w) ≡ None) × (is_prefix_of_keyword (b ∷ w) ≡ false)

@@ -1,11 +1,11 @@
 -- The content of a line, by the parts of its masked line.
-use Rattle.std.proofs.Common.{◌≡◌, ◌≢◌, ℕ, suc, ◌+◌, ◌-◌, List, [], ◌∷◌, ◌++◌, length, Bool, true, false, not, ◌&&◌, Option, Some, None, if◌then◌else◌, refl, sym, ◌∙◌, ap, ap₂, append-nil, arith, length-append}
+use Rattle.std.proofs.Common.{◌≡◌, ℕ, suc, ◌+◌, ◌-◌, List, [], ◌∷◌, ◌++◌, length, Bool, true, false, not, ◌&&◌, Option, Some, None, if◌then◌else◌, refl, sym, ◌∙◌, ap, ap₂, append-nil, arith, length-append}
 use Rattle.std.specs.Prelude.{◌↔◌}
-use Rattle.std.proofs.lemmas.Bool.{and_parts, not-true, or_cases, and_from}
+use Rattle.std.proofs.lemmas.Bool.{and_parts, or_cases}
 use Rattle.std.proofs.lemmas.Slice.Eq.{bytes_eq-Decides}
-use Rattle.ud_model.specs.text.Bytes.{number_sign, slash, is_white, is_word_byte, are_white, are_word_bytes, skip_white, leading_word, skip_word}
+use Rattle.ud_model.specs.text.Bytes.{number_sign, is_white, is_word_byte, are_white, are_word_bytes, skip_white, leading_word, skip_word}
 use Rattle.ud_model.specs.text.Scans.{Scan}
-use Rattle.ud_model.specs.sections.Directives.{Content, Directive, cut_keyword, directive, text, content_of, skip_white_and_hash, skip_hash, may_split_keyword, has_split_keyword, content_after_hash, directive_at, kind_of, is_in_line, is_prefix_of_keyword, is_continued_outside_comment}
+use Rattle.ud_model.specs.sections.Directives.{Content, Directive, cut_keyword, directive, text, content_of, skip_white_and_hash, skip_hash, may_split_keyword, has_split_keyword, content_after_hash, directive_at, kind_of, is_in_line, is_continued_outside_comment}
 use Rattle.ud_model.specs.sections.DirectiveParts.{DirectiveParts, AreParts, first_is, EndsInKeyword, nothing_follows, IsSplitKeyword, HasSplitKeyword, HasDirective}
 use Rattle.ud_model.specs.declared.kind.Kind.{Kind}
 use Rattle.ud_model.proofs.text.LexLemmas.{same_front}
@@ -94,9 +94,6 @@ no_rest [] [] h n = refl
 no_rest [] (b ∷ rest) h n = grind arith
 no_rest (b ∷ word) rest h n = no_rest word rest (and_parts (is_word_byte b) (are_word_bytes (word ++ rest)) h).1 n
 
-slash_is_no_word : (b : ℕ) (t : List ℕ) → is_word_byte b ≡ true → b ∷ t ≡ slash ∷ [] → ⊥
-slash_is_no_word b t h e = grind arith
-
 module _ (scan : Scan) (p : DirectiveParts) where
   ends_by : (word rest : List ℕ) → p.word ≡ word → p.rest ≡ rest → are_word_bytes word ≡ true → first_is is_word_byte rest ≡ false →
       may_split_keyword scan (word ++ rest) ≡ true → EndsInKeyword scan p
@@ -108,9 +105,6 @@ module _ (scan : Scan) (p : DirectiveParts) where
   -- A masked line that may split a keyword ends so, and the other way round.
   to_ends : AreParts p scan.masked → may_split_keyword scan (p.word ++ p.rest) ≡ true → EndsInKeyword scan p
   to_ends h m = ends_by p.word p.rest refl refl h.word h.word_ends m
-
-  word_may : (word : List ℕ) → word ≢ [] → are_word_bytes word ≡ true → is_prefix_of_keyword word ≡ true → is_continued_outside_comment scan ≡ true → may_split_keyword scan word ≡ true
-  word_may word n h e c = grind arith
 
   from_ends : AreParts p scan.masked → EndsInKeyword scan p → may_split_keyword scan (p.word ++ p.rest) ≡ true
   from_ends h g = grind (arith, append-nil)

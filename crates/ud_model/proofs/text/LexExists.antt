@@ -4,7 +4,6 @@ use Rattle.std.proofs.lemmas.Bool.{eqb-true, cases_eq, and_parts}
 use Rattle.ud_model.specs.text.Bytes.{slash, star, backslash, is_quote, starts_with_byte}
 use Rattle.ud_model.specs.text.Lines.{NoNewline}
 use Rattle.ud_model.specs.text.Lexemes.{LexemeKind, block_comment, line_comment, literal, single, Lexeme, NoClose, IsLineEnd, IsLiteralBody, nothing, plain, passed, IsLexeme, closed_comment, open_comment, to_line_end, closed_literal, open_literal, open_at_backslash, single_byte, AreLexemes}
-use Rattle.ud_model.proofs.text.LexLemmas.{some_bytes}
 
 -- A text that begins with this byte is the byte and the rest.
 begins_is : (b : ℕ) (u : List ℕ) → starts_with_byte b u ≡ true → (rest : List ℕ) × (u ≡ b ∷ rest)

@@ -45,10 +45,6 @@ comment_last xs c e = is_blank_last xs c ∙ ap (λ (b : Bool). is_blank xs && b
 black_last : (xs : List Cell) (c : Cell) → is_white (shown c) ≡ false → is_blank (xs ++ c ∷ []) ≡ false
 black_last xs c e = is_blank_last xs c ∙ ap (λ (b : Bool). is_blank xs && b) e ∙ and-false (is_blank xs)
 
--- A quote is no newline.
-pub quote_is_no_feed : (b : ℕ) → is_quote b ≡ true → (b == newline) ≡ false
-quote_is_no_feed b q = grind arith
-
 single_white : (b : ℕ) (x : List Cell) →
     is_blank (open_line x (cell single b ∷ [])) ≡ (if b == newline then true else is_blank x && is_white b)
 single_white b x = grind (arith, is_blank_last)
@@ -62,9 +58,6 @@ white-in_text b x = grind (arith, literal_white, single_white)
 
 white-at_slash : (b : ℕ) (x : List Cell) → is_blank (open_line x (settles at_slash b)) ≡ stays_white at_slash (is_blank x) b
 white-at_slash b x = grind (arith, black_last, comment_last)
-
-white-in_line : (b : ℕ) (x : List Cell) → is_blank (open_line x (settles in_line b)) ≡ stays_white in_line (is_blank x) b
-white-in_line b x = grind (arith, comment_last)
 
 white_inside : (b : ℕ) (x : List Cell) →
     is_blank (open_line x (if b == newline then cell single b ∷ [] else cell literal b ∷ []))

@@ -1,5 +1,5 @@
 -- The end of a text lies in its last lexeme, if that is open.
-use Rattle.std.proofs.Common.{◌≡◌, ◌≢◌, ℕ, ◌==◌, List, [], ◌∷◌, ◌++◌, Bool, true, ◌⊎◌, refl, sym, ◌∙◌, ap, subst, append_assoc, append-nil, arith}
+use Rattle.std.proofs.Common.{◌≡◌, ◌≢◌, ℕ, ◌==◌, List, [], ◌∷◌, ◌++◌, true, ◌⊎◌, refl, sym, ◌∙◌, ap, subst, append_assoc, append-nil, arith}
 use Rattle.std.specs.Prelude.{◌↔◌}
 use Rattle.std.proofs.Math.Bool.{and-false}
 use Rattle.ud_model.specs.text.Bytes.{newline, slash, star, backslash, space, is_quote}
@@ -7,7 +7,7 @@ use Rattle.ud_model.specs.text.Lines.{Line, NoNewline}
 use Rattle.ud_model.specs.text.Scans.{Reading}
 use Rattle.ud_model.specs.text.Splicing.{is_spliced, last_is_spliced, spliced_part, spliced_text, c_run_of}
 use Rattle.ud_model.specs.text.Lexemes.{LexemeKind, block_comment, line_comment, single, Lexeme, NoClose, IsLiteralBody, nothing, plain, passed, IsLexeme, closed_comment, open_comment, to_line_end, closed_literal, open_literal, open_at_backslash, single_byte, AreLexemes, IsOpen, unclosed_comment, each_line_comment, unclosed_literal, unclosed_at_backslash, LastIsOpen, cells_in, lexeme_at, lex_from, lex, last_kind, kind_at_end}
-use Rattle.ud_model.specs.text.Scanning.{is_block, joins, comment_at, scan_after_run, scan_after}
+use Rattle.ud_model.specs.text.Scanning.{joins, scan_after_run, scan_after}
 use Rattle.ud_model.specs.declared.kind.Mode.TheVariants.{C}
 use Rattle.ud_model.specs.declared.kind.CommentAt.TheVariants.{InLine, InBlock}
 use Rattle.ud_model.proofs.text.LexLemmas.{cut_piece, some_bytes}
@@ -152,19 +152,10 @@ pub end_in_open : (text : List ℕ) (pieces : List Lexeme) → AreLexemes pieces
 unfolding kind_at_end
 end_in_open text pieces h k n = (end_open single text pieces h k n, open_end single text pieces h k)
 
-block_is : (k : LexemeKind) → is_block k ≡ true → k ≡ block_comment
-block_is k e = grind arith
-
 -- Lines join the next one if the last is spliced, or if the last lexeme is an open block comment.
 pub joins_open : (lines : List Line) (pieces : List Lexeme) → AreLexemes pieces (spliced_text lines) → (joins lines ≡ true) ↔ ((last_is_spliced lines ≡ true) ⊎ LastIsOpen block_comment pieces)
 unfolding joins
 joins_open lines pieces h = grind (arith, end_in_open)
-
-block_at : (t : Bool) (k : LexemeKind) → comment_at t k ≡ InBlock → k ≡ block_comment
-block_at t k e = grind arith
-
-line_at : (t : Bool) (k : LexemeKind) → comment_at t k ≡ InLine → (t ≡ true) × (k ≡ line_comment)
-line_at t k e = grind arith
 
 -- A line's end lies in a block comment exactly if the last lexeme is an open one.
 pub block_open : (before : List Reading) (l : Line) (pieces : List Lexeme) → AreLexemes pieces (spliced_text (c_run_of before) ++ spliced_part l) →
