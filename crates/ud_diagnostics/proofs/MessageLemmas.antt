@@ -1,21 +1,11 @@
 -- Messages from their parts.
-use Rattle.std.proofs.Common.{◌≡◌, ℕ, List, [], ◌++◌, ap, sym, ◌∙◌, append_assoc, append-nil, codes, decimal, arith}
-use Rattle.std.proofs.lemmas.Grind.{common_steps}
-use Rattle.ud_model.specs.answer.Messages.{about, about_line, message_of}
+use Rattle.std.proofs.Common.{◌≡◌, ℕ, List, [], ◌++◌, ap, sym, ◌∙◌, append_assoc, append-nil, codes, decimal}
+use Rattle.ud_model.specs.answer.Messages.{message_of}
 use Rattle.ud_model.specs.sections.Faults.{premature_eof}
 
 -- a message from its three parts, of which the one between is read from a buffer
 pub three_joined : (before after : List ℕ) {between is : List ℕ} → between ≡ is → before ++ (between ++ (after ++ [])) ≡ before ++ is ++ after
 three_joined before after {is = is} e = ap (λ n. before ++ (n ++ (after ++ []))) e ∙ ap (λ x. before ++ (is ++ x)) (append-nil after) ∙ sym (append_assoc before is after)
-
--- a message about the input, from its five parts
-pub about_joined : (name text : List ℕ) → codes "unifdef: " ++ (name ++ (codes ": " ++ (text ++ (codes "\n" ++ [])))) ≡ about name text
-about_joined name text = simp append_assoc
-
--- a message about a line, from its seven parts
-pub line_joined : (line : ℕ) (name number text : List ℕ) → number ≡ decimal line
-    → codes "unifdef: " ++ (name ++ (codes ": " ++ (number ++ (codes ": " ++ (text ++ (codes "\n" ++ [])))))) ≡ about_line name line text
-line_joined line name number text e = grind (arith, common_steps)
 
 seven_joined : (u n b l c m d e : List ℕ) → u ++ (n ++ (b ++ (l ++ ((b ++ c) ++ (m ++ ((d ++ e) ++ [])))))) ≡ u ++ n ++ b ++ l ++ b ++ (c ++ m ++ d) ++ e
 seven_joined u n b l c m d e = simp (append_assoc, append-nil)

@@ -27,7 +27,8 @@ as_many true x y xs ys h = ap (λ (n : ℕ). suc n) h
 as_many false x y xs ys h = h
 
 -- The number of lines of one text.
-pub count_is : (is_in : Sign → Bool) (ls : List DiffLine) → count_by (λ (l : DiffLine). is_in l.sign) ls ≡ length (side is_in (signed_lines ls))
+pub count_is : (is_in : Sign → Bool) (ls : List DiffLine) →
+    count_by (λ (l : DiffLine). is_in l.sign) ls ≡ length (side is_in (signed_lines ls))
 count_is is_in ls = grind (arith, common_steps, length-filter, side, as_many)
 
 -- A test that gives nothing is false.
@@ -126,7 +127,8 @@ hunk_appended o p q m n a b ls first later old new =
     ∙ append_assoc o (ranges_text m (length (old_lines (signed_lines ls))) n (length (new_lines (signed_lines ls)))) (flat_map signed_text (signed_lines ls))
 
 -- A kept line is in both texts.
-kept_line : (is_in : Sign → Bool) → is_in Kept ≡ true → (sign : Sign) (bytes : List ℕ) (ls : List SignedLine) → is_change sign ≡ false →
+kept_line : (is_in : Sign → Bool) → is_in Kept ≡ true →
+    (sign : Sign) (bytes : List ℕ) (ls : List SignedLine) → is_change sign ≡ false →
     side is_in (record { sign = sign; bytes = bytes } ∷ ls) ≡ bytes ∷ side is_in ls
 kept_line is_in is sign bytes ls e = grind arith
 
@@ -135,7 +137,8 @@ abbrev bytes_of : List DiffLine → List (List ℕ)
 bytes_of ls = map (λ (l : DiffLine). l.bytes.now) ls
 
 -- Kept lines are all in both texts.
-kept_side : (is_in : Sign → Bool) → is_in Kept ≡ true → (ls : List DiffLine) → AreKept (signed_lines ls) → side is_in (signed_lines ls) ≡ bytes_of ls
+kept_side : (is_in : Sign → Bool) → is_in Kept ≡ true → (ls : List DiffLine) →
+    AreKept (signed_lines ls) → side is_in (signed_lines ls) ≡ bytes_of ls
 kept_side is_in is [] h = refl
 kept_side is_in is (l ∷ ls) h =
     kept_line is_in is l.sign l.bytes.now (signed_lines ls) (All-head IsKept (signed l) (signed_lines ls) h)
@@ -163,7 +166,8 @@ turns_changed hunks m n xs ys a b t =
     (change hunks (old_lines (signed_lines xs)) (new_lines (signed_lines xs)) (hunk_of m n ys) t a b))
 
 -- Kept lines are as many in both texts.
-pub kept_length : (is_in : Sign → Bool) → is_in Kept ≡ true → (xs ys : List DiffLine) → AreKept (signed_lines ys) →
+pub kept_length : (is_in : Sign → Bool) → is_in Kept ≡ true → (xs ys : List DiffLine) →
+    AreKept (signed_lines ys) →
     length (side is_in (signed_lines (xs ++ ys))) ≡ length (side is_in (signed_lines xs)) + length ys
 kept_length is_in is xs ys kept =
     grind (arith, side-append, length-append, side, kept_side, length-map)
@@ -191,9 +195,11 @@ pub taken_few : (ls : List DiffLine) (n : ℕ) → length (take n ls) ≤ n
 taken_few ls n = subst (λ (k : ℕ). k ≤ n) (sym (length-take n ls)) (omega arith)
 
 -- No more lines are in one text than there are.
-pub side_few : (is_in : Sign → Bool) (ls : List DiffLine) (n : ℕ) → length (side is_in (signed_lines (take n ls))) ≤ n
+pub side_few : (is_in : Sign → Bool) (ls : List DiffLine) (n : ℕ) →
+    length (side is_in (signed_lines (take n ls))) ≤ n
 side_few is_in ls n = grind (arith, count_by-le-length, taken_few, count_is)
 
 -- A number of lines of one text up to a position is at most that.
-pub upto_few : (is_in : Sign → Bool) (ls : List DiffLine) (at n : ℕ) → n ≡ length (side is_in (signed_lines (take at ls))) → n ≤ at
+pub upto_few : (is_in : Sign → Bool) (ls : List DiffLine) (at n : ℕ) →
+    n ≡ length (side is_in (signed_lines (take at ls))) → n ≤ at
 upto_few is_in ls at n e = omega (arith, e, side_few is_in ls at)

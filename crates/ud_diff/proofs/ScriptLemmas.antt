@@ -15,7 +15,8 @@ abbrev pub side : (Sign → Bool) → List SignedLine → List (List ℕ)
 side is_in ls = map (λ (l : SignedLine). l.bytes) (filter (λ (l : SignedLine). is_in l.sign) ls)
 
 -- The lines of one text among two lists joined.
-pub side-append : (is_in : Sign → Bool) (xs ys : List DiffLine) → side is_in (signed_lines (xs ++ ys)) ≡ side is_in (signed_lines xs) ++ side is_in (signed_lines ys)
+pub side-append : (is_in : Sign → Bool) (xs ys : List DiffLine) →
+    side is_in (signed_lines (xs ++ ys)) ≡ side is_in (signed_lines xs) ++ side is_in (signed_lines ys)
 side-append is_in xs ys = grind (arith, map-append, filter-append)
 
 -- A script that is extended twice is extended.

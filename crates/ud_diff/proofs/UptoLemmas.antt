@@ -28,7 +28,8 @@ kept_skipped ls at start end next =
     kept_range ls at start (λ k d low high within. kept_at ls at next.first next.kept k d low (omega arith) within)
 
 -- The number of lines up to where the next hunk begins.
-skipped : (is_in : Sign → Bool) → is_in Kept ≡ true → (ls : List DiffLine) (at start end : ℕ) → IsNextHunk ls at start end → upto is_in ls start ≡ upto is_in ls at + (start - at)
+skipped : (is_in : Sign → Bool) → is_in Kept ≡ true → (ls : List DiffLine) (at start end : ℕ) →
+    IsNextHunk ls at start end → upto is_in ls start ≡ upto is_in ls at + (start - at)
 skipped is_in is ls at start end next =
     let places : NextPlaces ls at start next.first next.last end = next_places ls at start end next in
     ap (λ (xs : List DiffLine). length (side is_in (signed_lines xs))) (upto_later ls at start places.after)
@@ -36,21 +37,25 @@ skipped is_in is ls at start end next =
     ∙ ap (λ (n : ℕ). upto is_in ls at + n) (taken_length ls at start places.after (omega arith))
 
 -- The number of lines of one text after the next hunk.
-pub after_hunk : (is_in : Sign → Bool) → is_in Kept ≡ true → (ls : List DiffLine) (at start end m k : ℕ) → IsNextHunk ls at start end → m ≡ upto is_in ls at →
+pub after_hunk : (is_in : Sign → Bool) → is_in Kept ≡ true →
+    (ls : List DiffLine) (at start end m k : ℕ) → IsNextHunk ls at start end →
+    m ≡ upto is_in ls at →
     k ≡ count_by (λ (l : DiffLine). is_in l.sign) (take (end - start) (drop start ls)) → m + (start - at) + k ≡ upto is_in ls end
 after_hunk is_in is ls at start end m k next a b =
     let places : NextPlaces ls at start next.first next.last end = next_places ls at start end next in
     ap₂ (λ (x y : ℕ). x + y) (ap (λ (x : ℕ). x + (start - at)) a ∙ sym (skipped is_in is ls at start end next)) b ∙ sym (counted is_in ls start end (omega arith))
 
 -- The next hunk ends there in each text.
-ends_at : (is_in : Sign → Bool) → is_in Kept ≡ true → (ls : List DiffLine) (at start end m : ℕ) → IsNextHunk ls at start end → m ≡ upto is_in ls at + (start - at) →
+ends_at : (is_in : Sign → Bool) → is_in Kept ≡ true → (ls : List DiffLine) (at start end m : ℕ) →
+    IsNextHunk ls at start end → m ≡ upto is_in ls at + (start - at) →
     m + length (side is_in (between start end ls)) ≡ upto is_in ls end
 ends_at is_in is ls at start end m next a =
     ap (λ (k : ℕ). k + length (side is_in (between start end ls))) a
     ∙ after_hunk is_in is ls at start end (upto is_in ls at) (length (side is_in (between start end ls))) next refl (sym (count_is is_in (take (end - start) (drop start ls))))
 
 -- More lines have come at a later position.
-upto_more : (is_in : Sign → Bool) (ls : List DiffLine) (i j : ℕ) → i ≤ j → upto is_in ls i ≤ upto is_in ls j
+upto_more : (is_in : Sign → Bool) (ls : List DiffLine) (i j : ℕ) → i ≤ j →
+    upto is_in ls i ≤ upto is_in ls j
 upto_more is_in ls i j h = omega (arith, counted is_in ls i j h)
 
 -- The hunk `h` ends before the position `at` of the script.

@@ -12,7 +12,8 @@ pub within_alike : (n : ℕ) (first f g : Bool) (text : List ℕ) (b c : ℕ) �
 within_alike zero first f g text b c = refl
 within_alike (suc n) first f g [] b c = refl
 within_alike (suc n) first f g (d ∷ rest) b c =
-    grind (arith, within_alike n false (f || within d (item_high d rest) b) (g || within d (item_high d rest) c) (item_after rest) b c)
+    let has : ℕ → Bool = λ x. within d (item_high d rest) x in
+    grind (arith, within_alike n false (f || has b) (g || has c) (item_after rest) b c)
 
 opposite_ends : (o : Option SetTest) → ends (opposite o) ≡ ends o
 opposite_ends o = grind arith

@@ -81,8 +81,5 @@ same_then p q = record { bytes_are = p.bytes_are ∙ q.bytes_are; shown_are = p.
 pub ok_all : {A E B S : Type 0} {R Q : A → Type 0} (r : Result A E) → OnOk r B → OnOk r S → IfOk r R → ((p : A) → B → S → R p → Q p) → IfOk r Q
 ok_all r b s x f = grind arith
 
-pub ok_both : {A E B S Q : Type 0} (r : Result A E) → OnOk r B → OnOk r S → (B → S → Q) → OnOk r Q
-ok_both r b s f = grind arith
-
 pub if_ok : {A E : Type 0} {R Q : A → Type 0} (r : Result A E) → IfOk r R → ((p : A) → R p → Q p) → IfOk r Q
 if_ok r x f = grind arith

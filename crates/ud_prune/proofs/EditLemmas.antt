@@ -1,7 +1,7 @@
 -- Edited lines: the line that is edited, and the line that is read.
-use Rattle.std.proofs.Common.{◌≡◌, ℕ, ◌+◌, ◌-◌, List, [], ◌++◌, length, map, take, drop, Bool, true, false, not, ◌&&◌, if◌then◌else◌, bytes_eq, refl, sym, ◌∙◌, ap, ap₂, subst, ◌⊎◌, length-append, arith, take-append-drop}
+use Rattle.std.proofs.Common.{◌≡◌, ℕ, ◌+◌, ◌-◌, List, [], ◌++◌, length, map, take, drop, Bool, true, false, ◌&&◌, if◌then◌else◌, bytes_eq, refl, sym, ◌∙◌, ap, subst, ◌⊎◌, length-append, arith, take-append-drop}
 use Rattle.std.proofs.lemmas.List.{drop-map, take_at, take_all}
-use Rattle.std.proofs.lemmas.Bool.{and_right, or_from}
+use Rattle.std.proofs.lemmas.Bool.{and_right}
 use Rattle.std.proofs.lemmas.Slice.Eq.{bytes_eq-Decides}
 use Rattle.ud_model.specs.text.Lines.{Line, NoNewline, IsWhole, text_of, ending_of, line_at, is_ending}
 use Rattle.ud_model.specs.text.Scans.{Scan, Reading}
@@ -154,9 +154,6 @@ module _ (table : List Argument) (rules : Rules) (l : Line) (scan : Scan) where
   -- A line that joins another one, or has no ending, stays.
   pub joined_stays : is_lone scan l ≡ false → text_of (simplified_line table rules r) ≡ text_of l
   joined_stays e = grind arith
-
-  pub lone_by : scan.joins_before ≡ false → scan.joins_after ≡ false → is_empty l.ending ≡ false → is_lone scan l ≡ true
-  lone_by e f g = ap₂ (λ (x y : Bool). not x && not y) (or_from scan.joins_before scan.joins_after e f) g
 
   pub joins_by : (scan.joins_before ≡ true) ⊎ ((scan.joins_after ≡ true) ⊎ (is_empty l.ending ≡ true)) → is_lone scan l ≡ false
   joins_by h = grind arith

@@ -1,9 +1,9 @@
 -- Quotes: a part of a line has a literal exactly if a quote is shown in it.
-use Rattle.std.proofs.Common.{◌≡◌, ℕ, zero, suc, List, [], ◌∷◌, ◌++◌, length, map, take, drop, Bool, true, false, ◌||◌, if◌then◌else◌, refl, sym, ◌∙◌, ap, ap₂, subst, ne_eqb, arith}
+use Rattle.std.proofs.Common.{◌≡◌, ℕ, zero, suc, List, [], ◌∷◌, ◌++◌, length, map, take, drop, Bool, true, false, ◌||◌, refl, sym, ◌∙◌, ap, ap₂, subst, ne_eqb, arith}
 use Rattle.std.specs.List.{list_any}
 use Rattle.std.proofs.lemmas.Bool.{or_parts, and_parts}
 use Rattle.ud_model.specs.text.Bytes.{is_quote, is_white, are_white, is_word_byte, are_word_bytes}
-use Rattle.ud_model.specs.text.Lexemes.{LexemeKind, block_comment, line_comment, literal, single, Cell, shown, shown_as, Extent, lexeme_at, lex_from, lex, comment_size, line_comment_size, literal_size}
+use Rattle.ud_model.specs.text.Lexemes.{LexemeKind, block_comment, line_comment, literal, single, Cell, shown, shown_as, lexeme_at, lex_from, lex}
 use Rattle.ud_model.specs.text.Lines.{Line}
 use Rattle.ud_model.specs.text.Scans.{Scan}
 use Rattle.ud_model.specs.text.Splicing.{content, spliced_part}
@@ -35,14 +35,6 @@ IsQuiet single b = is_quote b ≡ false
 IsQuiet block_comment b = Unit {0}
 IsQuiet line_comment b = Unit {0}
 IsQuiet literal b = Unit {0}
-
--- The extent by these tests.
-abbrev extent_by : ℕ → List ℕ → Bool → Bool → Bool → Extent
-extent_by a rest s t q =
-    if s then record { kind = block_comment; more = suc (comment_size (drop 1 rest)) }
-    else if t then record { kind = line_comment; more = suc (line_comment_size (drop 1 rest)) }
-    else if q then record { kind = literal; more = literal_size a false rest }
-    else record { kind = single; more = 0 }
 
 quiet_at : (a : ℕ) (rest : List ℕ) → IsQuiet (lexeme_at a rest).kind a
 unfolding lexeme_at

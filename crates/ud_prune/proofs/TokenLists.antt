@@ -1,7 +1,6 @@
 -- Token lists: the tokens of a text, one after another.
 use Rattle.std.proofs.Common.{◌≡◌, ℕ, List, [], ◌∷◌, length, Bool, true, false, ◌&&◌, Option, Some, None, option_map, refl, sym, ◌∙◌, ap, arith}
 use Rattle.std.proofs.lemmas.Bool.{and_left}
-use Rattle.std.proofs.lemmas.Grind.{common_steps}
 use Rattle.ud_model.specs.conditions.Tokens.{Token, NextToken, at_end, unreadable, found, next_token}
 use Rattle.ud_model.specs.conditions.ResidualTexts.{are_tokens, same_token}
 use Rattle.ud_model.specs.aids.Parsing.{prepend_token, tokens_of}
@@ -80,6 +79,3 @@ begins f flags (t ∷ tokens) e = record { token = t; others = tokens; is = refl
 
 pub one_less : (f : Bool) (flags : List Bool) (t : Token) (tokens : List Token) → length (f ∷ flags) ≡ length (t ∷ tokens) → length flags ≡ length tokens
 one_less f flags t tokens e = omega (arith, e)
-
-pub none_more : (tokens : List Token) → length tokens ≡ 0 → tokens ≡ []
-none_more tokens e = grind (arith, common_steps)

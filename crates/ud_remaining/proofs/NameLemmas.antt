@@ -20,4 +20,3 @@ module _ (table : List Argument) where
   pub has_listed-skip : (rest word after : List ℕ) (b : ℕ) (bs : List ℕ) → rest ≡ b ∷ bs → is_word_byte b ≡ true → word ≡ leading_word rest → after ≡ skip_word rest →
       is_listed table word ≡ false → has_listed table false rest ≡ has_listed table false after
   has_listed-skip rest word after b bs r e w a n = grind (arith, has_listed-word)
-

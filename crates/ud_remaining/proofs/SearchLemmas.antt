@@ -69,9 +69,11 @@ pub none_begun : (b : Option Begun) (bytes : List ℕ) → is_some b ≡ false �
 none_begun b bytes e = grind arith
 
 -- The line as the program reads it, with its number.
-reading_is : (mode : Mode) (done p : List ℕ) (ends : AreWholeLines done) (one : texts_of p ≡ p ∷ []) (k : Line) → k ≡ line_at 1 p →
-    (number : ℕ) → number ≡ after mode done p ends → reading_at mode k (scan_after (read_as mode done) mode k) number ≡ reading mode done p ends one
-reading_is mode done p ends one k is number n = grind (arith, ends, one, here, k_scan)
+reading_is : (mode : Mode) (done p : List ℕ) (ends : AreWholeLines done)
+    (one : texts_of p ≡ p ∷ []) (k : Line) → k ≡ line_at 1 p →
+    (number : ℕ) → number ≡ after mode done p ends →
+    reading_at mode k (scan_after (read_as mode done) mode k) number ≡ reading mode done p ends one
+reading_is mode done p ends one k is number n = grind (arith, k_scan)
 
 module _ (table : List Argument) (mode : Mode) (name text : List ℕ) (start old : Search) (place : Place) (s : Searched table mode name text start old place) (some : 0 < length place.rest.now) where
   ends : AreWholeLines s.done

@@ -116,9 +116,6 @@ true_takes first _ _ (part {bytes = before} {calls = earlier} rest n taken fits)
 true_appends : (first : Files) {fresh text : List ℕ} {base new : List Call} {whole : Bool} → AppendsAll fresh text base new whole → AreTrue first new → AreTrue first base
 true_appends first h t = grind (arith, true_takes, true_at)
 
-true_looks : (first : Files) {name : List ℕ} {stat : FileStat} {base new : List Call} {found : Bool} → LooksAgain name stat base new found → AreTrue first new → AreTrue first base
-true_looks first h t = grind arith
-
 true_confirms : (first : Files) {name text : List ℕ} {stat : FileStat} {base new : List Call} {r : Result Unit ReplaceError} →
     Confirms name text stat base new r → AreTrue first new → AreTrue first base
 true_confirms first h t = grind arith

@@ -55,9 +55,6 @@ filled_careful : {o : TextOptions} {name fresh before text : List ℕ} {stat : F
     Careful o name fresh old base → AppendsAll fresh text base taken true → Confirms name before stat (synced fresh true ∷ given fresh stat true ∷ taken) new r → Careful o name fresh old new
 filled_careful {fresh = fresh} taken q h l = confirms_careful (touches_none (synced fresh true) (then_call (appends_careful q h) (inl (λ m. name_of_test m fresh))) (λ n. refl)) l
 
-took_all : {fresh text : List ℕ} {base new : List Call} → AppendsAll fresh text base new true → Takes fresh base text new
-took_all (all taken) = taken
-
 -- the calls up to the one that makes the fresh file
 abbrev up_to_made : List ℕ → List ℕ → List ℕ → FileStat → List Call → List Call
 up_to_made name fresh text stat old = made fresh (Ok tt) ∷ asked name true ∷ was_read name text (Some stat) ∷ old

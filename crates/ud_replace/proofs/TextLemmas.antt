@@ -1,5 +1,5 @@
 -- The run over a text in memory, and the pass over its output.
-use Rattle.std.proofs.Common.{◌≡◌, ℕ, List, [], ◌++◌, Bool, true, false, ◌||◌, Some, Ok, Err, refl, sym, ap, ◌∙◌, subst, true≢false, arith}
+use Rattle.std.proofs.Common.{◌≡◌, ℕ, List, [], ◌++◌, Bool, true, false, ◌||◌, Some, Ok, Err, refl, sym, ap, ◌∙◌, subst, arith}
 use Rattle.std.specs.Prelude.{nat_lt}
 use Rattle.ud_io.specs.Watched.{AppendsAllOrPrefix}
 use Rattle.ud_model.specs.conditions.Conditions.{Rules}
@@ -63,11 +63,6 @@ runs_as_is o ran none differs edited h = record {
   differs_is = differs ∙ h.differs_is;
   edited_is = edited;
 }
-
--- All bytes were appended, since the writer hasn't failed.
-appended_all : (failed : Bool) (old new bytes : List ℕ) → failed ≡ false → AppendsAllOrPrefix failed (Some old) (Some new) bytes → new ≡ old ++ bytes
-appended_all false old new bytes e h = h
-appended_all true old new bytes e h = absurd (true≢false e)
 
 -- The text that the pass made of another one was appended.
 pub prunes_into : (o : Options) {text old new given buffer start : List ℕ} {n : ℕ} {failed : Bool} (rules : Rules) → rules ≡ rules_of o.settings → failed ≡ false →

@@ -522,11 +522,6 @@ takes_at f xs i v path {x = x} {y = y} {z = z} found found' {r = r} {r' = r'} wi
     all : List WalkCall
     all = k.made ++ h.calls
 
--- All paths were given.
-pub takes_all_paths : {X : Type 0} (f : X → List ℕ) (xs : List X) (i : ℕ) (paths : List (List ℕ)) {x y : List Call} (found : List Found) {told : Type 0} → i ≡ length xs → map f xs ≡ paths →
-    CoversInput (map f (take i xs)) x y (IsIn found) told → CoversInput paths x y (IsIn found) told
-takes_all_paths f xs i paths found all are h = grind (arith, take_all)
-
 -- Files that were found are kept.
 stands_in : (found files : List Found) → All (IsKept files) found → (path : List ℕ) (id : FileId) → IsIn found path id → StandsIn files path id
 stands_in found files kept path id h = by_case (All-contains (IsKept files) found h.0 kept h.1)

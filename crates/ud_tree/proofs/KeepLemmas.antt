@@ -4,7 +4,7 @@ use Rattle.std.proofs.lemmas.List.{take_more, get_or_default, map-id}
 use Rattle.std.proofs.lemmas.List.Elements.{All-weaker, All-contains, All-push, All-nil, Contains-push, Contains-get_or}
 use Rattle.std.proofs.lemmas.Cmp.{nat_list_cmp_total}
 use Rattle.std.specs.List.{All, Contains}
-use Rattle.std.specs.Ordering.{is_lt, is_eq, nat_cmp, ordering_then, ordering_reverse}
+use Rattle.std.specs.Ordering.{is_lt, nat_cmp, ordering_then, ordering_reverse}
 use Rattle.std.specs.Cmp.Lexicographic.{slice_cmp}
 use Rattle.std.specs.Prelude.{string_bytes, not, IsSorted}
 use Rattle.std.specs.BTreeSet.{BTreeSet, contains}
@@ -34,9 +34,6 @@ same_lists (x ∷ xs) (y ∷ ys) e =
     let head : x ≡ y = nat_same x y both.0 in
     let tail : xs ≡ ys = same_lists xs ys both.1 in
     cc
-
-pub same_key : (a b : ℕ × ℕ) → is_eq (key_cmp a b) ≡ true → b ≡ a
-same_key a b e = grind arith
 
 -- If a file isn't before another one, which isn't before a third, it isn't before that.
 not_before_then : (f g h : Found) → ¬ (IsBefore g f) → ¬ (IsBefore h g) → ¬ (IsBefore h f)

@@ -1,5 +1,5 @@
 -- The files of a walk, each once and in the order of their paths.
-use Rattle.std.proofs.Common.{◌≡◌, ◌⊎◌, inl, inr, ℕ, ◌<◌, ◌≤◌, ◌+◌, ◌-◌, List, [], ◌∷◌, ◌++◌, length, get_or, Bool, true, false, cond, Some, refl, sym, ap, ◌∙◌, subst, true≢false, arith, ⊎_elim}
+use Rattle.std.proofs.Common.{◌≡◌, ◌⊎◌, inl, inr, ℕ, ◌<◌, ◌≤◌, ◌+◌, ◌-◌, List, [], ◌∷◌, ◌++◌, length, get_or, Bool, true, false, Some, refl, sym, ap, ◌∙◌, subst, true≢false, arith, ⊎_elim}
 use Rattle.std.proofs.lemmas.Bool.{cases_lt}
 use Rattle.std.proofs.lemmas.Option.{slice_get_within, slice_get-get_or}
 use Rattle.std.specs.List.{slice_get}
@@ -40,10 +40,6 @@ after_last files last found ascend some is before k d within =
     at_end le =
         let same : length files - 1 ≡ k = omega arith in
         subst (λ (g : Found). IsBefore g found) (sym last_at ∙ ap (λ (i : ℕ). get_or files i d) same) before
-
-cond_true : (b y : Bool) → y ≡ true → cond b true y ≡ true
-cond_true true y e = refl
-cond_true false y e = e
 
 -- A set keeps what it has.
 still_marked : (seen new : BTreeSet (ℕ × ℕ)) (key : ℕ × ℕ) → Updates key_cmp seen new key true → (files : List Found) → All (IsMarked seen) files → All (IsMarked new) files
@@ -86,10 +82,6 @@ picked_more seen new files found unseen u before h = record {
         let there : contains key_cmp seen (found.id.device, found.id.inode) ≡ true =
         ap (λ (i : FileId). contains key_cmp seen (i.device, i.inode)) (sym e) ∙ marked in
         true≢false (sym there ∙ unseen)
-
--- No file is picked yet.
-pub picked_none : (seen : BTreeSet (ℕ × ℕ)) → ((key : ℕ × ℕ) → contains key_cmp seen key ≡ false) → ArePicked seen []
-picked_none seen empty = grind arith
 
 -- After one more file, all are still of the list.
 pub from_more : (found : Found) (all files next : List Found) → Contains all found → All (Contains all) files → All (OldOrThis found files) next → All (Contains all) next

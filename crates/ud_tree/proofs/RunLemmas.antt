@@ -293,14 +293,6 @@ ran_from job {old = old} {mid = mid} {new = new} {r = r} {r' = r'} {files = file
         let is : b ≡ a + n = h (omega arith) in
         omega arith
 
-byte_is : (b : Bool) (n : ℕ) → n ≡ bool_byte b → n ≡ cond b 1 0
-byte_is true n e = e
-byte_is false n e = e
-
-faults_sum : (x y walk files b d faults : ℕ) → b ≡ min (walk + x) (2 ^ 64 - 1) → d ≡ min (b + y) (2 ^ 64 - 1) →
-    faults ≡ min (d + files) (2 ^ 64 - 1) → walk + (x + y) + files < 2 ^ 64 → faults ≡ walk + (x + y) + files
-faults_sum x y walk files b d faults f h i small = omega arith
-
 -- Faults that are added up, of which two are 0 or 1.
 pub faults_added : (p q : Bool) (walk files a b c d faults : ℕ) → a ≡ bool_byte p → b ≡ min (walk + a) (2 ^ 64 - 1) → c ≡ bool_byte q → d ≡ min (b + c) (2 ^ 64 - 1) →
     faults ≡ min (d + files) (2 ^ 64 - 1) → walk + (cond p 1 0 + cond q 1 0) + files < 2 ^ 64 → faults ≡ walk + (cond p 1 0 + cond q 1 0) + files

@@ -9,7 +9,7 @@ use Rattle.ud_tree.specs.declared.report.Report.{Report}
 use Rattle.ud_tree.specs.Messages.{is_visible, is_raw, Tells, TellsText}
 use Rattle.ud_io.specs.Streams.{Stream, Sends}
 use Rattle.ud_tree.specs.Visible.{visible, visible_byte}
-use Rattle.ud_io.proofs.StreamLemmas.{sends_same, sent_as}
+use Rattle.ud_io.proofs.StreamLemmas.{sent_as}
 
 -- Visible parts are the visible bytes of all parts.
 pub visible_parts : {X : Type 0} (f : X → List ℕ) (ps : List X) → flat_map (λ p. visible (f p)) ps ≡ visible (flat_map f ps)
@@ -25,10 +25,6 @@ visible_sent text h = h
 -- All is appended to an empty buffer, if no write fails.
 appended_all : (failed : Bool) (o p : Option (List ℕ)) {x y : List ℕ} → AppendsAllOrPrefix failed o p x → failed ≡ false → o ≡ Some [] → p ≡ Some y → y ≡ x
 appended_all failed o p h works first now = grind arith
-
--- One write has all that was appended to an empty buffer.
-pub appended_whole : (failed : Bool) (o p : Option (List ℕ)) {a b : Stream} {x y : List ℕ} → AppendsAllOrPrefix failed o p x → failed ≡ false → o ≡ Some [] → p ≡ Some y → Sends a b y → Sends a b x
-appended_whole failed o p h works first now k = sends_same (appended_all failed o p h works first now) k
 
 -- The contents are all that was written to an empty buffer.
 pub written_all : {s t : Stream} {x y : List ℕ} → Sends s t x → s.failed ≡ false → t.failed ≡ false → s.contents ≡ Some [] → t.contents ≡ Some y → y ≡ x

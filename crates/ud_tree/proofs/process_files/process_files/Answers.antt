@@ -1,15 +1,11 @@
 use Rattle.std.proofs.Common.{◌∙◌, arith}
+use Rattle.std.proofs.lemmas.Grind.{common_steps}
 use Rattle.ud_tree.proofs.RemainderLemmas.{finds_none}
 use Rattle.ud_tree.proofs.RunLemmas.{writes_none, writes_push, writes_all}
 use Rattle.ud_tree.proofs.process_files.process_files.Goals as goal
 
 pub loop-done-init : goal.loop-done-init
-loop-done-init g c = record {
-  counted = omega arith;
-  lists = c.requires;
-  written = writes_none c.args.names.now c.new-counts.result c.new-counts.ensures.changed c.new-counts.ensures.unchanged c.new-counts.ensures.faulty
-      c.new-counts.ensures.edited;
-}
+loop-done-init g c = grind (arith, common_steps, writes_none)
 
 pub loop-done-preserved : goal.loop-done-preserved
 loop-done-preserved g c = record {

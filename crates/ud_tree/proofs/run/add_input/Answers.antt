@@ -1,8 +1,7 @@
 use Rattle.ud_io.specs.Streams.{stream_of}
 use Rattle.ud_tree.proofs.WalkLemmas.{finds_none, finds_then}
-use Rattle.std.proofs.Common.{refl, ap, ◌∙◌, map, arith, ◌<◌}
-use Rattle.ud_tree.specs.Covering.{paths_of}
-use Rattle.ud_tree.proofs.CoverLemmas.{takes_none, takes_at, takes_all_paths}
+use Rattle.std.proofs.Common.{refl, ◌<◌}
+use Rattle.ud_tree.proofs.CoverLemmas.{takes_none, takes_at}
 use Rattle.ud_tree.specs.WalkMessages.{no_input}
 use Rattle.ud_tree.proofs.WalkTellLemmas.{walk_none, walk_remark, walk_then, reported, stops_unread}
 use Rattle.ud_tree.proofs.run.add_input.Goals as goal
@@ -47,11 +46,3 @@ returns-in_err-paths-clause-finds g c = finds_none (g.T.Folder.history c.args.tr
 
 pub returns-in_err-paths-clause-told : goal.returns-in_err-paths-clause-told
 returns-in_err-paths-clause-told g c = walk_none (g.T.Folder.history c.args.tree.now) c.args.report.now (stream_of g.E.Write.contents c.args.err.now)
-
-pub returns-clause-takes : goal.returns-clause-takes
-returns-clause-takes g c = λ all. record {
-  text = c.read_input.new.text.items;
-  reads = c.in_ok-all.ensures.all c.if-not-all.false;
-  covers = takes_all_paths (λ p. p.items) c.as_slice-name-items.result.now c.loop-name.name-index _ _ (omega arith)
-      (ap (map (λ p. p.items)) c.as_slice-name-items.ensures.value ∙ c.in_ok-paths.ensures ∙ ap paths_of c.as_slice.ensures.value) c.loop-name.invariant.2;
-}

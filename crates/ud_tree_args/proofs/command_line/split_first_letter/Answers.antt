@@ -1,4 +1,4 @@
-use Rattle.std.proofs.Common.{◌≡◌, ◌++◌, rules, encode_utf8, arith}
+use Rattle.std.proofs.Common.{arith}
 use Rattle.std.proofs.lemmas.Str.{chars_past_char}
 use Rattle.ud_tree_args.proofs.command_line.split_first_letter.Goals as goal
 

@@ -1,4 +1,5 @@
-use Rattle.std.proofs.Common.{◌∙◌, ℕ, List, Some, sym, ap}
+use Rattle.std.proofs.Common.{ap, arith}
+use Rattle.std.proofs.lemmas.Grind.{common_steps}
 use Rattle.ud_io.specs.Streams.{stream_of}
 use Rattle.ud_tree.proofs.MessageLemmas.{cleared_tells}
 use Rattle.ud_tree.proofs.VisibleLemmas.{text_raw, text_visible, written_all}
@@ -10,9 +11,4 @@ returns-then-failed-clause-tells g c =
     (cleared_tells {a = c.args.self.now} c.clear.ensures.terminal c.clear.ensures.hidden (λ e. ap (λ w. stream_of g.E.Write.contents w) (c.clear.ensures.unshown e)) c.report_text.ensures)
 
 pub returns-clause-tells : goal.returns-clause-tells
-returns-clause-tells g c =
-    text_visible c.args.path.now c.as_slice.result.now c.args.fault
-    (written_all c.send_visible.ensures c.new-name.ensures.failed (sym c.failed.ensures ∙ c.if-failed.false)
-    (ap (λ v. Some v.items) c.new-name.ensures.inner ∙ ap (λ (x : List ℕ). Some x) c.new.ensures.items)
-    (ap (λ (x : List ℕ). Some x) (sym (c.as_slice.ensures.value ∙ ap (λ v. v.items) c.inner.ensures))))
-    (cleared_tells {a = c.args.self.now} c.clear.ensures.terminal c.clear.ensures.hidden (λ e. ap (λ w. stream_of g.E.Write.contents w) (c.clear.ensures.unshown e)) c.report_text-2.ensures)
+returns-clause-tells g c = grind (arith, common_steps, text_visible, written_all, cleared_tells)

@@ -1,5 +1,4 @@
-use Rattle.std.proofs.Common.{◌≡◌, refl, arith, bytes_eq, codes, true, false, string_bytes, ◌∷◌}
-use Rattle.std.proofs.lemmas.Grind.{common_steps}
+use Rattle.std.proofs.Common.{arith}
 use Rattle.std.proofs.lemmas.Str.{chars-nil}
 use Rattle.ud_tree_args.proofs.command_line.CommandLine.next_word.Goals as goal
 

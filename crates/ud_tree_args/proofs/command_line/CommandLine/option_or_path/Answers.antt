@@ -1,6 +1,5 @@
-use Rattle.std.proofs.Common.{◌≡◌, ◌∙◌, sym, refl, [], ◌∷◌, chars, arith}
+use Rattle.std.proofs.Common.{arith}
 use Rattle.std.proofs.lemmas.Str.{chars-nil}
-use Rattle.ud_model.specs.answer.CommandLine.{option_letters}
 use Rattle.ud_tree_args.proofs.command_line.CommandLine.option_or_path.Goals as goal
 
 pub returns-then-self : goal.returns-then-self

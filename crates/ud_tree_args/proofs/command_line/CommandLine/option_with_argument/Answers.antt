@@ -1,7 +1,6 @@
-use Rattle.std.proofs.Common.{◌≡◌, refl, sym, ap, arith, ◌<◌, length, chars, map, string_bytes, List, [], ◌∷◌, ℕ, Some, None}
+use Rattle.std.proofs.Common.{arith}
 use Rattle.std.proofs.lemmas.Grind.{common_steps}
 use Rattle.std.proofs.lemmas.Str.{chars-nil}
-use Rattle.ud_tree_args.specs.CommandLines.{option, parsed_next}
 use Rattle.ud_tree_args.proofs.LetterLemmas.{option_then-bytes, chars-empty}
 use Rattle.ud_tree_args.proofs.command_line.CommandLine.option_with_argument.Goals as goal
 
