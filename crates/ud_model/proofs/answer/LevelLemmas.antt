@@ -23,7 +23,8 @@ module _ {L : Type 0} where
 
   -- Each line has one level.
   pub length_levels : (t : Tree L) → length (levels t) ≡ length (lines t)
-  length_levels t = length_by (levels_from 0) (λ t u x a. levels_add 0 a) (by_push (lines t)) refl t refl
+  length_levels t =
+      length_by (levels_from 0) (λ t u x a. levels_add 0 a) (by_push (lines t)) refl t refl
 
   -- The levels of a longer text begin with those of the text.
   pub levels_stay : (t u : Tree L) (more : List (Item L)) → lines u ≡ lines t ++ more → (rest : List ℕ) × (levels u ≡ levels t ++ rest)

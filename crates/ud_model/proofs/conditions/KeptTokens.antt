@@ -14,7 +14,8 @@ use Rattle.ud_model.specs.declared.operator.Operator.TheVariants.{Or, And, Not}
 abbrev pub SameLength : {A B : Type 0} → List A → List B → Type 0
 SameLength [] [] = Unit {0}
 SameLength (x ∷ xs) (y ∷ ys) = SameLength xs ys
-SameLength _ _ = ⊥
+SameLength [] (y ∷ ys) = ⊥
+SameLength (x ∷ xs) [] = ⊥
 
 chosen_both : {A : Type 0} (fs gs : List Bool) (xs ys : List A) → SameLength fs xs → chosen (fs ++ gs) (xs ++ ys) ≡ chosen fs xs ++ chosen gs ys
 chosen_both [] gs [] ys h = refl

@@ -171,7 +171,8 @@ module _ (table : List Argument) (rules : Rules) where
     whole_last (s ∷ ts) t w = whole_last ts t w.1
 
     has_ending : last_line.ending ≢ []
-    has_ending = end_is_some last_line.ending (whole_ending c.last (whole_last c.run c.last c.whole))
+    has_ending =
+        end_is_some last_line.ending (whole_ending c.last (whole_last c.run c.last c.whole))
 
     abbrev later : List Line
     later = numbered_from (1 + length (lines_in c)) (texts_of rest)
