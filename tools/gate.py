@@ -28,47 +28,47 @@ CHECK = 3_000_000_000
 # The seconds of a processor that a crate's proof takes, its tests, and one of its edits. Only the
 # order and the time that is shown use them.
 SECONDS = {
-    "ud_model": (114, 0, 9),
-    "ud_io": (30, 0, 9),
-    "ud_faults": (34, 0, 0),
-    "ud_cond": (247, 0, 16),
-    "ud_text": (232, 0, 12),
-    "ud_args": (137, 0, 12),
-    "ud_sections": (209, 0, 18),
-    "ud_prune": (150, 0, 14),
-    "ud_tree_args": (80, 0, 10),
-    "ud_pattern": (40, 0, 9),
-    "ud_remaining": (90, 0, 14),
-    "ud_names": (80, 0, 10),
-    "ud_engine": (332, 0, 24),
-    "ud_diagnostics": (51, 0, 13),
-    "unifdef": (82, 0, 20),
-    "unifdef_cli": (76, 0, 0),
-    "unifdef_c": (185, 0, 30),
-    "ud_replace": (190, 0, 14),
-    "ud_diff": (114, 0, 13),
-    "ud_tree": (285, 0, 32),
-    "unifdef_tree_cli": (67, 0, 0),
-    "test_text": (60, 120, 0),
-    "test_sections": (90, 198, 0),
-    "test_engine": (64, 131, 0),
-    "test_replace": (41, 72, 0),
-    "test_runner": (118, 0, 0),
-    "fuzz_texts": (64, 0, 0),
-    "ref_unifdef": (65, 0, 0),
-    "test_options": (44, 0, 0),
-    "test_streams": (32, 0, 0),
-    "test_memory": (21, 0, 0),
+    "ud_model": (85, 0, 9),
+    "ud_io": (20, 0, 0),
+    "ud_faults": (30, 0, 0),
+    "ud_cond": (220, 0, 0),
+    "ud_text": (200, 0, 0),
+    "ud_args": (85, 0, 0),
+    "ud_sections": (115, 0, 0),
+    "ud_prune": (105, 0, 0),
+    "ud_tree_args": (60, 0, 0),
+    "ud_pattern": (25, 0, 0),
+    "ud_remaining": (100, 0, 0),
+    "ud_names": (90, 0, 0),
+    "ud_engine": (190, 0, 0),
+    "ud_diagnostics": (35, 0, 0),
+    "unifdef": (55, 0, 0),
+    "unifdef_cli": (70, 0, 0),
+    "unifdef_c": (140, 0, 0),
+    "ud_replace": (100, 0, 0),
+    "ud_diff": (75, 0, 0),
+    "ud_tree": (280, 0, 0),
+    "unifdef_tree_cli": (110, 0, 0),
+    "test_text": (10, 140, 0),
+    "test_sections": (40, 340, 0),
+    "test_engine": (10, 160, 0),
+    "test_replace": (10, 100, 0),
+    "test_runner": (260, 0, 0),
+    "fuzz_texts": (70, 0, 0),
+    "ref_unifdef": (75, 0, 0),
+    "test_options": (60, 0, 0),
+    "test_streams": (25, 0, 0),
+    "test_memory": (20, 0, 0),
     "bench_conditions": (25, 0, 0),
-    "example_library": (38, 0, 0),
+    "example_library": (80, 0, 0),
 }
-OTHER = (60, 0, 15)
+OTHER = (60, 0, 0)
 
 # The seconds of all programs and tests, which run after all else.
 RUNS = 60
 
-# What a second of a processor takes before a check has ended, on the machines that were tried.
-USUAL = 1.2
+# What a second of a processor takes before a check has ended.
+USUAL = 1
 
 PROVED = re.compile(r"rt: (\w+)(: its tests are)? (proved|NOT PROVED)")
 EDITS = re.compile(r"rt: (\w+): trying its must-fail edits \(\d+\)")
