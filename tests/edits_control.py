@@ -115,10 +115,10 @@ def main():
         write(f"{top}/crates.txt", "control:\n")
         write(f"{top}/HANDLES", "Handles allowed: none.\n")
         write(f"{crate}/src/lib.rt", SOURCE)
-        write_edits(f"{crate}/must-fail-first", {**WRONG, **RIGHT, **BROKEN})
+        write_edits(f"{crate}/must-fail", {**WRONG, **RIGHT, **BROKEN})
         write_edits(f"{crate}/must-fail-second", UNREADABLE)
-        found = run(top, "control", [], ["must-fail-first"], False)
-        unread = edits_of(top, "control", ["must-fail-first", "must-fail-second"])[1]
+        found = run(top, "control", [], ["must-fail"], False)
+        unread = edits_of(top, "control", ["must-fail", "must-fail-second"])[1]
     wanted = {REFUSED: sorted(WRONG), PROVED: sorted(RIGHT), BAD: sorted(BROKEN)}
     if {it: sorted(names) for it, names in found.items()} != wanted or len(unread) != 2:
         return "edits-test: FAILED: not exactly the wrong edits are refused"

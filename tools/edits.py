@@ -4,10 +4,10 @@
     tools/edits.py [--all] [--alone] [CRATE ..]     RT is Rattle's command
     tools/edits.py --read                           reads all edits, and tries none
 
-The edits are those of `must-fail-first`, and with --all those of `must-fail-second` and `must-fail`
-too. The crates are proved first, where they aren't (tools/prove.py). Then each is copied, and only
-the copy is edited. `rt check` runs there over what the proof kept, in as many crates at once as
-tools/gate.py proves.
+The edits are those of `must-fail` that the gate doesn't try (tools/gate.py), and with --all those
+of `must-fail-second` too. The crates are proved first, where they aren't (tools/prove.py). Then
+each is copied, and only the copy is edited. `rt check` runs there over what the proof kept, in as
+many crates at once as tools/gate.py proves.
 
 Edits of different functions are checked together. Callers rest on a contract and never on a body,
 so the goals of a function fail only for its own edit. An edit is refused if such a goal fails: an
@@ -34,7 +34,7 @@ import time
 
 sys.dont_write_bytecode = True
 
-from gate import jobs
+from gate import is_of_gate, jobs
 from prove import HERE, RT, Build, at_or_below, expected, libraries
 
 REFUSED, PROVED, BAD = "refused", "PROVED", "BAD EDIT"
@@ -42,9 +42,9 @@ REFUSED, PROVED, BAD = "refused", "PROVED", "BAD EDIT"
 # The line on which a function begins. `const fn` is left out: a type may rest on the body.
 FUNCTION = re.compile(r'( *)(?:pub(?:\([a-z: ]+\))? )?(?:unsafe )?(?:extern "C" )?fn (\w+)')
 
-# The folders of edits of a crate: those that `.ci/run` tries by this tool, further ones, and those
-# that `rt ci` tries.
-FOLDERS = ["must-fail-first", "must-fail-second", "must-fail"]
+# The folders of edits of a crate: those that `.ci/run` tries, by the gate or by this tool, and
+# further ones.
+FOLDERS = ["must-fail", "must-fail-second"]
 
 # A failed obligation, an error in what is written of a function's proof, and any error.
 OBLIGATION = re.compile(r"note: (?:\./)?(src/\S+?\.rt):(\d+):\d+: (?=.*is not proved that)")
@@ -93,6 +93,7 @@ class Edit:
 
     def __init__(self, file):
         self.name, self.pairs = os.path.basename(file)[: -len(".edit")], []
+        self.is_of_gate = is_of_gate(file)
         path = old = None
         for line in text_of(file).split("\n"):
             if line.startswith("file: "):
@@ -327,6 +328,7 @@ def run(top, crate, below, folders, alone):
     """Tries the edits of a crate that is proved, and returns their names by verdict."""
     found, begin = {REFUSED: [], PROVED: [], BAD: []}, time.monotonic()
     edits, bad = edits_of(top, crate, folders)
+    edits = [it for it in edits if not it.is_of_gate]
     with tempfile.TemporaryDirectory(prefix="edits-") as place:
         room = Room(place, top, crate, below)
         for name, verdict, reason in try_edits(room, edits, alone):

@@ -6,13 +6,18 @@
 Without RT_JOBS, one check runs for each processor, as far as there is memory for it. All lines of
 `rt ci` go to gate.log. Of these, what a crate's check says is printed only if the crate isn't
 proved. The last line is that of `rt ci`, and so is the status.
+
+`rt ci` runs in a copy of the crates, without the edits that tools/edits.py tries. The programs that
+it proves and builds are copied back.
 """
 import glob
 import os
 import re
+import shutil
 import signal
 import subprocess
 import sys
+import tempfile
 import threading
 
 sys.dont_write_bytecode = True
@@ -95,7 +100,7 @@ class Schedule:
         order = [it for crate in used for it in at_or_below(crate, used)]
         for crate in dict.fromkeys(order):
             proof, tests, edit = SECONDS.get(crate, OTHER)
-            edits = len(glob.glob(f"{HERE}/crates/{crate}/must-fail/*.edit"))
+            edits = len(edits_of_gate(crate))
             waits = [(it, "proof") for it in used[crate]]
             lines[crate] = lines_of(crate)
             self.tasks[crate, "proof"] = Task(waits, proof)
@@ -169,6 +174,42 @@ class Schedule:
         return seconds_left(todo, begun, self.lanes) + pace * RUNS
 
 
+def is_of_gate(file):
+    """Returns whether the gate tries the edit in this file: one of a definition of ud_model, which
+    is checked alone in any case."""
+    with open(file, encoding="utf-8") as it:
+        return "/ud_model/must-fail/" in file and it.readline().startswith("file: specs/")
+
+
+def edits_of_gate(crate):
+    """Returns the files of the edits of a crate that the gate tries."""
+    found = glob.glob(f"{HERE}/crates/{crate}/must-fail/*.edit")
+    return [it for it in found if is_of_gate(it)]
+
+
+def copy_crates(top):
+    """Copies the crates to a folder, with the edits that the gate tries. `rt ci` takes the folder as
+    the top of a repository, since it has one of the name `.git`."""
+    os.mkdir(f"{top}/.git")
+    for it in ("HANDLES", "crates.txt"):
+        shutil.copy2(f"{HERE}/{it}", top)
+    for crate in libraries():
+        ignore = shutil.ignore_patterns("out", "must-fail", "must-fail-second")
+        shutil.copytree(f"{HERE}/crates/{crate}", f"{top}/crates/{crate}", ignore=ignore)
+        for it in edits_of_gate(crate):
+            os.makedirs(f"{top}/crates/{crate}/must-fail", exist_ok=True)
+            shutil.copy2(it, f"{top}/crates/{crate}/must-fail")
+
+
+def take_programs(top):
+    """Copies the programs that the gate built in a folder."""
+    for crate in libraries():
+        made = f"{top}/crates/{crate}/out/{crate}"
+        if os.path.exists(made):
+            os.makedirs(f"{HERE}/crates/{crate}/out", exist_ok=True)
+            shutil.copy2(made, f"{HERE}/crates/{crate}/out/{crate}")
+
+
 def lines_of(crate):
     """Returns the number of lines of a crate's code."""
     files = glob.glob(f"{HERE}/crates/{crate}/src/**/*.rt", recursive=True)
@@ -229,27 +270,35 @@ def jobs():
     return max(min(processors(), free_memory() // CHECK), 1)
 
 
-def main():
-    if len(sys.argv) > 1:
-        sys.exit(__doc__)
-    lanes = jobs()
+def run(top, lanes):
+    """Runs `rt ci` in a folder, and returns its status."""
     gate = Gate(lanes)
     gate.progress.say(f"{lanes} checks side by side; all lines go to gate.log")
-    how = {"cwd": HERE, "env": {**os.environ, "RT_JOBS": str(lanes)}, "errors": "replace"}
+    how = {"cwd": top, "env": {**os.environ, "RT_JOBS": str(lanes)}, "errors": "replace"}
     how |= {"stdout": subprocess.PIPE, "stderr": subprocess.STDOUT}
-    with open(LOG, "w", encoding="utf-8") as log, subprocess.Popen([RT, "ci"], **how) as run:
+    with open(LOG, "w", encoding="utf-8") as log, subprocess.Popen([RT, "ci"], **how) as ci:
         threading.Thread(target=gate.show, daemon=True).start()
         try:
-            for line in run.stdout:
+            for line in ci.stdout:
                 log.write(line)
                 log.flush()
                 gate.take(line)
         finally:
             gate.ended.set()
-            if run.poll() is None and sys.exc_info()[0]:
-                run.terminate()
+            if ci.poll() is None and sys.exc_info()[0]:
+                ci.terminate()
     gate.print(gate.block)
-    return run.returncode
+    return ci.returncode
+
+
+def main():
+    if len(sys.argv) > 1:
+        sys.exit(__doc__)
+    with tempfile.TemporaryDirectory(prefix=".gate-", dir=HERE) as top:
+        copy_crates(top)
+        status = run(top, jobs())
+        take_programs(top)
+    return status
 
 
 if __name__ == "__main__":
