@@ -139,7 +139,8 @@ impl LineDecider {
     }
 
     /// Decides the next line, whatever its body is, as `decide_endif` does. The most frequent
-    /// directives have functions of their own, in which the compiler knows the keyword.
+    /// directives have functions of their own. Each looks at the first bytes again, so that the
+    /// compiler knows the keyword there.
     #[inline(never)]
     fn decide_other(
         &mut self,
