@@ -64,7 +64,8 @@ fn find_by_lanes<const N: usize>(bytes: &[u8], set: ByteSet) -> usize
     let mut at = 0;
     while at < last {
         let count = find_in_lanes::<N>(bytes, at, set);
-        if count < N {
+        // Of the bits this asks only whether one is set.
+        if count != N {
             return at + count;
         }
         at += N;

@@ -7,12 +7,13 @@ use Rattle.ud_text.proofs.searching.simd.find_by_lanes.Goals as goal
 pub returns-then-count : goal.returns-then-count
 returns-then-count g c =
     first_here (is_one_of c.args.set) g.row.N c.args.bytes.now c.loop-at.at c.find_in_lanes-count.result c.find_in_lanes-count.ensures.value
-    c.loop-at.invariant c.if-count.true
+    c.loop-at.invariant
+    (omega (arith, c.find_in_lanes-count.ensures.bound, c.if-count.true))
 
 pub loop-at-preserved : goal.loop-at-preserved
 loop-at-preserved g c =
     first_later (is_one_of c.args.set) g.row.N c.args.bytes.now c.loop-at.at c.find_in_lanes-count.result c.find_in_lanes-count.ensures.value
-    c.loop-at.invariant c.if-count.false
+    c.loop-at.invariant (omega (arith, c.if-count.false))
 
 pub returns : goal.returns
 returns g c =
