@@ -25,13 +25,18 @@ use crate::bulk::LineStart;
 use crate::bulk::blocks::{Block, next_significant, no_block};
 use crate::bulk::hash_sign::{is_line_white_after, other_word_len};
 use crate::bulk::lexeme_lengths::{
-    is_quote, lexeme_len, line_comment_len, quoted_line_len, short_lines_len, splice_len,
+    is_quote, lexeme_len, line_comment_len, literal_len, quoted_line_len, short_lines_len,
+    splice_len,
 };
 use crate::scan::lexer::{LexState, Lexer};
 use crate::searching::{is_star_pair, last_line_start};
 
 /// The most bytes of a line with a quote after which short lines are looked for.
 const SHORT_LINE_BYTES: usize = 16;
+
+/// How many bytes after a splice no quote is looked at with the rest of its line: the line mostly
+/// ends in a splice too.
+const SPLICED_BYTES: usize = 64;
 
 /// A position that a skip has reached. The bytes before `at` are read, and `at` lies outside
 /// comments and literals.
@@ -197,11 +202,11 @@ fn splice_step(lines: &[u8], p: Reach, count: usize) -> Option<Reach>
         at_line_start: true,
         begins: false,
         at,
-        ..p
+        searched: at + SPLICED_BYTES,
     })
 }
 
-/// Skips what a slash, a backslash or a quote begins.
+/// Skips what a slash or a backslash begins.
 #[inline(always)]
 fn text_step(lines: &[u8], p: Reach) -> Option<Reach>
     requires order { InReach p lines.now }
@@ -210,6 +215,24 @@ fn text_step(lines: &[u8], p: Reach) -> Option<Reach>
     ensures read { GoesOn lines.now p result }
 {
     let Some(count) = lexeme_len(&lines[p.at..]) else {
+        return None;
+    };
+    Some(Reach {
+        at: p.at + count,
+        ..p
+    })
+}
+
+/// Skips a literal.
+#[inline(always)]
+fn literal_step(lines: &[u8], p: Reach) -> Option<Reach>
+    requires order { InReach p lines.now }
+    requires some { p.at < length lines.now }
+    requires first { is_quote (slice_index lines.now p.at) ≡ true }
+    ensures further { IfSome result (λ q. InReach q lines.now × (p.at < q.at)) }
+    ensures read { GoesOn lines.now p result }
+{
+    let Some(count) = literal_len(&lines[p.at..], lines[p.at]) else {
         return None;
     };
     Some(Reach {
@@ -244,7 +267,7 @@ fn quote_step(lines: &[u8], p: Reach) -> Option<Reach>
     ensures read { GoesOn lines.now p result }
 {
     if p.at < p.searched {
-        return text_step(lines, p);
+        return literal_step(lines, p);
     }
     match quoted_line_len(&lines[p.at..]) {
         Ok(count) => {
@@ -260,7 +283,7 @@ fn quote_step(lines: &[u8], p: Reach) -> Option<Reach>
         }
         Err(count) => {
             let searched = p.at + count;
-            text_step(lines, Reach { searched, ..p })
+            literal_step(lines, Reach { searched, ..p })
         }
     }
 }

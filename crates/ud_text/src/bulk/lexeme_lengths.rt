@@ -89,7 +89,7 @@ pub(crate) fn splice_len(rest: &[u8]) -> Option<usize>
 
 /// Returns the length of a literal with this quote, up to the quote that closes it, or else with
 /// the newline of its line (C11 6.4.4.4 and 6.4.5). `None` if that newline may belong to a splice.
-fn literal_len(rest: &[u8], quote: u8) -> Option<usize>
+pub(crate) fn literal_len(rest: &[u8], quote: u8) -> Option<usize>
     requires some { 0 < length rest.now }
     requires first { slice_index rest.now 0 ≡ quote }
     requires quote { is_quote quote ≡ true }
@@ -132,12 +132,17 @@ fn may_splice(first: u8, second: u8) -> bool
     second == b'\\' || second == b'\r' && (first == b'\\' || first == b'\r')
 }
 
+/// The most slashes that begin no block comment and that `quoted_line_len` passes over. A line with
+/// more is read faster without it.
+const MOST_SLASHES: usize = 2;
+
 /// Returns the length of the rest of a line with its newline, which begins with a quote outside
 /// comments and literals. Whatever its literals and comments are, the next line begins outside
 /// them.
 ///
-/// That isn't known if a block comment may be open at the newline, or if the newline may belong to
-/// a splice. Then `Err` has the position up to which the line was looked at.
+/// That isn't known if a block comment may be open at the newline, if the newline may belong to a
+/// splice, or if too many slashes come before it. Then `Err` has the position up to which the line
+/// was looked at.
 pub(crate) fn quoted_line_len(rest: &[u8]) -> Result<usize, usize>
     requires some { 0 < length rest.now }
     requires first { is_quote (slice_index rest.now 0) ≡ true }
@@ -149,6 +154,7 @@ pub(crate) fn quoted_line_len(rest: &[u8]) -> Result<usize, usize>
     let mut at = 1;
     // The end of the last `/*`, or 0 if no block comment can be open.
     let mut begun = 0;
+    let mut slashes = 0;
     while at < rest.len() {
         let stop = at + find_near(&rest[at..], [b'\n', b'/', b'/', b'/', b'/']);
         if stop >= rest.len() {
@@ -170,6 +176,10 @@ pub(crate) fn quoted_line_len(rest: &[u8]) -> Result<usize, usize>
             begun = stop + 2;
             at = stop + 2;
         } else {
+            if slashes == MOST_SLASHES {
+                return Err(stop);
+            }
+            slashes += 1;
             if begun < stop && rest[stop - 1] == b'*' {
                 begun = 0;
             }

@@ -12,4 +12,4 @@ returns-in-Ok-clause-read c = λ start r.
     c.lines_after_len.ensures.read c.lines_after_len.ensures.ends
 
 pub returns-in-Err-clause-read : goal.returns-in-Err-clause-read
-returns-in-Err-clause-read c = λ start r. c.text_step-in-Err.ensures.read start (reach_searched r _)
+returns-in-Err-clause-read c = λ start r. c.literal_step-in-Err.ensures.read start (reach_searched r _)

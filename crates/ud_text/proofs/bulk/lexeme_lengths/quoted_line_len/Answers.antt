@@ -22,6 +22,7 @@ loop-at-init c = record {
   low = omega arith;
   within = omega (arith, c.requires.some);
   begun = omega arith;
+  few = omega arith;
   opens = quote_opens c.args.rest.now c.requires.first;
   read = quoted_start c.args.rest.now c.requires.some c.requires.first;
 }
@@ -56,6 +57,7 @@ loop-at-preserved-then-rest-stop-eq42 c = record {
   low = omega arith;
   within = omega (arith, c.if-stop-rest-2.false);
   begun = omega arith;
+  few = c.loop-at.invariant.few;
   opens = star_opens c.args.rest.now (c.loop-at.at + c.find_near.result + 1)
       (c.loop-at.at + c.find_near.result + 2) c.if-rest-stop-eq42.true (omega arith);
   read = λ white.
@@ -69,6 +71,7 @@ loop-at-preserved c = record {
   low = omega arith;
   within = omega (arith, c.if-stop-rest-2.false);
   begun = not_later;
+  few = omega (arith, c.loop-at.invariant.few, c.if-slashes-eq-MOST_SLASHES.false);
   opens = none_with _ _ (ne_eqb _ 42 c.if-rest-stop-eq42.false);
   read = read;
 }

@@ -8,6 +8,7 @@ invariant-loop-at l = record {
   low : 1 ≤ l.at;
   within : l.at ≤ length l.rest;
   begun : l.begun ≤ l.at;
+  few : l.slashes ≤ 2;
   opens : opens_at l.rest l.at ≡ false;
   read : (white : Bool) → QuotedTo white l.begun l.rest l.at;
 }
