@@ -34,8 +34,8 @@ use crate::searching::{is_star_pair, last_line_start};
 /// The most bytes of a line with a quote after which short lines are looked for.
 const SHORT_LINE_BYTES: usize = 16;
 
-/// How many bytes after a splice no quote is looked at with the rest of its line: the line mostly
-/// ends in a splice too.
+/// The number of bytes after a splice in which no quote is looked at with the rest of its line. The
+/// line mostly ends in a splice too.
 const SPLICED_BYTES: usize = 64;
 
 /// A position that a skip has reached. The bytes before `at` are read, and `at` lies outside

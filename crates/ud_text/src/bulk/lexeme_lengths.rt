@@ -132,8 +132,8 @@ fn may_splice(first: u8, second: u8) -> bool
     second == b'\\' || second == b'\r' && (first == b'\\' || first == b'\r')
 }
 
-/// The most slashes that begin no block comment and that `quoted_line_len` passes over. A line with
-/// more is read faster without it.
+/// The most slashes that `quoted_line_len` passes over, but for those that begin a block comment.
+/// Each is a search of its own.
 const MOST_SLASHES: usize = 2;
 
 /// Returns the length of the rest of a line with its newline, which begins with a quote outside
