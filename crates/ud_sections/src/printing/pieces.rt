@@ -6,7 +6,7 @@ ghost use Rattle.ud_model.specs.text.Lines.{text_of};
 ghost use Rattle.ud_model.specs.answer.Printing.{opener_keyword};
 ghost use Rattle.ud_model.specs.text.LineViews.{as_line};
 
-use crate::sections::Step;
+use crate::sections::{Span, Step};
 use ud_model::{Line, Verdict};
 
 /// The output for a line: at most five parts, to be written one after the other.
@@ -35,7 +35,7 @@ fn opener_keyword<'a>(len: usize) -> &'a [u8]
 }
 
 impl<'a> Pieces<'a> {
-    ghost use Rattle.std.specs.Prelude.{◌+◌, ◌++◌, length, take, if◌then◌else◌};
+    ghost use Rattle.std.specs.Prelude.{◌+◌, ◌++◌, length, take, drop, if◌then◌else◌};
     ghost use Rattle.ud_model.specs.answer.Printing.{piece_by};
     ghost use Rattle.ud_model.specs.sections.Pruning.{is_removed};
     ghost use Rattle.ud_sections.specs.printing.PieceParts.{concatenated, count_of, is_unchanged};
@@ -88,19 +88,48 @@ impl<'a> Pieces<'a> {
             Verdict::Keep => Pieces::whole(line),
             Verdict::Remove => Pieces::new([blank, &[], &[], &[], &[]], 1, line),
             Verdict::ToIf => {
-                let before = &line.body[..step.keyword.at];
-                let after = &line.body[step.keyword.at + step.keyword.len..];
                 let word = opener_keyword(step.keyword.len);
-                Pieces::new([before, word, after, line.ending, &[]], 4, line)
+                Pieces::with_keyword(line, step.keyword, word)
             }
-            Verdict::ToElse => {
-                let before = &line.body[..step.keyword.at];
-                Pieces::new([before, b"else", line.ending, &[], &[]], 3, line)
-            }
-            Verdict::ToEndif => {
-                let before = &line.body[..step.keyword.at];
-                Pieces::new([before, b"endif", line.ending, &[], &[]], 3, line)
-            }
+            Verdict::ToElse => Pieces::with_end(line, step.keyword.at, b"else"),
+            Verdict::ToEndif => Pieces::with_end(line, step.keyword.at, b"endif"),
+        }
+    }
+
+    /// Creates the output for a line that has `word` in place of its keyword.
+    #[inline(always)]
+    fn with_keyword(line: &Line<'a>, keyword: Span, word: &'a [u8]) -> Pieces<'a>
+        requires within { keyword.at + keyword.len ≤ length line.now.body.now }
+        ensures parts { concatenated result ≡ take keyword.at line.now.body.now ++ word.now ++
+            drop (keyword.at + keyword.len) line.now.body.now ++ line.now.ending.now }
+        ensures count { count_of result ≡ 4 }
+        ensures is_unchanged { is_unchanged result ≡
+            bytes_eq (concatenated result) (text_of (as_line line.now)) }
+    {
+        let (before, rest) = line.body.split_at(keyword.at);
+        let (replaced, after) = rest.split_at(keyword.len);
+        Pieces {
+            slices: [before, word, after, line.ending, &[]],
+            count: 4,
+            same: is_word(replaced, word),
+        }
+    }
+
+    /// Creates the output for a line whose body has `word` in place of its bytes from `at` on.
+    #[inline(always)]
+    fn with_end(line: &Line<'a>, at: usize, word: &'a [u8]) -> Pieces<'a>
+        requires within { at ≤ length line.now.body.now }
+        ensures parts { concatenated result ≡
+            take at line.now.body.now ++ word.now ++ line.now.ending.now }
+        ensures count { count_of result ≡ 3 }
+        ensures is_unchanged { is_unchanged result ≡
+            bytes_eq (concatenated result) (text_of (as_line line.now)) }
+    {
+        let (before, end) = line.body.split_at(at);
+        Pieces {
+            slices: [before, word, line.ending, &[], &[]],
+            count: 3,
+            same: is_word(end, word),
         }
     }
 
@@ -131,6 +160,14 @@ impl<'a> Pieces<'a> {
     {
         self.same
     }
+}
+
+/// Returns whether a text is a word. Most texts differ from it in their first byte or their length.
+#[inline(always)]
+fn is_word(text: &[u8], word: &[u8]) -> bool
+    ensures { result ≡ bytes_eq word.now text.now }
+{
+    text.len() == word.len() && text.first() == word.first() && text == word
 }
 
 /// Returns whether the concatenated parts are a line with its ending.

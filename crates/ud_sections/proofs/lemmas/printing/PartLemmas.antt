@@ -1,8 +1,8 @@
 -- PartLemmas: a line is compared with its parts, part by part: it equals them if the rests are
 -- equal.
-use Rattle.std.proofs.Common.{◌≡◌, ◌∙◌, ◌≤◌, ◌+◌, ◌⊎◌, inl, inr, ℕ, List, [], ◌∷◌, ◌++◌, length, take, drop, get_or, min, Bool, true, false, ◌&&◌, nat_eq, bytes_eq, arith, nat_le, length-append, Bor, zero, suc, add-one, refl, sym, ap, ap₂, subst, append_assoc, take-append-drop}
+use Rattle.std.proofs.Common.{◌≡◌, ◌∙◌, ◌≤◌, ◌+◌, ◌⊎◌, inl, inr, ℕ, List, [], ◌∷◌, ◌++◌, length, take, drop, get_or, min, Bool, true, false, ◌&&◌, nat_eq, bytes_eq, arith, nat_le, length-append, Bor, zero, suc, add-one, refl, sym, ap, ap₂, subst, append_assoc, append-nil, take-append-drop}
 use Rattle.std.specs.List.{flat_map}
-use Rattle.std.proofs.lemmas.List.{take-append-le, length-take}
+use Rattle.std.proofs.lemmas.List.{take-append-le, length-take, append_cancel_right}
 use Rattle.std.proofs.lemmas.Slice.Eq.{bytes_eq-Decides}
 use Rattle.std.proofs.lemmas.Bool.Decides.{nat_tests}
 use Rattle.std.proofs.Math.Seq.{take-append_seam, drop-length}
@@ -26,6 +26,54 @@ other_front x more y h =
     let same : x ++ more ≡ y = (bytes_eq-Decides (x ++ more) y).0 e in
     let prefix : take (length x) y ≡ x = ap (take (length x)) (sym same) ∙ take-append_seam x more in
     cc (h, (bytes_eq-Decides (take (length x) y) x).1 prefix))
+
+same_truth : (p q : Bool) → (p ≡ true → q ≡ true) → (q ≡ true → p ≡ true) → p ≡ q
+same_truth true q f g = sym (f refl)
+same_truth false true f g = g refl
+same_truth false false f g = refl
+
+-- texts that end alike are equal if what comes before is
+same_back : (x a b : List ℕ) → bytes_eq (a ++ x) (b ++ x) ≡ bytes_eq a b
+same_back x a b =
+    same_truth (bytes_eq (a ++ x) (b ++ x)) (bytes_eq a b)
+    (λ e. (bytes_eq-Decides a b).1
+    (append_cancel_right a b x ((bytes_eq-Decides (a ++ x) (b ++ x)).0 e)))
+    (λ e. (bytes_eq-Decides (a ++ x) (b ++ x)).1
+    (ap (λ (t : List ℕ). t ++ x) ((bytes_eq-Decides a b).0 e)))
+
+-- a line with a word in place of some of its bytes is the line if they are that word
+replaced_word : (before word text after : List ℕ) →
+    bytes_eq (before ++ (word ++ after)) (before ++ (text ++ after)) ≡ bytes_eq word text
+replaced_word before word text after =
+    same_front before (word ++ after) (text ++ after) ∙ same_back after word text
+
+-- bytes that are cut at a position
+cut : (n : ℕ) (bytes front back : List ℕ) → front ≡ take n bytes → back ≡ drop n bytes → bytes ≡ front ++ back
+cut n bytes front back f b =
+    sym (take-append-drop n bytes) ∙ ap₂ (λ (x y : List ℕ). x ++ y) (sym f) (sym b)
+
+-- a word in place of the end of a body
+pub replaced_end : (n : ℕ) (body front back word ending : List ℕ) → front ≡ take n body → back ≡ drop n body →
+    bytes_eq (front ++ (word ++ (ending ++ []))) (body ++ ending) ≡ bytes_eq word back
+replaced_end n body front back word ending f b =
+    ap₂ (λ (x y : List ℕ). bytes_eq (front ++ (word ++ x)) (y ++ ending))
+    (append-nil ending) (cut n body front back f b)
+    ∙ ap (bytes_eq (front ++ (word ++ ending))) (append_assoc front back ending)
+    ∙ replaced_word front word back ending
+
+-- a word in place of a part of a body
+pub replaced_part : (n k : ℕ) (body front rest part back word ending : List ℕ) → front ≡ take n body →
+    rest ≡ drop n body → part ≡ take k rest → back ≡ drop k rest →
+    bytes_eq (front ++ (word ++ (back ++ (ending ++ [])))) (body ++ ending) ≡ bytes_eq word part
+replaced_part n k body front rest part back word ending f r p b =
+    ap₂ (λ (x y : List ℕ). bytes_eq (front ++ (word ++ (back ++ x))) (y ++ ending))
+    (append-nil ending) (cut n body front rest f r)
+    ∙ ap (bytes_eq (front ++ (word ++ (back ++ ending)))) (append_assoc front rest ending)
+    ∙ ap (λ (t : List ℕ). bytes_eq (front ++ (word ++ (back ++ ending))) (front ++ (t ++ ending)))
+    (cut k rest part back p b)
+    ∙ ap (λ (t : List ℕ). bytes_eq (front ++ (word ++ (back ++ ending))) (front ++ t))
+    (append_assoc part back ending)
+    ∙ replaced_word front word part (back ++ ending)
 
 -- A part is split where a body ends: its prefix is in the body, and if something follows, the body
 -- has no more.
