@@ -12,13 +12,14 @@ ghost use Rattle.std.specs.Prelude.{◌≡◌, ℕ, suc, ◌+◌, ◌<◌, ◌�
 ghost use Rattle.std.specs.Prelude.{take, drop, true, false, Some, None, IfOk, IfErr, OnOk, OnErr};
 ghost use Rattle.std.specs.Prelude.{IfSome, OnSome, IfNone, Ok, Err, IsTrue, MatchResult, Bool};
 ghost use Rattle.ud_model.specs.text.Lines.{NoNewline, whole_lines, partial_line, line_at, text_of};
-ghost use Rattle.ud_model.specs.text.Lines.{is_ending};
+ghost use Rattle.ud_model.specs.text.Lines.{is_ending, IsWhole};
 ghost use Rattle.ud_text.specs.lines.Borrowing.{CanBorrow, IsFirstLine};
 ghost use Rattle.ud_text.specs.lines.LinesState.{LinesRepresent, UpToNewline, BreaksLimit};
 ghost use Rattle.ud_text.specs.lines.LinesState.{with_fault, HasCapacity, IsComplete, IsLastLine};
 ghost use Rattle.ud_text.specs.lines.LinesState.{IsLineOf, Closes};
 ghost use Rattle.ud_model.specs.text.LineViews.{as_line};
-ghost use Rattle.ud_text.specs.lines.Consuming.{CanConsume};
+ghost use Rattle.ud_text.specs.lines.Consuming.{CanConsume, EachFits};
+ghost use Rattle.ud_text.specs.bulk.BulkScanning.{AreWholeLines};
 
 use crate::searching::simd::find_in_lanes;
 use memchr::memchr;
@@ -245,6 +246,36 @@ impl<H: LineBuffer> Lines<H> {
         })
     }
 
+    /// Returns the next line, borrowed from `lines`, and consumes it.
+    ///
+    /// `lines` are whole lines that `consume` accepts, at least one. The result is that of
+    /// `whole_in`, which has to find out whether a line may be borrowed.
+    #[inline(always)]
+    pub fn next_in<'a>(&mut self, lines: &'a [u8]) -> Line<'a>
+        requires whole_lines { CanConsume self.old lines.now }
+        requires some { 0 < length lines.now }
+        requires not_closed { self.old.closed ≡ false }
+        ensures borrowed { CanBorrow self.old lines.now (length (text_of (as_line result))) }
+        ensures value { as_line result ≡ line_at (suc self.old.before)
+            (take (length (text_of (as_line result))) lines.now) }
+        ensures bytes { text_of (as_line result) ≡
+            take (length (text_of (as_line result))) lines.now }
+        ensures one_line { NoNewline result.body.now }
+        ensures bound { result.number ≤ self.old.last_line }
+        ensures counted { self.new ≡ record self.old { before = self.old.before + 1 } }
+        ensures represents { (text : List ℕ) → LinesRepresent self.old text →
+            LinesRepresent self.new (text ++ text_of (as_line result)) }
+    {
+        let (body, ending) = split_newline(first_of(lines));
+        let number = self.consumed + 1;
+        self.consumed = number;
+        Line {
+            body,
+            ending,
+            number,
+        }
+    }
+
     /// Returns the length of a prefix of `chunk`, whole lines that `consume` accepts.
     ///
     /// `chunk` may have any length and any bytes. The result is 0 if bytes of a line are buffered,
@@ -462,6 +493,34 @@ fn first_line(chunk: &[u8]) -> Option<&[u8]>
         Some(chunk.split_at(taken.used).0)
     } else {
         None
+    }
+}
+
+/// Returns the first of some whole lines, with its ending.
+#[inline(always)]
+fn first_of(lines: &[u8]) -> &[u8]
+    requires whole { AreWholeLines lines.now }
+    requires some { 0 < length lines.now }
+    requires fit { EachFits (whole_lines lines.now) }
+    ensures { IsFirstLine lines.now result.now }
+{
+    match find_newline(lines) {
+        Some(at) => &lines[..at + 1],
+        None => unreachable!(),
+    }
+}
+
+/// Splits a line that has its newline into its body and its ending.
+#[inline(always)]
+fn split_newline(line: &[u8]) -> (&[u8], &[u8])
+    requires { IsWhole line.now }
+    ensures value { (number : ℕ) →
+        IsLineOf result.0.now result.1.now number (line_at number line.now) }
+    ensures ended { IsTrue (is_ending result.1.now) }
+{
+    match line {
+        [.., b'\r', _] => line.split_at(line.len() - 2),
+        _ => line.split_at(line.len() - 1),
     }
 }
 

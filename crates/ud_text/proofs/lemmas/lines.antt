@@ -6,3 +6,4 @@ pub mod ConsumeLemmas
 pub mod CountLemmas
 pub mod NearNewlines
 pub mod FirstLineLemmas
+pub mod NextLineLemmas

@@ -1,0 +1,40 @@
+-- Next lines: the first of some whole lines.
+use Rattle.std.proofs.Common.{◌≡◌, ◌∙◌, ◌<◌, ◌∷◌, sym, ap, subst, refl, List, ℕ, true, length, take, drop, take-append-drop, arith}
+use Rattle.std.proofs.lemmas.List.{length-take-le}
+use Rattle.ud_model.specs.text.Lines.{NoNewline, IsWhole, SplitLines, split_lines, whole_lines, partial_line}
+use Rattle.ud_model.proofs.text.LinesLemmas.{split_lines-open, split_lines-line-prefix}
+use Rattle.ud_text.specs.lines.LinesState.{LinesState, UpToNewline}
+use Rattle.ud_text.specs.lines.Borrowing.{IsFirstLine}
+use Rattle.ud_text.specs.lines.Consuming.{CanConsume, EachFits}
+use Rattle.ud_text.specs.bulk.BulkScanning.{AreWholeLines}
+
+-- bytes without a newline are whole lines only if there are none
+pub no_lines : (bytes : List ℕ) → AreWholeLines bytes → 0 < length bytes → NoNewline bytes → ⊥
+no_lines bytes ends some none =
+    let rest : partial_line bytes ≡ bytes = ap (λ (q : SplitLines). q.rest) (split_lines-open bytes none) in
+    omega (arith, some, ap length (sym rest ∙ ends))
+
+-- the prefix up to the first newline is the first whole line
+first_split : (bytes : List ℕ) (used : ℕ) → UpToNewline bytes used true →
+    whole_lines bytes ≡ take used bytes ∷ whole_lines (drop used bytes)
+first_split bytes used to =
+    ap whole_lines (sym (take-append-drop used bytes))
+    ∙ ap (λ (q : SplitLines). q.whole)
+    (split_lines-line-prefix (take used bytes) (drop used bytes) (to.line refl))
+
+-- it is no longer than a line may be, if each line fits
+pub is_first : (bytes : List ℕ) (used : ℕ) → UpToNewline bytes used true → EachFits (whole_lines bytes) →
+    IsFirstLine bytes (take used bytes)
+is_first bytes used to fit =
+    let len : length (take used bytes) ≡ used = length-take-le used bytes to.within in
+    record {
+      prefix = subst (λ (n : ℕ). UpToNewline bytes n true) (sym len) to;
+      bytes = ap (λ (n : ℕ). take n bytes) (sym len);
+      fits = (subst EachFits (first_split bytes used to) fit).0;
+    }
+
+-- one more line may come before the first of lines that can be consumed
+pub first_numbered : (lines : LinesState) (bytes line : List ℕ) → CanConsume lines bytes → IsFirstLine bytes line →
+    lines.before < lines.last_line
+first_numbered lines bytes line can f =
+    omega (arith, can.numbered, ap length (first_split bytes (length line) f.prefix))
