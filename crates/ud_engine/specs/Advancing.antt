@@ -9,7 +9,7 @@
 --   StopsIn s rest f                           the next line of an engine in this session is faulty
 --   TakesPart .. e f rest pending out out' r   the one or the other, in each session
 --   Steps .. e f s piece at old new next       an engine took the bytes between two cursors
---   Moves .. e f piece at out out' result      it did, or its next line is faulty, in each session
+--   Moves .. e f piece at next out out' result it did, or its next line is faulty, in each session
 --   IsNext room lines piece at next            a cursor after another one
 --   IsPart room lines rest used                the first bytes of `rest` are taken
 --   IsStep e f out out' result                 output and recorded fault after a step
@@ -106,14 +106,16 @@ Steps represents piece_of e f s piece at old new next =
     (e.buffered ++ slice_between piece at.pending_start at.pos)
     (f.buffered ++ slice_between piece next.pending_start next.pos)
 
--- `Moves .. contents e f piece at out out' result`: in each session of `e`, it took the bytes from
--- the cursor `at` to the next one (`Steps`); or the line after `at` is faulty (`StopsIn`).
-abbrev pub Moves : {S W : Type 0} → (S → List Judged → Type 0) → (S → List Judged → Judged →
-    List ℕ) → (W → Option (List ℕ)) → EngineState S → EngineState S → List ℕ → Cursor →
-    WatchedState W → WatchedState W → Result Cursor RunFault → Type 0
-Moves represents piece_of contents e f piece at out out' result =
+-- `Moves .. contents e f piece at next out out' result`: in each session of `e`, it took the bytes
+-- from the cursor `at` to the cursor `next` (`Steps`); or the line after `at` is faulty
+-- (`StopsIn`).
+abbrev pub Moves : {S W T : Type 0} → (S → List Judged → Type 0) → (S → List Judged → Judged →
+    List ℕ) → (W → Option (List ℕ)) → EngineState S → EngineState S → List ℕ → Cursor → Cursor →
+    WatchedState W → WatchedState W → Result T RunFault → Type 0
+Moves represents piece_of contents e f piece at next out out' result =
     (s : Session) → IsBufferedIn represents piece_of e s → MatchResult result
-    (Steps represents piece_of e f s piece at (stream_of contents out) (stream_of contents out'))
+    (λ _. Steps represents piece_of e f s piece at (stream_of contents out)
+    (stream_of contents out') next)
     (StopsIn s (drop at.pos piece))
 
 -- `IsNext room lines piece at next`: `next` is a cursor in `piece`, not before `at`, and less is

@@ -7,8 +7,9 @@
 //! A chunk is processed by steps of a `Cursor`. Each step skips many text lines, decides one line,
 //! or buffers the line that the chunk begins.
 
-ghost use Rattle.std.specs.Prelude.{◌≡◌, ◌++◌, [], ◌<◌, ◌≤◌, ◌-◌, List, ℕ, length, drop, true};
-ghost use Rattle.std.specs.Prelude.{false, IfOk, IfErr, OnOk, IfSome, None, Some, Err, take};
+ghost use Rattle.std.specs.Prelude.{◌≡◌, ◌++◌, [], ◌<◌, ◌≤◌, ◌-◌, ◌+◌, List, ℕ, suc, length, drop, true};
+ghost use Rattle.std.specs.Prelude.{false, IfOk, IfErr, OnOk, OnErr, IfSome, OnSome, IfNone};
+ghost use Rattle.std.specs.Prelude.{None, Some, Err, take};
 ghost use Rattle.std.specs.Prelude.{is_ok, is_err, not, MatchOption};
 ghost use Rattle.ud_model.specs.sections.Directives.{skip_hash};
 ghost use Rattle.ud_model.specs.sections.Items.{Options};
@@ -17,7 +18,10 @@ ghost use Rattle.ud_model.specs.declared.settings.Listing.TheVariants.{Off};
 ghost use Rattle.ud_cond.specs.symbols.SymbolTable.{TableRepresents};
 ghost use Rattle.ud_io.specs.Streams.{Accepts};
 ghost use Rattle.ud_text.specs.bulk.BulkStates.{is_other_word};
-ghost use Rattle.ud_text.specs.lines.LinesState.{HasCapacity};
+ghost use Rattle.ud_text.specs.lines.LinesState.{HasCapacity, LinesRepresent};
+ghost use Rattle.ud_text.specs.lines.Borrowing.{CanBorrow};
+ghost use Rattle.ud_model.specs.text.Lines.{NoNewline, line_at, text_of};
+ghost use Rattle.ud_model.specs.text.LineViews.{as_line};
 ghost use Rattle.ud_engine.specs.Feeding.{IsOpen, WriterMatches};
 ghost use Rattle.ud_engine.specs.Finishing.{PrintsRest, without_fault};
 ghost use Rattle.ud_engine.specs.Advancing.{IsCursor};
@@ -34,12 +38,9 @@ use ud_faults::RunFault;
 use ud_io::Watched;
 use ud_model::TEXT_LINES;
 use ud_sections::Show;
-use ud_text::{LineBuffer, Lines, LongLineBuffer, is_other_word};
+use ud_text::{Line, LineBuffer, Lines, LongLineBuffer, is_other_word};
 
 /// A position in a chunk. The bytes from `pending_start` to `pos` are to be copied to the output.
-///
-/// A step returns a cursor or a fault, and the first fields share their bytes with those of the
-/// fault. They are the ones that seldom change.
 #[derive(Clone, Copy)]
 struct Cursor {
     /// True after a try to skip text lines: the next line is decided by itself.
@@ -64,6 +65,38 @@ fn cursor_at<H: LineBuffer>(lines: &Lines<H>, chunk: &[u8], at: usize) -> Cursor
         whole_end: at + lines.whole_lines_len(&chunk[at..]),
         bulk_tried: false,
     }
+}
+
+/// Returns the line at a cursor, borrowed from the chunk, and consumes it. Returns `None`, and
+/// changes nothing, if the line is to be buffered or exceeds a limit.
+#[inline(always)]
+fn next_line<'a, H: LineBuffer>(
+    lines: &mut Lines<H>,
+    chunk: &'a [u8],
+    cursor: Cursor,
+) -> Option<Line<'a>>
+    requires cursor { IsCursor H.CAPACITY lines.old chunk.now cursor }
+    requires no_whole_line { lines.old.whole ≡ false }
+    requires not_closed { lines.old.closed ≡ false }
+    ensures borrowed { IfSome result (λ line.
+        CanBorrow lines.old (drop cursor.pos chunk.now) (length (text_of (as_line line)))) }
+    ensures value { IfSome result (λ line. as_line line ≡ line_at (suc lines.old.before)
+        (take (length (text_of (as_line line))) (drop cursor.pos chunk.now))) }
+    ensures bytes { IfSome result (λ line. text_of (as_line line) ≡
+        take (length (text_of (as_line line))) (drop cursor.pos chunk.now)) }
+    ensures one_line { IfSome result (λ line. NoNewline line.body.now) }
+    ensures bound { IfSome result (λ line. line.number ≤ lines.old.last_line) }
+    ensures counted { OnSome result (lines.new ≡
+        record lines.old { before = lines.old.before + 1 }) }
+    ensures represents { IfSome result (λ line.
+        (text : List ℕ) → LinesRepresent lines.old text →
+        LinesRepresent lines.new (text ++ text_of (as_line line))) }
+    ensures unchanged { IfNone result (lines.new ≡ lines.old) }
+{
+    if cursor.pos < cursor.whole_end {
+        return Some(lines.next_in(&chunk[cursor.pos..cursor.whole_end]));
+    }
+    lines.whole_in(&chunk[cursor.pos..])
 }
 
 /// Returns whether a line begins with a `#` that may belong to a directive. A try to skip text
@@ -342,12 +375,9 @@ impl<P: PlanSource, S: Show, H: LineBuffer> EngineOf<P, S, H> {
     {
         let mut cursor = cursor_at(&self.lines, chunk, 0);
         while cursor.pos < chunk.len() {
-            match self.advance(chunk, cursor, out) {
-                Ok(next) => cursor = next,
-                Err(fault) => {
-                    let pending = &chunk[cursor.pending_start..cursor.pos];
-                    return self.end_chunk(Err(fault), pending, out);
-                }
+            if let Err(fault) = self.advance(chunk, &mut cursor, out) {
+                let pending = &chunk[cursor.pending_start..cursor.pos];
+                return self.end_chunk(Err(fault), pending, out);
             }
         }
         self.end_chunk(Ok(()), &chunk[cursor.pending_start..cursor.pos], out)
@@ -383,18 +413,21 @@ impl<P: PlanSource, S: Show, H: LineBuffer> EngineOf<P, S, H> {
     fn advance<W: Write>(
         &mut self,
         chunk: &[u8],
-        cursor: Cursor,
+        cursor: &mut Cursor,
         out: &mut Watched<W>,
-    ) -> Result<Cursor, RunFault>
-        requires cursor { IsCursor H.CAPACITY self.old.lines chunk.now cursor }
-        requires some { cursor.pos < length chunk.now }
-        ensures next { IfOk result (IsNext H.CAPACITY self.new.lines chunk.now cursor) }
-        ensures moves { Moves S.represents S.piece W.contents self.old self.new chunk.now cursor
-            out.old out.new result }
+    ) -> Result<(), RunFault>
+        requires cursor { IsCursor H.CAPACITY self.old.lines chunk.now cursor.old }
+        requires some { cursor.old.pos < length chunk.now }
+        ensures next { OnOk result (IsNext H.CAPACITY self.new.lines chunk.now cursor.old
+            cursor.new) }
+        ensures moves { Moves S.represents S.piece W.contents self.old self.new chunk.now cursor.old
+            cursor.new out.old out.new result }
+        ensures stays { OnErr result (cursor.new ≡ cursor.old) }
         ensures step { IsStep self.old self.new out.old out.new result }
     {
-        if may_skip_text(chunk, cursor) {
-            Ok(self.advance_in_bulk(chunk, cursor, out))
+        if may_skip_text(chunk, *cursor) {
+            *cursor = self.advance_in_bulk(chunk, *cursor, out);
+            Ok(())
         } else {
             self.advance_line(chunk, cursor, out)
         }
@@ -415,7 +448,7 @@ impl<P: PlanSource, S: Show, H: LineBuffer> EngineOf<P, S, H> {
         requires some { cursor.pos < cursor.whole_end }
         ensures next { IsNext H.CAPACITY self.new.lines chunk.now cursor result }
         ensures moves { Moves S.represents S.piece W.contents self.old self.new chunk.now cursor
-            out.old out.new (Ok result) }
+            result out.old out.new (Ok result) }
         ensures fault { self.new.fault ≡ self.old.fault }
     {
         let pending = &chunk[cursor.pending_start..cursor.pos];
@@ -447,22 +480,26 @@ impl<P: PlanSource, S: Show, H: LineBuffer> EngineOf<P, S, H> {
     fn advance_line<W: Write>(
         &mut self,
         chunk: &[u8],
-        cursor: Cursor,
+        cursor: &mut Cursor,
         out: &mut Watched<W>,
-    ) -> Result<Cursor, RunFault>
-        requires cursor { IsCursor H.CAPACITY self.old.lines chunk.now cursor }
-        requires some { cursor.pos < length chunk.now }
-        ensures next { IfOk result (IsNext H.CAPACITY self.new.lines chunk.now cursor) }
-        ensures moves { Moves S.represents S.piece W.contents self.old self.new chunk.now cursor
-            out.old out.new result }
+    ) -> Result<(), RunFault>
+        requires cursor { IsCursor H.CAPACITY self.old.lines chunk.now cursor.old }
+        requires some { cursor.old.pos < length chunk.now }
+        ensures next { OnOk result (IsNext H.CAPACITY self.new.lines chunk.now cursor.old
+            cursor.new) }
+        ensures moves { Moves S.represents S.piece W.contents self.old self.new chunk.now cursor.old
+            cursor.new out.old out.new result }
+        ensures stays { OnErr result (cursor.new ≡ cursor.old) }
         ensures step { IsStep self.old self.new out.old out.new result }
     {
         let pending = &chunk[cursor.pending_start..cursor.pos];
-        let rest = &chunk[cursor.pos..];
-        let Some(line) = self.lines.whole_in(rest) else {
-            match self.push_line_part(rest, pending, out) {
+        let Some(line) = next_line(&mut self.lines, chunk, *cursor) else {
+            match self.push_line_part(&chunk[cursor.pos..], pending, out) {
                 Err(fault) => return Err(fault),
-                Ok(used) => return Ok(cursor_at(&self.lines, chunk, cursor.pos + used)),
+                Ok(used) => {
+                    *cursor = cursor_at(&self.lines, chunk, cursor.pos + used);
+                    return Ok(());
+                }
             }
         };
         let end = cursor.pos + (line.body.len() + line.ending.len());
@@ -472,19 +509,21 @@ impl<P: PlanSource, S: Show, H: LineBuffer> EngineOf<P, S, H> {
             Err(fault) => return Err(RunFault::Section(fault)),
         };
         if put {
-            return Ok(Cursor {
+            *cursor = Cursor {
                 pending_start: end,
                 pos: end,
                 whole_end: cursor.whole_end,
                 bulk_tried: false,
-            });
+            };
+            return Ok(());
         }
-        Ok(Cursor {
+        *cursor = Cursor {
             pending_start: cursor.pending_start,
             pos: end,
             whole_end: cursor.whole_end,
             bulk_tried: false,
-        })
+        };
+        Ok(())
     }
 
     /// Buffers bytes up to the first newline. If they end a line, appends `pending` and the output

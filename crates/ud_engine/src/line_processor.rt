@@ -255,6 +255,10 @@ fn append_line<S: Show, W: Write>(
                 ending: line.ending,
                 number: line.number,
             };
+            let step = Step {
+                verdict: step.verdict,
+                keyword: step.keyword,
+            };
             append_parts_of(show, &copy, step, pending, output, out)
         }
     }

@@ -15,7 +15,7 @@ returns-in-Err-clause-moves g c = λ s old.
     let k = subst (λ (l : LinesState). EngineRepresentsBuffered g.S.Show.represents g.S.Show.piece
     (record { symbols = (g.P.PlanSource.plan c.self.inside.plan).symbols; lines = l; printer = c.self.inside.printer; buffered = c.self.inside.output; fault = c.self.inside.fault }) s.options s.pieces s.text s.printed)
     (sym c.in_default.ensures.unchanged) h in
-    subst (λ (x : List ℕ). StepFails s.options s.pieces (s.text ++ x) s.printed c.in-Err.fault) (slice_from c.args.chunk.now c.args.cursor.pos)
+    subst (λ (x : List ℕ). StepFails s.options s.pieces (s.text ++ x) s.printed c.in-Err.fault) (slice_from c.args.chunk.now c.args.cursor.now.pos)
     (c.in-Err.ensures.takes s k)
 
 pub returns-in-Ok-clause-moves : goal.returns-in-Ok-clause-moves
@@ -24,18 +24,18 @@ returns-in-Ok-clause-moves g c = λ s old.
     let k = subst (λ (l : LinesState). EngineRepresentsBuffered g.S.Show.represents g.S.Show.piece
     (record { symbols = (g.P.PlanSource.plan c.self.inside.plan).symbols; lines = l; printer = c.self.inside.printer; buffered = c.self.inside.output; fault = c.self.inside.fault }) s.options s.pieces s.text s.printed)
     (sym c.in_default.ensures.unchanged) h in
-    let there = λ (e : EngineState g.row.S.Denot) (n from at : ℕ). Advances g.S.Show.represents g.S.Show.piece e s.options s.pieces s.text s.printed (slice_between c.args.chunk.now c.args.cursor.pos n)
+    let there = λ (e : EngineState g.row.S.Denot) (n from at : ℕ). Advances g.S.Show.represents g.S.Show.piece e s.options s.pieces s.text s.printed (slice_between c.args.chunk.now c.args.cursor.now.pos n)
     (stream_of g.W.Write.contents c.args.out.now) (stream_of g.W.Write.contents c.push_line_part.new.out)
-    (c.args.self.now.buffered ++ slice_between c.args.chunk.now c.args.cursor.pending_start c.args.cursor.pos) (e.buffered ++ slice_between c.args.chunk.now from at) in
+    (c.args.self.now.buffered ++ slice_between c.args.chunk.now c.args.cursor.now.pending_start c.args.cursor.now.pos) (e.buffered ++ slice_between c.args.chunk.now from at) in
     subst (λ n. there c.push_line_part.new.self n c.cursor_at.result.pending_start n) (sym c.cursor_at.ensures.at)
-    (subst (λ n. there c.push_line_part.new.self (c.args.cursor.pos + c.in-Ok.used) n (c.args.cursor.pos + c.in-Ok.used)) (sym c.cursor_at.ensures.from)
+    (subst (λ n. there c.push_line_part.new.self (c.args.cursor.now.pos + c.in-Ok.used) n (c.args.cursor.now.pos + c.in-Ok.used)) (sym c.cursor_at.ensures.from)
     (held_taken g.S.Show.represents g.S.Show.piece s.options s.pieces s.text s.printed (stream_of g.W.Write.contents c.args.out.now) (stream_of g.W.Write.contents c.push_line_part.new.out)
-    c.args.chunk.now (take (length c.args.chunk.now - c.args.cursor.pos) (drop c.args.cursor.pos c.args.chunk.now)) c.args.cursor.pos c.in-Ok.used
-    (slice_from c.args.chunk.now c.args.cursor.pos) c.push_line_part.new.self (c.args.self.now.buffered ++ slice_between c.args.chunk.now c.args.cursor.pending_start c.args.cursor.pos)
+    c.args.chunk.now (take (length c.args.chunk.now - c.args.cursor.now.pos) (drop c.args.cursor.now.pos c.args.chunk.now)) c.args.cursor.now.pos c.in-Ok.used
+    (slice_from c.args.chunk.now c.args.cursor.now.pos) c.push_line_part.new.self (c.args.self.now.buffered ++ slice_between c.args.chunk.now c.args.cursor.now.pending_start c.args.cursor.now.pos)
     (subst (λ (e : EngineState g.row.S.Denot). Advances g.S.Show.represents g.S.Show.piece c.push_line_part.new.self s.options s.pieces s.text s.printed
-    (take c.in-Ok.used (take (length c.args.chunk.now - c.args.cursor.pos) (drop c.args.cursor.pos c.args.chunk.now)))
+    (take c.in-Ok.used (take (length c.args.chunk.now - c.args.cursor.now.pos) (drop c.args.cursor.now.pos c.args.chunk.now)))
     (stream_of g.W.Write.contents c.args.out.now) (stream_of g.W.Write.contents c.push_line_part.new.out)
-    (e.buffered ++ slice_between c.args.chunk.now c.args.cursor.pending_start c.args.cursor.pos) c.push_line_part.new.self.buffered) c.self.view_is
+    (e.buffered ++ slice_between c.args.chunk.now c.args.cursor.now.pending_start c.args.cursor.now.pos) c.push_line_part.new.self.buffered) c.self.view_is
     (c.in-Ok.ensures.takes s k))))
 
 pub returns-in-Err-print-clause-moves : goal.returns-in-Err-print-clause-moves
@@ -44,10 +44,10 @@ returns-in-Err-print-clause-moves g c = λ s old.
     let len = length-append c.in-Some.line.body.now c.in-Some.line.ending.now in
     lent_refused g.S.Show.represents g.S.Show.piece s.options s.pieces _ s.text s.printed h (stream_of g.W.Write.contents c.args.out.now) (stream_of g.W.Write.contents c.print.new.out)
     c.args.self.now.buffered (ap (λ (e : EngineState g.row.S.Denot). e.buffered) c.self.view_is) c.args.chunk.now
-    (take (length c.args.chunk.now - c.args.cursor.pos) (drop c.args.cursor.pos c.args.chunk.now)) c.args.cursor.pending_start c.args.cursor.pos
-    (c.args.cursor.pos + (length c.in-Some.line.body.now + length c.in-Some.line.ending.now)) (slice_from c.args.chunk.now c.args.cursor.pos)
+    (drop c.args.cursor.now.pos c.args.chunk.now) c.args.cursor.now.pending_start c.args.cursor.now.pos
+    (c.args.cursor.now.pos + (length c.in-Some.line.body.now + length c.in-Some.line.ending.now)) refl
     c.requires.cursor.from (omega arith)
-    (record { symbols = (g.P.PlanSource.plan c.self.inside.plan).symbols; lines = c.whole_in.new.self; printer = c.print.new.self; buffered = c.print.new.output; fault = c.self.inside.fault })
+    (record { symbols = (g.P.PlanSource.plan c.self.inside.plan).symbols; lines = c.next_line.new.lines; printer = c.print.new.self; buffered = c.print.new.output; fault = c.self.inside.fault })
     (as_line c.in-Some.line) c.in-Some.ensures.borrowed c.in-Some.ensures.bytes (omega (arith, len)) c.in-Some.ensures.value c.in-Some.ensures.counted refl
     (c.in-Some.ensures.represents s.text h.took) c.in-Err-print.fault
     (c.in-Err-print.ensures.prints s.options s.pieces h.items h.tree (subst (λ x. TableRepresents x s.options.table) (sym c.symbols.ensures) h.symbols) h.has)
@@ -58,8 +58,8 @@ returns-then-put-clause-moves g c = λ s old.
     let len = length-append c.in-Some.line.body.now c.in-Some.line.ending.now in
     lent_put g.S.Show.represents g.S.Show.piece s.options s.pieces _ s.text s.printed h (stream_of g.W.Write.contents c.args.out.now) (stream_of g.W.Write.contents c.print.new.out)
     c.args.self.now.buffered (ap (λ (e : EngineState g.row.S.Denot). e.buffered) c.self.view_is) c.args.chunk.now
-    (take (length c.args.chunk.now - c.args.cursor.pos) (drop c.args.cursor.pos c.args.chunk.now)) c.args.cursor.pending_start c.args.cursor.pos
-    (c.args.cursor.pos + (length c.in-Some.line.body.now + length c.in-Some.line.ending.now)) (slice_from c.args.chunk.now c.args.cursor.pos)
+    (drop c.args.cursor.now.pos c.args.chunk.now) c.args.cursor.now.pending_start c.args.cursor.now.pos
+    (c.args.cursor.now.pos + (length c.in-Some.line.body.now + length c.in-Some.line.ending.now)) refl
     c.requires.cursor.from (omega arith)
     _ (as_line c.in-Some.line) c.in-Some.ensures.borrowed c.in-Some.ensures.bytes (omega (arith, len)) c.in-Some.ensures.value c.in-Some.ensures.counted refl
     (c.in-Some.ensures.represents s.text h.took)
@@ -72,8 +72,8 @@ returns-clause-moves g c = λ s old.
     let len = length-append c.in-Some.line.body.now c.in-Some.line.ending.now in
     lent_kept g.S.Show.represents g.S.Show.piece s.options s.pieces _ s.text s.printed h (stream_of g.W.Write.contents c.args.out.now) (stream_of g.W.Write.contents c.print.new.out)
     c.args.self.now.buffered (ap (λ (e : EngineState g.row.S.Denot). e.buffered) c.self.view_is) c.args.chunk.now
-    (take (length c.args.chunk.now - c.args.cursor.pos) (drop c.args.cursor.pos c.args.chunk.now)) c.args.cursor.pending_start c.args.cursor.pos
-    (c.args.cursor.pos + (length c.in-Some.line.body.now + length c.in-Some.line.ending.now)) (slice_from c.args.chunk.now c.args.cursor.pos)
+    (drop c.args.cursor.now.pos c.args.chunk.now) c.args.cursor.now.pending_start c.args.cursor.now.pos
+    (c.args.cursor.now.pos + (length c.in-Some.line.body.now + length c.in-Some.line.ending.now)) refl
     c.requires.cursor.from (omega arith)
     _ (as_line c.in-Some.line) c.in-Some.ensures.borrowed c.in-Some.ensures.bytes (omega (arith, len)) c.in-Some.ensures.value c.in-Some.ensures.counted refl
     (c.in-Some.ensures.represents s.text h.took)
@@ -82,21 +82,21 @@ returns-clause-moves g c = λ s old.
 
 pub returns-then-put-clause-next : goal.returns-then-put-clause-next
 returns-then-put-clause-next g c =
-    let place = subst (λ (e : EngineState g.row.S.Denot). IsCursor g.H.LineBuffer.CAPACITY e.lines c.args.chunk.now c.args.cursor) (sym c.self.view_is) c.requires.cursor in
+    let place = subst (λ (e : EngineState g.row.S.Denot). IsCursor g.H.LineBuffer.CAPACITY e.lines c.args.chunk.now c.args.cursor.now) (sym c.self.view_is) c.requires.cursor in
     let len = length-append c.in-Some.line.body.now c.in-Some.line.ending.now in
-    next_after_line g.H.LineBuffer.CAPACITY c.self.inside.lines c.whole_in.new.self c.args.chunk.now
-    (take (length c.args.chunk.now - c.args.cursor.pos) (drop c.args.cursor.pos c.args.chunk.now)) c.args.cursor (slice_from c.args.chunk.now c.args.cursor.pos) c.requires.some place
+    next_after_line g.H.LineBuffer.CAPACITY c.self.inside.lines c.next_line.new.lines c.args.chunk.now
+    (drop c.args.cursor.now.pos c.args.chunk.now) c.args.cursor.now refl c.requires.some place
     (as_line c.in-Some.line) c.in-Some.ensures.borrowed
-    (c.args.cursor.pos + (length c.in-Some.line.body.now + length c.in-Some.line.ending.now)) (omega (arith, len)) c.in-Some.ensures.counted
-    (c.args.cursor.pos + (length c.in-Some.line.body.now + length c.in-Some.line.ending.now)) (omega arith)
+    (c.args.cursor.now.pos + (length c.in-Some.line.body.now + length c.in-Some.line.ending.now)) (omega (arith, len)) c.in-Some.ensures.counted
+    (c.args.cursor.now.pos + (length c.in-Some.line.body.now + length c.in-Some.line.ending.now)) (omega arith)
 
 pub returns-clause-next : goal.returns-clause-next
 returns-clause-next g c =
-    let place = subst (λ (e : EngineState g.row.S.Denot). IsCursor g.H.LineBuffer.CAPACITY e.lines c.args.chunk.now c.args.cursor) (sym c.self.view_is) c.requires.cursor in
+    let place = subst (λ (e : EngineState g.row.S.Denot). IsCursor g.H.LineBuffer.CAPACITY e.lines c.args.chunk.now c.args.cursor.now) (sym c.self.view_is) c.requires.cursor in
     let len = length-append c.in-Some.line.body.now c.in-Some.line.ending.now in
     let from = c.requires.cursor.from in
-    next_after_line g.H.LineBuffer.CAPACITY c.self.inside.lines c.whole_in.new.self c.args.chunk.now
-    (take (length c.args.chunk.now - c.args.cursor.pos) (drop c.args.cursor.pos c.args.chunk.now)) c.args.cursor (slice_from c.args.chunk.now c.args.cursor.pos) c.requires.some place
+    next_after_line g.H.LineBuffer.CAPACITY c.self.inside.lines c.next_line.new.lines c.args.chunk.now
+    (drop c.args.cursor.now.pos c.args.chunk.now) c.args.cursor.now refl c.requires.some place
     (as_line c.in-Some.line) c.in-Some.ensures.borrowed
-    (c.args.cursor.pos + (length c.in-Some.line.body.now + length c.in-Some.line.ending.now)) (omega (arith, len)) c.in-Some.ensures.counted
-    c.args.cursor.pending_start (omega (arith, from))
+    (c.args.cursor.now.pos + (length c.in-Some.line.body.now + length c.in-Some.line.ending.now)) (omega (arith, len)) c.in-Some.ensures.counted
+    c.args.cursor.now.pending_start (omega (arith, from))
