@@ -385,20 +385,29 @@ impl LineDecider {
     #[inline(never)]
     pub(crate) fn list_names<W: Write>(
         &mut self,
-        line: &Line<'_>,
+        body: &[u8],
+        ending: &[u8],
+        number: u32,
         symbols: &Symbols,
         lister: &mut Lister,
         pending: &[u8],
         output: &mut Output,
         out: &mut Watched<W>,
     ) -> Result<(), SectionFault>
-        requires within { IsWithinLimits (as_line line.now) }
-        requires one_line { NoNewline line.now.body.now }
-        ensures lists { ListsNext W.contents symbols.now self.old self.new (as_line line.now)
-            lister.old pending.now output.old output.new out.old out.new result }
+        requires ended { IsTrue (is_ending ending.now) }
+        requires within { IsWithinLimits (line_with body.now ending.now number) }
+        requires one_line { NoNewline body.now }
+        ensures lists { ListsNext W.contents symbols.now self.old self.new
+            (line_with body.now ending.now number) lister.old pending.now output.old output.new
+            out.old out.new result }
         ensures unchanged { OnErr result ((out.new ≡ out.old) × (output.new ≡ output.old)) }
         ensures stays { lister.new ≡ lister.old }
     {
+        let line = &Line {
+            body,
+            ending,
+            number,
+        };
         let Some(scan) = self.scanner.read_unmarked(line) else {
             return self.list_names_marked(line, symbols, lister, pending, output, out);
         };

@@ -5,8 +5,8 @@
 //! neighbors.
 
 ghost use Rattle.std.specs.Prelude.{◌≡◌, bytes_eq, ◌∷◌, [], ◌++◌, ◌≤◌, List, ℕ, length, take, true};
-ghost use Rattle.std.specs.Prelude.{false, OnErr};
-ghost use Rattle.ud_model.specs.text.Lines.{NoNewline, text_of};
+ghost use Rattle.std.specs.Prelude.{false, OnErr, IsTrue};
+ghost use Rattle.ud_model.specs.text.Lines.{NoNewline, is_ending, text_of};
 ghost use Rattle.ud_model.specs.answer.Printing.{Judged};
 ghost use Rattle.ud_model.specs.declared.limits.TheConstants.{TEXT_LINES};
 ghost use Rattle.ud_text.specs.lines.LinesState.{LinesRepresent};
@@ -15,10 +15,10 @@ ghost use Rattle.ud_text.specs.bulk.BulkScanning.{AreWholeLines};
 ghost use Rattle.ud_text.specs.lines.Consuming.{CanConsume};
 ghost use Rattle.ud_sections.specs.sections.Limits.{IsWithinLimits};
 ghost use Rattle.ud_sections.specs.sections.MachineState.{end_fault_of};
-ghost use Rattle.ud_sections.specs.sections.StepViews.{judged_step, HoldsKeyword};
+ghost use Rattle.ud_sections.specs.sections.StepViews.{judged_step, HoldsKeyword, KeywordIsWithin};
 ghost use Rattle.ud_engine.specs.ProcessedLines.{ShowsLine, IsLeftOf, lister_of, printed_of};
-ghost use Rattle.ud_engine.specs.ProcessedLines.{ShowsNext};
-ghost use Rattle.ud_engine.specs.DecidedLines.{consumed};
+ghost use Rattle.ud_engine.specs.ProcessedLines.{ShowsNext, judged_as};
+ghost use Rattle.ud_engine.specs.DecidedLines.{consumed, line_with};
 ghost use Rattle.ud_io.specs.Streams.{stream_of};
 
 use crate::line_decider::LineDecider;
@@ -26,8 +26,8 @@ use crate::output::Output;
 use std::io::Write;
 use ud_cond::Symbols;
 use ud_io::Watched;
-use ud_model::{Listing, Settings};
-use ud_sections::{LineOutput, Lister, SectionFault, Show, Step};
+use ud_model::{Listing, Settings, Verdict};
+use ud_sections::{LineOutput, Lister, SectionFault, Show, Span, Step};
 use ud_text::{Line, LineBuffer, Lines};
 
 /// A processor that decides the lines of a text in order, and prints the output for each, or lists
@@ -104,14 +104,16 @@ impl<S: Show> LineProcessor<S> {
     {
         match &mut self.lister {
             Some(lister) => {
-                let copy = Line {
-                    body: line.body,
-                    ending: line.ending,
-                    number: line.number,
-                };
-                let listed = self
-                    .decider
-                    .list_names(&copy, symbols, lister, pending, output, out);
+                let listed = self.decider.list_names(
+                    line.body,
+                    line.ending,
+                    line.number,
+                    symbols,
+                    lister,
+                    pending,
+                    output,
+                    out,
+                );
                 match listed {
                     Err(fault) => Err(fault),
                     Ok(()) => Ok(true),
@@ -120,7 +122,7 @@ impl<S: Show> LineProcessor<S> {
             None => match self.decider.decide(line, symbols) {
                 Err(fault) => Err(fault),
                 Ok(step) => {
-                    let shown = append_line(&mut self.printer, line, step, pending, output, out);
+                    let shown = append_line(&mut self.printer, line, &step, pending, output, out);
                     self.differs |= shown;
                     Ok(shown)
                 }
@@ -232,35 +234,34 @@ impl<S: Show> LineProcessor<S> {
 fn append_line<S: Show, W: Write>(
     show: &mut S,
     line: &Line<'_>,
-    step: Step,
+    step: &Step,
     pending: &[u8],
     output: &mut Output,
     out: &mut Watched<W>,
 ) -> bool
-    requires keyword { HoldsKeyword step line.now }
+    requires keyword { HoldsKeyword step.now line.now }
     ensures represents { (before : List Judged) → S.represents show.old before →
-        S.represents show.new (before ++ judged_step line.now step ∷ []) }
+        S.represents show.new (before ++ judged_step line.now step.now ∷ []) }
     ensures stays { (before : List Judged) → (j : Judged) →
         S.piece show.new before j ≡ S.piece show.old before j }
-    ensures shows { ShowsNext S.represents S.piece W.contents show.old (judged_step line.now step)
+    ensures shows { ShowsNext S.represents S.piece W.contents show.old (judged_step line.now step.now)
         pending.now output.old output.new out.old out.new result }
 {
     match show.line_output(step.verdict) {
         LineOutput::Whole => false,
         LineOutput::Nothing => append_line_output(line, &[], pending, output, out),
         LineOutput::Ending => append_line_output(line, line.ending, pending, output, out),
-        LineOutput::Parts => {
-            let copy = Line {
-                body: line.body,
-                ending: line.ending,
-                number: line.number,
-            };
-            let step = Step {
-                verdict: step.verdict,
-                keyword: step.keyword,
-            };
-            append_parts_of(show, &copy, step, pending, output, out)
-        }
+        LineOutput::Parts => append_parts_of(
+            show,
+            line.body,
+            line.ending,
+            line.number,
+            step.verdict,
+            step.keyword,
+            pending,
+            output,
+            out,
+        ),
     }
 }
 
@@ -299,28 +300,38 @@ fn is_line(left: &[u8], line: &Line<'_>) -> bool
 
 /// Appends `pending` and the parts that the printer makes of the next line, if they differ from the
 /// line. Returns whether they were appended.
+///
+/// The parts of the line and of its step go by registers or by the stack, and only for such a line.
+/// So others need no memory.
 #[inline(never)]
 fn append_parts_of<S: Show, W: Write>(
     show: &mut S,
-    line: &Line<'_>,
-    step: Step,
+    body: &[u8],
+    ending: &[u8],
+    number: u32,
+    verdict: Verdict,
+    keyword: Span,
     pending: &[u8],
     output: &mut Output,
     out: &mut Watched<W>,
 ) -> bool
-    requires keyword { HoldsKeyword step line.now }
+    requires ended { IsTrue (is_ending ending.now) }
+    requires keyword { KeywordIsWithin verdict keyword body.now }
     ensures represents { (before : List Judged) → S.represents show.old before →
-        S.represents show.new (before ++ judged_step line.now step ∷ []) }
+        S.represents show.new
+        (before ++ judged_as (line_with body.now ending.now number) verdict keyword ∷ []) }
     ensures stays { (before : List Judged) → (j : Judged) →
         S.piece show.new before j ≡ S.piece show.old before j }
-    ensures shows { ShowsNext S.represents S.piece W.contents show.old (judged_step line.now step)
+    ensures shows { ShowsNext S.represents S.piece W.contents show.old
+        (judged_as (line_with body.now ending.now number) verdict keyword)
         pending.now output.old output.new out.old out.new result }
 {
     let line = Line {
-        body: line.body,
-        ending: line.ending,
-        number: line.number,
+        body,
+        ending,
+        number,
     };
+    let step = Step { verdict, keyword };
     let pieces = show.pieces(&line, step);
     if pieces.same() {
         return false;
