@@ -323,11 +323,21 @@ impl<H: LineBuffer> Lines<H> {
         ensures bound { result ≤ most }
         ensures fits { HasCapacity H.CAPACITY self.now result }
         ensures short { result < most → H.CAPACITY < LINE_BYTES }
+        ensures full { result < most → H.CAPACITY ≤ length self.now.held + result }
     {
         if H::CAPACITY >= LINE_BYTES {
             return most;
         }
         most.min(H::CAPACITY - self.buffer.as_slice().len())
+    }
+
+    /// Returns whether the next byte begins a line that the text may have. No byte of a line is
+    /// buffered then.
+    pub fn may_begin_line(&self) -> bool
+        ensures { IsTrue result ↔
+            ((self.now.held ≡ []) × (self.now.before < self.now.last_line)) }
+    {
+        self.buffer.as_slice().is_empty() && self.consumed < self.last
     }
 
     /// Converts into the lines with a buffer for a line of any length.

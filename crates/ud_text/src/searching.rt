@@ -178,7 +178,7 @@ pub(crate) fn find_star_pair(bytes: &[u8]) -> usize
 }
 
 /// Returns the beginning of the last line; the end of the bytes if they end with a newline.
-pub(crate) fn last_line_start(bytes: &[u8]) -> usize
+pub fn last_line_start(bytes: &[u8]) -> usize
     ensures { LastLineStarts bytes.now result }
 {
     match memrchr(b'\n', bytes) {
