@@ -35,7 +35,7 @@ import time
 sys.dont_write_bytecode = True
 
 from gate import is_of_gate, jobs
-from prove import HERE, RT, Build, at_or_below, expected, libraries
+from prove import HERE, RT, Build, at_or_below, expected, libraries, link
 
 REFUSED, PROVED, BAD = "refused", "PROVED", "BAD EDIT"
 
@@ -50,6 +50,9 @@ FOLDERS = ["must-fail", "must-fail-second"]
 OBLIGATION = re.compile(r"note: (?:\./)?(src/\S+?\.rt):(\d+):\d+: (?=.*is not proved that)")
 ANSWER = re.compile(r"(?:\./)?proofs/(\S+)/(?:Answers|Invariants|Proof)\.antt:\d+:\d+: error: ")
 ERROR = re.compile(r"(?:note: )?(?:\./)?\S+:\d+:\d+: error")
+
+# What a check says of a function that isn't proved.
+UNPROVED = re.compile(r"fn \S+: (?:not proved|no proof)")
 
 # An error that shows only that an edit took away a name, and says little of the contract.
 NAME = re.compile(r"has no field|is not in scope|has no `|was not admitted")
@@ -157,8 +160,14 @@ class Checks:
 CHECKS = Checks()
 
 
+def link_kept(source, target):
+    """Links a proof that a check kept, which the next one replaces and doesn't write into. Copies any
+    other file."""
+    (link if source.endswith(".oantt") else shutil.copy2)(source, target)
+
+
 class Room:
-    """A copy of a crate and of those below it, with what earlier checks kept of the crate."""
+    """A copy of a crate, with what earlier checks kept of it, beside links to those below it."""
 
     def __init__(self, place, top, crate, below):
         self.folder, self.checks, self.processor = f"{place}/crates/{crate}", 0, 0
@@ -167,10 +176,11 @@ class Room:
             kept = [it for it in lines if re.match(r"\w*", it)[0] in (*below, crate)]
         with open(f"{place}/crates.txt", "w", encoding="utf-8") as it:
             it.writelines(kept)
-        for it in (*below, crate):
+        for it in below:
             # Of what was made of a crate below, only the library is needed.
-            ignore = shutil.ignore_patterns("incremental") if it != crate else None
-            shutil.copytree(f"{top}/crates/{it}", f"{place}/crates/{it}", ignore=ignore)
+            how = {"ignore": shutil.ignore_patterns("incremental"), "copy_function": link}
+            shutil.copytree(f"{top}/crates/{it}", f"{place}/crates/{it}", **how)
+        shutil.copytree(f"{top}/crates/{crate}", self.folder, copy_function=link_kept)
 
     def sources(self):
         """Yields the paths of the crate's files of code."""
@@ -278,7 +288,8 @@ def verdict_of(status, said):
     """Returns the verdict on an edit that was checked alone, and the reason."""
     if not status:
         return PROVED, "the contract accepts it"
-    goals = [it for it in said if OBLIGATION.match(it) or ERROR.match(it)] or said[-1:]
+    goals = [it for it in said if OBLIGATION.match(it) or ERROR.match(it)]
+    goals = goals or [it for it in said if UNPROVED.match(it)] or said[-1:]
     first = next((it for it in goals if not NAME.search(it)), goals[0])
     return REFUSED if is_unproved(status, said) else BAD, first
 
@@ -329,7 +340,7 @@ def run(top, crate, below, folders, alone):
     found, begin = {REFUSED: [], PROVED: [], BAD: []}, time.monotonic()
     edits, bad = edits_of(top, crate, folders)
     edits = [it for it in edits if not it.is_of_gate]
-    with tempfile.TemporaryDirectory(prefix="edits-") as place:
+    with tempfile.TemporaryDirectory(prefix=".edits-", dir=top) as place:
         room = Room(place, top, crate, below)
         for name, verdict, reason in try_edits(room, edits, alone):
             found[verdict].append(name)
