@@ -306,9 +306,14 @@ def try_edits(room, edits, alone):
         reasons = batch.reasons(said, room) if is_unproved(status, said) else {}
         yield from ((edit.name, REFUSED, reason) for edit, reason in reasons.items())
         again = [edit for edit, _ in batch.edits if edit not in reasons]
+        if reasons:
+            # The others join the batches to come.
+            again += [edit for it in left for edit, _ in it.edits]
+            left = batches_of(again, room.read, alone)
+            continue
         # If all are proved together, each is still tried alone. If none is refused though the check
         # fails, an edit may have broken it, and the halves show which one.
-        half = 0 if reasons or not status else len(again) // 2
+        half = len(again) // 2 if status else 0
         left += batches_of(again[:half], room.read, alone)
         left += batches_of(again[half:], room.read, alone or not status)
 
