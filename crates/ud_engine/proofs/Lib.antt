@@ -12,3 +12,4 @@ pub mod EndLemmas
 pub mod RunLemmas
 pub mod RunEndedLemmas
 pub mod FinishLemmas
+pub mod WaitingLemmas

@@ -7,3 +7,4 @@ pub mod Feeding
 pub mod Advancing
 pub mod Finishing
 pub mod Runs
+pub mod Waiting

@@ -215,7 +215,7 @@ impl<P: PlanSource, S: Show, H: LineBuffer> EngineOf<P, S, H> {
     ghost use Rattle.ud_engine.specs.Finishing.{Finishes};
     ghost use Rattle.ud_engine.specs.Advancing.{IsCursor, IsNext, Moves, IsPart, TakesPart, IsStep};
     ghost use Rattle.ud_engine.specs.FaultEffects.{result_after};
-    ghost use Rattle.ud_model.specs.declared.limits.TheConstants.{LINE_BYTES};
+    ghost use Rattle.ud_model.specs.declared.limits.TheConstants.{LINE_BYTES, TEXT_LINES};
 
     /// Returns an engine before the first byte, as `new` does, whose line buffer is an `H`.
     pub(crate) fn with_buffer(plan: P, show: S) -> EngineOf<P, S, H>
@@ -353,8 +353,18 @@ impl<P: PlanSource, S: Show, H: LineBuffer> EngineOf<P, S, H> {
         ensures bound { result ≤ most }
         ensures fits { HasCapacity H.CAPACITY self.now.lines result }
         ensures short { result < most → H.CAPACITY < LINE_BYTES }
+        ensures full { result < most → H.CAPACITY ≤ length self.now.lines.held + result }
     {
         self.lines.remaining_capacity(most)
+    }
+
+    /// Returns whether the next byte begins a line that the text may have. No byte of a line is
+    /// buffered then.
+    pub(crate) fn may_begin_line(&self) -> bool
+        ensures { result ≡ true →
+            (self.now.lines.held ≡ []) × (self.now.lines.before < TEXT_LINES) }
+    {
+        self.lines.may_begin_line()
     }
 
     /// Processes all of a chunk: writes the output for every line that ends in it.

@@ -4,11 +4,14 @@
 //! begins with an engine that buffers a short line only, and takes a buffer for the longest line
 //! when a line doesn't fit.
 
-ghost use Rattle.std.specs.Prelude.{◌≡◌, ◌<◌, ℕ, List, Option, true, false, IfSome, IfNone};
+ghost use Rattle.std.specs.Prelude.{◌≡◌, ◌<◌, ◌≤◌, ℕ, List, Option, length, take, true, false};
+ghost use Rattle.std.specs.Prelude.{IfSome, IfNone, IfOk, IfErr, Err};
 ghost use Rattle.ud_model.specs.sections.Items.{Options};
 ghost use Rattle.ud_cond.specs.symbols.SymbolTable.{TableRepresents};
+ghost use Rattle.ud_text.specs.lines.LinesState.{HasCapacity};
 ghost use Rattle.ud_engine.specs.Runs.{RepresentsSomeText, Finished, FinishesRun, ContinuesRun};
 ghost use Rattle.ud_engine.specs.Runs.{ErrorMatchesStreams};
+ghost use Rattle.ud_engine.specs.Waiting.{IsWaiting, IsFurther, FeedsAllBut, StopsRun, EndsRun};
 ghost use Rattle.ud_model.specs.declared.limits.TheConstants.{LINE_BYTES};
 
 use crate::engine::{Engine, EngineOf};
@@ -17,7 +20,7 @@ use ud_args::Plan;
 use ud_faults::RunFault;
 use ud_io::Watched;
 use ud_sections::Printer;
-use ud_text::{LineBuffer, LongLineBuffer, ShortLineBuffer};
+use ud_text::{LineBuffer, LongLineBuffer, ShortLineBuffer, last_line_start};
 
 /// The most bytes of one read.
 pub(crate) const CHUNK_BYTES: usize = 8_192;
@@ -104,10 +107,12 @@ fn run_with_long_buffer<R: Read, W: Write>(
     }
 }
 
-/// Feeds the engine chunks of `reader` until the text ends or a fault occurs.
+/// Feeds the engine what `reader` gives until the text ends or a fault occurs.
 ///
-/// Reads no more bytes at once than fit in the engine. Returns `None` if none fits, which never
-/// happens with a buffer for the longest line.
+/// The bytes of a line that a read cut wait in the buffer, before those of the next read. So the
+/// engine is fed whole lines, and writes those that stay from the buffer, without a copy. Returns
+/// `None` if the engine can't take as many bytes as the buffer has, which never happens with a
+/// buffer for the longest line. No byte waits then.
 ///
 /// # Errors
 /// As `run`.
@@ -130,20 +135,92 @@ fn pump<R: Read, W: Write, H: LineBuffer>(
     ensures full { IfNone result (H.CAPACITY < LINE_BYTES) }
 {
     let mut buffer = [0u8; CHUNK_BYTES];
+    let mut waiting = 0;
     loop {
-        let capacity = engine.remaining_capacity(CHUNK_BYTES);
-        if capacity == 0 {
+        if engine.remaining_capacity(CHUNK_BYTES) < CHUNK_BYTES {
             return None;
         }
-        let chunk = &mut buffer[..capacity];
-        match reader.read(chunk) {
+        match reader.read(&mut buffer[waiting..]) {
             None => return Some(Err(RunFault::Read)),
-            Some(0) => return Some(engine.finish_in_place(out)),
-            Some(count) => {
-                if let Err(fault) = engine.feed(&chunk[..count], out) {
-                    return Some(Err(fault));
-                }
-            }
+            Some(0) => return Some(finish(engine, &buffer[..waiting], out)),
+            Some(count) => match feed_lines(engine, &mut buffer, waiting + count, out) {
+                Ok(left) => waiting = left,
+                Err(fault) => return Some(Err(fault)),
+            },
         }
+    }
+}
+
+/// Feeds the engine the whole lines of the first `end` bytes of the buffer. Moves the bytes after
+/// them to the buffer's beginning, and returns how many they are.
+///
+/// The engine is fed all bytes, and the result is 0, if the buffer has no room for more, if a part
+/// of a line is buffered by the engine, or if the text may have no further line.
+///
+/// # Errors
+/// As `Engine::feed`.
+fn feed_lines<W: Write, H: LineBuffer>(
+    engine: &mut Engine<'_, Printer, H>,
+    buffer: &mut [u8],
+    end: usize,
+    out: &mut Watched<W>,
+) -> Result<usize, RunFault>
+    requires not_failed { out.old.failed ≡ false }
+    requires begun { RepresentsSomeText engine.old }
+    requires fits { HasCapacity H.CAPACITY engine.old.lines CHUNK_BYTES }
+    requires within { end ≤ length buffer.old }
+    requires few { end ≤ CHUNK_BYTES }
+    ensures len { length buffer.new ≡ length buffer.old }
+    ensures waits { IfOk result (λ left. IsWaiting engine.new.lines (take left buffer.new)) }
+    ensures room { IfOk result (λ left. left < CHUNK_BYTES) }
+    ensures fits { IfOk result (λ left. 0 < left →
+        HasCapacity H.CAPACITY engine.new.lines CHUNK_BYTES) }
+    ensures goes_on { IfOk result (λ left. FeedsAllBut W.contents engine.old engine.new
+        (take end buffer.old) (take left buffer.new) out.old out.new) }
+    ensures begun { IfOk result (λ left. RepresentsSomeText engine.new) }
+    ensures less { IfOk result (λ left. IsFurther engine.old.lines engine.new.lines end left) }
+    ensures writer { IfOk result (λ left. out.new.failed ≡ false) }
+    ensures stops { IfErr result (StopsRun W.contents engine.old (take end buffer.old)
+        out.old out.new) }
+    ensures error_matches { IfErr result
+        (λ fault. ErrorMatchesStreams false out.new.failed (Err fault)) }
+{
+    let whole = last_line_start(&buffer[..end]);
+    if let Err(fault) = engine.feed(&buffer[..whole], out) {
+        return Err(fault);
+    }
+    let left = end - whole;
+    if left < CHUNK_BYTES && engine.may_begin_line() {
+        buffer.copy_within(whole..end, 0);
+        return Ok(left);
+    }
+    match engine.feed(&buffer[whole..end], out) {
+        Ok(()) => Ok(0),
+        Err(fault) => Err(fault),
+    }
+}
+
+/// Feeds the engine the last bytes of the text, which have no newline, and ends the text.
+///
+/// # Errors
+/// As `run`.
+fn finish<W: Write, H: LineBuffer>(
+    engine: &mut Engine<'_, Printer, H>,
+    rest: &[u8],
+    out: &mut Watched<W>,
+) -> Result<bool, RunFault>
+    requires not_failed { out.old.failed ≡ false }
+    requires begun { RepresentsSomeText engine.old }
+    requires fits { HasCapacity H.CAPACITY engine.old.lines CHUNK_BYTES }
+    requires few { length rest.now ≤ CHUNK_BYTES }
+    ensures finished { EndsRun W.contents engine.old rest.now out.old out.new result }
+    ensures error_matches { ErrorMatchesStreams false out.new.failed result }
+{
+    if rest.is_empty() {
+        return engine.finish_in_place(out);
+    }
+    match engine.feed(rest, out) {
+        Ok(()) => engine.finish_in_place(out),
+        Err(fault) => Err(fault),
     }
 }
