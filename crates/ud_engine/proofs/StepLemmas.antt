@@ -9,7 +9,7 @@ use Rattle.ud_model.specs.answer.Printing.{Judged}
 use Rattle.ud_model.specs.answer.Outcomes.{lines_so_far}
 use Rattle.ud_model.specs.declared.limits.TheConstants.{LINE_BYTES, TEXT_LINES}
 use Rattle.ud_model.proofs.text.LinesLemmas.{no_newline-append, text_of-line_at}
-use Rattle.ud_text.specs.lines.LinesState.{LinesState, LinesRepresent, UpToNewline, HasCapacity}
+use Rattle.ud_text.specs.lines.LinesState.{LinesState, LinesRepresent, UpToNewline}
 use Rattle.ud_text.specs.lines.Borrowing.{CanBorrow}
 use Rattle.ud_text.proofs.lemmas.scan.MaskLemmas.{no_newline-take}
 use Rattle.ud_text.proofs.lemmas.bulk.StepLemmas.{drop_both}

@@ -7,9 +7,9 @@
 //! A chunk is processed by steps of a `Cursor`. Each step skips many text lines, decides one line,
 //! or buffers the line that the chunk begins.
 
-ghost use Rattle.std.specs.Prelude.{◌≡◌, ◌++◌, [], ◌<◌, ◌≤◌, ◌-◌, ◌+◌, List, ℕ, suc, length, drop, true};
+ghost use Rattle.std.specs.Prelude.{◌≡◌, ◌++◌, [], ◌<◌, ◌≤◌, ◌-◌, ◌+◌, List, ℕ, suc, length};
 ghost use Rattle.std.specs.Prelude.{false, IfOk, IfErr, OnOk, OnErr, IfSome, OnSome, IfNone};
-ghost use Rattle.std.specs.Prelude.{None, Some, Err, take};
+ghost use Rattle.std.specs.Prelude.{None, Some, Err, take, drop, true};
 ghost use Rattle.std.specs.Prelude.{is_ok, is_err, not, MatchOption};
 ghost use Rattle.ud_model.specs.sections.Directives.{skip_hash};
 ghost use Rattle.ud_model.specs.sections.Items.{Options};

@@ -244,8 +244,8 @@ fn append_line<S: Show, W: Write>(
         S.represents show.new (before ++ judged_step line.now step.now ∷ []) }
     ensures stays { (before : List Judged) → (j : Judged) →
         S.piece show.new before j ≡ S.piece show.old before j }
-    ensures shows { ShowsNext S.represents S.piece W.contents show.old (judged_step line.now step.now)
-        pending.now output.old output.new out.old out.new result }
+    ensures shows { ShowsNext S.represents S.piece W.contents show.old
+        (judged_step line.now step.now) pending.now output.old output.new out.old out.new result }
 {
     match show.line_output(step.verdict) {
         LineOutput::Whole => false,

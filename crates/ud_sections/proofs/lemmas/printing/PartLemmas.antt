@@ -48,13 +48,14 @@ replaced_word before word text after =
     same_front before (word ++ after) (text ++ after) ∙ same_back after word text
 
 -- bytes that are cut at a position
-cut : (n : ℕ) (bytes front back : List ℕ) → front ≡ take n bytes → back ≡ drop n bytes → bytes ≡ front ++ back
+cut : (n : ℕ) (bytes front back : List ℕ) → front ≡ take n bytes → back ≡ drop n bytes →
+    bytes ≡ front ++ back
 cut n bytes front back f b =
     sym (take-append-drop n bytes) ∙ ap₂ (λ (x y : List ℕ). x ++ y) (sym f) (sym b)
 
 -- a word in place of the end of a body
-pub replaced_end : (n : ℕ) (body front back word ending : List ℕ) → front ≡ take n body → back ≡ drop n body →
-    bytes_eq (front ++ (word ++ (ending ++ []))) (body ++ ending) ≡ bytes_eq word back
+pub replaced_end : (n : ℕ) (body front back word ending : List ℕ) → front ≡ take n body →
+    back ≡ drop n body → bytes_eq (front ++ (word ++ (ending ++ []))) (body ++ ending) ≡ bytes_eq word back
 replaced_end n body front back word ending f b =
     ap₂ (λ (x y : List ℕ). bytes_eq (front ++ (word ++ x)) (y ++ ending))
     (append-nil ending) (cut n body front back f b)
@@ -62,8 +63,8 @@ replaced_end n body front back word ending f b =
     ∙ replaced_word front word back ending
 
 -- a word in place of a part of a body
-pub replaced_part : (n k : ℕ) (body front rest part back word ending : List ℕ) → front ≡ take n body →
-    rest ≡ drop n body → part ≡ take k rest → back ≡ drop k rest →
+pub replaced_part : (n k : ℕ) (body front rest part back word ending : List ℕ) →
+    front ≡ take n body → rest ≡ drop n body → part ≡ take k rest → back ≡ drop k rest →
     bytes_eq (front ++ (word ++ (back ++ (ending ++ [])))) (body ++ ending) ≡ bytes_eq word part
 replaced_part n k body front rest part back word ending f r p b =
     ap₂ (λ (x y : List ℕ). bytes_eq (front ++ (word ++ (back ++ x))) (y ++ ending))

@@ -1,7 +1,8 @@
 -- Next lines: the first of some whole lines.
-use Rattle.std.proofs.Common.{◌≡◌, ◌∙◌, ◌<◌, ◌∷◌, sym, ap, subst, refl, List, ℕ, true, length, take, drop, take-append-drop, arith}
+use Rattle.std.proofs.Common.{◌≡◌, ◌∙◌, ◌<◌, ◌∷◌, sym, ap, subst, refl, List, ℕ, true}
+use Rattle.std.proofs.Common.{length, take, drop, take-append-drop, arith}
 use Rattle.std.proofs.lemmas.List.{length-take-le}
-use Rattle.ud_model.specs.text.Lines.{NoNewline, IsWhole, SplitLines, split_lines, whole_lines, partial_line}
+use Rattle.ud_model.specs.text.Lines.{NoNewline, SplitLines, whole_lines, partial_line}
 use Rattle.ud_model.proofs.text.LinesLemmas.{split_lines-open, split_lines-line-prefix}
 use Rattle.ud_text.specs.lines.LinesState.{LinesState, UpToNewline}
 use Rattle.ud_text.specs.lines.Borrowing.{IsFirstLine}
@@ -11,7 +12,8 @@ use Rattle.ud_text.specs.bulk.BulkScanning.{AreWholeLines}
 -- bytes without a newline are whole lines only if there are none
 pub no_lines : (bytes : List ℕ) → AreWholeLines bytes → 0 < length bytes → NoNewline bytes → ⊥
 no_lines bytes ends some none =
-    let rest : partial_line bytes ≡ bytes = ap (λ (q : SplitLines). q.rest) (split_lines-open bytes none) in
+    let rest : partial_line bytes ≡ bytes =
+    ap (λ (q : SplitLines). q.rest) (split_lines-open bytes none) in
     omega (arith, some, ap length (sym rest ∙ ends))
 
 -- the prefix up to the first newline is the first whole line
@@ -23,8 +25,8 @@ first_split bytes used to =
     (split_lines-line-prefix (take used bytes) (drop used bytes) (to.line refl))
 
 -- it is no longer than a line may be, if each line fits
-pub is_first : (bytes : List ℕ) (used : ℕ) → UpToNewline bytes used true → EachFits (whole_lines bytes) →
-    IsFirstLine bytes (take used bytes)
+pub is_first : (bytes : List ℕ) (used : ℕ) → UpToNewline bytes used true →
+    EachFits (whole_lines bytes) → IsFirstLine bytes (take used bytes)
 is_first bytes used to fit =
     let len : length (take used bytes) ≡ used = length-take-le used bytes to.within in
     record {
@@ -34,7 +36,7 @@ is_first bytes used to fit =
     }
 
 -- one more line may come before the first of lines that can be consumed
-pub first_numbered : (lines : LinesState) (bytes line : List ℕ) → CanConsume lines bytes → IsFirstLine bytes line →
-    lines.before < lines.last_line
+pub first_numbered : (lines : LinesState) (bytes line : List ℕ) → CanConsume lines bytes →
+    IsFirstLine bytes line → lines.before < lines.last_line
 first_numbered lines bytes line can f =
     omega (arith, can.numbered, ap length (first_split bytes (length line) f.prefix))

@@ -35,13 +35,16 @@ pub returns-in-Err-clause-feeds : goal.returns-in-Err-clause-feeds
 returns-in-Err-clause-feeds g c = λ s h.
     let k = c.loop-cursor.invariant.taken s h in
     let pending = slice_between c.args.chunk.now c.loop-cursor.cursor.pending_start c.loop-cursor.cursor.pos in
-    let same = ap (λ (r : Cursor). slice_between c.args.chunk.now r.pending_start r.pos) c.in-Err.ensures.stays in
+    let same =
+    ap (λ (r : Cursor). slice_between c.args.chunk.now r.pending_start r.pos)
+    c.in-Err.ensures.stays in
     feed_stops g.S.Show.represents g.S.Show.piece s.options s.pieces s.text s.printed c.loop-cursor.self
     (stream_of g.W.Write.contents c.args.out.now) (stream_of g.W.Write.contents c.loop-cursor.out) (stream_of g.W.Write.contents c.end_chunk.new.out) c.args.chunk.now c.loop-cursor.cursor.pos _ k
     c.requires.not_failed
     (unchanged_sent g.W.Write.contents c.loop-cursor.out c.advance.new.out c.end_chunk.new.out c.loop-cursor.self.buffered c.advance.new.self.buffered pending []
     c.in-Err.fault c.in-Err.ensures.step.output_unchanged
-    (subst (λ x. Accepts g.W.Write.contents c.advance.new.self.buffered [] c.advance.new.out c.end_chunk.new.out x) same c.end_chunk.ensures.written))
+    (subst (λ x. Accepts g.W.Write.contents c.advance.new.self.buffered [] c.advance.new.out
+    c.end_chunk.new.out x) same c.end_chunk.ensures.written))
     c.end_chunk.new.self c.end_chunk.new.out.failed refl c.in-Err.fault c.end_chunk.result c.end_chunk.ensures.ended
     (c.in-Err.ensures.moves (longer s (take c.loop-cursor.cursor.pos c.args.chunk.now) k.more) k.taken)
 

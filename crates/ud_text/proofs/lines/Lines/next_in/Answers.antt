@@ -5,15 +5,20 @@ use Rattle.ud_text.specs.lines.LinesState.{LinesState, LinesRepresent, IsLineOf}
 use Rattle.ud_text.specs.lines.Borrowing.{CanBorrow}
 use Rattle.ud_text.specs.lines.Consuming.{CanConsume}
 use Rattle.ud_text.specs.contracts.lines.Lines.{the_view}
-use Rattle.ud_text.proofs.lemmas.lines.BorrowLemmas.{borrowed_value, borrowed_bytes, borrowed_no_newline, can_borrow, represent_borrowed}
+use Rattle.ud_text.proofs.lemmas.lines.BorrowLemmas.{borrowed_value, borrowed_bytes}
+use Rattle.ud_text.proofs.lemmas.lines.BorrowLemmas.{borrowed_no_newline, can_borrow}
+use Rattle.ud_text.proofs.lemmas.lines.BorrowLemmas.{represent_borrowed}
 use Rattle.ud_text.proofs.lemmas.lines.NextLineLemmas.{first_numbered}
 use Rattle.ud_text.proofs.lines.Lines.next_in.Goals as goal
 
 pub invariant_of-self : goal.invariant_of-self
 invariant_of-self g c =
-    let can : CanConsume (the_view g.row.H g.H.LineBuffer c.self.inside) c.args.lines.now =
-    subst (λ (l : LinesState). CanConsume l c.args.lines.now) (sym c.self.view_is) c.requires.whole_lines in
-    let n = first_numbered (the_view g.row.H g.H.LineBuffer c.self.inside) c.args.lines.now c.first_of.result.now can c.first_of.ensures in
+    let view = the_view g.row.H g.H.LineBuffer c.self.inside in
+    let can : CanConsume view c.args.lines.now =
+    subst (λ (l : LinesState). CanConsume l c.args.lines.now) (sym c.self.view_is)
+    c.requires.whole_lines in
+    let n =
+    first_numbered view c.args.lines.now c.first_of.result.now can c.first_of.ensures in
     let none = ap length can.unheld in (
       c.self.invariant.0,
       omega (arith, n),
@@ -24,42 +29,59 @@ invariant_of-self g c =
 
 pub returns-clause-borrowed : goal.returns-clause-borrowed
 returns-clause-borrowed g c =
-    let can : CanConsume (the_view g.row.H g.H.LineBuffer c.self.inside) c.args.lines.now =
-    subst (λ (l : LinesState). CanConsume l c.args.lines.now) (sym c.self.view_is) c.requires.whole_lines in
-    subst (λ (l : LinesState). CanBorrow l c.args.lines.now (length (c.split_newline.result.0.now ++ c.split_newline.result.1.now))) c.self.view_is
-    (can_borrow (the_view g.row.H g.H.LineBuffer c.self.inside) c.args.lines.now c.split_newline.result.0.now c.split_newline.result.1.now c.first_of.result.now 1
-    can.unheld can.no_fault
-    (first_numbered (the_view g.row.H g.H.LineBuffer c.self.inside) c.args.lines.now c.first_of.result.now can c.first_of.ensures)
+    let view = the_view g.row.H g.H.LineBuffer c.self.inside in
+    let body = c.split_newline.result.0.now in
+    let ending = c.split_newline.result.1.now in
+    let can : CanConsume view c.args.lines.now =
+    subst (λ (l : LinesState). CanConsume l c.args.lines.now) (sym c.self.view_is)
+    c.requires.whole_lines in
+    let n =
+    first_numbered view c.args.lines.now c.first_of.result.now can c.first_of.ensures in
+    subst (λ (l : LinesState). CanBorrow l c.args.lines.now (length (body ++ ending)))
+    c.self.view_is
+    (can_borrow view c.args.lines.now body ending c.first_of.result.now 1 can.unheld can.no_fault n
     c.first_of.ensures (c.split_newline.ensures.value 1))
 
 pub returns-clause-value : goal.returns-clause-value
 returns-clause-value g c =
-    subst (λ (l : LinesState). IsLineOf c.split_newline.result.0.now c.split_newline.result.1.now (c.self.inside.consumed + 1)
-    (line_at (suc l.before) (take (length (c.split_newline.result.0.now ++ c.split_newline.result.1.now)) c.args.lines.now))) c.self.view_is
-    (rw add-one (borrowed_value c.args.lines.now c.split_newline.result.0.now c.split_newline.result.1.now c.first_of.result.now (suc c.self.inside.consumed)
-    c.first_of.ensures (c.split_newline.ensures.value (suc c.self.inside.consumed))))
+    let body = c.split_newline.result.0.now in
+    let ending = c.split_newline.result.1.now in
+    let number = c.self.inside.consumed in
+    subst (λ (l : LinesState). IsLineOf body ending (number + 1)
+    (line_at (suc l.before) (take (length (body ++ ending)) c.args.lines.now))) c.self.view_is
+    (rw add-one (borrowed_value c.args.lines.now body ending c.first_of.result.now (suc number)
+    c.first_of.ensures (c.split_newline.ensures.value (suc number))))
 
 pub returns-clause-bytes : goal.returns-clause-bytes
 returns-clause-bytes g c =
-    borrowed_bytes c.args.lines.now c.split_newline.result.0.now c.split_newline.result.1.now c.first_of.result.now 1
-    c.first_of.ensures (c.split_newline.ensures.value 1)
+    borrowed_bytes c.args.lines.now c.split_newline.result.0.now c.split_newline.result.1.now
+    c.first_of.result.now 1 c.first_of.ensures (c.split_newline.ensures.value 1)
 
 pub returns-clause-one_line : goal.returns-clause-one_line
 returns-clause-one_line g c =
-    borrowed_no_newline c.args.lines.now c.split_newline.result.0.now c.split_newline.result.1.now c.first_of.result.now 1
-    c.first_of.ensures (c.split_newline.ensures.value 1)
+    borrowed_no_newline c.args.lines.now c.split_newline.result.0.now
+    c.split_newline.result.1.now c.first_of.result.now 1 c.first_of.ensures
+    (c.split_newline.ensures.value 1)
 
 pub returns-clause-bound : goal.returns-clause-bound
 returns-clause-bound g c =
-    let can : CanConsume (the_view g.row.H g.H.LineBuffer c.self.inside) c.args.lines.now =
-    subst (λ (l : LinesState). CanConsume l c.args.lines.now) (sym c.self.view_is) c.requires.whole_lines in
-    let n = first_numbered (the_view g.row.H g.H.LineBuffer c.self.inside) c.args.lines.now c.first_of.result.now can c.first_of.ensures in
-    subst (λ (l : LinesState). c.self.inside.consumed + 1 ≤ l.last_line) c.self.view_is (omega (arith, n))
+    let view = the_view g.row.H g.H.LineBuffer c.self.inside in
+    let can : CanConsume view c.args.lines.now =
+    subst (λ (l : LinesState). CanConsume l c.args.lines.now) (sym c.self.view_is)
+    c.requires.whole_lines in
+    let n =
+    first_numbered view c.args.lines.now c.first_of.result.now can c.first_of.ensures in
+    subst (λ (l : LinesState). c.self.inside.consumed + 1 ≤ l.last_line) c.self.view_is
+    (omega (arith, n))
 
 pub returns-clause-represents : goal.returns-clause-represents
 returns-clause-represents g c = λ text took.
-    let can : CanConsume (the_view g.row.H g.H.LineBuffer c.self.inside) c.args.lines.now =
-    subst (λ (l : LinesState). CanConsume l c.args.lines.now) (sym c.self.view_is) c.requires.whole_lines in
-    let before : LinesRepresent (the_view g.row.H g.H.LineBuffer c.self.inside) text = subst (λ (l : LinesState). LinesRepresent l text) (sym c.self.view_is) took in
-    represent_borrowed (the_view g.row.H g.H.LineBuffer c.self.inside) text c.args.lines.now c.split_newline.result.0.now c.split_newline.result.1.now c.first_of.result.now 1
-    can.unheld can.part c.first_of.ensures (c.split_newline.ensures.value 1) before
+    let view = the_view g.row.H g.H.LineBuffer c.self.inside in
+    let can : CanConsume view c.args.lines.now =
+    subst (λ (l : LinesState). CanConsume l c.args.lines.now) (sym c.self.view_is)
+    c.requires.whole_lines in
+    let before : LinesRepresent view text =
+    subst (λ (l : LinesState). LinesRepresent l text) (sym c.self.view_is) took in
+    represent_borrowed view text c.args.lines.now c.split_newline.result.0.now
+    c.split_newline.result.1.now c.first_of.result.now 1 can.unheld can.part c.first_of.ensures
+    (c.split_newline.ensures.value 1) before
