@@ -1,38 +1,35 @@
 -- Waiting: bytes that were read, and wait to be fed with the rest of their line.
-use Rattle.std.proofs.Common.{◌≡◌, inl, inr, ◌⊎◌, ℕ, ◌+◌, ◌*◌, ◌-◌, ◌<◌, ◌≤◌, Bool, true, false, List, [], ◌∷◌, ◌++◌, length, take, drop, Option, Some, None, Result, Ok, Err, refl, sym, ◌∙◌, ap, subst, append_assoc, append-nil, arith, length-append, if◌then◌else◌}
+use Rattle.std.proofs.Common.{◌≡◌, inl, inr, ◌⊎◌, ℕ, ◌+◌, ◌-◌, ◌<◌, ◌≤◌, Bool, true, List, [], ◌∷◌, ◌++◌, length, take, drop, Option, Some, None, Err, refl, sym, ◌∙◌, ap, subst, append_assoc, append-nil, arith, length-append, if◌then◌else◌}
 use Rattle.std.specs.List.{copy_within}
 use Rattle.std.proofs.lemmas.List.{take-take, drop-take, take-append-le}
 use Rattle.std.proofs.lemmas.List.Edits.{take-paste}
 use Rattle.std.proofs.lemmas.Bool.{cases_lt}
 use Rattle.std.proofs.Math.ListN.{length-take, length-drop}
 use Rattle.std.proofs.Math.Seq.{take-add, take-append-add, take-append_seam}
-use Rattle.std.specs.Io.KnownBytes.{Appends, Consumes, Keeps, IsAtEnd, prepend_known}
+use Rattle.std.specs.Io.KnownBytes.{Consumes, Keeps, prepend_known}
 use Rattle.std.proofs.KnownBytes.{Appends-nil, Appends-trans, Consumes-trans, Consumes-kept, prepend_known-nil}
-use Rattle.ud_model.specs.text.Lines.{NoNewline, Line, SplitLines, split_lines, whole_lines, partial_line}
+use Rattle.ud_model.specs.text.Lines.{NoNewline, SplitLines, split_lines, whole_lines, partial_line}
 use Rattle.ud_model.specs.sections.Items.{Options}
 use Rattle.ud_model.specs.answer.Printing.{Judged}
-use Rattle.ud_model.specs.answer.Outcomes.{lines_so_far}
 use Rattle.ud_model.specs.declared.limits.TheConstants.{LINE_BYTES, TEXT_LINES}
 use Rattle.ud_model.proofs.sections.FaultStays.{reads_stay}
 use Rattle.ud_model.proofs.text.LinesLemmas.{Growth, stays_open, ends_line, grows, split_lines-append-open, no_newline-append, lines_so_far-append}
 use Rattle.ud_text.specs.bulk.BulkLexemes.{IsLineStart, at_start, after_newline, LastLineStarts}
-use Rattle.ud_text.specs.lines.LinesState.{LinesState, LinesRepresent, HasCapacity}
+use Rattle.ud_text.specs.lines.LinesState.{LinesState, HasCapacity}
 use Rattle.ud_text.proofs.lemmas.bulk.BulkPlainLemmas.{begins_ends}
 use Rattle.ud_text.proofs.lemmas.lines.LinesLemmas.{represent_part}
 use Rattle.ud_sections.specs.printing.Printers.{printer_represents, printer_piece}
 use Rattle.ud_sections.specs.declared.printing.printer.Printer.{Printer}
-use Rattle.ud_faults.specs.Faults.{limit_of, fault_of}
 use Rattle.ud_faults.specs.declared.run.RunFault.{RunFault}
 use Rattle.ud_faults.specs.declared.run.RunFault.TheVariants.{Text, Section, Read, Write}
 use Rattle.ud_engine.specs.declared.pump.TheConstants.{CHUNK_BYTES}
-use Rattle.ud_engine.specs.Feeding.{EngineState, EngineRepresentsBuffered, FeedFails, FaultsAfter, PrintsPrefix, Continues}
-use Rattle.ud_engine.specs.Finishing.{Finishes}
+use Rattle.ud_engine.specs.Feeding.{EngineState, EngineRepresentsBuffered, FeedFails, PrintsPrefix, Continues}
 use Rattle.ud_engine.specs.Runs.{InProgress, RunFinished, bytes_to_limit}
 use Rattle.ud_engine.specs.Waiting.{IsWaiting, IsFurther}
 use Rattle.ud_engine.proofs.LinePartLemmas.{before_is, rest_is, open_taken}
-use Rattle.ud_engine.proofs.RunLemmas.{own_piece, own_session, lag, fed_room}
+use Rattle.ud_engine.proofs.RunLemmas.{own_piece, lag, fed_room}
 use Rattle.ud_engine.proofs.RunEndedLemmas.{printed_so_far}
-use Rattle.ud_engine.proofs.FinishLemmas.{at_end, stopped, fed_more}
+use Rattle.ud_engine.proofs.FinishLemmas.{stopped, fed_more}
 
 -- A reader before its first bytes were read, which are `a` and then `b`.
 read_front : (a b : List ℕ) (r : Option (List ℕ)) → Consumes (prepend_known (a ++ b) r) (prepend_known b r) a

@@ -4,8 +4,8 @@ ghost use Rattle.std.specs.Prelude.{◌≡◌, ◌+◌, ◌≤◌, ◌++◌, [],
 
 use std::marker::Model;
 
-/// The capacity of the buffer. A short line that a chunk's end cut leaves in one write with the
-/// chunk that is read after it.
+/// The capacity of the buffer. The parts that are printed for a chunk of `run` mostly leave in one
+/// write.
 pub(crate) const OUTPUT_BUFFER_BYTES: usize = 8_192;
 
 /// A buffer of at most `OUTPUT_BUFFER_BYTES` bytes. Clearing it leaves the array unchanged.

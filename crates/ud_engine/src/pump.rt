@@ -1,8 +1,9 @@
 //! A run over a reader.
 //!
-//! `run` reads chunks into a buffer of its own, and feeds them to an engine until the text ends. It
-//! begins with an engine that buffers a short line only, and takes a buffer for the longest line
-//! when a line doesn't fit.
+//! `run` reads chunks into a buffer of its own, and feeds their whole lines to an engine until the
+//! text ends. The bytes of a line that a read cut wait there for the next read. It begins with an
+//! engine that buffers a short line only, and takes a buffer for the longest line when a line
+//! doesn't fit.
 
 ghost use Rattle.std.specs.Prelude.{◌≡◌, ◌<◌, ◌≤◌, ℕ, List, Option, length, take, true, false};
 ghost use Rattle.std.specs.Prelude.{IfSome, IfNone, IfOk, IfErr, Err};

@@ -1,8 +1,7 @@
-use Rattle.std.proofs.Common.{◌≡◌, ℕ, ◌-◌, ◌<◌, ◌≤◌, List, ◌++◌, length, take, drop, refl, sym, ◌∙◌, ap, subst, arith}
+use Rattle.std.proofs.Common.{◌-◌, ◌++◌, take, drop, sym, ◌∙◌, ap, subst, arith}
 use Rattle.std.specs.Io.KnownBytes.{prepend_known}
 use Rattle.std.proofs.KnownBytes.{prepend_known-nil}
 use Rattle.std.proofs.Math.ListN.{length-take, length-drop}
-use Rattle.std.specs.List.{copy_within}
 use Rattle.ud_engine.specs.Runs.{InProgress}
 use Rattle.ud_engine.specs.Waiting.{IsWaiting}
 use Rattle.ud_engine.proofs.RunLemmas.{own_session, fed_room}

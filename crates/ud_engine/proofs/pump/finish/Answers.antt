@@ -1,8 +1,6 @@
-use Rattle.std.proofs.Common.{rules, ◌≡◌, ◌++◌, [], subst}
-use Rattle.std.specs.Io.KnownBytes.{prepend_known}
-use Rattle.std.proofs.KnownBytes.{Consumes-nil, prepend_known-nil}
+use Rattle.std.proofs.Common.{rules}
+use Rattle.std.proofs.KnownBytes.{Consumes-nil}
 use Rattle.ud_text.proofs.lemmas.lines.BorrowLemmas.{none_held}
-use Rattle.ud_engine.specs.Runs.{InProgress}
 use Rattle.ud_engine.proofs.RunLemmas.{own_session}
 use Rattle.ud_engine.proofs.FinishLemmas.{at_end}
 use Rattle.ud_engine.proofs.WaitingLemmas.{none_left, fed_rest, rest_stops}
