@@ -1,5 +1,7 @@
 -- Waiting: bytes that were read, and wait to be fed with the rest of their line.
-use Rattle.std.proofs.Common.{◌≡◌, inl, inr, ◌⊎◌, ℕ, ◌+◌, ◌-◌, ◌<◌, ◌≤◌, Bool, true, List, [], ◌∷◌, ◌++◌, length, take, drop, Option, Some, None, Err, refl, sym, ◌∙◌, ap, subst, append_assoc, append-nil, arith, length-append, if◌then◌else◌}
+use Rattle.std.proofs.Common.{◌≡◌, inl, inr, ◌⊎◌, ℕ, ◌+◌, ◌-◌, ◌<◌, ◌≤◌, Bool, true, List, [], ◌∷◌}
+use Rattle.std.proofs.Common.{◌++◌, length, take, drop, Option, Some, None, Err, refl, sym, ◌∙◌, ap}
+use Rattle.std.proofs.Common.{subst, append_assoc, append-nil, arith, length-append, if◌then◌else◌}
 use Rattle.std.specs.List.{copy_within}
 use Rattle.std.proofs.lemmas.List.{take-take, drop-take, take-append-le}
 use Rattle.std.proofs.lemmas.List.Edits.{take-paste}
@@ -7,13 +9,16 @@ use Rattle.std.proofs.lemmas.Bool.{cases_lt}
 use Rattle.std.proofs.Math.ListN.{length-take, length-drop}
 use Rattle.std.proofs.Math.Seq.{take-add, take-append-add, take-append_seam}
 use Rattle.std.specs.Io.KnownBytes.{Consumes, Keeps, prepend_known}
-use Rattle.std.proofs.KnownBytes.{Appends-nil, Appends-trans, Consumes-trans, Consumes-kept, prepend_known-nil}
+use Rattle.std.proofs.KnownBytes.{Appends-nil, Appends-trans, Consumes-trans, Consumes-kept}
+use Rattle.std.proofs.KnownBytes.{prepend_known-nil}
 use Rattle.ud_model.specs.text.Lines.{NoNewline, SplitLines, split_lines, whole_lines, partial_line}
 use Rattle.ud_model.specs.sections.Items.{Options}
 use Rattle.ud_model.specs.answer.Printing.{Judged}
 use Rattle.ud_model.specs.declared.limits.TheConstants.{LINE_BYTES, TEXT_LINES}
 use Rattle.ud_model.proofs.sections.FaultStays.{reads_stay}
-use Rattle.ud_model.proofs.text.LinesLemmas.{Growth, stays_open, ends_line, grows, split_lines-append-open, no_newline-append, lines_so_far-append}
+use Rattle.ud_model.proofs.text.LinesLemmas.{Growth, stays_open, ends_line, grows}
+use Rattle.ud_model.proofs.text.LinesLemmas.{split_lines-append-open, no_newline-append}
+use Rattle.ud_model.proofs.text.LinesLemmas.{lines_so_far-append}
 use Rattle.ud_text.specs.bulk.BulkLexemes.{IsLineStart, at_start, after_newline, LastLineStarts}
 use Rattle.ud_text.specs.lines.LinesState.{LinesState, HasCapacity}
 use Rattle.ud_text.proofs.lemmas.bulk.BulkPlainLemmas.{begins_ends}
@@ -23,7 +28,8 @@ use Rattle.ud_sections.specs.declared.printing.printer.Printer.{Printer}
 use Rattle.ud_faults.specs.declared.run.RunFault.{RunFault}
 use Rattle.ud_faults.specs.declared.run.RunFault.TheVariants.{Text, Section, Read, Write}
 use Rattle.ud_engine.specs.declared.pump.TheConstants.{CHUNK_BYTES}
-use Rattle.ud_engine.specs.Feeding.{EngineState, EngineRepresentsBuffered, FeedFails, PrintsPrefix, Continues}
+use Rattle.ud_engine.specs.Feeding.{EngineState, EngineRepresentsBuffered, FeedFails, PrintsPrefix}
+use Rattle.ud_engine.specs.Feeding.{Continues}
 use Rattle.ud_engine.specs.Runs.{InProgress, RunFinished, bytes_to_limit}
 use Rattle.ud_engine.specs.Waiting.{IsWaiting, IsFurther}
 use Rattle.ud_engine.proofs.LinePartLemmas.{before_is, rest_is, open_taken}
@@ -32,7 +38,8 @@ use Rattle.ud_engine.proofs.RunEndedLemmas.{printed_so_far}
 use Rattle.ud_engine.proofs.FinishLemmas.{stopped, fed_more}
 
 -- A reader before its first bytes were read, which are `a` and then `b`.
-read_front : (a b : List ℕ) (r : Option (List ℕ)) → Consumes (prepend_known (a ++ b) r) (prepend_known b r) a
+read_front : (a b : List ℕ) (r : Option (List ℕ)) → Consumes (prepend_known (a ++ b) r)
+    (prepend_known b r) a
 read_front a b None = tt
 read_front a b (Some y) = append_assoc a b y
 
@@ -40,52 +47,96 @@ read_all : (a : List ℕ) (r : Option (List ℕ)) → Consumes (prepend_known a 
 read_all a None = tt
 read_all a (Some y) = refl
 
-read_more : (r₀ r₁ r₂ : Option (List ℕ)) (given a b : List ℕ) → Consumes r₀ (prepend_known a r₁) given → Consumes r₁ r₂ b →
+read_more : (r₀ r₁ r₂ : Option (List ℕ)) (given a b : List ℕ) → Consumes r₀ (prepend_known a r₁)
+    given → Consumes r₁ r₂ b →
     Consumes r₀ (prepend_known (a ++ b) r₂) given
 read_more None r₁ r₂ given a b p q = tt
 read_more (Some x) None r₂ given a b p q = absurd p
 read_more (Some x) (Some y) None given a b p q = absurd q
-read_more (Some x) (Some y) (Some z) given a b p q = p ∙ ap (λ l. given ++ (a ++ l)) q ∙ ap (λ l. given ++ l) (sym (append_assoc a b z))
+read_more (Some x) (Some y) (Some z) given a b p q = p ∙ ap (λ l. given ++ (a ++ l)) q ∙ ap
+    (λ l. given ++ l) (sym (append_assoc a b z))
 
 -- More bytes were read, and wait.
-pub waits_more : (o : Options) (e : EngineState Printer) (r₀ r₁ r₂ w₀ w₁ : Option (List ℕ)) (a b : List ℕ) →
-    InProgress e o r₀ (prepend_known a r₁) w₀ w₁ → Consumes r₁ r₂ b → InProgress e o r₀ (prepend_known (a ++ b) r₂) w₀ w₁
+pub waits_more : (o : Options) (e : EngineState Printer) (r₀ r₁ r₂ w₀ w₁ : Option (List ℕ))
+    (a b : List ℕ) →
+    InProgress e o r₀ (prepend_known a r₁) w₀ w₁ → Consumes r₁ r₂ b → InProgress e o r₀
+    (prepend_known (a ++ b) r₂) w₀ w₁
 waits_more o e r₀ r₁ r₂ w₀ w₁ a b u read =
-    record { given = u.given; printed = u.printed; consumed = read_more r₀ r₁ r₂ u.given a b u.consumed read; fed = u.fed; appended = u.appended }
+    record {
+      given = u.given;
+      printed = u.printed;
+      consumed = read_more r₀ r₁ r₂ u.given a b
+          u.consumed read;
+      fed = u.fed;
+      appended = u.appended;
+    }
 
 -- No bytes wait.
-pub none_left : (o : Options) (e : EngineState Printer) (r₀ r w₀ w₁ : Option (List ℕ)) (a : List ℕ) → a ≡ [] →
+pub none_left : (o : Options) (e : EngineState Printer) (r₀ r w₀ w₁ : Option (List ℕ)) (a : List ℕ)
+    → a ≡ [] →
     InProgress e o r₀ (prepend_known a r) w₀ w₁ → InProgress e o r₀ r w₀ w₁
 none_left o e r₀ r w₀ w₁ a none u = record {
   given = u.given;
   printed = u.printed;
-  consumed = subst (λ x. Consumes r₀ x u.given) (ap (λ x. prepend_known x r) none ∙ prepend_known-nil r) u.consumed;
+  consumed = subst (λ x. Consumes r₀ x u.given)
+      (ap (λ x. prepend_known x r) none ∙ prepend_known-nil r) u.consumed;
   fed = u.fed;
   appended = u.appended;
 }
 
 -- The bytes of a read come after those that wait.
-pub read_joined : (buffer piece after : List ℕ) (waiting count : ℕ) → waiting ≤ length buffer → count ≤ length piece →
-    take waiting buffer ++ take count piece ≡ take (waiting + count) (take waiting buffer ++ (piece ++ after))
+pub read_joined : (buffer piece after : List ℕ) (waiting count : ℕ) → waiting ≤ length buffer →
+    count ≤ length piece →
+    take waiting buffer ++ take count piece ≡ take (waiting + count)
+    (take waiting buffer ++ (piece ++ after))
 read_joined buffer piece after waiting count within few =
-    let n : length (take waiting buffer) ≡ waiting = let m = length-take waiting buffer in omega (arith, m, within) in
+    let n : length (take waiting buffer) ≡ waiting = let m = length-take waiting buffer in omega
+    (arith, m, within) in
     ap (λ x. take waiting buffer ++ x) (sym (take-append-le count piece after few))
-    ∙ sym (take-append-add (take waiting buffer) (piece ++ after) count) ∙ ap (λ k. take (k + count) (take waiting buffer ++ (piece ++ after))) n
+    ∙ sym (take-append-add (take waiting buffer) (piece ++ after) count) ∙ ap
+    (λ k. take (k + count) (take waiting buffer ++ (piece ++ after))) n
 
-pub waiting_stay : (buffer piece : List ℕ) (waiting : ℕ) → waiting ≤ length buffer → take waiting (take waiting buffer ++ piece) ≡ take waiting buffer
+pub waiting_stay : (buffer piece : List ℕ) (waiting : ℕ) → waiting ≤ length buffer → take waiting
+    (take waiting buffer ++ piece) ≡ take waiting buffer
 waiting_stay buffer piece waiting within =
-    let n : length (take waiting buffer) ≡ waiting = let m = length-take waiting buffer in omega (arith, m, within) in
-    ap (λ k. take k (take waiting buffer ++ piece)) (sym n) ∙ take-append_seam (take waiting buffer) piece
+    let n : length (take waiting buffer) ≡ waiting = let m = length-take waiting buffer in omega
+    (arith, m, within) in
+    ap (λ k. take k (take waiting buffer ++ piece)) (sym n) ∙ take-append_seam (take waiting buffer)
+    piece
 
 -- A fault of some bytes is that of more bytes.
-fault_longer : (o : Options) (piece : List Judged → Judged → List ℕ) (failed : Bool) (a b : Option (List ℕ)) (longer printed later : List ℕ) (f : RunFault) →
-    FeedFails o piece failed a b longer printed f → FeedFails o piece failed a b (longer ++ later) printed f
+fault_longer : (o : Options) (piece : List Judged → Judged → List ℕ) (failed : Bool)
+    (a b : Option (List ℕ)) (longer printed later : List ℕ) (f : RunFault) →
+    FeedFails o piece failed a b longer printed f → FeedFails o piece failed a b (longer ++ later)
+    printed f
 fault_longer o piece failed a b longer printed later (Text f) w =
-    let s = w.1.1 in
-    (w.0, (w.1.0, record { items = s.items; tree = s.tree; reads = (reads_stay later s.reads).0; printed_is = s.printed_is }, w.1.2))
+    let s = w.1.1 in (
+      w.0,
+      (
+        w.1.0,
+        record {
+          items = s.items;
+          tree = s.tree;
+          reads = (reads_stay later s.reads).0;
+          printed_is = s.printed_is;
+        },
+        w.1.2,
+      ),
+    )
 fault_longer o piece failed a b longer printed later (Section f) w =
-    let s = w.1.1 in
-    (w.0, (w.1.0, record { items = s.items; tree = s.tree; reads = (reads_stay later s.reads).0; printed_is = s.printed_is }, w.1.2))
+    let s = w.1.1 in (
+      w.0,
+      (
+        w.1.0,
+        record {
+          items = s.items;
+          tree = s.tree;
+          reads = (reads_stay later s.reads).0;
+          printed_is = s.printed_is;
+        },
+        w.1.2,
+      ),
+    )
 fault_longer o piece failed a b longer printed later Read w = absurd w
 fault_longer o piece failed a b longer printed later Write w =
     let s = w.1.1 in
@@ -128,10 +179,12 @@ module _ (buffer : List ℕ) (end at : ℕ) (last : LastLineStarts (take end buf
   pub cut_moved : end ≤ length buffer → take (end - at) (copy_within buffer at end 0) ≡ rest
   cut_moved fits =
       ap (λ n. take n (copy_within buffer at end 0)) (omega arith)
-      ∙ take-paste buffer 0 (drop at buffer) (end - at) (omega arith) (let n = length-drop at buffer in omega (arith, n, fits))
+      ∙ take-paste buffer 0 (drop at buffer) (end - at) (omega arith)
+      (let n = length-drop at buffer in omega (arith, n, fits))
 
   -- The rest waits.
-  pub cut_waits : (lines : LinesState) → end ≤ length buffer → end ≤ CHUNK_BYTES → (lines.held ≡ []) × (lines.before < TEXT_LINES) →
+  pub cut_waits : (lines : LinesState) → end ≤ length buffer → end ≤ CHUNK_BYTES → (lines.held ≡ [])
+      × (lines.before < TEXT_LINES) →
       IsWaiting lines (take (end - at) (copy_within buffer at end 0))
   cut_waits lines fits few begins =
       subst (IsWaiting lines) (sym (cut_moved fits))
@@ -142,7 +195,8 @@ module _ (buffer : List ℕ) (end at : ℕ) (last : LastLineStarts (take end buf
       })
 
 -- The bytes that are fed first end a line; the others are left.
-module _ (o : Options) (e : EngineState Printer) (r₀ r w₀ w₁ : Option (List ℕ)) (all first left : List ℕ) (is : all ≡ first ++ left)
+module _ (o : Options) (e : EngineState Printer) (r₀ r w₀ w₁ : Option (List ℕ))
+    (all first left : List ℕ) (is : all ≡ first ++ left)
     (u : InProgress e o r₀ (prepend_known all r) w₀ w₁) where
   abbrev own : InProgress e o r₀ (prepend_known (first ++ left) r) w₀ w₁
   own = record {
@@ -153,43 +207,57 @@ module _ (o : Options) (e : EngineState Printer) (r₀ r w₀ w₁ : Option (Lis
     appended = u.appended;
   }
 
-  pub fed_front : (f : EngineState Printer) (w₂ : Option (List ℕ)) → Continues printer_represents printer_piece f o (own_piece o) (u.given ++ first) u.printed w₁ w₂ →
+  pub fed_front : (f : EngineState Printer) (w₂ : Option (List ℕ)) → Continues printer_represents
+      printer_piece f o (own_piece o) (u.given ++ first) u.printed w₁ w₂ →
       InProgress f o r₀ (prepend_known left r) w₀ w₂
   fed_front f w₂ goes =
-      fed_more o e r₀ (prepend_known (first ++ left) r) w₀ w₁ own (prepend_known left r) w₂ first (read_front first left r) f goes
+      fed_more o e r₀ (prepend_known (first ++ left) r) w₀ w₁ own (prepend_known left r) w₂ first
+      (read_front first left r) f goes
 
-  pub front_stops : (w₂ : Option (List ℕ)) → length all ≤ CHUNK_BYTES → (reader writer : Bool) (f : RunFault) →
-      FeedFails o (own_piece o) writer w₁ w₂ (u.given ++ first) u.printed f → RunFinished o r₀ r w₀ w₂ reader writer (Err f)
+  pub front_stops : (w₂ : Option (List ℕ)) → length all ≤ CHUNK_BYTES → (reader writer : Bool)
+      (f : RunFault) →
+      FeedFails o (own_piece o) writer w₁ w₂ (u.given ++ first) u.printed f → RunFinished o r₀ r w₀
+      w₂ reader writer (Err f)
   front_stops w₂ few reader writer f fails =
-      stopped o e r₀ (prepend_known (first ++ left) r) w₀ w₁ own r w₂ (first ++ left) (read_all (first ++ left) r)
+      stopped o e r₀ (prepend_known (first ++ left) r) w₀ w₁ own r w₂ (first ++ left)
+      (read_all (first ++ left) r)
       (let n = ap length is in omega (arith, n, few)) reader writer f
-      (subst (λ x. FeedFails o (own_piece o) writer w₁ w₂ x u.printed f) (append_assoc u.given first left)
+      (subst (λ x. FeedFails o (own_piece o) writer w₁ w₂ x u.printed f)
+      (append_assoc u.given first left)
       (fault_longer o (own_piece o) writer w₁ w₂ (u.given ++ first) u.printed left f fails))
 
 -- All bytes that were left are fed.
 module _ (o : Options) (e : EngineState Printer) (r₀ r w₀ w₁ : Option (List ℕ)) (rest : List ℕ)
     (u : InProgress e o r₀ (prepend_known rest r) w₀ w₁) where
-  pub fed_rest : (f : EngineState Printer) (w₂ : Option (List ℕ)) → Continues printer_represents printer_piece f o (own_piece o) (u.given ++ rest) u.printed w₁ w₂ →
+  pub fed_rest : (f : EngineState Printer) (w₂ : Option (List ℕ)) → Continues printer_represents
+      printer_piece f o (own_piece o) (u.given ++ rest) u.printed w₁ w₂ →
       InProgress f o r₀ r w₀ w₂
-  fed_rest f w₂ goes = fed_more o e r₀ (prepend_known rest r) w₀ w₁ u r w₂ rest (read_all rest r) f goes
+  fed_rest f w₂ goes = fed_more o e r₀ (prepend_known rest r) w₀ w₁ u r w₂ rest (read_all rest r) f
+      goes
 
-  pub rest_stops : (w₂ : Option (List ℕ)) → length rest ≤ CHUNK_BYTES → (reader writer : Bool) (f : RunFault) →
-      FeedFails o (own_piece o) writer w₁ w₂ (u.given ++ rest) u.printed f → RunFinished o r₀ r w₀ w₂ reader writer (Err f)
-  rest_stops w₂ few reader writer f fails = stopped o e r₀ (prepend_known rest r) w₀ w₁ u r w₂ rest (read_all rest r) few reader writer f fails
+  pub rest_stops : (w₂ : Option (List ℕ)) → length rest ≤ CHUNK_BYTES → (reader writer : Bool)
+      (f : RunFault) →
+      FeedFails o (own_piece o) writer w₁ w₂ (u.given ++ rest) u.printed f → RunFinished o r₀ r w₀
+      w₂ reader writer (Err f)
+  rest_stops w₂ few reader writer f fails = stopped o e r₀ (prepend_known rest r) w₀ w₁ u r w₂ rest
+      (read_all rest r) few reader writer f fails
 
 -- The engine as if it had taken the bytes that wait.
 abbrev with_bytes : EngineState Printer → List ℕ → EngineState Printer
 with_bytes e bytes = record e { lines = record e.lines { held = e.lines.held ++ bytes } }
 
 -- Bytes that wait break no limit: they could be fed.
-module _ (o : Options) (piece : List Judged → Judged → List ℕ) (e : EngineState Printer) (text printed : List ℕ)
+module _ (o : Options) (piece : List Judged → Judged → List ℕ) (e : EngineState Printer)
+    (text printed : List ℕ)
     (h : EngineRepresentsBuffered printer_represents printer_piece e o piece text printed) where
   could_take : (bytes : List ℕ) → IsWaiting e.lines bytes →
-      EngineRepresentsBuffered printer_represents printer_piece (with_bytes e bytes) o piece (text ++ bytes) (printed ++ [])
+      EngineRepresentsBuffered printer_represents printer_piece (with_bytes e bytes) o piece
+      (text ++ bytes) (printed ++ [])
   could_take bytes w =
       let parts = split_lines-append-open text bytes w.no_newline in
       let f = with_bytes e bytes in
-      open_taken printer_represents printer_piece o piece e text printed h f bytes (ap (λ (q : SplitLines). q.whole) parts) refl refl
+      open_taken printer_represents printer_piece o piece e text printed h f bytes
+      (ap (λ (q : SplitLines). q.whole) parts) refl refl
       (record {
         part = h.opened.part;
         goes_on = h.opened.goes_on;
@@ -199,72 +267,97 @@ module _ (o : Options) (piece : List Judged → Judged → List ℕ) (e : Engine
       })
       (record {
         consumed = h.took.consumed;
-        cut = subst (λ (b : Bool). split_lines (text ++ bytes) ≡ (if b then record { whole = h.took.consumed ++ (e.lines.held ++ bytes) ∷ []; rest = [] } else record { whole = h.took.consumed; rest = e.lines.held ++ bytes })) (sym h.opened.part)
-            (parts ∙ ap (λ (q : SplitLines). record { whole = q.whole; rest = q.rest ++ bytes }) (represent_part e.lines text h.opened.part h.took));
+        cut = subst (λ (b : Bool). split_lines (text ++ bytes) ≡ (if b then record {
+          whole =
+              h.took.consumed ++ (e.lines.held ++ bytes) ∷ [];
+          rest = [];
+        } else record
+            { whole = h.took.consumed; rest = e.lines.held ++ bytes })) (sym h.opened.part)
+            (parts ∙ ap (λ (q : SplitLines). record { whole = q.whole; rest = q.rest ++ bytes })
+            (represent_part e.lines text h.opened.part h.took));
         count = h.took.count;
       })
       h.no_fault (begun bytes w) h.count
     where
-      short : (bytes : List ℕ) → IsWaiting e.lines bytes → length (e.lines.held ++ bytes) ≤ LINE_BYTES
-      short [] w = let s = h.opened.short in let n = ap length (append-nil e.lines.held) in omega (arith, s, n)
+      short : (bytes : List ℕ) → IsWaiting e.lines bytes → length (e.lines.held ++ bytes) ≤
+          LINE_BYTES
+      short [] w = let s = h.opened.short in let n = ap length (append-nil e.lines.held) in omega
+          (arith, s, n)
       short (x ∷ xs) w =
           let none = ap length (w.begins (omega arith)).0 in
           let n = length-append e.lines.held (x ∷ xs) in
           let s = w.short in
           omega (arith, none, n, s)
 
-      begun : (bytes : List ℕ) → IsWaiting e.lines bytes → 0 < length (e.lines.held ++ bytes) → e.lines.before < TEXT_LINES
-      begun [] w some = h.begun (let n = ap length (append-nil e.lines.held) in omega (arith, n, some))
+      begun : (bytes : List ℕ) → IsWaiting e.lines bytes → 0 < length (e.lines.held ++ bytes) →
+          e.lines.before < TEXT_LINES
+      begun [] w some = h.begun
+          (let n = ap length (append-nil e.lines.held) in omega (arith, n, some))
       begun (x ∷ xs) w some = (w.begins (omega arith)).1
 
 -- A read failed while bytes wait.
-pub unread_waiting : (o : Options) (e : EngineState Printer) (r₀ r₁ r₂ w₀ w₁ : Option (List ℕ)) (bytes : List ℕ) →
-    InProgress e o r₀ (prepend_known bytes r₁) w₀ w₁ → IsWaiting e.lines bytes → Keeps r₁ r₂ → (reader writer : Bool) → reader ≡ true →
+pub unread_waiting : (o : Options) (e : EngineState Printer) (r₀ r₁ r₂ w₀ w₁ : Option (List ℕ))
+    (bytes : List ℕ) →
+    InProgress e o r₀ (prepend_known bytes r₁) w₀ w₁ → IsWaiting e.lines bytes → Keeps r₁ r₂ →
+    (reader writer : Bool) → reader ≡ true →
     RunFinished o r₀ r₂ w₀ w₁ reader writer (Err Read)
 unread_waiting o e r₀ r₁ r₂ w₀ w₁ bytes u w kept reader writer failed =
     let all : Consumes r₀ r₂ (u.given ++ bytes) =
-    Consumes-kept r₀ r₁ r₂ (u.given ++ bytes) (Consumes-trans r₀ (prepend_known bytes r₁) r₁ u.given bytes u.consumed (read_all bytes r₁)) kept in
+    Consumes-kept r₀ r₁ r₂ (u.given ++ bytes)
+    (Consumes-trans r₀ (prepend_known bytes r₁) r₁ u.given bytes u.consumed (read_all bytes r₁))
+    kept in
     record {
       ran = λ reads writes. cc;
-      lag = lag o printer_represents printer_piece e u.given u.printed u.fed.taken r₀ r₂ w₀ w₁ w₁ bytes [] all w.short u.appended (Appends-nil w₁);
+      lag = lag o printer_represents printer_piece e u.given u.printed u.fed.taken r₀ r₂ w₀ w₁ w₁
+          bytes [] all w.short u.appended (Appends-nil w₁);
       ended = record {
         given = u.given ++ bytes;
         consumed = all;
         ends =
-            printed_so_far o printer_represents printer_piece (with_bytes e bytes) (u.given ++ bytes) (u.printed ++ [])
+            printed_so_far o printer_represents printer_piece (with_bytes e bytes)
+            (u.given ++ bytes) (u.printed ++ [])
             (could_take o (own_piece o) e u.given u.printed u.fed.taken bytes w) w₀ w₁
             (Appends-trans w₀ w₁ w₁ u.printed [] u.appended (Appends-nil w₁));
       };
     }
 
 -- Bytes that end a line, if there are any, leave no part of one.
-ends_after : (text front : List ℕ) → IsLineStart front → (front ≡ []) ⊎ (partial_line (text ++ front) ≡ [])
+ends_after : (text front : List ℕ) → IsLineStart front → (front ≡ []) ⊎
+    (partial_line (text ++ front) ≡ [])
 ends_after text _ at_start = inl refl
 ends_after text _ (after_newline prefix) =
-    inr (ap partial_line (sym (append_assoc text prefix (10 ∷ []))) ∙ begins_ends ((text ++ prefix) ++ 10 ∷ []) (after_newline (text ++ prefix)))
+    inr (ap partial_line (sym (append_assoc text prefix (10 ∷ []))) ∙ begins_ends
+    ((text ++ prefix) ++ 10 ∷ []) (after_newline (text ++ prefix)))
 
 -- The engine has room for the rest of a buffer after its whole lines.
 module _ (o : Options) (e f : EngineState Printer) (text printed later front : List ℕ)
     (h : EngineRepresentsBuffered printer_represents printer_piece e o (own_piece o) text printed)
-    (k : EngineRepresentsBuffered printer_represents printer_piece f o (own_piece o) (text ++ front) later) where
+    (k : EngineRepresentsBuffered printer_represents printer_piece f o (own_piece o) (text ++ front)
+    later) where
   held_after : IsLineStart front → (front ≡ []) ⊎ (f.lines.held ≡ [])
   held_after starts = by_end (ends_after text front starts)
     where
-      by_end : (front ≡ []) ⊎ (partial_line (text ++ front) ≡ []) → (front ≡ []) ⊎ (f.lines.held ≡ [])
+      by_end : (front ≡ []) ⊎ (partial_line (text ++ front) ≡ []) → (front ≡ []) ⊎
+          (f.lines.held ≡ [])
       by_end (inl none) = inl none
-      by_end (inr none) = inr (sym (rest_is printer_represents printer_piece o (own_piece o) f (text ++ front) later k) ∙ none)
+      by_end (inr none) = inr (sym (rest_is printer_represents printer_piece o (own_piece o) f (text
+          ++ front) later k) ∙ none)
 
   same_held : front ≡ [] → f.lines.held ≡ e.lines.held
   same_held none =
       sym (rest_is printer_represents printer_piece o (own_piece o) f (text ++ front) later k)
-      ∙ ap (λ x. partial_line (text ++ x)) none ∙ ap partial_line (append-nil text) ∙ rest_is printer_represents printer_piece o (own_piece o) e text printed h
+      ∙ ap (λ x. partial_line (text ++ x)) none ∙ ap partial_line (append-nil text) ∙ rest_is
+      printer_represents printer_piece o (own_piece o) e text printed h
 
-  pub room_after : (room n : ℕ) → IsLineStart front → HasCapacity room e.lines CHUNK_BYTES → n ≤ CHUNK_BYTES → HasCapacity room f.lines n
+  pub room_after : (room n : ℕ) → IsLineStart front → HasCapacity room e.lines CHUNK_BYTES → n ≤
+      CHUNK_BYTES → HasCapacity room f.lines n
   room_after room n starts fits few small = by_held (held_after starts)
     where
       by_held : (front ≡ []) ⊎ (f.lines.held ≡ []) → length f.lines.held + n ≤ room
-      by_held (inl none) = let same = ap length (same_held none) in let r = fits small in omega (arith, same, r, few)
-      by_held (inr none) = let same = ap length none in let r = fits small in omega (arith, same, r, few)
+      by_held (inl none) = let same = ap length (same_held none) in let r = fits small in omega
+          (arith, same, r, few)
+      by_held (inr none) = let same = ap length none in let r = fits small in omega
+          (arith, same, r, few)
 
   -- No more fits below the limits than before.
   pub no_further : bytes_to_limit f.lines ≤ bytes_to_limit e.lines
@@ -274,18 +367,23 @@ module _ (o : Options) (e f : EngineState Printer) (text printed later front : L
       before = before_is printer_represents printer_piece o (own_piece o) e text printed h
 
       before_more : f.lines.before ≡ length (whole_lines (text ++ front))
-      before_more = before_is printer_represents printer_piece o (own_piece o) f (text ++ front) later k
+      before_more = before_is printer_represents printer_piece o (own_piece o) f (text ++ front)
+          later k
 
       by_growth : Growth text front → bytes_to_limit f.lines ≤ bytes_to_limit e.lines
       by_growth (stays_open lines rest) =
           let n = ap length lines in
           let held : length f.lines.held ≡ length e.lines.held + length front =
-          ap length (sym (rest_is printer_represents printer_piece o (own_piece o) f (text ++ front) later k) ∙ rest
-          ∙ ap (λ (r : List ℕ). r ++ front) (rest_is printer_represents printer_piece o (own_piece o) e text printed h)) ∙ length-append e.lines.held front in
+          ap length (sym (rest_is printer_represents printer_piece o (own_piece o) f (text ++ front)
+          later k) ∙ rest
+          ∙ ap (λ (r : List ℕ). r ++ front)
+          (rest_is printer_represents printer_piece o (own_piece o) e text printed h)) ∙
+          length-append e.lines.held front in
           let s = k.opened.short in
           omega (arith, before, before_more, n, held, s)
       by_growth (ends_line x l lines) =
-          let n = ap length lines ∙ length-append (whole_lines text) ((partial_line text ++ x) ∷ l) in
+          let n = ap length lines ∙ length-append (whole_lines text) ((partial_line text ++ x) ∷ l)
+          in
           let c = k.count in
           omega (arith, before, before_more, n, c)
 
@@ -294,16 +392,23 @@ module _ (o : Options) (e f : EngineState Printer) (text printed later front : L
   fed_further at end is = by_size (cases_lt 0 at)
     where
       by_size : (0 < at) ⊎ (at ≤ 0) → IsFurther e.lines f.lines end (end - at)
-      by_size (inl some) = inl (fed_room o printer_represents printer_piece e text printed h f front later k (omega (arith, is, some)))
+      by_size (inl some) = inl
+          (fed_room o printer_represents printer_piece e text printed h f front later k
+          (omega (arith, is, some)))
       by_size (inr none) = inr (no_further, omega (arith, none))
 
 -- Less is left to do, if then the other bytes are fed too.
-pub all_further : (e f g : LinesState) (at end : ℕ) (first left : List ℕ) → (bytes_to_limit f ≤ bytes_to_limit e) → (bytes_to_limit g ≤ bytes_to_limit f) →
-    (0 < length first → bytes_to_limit f < bytes_to_limit e) → (0 < length left → bytes_to_limit g < bytes_to_limit f) →
+pub all_further : (e f g : LinesState) (at end : ℕ) (first left : List ℕ) →
+    (bytes_to_limit f ≤ bytes_to_limit e) → (bytes_to_limit g ≤ bytes_to_limit f) →
+    (0 < length first → bytes_to_limit f < bytes_to_limit e) →
+    (0 < length left → bytes_to_limit g < bytes_to_limit f) →
     at ≤ end → at ≡ length first → end - at ≡ length left → IsFurther e g end 0
-all_further e f g at end first left m n p q within is size = by_sizes (cases_lt 0 (length first)) (cases_lt 0 (length left))
+all_further e f g at end first left m n p q within is size = by_sizes (cases_lt 0 (length first))
+    (cases_lt 0 (length left))
   where
-    by_sizes : (0 < length first) ⊎ (length first ≤ 0) → (0 < length left) ⊎ (length left ≤ 0) → IsFurther e g end 0
+    by_sizes : (0 < length first) ⊎ (length first ≤ 0) → (0 < length left) ⊎ (length left ≤ 0) →
+        IsFurther e g end 0
     by_sizes (inl some) b = inl (let d = p some in omega (arith, d, n))
     by_sizes (inr none) (inl some) = inl (let d = q some in omega (arith, d, m))
-    by_sizes (inr none) (inr nor) = inr (omega (arith, m, n), omega (arith, none, nor, within, is, size))
+    by_sizes (inr none) (inr nor) = inr
+        (omega (arith, m, n), omega (arith, none, nor, within, is, size))

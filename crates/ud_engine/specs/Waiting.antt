@@ -5,7 +5,8 @@
 --   FeedsAllBut .. e f bytes left ..       of the bytes that were read, an engine was fed all but
 --                                          those that are left
 --   StopsRun .. e bytes .. f               each run in progress ends with the fault `f`
---   EndsRun .. e bytes .. result           each run in progress that has read all ends with `result`
+--   EndsRun .. e bytes .. result           each run in progress that has read all ends with this
+--                                          result
 use Rattle.std.specs.Prelude.{◌≡◌, ◌⊎◌, ◌<◌, ◌≤◌, ℕ, List, [], length, Bool, Option, Result, Err}
 use Rattle.std.specs.Io.KnownBytes.{IsAtEnd, prepend_known}
 use Rattle.ud_model.specs.text.Lines.{NoNewline}

@@ -17,9 +17,13 @@ invariant-loop-buffer g l = record {
   waits : IsWaiting l.engine.lines (take l.waiting l.buffer);
   fits : 0 < l.waiting → HasCapacity g.H.LineBuffer.CAPACITY l.engine.lines CHUNK_BYTES;
   under_way : (o : Options) (read written : Option (List ℕ)) →
-      InProgress l.initial.engine o read (g.R.Read.remaining l.initial.reader.inner) written (g.W.Write.contents l.initial.out.inner) →
-      InProgress l.engine o read (prepend_known (take l.waiting l.buffer) (g.R.Read.remaining l.reader.inner)) written (g.W.Write.contents l.out.inner);
+      InProgress l.initial.engine o read (g.R.Read.remaining l.initial.reader.inner) written
+      (g.W.Write.contents l.initial.out.inner) →
+      InProgress l.engine o read
+      (prepend_known (take l.waiting l.buffer) (g.R.Read.remaining l.reader.inner)) written
+      (g.W.Write.contents l.out.inner);
 }
 
 abbrev pub decreases-loop-buffer : goal.decreases-loop-buffer
-decreases-loop-buffer g l = bytes_to_limit l.engine.lines * (CHUNK_BYTES + 1) + (CHUNK_BYTES - l.waiting)
+decreases-loop-buffer g l = bytes_to_limit l.engine.lines * (CHUNK_BYTES + 1) +
+    (CHUNK_BYTES - l.waiting)
