@@ -1,6 +1,7 @@
 //! Conditions, and the names of directives.
 
-use crate::stepping::planned;
+use crate::stepping::{append_repeated, planned};
+use std::alloc::AllocError;
 use std::process::Abort;
 use std::test::Fail;
 use ud_args::Plan;
@@ -16,68 +17,105 @@ const NUMBERS: &str = "-DA=5 -DAe=3 -DB=defined -DC=0x10 -DD=-922337203685477580
 /// The symbols of `NUMBERS`, with an option that decides conditions without a symbol.
 const CONSTANTS: &str = "-k -DA=5 -DAe=3 -DB=defined -DC=0x10 -DD=-9223372036854775808";
 
-/// Arguments for the rules and the symbols, separated by spaces, an expression, and its condition.
+/// Arguments for the rules and the symbols, separated by spaces, and lines with a condition and its
+/// expression, which may begin with a second space. A line of `#` says what the next ones show.
 #[rattlefmt::skip]
-const EXPRESSIONS: &[(&str, &[u8], Cond)] = &[
-    // Expressions are evaluated.
-    ("-DA=5", b"-A / 2 == -2", Cond::Yes),
-    ("-DA=5", b"-A % 2 == -1", Cond::Yes),
-    ("-DA=5", b"~A == -6", Cond::Yes),
-    ("-DA=5", b"010 + A == 13", Cond::Yes),
-    ("-DA=5", b"A == 08", Cond::Unknown),
-    ("-DA=5", b"0xE-9 == A", Cond::Unknown),
-    ("-DA=5", b"A & 4 == 4", Cond::Yes),
-    ("-DA=5", b"1 < A < 2", Cond::Yes),
-    ("-DA=5", b"A / (A - 5)", Cond::Unknown),
-    ("-DA=5", b"-9223372036854775807 - 1 < A", Cond::Yes),
-    ("-DA=5", b"-9223372036854775808 < A", Cond::Unknown),
-    ("-DA=5", b"(-9223372036854775807 - 1) / -1 < A", Cond::Unknown),
-    ("-DA=5", b"~A < 0u", Cond::Unknown),
-    ("-DA=5", b"~A < 0u || A", Cond::Yes),
-    ("-DA=5", b"X && !A", Cond::No),
-    ("-DA=5", b"X || 1", Cond::Unknown),
-    // A known operand decides unless strict.
-    ("-UA", b" A && X", Cond::No),
-    ("-K -UA", b" A && X", Cond::Unknown),
-    // Constants are evaluated if `-k` asks for them.
-    ("-DA=5", b" 0", Cond::Unknown),
-    ("-k -DA=5", b" 0", Cond::No),
-    ("-k -DA=5", b" X && 0", Cond::No),
-    ("-k -DA=5", b" 1 +", Cond::Unknown),
-    // A value is followed from symbol to symbol.
-    (CHAIN, b"A == -7", Cond::Yes),
-    (CHAIN, b"E == 0", Cond::Unknown),
-    (CHAIN, b"A((x)) < 0", Cond::Yes),
-    (CHAIN, b"C == 0", Cond::Unknown),
-    (CHAIN, b"defined C && defined(D)", Cond::Yes),
-    (CHAIN, b"1 || U(1)", Cond::Unknown),
-    (CHAIN, b"U == 0", Cond::Yes),
-    // Arguments of a macro are the bytes up to their parenthesis.
-    ("-DA=5", b"A (1, \"x\") == 5", Cond::Yes),
-    ("-DA=5", b"A(0u) > -1", Cond::Yes),
-    ("-DA=5", b"A(\")\") == 5", Cond::Unknown),
-    ("-DA=5", b"A(1)(2)", Cond::Unknown),
-    ("-DA=5", b"(A)(1)", Cond::Unknown),
-    ("-DA=5", b"A(1", Cond::Unknown),
-    ("-DA=5", b"defined A(1)", Cond::Unknown),
-    ("-DA=5", b"defined(A)(1)", Cond::Unknown),
-    // A `u` anywhere makes the least number 0.
-    ("-DA=5 -DB=-5u", b"-1 < A", Cond::Yes),
-    ("-DA=5 -DB=-5u", b"-1 < A || 0u", Cond::Unknown),
-    ("-DA=5 -DB=-5u", b"-1 < A || B", Cond::Unknown),
-    ("-DA=5 -DB=-5u", b"-1 < A && defined B", Cond::Yes),
-    // Constants are read as in C.
-    (NUMBERS, b"Ae-1 == 2", Cond::Yes),
-    (CONSTANTS, b"0xEu-1 == 13", Cond::Yes),
-    (CONSTANTS, b"1e+2", Cond::Unknown),
-    (CONSTANTS, b"0xfUll == 15", Cond::Yes),
-    (CONSTANTS, b"1lL", Cond::Unknown),
-    (CONSTANTS, b"0x", Cond::Unknown),
-    (CONSTANTS, b"(-9223372036854775807 - 1) % -1 == 0", Cond::Unknown),
-    (NUMBERS, b"B", Cond::Unknown),
-    (NUMBERS, b"C == 16", Cond::Yes),
-    (NUMBERS, b"D < 0", Cond::Unknown),
+const EXPRESSIONS: &[(&str, &str)] = &[
+    ("-DA=5", "\
+# Expressions are evaluated.
+yes -A / 2 == -2
+yes -A % 2 == -1
+yes ~A == -6
+yes 010 + A == 13
+unknown A == 08
+unknown 0xE-9 == A
+yes A & 4 == 4
+yes 1 < A < 2
+unknown A / (A - 5)
+yes -9223372036854775807 - 1 < A
+unknown -9223372036854775808 < A
+unknown (-9223372036854775807 - 1) / -1 < A
+unknown ~A < 0u
+yes ~A < 0u || A
+no X && !A
+unknown X || 1
+"),
+    ("-UA", "\
+# A known operand decides unless strict.
+no  A && X
+"),
+    ("-K -UA", "\
+unknown  A && X
+"),
+    ("-DA=5", "\
+# Constants are evaluated if `-k` asks for them.
+unknown  0
+"),
+    ("-k -DA=5", "\
+no  0
+no  X && 0
+unknown  1 +
+"),
+    (CHAIN, "\
+# A value is followed from symbol to symbol.
+yes A == -7
+unknown E == 0
+yes A((x)) < 0
+unknown C == 0
+yes defined C && defined(D)
+unknown 1 || U(1)
+yes U == 0
+"),
+    ("-DA=5", "\
+# Arguments of a macro are the bytes up to their parenthesis.
+yes A (1, \"x\") == 5
+yes A(0u) > -1
+unknown A(\")\") == 5
+unknown A(1)(2)
+unknown (A)(1)
+unknown A(1
+unknown defined A(1)
+unknown defined(A)(1)
+"),
+    ("-DA=5 -DB=-5u", "\
+# A `u` anywhere makes the least number 0.
+yes -1 < A
+unknown -1 < A || 0u
+unknown -1 < A || B
+yes -1 < A && defined B
+"),
+    (NUMBERS, "\
+# Constants are read as in C.
+yes Ae-1 == 2
+"),
+    (CONSTANTS, "\
+yes 0xEu-1 == 13
+unknown 1e+2
+yes 0xfUll == 15
+unknown 1lL
+unknown 0x
+unknown (-9223372036854775807 - 1) % -1 == 0
+"),
+    (NUMBERS, "\
+unknown B
+yes C == 16
+unknown D < 0
+"),
 ];
+
+/// Returns the two parts of a line around its first space.
+pub(crate) fn halves<'a>(rt: &impl Abort, line: &'a str) -> (&'a str, &'a str) {
+    line.split_once(' ').expect(rt, "a line has a space")
+}
+
+/// Returns the condition of this name.
+pub(crate) fn cond_of(word: &str) -> Cond {
+    match word {
+        "yes" => Cond::Yes,
+        "no" => Cond::No,
+        _ => Cond::Unknown,
+    }
+}
 
 pub(crate) fn rules_of(plan: &Plan) -> Rules {
     Rules {
@@ -108,14 +146,26 @@ fn check_answer(rt: &impl Abort, plan: &Plan, kind: Kind, text: &[u8], answer: A
     assert!(rt; text.len() <= LINE_BYTES);
     assert_eq!(rt;
         condition(kind, text, plan.symbols(), rules_of(plan)),
-        answer
+        answer,
+        "for {}",
+        text.escape_ascii()
     );
+}
+
+/// Compares the conditions of expressions, each after its own on a line.
+fn check_lines(rt: &impl Abort, plan: &Plan, lines: &str) {
+    for line in lines.lines() {
+        if !line.starts_with('#') {
+            let (word, text) = halves(rt, line);
+            check(rt, plan, text.as_bytes(), cond_of(word));
+        }
+    }
 }
 
 #[test]
 fn expressions_are_valued(rt: HostRuntime) -> Result<(), Fail> {
-    for &(args, text, cond) in EXPRESSIONS {
-        check(&rt, &planned(&rt, rt.alloc(), args)?, text, cond);
+    for &(args, lines) in EXPRESSIONS {
+        check_lines(&rt, &planned(&rt, rt.alloc(), args)?, lines);
     }
     Ok(())
 }
@@ -170,56 +220,76 @@ const NAMES: &[(Kind, &[u8], &[&[u8]])] = &[
     (Kind::Endif, b" A", &[]),
 ];
 
+/// Compares the names of directives.
+fn check_all_names(rt: &impl Abort, rows: &[(Kind, &[u8], &[&[u8]])]) {
+    for &(kind, text, expected) in rows {
+        check_names(rt, kind, text, expected);
+    }
+}
+
 #[test]
 fn names_come_in_order(rt: HostRuntime) -> Result<(), Fail> {
-    for &(kind, text, expected) in NAMES {
-        check_names(&rt, kind, text, expected);
-    }
+    check_all_names(&rt, NAMES);
+    Ok(())
+}
+
+/// Bytes, a unit and how often it comes after them, further bytes, and how many `)` come last, with
+/// the condition of them all where `A` is 5. The texts are as long as a line may be.
+const LONG_TEXTS: &[(&[u8], &[u8], usize, &[u8], usize, Cond)] = &[
+    // Parentheses are read to the longest line.
+    (b" ", b"(", 32_767, b"A", 32_767, Cond::Yes),
+    (b"", b"(", LINE_BYTES, b"", 0, Cond::Unknown),
+    // Operators are read to the longest line.
+    (b"", b"!", LINE_BYTES - 1, b"A", 0, Cond::No),
+    (b"", b"A+", 32_767, b"A ", 0, Cond::Yes),
+];
+
+/// Compares the condition of a text that is made as a row of `LONG_TEXTS` says.
+fn check_long(
+    rt: &(impl Abort + AllocGlobal),
+    plan: &Plan,
+    row: (&[u8], &[u8], usize, &[u8], usize, Cond),
+) -> Result<(), AllocError> {
+    let (first, unit, count, last, closers, cond) = row;
+    let mut text = Vec::from_slice(rt.alloc(), first)?;
+    append_repeated(&mut text, unit, count)?;
+    text.extend_from_slice(last)?;
+    append_repeated(&mut text, b")", closers)?;
+    check(rt, plan, text.as_slice(), cond);
     Ok(())
 }
 
 #[test]
-fn parentheses_are_read_to_the_longest_line(rt: HostRuntime) -> Result<(), Fail> {
+fn operands_are_read_to_the_longest_line(rt: HostRuntime) -> Result<(), Fail> {
     let plan = planned(&rt, rt.alloc(), "-DA=5")?;
-    let middle = LINE_BYTES / 2;
-    let mut closed = [b')'; LINE_BYTES];
-    closed[0] = b' ';
-    closed[1..middle].fill(b'(');
-    closed[middle] = b'A';
-    check(&rt, &plan, &closed, Cond::Yes);
-    check(&rt, &plan, &[b'('; LINE_BYTES], Cond::Unknown);
-    Ok(())
-}
-
-#[test]
-fn operators_are_read_to_the_longest_line(rt: HostRuntime) -> Result<(), Fail> {
-    let plan = planned(&rt, rt.alloc(), "-DA=5")?;
-    let mut negated = [b'!'; LINE_BYTES];
-    negated[LINE_BYTES - 1] = b'A';
-    check(&rt, &plan, &negated, Cond::No);
-    let mut sum = [b'+'; LINE_BYTES];
-    for i in (0..LINE_BYTES).step_by(2) {
-        sum[i] = b'A';
+    for &row in LONG_TEXTS {
+        check_long(&rt, &plan, row)?;
     }
-    sum[LINE_BYTES - 1] = b' ';
-    check(&rt, &plan, &sum, Cond::Yes);
     Ok(())
 }
 
-/// Texts around the sizes at which longer stacks are used.
+/// Compares the condition of `A` in parentheses, of which some may not be closed.
+fn check_size(
+    rt: &(impl Abort + AllocGlobal),
+    plan: &Plan,
+    size: usize,
+    closers: usize,
+    cond: Cond,
+) -> Result<(), AllocError> {
+    check_long(rt, plan, (b"", b"(", size, b"A", closers, cond))
+}
+
+/// Sizes around those at which longer stacks are used.
+const SIZES: &[usize] = &[
+    31, 32, 33, 63, 64, 65, 127, 128, 129, 1023, 1024, 1025, 2047, 8191, 8192, 8193, 32_767,
+];
+
 #[test]
 fn texts_of_each_size_are_read(rt: HostRuntime) -> Result<(), Fail> {
     let plan = planned(&rt, rt.alloc(), "-DA=5")?;
-    let mut text = [b'('; LINE_BYTES];
-    for size in [
-        31, 32, 33, 63, 64, 65, 127, 128, 129, 1023, 1024, 1025, 2047, 8191, 8192, 8193, 32_767,
-    ] {
-        let end = 2 * size + 1;
-        text[..size].fill(b'(');
-        text[size] = b'A';
-        text[size + 1..end].fill(b')');
-        check(&rt, &plan, &text[..end], Cond::Yes);
-        check(&rt, &plan, &text[..end - 1], Cond::Unknown);
+    for &size in SIZES {
+        check_size(&rt, &plan, size, size, Cond::Yes)?;
+        check_size(&rt, &plan, size, size.saturating_sub(1), Cond::Unknown)?;
     }
     Ok(())
 }

@@ -21,26 +21,28 @@ fn check(rt: &impl Abort, body: &[u8], expected: Result<Option<Directive<'_>>, C
     assert_eq!(rt; directive(&scan), expected);
 }
 
+/// First lines, and whether their keyword is cut. The others have no directive.
+const CUTS: &[(&[u8], bool)] = &[
+    // A keyword may lack all its letters.
+    (b"# /* c", true),
+    (b"#\\", true),
+    (b"#", false),
+    // A slash before a splice may begin a comment.
+    (b"#/\\", true),
+    (b"# // c \\", false),
+    // A word before a splice may become a keyword.
+    (b"#if\\", true),
+    (b"  # e\\", true),
+    (b"#endif\\", true),
+    (b"#elifd\\", true),
+    (b"#elifdefs\\", false),
+    (b"# define\\", false),
+];
+
 #[test]
 fn a_keyword_may_be_cut(rt: HostRuntime) -> Result<(), Fail> {
-    let cases: [(&[u8], Result<Option<Directive<'_>>, Cut>); 11] = [
-        // A keyword may lack all its letters.
-        (b"# /* c", Err(Cut)),
-        (b"#\\", Err(Cut)),
-        (b"#", Ok(None)),
-        // A slash before a splice may begin a comment.
-        (b"#/\\", Err(Cut)),
-        (b"# // c \\", Ok(None)),
-        // A word before a splice may become a keyword.
-        (b"#if\\", Err(Cut)),
-        (b"  # e\\", Err(Cut)),
-        (b"#endif\\", Err(Cut)),
-        (b"#elifd\\", Err(Cut)),
-        (b"#elifdefs\\", Ok(None)),
-        (b"# define\\", Ok(None)),
-    ];
-    for (body, expected) in cases {
-        check(&rt, body, expected);
+    for &(body, is_cut) in CUTS {
+        check(&rt, body, if is_cut { Err(Cut) } else { Ok(None) });
     }
     Ok(())
 }
@@ -110,20 +112,29 @@ fn check_names(rt: &impl Abort, body: &[u8], expected: &[&[u8]]) {
     assert!(rt; listed.next().is_none());
 }
 
+/// Compares the names of first lines.
+fn check_all_names(rt: &impl Abort, rows: &[(&[u8], &[&[u8]])]) {
+    for &(body, expected) in rows {
+        check_names(rt, body, expected);
+    }
+}
+
 #[test]
 fn understood_conditions_have_names(rt: HostRuntime) -> Result<(), Fail> {
-    for &(body, expected) in NAMES {
-        check_names(&rt, body, expected);
-    }
+    check_all_names(&rt, NAMES);
     Ok(())
+}
+
+/// Compares what a name at this depth follows.
+fn check_prefix(rt: &impl Abort, lister: &mut Lister, depth: usize, expected: &[u8]) {
+    assert!(rt; lister.prefix(depth) == expected, "at depth {depth}");
 }
 
 #[test]
 fn a_name_follows_its_depth(rt: HostRuntime) -> Result<(), Fail> {
     let mut depths = Lister::new(true);
-    assert_eq!(rt; depths.prefix(0), b"0 ".as_slice());
-    assert_eq!(rt; depths.prefix(255), b"255 ".as_slice());
-    let mut names = Lister::new(false);
-    assert_eq!(rt; names.prefix(7), b"".as_slice());
+    check_prefix(&rt, &mut depths, 0, b"0 ");
+    check_prefix(&rt, &mut depths, 255, b"255 ");
+    check_prefix(&rt, &mut Lister::new(false), 7, b"");
     Ok(())
 }

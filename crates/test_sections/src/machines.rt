@@ -4,7 +4,8 @@
 //! Throughout, `Y` is defined, `N` is undefined, and `X` isn't listed. A kept line is `k`, a
 //! removed one `-`, and an opener that becomes `#if`, `#else` or `#endif` is `i`, `e` or `n`.
 
-use crate::stepping::{Stepper, letter};
+use crate::stepping::Stepper;
+use std::alloc::AllocError;
 use std::process::Abort;
 use std::test::Fail;
 use ud_model::Mode;
@@ -112,23 +113,34 @@ const REFUSALS: &[(&str, &[&[u8]], SectionFault, usize, Mode)] = &[
     (ARGS, &[b"#if X", b"1", b"#elif N", b"/* c", b"*/ #endif"], SectionFault::Obfuscated { line: 5 }, 1, Mode::C),
 ];
 
+/// Lines, and the keyword that is reported of each.
+const KEYWORDS: &[(&[u8], Span)] = &[
+    (b" # ifdef X", Span { at: 3, len: 5 }),
+    (b"# define X", Span { at: 0, len: 0 }),
+    (b"/* */ #endif", Span { at: 7, len: 5 }),
+];
+
+/// The lines of a text, a few at a time, with their letters and the mode after them.
+///
+/// A section inside, which is plain by its own symbol too, doesn't end the mode.
+#[rattlefmt::skip]
+const IN_PLAIN: &[(&[&[u8]], &str, Mode)] = &[
+    (&[b"#ifndef N", b"/* a", b"#else"], "-k-", Mode::Plain),
+    (&[b"#ifdef I", b"\"", b"#endif", b"/*"], "----", Mode::Plain),
+    (&[b"#endif"], "-", Mode::C),
+];
+
 /// Compares the letters, after these lines, of a next line, of a text line after it, and of an
 /// `#endif` after both. `!` is a misplaced line.
 fn check_after(
     rt: &(impl Abort + AllocGlobal),
     lines: &[&[u8]],
     next: &[u8],
-    expected: &str,
-) -> Result<(), Fail> {
-    let alloc = rt.alloc();
-    let mut stepper = Stepper::new(rt, alloc, ARGS)?;
-    stepper.steps(rt, alloc, lines)?;
-    let mut letters = stepper.steps(rt, alloc, &[next, b"x"])?;
-    letters.push(match stepper.step(rt, b"#endif") {
-        Ok(step) => letter(step.verdict),
-        Err(_) => '!',
-    })?;
-    assert_eq!(rt; letters.as_str(), expected);
+    letters: &str,
+) -> Result<(), AllocError> {
+    let mut stepper = Stepper::new(rt, rt.alloc(), ARGS)?;
+    stepper.read(rt, lines);
+    stepper.check(rt, &[next, b"x", b"#endif"], letters);
     Ok(())
 }
 
@@ -137,162 +149,167 @@ fn check_phase(
     rt: &(impl Abort + AllocGlobal),
     lines: &[&[u8]],
     expected: &[&str; 9],
-) -> Result<(), Fail> {
+) -> Result<(), AllocError> {
     for at in 0..NEXT.len() {
         check_after(rt, lines, NEXT[at], expected[at])?;
     }
     Ok(())
 }
 
-#[test]
-fn a_section_goes_through_its_phases(rt: HostRuntime) -> Result<(), Fail> {
-    for (lines, expected) in PHASES {
-        check_phase(&rt, lines, expected)?;
+/// Compares the letters of all phases.
+fn check_phases(
+    rt: &(impl Abort + AllocGlobal),
+    rows: &[(&[&[u8]], [&str; 9])],
+) -> Result<(), AllocError> {
+    for (lines, expected) in rows {
+        check_phase(rt, lines, expected)?;
     }
     Ok(())
 }
 
-/// Compares the letters of these lines under these arguments.
+#[test]
+fn a_section_goes_through_its_phases(rt: HostRuntime) -> Result<(), Fail> {
+    check_phases(&rt, PHASES)?;
+    Ok(())
+}
+
+/// Compares the letters of lines.
 fn check_steps(
     rt: &(impl Abort + AllocGlobal),
-    args: &str,
-    lines: &[&[u8]],
-    expected: &str,
-) -> Result<(), Fail> {
-    let alloc = rt.alloc();
-    let mut stepper = Stepper::new(rt, alloc, args)?;
-    let letters = stepper.steps(rt, alloc, lines)?;
-    assert_eq!(rt; letters.as_str(), expected, "under {args}");
+    rows: &[(&str, &[&[u8]], &str)],
+) -> Result<(), AllocError> {
+    for &(args, lines, letters) in rows {
+        Stepper::new(rt, rt.alloc(), args)?.check(rt, lines, letters);
+    }
     Ok(())
 }
 
 #[test]
 fn each_line_has_its_verdict(rt: HostRuntime) -> Result<(), Fail> {
-    for &(args, lines, expected) in STEPS {
-        check_steps(&rt, args, lines, expected)?;
-    }
+    check_steps(&rt, STEPS)?;
     Ok(())
 }
 
 /// Compares the fault of the last of these lines. Afterwards, every step and the end return the
 /// same fault, and mode and depth stay.
 fn check_refusal(
-    rt: &(impl Abort + AllocGlobal),
-    args: &str,
+    rt: &impl Abort,
+    stepper: &mut Stepper,
     lines: &[&[u8]],
-    expected: SectionFault,
+    fault: SectionFault,
     depth: usize,
     mode: Mode,
-) -> Result<(), Fail> {
-    let alloc = rt.alloc();
-    let mut stepper = Stepper::new(rt, alloc, args)?;
+) {
     let Some((last, before)) = lines.split_last() else {
-        return Ok(());
+        return;
     };
-    stepper.steps(rt, alloc, before)?;
+    stepper.read(rt, before);
     for body in [*last, b"x", b"#if X"] {
-        assert!(rt; stepper.step(rt, body) == Err(expected), "under {args}");
+        stepper.refuse(rt, body, fault);
     }
-    assert!(rt; stepper.finish() == Err(expected), "under {args}");
-    assert_eq!(rt; stepper.depth(), depth);
-    assert!(rt; stepper.mode() == mode);
+    stepper.finish(rt, Err(fault));
+    stepper.check_depth(rt, depth);
+    stepper.check_mode(rt, mode);
+}
+
+/// Compares the faults of last lines.
+fn check_refusals(
+    rt: &(impl Abort + AllocGlobal),
+    rows: &[(&str, &[&[u8]], SectionFault, usize, Mode)],
+) -> Result<(), AllocError> {
+    for &(args, lines, fault, depth, mode) in rows {
+        let mut stepper = Stepper::new(rt, rt.alloc(), args)?;
+        check_refusal(rt, &mut stepper, lines, fault, depth, mode);
+    }
     Ok(())
 }
 
 #[test]
 fn a_directive_misplaced_or_over_lines_is_refused(rt: HostRuntime) -> Result<(), Fail> {
-    for &(args, lines, fault, depth, mode) in REFUSALS {
-        check_refusal(&rt, args, lines, fault, depth, mode)?;
-    }
+    check_refusals(&rt, REFUSALS)?;
     Ok(())
+}
+
+/// Compares the keyword of the next line.
+fn check_keyword(rt: &impl Abort, stepper: &mut Stepper, body: &[u8], keyword: Span) {
+    let step = stepper.step(rt, body).expect(rt, "the line is sound");
+    assert_eq!(rt; step.keyword, keyword);
 }
 
 #[test]
 fn a_keyword_is_reported_with_its_position(rt: HostRuntime) -> Result<(), Fail> {
     let mut stepper = Stepper::new(&rt, rt.alloc(), ARGS)?;
-    let lines: [(&[u8], usize, usize); 3] = [
-        (b" # ifdef X", 3, 5),
-        (b"# define X", 0, 0),
-        (b"/* */ #endif", 7, 5),
-    ];
-    for (body, at, len) in lines {
-        let step = stepper.step(&rt, body).expect(&rt, "the line is sound");
-        assert_eq!(rt; step.keyword, Span { at, len });
+    for &(body, keyword) in KEYWORDS {
+        check_keyword(&rt, &mut stepper, body, keyword);
     }
-    assert_eq!(rt; stepper.depth(), 0);
-    assert!(rt; stepper.finish() == Ok(()));
+    stepper.check_depth(&rt, 0);
+    stepper.finish(&rt, Ok(()));
     Ok(())
+}
+
+/// Opens as many sections as may be open, of which this line opens the first, and one more.
+fn check_deepest(rt: &impl Abort, stepper: &mut Stepper, first: &[u8]) {
+    stepper.read(rt, &[first]);
+    for _ in 1..256 {
+        stepper.read(rt, &[b"#if X"]);
+    }
+    let fault = SectionFault::TooManyLevels { line: 257 };
+    stepper.refuse(rt, b"#if X", fault);
+    stepper.refuse(rt, b"#endif", fault);
+    stepper.finish(rt, Err(fault));
+    stepper.check_depth(rt, 256);
 }
 
 #[test]
 fn a_section_more_than_may_be_open_is_refused(rt: HostRuntime) -> Result<(), Fail> {
-    let alloc = rt.alloc();
     for first in [b"#if X".as_slice(), b"#ifdef N".as_slice()] {
-        let mut stepper = Stepper::new(&rt, alloc, ARGS)?;
-        let _ = stepper.step(&rt, first).expect(&rt, "the first section");
-        for _ in 1..256 {
-            let _ = stepper.step(&rt, b"#if X").expect(&rt, "a section");
-        }
-        let fault = SectionFault::TooManyLevels { line: 257 };
-        assert!(rt; stepper.step(&rt, b"#if X") == Err(fault));
-        assert!(rt; stepper.step(&rt, b"#endif") == Err(fault));
-        assert!(rt; stepper.finish() == Err(fault));
-        assert_eq!(rt; stepper.depth(), 256);
+        check_deepest(&rt, &mut Stepper::new(&rt, rt.alloc(), ARGS)?, first);
     }
     Ok(())
 }
 
 #[test]
 fn the_end_reports_an_open_comment_before_an_open_section(rt: HostRuntime) -> Result<(), Fail> {
-    let alloc = rt.alloc();
-    let mut stepper = Stepper::new(&rt, alloc, ARGS)?;
-    assert!(rt; stepper.finish() == Ok(()));
-    stepper.steps(&rt, alloc, &[b"x", b"#ifdef X", b"#elif N", b"x"])?;
+    let mut stepper = Stepper::new(&rt, rt.alloc(), ARGS)?;
+    stepper.finish(&rt, Ok(()));
+    stepper.read(&rt, &[b"x", b"#ifdef X", b"#elif N", b"x"]);
     let open = SectionFault::PrematureEof {
         line: 4,
         if_line: 2,
     };
-    assert!(rt; stepper.finish() == Err(open));
-    stepper.steps(&rt, alloc, &[b"#if Y", b"/* c"])?;
-    assert!(rt; stepper.finish() == Err(SectionFault::EofInComment { line: 6 }));
+    stepper.finish(&rt, Err(open));
+    stepper.read(&rt, &[b"#if Y", b"/* c"]);
+    stepper.finish(&rt, Err(SectionFault::EofInComment { line: 6 }));
     Ok(())
 }
 
 /// Compares the letters of the next lines, and the mode after them.
-fn check_next(
-    rt: &(impl Abort + AllocGlobal),
-    stepper: &mut Stepper,
-    lines: &[&[u8]],
-    expected: &str,
-    mode: Mode,
-) -> Result<(), Fail> {
-    let letters = stepper.steps(rt, rt.alloc(), lines)?;
-    assert_eq!(rt; letters.as_str(), expected);
-    assert!(rt; stepper.mode() == mode);
-    Ok(())
+fn check_next(rt: &impl Abort, stepper: &mut Stepper, lines: &[&[u8]], letters: &str, mode: Mode) {
+    stepper.check(rt, lines, letters);
+    stepper.check_mode(rt, mode);
 }
 
 #[test]
 fn a_section_by_an_ignoring_symbol_is_plain_up_to_its_end(rt: HostRuntime) -> Result<(), Fail> {
     let mut stepper = Stepper::new(&rt, rt.alloc(), IGNORING)?;
-    let lines: [&[u8]; 3] = [b"#ifndef N", b"/* a", b"#else"];
-    check_next(&rt, &mut stepper, &lines, "-k-", Mode::Plain)?;
-    // A section inside, which is plain by its own symbol too, doesn't end the mode.
-    let inner: [&[u8]; 4] = [b"#ifdef I", b"\"", b"#endif", b"/*"];
-    check_next(&rt, &mut stepper, &inner, "----", Mode::Plain)?;
-    check_next(&rt, &mut stepper, &[b"#endif"], "-", Mode::C)
+    for &(lines, letters, mode) in IN_PLAIN {
+        check_next(&rt, &mut stepper, lines, letters, mode);
+    }
+    Ok(())
 }
 
 #[test]
 fn a_run_of_text_has_one_verdict(rt: HostRuntime) -> Result<(), Fail> {
     let mut stepper = Stepper::new(&rt, rt.alloc(), ARGS)?;
-    assert_eq!(rt; stepper.text(3), 'k');
-    let lines: [&[u8]; 2] = [b"#if X", b"#elif N"];
-    check_next(&rt, &mut stepper, &lines, "k-", Mode::C)?;
-    assert_eq!(rt; stepper.text(9), '-');
-    check_next(&rt, &mut stepper, &[b"#endif"], "k", Mode::C)?;
-    assert_eq!(rt; stepper.text(11), 'k');
-    let fault = SectionFault::InappropriateEndif { line: 12 };
-    assert!(rt; stepper.step(&rt, b"#endif") == Err(fault));
+    stepper.check_text(&rt, 3, 'k');
+    check_next(&rt, &mut stepper, &[b"#if X", b"#elif N"], "k-", Mode::C);
+    stepper.check_text(&rt, 9, '-');
+    check_next(&rt, &mut stepper, &[b"#endif"], "k", Mode::C);
+    stepper.check_text(&rt, 11, 'k');
+    stepper.refuse(
+        &rt,
+        b"#endif",
+        SectionFault::InappropriateEndif { line: 12 },
+    );
     Ok(())
 }

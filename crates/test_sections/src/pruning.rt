@@ -1,11 +1,10 @@
 //! Texts without the operands that the symbols decide.
 
 use crate::conditions::rules_of;
-use crate::stepping::planned;
-use std::alloc::Global;
+use crate::stepping::{append_repeated, planned};
+use std::alloc::{AllocError, Global};
 use std::process::Abort;
 use std::test::Fail;
-use ud_args::Plan;
 use ud_prune::prune;
 
 /// Symbols of some rows.
@@ -72,64 +71,93 @@ const TEXTS: &[(&str, &[u8], &[u8], usize)] = &[
     (SYMBOLS, b"#ifdef A\n#elifdef A\n#ifndef A\n", b"#ifdef A\n#elifdef A\n#ifndef A\n", 0),
 ];
 
+/// Spaces before a text, the text, the rest of it, and how many conditions are edited.
+#[rattlefmt::skip]
+const LONG_TEXTS: &[(usize, &[u8], &[u8], usize)] = &[
+    // Lines with bodies around the sizes at which another scanner reads them are edited.
+    (1013, b"#if A || X\n", b"#if X\n", 1),
+    (1014, b"#if A || X\n", b"#if X\n", 1),
+    (1015, b"#if A || X\n", b"#if X\n", 1),
+    (65_525, b"#if A || X\n", b"#if X\n", 1),
+    // A line over the limit stays.
+    (65_526, b"#if A || X\n", b"#if A || X\n", 0),
+    // A comment that begins on a line over the limit goes on.
+    (69_996, b"x /*\n#if A || X\n*/\n#if A || X\n", b"x /*\n#if A || X\n*/\n#if X\n", 1),
+];
+
+/// Appends the rest of a text. Returns how many conditions were edited.
+fn append_rest(
+    rt: &(impl Abort + AllocGlobal),
+    args: &str,
+    text: &[u8],
+    out: &mut Vec<u8>,
+) -> Result<usize, AllocError> {
+    let plan = planned(rt, rt.alloc(), args)?;
+    prune(text, plan.symbols(), rules_of(&plan), out)
+}
+
+/// Compares the rest of a text after other bytes.
+fn check_rest(rt: &impl Abort, args: &str, out: &[u8], left: &[u8]) {
+    assert_eq!(rt; out.strip_prefix(b">"), Some(left), "under {args}");
+}
+
 /// Compares the rest of a text after other bytes, and the number of edited conditions.
 fn check(
-    rt: &impl Abort,
-    alloc: Global,
-    plan: &Plan,
+    rt: &(impl Abort + AllocGlobal),
+    args: &str,
     text: &[u8],
     left: &[u8],
     count: usize,
-) -> Result<(), Fail> {
-    let mut out = Vec::from_slice(alloc, b">")?;
-    let edited = prune(text, plan.symbols(), rules_of(plan), &mut out)?;
-    assert_eq!(rt; edited, count);
-    assert_eq!(rt; out.as_slice().strip_prefix(b">"), Some(left));
+) -> Result<(), AllocError> {
+    let mut out = Vec::from_slice(rt.alloc(), b">")?;
+    let edited = append_rest(rt, args, text, &mut out)?;
+    check_rest(rt, args, out.as_slice(), left);
+    assert_eq!(rt; edited, count, "under {args}");
+    Ok(())
+}
+
+/// Compares the rests of texts.
+fn check_texts(
+    rt: &(impl Abort + AllocGlobal),
+    rows: &[(&str, &[u8], &[u8], usize)],
+) -> Result<(), AllocError> {
+    for &(args, text, left, count) in rows {
+        check(rt, args, text, left, count)?;
+    }
     Ok(())
 }
 
 #[test]
 fn operands_that_are_decided_go_from_texts(rt: HostRuntime) -> Result<(), Fail> {
-    for &(args, text, left, count) in TEXTS {
-        let plan = planned(&rt, rt.alloc(), args)?;
-        check(&rt, rt.alloc(), &plan, text, left, count)?;
-    }
+    check_texts(&rt, TEXTS)?;
     Ok(())
 }
 
-/// Returns a text after white space, in as many bytes, and a newline.
-fn padded(alloc: Global, text: &[u8], size: usize) -> Result<Vec<u8>, Fail> {
-    let mut line = Vec::new(alloc);
-    for _space in text.len()..size {
-        line.push(b' ')?;
-    }
-    line.extend_from_slice(text)?;
-    line.push(b'\n')?;
-    Ok(line)
+/// Returns a text after this many spaces.
+fn padded(alloc: Global, spaces: usize, text: &[u8]) -> Result<Vec<u8>, AllocError> {
+    let mut whole = Vec::new(alloc);
+    append_repeated(&mut whole, b" ", spaces)?;
+    whole.extend_from_slice(text)?;
+    Ok(whole)
 }
 
-/// Lines with bodies around the sizes at which another scanner reads them.
-#[test]
-fn lines_that_fit_are_edited(rt: HostRuntime) -> Result<(), Fail> {
-    let alloc = rt.alloc();
-    let plan = planned(&rt, alloc, SYMBOLS)?;
-    for size in [1023, 1024, 1025, 65_535] {
-        let line = padded(alloc, b"#if A || X", size)?;
-        let left = padded(alloc, b"#if X", size - 5)?;
-        check(&rt, alloc, &plan, line.as_slice(), left.as_slice(), 1)?;
-    }
-    let line = padded(alloc, b"#if A || X", 65_536)?;
-    check(&rt, alloc, &plan, line.as_slice(), line.as_slice(), 0)
+/// Compares the rest of a text after spaces, and the number of edited conditions.
+fn check_padded(
+    rt: &(impl Abort + AllocGlobal),
+    spaces: usize,
+    text: &[u8],
+    left: &[u8],
+    count: usize,
+) -> Result<(), AllocError> {
+    let text = padded(rt.alloc(), spaces, text)?;
+    let left = padded(rt.alloc(), spaces, left)?;
+    check(rt, SYMBOLS, text.as_slice(), left.as_slice(), count)
 }
 
-/// A comment that begins on a line over the limit goes on.
 #[test]
-fn lines_over_the_limit_are_read(rt: HostRuntime) -> Result<(), Fail> {
-    let alloc = rt.alloc();
-    let plan = planned(&rt, alloc, SYMBOLS)?;
-    let mut text = padded(alloc, b"x /*", 70_000)?;
-    text.extend_from_slice(b"#if A || X\n*/\n#if A || X\n")?;
-    let mut left = padded(alloc, b"x /*", 70_000)?;
-    left.extend_from_slice(b"#if A || X\n*/\n#if X\n")?;
-    check(&rt, alloc, &plan, text.as_slice(), left.as_slice(), 1)
+fn lines_that_fit_are_edited_and_longer_ones_are_read(rt: HostRuntime) -> Result<(), Fail> {
+    for &(spaces, text, left, count) in LONG_TEXTS {
+        check_padded(&rt, spaces, text, left, count)?;
+    }
+    Ok(())
 }

@@ -1,7 +1,8 @@
 //! The residuals of conditions.
 
-use crate::conditions::rules_of;
-use crate::stepping::planned;
+use crate::conditions::{cond_of, halves, rules_of};
+use crate::stepping::{append_repeated, planned};
+use std::alloc::AllocError;
 use std::process::Abort;
 use std::test::Fail;
 use ud_args::Plan;
@@ -23,128 +24,179 @@ const CONSTANTS: &str = "-UA -DB -DN=-1 -k";
 /// Symbols of some rows.
 const STRICT: &str = "-UA -DB -DN=-1 -K";
 
-/// A token that the residual has.
-const T: bool = true;
-
-/// A token that is removed.
-const F: bool = false;
-
-/// Arguments for the rules and the symbols, an expression, and the condition of its residual with
-/// the flags of its tokens.
+/// Arguments for the rules and the symbols, and lines with an expression: after `none`, or after
+/// the condition of its residual and a letter for each token. The residual has the tokens of `T`.
+/// An expression may begin with a second space. A line of `#` says what the next ones show.
 #[rattlefmt::skip]
-const RESIDUALS: &[(&str, &[u8], Option<(Cond, &[bool])>)] = &[
-    // Conditions of real sources.
-    (SOURCES, b" !(defined(UNIX) || defined(VMS))", Some((Cond::Unknown, &[T, F, T, T, T, T, F, F, F, F, F, F]))),
-    (SOURCES, b" (defined(MSWIN) && (!defined(FEAT_GUI) || defined(VIMDLL))) || defined(PROTO)", Some((Cond::Unknown, &[F, F, F, F, F, F, F, F, F, F, F, F, F, F, F, F, F, F, F, F, T, T, T, T]))),
-    (SOURCES, b" (defined(WIN32) || defined(_WIN32) || defined (WINDOWS) || defined (_WINDOWS)) && X", Some((Cond::Unknown, &[T, F, F, F, F, F, F, F, F, F, F, T, T, T, T, T, T, T, T, T, T, T, T]))),
-    (SOURCES, b" defined(__alpha__) || defined(__hppa__)", Some((Cond::Unknown, &[F, F, F, F, F, T, T, T, T]))),
-    (SOURCES, b" !defined(CONFIG_SMP) || __LINUX_ARM_ARCH__ >= 7", Some((Cond::Unknown, &[F, F, F, F, F, F, T, T, T]))),
-    // An operand goes with its operator.
-    (SYMBOLS, b" X || defined A || Y", Some((Cond::Unknown, &[T, F, F, F, T, T]))),
-    (SYMBOLS, b" X && (B && Y)", Some((Cond::Unknown, &[T, T, T, F, F, T, T]))),
-    (SYMBOLS, b" A && X || Y", Some((Cond::Unknown, &[F, F, F, F, T]))),
-    (SYMBOLS, b" (B || X) && Y", Some((Cond::Unknown, &[F, F, F, F, F, F, T]))),
-    (SYMBOLS, b" X(A) || A", Some((Cond::Unknown, &[T, F, F]))),
-    (SYMBOLS, b" B && X || A && Y || Z", Some((Cond::Unknown, &[F, F, T, F, F, F, F, T, T]))),
-    (SYMBOLS, b" B == 1 && X >= 0x10uL", Some((Cond::Unknown, &[F, F, F, F, T, T, T]))),
-    (SYMBOLS, b" N < 0 && X", Some((Cond::Unknown, &[F, F, F, F, T]))),
-    (SYMBOLS, b" B & X || A", Some((Cond::Unknown, &[T, T, T, F, F]))),
-    (SYMBOLS, b" A + X > 2 || A", Some((Cond::Unknown, &[T, T, T, T, T, F, F]))),
-    (SYMBOLS, b" X && 1 && B", Some((Cond::Unknown, &[T, T, T, F, F]))),
-    (SYMBOLS, b" defined(X) || defined(A)", Some((Cond::Unknown, &[T, T, T, T, F, F, F, F, F]))),
-    // Parentheses go if a `defined` or parentheses are left.
-    (SYMBOLS, b" ( A || ( defined X ) ) && Y", Some((Cond::Unknown, &[F, F, F, T, T, T, T, F, T, T]))),
-    (SYMBOLS, b" (A || !defined X) && Y", Some((Cond::Unknown, &[F, F, F, T, T, T, F, T, T]))),
-    (SYMBOLS, b" (defined X || A && Y) && Z", Some((Cond::Unknown, &[F, T, T, F, F, F, F, F, T, T]))),
-    (SYMBOLS, b" ( defined(X) || defined A ) && Y", Some((Cond::Unknown, &[F, T, T, T, T, F, F, F, F, T, T]))),
-    (SYMBOLS, b" !(A || defined X)", Some((Cond::Unknown, &[T, F, F, F, T, T, F]))),
-    (SYMBOLS, b" (A || X) && Y", Some((Cond::Unknown, &[T, F, F, T, T, T, T]))),
-    (SYMBOLS, b" (A || F(X)) && Y", Some((Cond::Unknown, &[T, F, F, T, T, T, T]))),
-    (SYMBOLS, b" !(B && (A || defined X))", Some((Cond::Unknown, &[T, F, F, F, F, F, F, T, T, F, F]))),
-    (SYMBOLS, b"(A||X)", Some((Cond::Unknown, &[T, F, F, T, T]))),
-    // The operands of other operators stay.
-    (SYMBOLS, b" X + (A || Y) || A", Some((Cond::Unknown, &[T, T, T, T, T, T, T, F, F]))),
-    (SYMBOLS, b" ~(A || X) && B", Some((Cond::Unknown, &[T, T, T, T, T, T, F, F]))),
-    (SYMBOLS, b" -(A || X) < 0 || A", Some((Cond::Unknown, &[T, T, T, T, T, T, T, T, F, F]))),
-    (SYMBOLS, b" (A || X) == 1", Some((Cond::Unknown, &[T, T, T, T, T, T, T]))),
-    // A residual may be decided.
-    (SYMBOLS, b" A || B", Some((Cond::Yes, &[F, F, T]))),
-    (SYMBOLS, b" A && X", Some((Cond::No, &[T, T, T]))),
-    (SYMBOLS, b" N < 0 || X && B == 1u", Some((Cond::Yes, &[T, T, T, T, T, F, F, F, F]))),
-    (SYMBOLS, b" !(X && A)", Some((Cond::Yes, &[T, T, T, T, T, T]))),
-    // An operand without a value stays.
-    (SYMBOLS, b" X || A(1)", Some((Cond::Unknown, &[T, T, T]))),
-    (SYMBOLS, b" N < 0u || X", Some((Cond::Unknown, &[T, T, T, T, T]))),
-    (SYMBOLS, b" B / A || X", Some((Cond::Unknown, &[T, T, T, T, T]))),
-    // A text that isn't understood has no residual.
-    (SYMBOLS, b"", None),
-    (SYMBOLS, b" X(1 || A", None),
-    (SYMBOLS, b" 08 || A || X", None),
-    (SYMBOLS, b" X -- A || A", None),
-    (SYMBOLS, b" X || A ? B : X", None),
-    (SYMBOLS, b" X || A)", None),
-    (SYMBOLS, b" (X || A", None),
-    (SYMBOLS, b" X == 0xE+A || A", None),
-    (SYMBOLS, b" defined A(X) || A", None),
-    (SYMBOLS, b" defined || A", None),
-    (SYMBOLS, b" defined(A || X", None),
-    // A symbol has the value to which it leads.
-    (CHAIN, b" C || X", Some((Cond::Unknown, &[F, F, T]))),
-    (CHAIN, b" E || X", Some((Cond::Unknown, &[T, T, T]))),
-    (CHAIN, b" G || X", Some((Cond::Unknown, &[T, T, T]))),
-    // Constants count with `-k`.
-    (CONSTANTS, b" X && 1 && B", Some((Cond::Unknown, &[T, F, F, F, F]))),
-    (CONSTANTS, b" (0 || X) && B", Some((Cond::Unknown, &[T, F, F, T, T, F, F]))),
-    // With `-K` both operands have to be decided.
-    (STRICT, b" A && X && B", Some((Cond::Unknown, &[T, T, T, F, F]))),
-    (STRICT, b" A && X || Y || A", Some((Cond::Unknown, &[T, T, T, T, T, F, F]))),
-    (STRICT, b" B || X || A", Some((Cond::Unknown, &[T, T, T, F, F]))),
-    (STRICT, b" !(B && A) && X", Some((Cond::Unknown, &[F, F, F, F, F, F, F, T]))),
+const RESIDUALS: &[(&str, &str)] = &[
+    (SOURCES, "\
+# Conditions of real sources.
+unknown TFTTTTFFFFFF  !(defined(UNIX) || defined(VMS))
+unknown FFFFFFFFFFFFFFFFFFFFTTTT  (defined(MSWIN) && (!defined(FEAT_GUI) || \
+    defined(VIMDLL))) || defined(PROTO)
+unknown TFFFFFFFFFFTTTTTTTTTTTT  (defined(WIN32) || defined(_WIN32) || defined (WINDOWS) || \
+    defined (_WINDOWS)) && X
+unknown FFFFFTTTT  defined(__alpha__) || defined(__hppa__)
+unknown FFFFFFTTT  !defined(CONFIG_SMP) || __LINUX_ARM_ARCH__ >= 7
+"),
+    (SYMBOLS, "\
+# An operand goes with its operator.
+unknown TFFFTT  X || defined A || Y
+unknown TTTFFTT  X && (B && Y)
+unknown FFFFT  A && X || Y
+unknown FFFFFFT  (B || X) && Y
+unknown TFF  X(A) || A
+unknown FFTFFFFTT  B && X || A && Y || Z
+unknown FFFFTTT  B == 1 && X >= 0x10uL
+unknown FFFFT  N < 0 && X
+unknown TTTFF  B & X || A
+unknown TTTTTFF  A + X > 2 || A
+unknown TTTFF  X && 1 && B
+unknown TTTTFFFFF  defined(X) || defined(A)
+# Parentheses go if a `defined` or parentheses are left.
+unknown FFFTTTTFTT  ( A || ( defined X ) ) && Y
+unknown FFFTTTFTT  (A || !defined X) && Y
+unknown FTTFFFFFTT  (defined X || A && Y) && Z
+unknown FTTTTFFFFTT  ( defined(X) || defined A ) && Y
+unknown TFFFTTF  !(A || defined X)
+unknown TFFTTTT  (A || X) && Y
+unknown TFFTTTT  (A || F(X)) && Y
+unknown TFFFFFFTTFF  !(B && (A || defined X))
+unknown TFFTT (A||X)
+# The operands of other operators stay.
+unknown TTTTTTTFF  X + (A || Y) || A
+unknown TTTTTTFF  ~(A || X) && B
+unknown TTTTTTTTFF  -(A || X) < 0 || A
+unknown TTTTTTT  (A || X) == 1
+# A residual may be decided.
+yes FFT  A || B
+no TTT  A && X
+yes TTTTTFFFF  N < 0 || X && B == 1u
+yes TTTTTT  !(X && A)
+# An operand without a value stays.
+unknown TTT  X || A(1)
+unknown TTTTT  N < 0u || X
+unknown TTTTT  B / A || X
+# A text that isn't understood has no residual.
+none\x20
+none  X(1 || A
+none  08 || A || X
+none  X -- A || A
+none  X || A ? B : X
+none  X || A)
+none  (X || A
+none  X == 0xE+A || A
+none  defined A(X) || A
+none  defined || A
+none  defined(A || X
+"),
+    (CHAIN, "\
+# A symbol has the value to which it leads.
+unknown FFT  C || X
+unknown TTT  E || X
+unknown TTT  G || X
+"),
+    (CONSTANTS, "\
+# Constants count with `-k`.
+unknown TFFFF  X && 1 && B
+unknown TFFTTFF  (0 || X) && B
+"),
+    (STRICT, "\
+# With `-K` both operands have to be decided.
+unknown TTTFF  A && X && B
+unknown TTTTTFF  A && X || Y || A
+unknown TTTFF  B || X || A
+unknown FFFFFFFT  !(B && A) && X
+"),
 ];
 
 /// Compares the condition and the flags of a residual.
-fn check(rt: &impl Abort, plan: &Plan, text: &[u8], expected: Option<(Cond, &[bool])>) {
+fn check(rt: &impl Abort, plan: &Plan, text: &[u8], cond: Cond, stays: &[u8]) {
     assert!(rt; text.len() <= LINE_BYTES);
     let mut flags = TokenFlags::new();
-    let cond = residual(text, plan.symbols(), rules_of(plan), &mut flags);
-    match expected {
-        None => assert!(rt; cond.is_none()),
-        Some((wanted, stays)) => {
-            assert_eq!(rt; cond, Some(wanted));
-            assert_eq!(rt; flags.as_slice(), stays);
+    let found = residual(text, plan.symbols(), rules_of(plan), &mut flags);
+    assert!(rt;
+        found == Some(cond),
+        "{found:?} for {}",
+        text.escape_ascii()
+    );
+    check_flags(rt, text, flags.as_slice(), stays);
+}
+
+/// Compares the flags of an expression's tokens with letters: `T` for a token that stays.
+fn check_flags(rt: &impl Abort, text: &[u8], flags: &[bool], stays: &[u8]) {
+    assert!(rt;
+        flags.len() == stays.len(),
+        "the tokens of {}",
+        text.escape_ascii()
+    );
+    for (flag, letter) in flags.iter().zip(stays) {
+        assert!(rt;
+            *flag == (*letter == b'T'),
+            "{flags:?} for {}",
+            text.escape_ascii()
+        );
+    }
+}
+
+/// Passes if a text has no residual.
+fn check_none(rt: &impl Abort, plan: &Plan, text: &[u8]) {
+    assert!(rt; text.len() <= LINE_BYTES);
+    let found = residual(text, plan.symbols(), rules_of(plan), &mut TokenFlags::new());
+    assert!(rt; found.is_none(), "a residual of {}", text.escape_ascii());
+}
+
+/// Compares the residual of an expression with what stands before it on its line.
+fn check_line(rt: &impl Abort, plan: &Plan, line: &str) {
+    let (word, rest) = halves(rt, line);
+    if word == "none" {
+        check_none(rt, plan, rest.as_bytes());
+    } else {
+        let (stays, text) = halves(rt, rest);
+        check(rt, plan, text.as_bytes(), cond_of(word), stays.as_bytes());
+    }
+}
+
+/// Compares the residuals of expressions, each on a line.
+fn check_lines(rt: &impl Abort, plan: &Plan, lines: &str) {
+    for line in lines.lines() {
+        if !line.starts_with('#') {
+            check_line(rt, plan, line);
         }
     }
 }
 
 #[test]
 fn operands_that_are_decided_go(rt: HostRuntime) -> Result<(), Fail> {
-    for &(args, text, expected) in RESIDUALS {
-        check(&rt, &planned(&rt, rt.alloc(), args)?, text, expected);
+    for &(args, lines) in RESIDUALS {
+        check_lines(&rt, &planned(&rt, rt.alloc(), args)?, lines);
     }
     Ok(())
 }
 
-/// The most bytes of the texts below.
-const LONG: usize = 8192;
+/// Sizes around those at which longer stacks are used.
+const SIZES: &[usize] = &[63, 64, 65, 1023, 1024, 1025, 4095];
 
-/// Texts around the sizes at which longer stacks are used.
+/// Compares the residual of `X` in this many parentheses. Without the last of them, it has none.
+fn check_size(rt: &(impl Abort + AllocGlobal), plan: &Plan, size: usize) -> Result<(), AllocError> {
+    let mut stays = Vec::new(rt.alloc());
+    append_repeated(&mut stays, b"TT", size)?;
+    stays.push(b'T')?;
+    let mut text = Vec::new(rt.alloc());
+    append_repeated(&mut text, b"(", size)?;
+    text.push(b'X')?;
+    append_repeated(&mut text, b")", size)?;
+    check(rt, plan, text.as_slice(), Cond::Unknown, stays.as_slice());
+    text.truncate(stays.len().saturating_sub(1));
+    check_none(rt, plan, text.as_slice());
+    Ok(())
+}
+
 #[test]
 fn texts_of_each_size_have_residuals(rt: HostRuntime) -> Result<(), Fail> {
     let plan = planned(&rt, rt.alloc(), SYMBOLS)?;
-    let stays = [T; LONG];
-    let mut text = [b'('; LONG];
-    for size in [63, 64, 65, 1023, 1024, 1025, 4095] {
-        let end = 2 * size + 1;
-        text[..size].fill(b'(');
-        text[size] = b'X';
-        text[size + 1..end].fill(b')');
-        check(
-            &rt,
-            &plan,
-            &text[..end],
-            Some((Cond::Unknown, &stays[..end])),
-        );
-        check(&rt, &plan, &text[..end - 1], None);
+    for &size in SIZES {
+        check_size(&rt, &plan, size)?;
     }
     Ok(())
 }

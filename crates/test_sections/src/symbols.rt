@@ -9,28 +9,65 @@ fn check(rt: &impl Abort, symbols: &Symbols, name: &[u8], value: Option<&[u8]>, 
     assert_eq!(rt; symbols.find(name), Some(Entry { value, ignoring }));
 }
 
+/// Passes if the table has no entry for a name.
+fn check_none(rt: &impl Abort, symbols: &Symbols, name: &[u8]) {
+    assert!(rt; symbols.find(name).is_none(), "{}", name.escape_ascii());
+}
+
+/// Calls the table for a name, which is undefined if it has no value. Returns the call's result.
+fn call(
+    symbols: &mut Symbols,
+    name: &[u8],
+    value: Option<&[u8]>,
+    ignoring: bool,
+) -> Result<(), SymbolFault> {
+    match value {
+        Some(value) => symbols.define(name, value, ignoring),
+        None => symbols.undefine(name, ignoring),
+    }
+}
+
+/// Calls the table for a name, which it takes.
+fn take(rt: &impl Abort, symbols: &mut Symbols, name: &[u8], value: Option<&[u8]>, ignoring: bool) {
+    assert!(rt;
+        call(symbols, name, value, ignoring).is_ok(),
+        "{}",
+        name.escape_ascii()
+    );
+}
+
+/// Calls the table for a name, which it refuses.
+fn refuse(rt: &impl Abort, symbols: &mut Symbols, name: &[u8], value: Option<&[u8]>) {
+    let answer = call(symbols, name, value, false);
+    assert!(rt;
+        answer == Err(SymbolFault::BadName),
+        "{}",
+        name.escape_ascii()
+    );
+}
+
 #[test]
 fn the_last_call_for_a_name_counts(rt: HostRuntime) -> Result<(), Fail> {
     let mut symbols = Symbols::new(rt.alloc());
-    symbols.define(b"A", b"1", false)?;
+    take(&rt, &mut symbols, b"A", Some(b"1"), false);
     check(&rt, &symbols, b"A", Some(b"1"), false);
-    symbols.undefine(b"A", true)?;
+    take(&rt, &mut symbols, b"A", None, true);
     check(&rt, &symbols, b"A", None, true);
-    symbols.define(b"A", b"", false)?;
+    take(&rt, &mut symbols, b"A", Some(b""), false);
     check(&rt, &symbols, b"A", Some(b""), false);
-    assert!(rt; symbols.find(b"B").is_none());
+    check_none(&rt, &symbols, b"B");
     Ok(())
 }
 
 #[test]
 fn a_bad_name_is_refused(rt: HostRuntime) -> Result<(), Fail> {
     let mut symbols = Symbols::new(rt.alloc());
-    symbols.define(b"A", b"1", false)?;
-    assert!(rt; symbols.define(b"1A", b"1", false) == Err(SymbolFault::BadName));
-    assert!(rt; symbols.undefine(b"defined", false) == Err(SymbolFault::BadName));
-    assert!(rt; symbols.define(b"", b"1", false) == Err(SymbolFault::BadName));
-    assert!(rt; symbols.find(b"1A").is_none());
-    assert!(rt; symbols.find(b"defined").is_none());
+    take(&rt, &mut symbols, b"A", Some(b"1"), false);
+    refuse(&rt, &mut symbols, b"1A", Some(b"1"));
+    refuse(&rt, &mut symbols, b"defined", None);
+    refuse(&rt, &mut symbols, b"", Some(b"1"));
+    check_none(&rt, &symbols, b"1A");
+    check_none(&rt, &symbols, b"defined");
     check(&rt, &symbols, b"A", Some(b"1"), false);
     Ok(())
 }
@@ -41,30 +78,35 @@ fn numbered(number: u16) -> [u8; 4] {
     [b'N', digit(number / 100), digit(number / 10), digit(number)]
 }
 
+/// Compares the entries of 300 names, of which each third one is undefined.
+fn check_thirds(rt: &impl Abort, symbols: &Symbols) {
+    for number in 0..300 {
+        let name = numbered(number);
+        if number % 3 == 0 {
+            check(rt, symbols, &name, None, true);
+        } else {
+            check(rt, symbols, &name, Some(&name[1..]), false);
+        }
+    }
+}
+
 #[test]
 fn three_hundred_names_are_kept_apart(rt: HostRuntime) -> Result<(), Fail> {
     let mut symbols = Symbols::new(rt.alloc());
     for number in (0..300).rev() {
         let name = numbered(number);
-        symbols.define(&name, &name[1..], false)?;
+        take(&rt, &mut symbols, &name, Some(&name[1..]), false);
     }
     for number in (0..300).step_by(3) {
-        symbols.undefine(&numbered(number), true)?;
+        take(&rt, &mut symbols, &numbered(number), None, true);
     }
-    for number in 0..300 {
-        let name = numbered(number);
-        if number % 3 == 0 {
-            check(&rt, &symbols, &name, None, true);
-        } else {
-            check(&rt, &symbols, &name, Some(&name[1..]), false);
-        }
-    }
-    assert!(rt; symbols.find(&numbered(300)).is_none());
+    check_thirds(&rt, &symbols);
+    check_none(&rt, &symbols, &numbered(300));
     Ok(())
 }
 
-#[test]
-fn calls_in_falling_order_make_a_table(rt: HostRuntime) -> Result<(), Fail> {
+/// Returns the table of 300 names in falling order, and of a last call for one of them.
+fn falling(rt: &(impl Abort + AllocGlobal)) -> Result<Symbols, SymbolFault> {
     let mut calls = SymbolCalls::new(rt.alloc());
     for number in (0..300).rev() {
         let name = numbered(number);
@@ -72,22 +114,27 @@ fn calls_in_falling_order_make_a_table(rt: HostRuntime) -> Result<(), Fail> {
     }
     calls.push(b"N007", None, true)?;
     assert!(rt; calls.push(b"7N", None, false) == Err(SymbolFault::BadName));
-    let symbols = calls.into_symbols()?;
+    calls.into_symbols()
+}
+
+#[test]
+fn calls_in_falling_order_make_a_table(rt: HostRuntime) -> Result<(), Fail> {
+    let symbols = falling(&rt)?;
     check(&rt, &symbols, b"N299", Some(b"299"), false);
     check(&rt, &symbols, b"N007", None, true);
     check(&rt, &symbols, b"N000", Some(b"000"), false);
-    assert!(rt; symbols.find(b"N300").is_none());
+    check_none(&rt, &symbols, b"N300");
     Ok(())
 }
 
 #[test]
 fn names_that_end_alike_are_kept_apart(rt: HostRuntime) -> Result<(), Fail> {
     let mut symbols = Symbols::new(rt.alloc());
-    symbols.define(b"LEFT_OVER_NAME", b"1", false)?;
-    symbols.define(b"OVER_NAME", b"2", true)?;
-    symbols.undefine(b"VER_NAME", false)?;
-    assert!(rt; symbols.find(b"RIGHT_OVER_NAME").is_none());
-    symbols.define(b"RIGHT_OVER_NAME", b"3", false)?;
+    take(&rt, &mut symbols, b"LEFT_OVER_NAME", Some(b"1"), false);
+    take(&rt, &mut symbols, b"OVER_NAME", Some(b"2"), true);
+    take(&rt, &mut symbols, b"VER_NAME", None, false);
+    check_none(&rt, &symbols, b"RIGHT_OVER_NAME");
+    take(&rt, &mut symbols, b"RIGHT_OVER_NAME", Some(b"3"), false);
     check(&rt, &symbols, b"LEFT_OVER_NAME", Some(b"1"), false);
     check(&rt, &symbols, b"RIGHT_OVER_NAME", Some(b"3"), false);
     check(&rt, &symbols, b"OVER_NAME", Some(b"2"), true);
