@@ -1,9 +1,11 @@
 //! The message of a run, and its exit status.
 
+use std::alloc::Global;
 use std::process::Abort;
 use std::test::Fail;
 use ud_diagnostics::{EXIT_TROUBLE, final_result, report_result, report_usage};
-use unifdef::{RunFault, Usage, Watched, plan};
+use ud_model::Settings;
+use unifdef::{Usage, Watched};
 
 /// Compares the message and the status.
 fn check(rt: &impl Abort, said: &[u8], status: u8, message: &[u8], expected: u8) {
@@ -11,37 +13,24 @@ fn check(rt: &impl Abort, said: &[u8], status: u8, message: &[u8], expected: u8)
     assert_eq!(rt; status, expected);
 }
 
+/// Compares the message and the status of a run without arguments that changed a line.
+fn check_result(rt: &impl Abort, alloc: Global, flushed: bool, message: &[u8], expected: u8) {
+    let settings = Settings::default();
+    let mut err = Watched::new(Vec::new(alloc));
+    let status = report_result(&mut err, b"a.h", settings, final_result(Ok(true), flushed));
+    check(rt, err.inner(), status, message, expected);
+}
+
 #[test]
 fn a_failed_flush_is_reported_as_a_failed_write(rt: HostRuntime) -> Result<(), Fail> {
-    let plan = plan(rt.alloc(), &[])?;
-    let mut err = Watched::new(Vec::new(rt.alloc()));
-    let status = report_result(
-        &mut err,
-        b"a.h",
-        plan.settings(),
-        final_result(Ok(true), false),
-    );
-    check(
-        &rt,
-        err.inner(),
-        status,
-        b"unifdef: a.h: Write error\n",
-        EXIT_TROUBLE,
-    );
+    let message = b"unifdef: a.h: Write error\n";
+    check_result(&rt, rt.alloc(), false, message, EXIT_TROUBLE);
     Ok(())
 }
 
 #[test]
 fn a_run_that_changed_a_line_has_status_1(rt: HostRuntime) -> Result<(), Fail> {
-    let plan = plan(rt.alloc(), &[])?;
-    let mut err = Watched::new(Vec::new(rt.alloc()));
-    let status = report_result(
-        &mut err,
-        b"a.h",
-        plan.settings(),
-        final_result(Ok(true), true),
-    );
-    check(&rt, err.inner(), status, b"", 1);
+    check_result(&rt, rt.alloc(), true, b"", 1);
     Ok(())
 }
 

@@ -17,18 +17,24 @@ fn owned(alloc: Global, args: &[&str]) -> Result<Vec<String>, AllocError> {
 }
 
 /// Returns the plan of arguments that have no fault.
-fn planned(rt: &(impl Abort + AllocGlobal), args: &[&str]) -> Result<Plan, Fail> {
-    let args = owned(rt.alloc(), args)?;
-    Ok(plan(rt.alloc(), args.as_slice()).expect(rt, "the words have no fault"))
+fn planned(rt: &impl Abort, alloc: Global, args: &[String]) -> Plan {
+    plan(alloc, args).expect(rt, "the words have no fault")
 }
 
 /// Compares the settings of a command line.
-fn check_settings(
+fn check_settings(rt: &impl Abort, plan: &Plan, settings: Settings) {
+    assert_eq!(rt; plan.settings(), settings);
+}
+
+/// Compares the settings of command lines.
+fn check_all_settings(
     rt: &(impl Abort + AllocGlobal),
-    args: &[&str],
-    settings: Settings,
-) -> Result<(), Fail> {
-    assert_eq!(rt; planned(rt, args)?.settings(), settings);
+    rows: &[(&[&str], Settings)],
+) -> Result<(), AllocError> {
+    for &(args, settings) in rows {
+        let args = owned(rt.alloc(), args)?;
+        check_settings(rt, &planned(rt, rt.alloc(), args.as_slice()), settings);
+    }
     Ok(())
 }
 
@@ -68,9 +74,7 @@ fn the_arguments_give_the_settings(rt: HostRuntime) -> Result<(), Fail> {
             },
         ),
     ];
-    for &(args, settings) in &cases {
-        check_settings(&rt, args, settings)?;
-    }
+    check_all_settings(&rt, &cases)?;
     Ok(())
 }
 
@@ -82,16 +86,25 @@ const MODES: &[(&[&str], ExitMode)] = &[
 ];
 
 /// Compares the exit mode of a command line.
-fn check_mode(rt: &(impl Abort + AllocGlobal), args: &[&str], mode: ExitMode) -> Result<(), Fail> {
-    assert_eq!(rt; planned(rt, args)?.settings().exit_mode, mode);
+fn check_mode(rt: &impl Abort, plan: &Plan, mode: ExitMode) {
+    assert_eq!(rt; plan.settings().exit_mode, mode);
+}
+
+/// Compares the exit modes of command lines.
+fn check_modes(
+    rt: &(impl Abort + AllocGlobal),
+    rows: &[(&[&str], ExitMode)],
+) -> Result<(), AllocError> {
+    for &(args, mode) in rows {
+        let args = owned(rt.alloc(), args)?;
+        check_mode(rt, &planned(rt, rt.alloc(), args.as_slice()), mode);
+    }
     Ok(())
 }
 
 #[test]
 fn the_last_exit_mode_counts(rt: HostRuntime) -> Result<(), Fail> {
-    for &(args, mode) in MODES {
-        check_mode(&rt, args, mode)?;
-    }
+    check_modes(&rt, MODES)?;
     Ok(())
 }
 
@@ -115,22 +128,32 @@ const SYMBOLS: &[(&[&str], &[u8], Option<&[u8]>, bool)] = &[
 ];
 
 /// Compares the entry of a name.
-fn check_symbol(
+fn check_symbol(rt: &impl Abort, plan: &Plan, name: &[u8], entry: Option<Entry<'_>>) {
+    assert!(rt;
+        plan.symbols().find(name) == entry,
+        "{}",
+        name.escape_ascii()
+    );
+}
+
+/// Compares the entries of names.
+fn check_symbols(
     rt: &(impl Abort + AllocGlobal),
-    args: &[&str],
-    name: &[u8],
-    entry: Option<Entry<'_>>,
-) -> Result<(), Fail> {
-    assert!(rt; planned(rt, args)?.symbols().find(name) == entry);
+    rows: &[(&[&str], &[u8], Option<&[u8]>, bool)],
+) -> Result<(), AllocError> {
+    for &(args, name, value, ignoring) in rows {
+        let args = owned(rt.alloc(), args)?;
+        let plan = planned(rt, rt.alloc(), args.as_slice());
+        check_symbol(rt, &plan, name, Some(Entry { value, ignoring }));
+    }
     Ok(())
 }
 
 #[test]
 fn the_arguments_give_the_symbols(rt: HostRuntime) -> Result<(), Fail> {
-    for &(args, name, value, ignoring) in SYMBOLS {
-        check_symbol(&rt, args, name, Some(Entry { value, ignoring }))?;
-    }
-    check_symbol(&rt, &[], b"A", None)
+    check_symbols(&rt, SYMBOLS)?;
+    check_symbol(&rt, &planned(&rt, rt.alloc(), &[]), b"A", None);
+    Ok(())
 }
 
 /// Arguments, the index of the operand, and the index of the operand that names a file.
@@ -146,32 +169,31 @@ const PLACES: &[(&[&str], Option<usize>, Option<usize>)] = &[
 ];
 
 /// Compares the index of the operand.
-fn check_operand(
-    rt: &(impl Abort + AllocGlobal),
-    args: &[&str],
-    operand: Option<usize>,
-) -> Result<(), Fail> {
-    assert!(rt; planned(rt, args)?.operand() == operand);
-    Ok(())
+fn check_operand(rt: &impl Abort, plan: &Plan, operand: Option<usize>) {
+    assert_eq!(rt; plan.operand(), operand);
 }
 
 /// Compares the index of the operand that names a file.
-fn check_input(
+fn check_input(rt: &impl Abort, args: &[String], file: Option<usize>) {
+    assert_eq!(rt; input_of(args), file);
+}
+
+/// Compares the indices of operands.
+fn check_places(
     rt: &(impl Abort + AllocGlobal),
-    args: &[&str],
-    file: Option<usize>,
-) -> Result<(), Fail> {
-    let args = owned(rt.alloc(), args)?;
-    assert!(rt; input_of(args.as_slice()) == file);
+    rows: &[(&[&str], Option<usize>, Option<usize>)],
+) -> Result<(), AllocError> {
+    for &(args, operand, file) in rows {
+        let args = owned(rt.alloc(), args)?;
+        check_operand(rt, &planned(rt, rt.alloc(), args.as_slice()), operand);
+        check_input(rt, args.as_slice(), file);
+    }
     Ok(())
 }
 
 #[test]
 fn the_operand_has_a_place(rt: HostRuntime) -> Result<(), Fail> {
-    for &(args, operand, file) in PLACES {
-        check_operand(&rt, args, operand)?;
-        check_input(&rt, args, file)?;
-    }
+    check_places(&rt, PLACES)?;
     Ok(())
 }
 
@@ -215,21 +237,26 @@ const FAULTS: &[(&[&str], Usage)] = &[
 ];
 
 /// Compares the fault of a command line.
-fn check_fault(rt: &(impl Abort + AllocGlobal), args: &[&str], usage: Usage) -> Result<(), Fail> {
-    let args = owned(rt.alloc(), args)?;
-    let Err(fault) = plan(rt.alloc(), args.as_slice()) else {
-        return Err(Fail::new("the words have a fault"));
-    };
-    assert_eq!(rt; fault, usage);
+fn check_fault(rt: &impl Abort, alloc: Global, args: &[String], usage: Usage) {
+    let fault = plan(alloc, args).err();
+    assert!(rt; fault == Some(usage), "{fault:?} in place of {usage:?}");
+}
+
+/// Compares the faults of command lines, which name no file.
+fn check_faults(
+    rt: &(impl Abort + AllocGlobal),
+    rows: &[(&[&str], Usage)],
+) -> Result<(), AllocError> {
+    for &(args, usage) in rows {
+        let args = owned(rt.alloc(), args)?;
+        check_fault(rt, rt.alloc(), args.as_slice(), usage);
+        check_input(rt, args.as_slice(), None);
+    }
     Ok(())
 }
 
-/// Arguments with a fault name no file.
 #[test]
 fn the_first_fault_is_reported(rt: HostRuntime) -> Result<(), Fail> {
-    for &(args, usage) in FAULTS {
-        check_fault(&rt, args, usage)?;
-        check_input(&rt, args, None)?;
-    }
+    check_faults(&rt, FAULTS)?;
     Ok(())
 }

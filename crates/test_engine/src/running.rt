@@ -7,6 +7,12 @@ use std::test::Fail;
 use test_streams::{CountedSink, CountedSource};
 use unifdef::{RunFault, Watched, run};
 
+/// Compares the bytes written. Nothing is flushed.
+fn check_left(rt: &impl Abort, args: &str, sink: &CountedSink, written: &[u8]) {
+    assert_eq!(rt; sink.sink.taken.as_slice(), written, "under {args}");
+    assert_eq!(rt; sink.flushes, 0);
+}
+
 /// Runs over this source, and compares the result and the bytes written. Nothing is flushed.
 ///
 /// `failing_write` is the number of the write that fails; 0 if none does.
@@ -24,8 +30,7 @@ fn check_run(
     sink.interrupted = failing_write;
     let mut out = Watched::new(sink);
     assert!(rt; run(&plan, &mut reader, &mut out) == answer, "under {args}");
-    assert_eq!(rt; out.inner().sink.taken.as_slice(), written, "under {args}");
-    assert_eq!(rt; out.inner().flushes, 0);
+    check_left(rt, args, out.inner(), written);
     Ok(())
 }
 
@@ -48,21 +53,20 @@ const LEFT: &[(&str, &[u8], &[u8])] = &[
     ("-t -DA", b"/*\n#ifdef X\n#endif", b"/*\n#ifdef X\n#endif"),
 ];
 
-#[test]
-fn a_run_reports_whether_the_output_is_other_bytes(rt: HostRuntime) -> Result<(), Fail> {
-    for &(args, text, output) in LEFT {
-        let answer = Ok(output != text);
-        check_run(
-            &rt,
-            args,
-            CountedSource::of(text, usize::MAX),
-            0,
-            answer,
-            output,
-        )?;
-        check_run(&rt, args, CountedSource::of(text, 1), 0, answer, output)?;
+/// Runs over each text, read at once and byte by byte.
+fn check_runs(rt: &(impl Abort + AllocGlobal), rows: &[(&str, &[u8], &[u8])]) -> Result<(), Fail> {
+    for &(args, text, output) in rows {
+        for step in [usize::MAX, 1] {
+            let source = CountedSource::of(text, step);
+            check_run(rt, args, source, 0, Ok(output != text), output)?;
+        }
     }
     Ok(())
+}
+
+#[test]
+fn a_run_reports_whether_the_output_is_other_bytes(rt: HostRuntime) -> Result<(), Fail> {
+    check_runs(&rt, LEFT)
 }
 
 #[test]
