@@ -329,7 +329,7 @@ ends_after text _ (after_newline prefix) =
     inr (ap partial_line (sym (append_assoc text prefix (10 ∷ []))) ∙ begins_ends
     ((text ++ prefix) ++ 10 ∷ []) (after_newline (text ++ prefix)))
 
--- The engine has room for the rest of a buffer after its whole lines.
+-- The engine can take the rest of a buffer after its whole lines.
 module _ (o : Options) (e f : EngineState Printer) (text printed later front : List ℕ)
     (h : EngineRepresentsBuffered printer_represents printer_piece e o (own_piece o) text printed)
     (k : EngineRepresentsBuffered printer_represents printer_piece f o (own_piece o) (text ++ front)

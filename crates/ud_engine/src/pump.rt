@@ -155,8 +155,8 @@ fn pump<R: Read, W: Write, H: LineBuffer>(
 /// Feeds the engine the whole lines of the first `end` bytes of the buffer. Moves the bytes after
 /// them to the buffer's beginning, and returns how many they are.
 ///
-/// The engine is fed all bytes, and the result is 0, if the buffer has no room for more, if a part
-/// of a line is buffered by the engine, or if the text may have no further line.
+/// The engine is fed all bytes, and the result is 0, if a part of a line fills the buffer, if the
+/// engine has buffered a part of the line, or if the text may have no further line.
 ///
 /// # Errors
 /// As `Engine::feed`.
