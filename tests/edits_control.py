@@ -19,7 +19,7 @@ SOURCE = """\
 
 #![tactic(auto)]
 
-ghost use Rattle.std.specs.Prelude.{◌≡◌, ◌+◌, ◌<◌, ◌≤◌};
+ghost use Rattle.std.specs.Prelude.{◌≡◌, ◌+◌, ◌<◌, ◌≤◌, ℕ};
 
 /// Returns a number that exceeds neither.
 pub fn lesser(a: u32, b: u32) -> u32
@@ -76,18 +76,28 @@ pub fn second(a: u32) -> u32
 {
     successor(successor(a))
 }
+
+/// A number is less than the next one.
+pub fn law_next()
+    ensures { (n : ℕ) → n < n + 1 }
+{}
+
+/// A number is not larger than the next one.
+pub fn law_order()
+    ensures { (n : ℕ) → n ≤ n + 1 }
+{}
 """
 
 # The name of each edit, with its old and its new text.
 WRONG = {
+    "law_next_of_the_number_before": ("n < n + 1", "n + 1 < n"),
     "lesser_is_greater": ("if a < b { a } else { b }", "if a > b { a } else { b }"),
     "origin_is_1": ("let zero = 0;", "let zero = 1;"),
     "successor_skips_one": ("let next = a + 1;", "let next = a + 2;"),
 }
 RIGHT = {
+    "law_order_of_the_next_but_one": ("n ≤ n + 1", "n ≤ n + 2"),
     "least_begins_at_the_end": ("lesser(lesser(a, b), c)", "lesser(a, lesser(b, c))"),
-    "part_is_a_third": ("a / 2", "a / 3"),
-    "same_adds_0": ("let b = a;", "let b = a + 0;"),
     "second_calls_once": ("successor(successor(a))", "successor(a) + 1"),
 }
 # Its name comes first, so that it is in the first batch.

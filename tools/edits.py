@@ -83,6 +83,13 @@ def functions_of(path, text):
     return found
 
 
+def owns(function, line):
+    """Returns whether an edit of a line is of this function alone: in its body, or in the contract of a
+    law."""
+    above = function.first if function.name.startswith("law_") else function.body
+    return above < line < function.last
+
+
 def text_of(file):
     """Returns the text of a file, which is empty if there is no file."""
     if not os.path.isfile(file):
@@ -107,9 +114,9 @@ class Edit:
                 self.pairs.append((path, old, line[len("new:") :].removeprefix(" ")))
 
     def apply(self, texts, read):
-        """Returns the texts with this edit, and the functions with a changed body: none if
-        something else is changed too. Returns None if an old text isn't there exactly once."""
-        texts, changed, only_bodies = dict(texts), set(), True
+        """Returns the texts with this edit, and the functions that it changes: none if something
+        else is changed too. Returns None if an old text isn't there exactly once."""
+        texts, changed, is_inside = dict(texts), set(), True
         for path, old, new in self.pairs:
             if not old or not re.match(r"(src|specs|proofs)/(?!.*\.\.)", path or ""):
                 return None
@@ -118,11 +125,11 @@ class Edit:
                 return None
             line = text[: text.index(old)].count("\n") + 1
             functions = functions_of(path, text) if path.startswith("src/") else []
-            inside = [it for it in functions if it.body < line < it.last]
+            inside = [it for it in functions if owns(it, line)]
             changed |= {(it.path, it.name) for it in inside[-1:]}
-            only_bodies &= bool(inside)
+            is_inside &= bool(inside)
             texts[path] = text.replace(old, new)
-        return (texts, changed if only_bodies else set()) if self.pairs else None
+        return (texts, changed if is_inside else set()) if self.pairs else None
 
 
 class Checks:
