@@ -84,8 +84,8 @@ def functions_of(path, text):
 
 
 def owns(function, line):
-    """Returns whether an edit of a line is of this function alone: in its body, or in the contract of a
-    law."""
+    """Returns whether an edit of a line is of this function alone: in its body, or in a law's
+    contract."""
     above = function.first if function.name.startswith("law_") else function.body
     return above < line < function.last
 
@@ -168,8 +168,8 @@ CHECKS = Checks()
 
 
 def link_kept(source, target):
-    """Links a proof that a check kept, which the next one replaces and doesn't write into. Copies any
-    other file."""
+    """Links a proof that a check kept, which the next one replaces and doesn't write into. Copies
+    any other file."""
     (link if source.endswith(".oantt") else shutil.copy2)(source, target)
 
 

@@ -188,8 +188,8 @@ def edits_of_gate(crate):
 
 
 def copy_crates(top):
-    """Copies the crates to a folder, with the edits that the gate tries. `rt ci` takes the folder as
-    the top of a repository, since it has one of the name `.git`."""
+    """Copies the crates to a folder, with the edits that the gate tries. `rt ci` takes the folder
+    as the top of a repository, since it has one of the name `.git`."""
     os.mkdir(f"{top}/.git")
     for it in ("HANDLES", "crates.txt"):
         shutil.copy2(f"{HERE}/{it}", top)
