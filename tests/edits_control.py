@@ -1,9 +1,10 @@
 #!/usr/bin/env python3
 """Tries tools/edits.py on a crate with wrong and right edits (`make edits-test`).
 
-The wrong ones are to be refused. The right ones change a body and keep its contract, also that of a
-caller of a function with a wrong edit. So each is to be proved, although all are checked together.
-One edit doesn't compile, and nothing is proved or refused of a crate that has it.
+The wrong ones are to be refused. The right ones change the contract of a law, which stays true,
+or a body under its contract, also that of a caller of a function with a wrong edit. So each is to
+be proved, although all are checked together. One edit doesn't compile, and nothing is proved or
+refused of a crate that has it.
 """
 import os
 import sys
