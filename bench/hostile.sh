@@ -20,8 +20,8 @@ block=$(( (cases + jobs * 8 - 1) / (jobs * 8) ))
 from=$seed
 end=$((seed + cases))
 
-# Prints the arguments of each process. No line ends in a space, after which xargs takes the next line
-# to be a part of it.
+# Prints the arguments of each process. No line ends in a space, after which xargs takes the next
+# line to be a part of it.
 ranges() {
   while [ "$from" -lt "$end" ]; do
     count=$((end - from < block ? end - from : block))
