@@ -681,23 +681,34 @@ counts() {
   check '-q: no counts' same "$(cat "$work/err")" ''
 }
 
+# deep KIND N: prints an operand A in N bytes of parentheses or operators, which is A again.
+deep() {
+  case $1 in
+    '(A)') printf '%sA%s' "$(repeat '(' $(($2 / 2)))" "$(repeat ')' $(($2 / 2)))" ;;
+    '!A') printf '%sA' "$(repeat '!' "$2")" ;;
+    '- A') printf '%sA' "$(repeat '- ' $(($2 / 2)))" ;;
+  esac
+}
+
 # Tests the deepest conditions with the stack that the manual names.
 small_stack() {
-  local kind
+  local kind n kib
   fresh_tree
   put src/plain.c "$text"
   (ulimit -s 300 && tree -DA src; exit "$status")
   check 'stack: 300 KiB: status' same "$?" 1
   check 'stack: 300 KiB' holds src/plain.c 'yes\n'
   for kind in '(A)' '!A' '- A'; do
-    case $kind in
-      '(A)') printf '#if %s%s%s\nx\n#endif\n' "$(repeat '(' 32700)" A "$(repeat ')' 32700)" ;;
-      '!A') printf '#if %sA\nx\n#endif\n' "$(repeat '!' 65000)" ;;
-      '- A') printf '#if %sA\nx\n#endif\n' "$(repeat '- ' 32000)" ;;
-    esac > src/plain.c
+    put src/plain.c "#if $(deep "$kind" 65000)\nx\n#endif\n"
     (ulimit -s 1200 && tree -DA src; exit "$status")
     check "stack: 1,200 KiB: $kind: status" same "$?" 1
     check "stack: 1,200 KiB: $kind" holds src/plain.c 'x\n'
+    while read -r n kib; do
+      put src/plain.c "#if X || $(deep "$kind" "$n")\nx\n#endif\n"
+      (ulimit -s "$kib" && tree -p -UA src; exit "$status")
+      check "stack: $kib KiB: -p: $kind: status" same "$?" 1
+      check "stack: $kib KiB: -p: $kind" holds src/plain.c '#if X\nx\n#endif\n'
+    done <<< $'8180 1200\n65000 2400'
   done
 }
 
