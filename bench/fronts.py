@@ -16,7 +16,7 @@ import subprocess
 import sys
 from concurrent.futures import ThreadPoolExecutor
 
-SECONDS = 60
+HANG = 3600
 STACK = 1024 * 1024
 FLAGS = ["-k", "-K", "-b", "-l", "-c", "-n", "-s", "-S", "-t", "-x1", "-x2", "-kK", "-bc", "-cn"]
 VALUES = ["", "=0", "=1", "=2", "=201112L", "=0x10", "=", "=A", "=-1", "=1u"]
@@ -71,7 +71,7 @@ def outcome(program, arguments, text, prepare):
             [program, *arguments],
             input=text,
             capture_output=True,
-            timeout=SECONDS,
+            timeout=HANG,
             preexec_fn=prepare,
         )
     except subprocess.TimeoutExpired:

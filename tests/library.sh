@@ -24,7 +24,7 @@ for found in "$(nm -g --defined-only lib/libunifdef.a | sed -n 's/.* T //p' | so
   [ "$found" = "$declared" ] || { printf 'library: exported are\n%s\n' "$found"; exit 1; }
 done
 
-"$cc" "${flags[@]}" "${checked[@]}" -Wl,--wrap=malloc,--wrap=realloc -pthread \
+"$cc" "${flags[@]}" "${checked[@]}" -Wl,--wrap=malloc,--wrap=realloc,--wrap=free -pthread \
   -o "$work/calls" tests/library_calls.c lib/libunifdef.a
 "$work/calls"
 filters=()
@@ -42,10 +42,10 @@ done
 } > "$work/page.c"
 "$cc" "${flags[@]}" "${checked[@]}" -o "$work/page" "$work/page.c" lib/libunifdef.a
 
-# gives STATUS OUTPUT PROGRAM..: what a program must give. A minute is a guard against hanging.
+# gives STATUS OUTPUT PROGRAM..: what a program must give. An hour is a guard against hanging.
 gives() {
   local status=0
-  timeout 60 "${@:3}" > "$work/out" 2> "$work/err" || status=$?
+  timeout 3600 "${@:3}" > "$work/out" 2> "$work/err" || status=$?
   if [ "$status" -ne "$1" ] || [ "$(cat "$work/out")" != "$2" ]; then
     echo "library: ${*:3}: status $status"
     cat "$work/out" "$work/err"
@@ -60,7 +60,7 @@ for program in "$work/page" "$work/filter65536"; do
   gives 2 '' "$program" -DA < "$work"
   gives 2 x "$program" -DA < <(echo x; yes '#endif' 2> /dev/null)
   status=0
-  yes 2> /dev/null | timeout 60 "$program" -DA > /dev/full 2> "$work/err" || status=${PIPESTATUS[1]}
+  yes 2> /dev/null | timeout 3600 "$program" -DA > /dev/full 2> "$work/err" || status=${PIPESTATUS[1]}
   [ "$status" -eq 2 ] || { echo "library: $program with a full output: status $status"; exit 1; }
 done
 gives 2 '' "$work/filter65536" -DA < "$work"
@@ -89,8 +89,9 @@ fi
 "$cc" "${flags[@]}" -O2 -o "$work/shared" lib/examples/filter.c -Llib -lunifdef
 [ "$(printf '#ifdef A\nx\n#endif\n' | LD_LIBRARY_PATH=lib "$work/shared" -DA)" = x ]
 
-# The deepest inputs with a stack of 1 MiB, and of 4 MiB to prune, as a thread and as a program. Statuses, lengths, messages
-# and output are those with a large stack. A sanitizer takes stack, so none is there.
+# The deepest inputs with a stack of 1 MiB, and of 4 MiB to prune, as a thread and as a program.
+# Statuses, lengths, messages and output are those with a large stack. A sanitizer takes stack, so
+# none is there.
 "$cc" "${flags[@]}" -O2 -pthread -o "$work/stack" tests/library_stack.c lib/libunifdef.a
 run_shared() { LD_LIBRARY_PATH=lib "$work/shared" "$1" < "$work/in" 2>&1 || echo "status $?"; }
 for kind in $(tests/deep.sh); do
@@ -121,7 +122,7 @@ awk '/^\.Bd/ { n++; next } /^\.Ed/ { n += n > 1 } n == 2' "$work/examples" > "$w
 command -v python3 > /dev/null || { echo 'library: python3 is not there, so it is left out'; exit 0; }
 export UNIFDEF_LIBRARY=$PWD/lib/libunifdef.so.1 PYTHONDONTWRITEBYTECODE=1
 (cd lib/python && python3 -m unifdef)
-timeout 600 tests/library_module.py
+tests/library_module.py
 if command -v mypy > /dev/null; then
   (cd lib/python && mypy --strict --cache-dir=/dev/null unifdef)
 else

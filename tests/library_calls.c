@@ -1,5 +1,6 @@
 /* Calls of the library that no case makes: short buffers, null, empty words, refused memory, threads.
- * tests/library.sh builds it with sanitizers, and with malloc and realloc wrapped. */
+ * tests/library.sh builds it with sanitizers, and with malloc, realloc and free wrapped. */
+#include <malloc.h>
 #include <pthread.h>
 #include <stdio.h>
 #include <stdlib.h>
@@ -9,18 +10,33 @@
 static int right, wrong;
 static __thread long allowed = -1;
 
-static __thread size_t largest;
+/* How many bytes are allocated, and the most that were. */
+static __thread long live, most_live;
 
-static int refused(size_t size) {
-    if (size > largest) largest = size;
+static int refused(void) {
     if (allowed > 0) allowed--;
     return allowed == 0;
 }
 
+static void *counted(void *block) {
+    live += (long)malloc_usable_size(block);
+    if (live > most_live) most_live = live;
+    return block;
+}
+
 void *__real_malloc(size_t size);
-void *__wrap_malloc(size_t size) { return refused(size) ? NULL : __real_malloc(size); }
+void *__wrap_malloc(size_t size) { return refused() ? NULL : counted(__real_malloc(size)); }
 void *__real_realloc(void *old, size_t size);
-void *__wrap_realloc(void *old, size_t size) { return refused(size) ? NULL : __real_realloc(old, size); }
+void *__wrap_realloc(void *old, size_t size) {
+    if (refused()) return NULL;
+    live -= (long)malloc_usable_size(old);
+    return counted(__real_realloc(old, size));
+}
+void __real_free(void *block);
+void __wrap_free(void *block) {
+    live -= (long)malloc_usable_size(block);
+    __real_free(block);
+}
 
 static void check(const char *what, int holds) {
     if (holds) {
@@ -284,18 +300,20 @@ static void stream_memory(void) {
 static void stream_growth(void) {
     struct unifdef_stream stream = UNIFDEF_STREAM_INIT;
     static char line[4096], output[8192];
-    size_t pending, most = 0;
+    size_t pending;
+    long before = live;
     memset(line, 'x', sizeof line);
     line[sizeof line - 1] = '\n';
+    most_live = live;
     check("growth: open", unifdef_open(&stream, "-DA", 3) == 0);
     for (int i = 0; i < 20000; i++) {
         if (unifdef_feed(&stream, line, sizeof line) != 0) check("growth: feed", 0);
         size_t taken = unifdef_take(&stream, output, sizeof output, &pending);
         if (taken != sizeof line || pending != 0) check("growth: take", 0);
-        if (largest > most) most = largest;
     }
-    check("growth: allocations stay small", most < 300000);
+    check("growth: memory stays small", most_live - before < 100000);
     unifdef_close(&stream);
+    check("growth: all of it is freed", live == before);
 }
 
 static void *feeder(void *stream) {

@@ -22,7 +22,7 @@ sys.path[:0] = [str(Path(__file__).resolve().parent.parent / "lib" / "python")]
 
 import unifdef  # noqa: E402
 
-SECONDS = 60
+HANG = 3600
 FAULTY = b"a\n#ifdef A\nb\n#endif\n#endif\n"
 MESSAGE = "unifdef: stdin: 5: Inappropriate #endif"
 
@@ -62,11 +62,11 @@ def pools() -> None:
     spawned = multiprocessing.get_context("spawn")
     with spawned.Pool(1) as pool:
         held = pool.apply_async(unifdef.strip, (FAULTY, "-DA"))
-        check("a fault in a pool of processes", is_fault(raised(lambda: held.get(SECONDS))))
+        check("a fault in a pool of processes", is_fault(raised(lambda: held.get(HANG))))
     for kind in ProcessPoolExecutor, ThreadPoolExecutor:
         with executor(kind) as pool:
             future = pool.submit(unifdef.strip, FAULTY, "-DA")
-            check(f"a fault under {kind.__name__}", is_fault(future.exception(SECONDS)))
+            check(f"a fault under {kind.__name__}", is_fault(future.exception(HANG)))
 
 
 def executor(kind: "type[Executor]") -> Executor:
