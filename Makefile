@@ -265,10 +265,11 @@ bench: bench-text bench-library bench-conditions
 bench-text: unifdef
 	bench/run.sh
 
-## measures how fast conditions are decided
+## measures the library beside ./unifdef
 bench-library: unifdef lib
 	python3 bench/library.py ./unifdef lib/libunifdef.so
 
+## measures how fast conditions are decided
 bench-conditions: kit
 	cd crates/bench_conditions && $(RT) run -- conditions 1 < /dev/null > /dev/null
 	bench/conditions.sh
