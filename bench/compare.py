@@ -3,11 +3,13 @@
 README.md in this folder describes it.
 
 compare.py WORK NAME=PROGRAM..: keeps texts and outputs in the folder WORK, and compares the others
-with the first program. The status is 1 if its memory isn't below MOST_KIB.
+with the first program. The status is 1 if its memory isn't below MOST_KIB, on DEEP below
+MOST_DEEP_KIB.
 """
 
 import hashlib
 import os
+import re
 import shutil
 import statistics
 import sys
@@ -16,7 +18,7 @@ from pathlib import Path
 from typing import NamedTuple
 
 import texts
-from measure import counted, finished, peak
+from measure import counted, faulted, finished, peak
 
 BYTES = int(os.environ.get("BENCH_BYTES", "20000000"))
 RUNS = int(os.environ.get("BENCH_RUNS", "5"))
@@ -25,8 +27,13 @@ HEADERS = os.environ.get("BENCH_HEADERS", "/usr/include")
 SOURCES = os.environ.get("BENCH_SOURCES", "")
 COUNTED_BYTES = min(BYTES // 10, 1_000_000)
 EMPTY_LINES = 20_000_000
-MOST_KIB = 2048
+MOST_KIB, MOST_DEEP_KIB = 2048, 3072
 NOWHERE = Path(os.devnull)
+NEWLINE = b"\n"
+CONDITIONAL = re.compile(rb"^[ \t]*#[ \t]*(?:if|ifn?def|el(?:if|ifn?def|se)|endif)\b", re.MULTILINE)
+
+# The condition that takes the most memory: as long as a line may be, with parentheses.
+DEEP = b"#if " + b"(" * 32_760 + b"__cplusplus" + b")" * 32_760 + b"\n#endif\n"
 
 
 class Case(NamedTuple):
@@ -102,6 +109,25 @@ def best(case, programs, output):
     return {name: min(of) for name, of in times.items()}, outputs
 
 
+def contents(measures):
+    """Prints how many lines each text has for one conditional, as a whole and as far as its
+    instructions are counted."""
+
+    def lines_of_one(text):
+        found = len(CONDITIONAL.findall(text))
+        return f"{text.count(NEWLINE) / found:,.0f}" if found else "none"
+
+    heading("Lines for one conditional", "text", "lines", "in all", "in the bytes that are counted")
+    for path in dict.fromkeys(case.text for case in measures):
+        text = path.read_bytes()
+        row(path.name, f"{text.count(NEWLINE):,}", lines_of_one(text), lines_of_one(short(text)))
+
+
+def short(text):
+    """Returns the lines of the text's beginning whose instructions are counted."""
+    return text[: text.rfind(NEWLINE, 0, COUNTED_BYTES) + 1]
+
+
 def speeds(measures, programs, title, output):
     first, *others = [*programs, "cat"]
     columns = [f"{name} MB/s" for name in (first, *others)] + [
@@ -126,9 +152,8 @@ def instructions(measures, programs):
 
     def of_byte(job):
         case, program = job
-        command, short = [program, *case.words], case.text.read_bytes()[:COUNTED_BYTES]
-        short = short[: short.rfind(b"\n") + 1]
-        return (counted(command, short) - counted(command, b"")) / len(short)
+        command, text = [program, *case.words], short(case.text.read_bytes())
+        return (counted(command, text) - counted(command, b"")) / len(text)
 
     if not shutil.which("valgrind"):
         return print("bench: left out: instructions: valgrind is not there", file=sys.stderr)
@@ -142,7 +167,8 @@ def instructions(measures, programs):
 
 
 def starts(programs, work):
-    """Prints the median processor time of starting and running a small file, beside `true`."""
+    """Prints the median processor time of starting and running a small file, beside `true`. Then
+    what a run on an empty text takes."""
     paths = [work / f"{n}.h" for n in range(FILES)]
     for n, path in enumerate(paths):
         path.write_text(texts.SMALL.format(n))
@@ -159,10 +185,17 @@ def starts(programs, work):
     middle = [statistics.median(of) for of in times.values()]
     row("microseconds a file", *[f"{seconds * 1e6:.0f}" for seconds in middle])
     row("beside `true`", *[f"{seconds / middle[-1]:.2f}" for seconds in middle])
+    empty = commands(programs, [], "true").values()
+    row("page faults, empty text", *[f"{measured('empty', faulted(it)):,}" for it in empty])
+    if shutil.which("valgrind"):
+        row("instructions, empty text", *[f"{counted(it, b''):,}" for it in empty])
+        many = commands(programs, texts.c_words(1000), "true").values()
+        row("the same with 1,000 symbols", *[f"{counted(it, b''):,}" for it in many])
 
 
 def memory(measures, programs, work):
-    """Prints the peak memory of each program in KiB, and returns the most of the first one."""
+    """Prints the peak memory of each program in KiB, and that of the first one on DEEP. Returns the
+    most of the first one before DEEP, and that on DEEP."""
     (work / "empty").write_bytes(b"\n" * EMPTY_LINES)
     measures = [
         *measures,
@@ -177,19 +210,24 @@ def memory(measures, programs, work):
         ]
         most = max(most, held[0])
         row(case.name, *[f"{kib:,}" for kib in held])
-    return most
+    (work / "deep").write_bytes(DEEP)
+    first, *others = programs.values()
+    deep = measured("deep", peak([first, *texts.c_words(1000)], work / "deep"))
+    row("an `#if` of 65,536 bytes, 1,000 symbols", f"{deep:,}", *[""] * len([*others, "cat"]))
+    return most, deep
 
 
 def main():
     work, programs = Path(sys.argv[1]), dict(argument.split("=", 1) for argument in sys.argv[2:])
     measures = list(cases(work, programs))
+    contents(measures)
     speeds(measures, programs, "Speed, with the output in a file", work / "output")
     speeds(measures, programs, "Speed, with the output going nowhere", NOWHERE)
     instructions(measures, programs)
     starts(programs, work)
-    most = memory(measures, programs, work)
-    if most >= MOST_KIB:
-        sys.exit(f"bench: the peak is {most} KiB; it should be less than {MOST_KIB}")
+    for most, limit in zip(memory(measures, programs, work), (MOST_KIB, MOST_DEEP_KIB)):
+        if most >= limit:
+            sys.exit(f"bench: the peak is {most} KiB; it should be less than {limit}")
 
 
 main()

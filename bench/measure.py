@@ -13,15 +13,27 @@ import termios
 from pathlib import Path
 
 
-def finished(command, source, output):
-    """Returns the status of one run, and its processor time in seconds."""
+def run(command, source, output):
+    """Returns the status of one run, and what it used, as `os.wait4` has it."""
     actions = [
         (os.POSIX_SPAWN_OPEN, 0, source, os.O_RDONLY, 0),
         (os.POSIX_SPAWN_OPEN, 1, output, os.O_WRONLY | os.O_CREAT, 0o600),
     ]
     pid = os.posix_spawn(shutil.which(command[0]), command, os.environ, file_actions=actions)
     _, status, usage = os.wait4(pid, 0)
-    return os.waitstatus_to_exitcode(status), usage.ru_utime + usage.ru_stime
+    return os.waitstatus_to_exitcode(status), usage
+
+
+def finished(command, source, output):
+    """Returns the status of one run, and its processor time in seconds."""
+    status, usage = run(command, source, output)
+    return status, usage.ru_utime + usage.ru_stime
+
+
+def faulted(command):
+    """Returns the status of one run on an empty text, and the number of its page faults."""
+    status, usage = run(command, os.devnull, os.devnull)
+    return status, usage.ru_minflt
 
 
 def peak(command, source):
@@ -45,8 +57,8 @@ def peak(command, source):
 def counted(command, text):
     """Returns the number of instructions of a run on a text, by valgrind's callgrind."""
     valgrind = ["valgrind", "--tool=callgrind", "--callgrind-out-file=/dev/null"]
-    run = subprocess.run([*valgrind, *command], input=text, capture_output=True)
-    return int(re.search(rb"Collected : (\d+)", run.stderr).group(1))
+    ended = subprocess.run([*valgrind, *command], input=text, capture_output=True)
+    return int(re.search(rb"Collected : (\d+)", ended.stderr).group(1))
 
 
 if __name__ == "__main__":
