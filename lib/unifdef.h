@@ -3,8 +3,8 @@
  *
  * unifdef_text does what the program unifdef(1) does, over memory in place of files. A stream does
  * it for a text that comes in chunks. unifdef_prune edits the conditions that are left. Two more
- * calls are for programs that look at directives themselves. It is proved that what each call writes and returns is that of the definitions of
- * unifdef(1). The manual page unifdef(3) has examples.
+ * calls are for programs that look at directives themselves. It is proved that what each call writes
+ * and returns is that of the definitions of unifdef(1). The manual page unifdef(3) has examples.
  *
  * Only a stream keeps anything between calls, and no call frees or keeps what it is passed. So any
  * number of threads may call at once, each with buffers and streams of its own. No call may be made
@@ -179,8 +179,8 @@ int unifdef_prune(const char *words, size_t words_len,
 #define UNIFDEF_TRUE 1
 #define UNIFDEF_UNKNOWN 2
 
-/* What unifdef_prune, unifdef_condition, unifdef_names and the calls for a stream return for an
- * error. */
+/* What is returned for an error: by unifdef_prune, unifdef_condition, unifdef_names, unifdef_open,
+ * unifdef_feed and unifdef_finish. */
 #define UNIFDEF_BAD_WORDS (-1) /* the words have a fault, or one of them isn't UTF-8 */
 #define UNIFDEF_NO_MEMORY (-2) /* memory was refused */
 #define UNIFDEF_TOO_LONG (-3)  /* the expression is longer than UNIFDEF_LINE_BYTES */
