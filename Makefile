@@ -31,12 +31,13 @@ CPU = x86-64-v3
 
 CRATE := crates/unifdef_cli
 UNPROVED := $(CRATE)/out/unproved
+UNPROVED_TREE := crates/unifdef_tree_cli/out/unproved
 TABLE := crates/test_memory/out/test_memory
 SOURCES := crates.txt HANDLES \
 	$(shell find crates -name out -prune -o \( -name '*.rt' -o -name '*.antt' \) -print)
 
 .DELETE_ON_ERROR:
-.PHONY: all help build native kit try test test-all check edits edits-test cases examples manual-examples differences
+.PHONY: all help build native kit try try-tree test test-all check edits edits-test cases examples manual-examples differences
 .PHONY: faults fail-alloc tree-test
 .PHONY: install uninstall dist deb packages-test manuals around bench bench-text
 .PHONY: lib lib-test install-lib uninstall-lib deb-lib
@@ -64,20 +65,27 @@ kit:
 
 build: unifdef
 
-# The program without a proof. It isn't for use: ./unifdef is.
-$(UNPROVED): $(filter-out %.antt,$(SOURCES))
+# The programs without a proof. They aren't for use: ./unifdef and ./unifdef-tree are.
+crates/%/out/unproved: $(filter-out %.antt,$(SOURCES))
 	@$(NEED_KIT)
 	@echo 'make: builds the program without a proof and without optimization, in half a minute' >&2
-	@RT='$(RT)' tools/unproved.py $@
+	@RT='$(RT)' tools/unproved.py $* $@
 
 # Status 1 says that the output differs, so it doesn't fail the recipe.
+RUN_UNPROVED = @status=0; $< $(ARGS) || status=$$?; \
+	echo "make: status $$status, and nothing is proved" >&2; \
+	[ $$status -le 1 ]
+
 ## builds the program without a proof, in half a minute, and
 ## runs it: make try ARGS='-DA' < in.c. Statuses 0 and 1 are
 ## success, and the status is printed
 try: $(UNPROVED)
-	@status=0; $(UNPROVED) $(ARGS) || status=$$?; \
-	echo "make: status $$status, and nothing is proved" >&2; \
-	[ $$status -le 1 ]
+	$(RUN_UNPROVED)
+
+## does the same with unifdef-tree:
+## make try-tree ARGS='-s -- src'
+try-tree: $(UNPROVED_TREE)
+	$(RUN_UNPROVED)
 
 ## runs each worked case once, in a minute and without a
 ## proof
