@@ -41,7 +41,7 @@ SOURCES := crates.txt HANDLES \
 .PHONY: faults fail-alloc tree-test
 .PHONY: install uninstall dist deb packages-test manuals around bench bench-text
 .PHONY: lib lib-test install-lib uninstall-lib deb-lib
-.PHONY: bench-library bench-conditions pictures trees selects lines lines-test hostile fronts clean
+.PHONY: bench-library bench-conditions pictures trees pruned selects lines lines-test hostile fronts clean
 
 ## proves the crates side by side, and builds ./unifdef
 all: build
@@ -300,6 +300,11 @@ pictures: unifdef
 ## compares output over real trees with the released program
 trees: unifdef
 	bench/trees.sh
+
+## counts the conditions of real sources that unifdef-tree
+## -p edits
+pruned: unifdef-tree
+	bench/pruned.sh
 
 ## compares what a C compiler selects before and after
 selects: unifdef

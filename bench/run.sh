@@ -11,27 +11,11 @@ program=$(dirname "$here")/unifdef
 [ -x "$program" ] || { echo "bench: $program is not there: run make" >&2; exit 1; }
 work=$(mktemp -d)
 trap 'rm -rf "$work"' EXIT
+# shellcheck source=bench/debian.sh
+source "$here/debian.sh"
 
 # Installs Debian's program, if it is missing.
 released() { [ -x /usr/bin/unifdef ] || $([ "$(id -u)" -eq 0 ] || echo sudo) apt-get install --yes --no-install-recommends unifdef; }
-
-# lists_of KIND RELEASE: sets `apt` to an apt-get with package lists of its own, in the temporary
-# folder: those of packages (deb) or of sources (deb-src) of a release of Debian.
-lists_of() {
-  local key=/usr/share/keyrings/debian-archive-keyring.gpg own=$work/$2-$1
-  apt="apt-get -o Dir::Etc::SourceList=$own/list -o Dir::Etc::SourceParts=/dev/null -o Dir::State::Lists=$own/lists"
-  apt+=" -o Dir::Cache=$own/cache -o APT::Sandbox::User=root"
-  [ -e "$own/updated" ] || { mkdir -p "$own/lists/partial" "$own/cache/archives/partial" &&
-    echo "$1 [signed-by=$key] http://deb.debian.org/debian $2 main" > "$own/list" &&
-    $apt update && touch "$own/updated"; }
-}
-
-# source_of PACKAGE: fetches the source of a Debian package into the temporary folder.
-source_of() {
-  local apt
-  lists_of deb-src "$(sed -n 's/^VERSION_CODENAME=//p' /etc/os-release)" &&
-    mkdir -p "$work/source/$1" && cd "$work/source/$1" && $apt source "$1"
-}
 
 # Unpacks the program of Debian 13, and tries it: it may need another C library.
 newer() {
