@@ -1,6 +1,6 @@
 #!/usr/bin/env bash
 # Runs the hooks of .pre-commit-hooks.yaml as pre-commit does: their entry, the options of a user,
-# and then names of files.
+# and then names of files. Their expression for these names must be the default patterns.
 #
 # hooks.sh [PROGRAM]: ./unifdef-tree by default.
 set -u -o pipefail
@@ -21,6 +21,11 @@ right=0 wrong=0
 entry() {
   awk -v id="$1" '$1 == "-" { it = $3 } it == id && $1 == "entry:" { sub(/^ *entry: */, ""); words = $0 }
     it == id && $1 == "language:" { print ($2 == "script" ? top "/" : "") words }' top="$here" "$here/.pre-commit-hooks.yaml"
+}
+
+# files ID: prints a hook's expression for the names of files.
+files() {
+  awk -v id="$1" '$1 == "-" { it = $3 } it == id && $1 == "files:" { print $2 }' "$here/.pre-commit-hooks.yaml" | tr -d "'"
 }
 
 # gives ID STATUS OUTPUT TEXT: runs a hook with -UVMS on two files, of which one has this text.
@@ -49,5 +54,24 @@ gives unifdef-gone 1 'a.c:1: #if VMS || X' '#if VMS || X\n#endif\n'
 gives unifdef-gone 1 $'--- a.c\n+++ a.c\n@@ -1,2 +0,0 @@\n-#ifdef VMS\n-#endif' '#ifdef VMS\n#endif\n'
 [ "$(cat a.c)" = $'#ifdef VMS\n#endif' ] || { echo 'hooks: unifdef-gone changes a file'; wrong=$((wrong + 1)); }
 gives unifdef-gone 1 "$fault" '#endif\n'
-echo "hooks: $right runs give what is written, $wrong don't"
+# The expression that the default patterns of the program give.
+wanted=$(sed -n '/USUAL: /,/^];/s/^ *b"\*\.\(.*\)",$/\1/p' "$here/crates/ud_tree/src/patterns.rt" |
+  sed 's/[.+]/\\&/g' | paste -s -d '|')
+wanted='\.('$wanted')$'
+# And files of which it must choose those that the program does.
+mkdir "$work/names"
+for name in a.c a.h A.C A.H a.cc B.CC b.cpp B.CPP b.c++ b.h++ b.hxx b.inl b.tcc b.c.in b.hpp.in b.hxx.in b.in x.ino x.mm x.m y.y .c c; do
+  printf '#ifdef VMS\n#endif\n' > "$work/names/$name"
+done
+(cd "$work/names" && unifdef-tree -n -q -UVMS -- .) | sed -n 's/^--- //p' > "$work/chosen"
+for id in unifdef-tree unifdef-gone; do
+  expression=$(files "$id")
+  if [ "$expression" = "$wanted" ] && find "$work/names" -type f -printf '%f\n' | grep -E -e "$expression" | sort | cmp -s - <(sort "$work/chosen"); then
+    right=$((right + 1))
+  else
+    wrong=$((wrong + 1))
+    printf 'hooks: %s: the files are %s, and the default patterns %s\n' "$id" "$expression" "$wanted"
+  fi
+done
+echo "hooks: $right checks give what is written, $wrong don't"
 [ "$wrong" -eq 0 ]
