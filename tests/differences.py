@@ -35,7 +35,7 @@ FILES = {
     "in.c": b"#ifdef A\na\n\n#else\nb\n#endif\n\n#if B == 2\nc\n#endif\n#ifdef C\nd\n#endif\n",
     "a.c": b"#ifndef A\na\n#endif\nb\n",
     "b.c": b"#if defined(A) || B\na\n#endif\nb\n",
-    "defs": b"#define A\n#define B 2\n#undef C\n",
+    "defs": b" # define\tA\n#define  B\t 2 \n\t#\tundef  C \n",
 }
 
 OLD, NEW = "2.10", "2.12"
