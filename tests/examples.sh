@@ -6,7 +6,8 @@
 # An example is a fenced block that begins with ```console. A line that begins with "$ " is a
 # command, and the lines up to the next command are its output, on either stream. Further lines of a
 # command begin with "> ". The commands of a block run in order, in a folder of their own, in which
-# ./unifdef and ./unifdef-tree are the programs. The folder is on PATH.
+# ./unifdef and ./unifdef-tree are the programs. The folder is on PATH. Each command begins in the
+# folder to which the one before it went.
 #
 # The rest of a block is left out if it begins with a header of the machine that is another one
 # here. It is also left out if it needs git or a C compiler and there is none.
@@ -33,7 +34,7 @@ run_command() {
       return 1
     fi
   done
-  (cd "$work/folder" && PATH=$work/folder:$PATH bash -c "$command") > "$printed" 2>&1 < /dev/null || true
+  (cd "$(cat "$work/at")" && PATH=$work/folder:$PATH bash -c "$command"$'\n'"pwd > '$work/at'") > "$printed" 2>&1 < /dev/null || true
   if cmp -s "$work/wanted" "$printed"; then
     right=$((right + 1))
     return 0
@@ -54,6 +55,7 @@ run_block() {
   local line command="" first=yes
   rm -rf "$work/folder"
   mkdir "$work/folder"
+  echo "$work/folder" > "$work/at"
   ln -s "$program" "$work/folder/unifdef"
   ln -s "$here/../unifdef-tree" "$work/folder/unifdef-tree"
   while IFS= read -r line || [ -n "$line" ]; do
