@@ -17,6 +17,7 @@ export PATH=$work/bin:$PATH HOME=$work XDG_CONFIG_HOME=$work XDG_DATA_HOME=$work
 cd "$work/here" || exit 1
 printf '#if DEBUG > 1 && defined(DEEP)\n#endif\n' > a.h
 printf '#ifdef OTHER\n#endif\n' > below/b.c
+: > -x.h
 right=0 wrong=0
 
 # in_SHELL LINE: prints the completions that a shell offers for a line.
@@ -26,6 +27,7 @@ in_bash() {
     read -ra COMP_WORDS <<< "$2"
     [[ "$2" != *" " ]] || COMP_WORDS+=("")
     COMP_CWORD=$((${#COMP_WORDS[@]} - 1))
+    COMP_LINE=$2 COMP_POINT=${#2}
     compopt() { printf "%s\n" "$2"; }
     _unifdef
     printf "%s\n" "${COMPREPLY[@]}"' bash "$completions" "$1"
@@ -89,6 +91,15 @@ for shell in bash zsh fish; do
   offers "$shell" 'unifdef-tree -U ' OTHER a.h
   offers "$shell" 'unifdef -x ' 2 3
   offers "$shell" 'unifdef -U ' OTHER a.h
+  # After a path and after -- there are files. bash adds them itself to an empty list.
+  case $shell in
+    bash) files='' ;;
+    *) files=-x.h ;;
+  esac
+  offers "$shell" 'unifdef-tree -DA=1 below -' "$files" '-[knrq]'
+  offers "$shell" 'unifdef-tree -D A -b -- -' "$files" '-[knrq]'
+  [ "$shell" = zsh ] || offers "$shell" 'unifdef -bU A a.h -' "$files" '-[kn]'
+  offers "$shell" 'unifdef-tree -DA=1 -bi DA -' -q OTHER
   case $shell in
     bash)
       offers bash 'unifdef -iDDE' -iDDEEP -iDOTHER

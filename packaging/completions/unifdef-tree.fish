@@ -1,9 +1,10 @@
 # Completions of unifdef-tree for fish.
 
 # Prints the names in the conditions of the C files below the folder: of the first files, and for
-# two seconds at most, so that a key press doesn't wait longer.
+# two seconds at most, so that a key press doesn't wait longer. One of them is for find, since
+# unifdef-tree prints at its end.
 function __unifdef_tree_names
-    timeout 2 find . -name '.?*' -prune -o -type f \( -name '*.[ch]' -o -name '*.cc' -o -name '*.hh' \
+    timeout 1 find . -name '.?*' -prune -o -type f \( -name '*.[ch]' -o -name '*.cc' -o -name '*.hh' \
         -o -name '*.cpp' -o -name '*.hpp' -o -name '*.cxx' -o -name '*.hxx' \) -print0 2> /dev/null |
         head -z -n 2000 | timeout 2 unifdef-tree -0 -q -s 2> /dev/null | awk '{ print $2 }' | sort -u
 end
@@ -18,25 +19,40 @@ function __unifdef_tree_ignoring
     __unifdef_tree_names | sed 's/^/U/'
 end
 
-complete -c unifdef-tree -s b -d 'Leave removed lines blank'
-complete -c unifdef-tree -s c -d 'Print only the lines that would be removed'
-complete -c unifdef-tree -s D -x -a '(__unifdef_tree_values)' -d 'Define a symbol'
-complete -c unifdef-tree -s i -x -a '(__unifdef_tree_ignoring)' -d 'Ignore text inside sections that a symbol controls'
-complete -c unifdef-tree -s K -d 'Leave && and || unknown if an operand is'
-complete -c unifdef-tree -s k -d 'Decide constant expressions'
-complete -c unifdef-tree -s l -d 'Leave removed lines blank'
-complete -c unifdef-tree -s t -d 'Plain text'
-complete -c unifdef-tree -s U -x -a '(__unifdef_tree_names)' -d 'Undefine a symbol'
-complete -c unifdef-tree -s x -x -a '0 1 2' -d 'Meaning of the exit status'
-complete -c unifdef-tree -s 0 -d 'Read paths from standard input'
-complete -c unifdef-tree -s d -d 'Print a diff of what is changed'
-complete -c unifdef-tree -s g -x -d 'Select files by name'
-complete -c unifdef-tree -s h -l help -d 'Print a line for each option'
-complete -c unifdef-tree -s j -x -d 'Read and ignored'
-complete -c unifdef-tree -s n -d 'Show what would change'
-complete -c unifdef-tree -s p -d 'Remove decided operands from conditions that stay'
-complete -c unifdef-tree -s q -d 'Leave out the counts'
-complete -c unifdef-tree -s r -d 'List the conditions that still name a symbol'
-complete -c unifdef-tree -s s -d 'Count the names in conditions'
-complete -c unifdef-tree -s V -d 'Print the version'
-complete -c unifdef-tree -s w -d 'Write into files that cannot be replaced'
+# Returns whether no path precedes the typed word, since options come before it.
+function __unifdef_tree_at_options
+    set -l words (commandline -opc)
+    set -l value no
+    for word in $words[2..]
+        if test $value = yes
+            set value no
+        else if string match -qr '^-[^DUixgj]*[DUixgj]$' -- $word
+            set value yes
+        else if not string match -q -- '-?*' $word
+            return 1
+        end
+    end
+end
+
+complete -c unifdef-tree -n __unifdef_tree_at_options -s b -d 'Leave removed lines blank'
+complete -c unifdef-tree -n __unifdef_tree_at_options -s c -d 'Print only the lines that would be removed'
+complete -c unifdef-tree -n __unifdef_tree_at_options -s D -x -a '(__unifdef_tree_values)' -d 'Define a symbol'
+complete -c unifdef-tree -n __unifdef_tree_at_options -s i -x -a '(__unifdef_tree_ignoring)' -d 'Ignore text inside sections that a symbol controls'
+complete -c unifdef-tree -n __unifdef_tree_at_options -s K -d 'Leave && and || unknown if an operand is'
+complete -c unifdef-tree -n __unifdef_tree_at_options -s k -d 'Decide constant expressions'
+complete -c unifdef-tree -n __unifdef_tree_at_options -s l -d 'Leave removed lines blank'
+complete -c unifdef-tree -n __unifdef_tree_at_options -s t -d 'Plain text'
+complete -c unifdef-tree -n __unifdef_tree_at_options -s U -x -a '(__unifdef_tree_names)' -d 'Undefine a symbol'
+complete -c unifdef-tree -n __unifdef_tree_at_options -s x -x -a '0 1 2' -d 'Meaning of the exit status'
+complete -c unifdef-tree -n __unifdef_tree_at_options -s 0 -d 'Read paths from standard input'
+complete -c unifdef-tree -n __unifdef_tree_at_options -s d -d 'Print a diff of what is changed'
+complete -c unifdef-tree -n __unifdef_tree_at_options -s g -x -d 'Select files by name'
+complete -c unifdef-tree -n __unifdef_tree_at_options -s h -l help -d 'Print a line for each option'
+complete -c unifdef-tree -n __unifdef_tree_at_options -s j -x -d 'Read and ignored'
+complete -c unifdef-tree -n __unifdef_tree_at_options -s n -d 'Show what would change'
+complete -c unifdef-tree -n __unifdef_tree_at_options -s p -d 'Remove decided operands from conditions that stay'
+complete -c unifdef-tree -n __unifdef_tree_at_options -s q -d 'Leave out the counts'
+complete -c unifdef-tree -n __unifdef_tree_at_options -s r -d 'List the conditions that still name a symbol'
+complete -c unifdef-tree -n __unifdef_tree_at_options -s s -d 'Count the names in conditions'
+complete -c unifdef-tree -n __unifdef_tree_at_options -s V -d 'Print the version'
+complete -c unifdef-tree -n __unifdef_tree_at_options -s w -d 'Write into files that cannot be replaced'

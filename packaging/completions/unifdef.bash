@@ -1,11 +1,12 @@
 # Completions of unifdef and unifdef-tree for bash.
 
 # Prints the names in the conditions of the C files below the folder: of the first files, and for
-# two seconds at most, so that a key press doesn't wait longer.
+# two seconds at most, so that a key press doesn't wait longer. One of them is for find, since
+# unifdef-tree prints at its end.
 #
 # _unifdef_names PROGRAM: unifdef or unifdef-tree, which lists them.
 _unifdef_names() {
-  timeout 2 find . -name '.?*' -prune -o -type f \( -name '*.[ch]' -o -name '*.cc' -o -name '*.hh' \
+  timeout 1 find . -name '.?*' -prune -o -type f \( -name '*.[ch]' -o -name '*.cc' -o -name '*.hh' \
     -o -name '*.cpp' -o -name '*.hpp' -o -name '*.cxx' -o -name '*.hxx' \) -print0 2> /dev/null |
     if [ "$1" = unifdef-tree ]; then
       head -z -n 2000 | timeout 2 unifdef-tree -0 -q -s 2> /dev/null | awk '{ print $2 }'
@@ -28,9 +29,29 @@ _unifdef_symbol() {
   [[ $3 != *D ]] || compopt -o nospace 2> /dev/null || true
 }
 
+# Returns whether the options end before the typed word: at `--`, or at a word that is no option and
+# no value of one.
+_unifdef_ended() {
+  local line=${COMP_LINE:0:COMP_POINT} word value=no
+  local -a words
+  # COMP_WORDS would have the parts of -DA=1 one by one.
+  read -ra words <<< "${line%"${line##*[[:space:]]}"}"
+  for word in "${words[@]:1}"; do
+    if [ "$value" = yes ]; then
+      value=no
+    elif [[ $word =~ ^-[^DUixgj]*[DUixgj]$ ]]; then
+      value=yes
+    elif [[ $word == -- || $word != -?* ]]; then
+      return 0
+    fi
+  done
+  return 1
+}
+
 _unifdef() {
   local typed=${COMP_WORDS[COMP_CWORD]} before=${COMP_WORDS[COMP_CWORD - 1]} command=${COMP_WORDS[0]##*/}
   COMPREPLY=()
+  ! _unifdef_ended || return 0
   case $before in
     -D | -U)
       _unifdef_symbol "$command" '' "$before"

@@ -18,16 +18,31 @@ function __unifdef_ignoring
     __unifdef_names | sed 's/^/U/'
 end
 
-complete -c unifdef -s b -d 'Leave removed lines blank'
-complete -c unifdef -s c -d 'Print only the lines that would be removed'
-complete -c unifdef -s D -x -a '(__unifdef_values)' -d 'Define a symbol'
-complete -c unifdef -s i -x -a '(__unifdef_ignoring)' -d 'Ignore text inside sections that a symbol controls'
-complete -c unifdef -s K -d 'Leave && and || unknown if an operand is'
-complete -c unifdef -s k -d 'Decide constant expressions'
-complete -c unifdef -s l -d 'Leave removed lines blank'
-complete -c unifdef -s t -d 'Plain text'
-complete -c unifdef -s U -x -a '(__unifdef_names)' -d 'Undefine a symbol'
-complete -c unifdef -s x -x -a '0 1 2' -d 'Meaning of the exit status'
-complete -c unifdef -s n -d 'Insert #line directives'
-complete -c unifdef -s S -d 'List the names in conditions with their depth'
-complete -c unifdef -s s -d 'List the names in conditions'
+# Returns whether no path precedes the typed word, since options come before it.
+function __unifdef_at_options
+    set -l words (commandline -opc)
+    set -l value no
+    for word in $words[2..]
+        if test $value = yes
+            set value no
+        else if string match -qr '^-[^DUix]*[DUix]$' -- $word
+            set value yes
+        else if not string match -q -- '-?*' $word
+            return 1
+        end
+    end
+end
+
+complete -c unifdef -n __unifdef_at_options -s b -d 'Leave removed lines blank'
+complete -c unifdef -n __unifdef_at_options -s c -d 'Print only the lines that would be removed'
+complete -c unifdef -n __unifdef_at_options -s D -x -a '(__unifdef_values)' -d 'Define a symbol'
+complete -c unifdef -n __unifdef_at_options -s i -x -a '(__unifdef_ignoring)' -d 'Ignore text inside sections that a symbol controls'
+complete -c unifdef -n __unifdef_at_options -s K -d 'Leave && and || unknown if an operand is'
+complete -c unifdef -n __unifdef_at_options -s k -d 'Decide constant expressions'
+complete -c unifdef -n __unifdef_at_options -s l -d 'Leave removed lines blank'
+complete -c unifdef -n __unifdef_at_options -s t -d 'Plain text'
+complete -c unifdef -n __unifdef_at_options -s U -x -a '(__unifdef_names)' -d 'Undefine a symbol'
+complete -c unifdef -n __unifdef_at_options -s x -x -a '0 1 2' -d 'Meaning of the exit status'
+complete -c unifdef -n __unifdef_at_options -s n -d 'Insert #line directives'
+complete -c unifdef -n __unifdef_at_options -s S -d 'List the names in conditions with their depth'
+complete -c unifdef -n __unifdef_at_options -s s -d 'List the names in conditions'
