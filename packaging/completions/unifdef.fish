@@ -21,8 +21,9 @@ end
 # Returns whether no path precedes the typed word, since options come before it.
 function __unifdef_at_options
     set -l words (commandline -opc)
+    set -e words[1]
     set -l value no
-    for word in $words[2..]
+    for word in $words
         if test $value = yes
             set value no
         else if string match -qr '^-[^DUix]*[DUix]$' -- $word
