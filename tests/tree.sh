@@ -64,15 +64,16 @@ put() { printf '%b' "$2" > "$1"; }
 # Tests names, kinds and patterns.
 names() {
   fresh_tree
+  local versioned=(.git .hg .svn .bzr CVS .pc)
   # shellcheck disable=SC2016 # The dollar belongs to the name.
   local odd=('a b.c' $'line\nfeed.c' $'ends in\n.h' '-n.c' '*.c' "it's.c" '$(x).h' 'back\slash.c' '(.c' '!.c' 'a=b.c')
   local name
-  mkdir src/.git 'src/-DB' src/folder.c
+  mkdir 'src/-DB' src/folder.c "${versioned[@]/#/src/}"
   for name in "${odd[@]}"; do
     put "src/$name" "$text"
   done
-  for name in src/a.txt src/a.c.new src/.git/hook.c; do
-    put "$name" "$text"
+  for name in a.txt a.c.new "${versioned[@]/%//hook.c}"; do
+    put "src/$name" "$text"
   done
   for name in src/x.cc src/x.hpp src/x.h.in src/-DB/y.C src/folder.c/z.H; do
     put "$name" "$text"
@@ -90,7 +91,7 @@ names() {
   for name in "${odd[@]}" x.cc x.hpp x.h.in -DB/y.C folder.c/z.H; do
     check "names: $name" holds "src/$name" 'yes\n'
   done
-  for name in a.txt a.c.new .git/hook.c; do
+  for name in a.txt a.c.new "${versioned[@]/%//hook.c}"; do
     check "names: left alone: $name" holds "src/$name" "$text"
   done
   check 'names: nothing left over' no_rest

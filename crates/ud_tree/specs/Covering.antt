@@ -3,7 +3,7 @@
 --   IsFolderPath path folder      `folder` is `path`, with a slash at its end
 --   WasEntered calls folder       a folder was listed
 --   IsDue calls folders path      a folder was listed, or waits for that
---   IsVersioned name              a name is that of a folder of version control
+--   IsVersioned name              a name is that of a folder of version control, or of quilt
 --   Begins calls due path         a path of the command line can be taken
 --   Visits calls due told folder name   what became of a name in a folder
 --   VisitsAll calls due told      so for each name of each folder that was listed
@@ -46,9 +46,11 @@ abbrev pub IsDue : List WalkCall → List (List ℕ) → List ℕ → Type 0
 IsDue calls folders path = (folder : List ℕ) × IsFolderPath path folder ×
     (WasEntered calls folder ⊎ Contains folders folder)
 
--- `IsVersioned name`: a folder of this name is one of version control, and is left out.
+-- `IsVersioned name`: a folder of this name has earlier texts of files, and is left out. It is one
+-- of version control, or of quilt.
 abbrev pub IsVersioned : List ℕ → Type 0
 IsVersioned name = (name ≡ codes ".git") ⊎ (name ≡ codes ".hg") ⊎ (name ≡ codes ".svn")
+    ⊎ (name ≡ codes ".bzr") ⊎ (name ≡ codes "CVS") ⊎ (name ≡ codes ".pc")
 
 -- `Begins calls due path`: `path` was met as a regular file. Or it was met as a folder, or as a
 -- link that leads to one, and that is due.
@@ -61,7 +63,7 @@ pub data Begins (calls : List WalkCall) (due : List ℕ → Type 0) (path : List
       Contains calls (followed path true) → due path → Begins calls due path
 
 -- `Visits calls due told folder name`: `name` isn't UTF-8, and a message says so. Or it was looked
--- at, and is due if it is a folder, unless that is one of version control.
+-- at, and is due if it is a folder, unless that has earlier texts (`IsVersioned`).
 pub data Visits (calls : List WalkCall) (due : List ℕ → Type 0) (told : Type 0)
     (folder name : List ℕ) : Type 0 where
   no_text : ¬ (IsUtf8 name) → told → Visits calls due told folder name

@@ -45,9 +45,10 @@ pub(crate) fn chooses(patterns: &[String], name: &[u8]) -> bool
     matches_any(patterns, name)
 }
 
-/// Returns whether a folder of this name is left out: those of version control.
+/// Returns whether a folder of this name is left out: those of version control and of quilt, which
+/// have earlier texts of files.
 pub(crate) fn is_left_out(name: &[u8]) -> bool
     ensures { (result ≡ true) ↔ IsVersioned name.now }
 {
-    matches!(name, b".git" | b".hg" | b".svn")
+    matches!(name, b".git" | b".hg" | b".svn" | b".bzr" | b"CVS" | b".pc")
 }
