@@ -554,6 +554,23 @@ applies() {
   rm -rf src
 }
 
+# Tests that no file is changed once its change can't be shown.
+lost_diffs() {
+  fresh_tree
+  put src/a.c "$text"
+  put src/b.c "$text"
+  put src/c.c '#endif\n'
+  status=0
+  "$TREE" -d -DA -- src > /dev/full 2> "$work/err" || status=$?
+  check 'lost diffs: status' same "$status" 2
+  check 'lost diffs: messages' same "$(cat "$work/err")" 'unifdef-tree: stdout: Cannot be written
+unifdef-tree: 1 changed, 0 unchanged, 1 faulty'
+  check 'lost diffs: the first file' holds src/a.c 'yes\n'
+  check 'lost diffs: no other file' holds src/b.c "$text"
+  "$TREE" -DA -- src > /dev/full 2> "$work/err"
+  check 'no diffs: every file' holds src/b.c 'yes\n'
+}
+
 # Tests the paths in diffs: none begins with ./, and one that begins or ends with a space is quoted.
 diff_paths() {
   has patch || return 0
@@ -864,6 +881,7 @@ in_folder() {
   remaining
   prunes
   diffs
+  lost_diffs
   diff_paths
   full_disk
   paths_from_input

@@ -7,6 +7,7 @@ pub mod WalkLemmas
 pub mod WalkTellLemmas
 pub mod CoverLemmas
 pub mod CatchLemmas
+pub mod DoneLemmas
 pub mod TreeLaws
 pub mod StatusLaws
 pub mod RunLemmas

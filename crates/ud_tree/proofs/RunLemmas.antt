@@ -37,7 +37,8 @@ use Rattle.ud_replace.specs.declared.text_plan.TextPlan.{TextPlan}
 use Rattle.ud_tree.specs.Lists.{Adds, ListsInto}
 use Rattle.ud_tree.specs.Shown.{ListsOne}
 use Rattle.ud_tree.specs.Writing.{Moment, WritesOne, ProcessesOne, WritesAll, WritesList}
-use Rattle.ud_tree.specs.TreeRuns.{DoesBy, DoesOne, DoesJob, Ends, EndsWriting, no_run, ran, RunsTree}
+use Rattle.ud_tree.specs.TreeRuns.{DoesBy, DoesOne, DoesFiles, Ends, EndsWriting, no_run, ran, RunsTree}
+use Rattle.ud_tree.proofs.DoneLemmas.{still_failed, done_later}
 use Rattle.ud_io.proofs.StreamLemmas.{sends_none, sends_then, sends_same}
 
 -- One file more is counted, if its fate passes the test.
@@ -194,12 +195,13 @@ by_list false is off on = off is
 pub ends : (job : Job) (files : List Found) {old mid new : Moment} {listed listed_err : Stream} {r mid_report list_report end_report : Report} {counts : Counts} (lost unwritten : Bool) (in_walk faults hidden status : ℕ) (start lists : NameLists) →
     start.list.items ≡ [] → start.hidden ≡ 0 → start.hidden_list.items ≡ [] → hidden ≡ lists.hidden →
     r.remaining ≡ record { listing = listing_of job.arguments.now; count = 0; list = [] } → (lost ≡ false → mid_report.has_lost ≡ false) → end_report.remaining ≡ mid_report.remaining →
-    DoesJob job files old r mid mid_report counts start lists → WritesList job.arguments.now lists mid_report.remaining.list lost mid.out listed →
+    DoesFiles job files old r mid mid_report counts start lists → WritesList job.arguments.now lists mid_report.remaining.list lost mid.out listed →
     TellsIf list_message lost mid_report list_report mid.err listed_err → Sends listed new.out [] → unwritten ≡ new.out.failed → (new.out.failed ≡ false → new.out.unflushed ≡ false) →
     (end : Stream) → TellsIf write_message unwritten list_report end_report listed_err end → TellsEnd job.arguments.now counts faults hidden end_report end new.err →
     new.calls ≡ mid.calls → counts.faulty ≤ faults → (in_walk + (cond lost 1 0 + cond unwritten 1 0) + counts.faulty < 2 ^ 64 → faults ≡ in_walk + (cond lost 1 0 + cond unwritten 1 0) + counts.faulty) →
     (unheard : Bool) → unheard ≡ new.err.failed → status ≡ tree_status job.arguments.now.task job.arguments.now.plan.run.settings.exit_mode unheard faults counts.changed → (job.is_terminal ≡ false → IsPlain r) → EndsWriting job in_walk old files new status
-ends job files {old = old} {new = new} {counts = counts} lost unwritten in_walk faults hidden status start lists no_name none no_condition hidden_now no_remainder whole_report same_remainder w l t f failed flushed end u e same few all unheard heard is plain =
+ends job files {old = old} {new = new} {counts = counts} lost unwritten in_walk faults hidden status start lists no_name none no_condition hidden_now no_remainder whole_report same_remainder d l t f failed flushed end u e same few all unheard heard is plain =
+    let w = d.does in
     let h = w.counted in
     let args = job.arguments.now in
     let of_output = joined (output_messages lost unwritten) in
@@ -208,12 +210,14 @@ ends job files {old = old} {new = new} {counts = counts} lost unwritten in_walk 
     let all_names : lists.list.items ≡ (listed_of h.results).names = w.adds.names ∙ ap (λ (x : List ℕ). x ++ (listed_of h.results).names) no_name in
     let all_hidden : lists.hidden_list.items ≡ (listed_of h.results).hidden_list = w.adds.hidden_list ∙ ap (λ (x : List ℕ). x ++ (listed_of h.results).hidden_list) no_condition in
     record {
+      done = d.done;
+      is_done = done_later (λ is. still_failed f (still_failed l.sent is)) d.is_done;
       shown = w.shown ++ l.listed;
       told = (w.told ++ of_output) ++ last;
       last = last;
       ends = record {
         results = h.results;
-        each = subst (λ (calls : List Call). EachFile (DoesOne args) old.calls (names_of files) calls h.results) (sym same) h.each;
+        each = subst (λ (calls : List Call). EachFile (DoesOne args) old.calls (names_of d.done) calls h.results) (sym same) h.each;
         listed = l.listed;
         is_wanted = l.is_wanted;
         is_lost = lost;
@@ -281,7 +285,7 @@ ran_from job {old = old} {mid = mid} {new = new} {r = r} {r' = r'} {files = file
   told = h.told;
   last = h.last;
   is_run = ran w.paths.text mid.calls files w.paths.takes (subst (λ (fs : List Found). MissesNone job.arguments.now w.paths.text old.calls mid.calls (StandsIn fs) (0 < length w.reports.messages)) (sym is) w.paths.misses) (subst (λ (fs : List Found). IsWalk old.calls mid.calls fs) (sym is) w.is_walk) w.reports.walk
-      (subst (λ (fs : List Found). job.arguments.now.from_input ≡ false → 0 < length fs) (sym is) w.some)
+      (subst (λ (fs : List Found). job.arguments.now.from_input ≡ false → 0 < length fs) (sym is) w.some) h.done h.is_done
       (ends_counted in_walk (length w.reports.messages) (walk_counted r.faulty r'.faulty in_walk (length w.reports.messages) none number w.reports.counted) h.ends);
   sent = subst (λ (s : Stream). Sends s new.out h.shown) same h.sent;
   ended = h.ended;

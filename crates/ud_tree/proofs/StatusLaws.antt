@@ -6,6 +6,7 @@ use Rattle.ud_tree.specs.declared.arguments.Task.{Task}
 use Rattle.ud_tree.specs.Messages.{output_messages}
 use Rattle.ud_tree.specs.Statuses.{tree_status}
 use Rattle.ud_tree.specs.Streams.{Source, ReadsWhole, TakesInput}
+use Rattle.ud_tree.proofs.DoneLemmas.{all_unfailed}
 use Rattle.ud_tree.specs.TreeRuns.{Run, IsRun, IsClean}
 
 -- The status is 2 if there is a fault, or if the error stream has failed.
@@ -35,4 +36,4 @@ whole_input h is = grind arith
 pub run_clean : (run : Run) (shown told last : List ℕ) (status : ℕ) → ¬ (status ≡ 2) → length run.messages + 2 < 2 ^ 64 →
     IsRun run.args run.given run.left run.old run.new run.messages run.streams shown told last status → IsClean run
 run_clean run shown told last status other few h =
-    grind (arith, none_by_status, at_most_two, unfailed, none_of, whole_input)
+    grind (arith, none_by_status, at_most_two, unfailed, none_of, whole_input, all_unfailed)

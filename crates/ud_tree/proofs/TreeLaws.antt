@@ -20,10 +20,11 @@ use Rattle.ud_tree.specs.declared.walk.Found.{Found}
 use Rattle.ud_tree.specs.Changes.{ReplacesShowing}
 use Rattle.ud_tree.specs.Runs.{ReadsOne, reads, FileResult, Unshown, ReplacesOne, replaces, no_name, EachFile, no_file, then_file, names_of}
 use Rattle.ud_tree.specs.Shown.{ShowsOne, ListsOne}
-use Rattle.ud_tree.specs.TreeRuns.{DoesBy, IsRun, no_run, ran, Run}
+use Rattle.ud_tree.specs.TreeRuns.{DoesBy, DoesOne, IsRun, no_run, ran, Run}
 use Rattle.ud_tree.specs.TreeDiffs.{ShowsAs, ShowsDiffs, no_diff, diffs}
 use Rattle.ud_tree.specs.Streams.{StreamEnds, Source}
 use Rattle.ud_tree.specs.Walks.{IsBefore}
+use Rattle.ud_tree.proofs.DoneLemmas.{all_shown, done_before}
 use Rattle.ud_tree.specs.TreeMoments.{TouchesNothing, TouchesFreshOrNone, OldOrOutput}
 
 -- A fact about each call of two parts holds of each call of both.
@@ -68,7 +69,7 @@ reads_by args t is other h = grind (arith, shows_touch, lists_touch)
 
 pub run_reads : (args : Arguments) (given left : Source) (old new : List Call) (messages : List (List ℕ)) (streams : StreamEnds) (shown told last : List ℕ) (status : ℕ) → ¬ (args.task ≡ Replace) → IsRun args given left old new messages streams shown told last status → EachCall TouchesNothing old new
 run_reads args given left old new messages streams _ _ _ _ other (no_run h stops) = each_at h.are (walk_touches h.calls old)
-run_reads args given left old new messages streams shown told last status other (ran text mid files takes misses w t some h) = each_then (each_at w.are (walk_touches w.calls old)) (reads_by args args.task refl other h.each)
+run_reads args given left old new messages streams shown told last status other (ran text mid files takes misses w t some done is_done h) = each_then (each_at w.are (walk_touches w.calls old)) (reads_by args args.task refl other h.each)
 
 -- Replacing a file touches no file but the new one, up to the rename.
 replace_touches : {o : TextOptions} {plan : TextPlan} {name : List ℕ} {old new : List Call} {update : Result Update ReplaceError} → IsPlanned plan o →
@@ -94,7 +95,7 @@ replaces_by args t p into h =
 pub run_renames : (o : TextOptions) (args : Arguments) (given left : Source) (old new : List Call) (messages : List (List ℕ)) (streams : StreamEnds) (shown told last : List ℕ) (status : ℕ) → IsPlanned args.plan o → args.write_into ≡ false →
     IsRun args given left old new messages streams shown told last status → EachCall (TouchesFreshOrNone o) old new
 run_renames o args given left old new messages streams _ _ _ _ p into (no_run h stops) = nothing_touched (each_at h.are (walk_touches h.calls old))
-run_renames o args given left old new messages streams shown told last status p into (ran text mid files takes misses w m some h) =
+run_renames o args given left old new messages streams shown told last status p into (ran text mid files takes misses w m some done is_done h) =
     each_then (nothing_touched (each_at w.are (walk_touches w.calls old))) (replaces_by args args.task p into h.each)
 
 -- Calls that touch nothing leave each file as it is.
@@ -232,8 +233,8 @@ pub run_old_or_new : (o : TextOptions) (args : Arguments) (first : Files) (given
     IsRun args given left old new messages streams shown told last status → AreTrue first new → EachCall (λ (c : Call) (earlier : List Call). OldOrOutput o first old (c ∷ earlier)) old new
 run_old_or_new o args first given left old new messages streams _ _ _ _ p into (no_run h stops) t =
     (moments_still (moments_none o first old) (each_at h.are (walk_touches h.calls old))).each
-run_old_or_new o args first given left old new messages streams shown told last status p into (ran text mid files takes misses w m some h) t =
-    moments_by args args.task p into (apart_names files w.ascend) t
+run_old_or_new o args first given left old new messages streams shown told last status p into (ran text mid files takes misses w m some done is_done h) t =
+    moments_by args args.task p into (apart_names done (done_before is_done w.ascend)) t
     (moments_still (moments_none o first old) (each_at w.are (walk_touches w.calls old))) h.each
 
 -- The diffs of the files of a run, for one choice of options.
@@ -246,7 +247,8 @@ each_shows {o = o} p (then_file h k t) = then_file (each_shows p h) (k.shows o p
 pub run_shows : (o : TextOptions) (run : Run) → IsPlanned run.args.plan o → run.args.task ≡ Diff → (shown told last : List ℕ) (status : ℕ) → run.shown ≡ shown →
     IsRun run.args run.given run.left run.old run.new run.messages run.streams shown told last status → ShowsDiffs o run
 run_shows o run p diff _ _ _ _ e (no_run h stops) = no_diff (record { calls = h.calls; are = h.are }) e
-run_shows o run p diff shown told last status e (ran text mid files takes misses w m some h) =
+run_shows o run p diff shown told last status e (ran text mid files takes misses w m some done is_done h) =
+    let each = subst (λ (fs : List Found). EachFile (DoesOne run.args) mid (names_of fs) run.new h.results) (all_shown is_done diff) h.each in
     diffs mid files h.results h.listed w
-    (each_shows p (subst (λ (t : Task). EachFile (DoesBy t run.args) mid (names_of files) run.new h.results) diff h.each))
+    (each_shows p (subst (λ (t : Task). EachFile (DoesBy t run.args) mid (names_of files) run.new h.results) diff each))
     (e ∙ h.shown_is) (h.is_wanted (λ names. absurd cc))

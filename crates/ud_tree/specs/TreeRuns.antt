@@ -4,6 +4,8 @@
 --   DoesOne args name old new result       what the arguments ask for is done with a file
 --   Ends args in_walk streams old names new shown told last status   all files are processed
 --   DoesJob job files before report after report' counts lists lists'   the same for all files
+--   IsDone args failed files done          which files are processed before a run ends
+--   DoesFiles job files before report after report' counts lists lists'   the same for those
 --   EndsWriting job in_walk before files after status   the same, and all was written
 --   IsRun args given left old new messages streams shown told last status   a whole run
 --   Run, IsRunOf run                           its arguments, calls, output and status
@@ -15,7 +17,7 @@
 -- `shown` is what is to be written to the output, and `streams` says what became of both streams.
 -- `told` is to be written to the error stream after the walk, and `last` last.
 use Rattle.std.specs.Prelude.{◌≡◌, ℕ, ◌+◌, ◌≤◌, ◌<◌, ◌^◌, List, [], ◌++◌, length}
-use Rattle.std.specs.Prelude.{Bool, true, false}
+use Rattle.std.specs.Prelude.{Bool, true, false, take}
 use Rattle.ud_model.specs.conditions.Table.{Argument}
 use Rattle.ud_cond.specs.symbols.SymbolTable.{TableRepresents}
 use Rattle.ud_replace.specs.Calls.{Call}
@@ -63,6 +65,22 @@ abbrev pub DoesJob : Job → List Found → Moment → Report → Moment → Rep
 DoesJob job files before report after report' counts lists lists' =
     WritesAll job.arguments.now (DoesOne job.arguments.now) before (names_of files) report after
     report' counts lists lists'
+
+-- `IsDone args failed files done`: `done` is `files`. Or it is the first ones of them, since their
+-- changes are to be shown, and the output has failed.
+pub data IsDone (args : Arguments) (failed : Bool) (files : List Found) : List Found → Type 0 where
+  all_done : IsDone args failed files files
+  stopped : (count : ℕ) → args.task ≡ Replace → args.show_changes ≡ true → failed ≡ true →
+      IsDone args failed files (take count files)
+
+-- `DoesFiles job files before report after report' counts lists lists'`: `DoesJob` of the files
+-- that are processed.
+pub record DoesFiles (job : Job) (files : List Found) (before : Moment) (report : Report)
+    (after : Moment) (report' : Report) (counts : Counts) (lists lists' : NameLists) :
+    Type 0 where
+  pub done : List Found
+  pub is_done : IsDone job.arguments.now after.out.failed files done
+  pub does : DoesJob job done before report after report' counts lists lists'
 
 -- `Ends args in_walk streams old names new shown told last status`: it is done with each file in
 -- turn. What is shown of them comes first, and then a list, if one is wanted. If names are listed,
@@ -114,15 +132,17 @@ pub record Ends (args : Arguments) (in_walk : ℕ) (streams : StreamEnds)
       in_walk + length (output_messages is_lost streams.failed) + faulty_in results < 2 ^ 64 →
       faults ≡ in_walk + length (output_messages is_lost streams.failed) + faulty_in results
 
--- `EndsWriting job in_walk before files after status`: all files are processed, what is shown was
+-- `EndsWriting job in_walk before files after status`: the files are processed, what is shown was
 -- written, and the last lines were. If the error stream is no terminal, all of `told` was written.
 pub record EndsWriting (job : Job) (in_walk : ℕ) (before : Moment) (files : List Found)
     (after : Moment) (status : ℕ) : Type 0 where
+  pub done : List Found
+  pub is_done : IsDone job.arguments.now after.out.failed files done
   pub shown : List ℕ
   pub told : List ℕ
   pub last : List ℕ
   pub ends : Ends job.arguments.now in_walk (ends_of after.out after.err) before.calls
-      (names_of files) after.calls shown told last status
+      (names_of done) after.calls shown told last status
   pub sent : Sends before.out after.out shown
   pub ended : EndsWith after.err last
   pub tells : job.is_terminal ≡ false → Sends before.err after.err told
@@ -131,7 +151,8 @@ pub record EndsWriting (job : Job) (in_walk : ℕ) (before : Moment) (files : Li
 -- were made, which have these messages. There is a reason why no file follows, nothing is shown,
 -- and the status is 2. Or the input was read whole, if paths come from it. The walk missed none of
 -- the paths, and of the names below them. It found some files, at least one if paths are those of
--- the command line, and the run ends after them.
+-- the command line, and the run ends after them. It ends after the first ones of them if changes
+-- are to be shown, and the output has failed.
 pub data IsRun (args : Arguments) (given left : Source) (old new : List Call)
     (messages : List (List ℕ)) (streams : StreamEnds) :
     List ℕ → List ℕ → List ℕ → ℕ → Type 0 where
@@ -143,7 +164,8 @@ pub data IsRun (args : Arguments) (given left : Source) (old new : List Call)
       MissesNone args text old mid (StandsIn files) (0 < length messages) →
       IsWalk old mid files → WalkTells old mid messages →
       (args.from_input ≡ false → 0 < length files) →
-      Ends args (length messages) streams mid (names_of files) new shown told last status →
+      (done : List Found) → IsDone args streams.failed files done →
+      Ends args (length messages) streams mid (names_of done) new shown told last status →
       IsRun args given left old new messages streams shown told last status
 
 -- `Run`: the arguments of a run, what the input has before and after it, the calls before and

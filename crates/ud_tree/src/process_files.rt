@@ -1,11 +1,11 @@
 //! Processing all files of a run.
 
-ghost use Rattle.std.specs.Prelude.{◌≡◌};
+ghost use Rattle.std.specs.Prelude.{◌≡◌, true, false};
 ghost use Rattle.ud_io.specs.Streams.{stream_of};
-ghost use Rattle.ud_tree.specs.TreeRuns.{DoesJob, DoesOne};
+ghost use Rattle.ud_tree.specs.TreeRuns.{DoesFiles, DoesOne};
 ghost use Rattle.ud_tree.specs.Writing.{ProcessesOne, moment};
 
-use crate::arguments::Task;
+use crate::arguments::{Arguments, Task};
 use crate::counts::Counts;
 use crate::file_result::fate_of;
 use crate::job::Job;
@@ -22,6 +22,9 @@ use ud_replace::{ReplaceError, Update};
 
 /// Does with each file in turn what the arguments ask for, and reports its fault. Returns what
 /// became of the files.
+///
+/// If changes are to be shown, no file is processed once the output has failed: nothing would tell
+/// how to undo its change.
 pub(crate) fn process_files<T: Tree, W: Write, E: Write>(
     job: &Job<'_>,
     tree: &mut T,
@@ -32,13 +35,16 @@ pub(crate) fn process_files<T: Tree, W: Write, E: Write>(
     err: &mut Watched<E>,
 ) -> Counts
     requires { names.old.lists_hidden ≡ job.now.arguments.now.list_hidden }
-    ensures { DoesJob job.now files.now
+    ensures { DoesFiles job.now files.now
         (moment T.history W.contents E.contents tree.old out.old err.old) report.old
         (moment T.history W.contents E.contents tree.new out.new err.new) report.new result
         names.old names.new }
 {
     let mut counts = Counts::new();
     for (done, found) in files.iter().enumerate() {
+        if is_unrecorded(job.arguments, out) {
+            return counts;
+        }
         report.progress(err, done, files.len());
         let name = found.path.as_bytes();
         let file = FileAt { name, id: found.id };
@@ -48,6 +54,19 @@ pub(crate) fn process_files<T: Tree, W: Write, E: Write>(
         counts.add(fate_of(update), edited);
     }
     counts
+}
+
+/// Returns whether changes are to be shown and can't be any more.
+fn is_unrecorded<W: Write>(arguments: &Arguments, out: &Watched<W>) -> bool
+    ensures yes { result ≡ true → (arguments.now.task ≡ Task.Replace) ×
+        (arguments.now.show_changes ≡ true) × (out.now.failed ≡ true) }
+    ensures no { result ≡ false → arguments.now.task ≡ Task.Replace →
+        arguments.now.show_changes ≡ true → out.now.failed ≡ false }
+{
+    match arguments.task {
+        Task::Replace => arguments.show_changes && out.failed(),
+        Task::Diff | Task::Names => false,
+    }
 }
 
 /// Does with a file what the arguments ask for. Leaves in `edited`, which is 0 before, the number
@@ -65,6 +84,8 @@ fn process_file<T: Tree, W: Write>(
     edited: &mut usize,
 ) -> Result<Update, ReplaceError>
     requires none { edited.old ≡ 0 }
+    requires recorded { job.now.arguments.now.task ≡ Task.Replace →
+        job.now.arguments.now.show_changes ≡ true → out.old.failed ≡ false }
     requires lists { names.old.lists_hidden ≡ job.now.arguments.now.list_hidden }
     ensures writes { ProcessesOne job.now.arguments.now (DoesOne job.now.arguments.now)
         file.entry.name.now (T.history tree.old) (T.history tree.new) (stream_of W.contents out.old)

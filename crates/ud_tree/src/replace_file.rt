@@ -20,8 +20,9 @@ use ud_io::send;
 use ud_replace::{ReplaceError, Target, Update, replace_keeping};
 
 /// Replaces a file, and adds the conditions of its output that still name a symbol to the report.
-/// Writes the diff of a file that was changed, if the arguments ask for it. Leaves in `edited`,
-/// which is 0 before, the number of conditions of the output that were edited.
+/// Writes the diff of a file that was changed, if the arguments ask for it; the output hasn't
+/// failed before then. Leaves in `edited`, which is 0 before, the number of conditions of the
+/// output that were edited.
 ///
 /// # Errors
 /// As `replace_keeping`. `OutOfMemory` also if memory for the new file's name can't be allocated.
@@ -35,6 +36,7 @@ pub(crate) fn replace_file<T: Tree, W: Write>(
     edited: &mut usize,
 ) -> Result<Update, ReplaceError>
     requires none { edited.old ≡ 0 }
+    requires recorded { job.now.arguments.now.show_changes ≡ true → out.old.failed ≡ false }
     ensures writes { WritesOne job.now.arguments.now
         (ReplacesShowing job.now.arguments.now.plan job.now.arguments.now.write_into
         job.now.arguments.now.show_changes) file.entry.name.now (T.history tree.old)

@@ -1,6 +1,7 @@
-use Rattle.std.proofs.Common.{◌∙◌, arith}
+use Rattle.std.proofs.Common.{◌∙◌, take, arith}
 use Rattle.std.proofs.lemmas.Grind.{common_steps}
 use Rattle.ud_tree.proofs.RemainderLemmas.{finds_none}
+use Rattle.ud_tree.specs.TreeRuns.{all_done, stopped}
 use Rattle.ud_tree.proofs.RunLemmas.{writes_none, writes_push, writes_all}
 use Rattle.ud_tree.proofs.process_files.process_files.Goals as goal
 
@@ -17,5 +18,16 @@ loop-done-preserved g c = record {
       c.process_file-update.ensures.writes c.file_result.ensures.tells c.fate_of.ensures c.add.ensures.changed c.add.ensures.unchanged c.add.ensures.faulty c.add.ensures.edited;
 }
 
+pub returns-then-is_unrecorded : goal.returns-then-is_unrecorded
+returns-then-is_unrecorded g c = record {
+  done = take c.loop-done.done c.args.files.now;
+  is_done = let it = c.is_unrecorded.ensures.yes c.if-is_unrecorded.true in stopped c.loop-done.done it.0 it.1 it.2;
+  does = c.loop-done.invariant.written;
+}
+
 pub returns : goal.returns
-returns g c = writes_all c.args.files.now c.loop-done.done (omega arith) c.loop-done.invariant.written
+returns g c = record {
+  done = c.args.files.now;
+  is_done = all_done;
+  does = writes_all c.args.files.now c.loop-done.done (omega arith) c.loop-done.invariant.written;
+}
