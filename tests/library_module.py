@@ -156,6 +156,12 @@ def arguments() -> None:
     message = "unifdef: sub/a.c: 1: Inappropriate #endif\n"
     for name in ("sub/a.c", b"sub/a.c", Path("sub", "a.c"), Named("sub/a.c")):
         check(f"{name!r} names a file", unifdef.run(b"#endif\n", "-DA", name).message == message)
+    message = "unifdef: ./-UA: 1: Inappropriate #endif\n"
+    for path in (Path("-UA"), Named("-UA")):
+        check(f"{path!r} is no option", unifdef.run(b"#endif\n", "-DA", path).message == message)
+    text = b"#ifdef A\nx\n#endif\n"
+    check("a str is an option", unifdef.strip(text, "-DB", "-UA") == b"")
+    check("a path decides nothing", unifdef.strip(text, "-DB", Path("-UA")) == text)
     odd = os.fsdecode(b"\xff.c")
     refused = "unifdef: Cannot take arguments\n"
     check("a name that isn't UTF-8", unifdef.run(b"", odd).message == refused)

@@ -8,7 +8,8 @@
 UNIFDEF_LIBRARY names, or the installed one.
 
 A text is any object with bytes: bytes, bytearray, memoryview, mmap. Each option is an argument of
-its own, and so is the operand, the file's name in messages, which may be an os.PathLike.
+its own, and so is the operand, the file's name in messages, which may be an os.PathLike. Such a
+path is no option, even if it begins with `-`.
 
 Only a `Stream` keeps anything, so any number of threads may call at once, each with streams of its
 own: the interpreter's lock isn't held meanwhile.
@@ -305,7 +306,10 @@ def _words(arguments: tuple[Word, ...]) -> bytes:
 
 
 def _word(number: int, argument: Word) -> bytes:
-    """Returns the bytes of an argument, which has no zero byte, as no argument of a program has."""
+    """Returns the bytes of an argument, which has no zero byte, as no argument of a program has.
+
+    A path is no option, so one that begins as an option does is named from this folder.
+    """
     try:
         word = os.fspath(argument)
     except TypeError:
@@ -315,7 +319,8 @@ def _word(number: int, argument: Word) -> bytes:
     word = word.encode(errors="surrogateescape") if isinstance(word, str) else word
     if b"\0" in word:
         raise ValueError(f"argument {number} has a zero byte")
-    return word
+    is_path = not isinstance(argument, (str, bytes))
+    return b"./" + word if is_path and word.startswith(b"-") else word
 
 
 def _view(data: ReadableBuffer, name: str) -> memoryview:
