@@ -7,10 +7,12 @@ A pool whose result doesn't come back has lost it. A minute for each is a guard 
 """
 
 import array
+import ctypes.util
 import mmap
 import multiprocessing
 import os
 import pickle
+import subprocess
 import sys
 import tempfile
 from concurrent.futures import Executor, ProcessPoolExecutor, ThreadPoolExecutor
@@ -202,6 +204,31 @@ def wrong_types() -> None:
     check("a zero byte", str(error) == "argument 2 has a zero byte")
 
 
+def imported(library: str) -> str:
+    """Returns what a process prints that imports the module with this library."""
+    program = (
+        "import sys; sys.path[:0] = [sys.argv[1]]\n"
+        "try: import unifdef\n"
+        "except ImportError as error: print(error)"
+    )
+    return subprocess.run(
+        [sys.executable, "-Bc", program, sys.path[0]],
+        env={**os.environ, "UNIFDEF_LIBRARY": library},
+        check=True,
+        stdout=subprocess.PIPE,
+        universal_newlines=True,
+    ).stdout
+
+
+def libraries() -> None:
+    """What isn't the library is refused with the variable that names it, and no name is none."""
+    hint = "unifdef calls this library; UNIFDEF_LIBRARY names it\n"
+    check("a library that isn't there", imported("./no-such-library").endswith(hint))
+    check("a file that is no library", imported(__file__).endswith(hint))
+    check("another library", imported(ctypes.util.find_library("c") or "libc.so.6").endswith(hint))
+    check("an empty name", "undefined symbol" not in imported(""))
+
+
 def main() -> int:
     """Makes all checks. Returns the exit status."""
     chunks()
@@ -209,6 +236,7 @@ def main() -> int:
     long_texts()
     arguments()
     wrong_types()
+    libraries()
     pools()
     print(f"library: {right} checks of the Python module hold, {wrong} don't")
     return 1 if wrong else 0

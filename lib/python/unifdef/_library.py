@@ -27,13 +27,17 @@ class StreamState(ctypes.Structure):
 
 
 def _loaded() -> ctypes.CDLL:
-    """Returns the library with the types of its functions."""
-    file = os.environ.get("UNIFDEF_LIBRARY", "libunifdef.so.1")
+    """Returns the library, if it has the functions, with their types."""
+    file = os.environ.get("UNIFDEF_LIBRARY") or "libunifdef.so.1"
     try:
-        library = ctypes.CDLL(file)
-    except OSError as error:
+        return _typed(ctypes.CDLL(file))
+    except (OSError, AttributeError) as error:
         reason = f"{error}: unifdef calls this library; UNIFDEF_LIBRARY names it"
         raise ImportError(reason) from error
+
+
+def _typed(library: ctypes.CDLL) -> ctypes.CDLL:
+    """Returns a library with the types of its functions."""
     read = [ctypes.c_char_p, ctypes.c_size_t]
     written = [ctypes.c_void_p, ctypes.c_size_t]
     stream = ctypes.POINTER(StreamState)
