@@ -7,6 +7,7 @@ A pool whose result doesn't come back has lost it. A minute for each is a guard 
 """
 
 import array
+import copy
 import ctypes.util
 import mmap
 import multiprocessing
@@ -59,8 +60,8 @@ def raised(call: Callable[[], object]) -> object:
 
 def pools() -> None:
     """A fault in a worker comes back to the caller."""
-    copy = pickle.loads(pickle.dumps(raised(lambda: unifdef.strip(FAULTY, "-DA"))))
-    check("a copy of a fault", is_fault(copy))
+    copied = pickle.loads(pickle.dumps(raised(lambda: unifdef.strip(FAULTY, "-DA"))))
+    check("a copy of a fault", is_fault(copied))
     spawned = multiprocessing.get_context("spawn")
     with spawned.Pool(1) as pool:
         held = pool.apply_async(unifdef.strip, (FAULTY, "-DA"))
@@ -100,6 +101,22 @@ def chunks() -> None:
         check("faulty: at once", stream.faulty)
         stream.finish()
         check("faulty: at the end", stream.faulty)
+
+
+def streams() -> None:
+    """A stream whose text has ended, or that is closed, takes no chunk, and no stream is copied."""
+    with unifdef.Stream("-DA") as stream:
+        for copied in (copy.copy, copy.deepcopy, pickle.dumps):
+            error = raised(lambda: copied(stream))
+            told = str(error) == "a Stream can't be copied or pickled"
+            check(f"{copied.__name__} of a stream", isinstance(error, TypeError) and told)
+        check("a stream that wasn't copied", stream.feed(b"a\n") == b"a\n")
+        stream.finish()
+        ended = raised(lambda: stream.feed(b"b\n"))
+    closed = raised(lambda: stream.feed(b"b\n"))
+    for what, error in (("ended", ended), ("closed", closed)):
+        told = str(error) == "the stream is closed, or its text has ended"
+        check(f"a chunk for a text that is {what}", isinstance(error, ValueError) and told)
 
 
 def buffers() -> None:
@@ -232,6 +249,7 @@ def libraries() -> None:
 def main() -> int:
     """Makes all checks. Returns the exit status."""
     chunks()
+    streams()
     buffers()
     long_texts()
     arguments()

@@ -21,7 +21,7 @@ import ctypes
 import os
 import re
 from types import TracebackType
-from typing import TYPE_CHECKING, Iterable, Iterator, NamedTuple, Optional, Type, Union
+from typing import TYPE_CHECKING, Iterable, Iterator, NamedTuple, NoReturn, Optional, Type, Union
 
 from ._library import (
     BAD_WORDS,
@@ -188,7 +188,7 @@ class Stream:
             fed = library.unifdef_feed(self._stream, part, len(part))
             self.faulty = self.faulty or fed == TROUBLE
             if fed == CLOSED:
-                raise ValueError("the text has ended")
+                raise ValueError("the stream is closed, or its text has ended")
             if fed == NO_MEMORY:
                 raise MemoryError(_REASONS[fed])
             output += self._taken()
@@ -217,6 +217,10 @@ class Stream:
         while pending.value != 0:
             taken = library.unifdef_take(self._stream, self._buffer, CHUNK, pending)
             yield ctypes.string_at(self._buffer, taken)
+
+    def __reduce__(self) -> NoReturn:
+        """Refuses copies, which would share the memory of the stream."""
+        raise TypeError("a Stream can't be copied or pickled")
 
     def __enter__(self) -> Stream:
         return self
