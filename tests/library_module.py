@@ -221,6 +221,18 @@ def wrong_types() -> None:
     check("a zero byte", str(error) == "argument 2 has a zero byte")
 
 
+def as_program() -> None:
+    """The module as a program refuses arguments, as those of unifdef(1)."""
+    done = subprocess.run(
+        [sys.executable, "-Bm", "unifdef", "-DA"],
+        cwd=sys.path[0],
+        check=False,
+        stdin=subprocess.DEVNULL,
+        stderr=subprocess.PIPE,
+    )
+    check("python3 -m unifdef -DA", done.returncode == 1 and b"no arguments" in done.stderr)
+
+
 def imported(library: str) -> str:
     """Returns what a process prints that imports the module with this library."""
     program = (
@@ -254,6 +266,7 @@ def main() -> int:
     long_texts()
     arguments()
     wrong_types()
+    as_program()
     libraries()
     pools()
     print(f"library: {right} checks of the Python module hold, {wrong} don't")
