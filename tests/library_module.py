@@ -16,6 +16,7 @@ import pickle
 import subprocess
 import sys
 import tempfile
+import typing
 from concurrent.futures import Executor, ProcessPoolExecutor, ThreadPoolExecutor
 from pathlib import Path
 from typing import Callable, Iterator
@@ -221,6 +222,12 @@ def wrong_types() -> None:
     check("a zero byte", str(error) == "argument 2 has a zero byte")
 
 
+def hints() -> None:
+    """The types of a function can be read."""
+    found = typing.get_type_hints(unifdef.run)
+    check("the types of run", found["return"] is unifdef.Answer and "text" in found)
+
+
 def as_program() -> None:
     """The module as a program refuses arguments, as those of unifdef(1)."""
     done = subprocess.run(
@@ -266,6 +273,7 @@ def main() -> int:
     long_texts()
     arguments()
     wrong_types()
+    hints()
     as_program()
     libraries()
     pools()

@@ -37,6 +37,8 @@ from ._library import (
 
 if TYPE_CHECKING:
     from _typeshed import ReadableBuffer
+else:  # What typing.get_type_hints finds.
+    ReadableBuffer = Union[bytes, bytearray, memoryview]
 
 __all__ = [
     "Answer",
