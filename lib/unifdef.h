@@ -128,7 +128,8 @@ int unifdef_open(struct unifdef_stream *stream, const char *words, size_t words_
  *   UNIFDEF_NO_MEMORY    memory for the output was refused. Only a part of the output can be taken
  *   UNIFDEF_CLOSED       the stream is closed, or the text has ended
  *
- * After the first two, each later chunk has the same result, and no more output comes.
+ * After the first two, each later chunk up to unifdef_finish has the same result, and no more
+ * output comes.
  */
 int unifdef_feed(struct unifdef_stream *stream, const char *text, size_t text_len);
 
