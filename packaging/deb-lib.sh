@@ -52,6 +52,13 @@ END
 
 module=usr/lib/python3/dist-packages/unifdef
 take python3-unifdef "$module"/{__init__,__main__,_library}.py "$module/py.typed"
+# Python compiles the module into a folder that no package has.
+cat > "$stage/python3-unifdef/DEBIAN/prerm" << END
+#!/bin/sh
+set -e
+rm -rf "\$DPKG_ROOT/$module/__pycache__"
+END
+chmod 755 "$stage/python3-unifdef/DEBIAN/prerm"
 build python3-unifdef all python "Depends: $shared (>= $version), python3:any" << 'END'
 removal of preprocessor conditionals, for Python
  The module unifdef removes the preprocessor conditionals of C source that

@@ -51,7 +51,9 @@ done
 root=$work/root
 mkdir -p "$root/var/lib/dpkg/info" "$root/var/lib/dpkg/updates" "$root/var/lib/dpkg/triggers"
 touch "$root/var/lib/dpkg/status" "$root/var/lib/dpkg/available"
-in_root() { dpkg --root="$root" --log=/dev/null --force-not-root --force-depends "$@"; }
+in_root() {
+  dpkg --root="$root" --log=/dev/null --force-not-root --force-depends --force-script-chrootless "$@"
+}
 check 'installs' in_root -i "${packages[@]/#/$here/}"
 check 'installs: files' same "$(cd "$root/usr" && find . ! -type d | grep -v /doc/ | sort)" "$(sort << END
 ./include/unifdef.h
@@ -88,9 +90,12 @@ else
 fi
 if command -v python3 > /dev/null; then
   check 'Python: runs' same "$(LD_LIBRARY_PATH=$root/$folder PYTHONPATH=$root/usr/lib/python3/dist-packages \
-    python3 -Bc 'import unifdef; print(unifdef.names(b"A || B"))')" "[b'A', b'B']"
+    PYTHONDONTWRITEBYTECODE='' PYTHONPYCACHEPREFIX='' python3 -c '
+import unifdef; print(unifdef.names(b"A || B"))')" "[b'A', b'B']"
+  check 'Python: is compiled' test -e "$root/usr/lib/python3/dist-packages/unifdef/__pycache__"
 fi
 check 'goes away' in_root --purge python3-unifdef libunifdef-dev libunifdef1
+check 'leaves no module' test ! -e "$root/usr/lib/python3/dist-packages/unifdef"
 check 'leaves nothing' same "$(find "$root" -path "$root/var" -prune -o -type f -print)" ''
 
 echo "packages-lib: $passed checks hold, $failed don't"
