@@ -213,6 +213,9 @@ uninstall:
 	rm -f "$(DESTDIR)$(BASHDIR)/unifdef" "$(DESTDIR)$(BASHDIR)/unifdef-tree" "$(DESTDIR)$(ZSHDIR)/_unifdef" "$(DESTDIR)$(ZSHDIR)/_unifdef-tree"
 	rm -f "$(DESTDIR)$(FISHDIR)/unifdef.fish" "$(DESTDIR)$(FISHDIR)/unifdef-tree.fish"
 
+# Only root, and only without DESTDIR, refreshes the list of the machine's libraries.
+REFRESH = [ -n "$(DESTDIR)" ] || [ "$$(id -u)" -ne 0 ] || [ ! -x "$(LDCONFIG)" ] || "$(LDCONFIG)"
+
 ## installs the library, unifdef.h, unifdef.pc, the module
 ## for Python and unifdef(3). Runs ldconfig if it is root
 ## and DESTDIR is empty
@@ -226,15 +229,19 @@ install-lib: lib
 	$(INSTALL) -m 644 $(MODULE) "$(DESTDIR)$(PYTHONDIR)/unifdef" && \
 	sed -e 's|@PREFIX@|$(PREFIX)|' -e 's|@LIBDIR@|$(LIBDIR)|' -e 's|@INCLUDEDIR@|$(INCLUDEDIR)|' -e "s|@VERSION@|$$(packaging/version.sh)|" \
 	  lib/unifdef.pc.in > "$(DESTDIR)$(PKGCONFIGDIR)/unifdef.pc"
-	@[ -n "$(DESTDIR)" ] || [ "$$(id -u)" -ne 0 ] || [ ! -x "$(LDCONFIG)" ] || "$(LDCONFIG)"
+	@$(REFRESH)
 
-## removes what make install-lib installed
+## removes what make install-lib installed, and runs
+## ldconfig as it does
 uninstall-lib:
-	rm -f "$(DESTDIR)$(LIBDIR)"/libunifdef.a "$(DESTDIR)$(LIBDIR)"/libunifdef.so "$(DESTDIR)$(LIBDIR)"/libunifdef.so.[0-9]*
+	@FILE="$(DESTDIR)$(LIBDIR)/libunifdef.so" && MAJOR=$$(packaging/version.sh | sed 's/\..*//') && \
+	{ [ "$$(readlink "$$FILE")" != "libunifdef.so.$$MAJOR" ] || rm -f "$$FILE"; } && \
+	rm -f "$$FILE.$$MAJOR" "$(DESTDIR)$(LIBDIR)/libunifdef.a"
 	rm -f "$(DESTDIR)$(PKGCONFIGDIR)/unifdef.pc" "$(DESTDIR)$(INCLUDEDIR)/unifdef.h"
 	rm -f "$(DESTDIR)$(MANDIR)/man3/unifdef.3" $(foreach file,$(notdir $(MODULE)),"$(DESTDIR)$(PYTHONDIR)/unifdef/$(file)")
 	rm -rf "$(DESTDIR)$(PYTHONDIR)/unifdef/__pycache__"
 	[ ! -d "$(DESTDIR)$(PYTHONDIR)/unifdef" ] || rmdir "$(DESTDIR)$(PYTHONDIR)/unifdef" 2> /dev/null || true
+	@$(REFRESH)
 
 ## makes unifdef-VERSION.tar.gz of the last commit, which
 ## builds by itself

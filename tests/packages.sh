@@ -118,13 +118,13 @@ import unifdef; print(unifdef.__version__, unifdef.__file__, unifdef.names(b"A |
 if [ -e lib/libunifdef.a ] && command -v cc > /dev/null && command -v pkg-config > /dev/null; then
   prefix=$work/library
   # Only root, and only without DESTDIR, refreshes the list of the machine's libraries.
+  refreshed=ldconfig
+  [ "$(id -u)" -eq 0 ] || refreshed=''
   printf '#!/bin/sh\necho ldconfig >> "%s/refreshed"\n' "$work" > "$work/ldconfig"
   chmod +x "$work/ldconfig"
   check 'install-lib: DESTDIR' "$make" -s -o lib/libunifdef.a install-lib DESTDIR="$target" LDCONFIG="$work/ldconfig"
   check 'install-lib: DESTDIR refreshes nothing' test ! -e "$work/refreshed"
   check install-lib "$make" -s -o lib/libunifdef.a install-lib PREFIX="$prefix" LDCONFIG="$work/ldconfig"
-  refreshed=ldconfig
-  [ "$(id -u)" -eq 0 ] || refreshed=''
   check 'install-lib: ldconfig' same "$(grep -xs ldconfig "$work/refreshed")" "$refreshed"
   check 'install-lib: files' same "$(cd "$prefix" && find . ! -type d | sort)" \
 "./include/unifdef.h
@@ -148,8 +148,17 @@ if [ -e lib/libunifdef.a ] && command -v cc > /dev/null && command -v pkg-config
       "$(packaging/pythondir.sh "$(python3 -c 'import sys; print(sys.prefix)')")"
     in_an_environment "$prefix/lib"
   fi
-  check uninstall-lib "$make" -s uninstall-lib PREFIX="$prefix"
-  check 'uninstall-lib: files' same "$(find "$prefix" ! -type d)" ''
+  rm -f "$work/refreshed"
+  touch "$prefix/lib/libunifdef.so.0"
+  check uninstall-lib "$make" -s uninstall-lib PREFIX="$prefix" LDCONFIG="$work/ldconfig"
+  check 'uninstall-lib: ldconfig' same "$(grep -xs ldconfig "$work/refreshed")" "$refreshed"
+  check 'uninstall-lib: files' same "$(find "$prefix" ! -type d)" "$prefix/lib/libunifdef.so.0"
+  # The link of another version stays.
+  ln -s libunifdef.so.0 "$prefix/lib/libunifdef.so"
+  check 'uninstall-lib: again' "$make" -s uninstall-lib PREFIX="$prefix" LDCONFIG="$work/ldconfig"
+  check 'uninstall-lib: another version' same "$(readlink "$prefix/lib/libunifdef.so")" libunifdef.so.0
+  rm -r "$prefix"
+  check 'uninstall-lib: nothing' "$make" -s uninstall-lib PREFIX="$prefix" LDCONFIG="$work/ldconfig"
 else
   echo 'packages: the library, cc or pkg-config is not there, so the library is left out'
 fi
