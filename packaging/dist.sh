@@ -7,6 +7,11 @@ if ! [ -e .git ] || ! command -v git > /dev/null; then
   echo 'dist: a tarball is made of a commit, and this folder is not under version control' >&2
   exit 1
 fi
+committed=$(git show HEAD:CHANGELOG.md | sed -n 's/^## \([0-9][0-9.]*\).*/\1/p' | head -n 1)
+if [ "$committed" != "$version" ]; then
+  echo "dist: the last commit has the version $committed, so commit $version first" >&2
+  exit 1
+fi
 if [ -n "$(git status --porcelain)" ]; then
   echo 'dist: changes that are not committed are left out' >&2
 fi

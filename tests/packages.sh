@@ -184,6 +184,12 @@ if git rev-parse HEAD > /dev/null 2>&1; then
   check 'dist: its version' same "$("$work/unifdef-$version/packaging/version.sh")" "$version"
   check 'dist: its pages and scripts' "$work/unifdef-$version/tools/lint.sh"
   check 'dist: make' "$make" -n -C "$work/unifdef-$version" all install
+  git clone -qs . "$work/clone"
+  cp packaging/dist.sh "$work/clone/packaging"
+  printf '#!/bin/sh\necho 0.9\n' > "$work/clone/packaging/version.sh"
+  check 'dist: a version without a commit' same "$("$work/clone/packaging/dist.sh" 2>&1)" \
+    "dist: the last commit has the version $version, so commit 0.9 first"
+  check 'dist: no tarball then' test ! -e "$work/clone/unifdef-0.9.tar.gz"
 else
   echo 'packages: not under version control, so the tarball is left out'
 fi
