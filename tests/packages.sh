@@ -49,7 +49,7 @@ shows() {
 }
 
 # lintian_is_quiet PACKAGE: lintian finds no error and no warning.
-lintian_is_quiet() { ! lintian --allow-root "$1" 2>&1 | grep '^[EW]:'; }
+lintian_is_quiet() { same "$(lintian --allow-root "$1" 2>&1 | grep '^[EW]:')" ''; }
 
 version=$(packaging/version.sh) || failed=$((failed + 1))
 
