@@ -3,7 +3,7 @@
 # the repository.
 #
 # The same files give the same packages, byte by byte: times are SOURCE_DATE_EPOCH or, without it,
-# the time of the last commit.
+# the time of the last commit. The maintainer is DEBFULLNAME and DEBEMAIL, or who made that commit.
 set -eu -o pipefail
 umask 022
 export LC_ALL=C
@@ -11,8 +11,14 @@ command -v dpkg-deb > /dev/null || { echo "${0##*/}: dpkg-deb is not there" >&2;
 version=$(packaging/version.sh)
 # shellcheck disable=SC2034 # It is for the scripts that read this file.
 architecture=$(dpkg --print-architecture)
-maintainer=$(git log -1 --format='%an <%ae>' 2> /dev/null || echo 'unifdef maintainers <maintainers@localhost>')
-SOURCE_DATE_EPOCH=${SOURCE_DATE_EPOCH:-$(git log -1 --format=%ct 2> /dev/null || stat -c %Y CHANGELOG.md)}
+
+# commit FORMAT: prints what the last commit has. A repository around this folder has its own.
+commit() { [ -e .git ] && git log -1 --format="$1" 2> /dev/null; }
+
+name=${DEBFULLNAME:-$(commit %an || echo 'unifdef maintainers')}
+email=${DEBEMAIL:-$(commit %ae || echo maintainers@unifdef.invalid)}
+maintainer="$name <$email>"
+SOURCE_DATE_EPOCH=${SOURCE_DATE_EPOCH:-$(commit %ct || stat -c %Y CHANGELOG.md)}
 export SOURCE_DATE_EPOCH
 stage=$(mktemp -d)
 trap 'rm -rf "$stage"' EXIT

@@ -47,6 +47,26 @@ for package in "${packages[@]}"; do
   fi
 done
 
+# An unpacked tarball within the repository of somebody else, which has no commit of its own.
+copy=$work/theirs/copy
+mkdir -p "$copy"
+tar -c --exclude=.git --exclude=out . | tar -x -C "$copy"
+if command -v git > /dev/null; then
+  git init -q "$work/theirs"
+  git -C "$work/theirs" -c user.name=They -c user.email=they@localhost commit -q --allow-empty -m theirs
+fi
+package_in_copy() { (cd "$copy" && env "$@" "$make" -s -o lib/libunifdef.a deb-lib); }
+maintainer() { dpkg-deb -f "$copy/${packages[0]}" Maintainer; }
+touch -d 2001-02-03 "$copy/CHANGELOG.md"
+check 'a tarball: deb-lib' package_in_copy -u DEBFULLNAME -u DEBEMAIL -u SOURCE_DATE_EPOCH
+check 'a tarball: the time' test "$(dpkg-deb -c "$copy/${packages[0]}" | grep -vc ' 2001-02-0[234] ')" -eq 0
+check 'a tarball: the maintainer' same "$(maintainer)" 'unifdef maintainers <maintainers@unifdef.invalid>'
+if command -v lintian > /dev/null; then
+  check 'a tarball: lintian' same "$(lintian --allow-root "$copy/${packages[0]}" 2>&1 | grep '^[EW]:')" ''
+fi
+check 'a maintainer: deb-lib' package_in_copy DEBFULLNAME='A Name' DEBEMAIL=name@example.org
+check 'a maintainer: the maintainer' same "$(maintainer)" 'A Name <name@example.org>'
+
 # A folder with a list of packages of its own.
 root=$work/root
 mkdir -p "$root/var/lib/dpkg/info" "$root/var/lib/dpkg/updates" "$root/var/lib/dpkg/triggers"
