@@ -43,7 +43,8 @@ kibibytes() { find "$1" -type f -printf '%s\n' | awk '{ n += int(($1 + 1023) / 1
 # newest FILE..: the C library that a program needs: as new as the newest of its symbols.
 newest() { objdump -T "$@" | sed -n 's/.*GLIBC_\([0-9.]*\).*/\1/p' | sort -Vu | tail -n 1; }
 
-# build PACKAGE ARCHITECTURE SECTION FIELD..: makes a package. The description is standard input.
+# build PACKAGE ARCHITECTURE SECTION FIELD..: makes a package that everybody can read. The description
+# is standard input.
 build() {
   local root=$stage/$1 package=$1_${version}_$2.deb
   {
@@ -52,6 +53,7 @@ build() {
     printf 'Section: %s\nPriority: optional\n' "$3"
     printf '%s\n' "${@:4}" "Description: $(cat)"
   } > "$root/DEBIAN/control"
+  chmod -R u=rwX,go=rX "$root"
   (cd "$root" && find usr -type f -print0 | sort -z | xargs -0 md5sum) > "$root/DEBIAN/md5sums"
   find "$root" -exec touch -hd "@$SOURCE_DATE_EPOCH" {} +
   dpkg-deb --root-owner-group --build "$root" "$package" > /dev/null

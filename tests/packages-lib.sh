@@ -67,6 +67,13 @@ fi
 check 'a maintainer: deb-lib' package_in_copy DEBFULLNAME='A Name' DEBEMAIL=name@example.org
 check 'a maintainer: the maintainer' same "$(maintainer)" 'A Name <name@example.org>'
 
+# A folder that nobody else can read gives packages that everybody can read.
+chmod -R go= "$copy"
+check 'a private folder: deb-lib' package_in_copy DEBFULLNAME='A Name'
+modes() { dpkg-deb -c "$copy/$1" | sed 's/ .*//' | sort -u; }
+check 'a private folder: modes' same "$(for it in "${packages[@]}"; do modes "$it"; done | sort -u)" \
+$'-rw-r--r--\ndrwxr-xr-x\nlrwxrwxrwx'
+
 # A folder with a list of packages of its own.
 root=$work/root
 mkdir -p "$root/var/lib/dpkg/info" "$root/var/lib/dpkg/updates" "$root/var/lib/dpkg/triggers"
