@@ -227,8 +227,8 @@ install-lib: lib
 	$(INSTALL) -m 644 lib/unifdef.h "$(DESTDIR)$(INCLUDEDIR)" && \
 	$(INSTALL) -m 644 docs/unifdef.3 "$(DESTDIR)$(MANDIR)/man3" && \
 	$(INSTALL) -m 644 $(MODULE) "$(DESTDIR)$(PYTHONDIR)/unifdef" && \
-	sed -e 's|@PREFIX@|$(PREFIX)|' -e 's|@LIBDIR@|$(LIBDIR)|' -e 's|@INCLUDEDIR@|$(INCLUDEDIR)|' -e "s|@VERSION@|$$(packaging/version.sh)|" \
-	  lib/unifdef.pc.in > "$(DESTDIR)$(PKGCONFIGDIR)/unifdef.pc"
+	packaging/pkgconfig.sh "$(PREFIX)" "$(LIBDIR)" "$(INCLUDEDIR)" > "$(DESTDIR)$(PKGCONFIGDIR)/unifdef.pc" && \
+	chmod 644 "$(DESTDIR)$(PKGCONFIGDIR)/unifdef.pc"
 	@$(REFRESH)
 
 ## removes what make install-lib installed, and runs

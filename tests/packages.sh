@@ -141,6 +141,14 @@ if [ -e lib/libunifdef.a ] && command -v cc > /dev/null && command -v pkg-config
   check 'install-lib: builds' built_by_pkg_config "$prefix"
   check 'install-lib: runs' same "$(printf '#ifdef A\nx\n#endif\n' | LD_LIBRARY_PATH=$prefix/lib "$work/filter" -DA)" x
   check 'install-lib: the manual' shows "$prefix/share/man/man3/unifdef.3" "unifdef $version"
+  odd="$work/b&c|d #e"
+  private() { (umask 077; "$@"); }
+  check 'install-lib: odd names' private "$make" -s -o lib/libunifdef.a install-lib PREFIX="$odd" LDCONFIG="$work/ldconfig"
+  check 'install-lib: modes' same "$(find "$odd" -type f ! -perm 644)" ''
+  check 'install-lib: odd flags' same "$(eval "printf '%s\n' $(PKG_CONFIG_PATH=$odd/lib/pkgconfig pkg-config --cflags --libs unifdef)")" \
+"-I$odd/include
+-L$odd/lib
+-lunifdef"
   if command -v python3 > /dev/null; then
     check 'install-lib: Python' same "$(LD_LIBRARY_PATH=$prefix/lib PYTHONPATH=$prefix/lib/python3/dist-packages \
       python3 -Bc 'import unifdef; print(unifdef.names(b"A || B"))')" "[b'A', b'B']"
