@@ -25,7 +25,8 @@ ld -r "${undefined[@]}" -o "$work/unifdef.o" "$objects" "$heap"
 objcopy "${kept[@]}" --strip-unneeded --remove-section=.comment "$work/unifdef.o"
 rm -f libunifdef.a
 ar rcsD libunifdef.a "$work/unifdef.o"
-"${CC:-cc}" -shared -Wl,--version-script=unifdef.map -Wl,-soname,"libunifdef.so.$major" \
+read -ra cc <<< "${CC:-cc}" # It may have a word before the compiler.
+"${cc[@]}" -shared -Wl,--version-script=unifdef.map -Wl,-soname,"libunifdef.so.$major" \
   -Wl,-z,defs -Wl,-z,relro -Wl,-z,now -Wl,--build-id=none -s \
   -o "libunifdef.so.$major" "$work/unifdef.o"
 ln -sf "libunifdef.so.$major" libunifdef.so

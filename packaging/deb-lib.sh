@@ -12,7 +12,8 @@ cd "$(dirname "$0")/.." || exit 1
 # shellcheck source=packaging/debian.sh
 source packaging/debian.sh
 major=${version%%.*}
-libraries=/usr/lib/$("${CC:-cc}" -print-multiarch)
+read -ra cc <<< "${CC:-cc}" # It may have a word before the compiler.
+libraries=/usr/lib/$("${cc[@]}" -print-multiarch)
 
 "${MAKE:-make}" -s -o lib/libunifdef.a install-lib DESTDIR="$all" PREFIX=/usr LIBDIR="$libraries" \
   PYTHONDIR=/usr/lib/python3/dist-packages

@@ -5,8 +5,8 @@
 set -eu -o pipefail
 export LC_ALL=C
 cd "$(dirname "$0")/.."
-cc=${CC:-cc}
-command -v "$cc" > /dev/null || { echo "library: $cc is not there, so nothing is tried"; exit 0; }
+read -ra cc <<< "${CC:-cc}"
+command -v "${cc[0]}" > /dev/null || { echo "library: ${cc[0]} is not there, so nothing is tried"; exit 0; }
 work=$(mktemp -d)
 trap 'rm -rf "$work"' EXIT
 flags=(-std=c99 -D_POSIX_C_SOURCE=200809L -Wall -Wextra -Wpedantic -Werror -g -Ilib)
@@ -14,7 +14,7 @@ checked=(-O1 -fsanitize=address -fsanitize=undefined -fno-sanitize-recover=all)
 
 # The header alone, for C and for C++.
 for language in c:-std=c99 c++:-std=c++11; do
-  "$cc" -x "${language%%:*}" "${language#*:}" -Wall -Wextra -Wpedantic -Werror -fsyntax-only lib/unifdef.h
+  "${cc[@]}" -x "${language%%:*}" "${language#*:}" -Wall -Wextra -Wpedantic -Werror -fsyntax-only lib/unifdef.h
 done
 
 # Only the functions of the header are exported, by both libraries.
@@ -24,12 +24,12 @@ for found in "$(nm -g --defined-only lib/libunifdef.a | sed -n 's/.* T //p' | so
   [ "$found" = "$declared" ] || { printf 'library: exported are\n%s\n' "$found"; exit 1; }
 done
 
-"$cc" "${flags[@]}" "${checked[@]}" -Wl,--wrap=malloc,--wrap=realloc,--wrap=free -pthread \
+"${cc[@]}" "${flags[@]}" "${checked[@]}" -Wl,--wrap=malloc,--wrap=realloc,--wrap=free -pthread \
   -o "$work/calls" tests/library_calls.c lib/libunifdef.a
 "$work/calls"
 filters=()
 for chunk in 1 7 64 65536; do
-  "$cc" "${flags[@]}" "${checked[@]}" -DCHUNK=$chunk -o "$work/filter$chunk" lib/examples/filter.c lib/libunifdef.a
+  "${cc[@]}" "${flags[@]}" "${checked[@]}" -DCHUNK=$chunk -o "$work/filter$chunk" lib/examples/filter.c lib/libunifdef.a
   filters+=("$work/filter$chunk")
 done
 
@@ -40,7 +40,7 @@ done
   printf 'int main(int argc, char **argv) {\n'
   printf '    return argc != 2 ? 3 : strip_file(argv[1], strlen(argv[1]), stdin, stdout);\n}\n'
 } > "$work/page.c"
-"$cc" "${flags[@]}" "${checked[@]}" -o "$work/page" "$work/page.c" lib/libunifdef.a
+"${cc[@]}" "${flags[@]}" "${checked[@]}" -o "$work/page" "$work/page.c" lib/libunifdef.a
 
 # gives STATUS OUTPUT PROGRAM..: what a program must give. An hour is a guard against hanging.
 gives() {
@@ -86,13 +86,13 @@ else
 fi
 
 # Through the shared library: what pkg-config prints is what a program needs.
-"$cc" "${flags[@]}" -O2 -o "$work/shared" lib/examples/filter.c -Llib -lunifdef
+"${cc[@]}" "${flags[@]}" -O2 -o "$work/shared" lib/examples/filter.c -Llib -lunifdef
 [ "$(printf '#ifdef A\nx\n#endif\n' | LD_LIBRARY_PATH=lib "$work/shared" -DA)" = x ]
 
 # The deepest inputs with a stack of 1 MiB, and of 4 MiB to prune, as a thread and as a program.
 # Statuses, lengths, messages and output are those with a large stack. A sanitizer takes stack, so
 # none is there.
-"$cc" "${flags[@]}" -O2 -pthread -o "$work/stack" tests/library_stack.c lib/libunifdef.a
+"${cc[@]}" "${flags[@]}" -O2 -pthread -o "$work/stack" tests/library_stack.c lib/libunifdef.a
 run_shared() { LD_LIBRARY_PATH=lib "$work/shared" "$1" < "$work/in" 2>&1 || echo "status $?"; }
 for kind in $(tests/deep.sh); do
   tests/deep.sh "$kind" > "$work/in"
@@ -116,7 +116,7 @@ done
 sed -n '/^\.Sh EXAMPLES/,/^\.Sh ERRORS/p' docs/unifdef.3 | sed 's/\\e/\\/g' > "$work/examples"
 awk '/^\.Bd/ { n++; next } /^\.Ed/ { next } n == 1 && !/^\./' "$work/examples" | sed '/^}$/q' > "$work/example.c"
 awk '/^\.Bd/ { n++; next } /^\.Ed/ { n += n > 1 } n == 2' "$work/examples" > "$work/wanted"
-"$cc" "${flags[@]}" "${checked[@]}" -o "$work/example" "$work/example.c" lib/libunifdef.a
+"${cc[@]}" "${flags[@]}" "${checked[@]}" -o "$work/example" "$work/example.c" lib/libunifdef.a
 "$work/example" | diff -u "$work/wanted" - || { echo 'library: the example of unifdef(3) prints this'; exit 1; }
 
 command -v python3 > /dev/null || { echo 'library: python3 is not there, so it is left out'; exit 0; }

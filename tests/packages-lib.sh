@@ -7,8 +7,8 @@ unset MAKEFLAGS MAKELEVEL
 here=$(cd "$(dirname "$0")/.." && pwd)
 cd "$here" || exit 1
 make=${MAKE:-make}
-cc=${CC:-cc}
-for needed in dpkg-deb objdump "$cc"; do
+read -ra cc <<< "${CC:-cc}"
+for needed in dpkg-deb objdump "${cc[0]}"; do
   command -v "$needed" > /dev/null || { echo "packages-lib: $needed is not there, so nothing is tried"; exit 0; }
 done
 [ -e lib/libunifdef.a ] || { echo 'packages-lib: lib/libunifdef.a is not there, so nothing is tried'; exit 0; }
@@ -32,14 +32,14 @@ same() { [ "$1" = "$2" ] || { printf '%s\n---\n%s\n' "$1" "$2"; false; }; }
 
 version=$(packaging/version.sh) || failed=$((failed + 1))
 architecture=$(dpkg --print-architecture)
-folder=usr/lib/$("$cc" -print-multiarch)
+folder=usr/lib/$("${cc[@]}" -print-multiarch)
 packages=("libunifdef1_${version}_$architecture.deb" "libunifdef-dev_${version}_$architecture.deb"
   "python3-unifdef_${version}_all.deb")
 
 check deb-lib same "$("$make" -s -o lib/libunifdef.a deb-lib)" "$(printf '%s\n' "${packages[@]}")"
 mkdir "$work/first"
 cp "${packages[@]}" "$work/first"
-check 'deb-lib: again' "$make" -s -o lib/libunifdef.a deb-lib
+check 'deb-lib: again' env CC="env ${cc[*]}" "$make" -s -o lib/libunifdef.a deb-lib
 for package in "${packages[@]}"; do
   check "$package: the same bytes" cmp "$work/first/$package" "$package"
   if command -v lintian > /dev/null; then
@@ -66,6 +66,10 @@ if command -v lintian > /dev/null; then
 fi
 check 'a maintainer: deb-lib' package_in_copy DEBFULLNAME='A Name' DEBEMAIL=name@example.org
 check 'a maintainer: the maintainer' same "$(maintainer)" 'A Name <name@example.org>'
+
+# A compiler with a word before it links the same library.
+check 'CC of two words' env CC="env ${cc[*]}" "$copy/lib/build.sh" lib/libunifdef.a lib/libunifdef.a
+check 'CC of two words: the same bytes' cmp lib/libunifdef.so "$copy/lib/libunifdef.so"
 
 # A folder that nobody else can read gives packages that everybody can read.
 chmod -R go= "$copy"
@@ -108,7 +112,7 @@ if command -v pkg-config > /dev/null; then
     local flags
     read -ra flags <<< "$(PKG_CONFIG_SYSROOT_DIR=$root PKG_CONFIG_PATH=$root/$folder/pkgconfig \
       PKG_CONFIG_ALLOW_SYSTEM_CFLAGS=1 PKG_CONFIG_ALLOW_SYSTEM_LIBS=1 pkg-config --cflags --libs unifdef)"
-    "$cc" -o "$work/filter" "$root/usr/share/doc/libunifdef-dev/examples/filter.c" "${flags[@]}"
+    "${cc[@]}" -o "$work/filter" "$root/usr/share/doc/libunifdef-dev/examples/filter.c" "${flags[@]}"
   }
   check 'C: builds' builds
   check 'C: runs' same "$(printf '#ifdef A\nx\n#endif\n' | LD_LIBRARY_PATH=$root/$folder "$work/filter" -DA)" x
