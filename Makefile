@@ -57,8 +57,11 @@ HELP = /^\#\# / { text[n++] = substr($$0, 4); next } \
 help:
 	@awk '$(HELP)' Makefile
 
-# Reports clearly that the command isn't there.
-NEED_KIT = command -v $(RT) > /dev/null || { echo "make: Rattle's command $(RT) is not there: put it on PATH, or run make RT=FILE" >&2; exit 1; }
+# Reports clearly that the command isn't there. What is built is older than its sources in a copy
+# that doesn't keep their times.
+NO_KIT = Rattle's command $(RT) is not there: put it on PATH, or run make RT=FILE
+OLD_COPY = a copy of a built folder needs none if it keeps times (cp -a), nor does make -o unifdef -o unifdef-tree install
+NEED_KIT = command -v $(RT) > /dev/null || { printf 'make: %s\n' "$(NO_KIT)" "$(OLD_COPY)" >&2; exit 1; }
 
 kit:
 	@$(NEED_KIT)

@@ -86,6 +86,9 @@ check 'uninstall: the folder' test ! -e "$documents"
 
 # What is built is installed without the kit.
 check 'install: without the kit' "$make" -s install DESTDIR="$target" PREFIX=/usr RT=no-such-command
+check 'install: the kit that is not there' same "$("$make" -s kit RT=no-such-command 2>&1 | grep -o '^make: .*no-such-command\|cp -a')" \
+"make: Rattle's command no-such-command
+cp -a"
 
 # The library, in a folder that pkg-config, the linker and Python look in.
 built_by_pkg_config() {
