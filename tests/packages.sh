@@ -155,8 +155,17 @@ if [ -e lib/libunifdef.a ] && command -v cc > /dev/null && command -v pkg-config
   if command -v python3 > /dev/null; then
     check 'install-lib: Python' same "$(LD_LIBRARY_PATH=$prefix/lib PYTHONPATH=$prefix/lib/python3/dist-packages \
       python3 -Bc 'import unifdef; print(unifdef.names(b"A || B"))')" "[b'A', b'B']"
-    check 'install-lib: where Python looks' python3 -c 'import sys; sys.exit(sys.argv[1] not in sys.path)' \
-      "$(packaging/pythondir.sh "$(python3 -c 'import sys; print(sys.prefix)')")"
+    in_path() { python3 -c 'import sys; sys.exit(sys.argv[1] not in sys.path)' "$1"; }
+    python_prefix=$(python3 -c 'import sys; print(sys.prefix)')
+    check 'install-lib: where Python looks' in_path "$(packaging/pythondir.sh "$python_prefix")"
+    check 'install-lib: where Python looks, with a slash' in_path "$(packaging/pythondir.sh "$python_prefix/")"
+    # python3 looks in the folder of a user if it is there.
+    export PYTHONUSERBASE=$work/user
+    mkdir -p "$(python3 -c 'import site; print(site.getusersitepackages())')"
+    if [ "$(python3 -c 'import site; print(site.ENABLE_USER_SITE)')" = True ]; then
+      check 'install-lib: where Python looks for a user' in_path "$(packaging/pythondir.sh "$PYTHONUSERBASE")"
+    fi
+    unset PYTHONUSERBASE
     in_an_environment "$prefix/lib"
   fi
   rm -f "$work/refreshed"
