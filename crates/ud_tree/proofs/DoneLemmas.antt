@@ -1,5 +1,6 @@
 -- Which files of a run are processed before it ends.
-use Rattle.std.proofs.Common.{◌≡◌, ℕ, ◌<◌, List, Bool, true, false, length, get_or, take, refl, sym, ap, ◌∙◌, subst, arith}
+use Rattle.std.proofs.Common.{◌≡◌, ℕ, ◌<◌, List, Bool, true, false, length, get_or, take}
+use Rattle.std.proofs.Common.{refl, sym, ap, ◌∙◌, subst, arith}
 use Rattle.std.proofs.lemmas.List.{get_or-take, length-take}
 use Rattle.std.specs.List.{AllPairs}
 use Rattle.ud_io.specs.Streams.{Stream, Sends}
@@ -10,33 +11,41 @@ use Rattle.ud_tree.specs.TreeRuns.{IsDone, all_done, stopped}
 use Rattle.ud_tree.specs.Walks.{IsBefore}
 
 -- A stream that has failed still has after more was sent.
-pub still_failed : {a b : Stream} {bytes : List ℕ} → Sends a b bytes → a.failed ≡ true → b.failed ≡ true
+pub still_failed : {a b : Stream} {bytes : List ℕ} → Sends a b bytes → a.failed ≡ true →
+    b.failed ≡ true
 still_failed h is = ap (λ (s : Stream). s.failed) (h.fused is) ∙ is
 
 -- The files are those that were processed, also once more was written.
-pub done_later : {args : Arguments} {a b : Bool} {files done : List Found} → (a ≡ true → b ≡ true) → IsDone args a files done → IsDone args b files done
+pub done_later : {args : Arguments} {a b : Bool} {files done : List Found} →
+    (a ≡ true → b ≡ true) → IsDone args a files done → IsDone args b files done
 done_later later all_done = all_done
 done_later later (stopped n task shows is) = stopped n task shows (later is)
 
 -- If the output hasn't failed, all files were processed.
-pub all_unfailed : {args : Arguments} {failed : Bool} {files done : List Found} → IsDone args failed files done → failed ≡ false → done ≡ files
+pub all_unfailed : {args : Arguments} {failed : Bool} {files done : List Found} →
+    IsDone args failed files done → failed ≡ false → done ≡ files
 all_unfailed all_done off = refl
 all_unfailed (stopped n task shows is) off = absurd cc
 
--- If nothing is replaced, all files were processed.
-pub all_shown : {args : Arguments} {failed : Bool} {files done : List Found} → IsDone args failed files done → args.task ≡ Diff → done ≡ files
+-- If a run only shows what would change, all files were processed.
+pub all_shown : {args : Arguments} {failed : Bool} {files done : List Found} →
+    IsDone args failed files done → args.task ≡ Diff → done ≡ files
 all_shown all_done diff = refl
 all_shown (stopped n task shows is) diff = absurd cc
 
 -- The first ones of some files are in their order.
-first_before : (n : ℕ) (files : List Found) → AllPairs IsBefore files → AllPairs IsBefore (take n files)
+first_before : (n : ℕ) (files : List Found) → AllPairs IsBefore files →
+    AllPairs IsBefore (take n files)
 first_before n files h i j d below within =
     let within_n : j < n = omega (arith, within, length-take n files) in
     let within_files : j < length files = omega (arith, within, length-take n files) in
-    subst (λ (f : Found). IsBefore f (get_or (take n files) j d)) (sym (get_or-take n files i d (omega arith)))
-    (subst (λ (f : Found). IsBefore (get_or files i d) f) (sym (get_or-take n files j d within_n)) (h i j d below within_files))
+    subst (λ (f : Found). IsBefore f (get_or (take n files) j d))
+    (sym (get_or-take n files i d (omega arith)))
+    (subst (λ (f : Found). IsBefore (get_or files i d) f) (sym (get_or-take n files j d within_n))
+    (h i j d below within_files))
 
 -- The files that were processed are in their order.
-pub done_before : {args : Arguments} {failed : Bool} {files done : List Found} → IsDone args failed files done → AllPairs IsBefore files → AllPairs IsBefore done
+pub done_before : {args : Arguments} {failed : Bool} {files done : List Found} →
+    IsDone args failed files done → AllPairs IsBefore files → AllPairs IsBefore done
 done_before all_done h = h
 done_before {files = files} (stopped n task shows is) h = first_before n files h
