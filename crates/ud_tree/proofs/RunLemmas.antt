@@ -275,7 +275,7 @@ ends_counted : {args : Arguments} {streams : StreamEnds} {old new : List Call} {
     Ends args n streams old names new shown told last status → Ends args m streams old names new shown told last status
 ends_counted n m same h = grind arith
 
--- The run processed all files that the walk found.
+-- The run processed the files that the walk found.
 pub ran_from : (job : Job) {given left : Source} {old mid new : Moment} {r r' : Report} {found files : List Found} {status : ℕ} (in_walk : ℕ) → files ≡ found → (job.is_terminal ≡ false → IsPlain r) → r.faulty ≡ 0 →
     in_walk ≡ r'.faulty → FindsFiles job.arguments.now given left old.calls mid.calls found r r' old.err mid.err → mid.out ≡ old.out →
     EndsWriting job in_walk mid files new status → RunsTree job given left old new status

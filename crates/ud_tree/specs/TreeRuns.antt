@@ -2,8 +2,8 @@
 --
 --   DoesBy task args name old new result   what a task does with a file
 --   DoesOne args name old new result       what the arguments ask for is done with a file
---   Ends args in_walk streams old names new shown told last status   all files are processed
---   DoesJob job files before report after report' counts lists lists'   the same for all files
+--   Ends args in_walk streams old names new shown told last status   the files are processed
+--   DoesJob job files before report after report' counts lists lists'   the same for each file
 --   IsDone args failed files done          which files are processed before a run ends
 --   DoesFiles job files before report after report' counts lists lists'   the same for those
 --   EndsWriting job in_walk before files after status   the same, and all was written

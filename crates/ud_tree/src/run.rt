@@ -245,7 +245,7 @@ fn add_path(paths: &mut Vec<Vec<u8>>, path: Vec<u8>) -> Result<(), AllocError>
     Ok(())
 }
 
-/// Processes all files in order, and writes the counts. Returns the exit status. `walk_faults` is
+/// Processes the files in order, and writes the counts. Returns the exit status. `walk_faults` is
 /// the number of faults that were reported before.
 fn process_all<T: Tree, W: Write, E: Write>(
     job: &Job<'_>,
