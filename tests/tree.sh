@@ -792,9 +792,10 @@ kills() {
   done
 }
 
-# failing_look ERROR PATH ARGUMENT..: as `tree`, but the first look at the path fails.
+# failing_look ERROR NAME ARGUMENT..: as `tree`, but the first look at a name in the first folder
+# that is opened fails.
 failing_look() {
-  local error=$1 path=$2
+  local error=$1 path=/proc/self/fd/3/$2
   shift 2
   status=0
   (cd "$work/run" && strace -f -o /dev/null -P "$path" \
@@ -807,21 +808,21 @@ failing_look() {
 vanishing() {
   small_tree
   rm src/bad.c
-  failing_look ENOENT src/a.c -DA src
+  failing_look ENOENT a.c -DA src
   check 'vanished: no fault' has_line "$work/err" 'unifdef-tree: 1 changed, 1 unchanged, 0 faulty'
   check 'vanished: status' same "$status" 1
   small_tree
-  failing_look EIO src/a.c -DA src
+  failing_look EIO a.c -DA src
   check 'not known: status' same "$status" 2
   check 'not known: message' has_line "$work/err" 'unifdef-tree: src/a.c: Cannot be found: Input/output error'
   check 'not known: other files' holds src/folder/b.c 'yes\n'
   small_tree
-  failing_look ENOENT src/a.c -DA src/folder src/a.c
+  failing_look ENOENT a.c -DA src/folder src/a.c
   check 'vanished and named: status' same "$status" 2
   check 'vanished and named: message' has_line "$work/err" 'unifdef-tree: src/a.c: No such file or folder'
   check 'vanished and named: nothing is done' holds src/folder/b.c "$text"
   printf 'src/a.c\0src/folder/b.c\0' > "$work/paths"
-  input=$work/paths failing_look ENOENT src/a.c -0 -DA
+  input=$work/paths failing_look ENOENT a.c -0 -DA
   check 'vanished on the input: status' same "$status" 2
   check 'vanished on the input: message' has_line "$work/err" 'unifdef-tree: src/a.c: No such file or folder'
   check 'vanished on the input: other files' holds src/folder/b.c 'yes\n'

@@ -64,14 +64,14 @@ put_link() {
 finds_same_file() {
   local number
   options=(-DA)
-  number=$(number_of openat 'src/a.c"')
+  number=$(number_of openat '/a.c"')
   small_tree
   mkdir outside
   put outside/b.c "$text"
   run_paused openat "$number" move_folder
   check 'a folder that becomes a link: status' same "$status" 2
   check 'a folder that becomes a link: message' has_line "$work/err" \
-    'unifdef-tree: src/folder/b.c: Changed meanwhile'
+    'unifdef-tree: src/folder/b.c: Cannot be read: changed meanwhile'
   check 'a folder that becomes a link: the file outside' holds outside/b.c "$text"
   small_tree
   run_paused openat "$number" put_pipe src/folder/b.c
@@ -83,7 +83,39 @@ finds_same_file() {
   put outside/b.c "$text"
   run_paused openat "$number" move_folder
   check '-n: a folder that becomes a link' has_line "$work/err" \
-    'unifdef-tree: src/folder/b.c: Changed meanwhile'
+    'unifdef-tree: src/folder/b.c: Cannot be read: changed meanwhile'
+}
+
+# Tests that no call leaves a folder that becomes a link: neither between the look at it and its
+# listing, nor between the look at a file in it and the file's replacement.
+stays_in_tree() {
+  local number words
+  options=(-DA)
+  number=$(number_of statx '/folder"')
+  small_tree
+  mkdir outside
+  put outside/b.c "$text"
+  put outside/c.c "$text"
+  run_paused statx "$number" move_folder
+  check 'a link before the listing: status' same "$status" 2
+  check 'a link before the listing: message' has_line "$work/err" \
+    'unifdef-tree: src/folder/: Cannot be read: changed meanwhile'
+  check 'a link before the listing: no other file outside' same "$(find outside -type f | wc -l)" 2
+  check 'a link before the listing: one file outside' holds outside/b.c "$text"
+  check 'a link before the listing: the other one' holds outside/c.c "$text"
+  number=$(number_of openat '/b.c", O_RDWR')
+  for words in -DA '-w -DA'; do
+    IFS=' ' read -r -a options <<< "$words"
+    small_tree
+    mkdir outside
+    put outside/b.c "$text"
+    [ "$words" = -DA ] || ln src/folder/b.c linked.txt
+    run_paused openat "$number" move_folder
+    check "$words: a link after the look: the file" holds was/b.c 'yes\n'
+    check "$words: a link after the look: nothing left over" no_rest
+    check "$words: a link after the look: nothing made outside" same "$(ls -A outside)" b.c
+    check "$words: a link after the look: the file outside" holds outside/b.c "$text"
+  done
 }
 
 move_folder() {
@@ -453,6 +485,7 @@ safety() {
     new_modes
     gives_to_open_file
     finds_same_file
+    stays_in_tree
     compares_bytes
     syncs
     fails_in_turn

@@ -1,13 +1,14 @@
 //! The real tree: files of the operating system.
 //!
-//! Each method of `Folder` makes the call that it notes. Paths are UTF-8: the library opens no
-//! others, so a name that isn't is one that can't be read.
+//! Each method of `Folder` makes the call that it notes, on a name in the folder that was met there
+//! (`Folders`). Paths are UTF-8: the library opens no others, so any other name can't be read.
 
 ghost use Rattle.std.specs.Prelude.{◌≡◌, ◌∷◌, Some, None, MatchResult};
 ghost use Rattle.std.specs.Io.{WritesAtMost};
 ghost use Rattle.ud_replace.specs.Calls.{walked};
 ghost use Rattle.ud_replace.specs.CallRecords.{walk_call_of};
 
+use crate::folders::{Folders, other_file, text_of};
 use crate::tree::Tree;
 use std::alloc::{AllocError, Global};
 use std::fs::{self, Metadata, OpenFile, OpenOptions, Permissions};
@@ -39,6 +40,7 @@ pub struct Disk<'r, R: Files> {
     fresh: Option<R::File>,
     /// Why the last call failed that did.
     reason: Option<io::Error>,
+    folders: Folders<R>,
     history: History,
 }
 
@@ -50,8 +52,14 @@ impl<'r, R: Files> Disk<'r, R> {
             alloc,
             fresh: None,
             reason: None,
+            folders: Folders::new(alloc),
             history: History::new(),
         }
+    }
+
+    /// Returns whether folders were found by their paths alone, since `/proc` isn't there.
+    pub fn lacks_proc(&self) -> bool {
+        self.folders.lacks_proc()
     }
 
     /// Keeps the error of a call. Returns its value, if it has one.
@@ -74,14 +82,6 @@ impl<'r, R: Files> Disk<'r, R> {
             walked (walk_call_of walk.entry) ∷ self.old.history.calls }
     {
         self.history = self.history.with(&FolderCall::Walk(walk));
-    }
-}
-
-/// Returns a path as text.
-fn text_of(name: &[u8]) -> io::Result<&str> {
-    match std::str::from_utf8(name) {
-        Ok(path) => Ok(path),
-        Err(_) => Err(io::Error::from(ErrorKind::InvalidFilename)),
     }
 }
 
@@ -112,13 +112,8 @@ fn stat_of(found: &Metadata) -> io::Result<FileStat> {
 }
 
 /// Returns what is known of a regular file, without following a link.
-fn look_at<R: Files>(files: &R, name: &[u8]) -> io::Result<FileStat> {
-    stat_of(&files.symlink_metadata(text_of(name)?)?)
-}
-
-/// Returns the error of a file that isn't the one that was expected under its name.
-fn other_file() -> io::Error {
-    io::Error::from(ErrorKind::ResourceBusy)
+fn look_at<R: Files>(files: &R, path: &str) -> io::Result<FileStat> {
+    stat_of(&files.symlink_metadata(path)?)
 }
 
 /// Returns whether both are of the same file.
@@ -128,8 +123,7 @@ fn same_file(one: &Metadata, other: &Metadata) -> bool {
 
 /// Reads a regular file, and returns what was known of it before. The file that was opened is the
 /// one that was looked at, also if its name is that of another file meanwhile.
-fn read_file<R: Files>(files: &R, name: &[u8], text: &mut Vec<u8>) -> io::Result<FileStat> {
-    let path = text_of(name)?;
+fn read_file<R: Files>(files: &R, path: &str, text: &mut Vec<u8>) -> io::Result<FileStat> {
     let found = files.symlink_metadata(path)?;
     let stat = stat_of(&found)?;
     let mut file = fs::open(files, path)?;
@@ -145,8 +139,7 @@ fn read_file<R: Files>(files: &R, name: &[u8], text: &mut Vec<u8>) -> io::Result
 
 /// Opens a regular file for writing, and leaves its bytes as they are. To open a pipe for writing
 /// alone would wait for a reader, so the file is opened for both.
-fn open_to_write<R: Files>(files: &R, name: &[u8]) -> io::Result<R::File> {
-    let path = text_of(name)?;
+fn open_to_write<R: Files>(files: &R, path: &str) -> io::Result<R::File> {
     let found = files.symlink_metadata(path)?;
     let _ = stat_of(&found)?;
     let file = OpenOptions::new().read(true).write(true).open(files, path)?;
@@ -161,12 +154,12 @@ fn open_to_write<R: Files>(files: &R, name: &[u8]) -> io::Result<R::File> {
 }
 
 /// Makes an empty file, which only the user may read and write.
-fn create_file<R: Files>(files: &R, name: &[u8]) -> io::Result<R::File> {
+fn create_file<R: Files>(files: &R, path: &str) -> io::Result<R::File> {
     OpenOptions::new()
         .write(true)
         .create_new(true)
         .mode(0o600)
-        .open(files, text_of(name)?)
+        .open(files, path)
 }
 
 /// Writes some first bytes of `bytes`. Returns how many.
@@ -197,8 +190,8 @@ fn set_mode_and_owner<F: OpenFile + AsFd + Drop>(file: &F, like: &FileStat) -> i
 }
 
 /// Writes `text` over the bytes of a file, and cuts off the rest.
-fn overwrite_file<R: Files>(files: &R, name: &[u8], text: &[u8]) -> io::Result<()> {
-    let mut file = open_to_write(files, name)?;
+fn overwrite_file<R: Files>(files: &R, path: &str, text: &[u8]) -> io::Result<()> {
+    let mut file = open_to_write(files, path)?;
     file.write_all(text)?;
     match u64::try_from(text.len()) {
         Ok(len) => file.set_len(len)?,
@@ -231,7 +224,10 @@ where
     ghost history = { λ d. d.history.calls };
 
     fn read(&mut self, name: &[u8], text: &mut Vec<u8>) -> Option<FileStat> {
-        let read = read_file(self.files, name, text);
+        let read = match self.folders.place(self.files, name) {
+            Ok(place) => read_file(self.files, place.as_str(), text),
+            Err(error) => Err(error),
+        };
         let answer = self.kept(read);
         let text = text.as_slice();
         self.history = self.history.with(&FolderCall::Read { name, text, answer });
@@ -239,14 +235,21 @@ where
     }
 
     fn may_write(&mut self, name: &[u8]) -> bool {
-        let opened = open_to_write(self.files, name);
+        let opened = match self.folders.place(self.files, name) {
+            Ok(place) => open_to_write(self.files, place.as_str()),
+            Err(error) => Err(error),
+        };
         let answer = self.kept(opened).is_some();
         self.history = self.history.with(&FolderCall::MayWrite { name, answer });
         answer
     }
 
     fn create(&mut self, name: &[u8]) -> Result<(), CreateError> {
-        let answer = match create_file(self.files, name) {
+        let made = match self.folders.place(self.files, name) {
+            Ok(place) => create_file(self.files, place.as_str()),
+            Err(error) => Err(error),
+        };
+        let answer = match made {
             Ok(file) => {
                 self.fresh = Some(file);
                 Ok(())
@@ -292,14 +295,17 @@ where
     }
 
     fn look(&mut self, name: &[u8]) -> Option<FileStat> {
-        let found = look_at(self.files, name);
+        let found = match self.folders.place(self.files, name) {
+            Ok(place) => look_at(self.files, place.as_str()),
+            Err(error) => Err(error),
+        };
         let answer = self.kept(found);
         self.history = self.history.with(&FolderCall::Look { name, answer });
         answer
     }
 
     fn rename(&mut self, from: &[u8], to: &[u8]) -> bool {
-        let renamed = rename_file(self.files, &self.fresh, from, to);
+        let renamed = rename_file(self.files, &mut self.folders, &self.fresh, from, to);
         let answer = self.kept(renamed).is_some();
         if answer {
             self.fresh = None;
@@ -309,7 +315,10 @@ where
     }
 
     fn overwrite(&mut self, name: &[u8], text: &[u8]) -> bool {
-        let written = overwrite_file(self.files, name, text);
+        let written = match self.folders.place(self.files, name) {
+            Ok(place) => overwrite_file(self.files, place.as_str(), text),
+            Err(error) => Err(error),
+        };
         let answer = self.kept(written).is_some();
         self.history = self
             .history
@@ -318,7 +327,7 @@ where
     }
 
     fn remove(&mut self, name: &[u8]) -> bool {
-        let answer = remove_file(self.files, &self.fresh, name).is_ok();
+        let answer = remove_file(self.files, &mut self.folders, &self.fresh, name).is_ok();
         self.fresh = None;
         self.history = self.history.with(&FolderCall::Remove { name, answer });
         answer
@@ -343,20 +352,33 @@ fn check_path<R: Files>(files: &R, open: &Option<R::File>, path: &str) -> io::Re
 /// Gives the open file another name.
 fn rename_file<R: Files>(
     files: &R,
+    folders: &mut Folders<R>,
     open: &Option<R::File>,
     from: &[u8],
     to: &[u8],
-) -> io::Result<()> {
-    let from = text_of(from)?;
-    check_path(files, open, from)?;
-    files.rename(from, text_of(to)?)
+) -> io::Result<()>
+where
+    R::File: AsFd,
+{
+    let to = folders.place(files, to)?;
+    let from = folders.place(files, from)?;
+    check_path(files, open, from.as_str())?;
+    files.rename(from.as_str(), to.as_str())
 }
 
 /// Removes the open file.
-fn remove_file<R: Files>(files: &R, open: &Option<R::File>, name: &[u8]) -> io::Result<()> {
-    let path = text_of(name)?;
-    check_path(files, open, path)?;
-    files.remove_file(path)
+fn remove_file<R: Files>(
+    files: &R,
+    folders: &mut Folders<R>,
+    open: &Option<R::File>,
+    name: &[u8],
+) -> io::Result<()>
+where
+    R::File: AsFd,
+{
+    let path = folders.place(files, name)?;
+    check_path(files, open, path.as_str())?;
+    files.remove_file(path.as_str())
 }
 
 /// Returns what has a path, by the facts about it.
@@ -377,19 +399,46 @@ fn node_of(found: &Metadata) -> Node {
     Node { kind, id }
 }
 
-/// Returns what has a path, without following a link.
-fn node_at<R: Files>(files: &R, path: &str) -> io::Result<Node> {
-    Ok(node_of(&files.symlink_metadata(path)?))
+/// Returns what has a path, without following a link. If it is a folder, that one was met.
+fn node_at<R: Files>(files: &R, folders: &mut Folders<R>, path: &str) -> io::Result<Node>
+where
+    R::File: AsFd,
+{
+    let place = folders.place(files, path.as_bytes())?;
+    let node = node_of(&files.symlink_metadata(place.as_str())?);
+    if node.kind == NodeKind::Folder {
+        folders.meet(path, node.id)?;
+    }
+    Ok(node)
 }
 
-/// Appends the names in a folder.
+/// Returns whether a path leads to a folder. If so, that one was met.
+fn leads_to_folder<R: Files>(files: &R, folders: &mut Folders<R>, path: &str) -> io::Result<bool>
+where
+    R::File: AsFd,
+{
+    let place = folders.place(files, path.as_bytes())?;
+    let node = node_of(&files.metadata(place.as_str())?);
+    if node.kind != NodeKind::Folder {
+        return Ok(false);
+    }
+    folders.meet(path, node.id)?;
+    Ok(true)
+}
+
+/// Appends the names in a folder, whose path ends in a slash.
 fn list_folder<R: Files>(
     files: &R,
+    folders: &mut Folders<R>,
     alloc: Global,
     folder: &str,
     names: &mut Vec<Vec<u8>>,
-) -> io::Result<()> {
-    let mut open = files.open_dir(folder)?;
+) -> io::Result<()>
+where
+    R::File: AsFd,
+{
+    let place = folders.within(files, folder)?;
+    let mut open = files.open_dir(place.as_str())?;
     let mut buffer = [0u8; 32768];
     for _ in 0..u64::MAX {
         let count = open.read(&mut buffer)?;
@@ -418,7 +467,7 @@ where
     R::File: AsFd,
 {
     fn node(&mut self, path: &str) -> Lookup {
-        let answer = match node_at(self.files, path) {
+        let answer = match node_at(self.files, &mut self.folders, path) {
             Ok(node) => Lookup::Present(node),
             Err(error) if error.kind() == ErrorKind::NotFound => Lookup::Absent,
             Err(error) => {
@@ -432,17 +481,14 @@ where
     }
 
     fn leads_to_folder(&mut self, path: &str) -> bool {
-        let answer = match self.files.metadata(path) {
-            Ok(found) => found.is_dir(),
-            Err(_) => false,
-        };
+        let answer = leads_to_folder(self.files, &mut self.folders, path).unwrap_or(false);
         let path = path.as_bytes();
         self.note(FolderWalk::Followed { path, answer });
         answer
     }
 
     fn list(&mut self, folder: &str, names: &mut Vec<Vec<u8>>) -> bool {
-        let listed = list_folder(self.files, self.alloc, folder, names);
+        let listed = list_folder(self.files, &mut self.folders, self.alloc, folder, names);
         let answer = self.kept(listed).is_some();
         let folder = folder.as_bytes();
         let names = names.as_slice();

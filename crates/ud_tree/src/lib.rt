@@ -10,6 +10,7 @@ mod counts;
 mod disk;
 mod file_diff;
 mod file_result;
+mod folders;
 mod help;
 mod job;
 mod laws;

@@ -20,6 +20,9 @@ const VERSION: &str = "unifdef-tree 1.0";
 /// The status of a fault, of any kind.
 const EXIT_TROUBLE: u8 = 2;
 
+/// The last line of a run that couldn't keep folders open.
+const WITHOUT_PROC: &[u8] = b"Without /proc, folders were found by their paths";
+
 fn main(rt: HostRuntime) -> ExitCode {
     let Ok(args) = args(&rt) else {
         let mut err = Watched::new(rt.stderr());
@@ -60,7 +63,11 @@ fn run(rt: &HostRuntime, arguments: &Arguments) -> ExitCode {
     let mut input = Watched::new(rt.stdin());
     let mut out = Watched::new(rt.stdout());
     let mut err = Watched::new(stderr);
-    ExitCode::from(run_tree(&job, &mut disk, &mut input, &mut out, &mut err))
+    let status = run_tree(&job, &mut disk, &mut input, &mut out, &mut err);
+    if disk.lacks_proc() && !arguments.quiet {
+        report_line(rt.alloc(), &mut err, &[WITHOUT_PROC]);
+    }
+    ExitCode::from(status)
 }
 
 /// Returns whether a terminal may show how many files are done. The last lines remove that, so
