@@ -123,6 +123,27 @@ move_folder() {
   ln -s ../outside src/folder
 }
 
+# Tests that -w writes into the file whose bytes were compared, and into no other one.
+writes_into_open_file() {
+  local number
+  options=(-w -DA)
+  small_tree
+  ln src/a.c linked.txt
+  number=$(strace -f -o /dev/stdout -e trace=statx "$TREE" -w -DA src 2> /dev/null |
+    grep 'statx(' | grep -n '/a.c"' | tail -n 1 | cut -d : -f 1)
+  small_tree
+  ln src/a.c linked.txt
+  put "$work/victim" "$text"
+  run_paused statx "$number" put_other
+  check '-w: another file after the last look: the one that was compared' holds linked.txt 'yes\n'
+  check '-w: another file after the last look: the other one' holds "$work/victim" "$text"
+}
+
+put_other() {
+  rm src/a.c
+  ln -s "$work/victim" src/a.c
+}
+
 put_pipe() {
   rm "$1"
   mkfifo "$1"
@@ -486,6 +507,7 @@ safety() {
     gives_to_open_file
     finds_same_file
     stays_in_tree
+    writes_into_open_file
     compares_bytes
     syncs
     fails_in_turn

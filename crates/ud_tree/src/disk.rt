@@ -12,7 +12,7 @@ use crate::folders::{Folders, other_file, text_of};
 use crate::tree::Tree;
 use std::alloc::{AllocError, Global};
 use std::fs::{self, Metadata, OpenFile, OpenOptions, Permissions};
-use std::io::{self, ErrorKind, Read, Write};
+use std::io::{self, ErrorKind, Read, Seek, SeekFrom, Write};
 use std::os::fd::AsFd;
 use std::os::unix::fs::{MetadataExt, OpenOptionsExt, PermissionsExt, fchown};
 use std::rt::Files;
@@ -31,6 +31,13 @@ const MODE: u32 = 0o7777;
 /// more as it is read.
 const MOST_RESERVED: u64 = 16 << 20;
 
+/// A file that is open for reading and writing.
+#[derive(Drop)]
+struct Opened<R: Files> {
+    name: Vec<u8>,
+    file: R::File,
+}
+
 /// The files of a runtime.
 #[derive(Drop)]
 pub struct Disk<'r, R: Files> {
@@ -38,6 +45,9 @@ pub struct Disk<'r, R: Files> {
     alloc: Global,
     /// The file that `create` made, and that wasn't renamed or removed yet.
     fresh: Option<R::File>,
+    /// The file that `may_write` opened. It is read again, and written into, without another look
+    /// at its path.
+    opened: Option<Opened<R>>,
     /// Why the last call failed that did.
     reason: Option<io::Error>,
     folders: Folders<R>,
@@ -51,6 +61,7 @@ impl<'r, R: Files> Disk<'r, R> {
             files,
             alloc,
             fresh: None,
+            opened: None,
             reason: None,
             folders: Folders::new(alloc),
             history: History::new(),
@@ -130,10 +141,37 @@ fn read_file<R: Files>(files: &R, path: &str, text: &mut Vec<u8>) -> io::Result<
     if !same_file(&file.metadata()?, &found) {
         return Err(other_file());
     }
+    read_rest(&mut file, &stat, text)?;
+    Ok(stat)
+}
+
+/// Reads what follows in a file.
+fn read_rest<F: Read>(file: &mut F, stat: &FileStat, text: &mut Vec<u8>) -> io::Result<()> {
     // Beside the file's bytes there is room to see that it has ended, so it takes two reads.
     let expected = stat.version.size.min(MOST_RESERVED) as usize;
     text.reserve_exact(expected + 1)?;
     file.read_to_end(text)?;
+    Ok(())
+}
+
+/// Does what `read_file` does with a file that was opened before. If another one has its name now,
+/// that one is opened. So a pipe that has the name isn't waited for.
+fn read_again<R: Files>(
+    files: &R,
+    path: &str,
+    file: &mut R::File,
+    text: &mut Vec<u8>,
+) -> io::Result<FileStat> {
+    let found = files.symlink_metadata(path)?;
+    let stat = stat_of(&found)?;
+    if !same_file(&file.metadata()?, &found) {
+        *file = open_to_write(files, path)?;
+        if !same_file(&file.metadata()?, &found) {
+            return Err(other_file());
+        }
+    }
+    let _start = file.seek(SeekFrom::Start(0))?;
+    read_rest(file, &stat, text)?;
     Ok(stat)
 }
 
@@ -151,6 +189,14 @@ fn open_to_write<R: Files>(files: &R, path: &str) -> io::Result<R::File> {
         }
     }
     Ok(file)
+}
+
+/// Opens a file as `open_to_write` does, and keeps its name.
+fn opened_at<R: Files>(files: &R, alloc: Global, path: &str, name: &[u8]) -> io::Result<Opened<R>> {
+    let file = open_to_write(files, path)?;
+    let mut owned = Vec::new(alloc);
+    owned.extend_from_slice(name)?;
+    Ok(Opened { name: owned, file })
 }
 
 /// Makes an empty file, which only the user may read and write.
@@ -190,8 +236,8 @@ fn set_mode_and_owner<F: OpenFile + AsFd + Drop>(file: &F, like: &FileStat) -> i
 }
 
 /// Writes `text` over the bytes of a file, and cuts off the rest.
-fn overwrite_file<R: Files>(files: &R, path: &str, text: &[u8]) -> io::Result<()> {
-    let mut file = open_to_write(files, path)?;
+fn overwrite_file<F: OpenFile + Write + Seek>(file: &mut F, text: &[u8]) -> io::Result<()> {
+    let _start = file.seek(SeekFrom::Start(0))?;
     file.write_all(text)?;
     match u64::try_from(text.len()) {
         Ok(len) => file.set_len(len)?,
@@ -225,7 +271,15 @@ where
 
     fn read(&mut self, name: &[u8], text: &mut Vec<u8>) -> Option<FileStat> {
         let read = match self.folders.place(self.files, name) {
-            Ok(place) => read_file(self.files, place.as_str(), text),
+            Ok(place) => match &mut self.opened {
+                Some(opened) if opened.name.as_slice() == name => {
+                    read_again(self.files, place.as_str(), &mut opened.file, text)
+                }
+                _ => {
+                    self.opened = None;
+                    read_file(self.files, place.as_str(), text)
+                }
+            },
             Err(error) => Err(error),
         };
         let answer = self.kept(read);
@@ -236,10 +290,11 @@ where
 
     fn may_write(&mut self, name: &[u8]) -> bool {
         let opened = match self.folders.place(self.files, name) {
-            Ok(place) => open_to_write(self.files, place.as_str()),
+            Ok(place) => opened_at(self.files, self.alloc, place.as_str(), name),
             Err(error) => Err(error),
         };
-        let answer = self.kept(opened).is_some();
+        self.opened = self.kept(opened);
+        let answer = self.opened.is_some();
         self.history = self.history.with(&FolderCall::MayWrite { name, answer });
         answer
     }
@@ -309,15 +364,18 @@ where
         let answer = self.kept(renamed).is_some();
         if answer {
             self.fresh = None;
+            self.opened = None;
         }
         self.history = self.history.with(&FolderCall::Rename { from, to, answer });
         answer
     }
 
     fn overwrite(&mut self, name: &[u8], text: &[u8]) -> bool {
-        let written = match self.folders.place(self.files, name) {
-            Ok(place) => overwrite_file(self.files, place.as_str(), text),
-            Err(error) => Err(error),
+        let written = match &mut self.opened {
+            Some(opened) if opened.name.as_slice() == name => {
+                overwrite_file(&mut opened.file, text)
+            }
+            _ => Err(io::Error::from(ErrorKind::NotFound)),
         };
         let answer = self.kept(written).is_some();
         self.history = self
