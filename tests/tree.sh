@@ -773,11 +773,7 @@ kills() {
     [ "$status" -ne 137 ] || killed=$((killed + 1))
     each_old_or_new "kill at $call $i"
     tree -DA src
-    if [ -n "$(find src -name '.unifdef-tree.*')" ]; then
-      check "kill at $call $i: what is left over is named" grep -q 'Another run is at it' "$work/err"
-      find src -name '.unifdef-tree.*' -delete
-      tree -DA src
-    fi
+    check "kill at $call $i: nothing left over" no_rest
     check "kill at $call $i: the rest later" holds src/a.c 'yes\n'
     check "kill at $call $i: the rest later" holds src/folder/b.c 'yes\n'
     check "kill at $call $i: the count" grep -q ', 1 faulty$' "$work/err"

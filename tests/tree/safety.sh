@@ -239,19 +239,45 @@ rename EIO
 EOT
 }
 
-# Tests the name that locks a second run out.
+# Tests the name that locks a second run out, and that a file which a killed run left is removed.
 locks() {
-  local long
+  local left long
   fresh_tree
   put src/a.c "$text"
   put src/.unifdef-tree.a.c 'left\n'
+  if has flock; then
+    flock src/.unifdef-tree.a.c "$TREE" -DA src 2> "$work/err"
+    check 'lock: status' same "$?" 2
+    check 'lock: message' has_line "$work/err" \
+      'unifdef-tree: src/a.c: Another run is at it; if none is, remove src/.unifdef-tree.a.c'
+    check 'lock: the file' holds src/a.c "$text"
+    check 'lock: the other one' holds src/.unifdef-tree.a.c 'left\n'
+  fi
+  tree -n -DA src
+  check 'left over: -n' holds src/.unifdef-tree.a.c 'left\n'
+  ln src/.unifdef-tree.a.c linked
   tree -DA src
-  check 'lock: status' same "$status" 2
-  check 'lock: message' has_line "$work/err" \
-    'unifdef-tree: src/a.c: Another run is at it; if none is, remove src/.unifdef-tree.a.c'
-  check 'lock: the file' holds src/a.c "$text"
-  check 'lock: the other one' holds src/.unifdef-tree.a.c 'left\n'
-  rm src/.unifdef-tree.a.c
+  check 'left over: status' same "$status $(cat "$work/err")" \
+    '1 unifdef-tree: 1 changed, 0 unchanged, 0 faulty'
+  check 'left over: the file' holds src/a.c 'yes\n'
+  check 'left over: is not written' holds linked 'left\n'
+  check 'left over: removed' no_rest
+  for left in link pipe folder; do
+    fresh_tree
+    put src/a.c "$text"
+    put mine 'mine\n'
+    case $left in
+      link) ln -s ../mine src/.unifdef-tree.a.c ;;
+      pipe) mkfifo src/.unifdef-tree.a.c ;;
+      folder) mkdir src/.unifdef-tree.a.c ;;
+    esac
+    tree -DA src
+    check "left over: a $left: message" has_line "$work/err" \
+      'unifdef-tree: src/a.c: Another run is at it; if none is, remove src/.unifdef-tree.a.c'
+    check "left over: a $left: stays" same "$(find src -mindepth 1 | wc -l)" 2
+    check "left over: a $left: what it leads to" holds mine 'mine\n'
+    rm -r src/.unifdef-tree.a.c
+  done
   long=$(printf '%0253d' 0).c
   put "src/$long" "$text"
   tree -DA src

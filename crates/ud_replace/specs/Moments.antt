@@ -21,7 +21,7 @@ use Rattle.ud_replace.specs.Calls.{renamed, overwrote, removed, walked}
 use Rattle.ud_replace.specs.Filling.{Takes, Confirms}
 use Rattle.ud_replace.specs.TextOutcomes.{TextOptions, TextOutcome, HasTextOutcome}
 
--- `Files`: the bytes of each file, by its name; `None` if no file has the name.
+-- `Files`: the bytes of each file, by its name; `None` if none has it, or if a killed run left it.
 abbrev pub Files : Type 0
 Files = List ℕ → Option (List ℕ)
 

@@ -41,7 +41,8 @@ pub enum ReplaceError {
     /// other links than when it was read.
     #[error("the file was changed meanwhile")]
     ChangedMeanwhile,
-    /// There is a file of the name for the new one: another run is at this file, or was killed.
+    /// There is a file of the name for the new one: another run is at this file. Or it was killed,
+    /// which can't be known.
     #[error("another run is at the file")]
     Locked,
     /// The output couldn't be written.

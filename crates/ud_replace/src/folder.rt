@@ -43,7 +43,8 @@ pub trait Folder {
     fn may_write(&mut self, name: &[u8]) -> bool
         ensures { history self.new ≡ asked name.now result ∷ history self.old };
 
-    /// Makes an empty file, which only the user may read and write. Its name must be free.
+    /// Makes an empty file, which only the user may read and write. Its name must be free. A file
+    /// that a run left over when it was killed counts as none, and is removed first.
     ///
     /// # Errors
     /// `Denied` if the folder can't be written, `Taken` if the name isn't free, and else `Failed`.

@@ -9,6 +9,7 @@ ghost use Rattle.ud_replace.specs.Calls.{walked};
 ghost use Rattle.ud_replace.specs.CallRecords.{walk_call_of};
 
 use crate::folders::{Folders, other_file, text_of};
+use crate::lock::Lock;
 use crate::tree::Tree;
 use std::alloc::{AllocError, Global};
 use std::fs::{self, Metadata, OpenFile, OpenOptions, Permissions};
@@ -199,13 +200,61 @@ fn opened_at<R: Files>(files: &R, alloc: Global, path: &str, name: &[u8]) -> io:
     Ok(Opened { name: owned, file })
 }
 
-/// Makes an empty file, which only the user may read and write.
-fn create_file<R: Files>(files: &R, path: &str) -> io::Result<R::File> {
-    OpenOptions::new()
+/// Makes an empty file, which only the user may read and write, and locks it. A file that a run
+/// left over under that name is removed first.
+fn create_file<R: Files>(files: &R, path: &str) -> io::Result<R::File>
+where
+    R::File: Lock,
+{
+    match create_new(files, path) {
+        Err(error) if error.kind() == ErrorKind::AlreadyExists => {
+            // It stays locked until the new one is there.
+            let Some(_left) = left_over(files, path) else {
+                return Err(error);
+            };
+            if files.remove_file(path).is_err() {
+                return Err(error);
+            }
+            create_new(files, path)
+        }
+        made => made,
+    }
+}
+
+/// Makes a file where there is none, and locks it. A file system without locks does without.
+fn create_new<R: Files>(files: &R, path: &str) -> io::Result<R::File>
+where
+    R::File: Lock,
+{
+    let file = OpenOptions::new()
         .write(true)
         .create_new(true)
         .mode(0o600)
-        .open(files, path)
+        .open(files, path)?;
+    // Another run may have taken the file for one that was left over, before it was locked.
+    match file.hold() {
+        Ok(false) => Err(io::Error::from(ErrorKind::AlreadyExists)),
+        Ok(true) | Err(_) => Ok(file),
+    }
+}
+
+/// Opens and locks a file that a run left over. `None` if a run may be at it, or if that can't be
+/// known.
+fn left_over<R: Files>(files: &R, path: &str) -> Option<R::File>
+where
+    R::File: Lock,
+{
+    let file = open_to_write(files, path).ok()?;
+    if !matches!(file.hold(), Ok(true)) {
+        return None;
+    }
+    // The run that had locked it may have renamed it, and then closed it.
+    let found = files.symlink_metadata(path).ok()?;
+    if same_file(&file.metadata().ok()?, &found) {
+        Some(file)
+    } else {
+        None
+    }
 }
 
 /// Writes some first bytes of `bytes`. Returns how many.
@@ -265,7 +314,7 @@ fn create_error(error: &io::Error) -> CreateError {
 
 impl<R: Files> Folder for Disk<'_, R>
 where
-    R::File: AsFd,
+    R::File: AsFd + Lock,
 {
     ghost history = { λ d. d.history.calls };
 
@@ -522,7 +571,7 @@ fn append_names(alloc: Global, packed: &[u8], names: &mut Vec<Vec<u8>>) -> Resul
 
 impl<R: Files> Tree for Disk<'_, R>
 where
-    R::File: AsFd,
+    R::File: AsFd + Lock,
 {
     fn node(&mut self, path: &str) -> Lookup {
         let answer = match node_at(self.files, &mut self.folders, path) {
