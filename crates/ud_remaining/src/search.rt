@@ -22,7 +22,7 @@ use crate::reasons::why_stays;
 use std::alloc::{AllocError, Global};
 use ud_cond::Symbols;
 use ud_model::{LINE_BYTES, Line, Mode};
-use ud_text::{Scanner, ScannerOf, line_in};
+use ud_text::{Scanner, ScannerOf, count_lines, line_in};
 
 /// The most bytes of a short line's body.
 const SHORT_LINE_BYTES: usize = 1024;
@@ -64,7 +64,7 @@ struct Taken<'t> {
 fn count_newlines(text: &[u8]) -> usize
     ensures { result ≡ count_by (λ b. b == 10) text.now }
 {
-    text.iter().filter(|byte| **byte == b'\n').count()
+    count_lines(text)
 }
 
 /// Reads a line that the scanner takes, and takes its text if it is of a condition. `after` is the

@@ -12,7 +12,7 @@ mod scan;
 mod searching;
 
 pub use bulk::hash_sign::is_other_word;
-pub use lines::{LineBuffer, Lines, LongLineBuffer, ShortLineBuffer, Taken, line_in};
+pub use lines::{LineBuffer, Lines, LongLineBuffer, ShortLineBuffer, Taken, count_lines, line_in};
 pub use scan::{Scanner, ScannerOf, first_mark, law_same_scans};
 pub use searching::last_line_start;
 pub use ud_faults::TextFault;

@@ -115,7 +115,7 @@ fn newlines_by_blocks(bytes: &[u8]) -> NewlineCount
 }
 
 /// Returns the number of whole lines.
-pub(crate) fn count_lines(bytes: &[u8]) -> usize
+pub fn count_lines(bytes: &[u8]) -> usize
     ensures { result ≡ length (whole_lines bytes.now) }
 {
     let counted = newlines_by_blocks(bytes);
