@@ -1,5 +1,6 @@
 -- Small inputs, computed by the checker, against values worked out by hand.
 pub mod CValueExamples
 pub mod SelectionExamples
+pub mod ProcessingExamples
 pub mod PresumedExamples
 pub mod ResidualExamples

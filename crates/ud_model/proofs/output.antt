@@ -19,6 +19,11 @@ pub mod PrintedPruned
 pub mod PrunedTree
 pub mod PrunedGroups
 pub mod SelectedPruned
+pub mod ProcessedPruned
+pub mod CProcessed
+pub mod ProcessedAlike
+pub mod ProcessedAnswers
+pub mod ProcessedOnce
 pub mod Each
 pub mod ByLength
 pub mod Changed

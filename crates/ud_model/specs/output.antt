@@ -14,3 +14,5 @@ pub mod SimplifiedTrees
 pub mod SimplifiedTexts
 pub mod LeftOperands
 pub mod SeveralLines
+pub mod Processing
+pub mod ProcessedFiles

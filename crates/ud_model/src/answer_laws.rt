@@ -12,8 +12,13 @@ ghost use Rattle.ud_model.specs.output.Rereading.{IsPlain, IsTreeOf, LinesFit, l
 ghost use Rattle.ud_model.specs.output.Rereading.{KeepsTruths, IsPlainC, PrintsText};
 ghost use Rattle.ud_model.specs.output.CSelection.{IsCWorld, SelectsAlike};
 ghost use Rattle.ud_model.specs.output.InsertedLines.{read_as};
+ghost use Rattle.ud_model.specs.output.Processing.{Processes, over_readings, DecidesAsC};
+ghost use Rattle.ud_model.specs.output.Processing.{HasOneChoice};
+ghost use Rattle.ud_model.specs.output.ProcessedFiles.{FileTree};
 ghost use Rattle.ud_model.specs.declared.kind.Mode.{Mode};
 ghost use Rattle.ud_model.specs.declared.settings.Listing.{Listing};
+
+use crate::output_laws::Preprocessing;
 
 /// A second run changes nothing.
 ///
@@ -51,6 +56,28 @@ pub fn law_answer_selects()
     ensures selected { (args : List (List ℕ)) (input : List ℕ) (a : Answer) →
         Succeeds args input a → IsPlainC (options_of args) →
         SelectsAlike (options_of args) input a.output }
+{}
+
+/// A program stays the same, file by file and include by include, unless `-t` is given.
+///
+/// The arguments only decide conditions, without `-t`. Each file of a tree is replaced by the
+/// answer to it, or stays as it is. A preprocessor goes through a file and those that it includes,
+/// and each line that it takes may change its state. It decides each condition in the state in
+/// which it is evaluated, in a way that C may if the options are true. Whatever state it can reach
+/// with the files, it can reach with their outputs, by the same lines in the same order (C11
+/// 5.1.1.2, 6.10.1p6, 6.10.2). If it has one choice at most each time, it reaches no other.
+pub fn law_answer_processed<P: Preprocessing>()
+    ensures as_before { (args : List (List ℕ)) → IsPlainC (options_of args) →
+        DecidesAsC (options_of args).table P.decides → (k : FileTree args P.File) (f : P.File)
+        (s t : P.State) →
+        let p = over_readings P.takes P.enters P.leaves P.decides in
+        Processes p k.before (k.before f) s t → Processes p k.after (k.after f) s t }
+    ensures only { (args : List (List ℕ)) → IsPlainC (options_of args) →
+        DecidesAsC (options_of args).table P.decides → (k : FileTree args P.File) (f : P.File)
+        (s t u : P.State) →
+        let p = over_readings P.takes P.enters P.leaves P.decides in
+        HasOneChoice p → Processes p k.before (k.before f) s t →
+        Processes p k.after (k.after f) s u → u ≡ t }
 {}
 
 /// The status reports whether output and input differ.

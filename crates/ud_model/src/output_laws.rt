@@ -2,7 +2,7 @@
 
 ghost use Rattle.std.specs.Prelude.{◌≡◌, ◌↔◌, ℕ, List, map, not, true, false, Bool, bytes_eq, None};
 ghost use Rattle.ud_model.specs.text.Lines.{lines_of};
-ghost use Rattle.ud_model.specs.text.Scans.{Reading};
+ghost use Rattle.ud_model.specs.text.Scans.{Scan, Reading};
 ghost use Rattle.ud_model.specs.sections.Tree.{Nodes, Tree, closed, lines, with_lines};
 ghost use Rattle.ud_model.specs.sections.Items.{Options, reading_of, mode_by};
 ghost use Rattle.ud_model.specs.answer.Outcomes.{Outcome, HasOutcome};
@@ -14,6 +14,8 @@ ghost use Rattle.ud_model.specs.output.Rereading.{line_bytes, edited_bytes, Keep
 ghost use Rattle.ud_model.specs.output.Rereading.{PrintsText, selected_bytes};
 ghost use Rattle.ud_model.specs.output.CSelection.{IsCWorld, condition_in, IsCPair};
 ghost use Rattle.ud_model.specs.output.InsertedLines.{read_as};
+ghost use Rattle.ud_model.specs.output.Processing.{Condition, Processes, over_readings, agreeing};
+ghost use Rattle.ud_model.specs.output.Processing.{of_origin};
 ghost use Rattle.ud_model.specs.declared.kind.Mode.{Mode};
 ghost use Rattle.ud_model.specs.declared.settings.Listing.{Listing};
 ghost use Rattle.ud_model.specs.declared.verdict.Verdict.{Verdict};
@@ -127,4 +129,35 @@ pub fn law_c_selects()
         (openers_in (pruned_lines k.before)) }
     ensures world { (k : CleanRun) → k.options.settings.plain ≡ false → (w v : World Reading) →
         IsCPair k.options w k.before v k.after → IsCWorld k.options.table v k.after }
+{}
+
+/// A preprocessor: what it may do in each state. It may have several choices, or none (C11 5.1.1.2,
+/// 6.10).
+pub trait Preprocessing {
+    /// All that is known between two lines: the macros, what was written, the open files.
+    type State;
+    /// A file that a line may include.
+    type File;
+    // A text line with these bytes and this scan leads from the first state to the second one.
+    ghost takes: { Self.State → List ℕ → Scan → Self.State → Type 0 };
+    // In the first state such a line includes the file, which begins in the second one.
+    ghost enters: { Self.State → List ℕ → Scan → Self.File → Self.State → Type 0 };
+    // After the end of an included file, in the first state, it goes on in the second one.
+    ghost leaves: { Self.State → Self.State → Type 0 };
+    // In the first state the condition may have this truth, and then the second state follows.
+    ghost decides: { Self.State → Condition → Bool → Self.State → Type 0 };
+}
+
+/// A preprocessor processes the pruned files as it processes the files, include by include.
+///
+/// A line may change the state or include a file, by the state that it is taken in. Each condition
+/// is decided in the state in which it is evaluated. Let these decisions agree with the decided
+/// conditions. Whatever state the files lead to, the pruned files then lead to it as well (C11
+/// 6.10.1p6, 6.10.2). A state may list the lines taken, so these are the same, in order.
+pub fn law_processed_tree<P: Preprocessing>()
+    ensures { let p = over_readings P.takes P.enters P.leaves P.decides in
+        (files : P.File → Nodes Reading) (outputs : P.File → Nodes (Edited Reading)) →
+        ((f : P.File) → IsPruned (files f) (outputs f)) → (f : P.File) (s t : P.State) →
+        Processes (agreeing p) files (files f) s t →
+        Processes (of_origin (agreeing p)) outputs (outputs f) s t }
 {}

@@ -55,25 +55,25 @@ sound_clear o _ _ (one_more xs t s l u e n) =
 
 -- 2. A directive whose condition is decided doesn't stay as it is.
 
-abbrev Decided : Cond → Type 0
+abbrev pub Decided : Cond → Type 0
 Decided Unknown = ⊥
 Decided _ = Unit {0}
 
-if_moves : (c : Cond) → Decided c → keeps_rest (verdict_so_far [] an_if c) ≡ false
+pub if_moves : (c : Cond) → Decided c → keeps_rest (verdict_so_far [] an_if c) ≡ false
 if_moves c d = grind arith
 
 elif_at : (s : Stage) (c : Cond) → Decided c → keeps_rest (verdict_at s an_elif c) ≡ false
 elif_at s c d = grind arith
 
-elif_moves : (cs : List Cond) (c : Cond) → Decided c → keeps_rest (verdict_so_far cs an_elif c) ≡ false
+pub elif_moves : (cs : List Cond) (c : Cond) → Decided c → keeps_rest (verdict_so_far cs an_elif c) ≡ false
 elif_moves cs c d = ap keeps_rest (verdict_by_stage cs an_elif c) ∙ elif_at (stage cs) c d
 
 -- 3. Down the tree.
 
-many_both : {A B : Type 0} (a c : List A) (b d : List B) → length a ≡ length b → length c ≡ length d → length (a ++ c) ≡ length (b ++ d)
+pub many_both : {A B : Type 0} (a c : List A) (b d : List B) → length a ≡ length b → length c ≡ length d → length (a ++ c) ≡ length (b ++ d)
 many_both a c b d e f = simp length-append (omega (arith, e, f))
 
-not_any : (cs : List Cond) (c : Cond) → any_true cs ≡ false → (c ≡ Yes → ⊥) → any_true (cs ++ c ∷ []) ≡ false
+pub not_any : (cs : List Cond) (c : Cond) → any_true cs ≡ false → (c ≡ Yes → ⊥) → any_true (cs ++ c ∷ []) ≡ false
 not_any [] Yes e n = absurd (n refl)
 not_any (Yes ∷ cs) c e n = cc
 not_any (No ∷ cs) c e n = not_any cs c e n

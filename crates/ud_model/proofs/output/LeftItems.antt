@@ -16,12 +16,14 @@ use Rattle.ud_model.specs.declared.kind.Kind.TheVariants.{Else, Endif}
 use Rattle.ud_model.specs.declared.kind.Role.{Role}
 use Rattle.ud_model.specs.declared.kind.Role.TheVariants.{IfGroup, ElifGroup, ElseGroup}
 use Rattle.ud_model.specs.declared.kind.Test.{Test}
+use Rattle.ud_model.specs.declared.kind.Test.TheVariants.{Nonzero, Defined, Undefined, Nothing}
+use Rattle.ud_model.specs.output.Processing.{Condition, condition_of_test, condition_with, condition_on}
 use Rattle.ud_model.specs.declared.verdict.Verdict.{Verdict}
 use Rattle.ud_model.specs.declared.verdict.Verdict.TheVariants.{ToIf, ToElse, ToEndif}
 use Rattle.ud_model.proofs.output.Suited.{Suits}
 use Rattle.ud_model.proofs.conditions.SpacesInFront.{condition_past, decided_past}
 use Rattle.ud_model.proofs.output.ExchangedContent.{spaced}
-use Rattle.ud_model.proofs.output.SeenLines.{Seen, scanned, left_seen}
+use Rattle.ud_model.proofs.output.SeenLines.{Seen, scanned, left_seen, text_scan_by}
 
 -- The second item is the output for the first one with this verdict.
 abbrev pub IsLeftOf : Verdict → Item Reading → Item Reading → Type 0
@@ -33,6 +35,23 @@ spaced_decision : (s q : Scan) (d : Directive) (k : Kind) (n : ℕ) (table : Lis
     (decision_on s d table rules).cond ≡ Unknown → decision_on q (spaced d k n) table rules ≡ decision_on s d table rules
 spaced_decision s q d k n table rules e u =
     grind (arith, decided_past)
+
+written_by : (p : Test) (t : List ℕ) (b : Bool) → condition_of_test p (32 ∷ 32 ∷ t) b ≡ condition_of_test p t b
+written_by Nothing t b = refl
+written_by Nonzero t b = refl
+written_by Defined t b = refl
+written_by Undefined t b = refl
+
+-- The condition is written as it was, but for white space before it.
+written_as : (r q : Reading) (d : Directive) (k : Kind) (n : ℕ) → content_of r.scan ≡ directive d → content_of q.scan ≡ directive (spaced d k n) → test_of k ≡ test_of d.kind →
+    q.scan.joins_after ≡ r.scan.joins_after → condition_on q ≡ condition_on r
+written_as r q d k n e f t j =
+    ap (λ (c : Content). condition_with q.scan c) f ∙ written_by (test_of k) d.after q.scan.joins_after
+    ∙ ap₂ (λ (p : Test) (b : Bool). condition_of_test p d.after b) t j ∙ sym (ap (λ (c : Content). condition_with r.scan c) e)
+
+same_seen : {a b : List ℕ} {c d : Option Expression} {e f : Condition} {g h : Option Scan} → a ≡ b → c ≡ d → e ≡ f → g ≡ h →
+    ◌≡◌ {A = Seen} (record { bytes = a; condition = c; written = e; text = g }) (record { bytes = b; condition = d; written = f; text = h })
+same_seen x y z w = cc
 
 module _ (o : Options) where
   item_as : (r : Reading) (d : Directive) (p : Role) → content_of r.scan ≡ directive d → role_of d.kind ≡ p →
@@ -51,7 +70,9 @@ module _ (o : Options) where
       ∙ ap₂ (λ (t : Bool) (x : Option Expression). if t then None else x) j
       (condition_past (test_of k) 32 (32 ∷ d.after) refl ∙ condition_past (test_of k) 32 d.after refl ∙ ap (λ (p : Test). condition_by_test p d.after) t)
       ∙ sym (ap (λ (c : Content). condition_by r.scan c) e) in
-      let s : scanned q ≡ left_seen (edited ToIf r) = ap₂ (λ (t : List ℕ) (x : Option Expression). record { bytes = t; condition = x }) b c in
+      let w : condition_on q ≡ condition_on r = written_as r q d k n e f t j in
+      let s : scanned q ≡ left_seen (edited ToIf r) =
+      same_seen b c w (ap (λ (c : Content). text_scan_by q.scan c) f) in
       ap (λ (y : Item Reading). item_with scanned y ∷ []) (item_as q (spaced d k n) IfGroup f g)
       ∙ ap₂ (λ (t : Seen) (c : Decision). if_line (record { line = t; cond = c.cond; ignoring = c.ignoring }) ∷ []) s
       (spaced_decision r.scan q.scan d k n o.table (rules_of o.settings) t u)

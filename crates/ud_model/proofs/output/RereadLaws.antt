@@ -161,6 +161,10 @@ module _ (k : CleanRun) where
   same_tree : k.after ≡ result.tree
   same_tree = same_nodes k.after result.tree (one_tree_of k.options k.outcome.output (closed k.after) (closed result.tree) k.of_output result.is_tree)
 
+  -- Each of its lines has the parts that stay of the line from which it comes.
+  pub seen_alike : with_lines scanned k.after ≡ with_lines left_seen (folded k.before)
+  seen_alike = ap (with_lines scanned) same_tree ∙ result.alike
+
   -- This tree is the pruned tree of the input.
   pub what_is_left : with_lines line_bytes k.after ≡ with_lines edited_bytes (folded k.before)
   what_is_left = ap (with_lines line_bytes) same_tree ∙ result.same
@@ -179,7 +183,7 @@ module _ (k : CleanRun) where
   conditions_folded =
       sym (map-twice scanned (λ (q : Seen). q.condition) (openers k.after))
       ∙ ap (λ (l : List Seen). map (λ (q : Seen). q.condition) l)
-      (sym (openers-with scanned k.after) ∙ ap (λ (m : Nodes Seen). openers m) (ap (with_lines scanned) same_tree ∙ result.alike) ∙ openers-with left_seen (folded k.before))
+      (sym (openers-with scanned k.after) ∙ ap (λ (m : Nodes Seen). openers m) seen_alike ∙ openers-with left_seen (folded k.before))
       ∙ map-twice left_seen (λ (q : Seen). q.condition) (openers (folded k.before)) ∙ kept_conditions (openers (folded k.before)) (pruned_keeps k.before)
 
   pub conditions_same : map condition_in (openers k.after) ≡ map (λ (e : Edited Reading). condition_in e.line) (openers_in (pruned_lines k.before))
@@ -193,7 +197,8 @@ module _ (k : CleanRun) where
       (length-map (openers_in (pruned_lines k.before)) (λ (e : Edited Reading). w e.line) ∙ sym (length-map (openers_in (pruned_lines k.before)) (λ (e : Edited Reading). condition_in e.line))
       ∙ ap (λ (l : List (Option Expression)). length l) (sym conditions_same) ∙ length-map (openers k.after) condition_in)
 
-clear_run : {o : Options} {input : List ℕ} {r : Outcome} → HasOutcome o input r → r.fault ≡ None → (ns : Nodes Reading) → IsTreeOf o input (closed ns) →
+-- Each line of an input without a fault is clear.
+pub clear_run : {o : Options} {input : List ℕ} {r : Outcome} → HasOutcome o input r → r.fault ≡ None → (ns : Nodes Reading) → IsTreeOf o input (closed ns) →
     Pairwise (Clear o) (lines (closed ns)) (marks (closed ns))
 clear_run (ran_as (stops xs t f s)) e ns a = cc
 clear_run {o = o} {input = input} (ran_as (ends xs t g)) e ns a =
@@ -207,7 +212,7 @@ module _ (k : CleanRun) (w : World Reading) (a : Agrees w k.before) (R : Option 
       EachReached v (λ o. R (condition_in o.line) (v o.line)) k.after
   reached_again v t g =
       reached_alike scanned left_seen v (λ (e : Edited Reading). w e.line) (λ (s : Seen) (b : Bool). R s.condition b) k.after (folded k.before)
-      (ap (with_lines scanned) (same_tree k) ∙ (result k).alike) (truths_folded w k.before v k.after t)
+      (seen_alike k) (truths_folded w k.before v k.after t)
       (pruned_reached w (λ (l : Reading). R (condition_in l) (w l)) (λ (e : Edited Reading). R (left_seen e).condition (w e.line)) still k.before a g)
     where
       still : (part : Part) (l : Reading) → R (condition_in l) (w l) → R (left_condition (first_kept_verdict part) l) (w l)

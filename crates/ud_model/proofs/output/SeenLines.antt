@@ -1,23 +1,37 @@
--- The parts that a line of the output has from the line from which it comes: its bytes, and the
--- condition of its directive.
-use Rattle.std.proofs.Common.{◌≡◌, ℕ, List, [], ◌∷◌, map, Option, None, refl, ap, ap₂}
-use Rattle.ud_model.specs.text.Scans.{Reading}
+-- The parts that a line of the output has from the line from which it comes: its bytes, the condition
+-- of its directive, and how it is read if it is text.
+use Rattle.std.proofs.Common.{◌≡◌, ℕ, List, [], ◌∷◌, map, Option, Some, None, refl, ap, ap₂}
+use Rattle.ud_model.specs.text.Scans.{Scan, Reading}
+use Rattle.ud_model.specs.sections.Directives.{Content, directive, content_of}
 use Rattle.ud_model.specs.conditions.Expressions.{Expression}
 use Rattle.ud_model.specs.sections.Tree.{Nodes, Groups, Elifs, nothing, text, section, conditional, otherwise, first, elif, opener_with_line, with_lines, groups_with_lines, elifs_with_lines}
 use Rattle.ud_model.specs.output.Pruned.{Edited}
 use Rattle.ud_model.specs.output.Rereading.{line_bytes, edited_bytes}
 use Rattle.ud_model.specs.output.CSelection.{condition_in}
+use Rattle.ud_model.specs.output.Processing.{Condition, no_condition, condition_on}
 use Rattle.ud_model.specs.declared.verdict.Verdict.{Verdict}
 use Rattle.ud_model.specs.declared.verdict.Verdict.TheVariants.{Keep, ToIf}
 
--- The bytes of a line, and the condition of its directive.
+-- The scan of a line with this content, if it is text.
+abbrev pub text_scan_by : Scan → Content → Option Scan
+text_scan_by scan (directive d) = None
+text_scan_by scan _ = Some scan
+
+-- The scan of a line that is text.
+abbrev pub text_scan : Reading → Option Scan
+text_scan r = text_scan_by r.scan (content_of r.scan)
+
+-- The bytes of a line, the condition of its directive, as an expression and as it is written, and
+-- its scan if it is text.
 pub record Seen : Type 0 where
   pub bytes : List ℕ
   pub condition : Option Expression
+  pub written : Condition
+  pub text : Option Scan
 
 -- The case of a line that was read.
 abbrev pub scanned : Reading → Seen
-scanned r = record { bytes = line_bytes r; condition = condition_in r }
+scanned r = record { bytes = line_bytes r; condition = condition_in r; written = condition_on r; text = text_scan r }
 
 -- An `#else` and an `#endif` have no condition.
 abbrev pub left_condition : Verdict → Reading → Option Expression
@@ -25,9 +39,24 @@ left_condition Keep r = condition_in r
 left_condition ToIf r = condition_in r
 left_condition _ _ = None
 
+abbrev pub left_written : Verdict → Reading → Condition
+left_written Keep r = condition_on r
+left_written ToIf r = condition_on r
+left_written _ _ = no_condition
+
+-- The scan of a line of the output, if it is text. An edited line is none.
+abbrev pub left_text : Verdict → Reading → Option Scan
+left_text Keep r = text_scan r
+left_text _ _ = None
+
 -- The case of a line of the pruned tree.
 abbrev pub left_seen : Edited Reading → Seen
-left_seen e = record { bytes = edited_bytes e; condition = left_condition e.verdict e.line }
+left_seen e = record {
+  bytes = edited_bytes e;
+  condition = left_condition e.verdict e.line;
+  written = left_written e.verdict e.line;
+  text = left_text e.verdict e.line;
+}
 
 module _ {A B C : Type 0} (f : A → B) (g : B → C) where
   mutual

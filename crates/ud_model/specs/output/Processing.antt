@@ -1,0 +1,196 @@
+-- Processing: what a preprocessor does with the files of a tree, in which lines change its state.
+-- C11 5.1.1.2, 6.10, 6.10.1p6, 6.10.2, 6.10.3.
+--
+--   Condition                  a condition as a directive has it
+--   condition_on r             the condition of the directive on the line `r`
+--   expression_written c       the expression that the condition `c` is, if it ends on its line
+--   Preprocessor S F L         what a preprocessor with the states `S` may do at lines `L`, which
+--                              may include the files `F`
+--   Processes p files ns s t   from the state `s`, `p` processes the nodes `ns`, and ends in `t`
+--   over_readings takes ..     the preprocessor with these choices over lines that were read
+--   DecidesAsC table decides   each condition is decided as C may
+--   HasOneChoice p             `p` has one choice at most in each state, as a program has
+--   agreeing p                 `p` with those decisions alone that agree with the decided
+--                              conditions
+--   of_origin p                `p` over the lines of an output, each taken as the line that it
+--                              comes from
+--
+-- A state has all that a preprocessor knows: its macros, the open files, what it has written. So
+-- what it does at a line may depend on each line before, in this file and in others. A file may be
+-- processed several times, also by its own lines. Where a preprocessor stops, as at `#error`, or
+-- in a state in which the options aren't true, it has no choice, and nothing is processed.
+--
+-- A text line is given with its scan. So a preprocessor knows what of the line is a comment. If the
+-- line isn't fresh, and no text before it goes on, it belongs to a directive and means nothing.
+--
+-- To evaluate a condition that ends on its line changes nothing. So this isn't about `__COUNTER__`
+-- in a condition. A condition that goes on is given by its first line alone. A state may have the
+-- truths of such conditions, those found and those to come. No line is given its number, so this
+-- isn't about `__LINE__`.
+--
+-- Example: of `#define A 1`, `#if A`, `x`, `#endif` the first line leads to a state in which the
+-- condition is true, and there `x` is taken.
+use Rattle.std.specs.Prelude.{◌≡◌, ℕ, List, [], Bool, true, false, Option, None, if◌then◌else◌}
+use Rattle.ud_model.specs.text.Bytes.{skip_white}
+use Rattle.ud_model.specs.text.Scans.{Scan, Reading}
+use Rattle.ud_model.specs.sections.Directives.{Content, cut_keyword, directive, text, content_of}
+use Rattle.ud_model.specs.sections.Directives.{test_of}
+use Rattle.ud_model.specs.conditions.Table.{Argument}
+use Rattle.ud_model.specs.conditions.Expressions.{Expression}
+use Rattle.ud_model.specs.declared.cond.Cond.{Cond}
+use Rattle.ud_model.specs.declared.cond.Cond.TheVariants.{Yes, No, Unknown}
+use Rattle.ud_model.specs.sections.Tree.{Opener, Nodes, Groups, Elifs, nothing, section}
+use Rattle.ud_model.specs.sections.Tree.{conditional, otherwise, first, elif, opener_with_line}
+use Rattle.ud_model.specs.sections.Tree as tree
+use Rattle.ud_model.specs.output.Pruned.{Edited}
+use Rattle.ud_model.specs.output.Rereading.{line_bytes}
+use Rattle.ud_model.specs.output.CSelection.{condition_by_test, MayBe}
+use Rattle.ud_model.specs.declared.kind.Test.{Test}
+use Rattle.ud_model.specs.declared.kind.Test.TheVariants.{Nothing}
+
+-- A condition as a directive has it: its test, the masked text after the keyword, without white
+-- space before it, and whether it goes on on the next line.
+pub record Condition : Type 0 where
+  pub test : Test
+  pub text : List ℕ
+  pub goes_on : Bool
+
+-- `no_condition`: that of a line without a condition.
+abbrev pub no_condition : Condition
+no_condition = record { test = Nothing; text = []; goes_on = false }
+
+-- `condition_of_test test after on`: the condition with this test and the text `after` the keyword.
+abbrev pub condition_of_test : Test → List ℕ → Bool → Condition
+condition_of_test Nothing after on = no_condition
+condition_of_test test after on = record { test = test; text = skip_white after; goes_on = on }
+
+-- `condition_with scan content`: the condition of a line with this content.
+abbrev pub condition_with : Scan → Content → Condition
+condition_with scan cut_keyword = no_condition
+condition_with scan text = no_condition
+condition_with scan (directive d) = condition_of_test (test_of d.kind) d.after scan.joins_after
+
+-- `condition_on r`: the condition of the directive on the line `r`.
+abbrev pub condition_on : Reading → Condition
+condition_on r = condition_with r.scan (content_of r.scan)
+
+-- `expression_written c`: the expression that the condition `c` is. It isn't known if the condition
+-- goes on on the next line.
+abbrev pub expression_written : Condition → Option Expression
+expression_written c = if c.goes_on then None else condition_by_test c.test c.text
+
+-- A preprocessor with the states `S`: the choices that it has at lines `L`, which may include the
+-- files `F`. It may have none.
+pub record Preprocessor (S F L : Type 0) : Type 1 where
+  -- `takes s l t`: the text line `l` leads from the state `s` to `t`.
+  pub takes : S → L → S → Type 0
+  -- `enters s l f t`: in the state `s` the text line `l` includes the file `f`, which begins in
+  -- the state `t`.
+  pub enters : S → L → F → S → Type 0
+  -- `leaves s t`: after the end of an included file, in the state `s`, it goes on in `t`.
+  pub leaves : S → S → Type 0
+  -- `decides s o b t`: in the state `s` the condition of the opener `o` may be `b`, and evaluating
+  -- it leads to the state `t`.
+  pub decides : S → Opener L → Bool → S → Type 0
+
+-- `NoneTrue p es s t`: the conditions of these groups, evaluated in order, are each false, and lead
+-- from the state `s` to `t`.
+pub data NoneTrue {S F L : Type 0} (p : Preprocessor S F L) : Elifs L → S → S → Type 0 where
+  first_false : {o : Opener L} {ns : Nodes L} {s t : S} → p.decides s o false t →
+      NoneTrue p (first o ns) s t
+  elif_false : {es : Elifs L} {o : Opener L} {ns : Nodes L} {s t u : S} → NoneTrue p es s t →
+      p.decides t o false u → NoneTrue p (elif es o ns) s u
+
+mutual
+  -- `Processes p files ns s t`: the nodes `ns` lead from the state `s` to `t`.
+  pub data Processes {S F L : Type 0} (p : Preprocessor S F L) (files : F → Nodes L) :
+      Nodes L → S → S → Type 0 where
+    no_nodes : {s : S} → Processes p files nothing s s
+    takes_line : {ns : Nodes L} {l : L} {s t u : S} → Processes p files ns s t →
+        p.takes t l u → Processes p files (tree.text ns l) s u
+    includes_file : {ns : Nodes L} {l : L} {f : F} {s t u v x : S} → Processes p files ns s t →
+        p.enters t l f u → Processes p files (files f) u v → p.leaves v x →
+        Processes p files (tree.text ns l) s x
+    selects_group : {ns : Nodes L} {gs : Groups L} {e : L} {s t u : S} →
+        Processes p files ns s t → ProcessesOne p files gs t u →
+        Processes p files (section ns gs e) s u
+
+  -- `ProcessesOne p files gs s t`: the one group of a section that is processed, if there is one,
+  -- leads from `s` to `t`. The group of `#else` is processed if no condition is true.
+  pub data ProcessesOne {S F L : Type 0} (p : Preprocessor S F L) (files : F → Nodes L) :
+      Groups L → S → S → Type 0 where
+    no_group : {es : Elifs L} {s t : S} → NoneTrue p es s t →
+        ProcessesOne p files (conditional es) s t
+    true_group : {es : Elifs L} {s t : S} → ProcessesTrue p files es s t →
+        ProcessesOne p files (conditional es) s t
+    true_before_else : {es : Elifs L} {l : L} {ns : Nodes L} {s t : S} →
+        ProcessesTrue p files es s t → ProcessesOne p files (otherwise es l ns) s t
+    else_group : {es : Elifs L} {l : L} {ns : Nodes L} {s t u : S} → NoneTrue p es s t →
+        Processes p files ns t u → ProcessesOne p files (otherwise es l ns) s u
+
+  -- `ProcessesTrue p files es s t`: the first group whose condition is true leads from `s` to `t`.
+  -- No condition after it is evaluated.
+  pub data ProcessesTrue {S F L : Type 0} (p : Preprocessor S F L) (files : F → Nodes L) :
+      Elifs L → S → S → Type 0 where
+    first_true : {o : Opener L} {ns : Nodes L} {s t u : S} → p.decides s o true t →
+        Processes p files ns t u → ProcessesTrue p files (first o ns) s u
+    true_before : {es : Elifs L} {o : Opener L} {ns : Nodes L} {s t : S} →
+        ProcessesTrue p files es s t → ProcessesTrue p files (elif es o ns) s t
+    elif_true : {es : Elifs L} {o : Opener L} {ns : Nodes L} {s t u v : S} →
+        NoneTrue p es s t → p.decides t o true u → Processes p files ns u v →
+        ProcessesTrue p files (elif es o ns) s v
+
+-- `AgreesAs c b s t`: a condition that is decided as `c` has the truth `b`, and the state after it,
+-- `t`, is the state before it, `s`.
+abbrev pub AgreesAs : {S : Type 0} → Cond → Bool → S → S → Type 0
+AgreesAs Yes b s t = (b ≡ true) × (s ≡ t)
+AgreesAs No b s t = (b ≡ false) × (s ≡ t)
+AgreesAs Unknown b s t = Unit {0}
+
+-- `over_readings takes enters leaves decides`: the preprocessor with these choices over lines that
+-- were read. A text line is its bytes and its scan, and an opener is its condition.
+abbrev pub over_readings : {S F : Type 0} → (S → List ℕ → Scan → S → Type 0) →
+    (S → List ℕ → Scan → F → S → Type 0) → (S → S → Type 0) → (S → Condition → Bool → S → Type 0) →
+    Preprocessor S F Reading
+over_readings takes enters leaves decides = record {
+  takes = λ s r t. takes s (line_bytes r) r.scan t;
+  enters = λ s r f t. enters s (line_bytes r) r.scan f t;
+  leaves = leaves;
+  decides = λ s o b t. decides s (condition_on o.line) b t;
+}
+
+-- `DecidesAsC table decides`: each truth that a condition may have is one that C may give it, as
+-- the symbols of the table are; and to evaluate a condition that ends on its line changes nothing.
+abbrev pub DecidesAsC : {S : Type 0} → List Argument → (S → Condition → Bool → S → Type 0) →
+    Type 0
+DecidesAsC {S} table decides = (s : S) (c : Condition) (b : Bool) (t : S) → decides s c b t →
+    MayBe table (expression_written c) b × (c.goes_on ≡ false → s ≡ t)
+
+-- `HasOneChoice p`: in each state `p` has one choice at most for each line, condition and end of a
+-- file.
+pub record HasOneChoice {S F L : Type 0} (p : Preprocessor S F L) : Type 0 where
+  pub one_step : (s : S) (l : L) (t u : S) → p.takes s l t → p.takes s l u → t ≡ u
+  pub one_kind : (s : S) (l : L) (f : F) (t u : S) → p.takes s l t → p.enters s l f u → ⊥
+  pub one_file : (s : S) (l : L) (f g : F) (t u : S) → p.enters s l f t → p.enters s l g u →
+      (f ≡ g) × (t ≡ u)
+  pub one_return : (s t u : S) → p.leaves s t → p.leaves s u → t ≡ u
+  pub one_truth : (s : S) (o : Opener L) (b c : Bool) (t u : S) → p.decides s o b t →
+      p.decides s o c u → (b ≡ c) × (t ≡ u)
+
+-- `agreeing p`: `p` with those decisions alone that agree with the decided conditions.
+abbrev pub agreeing : {S F L : Type 0} → Preprocessor S F L → Preprocessor S F L
+agreeing p = record {
+  takes = p.takes;
+  enters = p.enters;
+  leaves = p.leaves;
+  decides = λ s o b t. p.decides s o b t × AgreesAs o.cond b s t;
+}
+
+-- `of_origin p`: `p` over the lines of an output, each taken as the line that it comes from.
+abbrev pub of_origin : {S F L : Type 0} → Preprocessor S F L → Preprocessor S F (Edited L)
+of_origin p = record {
+  takes = λ s e t. p.takes s e.line t;
+  enters = λ s e f t. p.enters s e.line f t;
+  leaves = p.leaves;
+  decides = λ s o b t. p.decides s (opener_with_line (λ e. e.line) o) b t;
+}
