@@ -4,3 +4,4 @@ pub mod SelectionExamples
 pub mod ProcessingExamples
 pub mod PresumedExamples
 pub mod ResidualExamples
+pub mod FoldedExamples

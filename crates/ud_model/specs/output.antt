@@ -16,3 +16,4 @@ pub mod LeftOperands
 pub mod SeveralLines
 pub mod Processing
 pub mod ProcessedFiles
+pub mod FoldedTexts

@@ -1,7 +1,7 @@
 //! Laws of residuals: conditions and texts without the operands that the table decides.
 
 ghost use Rattle.std.specs.Prelude.{◌≡◌, ◌↔◌, ◌⊎◌, ℕ, List, [], ◌∷◌, ◌++◌, map};
-ghost use Rattle.std.specs.Prelude.{Some, Bool, false};
+ghost use Rattle.std.specs.Prelude.{Some, Bool, true, false};
 ghost use Rattle.ud_model.specs.text.Lines.{Line, lines_of};
 ghost use Rattle.ud_model.specs.text.Scans.{Reading};
 ghost use Rattle.ud_model.specs.text.Lexemes.{Cell, shown};
@@ -31,6 +31,8 @@ ghost use Rattle.ud_model.specs.output.SimplifiedTrees.{NodesSimplified, IsChose
 ghost use Rattle.ud_model.specs.output.SimplifiedTexts.{simplified_line, simplified_text};
 ghost use Rattle.ud_model.specs.output.LeftOperands.{IsReduced, MayStay};
 ghost use Rattle.ud_model.specs.output.SeveralLines.{joined_text, simplified_over_lines};
+ghost use Rattle.ud_model.specs.output.FoldedTexts.{folded_text, folded_line, is_foldable};
+ghost use Rattle.ud_model.specs.output.FoldedTexts.{read_text};
 ghost use Rattle.ud_model.specs.answer.CommandLine.{options_of};
 ghost use Rattle.ud_model.specs.answer.Answer.{Answer, IsAnswer, Succeeds, copy_answer};
 ghost use Rattle.ud_model.specs.declared.cond.Cond.{Cond};
@@ -214,6 +216,39 @@ pub fn law_answer_simplified()
         IsPlainC (options_of args) → LinesFit (lines_of a.output) →
         let text = simplified_text (options_of args).table (rules_of (options_of args).settings)
         a.output in IsAnswer args text (copy_answer args text) }
+{}
+
+/// A line that is folded is read as the lines that form it.
+///
+/// It has their bytes after phase 3 of translation, but for the vertical tabs, which are white
+/// space beside white space (C11 5.1.1.2).
+pub fn law_folded_lines()
+    ensures { (ls : List Line) → is_foldable ls ≡ true →
+        read_text (folded_line ls ∷ []) ≡ read_text ls }
+{}
+
+/// C selects the same lines of a text that is simplified while it is folded.
+///
+/// The run is over the folded input, and `final` is a text that gives the simplified output if it
+/// is folded. C reads a text as it reads the folded one (C11 5.1.1.2, phases 2 and 3). A further
+/// run over that copies it, without a fault, and no operand goes (unifdef(1)).
+pub fn law_answer_folded()
+    ensures selected { (args : List (List ℕ)) (input final : List ℕ) (a : Answer) →
+        Succeeds args (folded_text input) a → IsPlainC (options_of args) →
+        folded_text final ≡ simplified_text (options_of args).table
+        (rules_of (options_of args).settings) a.output → (ns us ss : Nodes Reading) →
+        IsTreeOf (options_of args) (folded_text input) (closed ns) →
+        IsTreeOf (options_of args) a.output (closed us) →
+        IsTreeOf (options_of args) (folded_text final) (closed ss) → (w x v : World Reading) →
+        IsCPair (options_of args) w ns x us → map v (openers ss) ≡ map x (openers us) →
+        selected_bytes v ss ≡ selected_bytes w ns }
+    ensures again { (args : List (List ℕ)) (input final : List ℕ) (a : Answer) →
+        Succeeds args (folded_text input) a → IsPlainC (options_of args) →
+        folded_text final ≡ simplified_text (options_of args).table
+        (rules_of (options_of args).settings) a.output → LinesFit (lines_of a.output) →
+        IsAnswer args (folded_text final) (copy_answer args (folded_text final)) ×
+        (simplified_text (options_of args).table (rules_of (options_of args).settings)
+        (folded_text final) ≡ folded_text final) }
 {}
 
 /// C selects the same lines of the simplified output as of the input, by any numbers.
