@@ -24,11 +24,6 @@ use Rattle.ud_io.specs.Streams.{Stream, TakesAllBut}
 use Rattle.ud_io.proofs.StreamLemmas.{stream_flushed, stream_appends, stream_cut}
 use Rattle.ud_engine.proofs.LinePartLemmas.{before_is, rest_is}
 
--- An empty rest is no line.
-no_last : (r : List ℕ) → (0 < length r → ⊥) → last_line r ≡ []
-no_last [] none = refl
-no_last (b ∷ bs) none = absurd (none (omega arith))
-
 module _ {S : Type 0} (represents : S → List Judged → Type 0) (piece_of : S → List Judged → Judged → List ℕ) (o : Options) (piece : List Judged → Judged → List ℕ)
     (e : EngineState S) (text printed : List ℕ) (fed : EngineRepresents represents piece_of e o piece text printed) where
   abbrev h : EngineRepresentsBuffered represents piece_of e o piece text printed
@@ -52,24 +47,6 @@ module _ {S : Type 0} (represents : S → List Judged → Type 0) (piece_of : S 
     };
     works = refl;
     written = fed.written;
-  }
-
-  -- If nothing is buffered, all lines are read.
-  pub all_read : (0 < length e.lines.held → ⊥) → lines_of text ≡ lines_so_far text
-  all_read none =
-      ap (numbered_from 1)
-      (ap (λ (r : List ℕ). whole_lines text ++ last_line r) (rest_is represents piece_of o piece e text printed h)
-      ∙ ap (λ (ls : List (List ℕ)). whole_lines text ++ ls) (no_last e.lines.held none) ∙ append-nil (whole_lines text))
-
-  pub ends_held : (a : Option (List ℕ)) → (0 < length e.lines.held → ⊥) → PrintsAll represents piece_of e.printer o piece text printed a a
-  ends_held a none = record {
-    items = h.items;
-    tree = h.tree;
-    goes = record { sound = h.goes.sound; are = all_read none ∙ h.goes.are };
-    has = h.has;
-    more = [];
-    printed_is = append-nil printed ∙ h.printed_is;
-    appended = Appends-nil a;
   }
 
   module _ (some : 0 < length e.lines.held) (lines : LinesState) (closed : lines ≡ record e.lines { closed = true }) (l : Line) (is : l ≡ line_at (suc lines.before) lines.held) where

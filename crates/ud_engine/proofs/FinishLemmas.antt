@@ -1,5 +1,5 @@
 -- Finish: the course and the end of a run, since it began.
-use Rattle.std.proofs.Common.{◌≡◌, ℕ, ◌≤◌, Bool, true, false, List, [], ◌++◌, length, Option, Result, Ok, Err, OnOk, refl, sym, subst, append-nil, arith}
+use Rattle.std.proofs.Common.{◌≡◌, ℕ, ◌≤◌, Bool, true, List, [], ◌++◌, length, Option, Result, Err, sym, subst, append-nil, arith}
 use Rattle.std.specs.Io.KnownBytes.{Consumes, Keeps, IsAtEnd}
 use Rattle.std.proofs.KnownBytes.{Appends-nil, Appends-trans, Consumes-nil, Consumes-trans, Consumes-kept}
 use Rattle.ud_model.specs.sections.Items.{Options}
@@ -9,9 +9,9 @@ use Rattle.ud_faults.specs.declared.run.RunFault.{RunFault}
 use Rattle.ud_faults.specs.declared.run.RunFault.TheVariants.{Read}
 use Rattle.ud_engine.specs.declared.pump.TheConstants.{CHUNK_BYTES}
 use Rattle.ud_engine.specs.Finishing.{Finishes, RunAnswers}
-use Rattle.ud_engine.specs.Feeding.{EngineState, EngineRepresents, FeedFails, Continues, WriterMatches}
-use Rattle.ud_engine.specs.Runs.{InProgress, RunFinished, ErrorMatchesStreams}
-use Rattle.ud_engine.proofs.RunLemmas.{own_piece, own_session, input_is, input_begins, lag, ended_ran, ended_appended, ended_read, ended_write, fed_read, fed_write, feed_appended, ran_early, the_err}
+use Rattle.ud_engine.specs.Feeding.{EngineState, EngineRepresents, FeedFails, Continues}
+use Rattle.ud_engine.specs.Runs.{InProgress, RunFinished}
+use Rattle.ud_engine.proofs.RunLemmas.{own_piece, own_session, input_is, input_begins, lag, ended_ran, ended_appended, feed_appended, ran_early, the_err}
 use Rattle.ud_engine.proofs.RunEndedLemmas.{printed_so_far, fed_ends, end_ends}
 
 -- A run begins.
@@ -75,29 +75,3 @@ module _ (o : Options) (e : EngineState Printer) (r₀ r₁ w₀ w₁ : Option (
       fed = goes.fed;
       appended = Appends-trans w₀ w₁ w₂ u.printed goes.more u.appended goes.appended;
     }
-
--- The result after a failed read.
-pub read_told : (reader writer : Bool) → reader ≡ true → writer ≡ false → ErrorMatchesStreams reader writer (Err Read)
-read_told reader writer failed works = record { works = tt; read_fails = (λ f. refl, λ f. failed); write_fails = (λ f. cc, λ f. cc) }
-
-module _ (o : Options) (b c : Option (List ℕ)) (printed : List ℕ) (reader writer : Bool) (reads : reader ≡ false) where
-  both_work : (result : Result Bool RunFault) → WriterMatches writer result → OnOk result ((reader ≡ false) × (writer ≡ false))
-  both_work (Ok d) works = (reads, works)
-  both_work (Err f) works = tt
-
-  -- The result at the end of the text, where a write may fail.
-  pub end_told : (given : List ℕ) (result : Result Bool RunFault) → WriterMatches writer result → Finishes (own_session o given printed) writer b c result →
-      ErrorMatchesStreams reader writer result
-  end_told given result works ends = record {
-    works = both_work result works;
-    read_fails = ended_read o b c given printed writer reader result reads ends;
-    write_fails = ended_write o b c given printed writer result works ends;
-  }
-
-  -- The result after a chunk is faulty, or a write of its output fails.
-  pub feed_told : (longer : List ℕ) (f : RunFault) → FeedFails o (own_piece o) writer b c longer printed f → ErrorMatchesStreams reader writer (Err f)
-  feed_told longer f fails = record {
-    works = tt;
-    read_fails = fed_read o b c longer printed writer reader f reads fails;
-    write_fails = fed_write o b c longer printed writer f fails;
-  }

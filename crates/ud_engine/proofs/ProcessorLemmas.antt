@@ -8,7 +8,6 @@ use Rattle.ud_model.specs.sections.Pruning.{Mark, marks}
 use Rattle.ud_model.specs.sections.Items.{Options, line_of, next_item}
 use Rattle.ud_model.specs.sections.Faults.{AreFaultless}
 use Rattle.ud_model.specs.answer.Printing.{Judged, judged_line, judged_lines, pieces_by, some_other}
-use Rattle.ud_model.specs.answer.Listing.{levels, listed}
 use Rattle.ud_model.specs.declared.settings.Listing.{Listing}
 use Rattle.ud_model.specs.declared.settings.Listing.TheVariants.{Off, Names, Depths}
 use Rattle.ud_model.proofs.answer.PrintingLemmas.{printed-more, differ-more}
@@ -19,7 +18,6 @@ use Rattle.ud_sections.specs.declared.sections.step.Step.{Step}
 use Rattle.ud_engine.specs.declared.line_processor.LineProcessor.{LineProcessor}
 use Rattle.ud_engine.specs.declared.line_decider.LineDecider.{LineDecider}
 use Rattle.ud_engine.specs.DecidedLines.{DecidesLine}
-use Rattle.ud_engine.specs.NameListing.{ListsMore, ListsLine}
 use Rattle.ud_engine.specs.ProcessedLines.{text_by, differs_in, lister_of, ProcessorRepresents, PrintsMore, IsAppended, ShowsLine, PrintsLine}
 use Rattle.ud_io.specs.Streams.{Stream}
 
@@ -71,16 +69,6 @@ is_off Off e = refl
 is_off Names e = cc
 is_off Depths e = cc
 
--- The lister's flag is whether names are listed with their depths.
-pub lists_more_text : (o : Options) (piece : List Judged → Judged → List ℕ) (xs : List (Item Reading)) (t u : Tree Reading) (l : Line) (depths : Bool) (more : List ℕ) →
-    lister_of o.settings.listing ≡ Some depths → ListsMore o xs t l depths u more → PrintsMore o piece xs t l u more
-lists_more_text o piece xs t u l depths more e m = by_listing o.settings.listing e
-  where
-    by_listing : (q : Listing) → lister_of q ≡ Some depths → text_by q piece (xs ++ next_item o xs t l ∷ []) u ≡ text_by q piece xs t ++ more
-    by_listing Off f = cc
-    by_listing Names f = let d : false ≡ depths = cc in subst (λ b. listed b (xs ++ next_item o xs t l ∷ []) (levels u) ≡ listed b xs (levels t) ++ more) (sym d) m
-    by_listing Depths f = let d : true ≡ depths = cc in subst (λ b. listed b (xs ++ next_item o xs t l ∷ []) (levels u) ≡ listed b xs (levels t) ++ more) (sym d) m
-
 -- If names are listed, no line differs.
 pub lists_same : (q : Listing) (depths : Bool) (piece : List Judged → Judged → List ℕ) (xs ys : List (Item Reading)) (t u : Tree Reading) →
     lister_of q ≡ Some depths → differs_in q piece xs t ≡ differs_in q piece ys u
@@ -96,26 +84,6 @@ not_off Depths depths e f = cc
 
 module _ {S : Type 0} (represents : S → List Judged → Type 0) (piece_of : S → List Judged → Judged → List ℕ) (o : Options)
     (piece : List Judged → Judged → List ℕ) (xs : List (Item Reading)) (t : Tree Reading) (l : Line) where
-  -- The line whose names were listed was printed.
-  pub lists_line : (p q : LineProcessor S) (depths : Bool) (old new : Stream) (buffered left pending : List ℕ) → ProcessorRepresents represents piece_of p o piece xs t →
-      p.lister ≡ Some depths → q.lister ≡ p.lister → q.printer ≡ p.printer → q.differs ≡ p.differs →
-      ListsLine o q.decider xs t l depths old new buffered left pending → PrintsLine represents piece_of q o piece xs t l true old new buffered left pending
-  lists_line p q depths old new buffered left pending h e same_lister same_printer same_differs one =
-      let d : lister_of o.settings.listing ≡ Some depths = sym h.lister ∙ e in
-      record {
-        tree = one.tree;
-        has = record {
-          has = one.has;
-          lister = same_lister ∙ h.lister;
-          shown = λ off. absurd (not_off o.settings.listing depths d off);
-          stays = λ before j. ap (λ r. piece_of r before j) same_printer ∙ h.stays before j;
-          differs = same_differs ∙ h.differs ∙ lists_same o.settings.listing depths piece xs (xs ++ next_item o xs t l ∷ []) t one.tree d;
-        };
-        more = one.more;
-        is_more = lists_more_text o piece xs t one.tree l depths one.more d one.is_more;
-        goes = one.sent;
-      }
-
   -- The printer's piece of the line is the definition's.
   piece_is : (p : LineProcessor S) (r : LineDecider) (step : Step) → (h : ProcessorRepresents represents piece_of p o piece xs t) → (one : DecidesLine o r xs t l step) →
       piece_of p.printer (judged_lines xs (marks t)) (record { line = l; verdict = step.verdict; keyword = as_span step.keyword })

@@ -1,5 +1,5 @@
 -- Readings: the meaning of a text in a state is that of the tree that is parsed in that state.
-use Rattle.std.proofs.Common.{◌≡◌, ℕ, List, [], ◌∷◌, Bool, true, false, if◌then◌else◌, leb, Option, option_map, refl, ◌∙◌, ap, arith}
+use Rattle.std.proofs.Common.{◌≡◌, ℕ, List, [], ◌∷◌, Bool, if◌then◌else◌, leb, Option, option_map, refl, ◌∙◌, ap, arith}
 use Rattle.ud_model.specs.conditions.Tokens.{Token}
 use Rattle.ud_model.specs.conditions.Expressions.{Expression, precedence}
 use Rattle.ud_model.specs.aids.Parsing.{Meaning, meaning, Frame, left, before, paren, ParseState, needs, has, asks, asks_inside, asks_end, stuck, reduce, wait, step, finish, parse_tokens, parse_all_tokens, tokens_of, reads, itself, expression_of}
@@ -37,11 +37,6 @@ module _ {A : Type 0} (m : Meaning A) where
 
   wait_meant : (o : Operator) (r : Expression × List (Frame Expression)) → wait m o (pair_meant r) ≡ state_meant (wait itself o r)
   wait_meant o (e, s) = refl
-
-  infix_meant : (b : Bool) (o : Operator) (e : Expression) (s : List (Frame Expression)) →
-      (if b then wait m o (reduce m (precedence o) (meaning m e) (frames_meant s)) else stuck) ≡ state_meant (if b then wait itself o (reduce itself (precedence o) e s) else stuck)
-  infix_meant true o e s = ap (wait m o) (reduce_meant (precedence o) e s) ∙ wait_meant o (reduce itself (precedence o) e s)
-  infix_meant false o e s = refl
 
   step_meant : (s : ParseState Expression) (t : Token) → step m (state_meant s) t ≡ state_meant (step itself s t)
   step_meant s t = grind (arith, reduce_meant)

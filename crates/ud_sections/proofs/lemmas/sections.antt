@@ -6,4 +6,3 @@ pub mod CheckLemmas
 pub mod TransitionLemmas
 pub mod MachineLemmas
 pub mod NextLemmas
-pub mod SettledLemmas

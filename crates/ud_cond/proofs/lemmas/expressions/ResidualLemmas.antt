@@ -59,15 +59,6 @@ module _ (rules : Rules) (o : Operator) (k j : Kept) (n q : ℕ) (a b : Part) (v
       (ap₂ (λ (t s : Bool). if t then true else if s then true else false) (sym u) (sym w))
       (ap (λ (x : Part). x.left_alone) e ∙ ap₂ (λ (t s : Bool). if t then j.left_alone else if s then k.left_alone else false) (sym u) (sym w)) refl first_is
 
-  pub join_both : is_unit o a.cond ≡ false → is_unit o b.cond ≡ false → (c : Cond) → c ≡ settled rules.strict o a.cond b.cond → record { value = v; number = m; cond = c; lost = false; left_alone = false; alone = false; first = a.first } ≡ part_of (joined_kept rules o k j) n
-  join_both h i c s =
-      let u : is_unit o k.cond ≡ false = left_unit h in
-      let w : is_unit o j.cond ≡ false = right_unit i in
-      part_same value_is number_is
-      (s ∙ ap₂ (λ (x y : Part). settled rules.strict o x.cond y.cond) e g ∙ ap₂ (λ (t r : Bool). if t then j.cond else if r then k.cond else settled rules.strict o k.cond j.cond) (sym u) (sym w))
-      (ap₂ (λ (t r : Bool). if t then true else if r then true else false) (sym u) (sym w))
-      (ap₂ (λ (t r : Bool). if t then j.left_alone else if r then k.left_alone else false) (sym u) (sym w)) refl first_is
-
   abbrev joined_by : Bool → Bool → List Bool
   joined_by t s = if t then replicate (length k.flags + 1) false ++ j.flags else if s then k.flags ++ replicate (suc (length j.flags)) false else k.flags ++ true ∷ j.flags
 
@@ -76,9 +67,6 @@ module _ (rules : Rules) (o : Operator) (k j : Kept) (n q : ℕ) (a b : Part) (v
 
   pub flags_left : is_unit o a.cond ≡ false → is_unit o b.cond ≡ true → k.flags ++ replicate (suc (length j.flags)) false ≡ (joined_kept rules o k j).flags
   flags_left h i = ap₂ joined_by (sym (left_unit h)) (sym (right_unit i))
-
-  pub flags_both : is_unit o a.cond ≡ false → is_unit o b.cond ≡ false → k.flags ++ true ∷ j.flags ≡ (joined_kept rules o k j).flags
-  flags_both h i = ap₂ joined_by (sym (left_unit h)) (sym (right_unit i))
 
 -- an operator other than `&&` and `||` makes an operand of its own
 pub other_binary : (rules : Rules) (o : Operator) (k j : Kept) → is_joining o ≡ false →

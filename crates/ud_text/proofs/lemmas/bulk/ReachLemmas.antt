@@ -8,7 +8,7 @@ use Rattle.std.proofs.Math.ListN.{length-drop}
 use Rattle.ud_model.specs.text.Bytes.{slash, star, backslash, number_sign, newline}
 use Rattle.ud_model.specs.text.Lines.{NoNewline}
 use Rattle.ud_model.specs.aids.LexStates.{LexState, in_text}
-use Rattle.ud_text.specs.bulk.BulkStates.{line_state, BulkState, code_state, block_state, inside_state, is_other_word, Skipped, bulk_state_after}
+use Rattle.ud_text.specs.bulk.BulkStates.{line_state, BulkState, code_state, block_state, inside_state, is_other_word, Skipped}
 use Rattle.ud_text.specs.bulk.BulkLexemes.{CodeLexeme, LineLexeme, IsSplice, IsWhiteAfter, all_white, new_line, black, LastLineStarts, IsLineStart, at_start, after_newline, NoStarPair, NoSignificant, is_significant, is_star_pair}
 use Rattle.ud_text.specs.bulk.Progress.{ReadTo, ReadOutside}
 use Rattle.ud_text.specs.bulk.Reaching.{Reached, ClosesAt}
@@ -256,16 +256,6 @@ module _ {start : BulkState} {bytes : List ℕ} {p : Reach} (r : Reached start b
       (begins_after r.read.before n r.read.plain (take n r.read.plain) refl w z l.begins)
       (sym (ap (λ (x : List ℕ). take (length r.read.before + n) x) r.read.mid_is ∙ take_past r.read.before r.read.plain n)) (omega (arith, m, w)) (omega (arith, z)) in
       subst (λ (k : ℕ). Skipped start (take k bytes) (code_state true)) there (passed_of begun)
-
-  -- A line that begins at the base: the lines before it are skipped.
-  pub reach_base : p.at_line_start ≡ true → Skipped start (take p.base bytes) (code_state p.begins)
-  reach_base e =
-      let at_base : r.line ≡ p.base = (r.at_line_start e).0 in
-      let a : r.line ≡ length r.read.so_far.prefix = r.read.so_far.line_is in
-      let b : p.base ≡ length r.read.so_far.prefix + length r.read.before = r.read.base_is in
-      let nothing : r.read.before ≡ [] = is_none r.read.before (omega (arith, a, b, at_base)) in
-      let is : r.kept ≡ code_state p.begins = ap (λ (l : List ℕ). bulk_state_after r.kept l) (sym nothing) ∙ r.read.base_leads ∙ ap (λ (u : Bool). code_state u) (r.at_line_start e).1 in
-      subst (λ (s : BulkState). Skipped start (take p.base bytes) s) is (subst (λ (n : ℕ). Skipped start (take n bytes) r.kept) at_base (passed_of r.read.so_far))
 
 -- Nothing is read yet.
 pub reach_start : (bytes : List ℕ) (w : LexState) (white : Bool) → w ≡ in_text →
