@@ -80,8 +80,7 @@ for shell in bash zsh fish; do
     echo "completions: $shell is not there, so it is left out"
     continue
   fi
-  offers "$shell" 'unifdef -' -S -j
-  offers "$shell" 'unifdef-tree -' -j -S
+  offers "$shell" 'unifdef -' -S -r
   offers "$shell" 'unifdef-tree -' -r -S
   case $shell in
     zsh) names='' ;;

@@ -162,7 +162,7 @@ keeps() {
   check 'keeps: links: status' same "$status" 2
   check 'keeps: links: message' has_line "$work/err" 'unifdef-tree: src/one.c: Has several links; -w writes into it'
   check 'keeps: links: text' holds src/one.c "$text"
-  tree -j1 -DA -w -- src src/one.c ./src/mode.c
+  tree -DA -w -- src src/one.c ./src/mode.c
   check 'keeps: status' same "$status" 1
   check 'keeps: count' has_line "$work/err" 'unifdef-tree: 3 changed, 1 unchanged, 0 faulty'
   check 'keeps: mode' same "$(stat -c %a src/mode.c)" 754
@@ -183,7 +183,7 @@ keeps() {
   check 'keeps: a link to a file that is named' same "$status $(head -n 1 "$work/err")" \
     '2 unifdef-tree: src/outside.c: Is a symbolic link'
   put src/one.c "$text"
-  tree -j1 -c -DA -w -- src/one.c src ./src
+  tree -c -DA -w -- src/one.c src ./src
   check 'keeps: each file once' holds src/two.c '#ifdef A\n#else\nno\n#endif\n'
 }
 
@@ -230,7 +230,7 @@ bad.c' 'x\n#else\n'
     check '-n: and the right one' diff -r is src
   fi
   local words
-  for words in '-D1A' '-Udefined' '-iXA' '-x3' '-j0' '-S' '-L' '-n -s' '-d -s' '-p -s' '-p -c' '-p -t' '-DA'; do
+  for words in '-D1A' '-Udefined' '-iXA' '-x3' '-S' '-L' '-n -s' '-d -s' '-p -s' '-p -c' '-p -t' '-DA'; do
     # shellcheck disable=SC2086
     tree $words src
     [ "$words" = -DA ] || check "refused: $words" same "$status" 2
@@ -243,7 +243,7 @@ bad.c' 'x\n#else\n'
     tree $words
     check "$words: status" same "$status $(cat "$work/err")" '0 '
     check "$words: usage" grep -q '^usage: unifdef-tree ' "$work/out"
-    check "$words: a line for each option" same "$(sed -n 's/^  -\(.\).*/\1/p' "$work/out" | sort -u | tr -d '\n')" '-0DKUVbcdghijklnpqrstwx'
+    check "$words: a line for each option" same "$(sed -n 's/^  -\(.\).*/\1/p' "$work/out" | sort -u | tr -d '\n')" '-0DKUVbcdghiklnpqrstwx'
   done
   (cd "$work/run" && "$TREE" -h > /dev/full 2> /dev/null)
   check '-h: the output can not be written' same "$?" 2
@@ -328,7 +328,6 @@ src/crlf.h:6: #elifdef A B \'
   put src/b.h '#ifdef X Y\n#endif\n'
   tree -s src
   check '-s: of one file' has_line "$work/err" 'unifdef-tree: 1 file listed, 0 faulty; 1 condition could not be listed'
-  tree -s -j 5 src
   check '-s: status 0' same "$status" 0
   fresh_tree
   put src/full.h "#if FULL$(printf '%65527s' '')\\n#endif\\n"
@@ -623,9 +622,9 @@ full_disk() {
   [ "$made" = no ] || printf '%s\n' "$big" > src/c.c
   cp -rL src was
   if [ "$made" = yes ]; then
-    tree -j1 -DA src
+    tree -DA src
   else
-    (ulimit -f 40 && tree -j1 -DA src; exit "$status")
+    (ulimit -f 40 && tree -DA src; exit "$status")
     status=$?
   fi
   check 'full disk: status' same "$status" 2

@@ -49,7 +49,6 @@ complete -c unifdef-tree -n __unifdef_tree_at_options -s 0 -d 'Read paths from s
 complete -c unifdef-tree -n __unifdef_tree_at_options -s d -d 'Print a diff of what is changed'
 complete -c unifdef-tree -n __unifdef_tree_at_options -s g -x -d 'Select files by name'
 complete -c unifdef-tree -n __unifdef_tree_at_options -s h -l help -d 'Print a line for each option'
-complete -c unifdef-tree -n __unifdef_tree_at_options -s j -x -d 'Read and ignored'
 complete -c unifdef-tree -n __unifdef_tree_at_options -s n -d 'Show what would change'
 complete -c unifdef-tree -n __unifdef_tree_at_options -s p -d 'Remove decided operands from conditions that stay'
 complete -c unifdef-tree -n __unifdef_tree_at_options -s q -d 'Leave out the counts'

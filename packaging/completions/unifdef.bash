@@ -66,14 +66,14 @@ _unifdef() {
       _unifdef_after '' '0 1 2'
       return
       ;;
-    -g | -j) return ;;
+    -g) return ;;
   esac
   case $typed in
     -iD* | -iU*) _unifdef_symbol "$command" "${typed:0:3}" "${typed:0:3}" ;;
     -D* | -U*) _unifdef_symbol "$command" "${typed:0:2}" "${typed:0:2}" ;;
     -*)
       if [ "$command" = unifdef-tree ]; then
-        _unifdef_after '' '-0 -b -c -D -d -g -h -iD -iU -j -K -k -l -n -p -q -r -s -t -U -V -w -x0 -x1 -x2 -- --help'
+        _unifdef_after '' '-0 -b -c -D -d -g -h -iD -iU -K -k -l -n -p -q -r -s -t -U -V -w -x0 -x1 -x2 -- --help'
       else
         _unifdef_after '' '-b -c -D -iD -iU -K -k -l -n -S -s -t -U -x0 -x1 -x2 --'
       fi

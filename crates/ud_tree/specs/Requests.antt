@@ -14,7 +14,7 @@ use Rattle.ud_model.specs.answer.CommandLine.{UsageFault, usage_fault, unknown_o
 use Rattle.ud_model.specs.answer.CommandLine.{missing_argument, bad_symbol_in, bad_mode_in}
 use Rattle.ud_model.specs.answer.CommandLine.{too_many_files}
 use Rattle.ud_args.specs.Plans.{IsPlanOf}
-use Rattle.ud_tree_args.specs.CommandLines.{Parsed, option, unknown, lacking, late, first_fault}
+use Rattle.ud_tree_args.specs.CommandLines.{Parsed, unknown, lacking, late, first_fault}
 use Rattle.ud_tree_args.specs.CommandLines.{has_flag, has_symbols, unifdef_words, patterns_in}
 use Rattle.ud_tree_args.specs.CommandLines.{paths_in}
 use Rattle.ud_tree.specs.declared.arguments.Task.{Task}
@@ -25,7 +25,7 @@ use Rattle.ud_tree.specs.declared.arguments.Request.TheVariants.{Help, Version, 
 use Rattle.ud_tree.specs.declared.arguments.ArgumentFault.{ArgumentFault}
 use Rattle.ud_tree.specs.declared.arguments.ArgumentFault.TheVariants.{UnknownOption}
 use Rattle.ud_tree.specs.declared.arguments.ArgumentFault.TheVariants.{MissingArgument, BadSymbol}
-use Rattle.ud_tree.specs.declared.arguments.ArgumentFault.TheVariants.{BadMode, BadJobs}
+use Rattle.ud_tree.specs.declared.arguments.ArgumentFault.TheVariants.{BadMode}
 use Rattle.ud_tree.specs.declared.arguments.ArgumentFault.TheVariants.{DiffAndNames}
 use Rattle.ud_tree.specs.declared.arguments.ArgumentFault.TheVariants.{ChangesAndNames}
 use Rattle.ud_tree.specs.declared.arguments.ArgumentFault.TheVariants.{PruningAndNames}
@@ -86,7 +86,6 @@ IsWordFault g (UnknownOption c) = g ≡ unknown c
 IsWordFault g (MissingArgument c) = g ≡ lacking c
 IsWordFault g (BadSymbol w) = ⊥
 IsWordFault g (BadMode w) = ⊥
-IsWordFault g (BadJobs w) = g ≡ option 106 (string_bytes w)
 IsWordFault g DiffAndNames = ⊥
 IsWordFault g ChangesAndNames = ⊥
 IsWordFault g PruningAndNames = ⊥
@@ -118,7 +117,6 @@ IsFaultIn gs (MissingArgument c) = (first_fault gs ≡ Some (lacking c)) ⊎
     HasUsage gs (missing_argument c)
 IsFaultIn gs (BadSymbol w) = IsBadWord bad_symbol_in gs (string_bytes w)
 IsFaultIn gs (BadMode w) = IsBadWord bad_mode_in gs (string_bytes w)
-IsFaultIn gs (BadJobs w) = first_fault gs ≡ Some (option 106 (string_bytes w))
 IsFaultIn gs DiffAndNames = AreGiven (codes "n") (codes "s") gs
 IsFaultIn gs ChangesAndNames = AreGiven (codes "d") (codes "s") gs
 IsFaultIn gs PruningAndNames = AreGiven (codes "p") (codes "s") gs

@@ -90,8 +90,6 @@ pub enum ArgumentFault {
     BadSymbol(String),
     /// An argument of `-x` that is no exit mode.
     BadMode(String),
-    /// An argument of `-j` that is no number of jobs.
-    BadJobs(String),
     /// `-n` and `-s` together.
     DiffAndNames,
     /// `-d` and `-s` together.
@@ -166,14 +164,12 @@ fn word_fault(alloc: Global, fault: Given<'_>) -> ArgumentFault
             Ok(word) => ArgumentFault::OptionAfterPath(word),
             Err(_) => ArgumentFault::OutOfMemory,
         },
-        Given::WithArgument {
+        Given::Flag { letter: _ }
+        | Given::WithArgument {
             letter: _,
-            argument,
-        } => match String::from_str(alloc, argument) {
-            Ok(argument) => ArgumentFault::BadJobs(argument),
-            Err(_) => ArgumentFault::OutOfMemory,
-        },
-        Given::Flag { letter: _ } | Given::Path { word: _ } => unreachable!(),
+            argument: _,
+        }
+        | Given::Path { word: _ } => unreachable!(),
     }
 }
 

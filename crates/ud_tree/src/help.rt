@@ -8,7 +8,7 @@ use std::io::Write;
 use ud_io::{Watched, send, send_parts};
 
 /// A line for each option.
-const OPTIONS: [&[u8]; 24] = [
+const OPTIONS: [&[u8]; 23] = [
     b"  -0            read the paths from standard input, each ended by a null byte",
     b"  -b            leave removed lines blank",
     b"  -c            complement: keep what would be removed, and remove what would be kept",
@@ -18,7 +18,6 @@ const OPTIONS: [&[u8]; 24] = [
     b"  -h, --help    print this help",
     b"  -iDsym[=val]  as -D, and read text in sections of the symbol as plain text",
     b"  -iUsym        as -U, and read text in sections of the symbol as plain text",
-    b"  -j jobs       read and ignored",
     b"  -K            leave && and || unknown if an operand is",
     b"  -k            decide constant expressions",
     b"  -l            as -b",

@@ -394,9 +394,6 @@ pub fn report_argument_fault<E: Write>(alloc: Global, err: &mut Watched<E>, faul
             let mode = word.strip_prefix(b"-x".as_slice()).unwrap_or(word);
             report_line(alloc, err, &[b"Bad exit mode: ", mode]);
         }
-        ArgumentFault::BadJobs(word) => {
-            report_line(alloc, err, &[b"Bad number of jobs: ", word.as_bytes()]);
-        }
         ArgumentFault::DiffAndNames => report_line(alloc, err, &[b"-n and -s don't go together"]),
         ArgumentFault::ChangesAndNames => {
             report_line(alloc, err, &[b"-d and -s don't go together"]);

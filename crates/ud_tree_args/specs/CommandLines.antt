@@ -19,11 +19,10 @@
 --
 -- Example: the words `-nDA` and `src` give the flag `n`, the option `D` with `A`, and the path
 -- `src`.
-use Rattle.std.specs.Prelude.{ℕ, List, [], ◌∷◌, ◌++◌, map, Bool, true, false, ◌&&◌, ◌==◌}
-use Rattle.std.specs.Prelude.{not, Option, Some, None, bytes_eq, codes, encode_utf8}
-use Rattle.std.specs.Prelude.{encode_utf8_all, if◌then◌else◌, nat_eq}
-use Rattle.std.specs.Char.{is_ascii_digit}
-use Rattle.std.specs.List.{filter_map, list_any, list_all, starts_with}
+use Rattle.std.specs.Prelude.{ℕ, List, [], ◌∷◌, ◌++◌, map, Bool, true, false, ◌==◌}
+use Rattle.std.specs.Prelude.{Option, Some, None, bytes_eq, codes, encode_utf8}
+use Rattle.std.specs.Prelude.{encode_utf8_all, if◌then◌else◌}
+use Rattle.std.specs.List.{filter_map, list_any}
 use Rattle.ud_model.specs.answer.CommandLine.{has_letter, option_letters}
 
 -- An option, a path, or a fault in the words.
@@ -46,7 +45,7 @@ is_flag c = has_letter (codes "0bcdhKklnpqrstVw") c
 
 -- `takes_argument c`: `c` is the letter of an option with an argument.
 abbrev pub takes_argument : ℕ → Bool
-takes_argument c = has_letter (codes "DUgijx") c
+takes_argument c = has_letter (codes "DUgix") c
 
 -- `option_then c letters next rest`: the option `c` with the letters after it in its word as its
 -- argument, and then `rest`. If there are no letters, that is `next`.
@@ -93,16 +92,11 @@ parsed_next None after_path (w ∷ ws) =
 abbrev pub parsed_words : List (List ℕ) → List Parsed
 parsed_words words = parsed_next None false words
 
--- `is_job_count a`: `a` is a number above 0, without a 0 before it.
-abbrev pub is_job_count : List ℕ → Bool
-is_job_count a = not (bytes_eq a []) && not (starts_with nat_eq a (codes "0")) &&
-    list_all is_ascii_digit a
-
 -- `is_fault g`: `g` is a fault of the words: a letter that is no option, an option without its
--- argument, one after a path, or one of `-j` that is no number of jobs.
+-- argument, or one after a path.
 abbrev pub is_fault : Parsed → Bool
 is_fault (flag c) = false
-is_fault (option c a) = c == 106 && not (is_job_count a)
+is_fault (option c a) = false
 is_fault (path w) = false
 is_fault (unknown c) = true
 is_fault (lacking c) = true

@@ -246,5 +246,5 @@ fn is_flag(letter: char) -> bool
 fn takes_argument(letter: char) -> bool
     ensures { result ≡ takes_argument letter }
 {
-    matches!(letter, 'D' | 'U' | 'g' | 'i' | 'j' | 'x')
+    matches!(letter, 'D' | 'U' | 'g' | 'i' | 'x')
 }

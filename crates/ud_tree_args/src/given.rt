@@ -1,13 +1,11 @@
 //! What the words of a command line give.
 
 ghost use Rattle.std.specs.Prelude.{◌≡◌, ◌∷◌, [], IfOk, map, string_bytes, option_map, codes};
-ghost use Rattle.ud_tree_args.specs.CommandLines.{is_fault, is_flag_of, is_job_count, names_symbol};
+ghost use Rattle.ud_tree_args.specs.CommandLines.{is_fault, is_flag_of, names_symbol};
 ghost use Rattle.ud_tree_args.specs.CommandLines.{has_flag, has_symbols, first_fault};
 ghost use Rattle.ud_tree_args.specs.CommandLines.{unifdef_word, unifdef_words};
 ghost use Rattle.ud_tree_args.specs.CommandLines.{patterns_in, pattern_of};
 ghost use Rattle.ud_tree_args.specs.CommandLines.{paths_in, path_of, option_word};
-ghost use Rattle.std.specs.Char.{is_ascii_digit};
-ghost use Rattle.std.specs.List.{list_all};
 ghost use Rattle.ud_model.specs.answer.CommandLine.{has_letter};
 ghost use Rattle.ud_tree_args.specs.GivenWords.{as_parsed, parsed};
 
@@ -36,10 +34,12 @@ impl<'a> Given<'a> {
         ensures { result ≡ is_fault (as_parsed self.now) }
     {
         match *self {
-            Given::Flag { letter: _ } | Given::Path { word: _ } => false,
-            Given::WithArgument { letter, argument } => {
-                letter == 'j' && !is_job_count(argument.as_bytes())
+            Given::Flag { letter: _ }
+            | Given::WithArgument {
+                letter: _,
+                argument: _,
             }
+            | Given::Path { word: _ } => false,
             Given::Unknown { letter: _ }
             | Given::MissingArgument { letter: _ }
             | Given::Late { word: _ } => true,
@@ -219,21 +219,4 @@ fn is_unifdef_option(letter: char) -> bool
     ensures { result ≡ has_letter (codes "DUix") letter }
 {
     matches!(letter, 'D' | 'U' | 'i' | 'x')
-}
-
-/// Returns whether an argument of `-j` is a number above 0, without a 0 before it.
-fn is_job_count(argument: &[u8]) -> bool
-    ensures { result ≡ is_job_count argument.now }
-{
-    if argument.is_empty() || argument.starts_with(b"0") {
-        return false;
-    }
-    are_digits(argument)
-}
-
-/// Returns whether all bytes are decimal digits.
-fn are_digits(bytes: &[u8]) -> bool
-    ensures { result ≡ list_all is_ascii_digit bytes.now }
-{
-    bytes.iter().all(u8::is_ascii_digit)
 }
