@@ -8,7 +8,6 @@ pub mod LexemeLemmas
 pub mod NameLemmas
 pub mod LookLemmas
 pub mod QuotedLemmas
-pub mod OnlyQuotesLemmas
 pub mod ProgressLemmas
 pub mod HashLemmas
 pub mod BlockLemmas

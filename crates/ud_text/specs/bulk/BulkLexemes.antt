@@ -2,7 +2,6 @@
 --
 --   is_significant b              outside comments and literals `b` may matter
 --   NoHash bytes                  no byte is a `#`
---   OnlyQuotes bytes              no byte is a slash, a backslash or a `#`
 --   is_star_pair a b              a star before a slash or a backslash
 --   NoStarPair bytes              the bytes have no star pair
 --   LastLineStarts bytes n        the last line of the bytes begins after the first `n` of them
@@ -39,14 +38,6 @@ NoSignificant (b ∷ bytes) = (is_significant b ≡ false) × NoSignificant byte
 abbrev pub NoHash : List ℕ → Type 0
 NoHash [] = Unit {0}
 NoHash (b ∷ bytes) = ((b == number_sign) ≡ false) × NoHash bytes
-
--- `OnlyQuotes bytes`: of the bytes only quotes are significant: none is a slash, a backslash or a
--- `#`
-abbrev pub OnlyQuotes : List ℕ → Type 0
-OnlyQuotes [] = Unit {0}
-OnlyQuotes (b ∷ bytes) =
-    (((b == slash) ≡ false) × ((b == backslash) ≡ false) × ((b == number_sign) ≡ false)) ×
-    OnlyQuotes bytes
 
 -- `is_star_pair a b`: a star before a slash or a backslash
 abbrev pub is_star_pair : ℕ → ℕ → Bool

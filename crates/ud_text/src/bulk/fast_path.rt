@@ -5,18 +5,17 @@
 //! line on which a comment ends needs what is left out. The result is then `None`, and `skip_again`
 //! of bulk.rt reads the bytes anew.
 //!
-//! From a quote on, the rest of a line is mostly read at once, whatever its literals are. After a
-//! short line so are the short lines that follow it.
+//! From a quote on, the rest of a line is mostly read at once, whatever its literals are.
 //!
 //! A new kind of lexeme is a step here and one in bulk.rt.
 
 ghost use Rattle.std.specs.Prelude.{◌≡◌, ◌≤◌, ◌<◌, ◌+◌, ◌-◌, Bool, ℕ, [], ◌∷◌, length, take, drop};
 ghost use Rattle.std.specs.Prelude.{slice_index, true};
 ghost use Rattle.std.specs.Prelude.{false, IfSome};
-ghost use Rattle.ud_model.specs.text.Bytes.{slash, star, number_sign, newline, is_quote};
+ghost use Rattle.ud_model.specs.text.Bytes.{slash, star, number_sign, is_quote};
 ghost use Rattle.ud_text.specs.bulk.BulkStates.{BulkState, can_start};
 ghost use Rattle.ud_text.specs.bulk.Blocks.{IsBlock};
-ghost use Rattle.ud_text.specs.bulk.BulkLexemes.{is_star_pair, IsSplice, LineLexeme};
+ghost use Rattle.ud_text.specs.bulk.BulkLexemes.{is_star_pair, IsSplice};
 ghost use Rattle.ud_text.specs.bulk.Progress.{SkippedBy, ReadTo, bulk_state_of};
 ghost use Rattle.ud_text.specs.bulk.Reaching.{Reached, InReach, ClosesAt, GoesOn};
 ghost use Rattle.ud_text.specs.scan.LexerViews.{lex_state_of};
@@ -25,14 +24,10 @@ use crate::bulk::LineStart;
 use crate::bulk::blocks::{Block, next_significant, no_block};
 use crate::bulk::hash_sign::{is_line_white_after, other_word_len};
 use crate::bulk::lexeme_lengths::{
-    is_quote, lexeme_len, line_comment_len, literal_len, quoted_line_len, short_lines_len,
-    splice_len,
+    is_quote, lexeme_len, line_comment_len, literal_len, quoted_line_len, splice_len,
 };
 use crate::scan::lexer::{LexState, Lexer};
 use crate::searching::{is_star_pair, last_line_start};
-
-/// The most bytes of a line with a quote after which short lines are looked for.
-const SHORT_LINE_BYTES: usize = 16;
 
 /// The number of bytes after a splice in which no quote is looked at with the rest of its line. The
 /// line mostly ends in a splice too.
@@ -241,23 +236,8 @@ fn literal_step(lines: &[u8], p: Reach) -> Option<Reach>
     })
 }
 
-/// Returns the length of leading short lines in which only quotes are significant, as
-/// `short_lines_len` does. Returns 0 after a line of more than `SHORT_LINE_BYTES`: it has `before`
-/// bytes.
-#[inline(always)]
-fn lines_after_len(bytes: &[u8], before: usize) -> usize
-    ensures bound { result ≤ length bytes.now }
-    ensures read { 0 < result → (white : Bool) → LineLexeme white (take result bytes.now) }
-    ensures ends { 0 < result → slice_index bytes.now (result - 1) ≡ newline }
-{
-    if before > SHORT_LINE_BYTES {
-        return 0;
-    }
-    short_lines_len(bytes)
-}
-
-/// Skips the rest of the line, from a quote on, and the short lines after a short one. Skips the
-/// literal alone if the line may end in a block comment or in a splice.
+/// Skips the rest of the line, from a quote on. Skips the literal alone if the line may end in a
+/// block comment or in a splice.
 #[inline(always)]
 fn quote_step(lines: &[u8], p: Reach) -> Option<Reach>
     requires order { InReach p lines.now }
@@ -272,7 +252,6 @@ fn quote_step(lines: &[u8], p: Reach) -> Option<Reach>
     match quoted_line_len(&lines[p.at..]) {
         Ok(count) => {
             let at = p.at + count;
-            let at = at + lines_after_len(&lines[at..], at - p.base);
             Some(Reach {
                 base: at,
                 at_line_start: true,

@@ -8,10 +8,10 @@ ghost use Rattle.std.specs.Prelude.{slice_index};
 ghost use Rattle.std.specs.Prelude.{false, IfSome, OnSome, IfOk, IfErr};
 ghost use Rattle.ud_model.specs.text.Bytes.{slash, backslash, newline, is_quote};
 ghost use Rattle.ud_text.specs.bulk.BulkLexemes.{is_significant, CodeLexeme, LineLexeme, IsSplice};
-ghost use Rattle.ud_text.specs.bulk.BulkLexemes.{may_splice, OnlyQuotes};
+ghost use Rattle.ud_text.specs.bulk.BulkLexemes.{may_splice};
 
-use crate::searching::simd::{find_in_lanes, find_near};
-use crate::searching::{is_significant, last_line_start};
+use crate::searching::is_significant;
+use crate::searching::simd::find_near;
 use memchr::memchr;
 
 /// Returns whether `byte` is a quote.
@@ -187,44 +187,6 @@ pub(crate) fn quoted_line_len(rest: &[u8]) -> Result<usize, usize>
         }
     }
     Err(at)
-}
-
-/// The number of bytes that are looked at together in short lines.
-const STEP_BYTES: usize = 16;
-
-/// Returns the length of leading bytes in which only quotes are significant: all steps of
-/// `STEP_BYTES` before the first one that has another significant byte or no newline.
-fn only_quotes_len(bytes: &[u8]) -> usize
-    ensures bound { result ≤ length bytes.now }
-    ensures quotes { OnlyQuotes (take result bytes.now) }
-{
-    let mut at = 0;
-    while bytes.len() - at >= STEP_BYTES {
-        let others = [b'/', b'\\', b'#', b'#', b'#'];
-        if find_in_lanes::<STEP_BYTES>(bytes, at, others) != STEP_BYTES {
-            return at;
-        }
-        if find_in_lanes::<STEP_BYTES>(bytes, at, [b'\n'; 5]) == STEP_BYTES {
-            return at;
-        }
-        at += STEP_BYTES;
-    }
-    at
-}
-
-/// Returns the length of leading short lines in which only quotes are significant. Each line after
-/// them begins outside comments and literals, whatever their literals are.
-#[inline(never)]
-pub(crate) fn short_lines_len(bytes: &[u8]) -> usize
-    ensures bound { result ≤ length bytes.now }
-    ensures read { 0 < result → (white : Bool) → LineLexeme white (take result bytes.now) }
-    ensures ends { 0 < result → slice_index bytes.now (result - 1) ≡ newline }
-{
-    let count = only_quotes_len(bytes);
-    if count == 0 {
-        return 0;
-    }
-    last_line_start(&bytes[..count])
 }
 
 /// Returns the length of what a slash, a backslash or a quote begins outside comments.

@@ -262,19 +262,6 @@ pub reach_start : (bytes : List ℕ) (w : LexState) (white : Bool) → w ≡ in_
     Reached (line_state w white) bytes (at_base 0 true white 0)
 reach_start bytes w white e = record { line = 0; kept = line_state w white; begins = white; read = start_read bytes w white e; at_line_start = λ _. (refl, refl) }
 
--- Further lines are read, if there are any.
-pub reach_lines : {start : BulkState} {bytes : List ℕ} (at searched : ℕ) →
-    Reached start bytes (at_base at true true searched) → (k : ℕ) →
-    k ≤ length (take (length bytes - at) (drop at bytes)) →
-    (0 < k → (u : Bool) → LineLexeme u (take k (take (length bytes - at) (drop at bytes)))) →
-    (0 < k → get_or (take (length bytes - at) (drop at bytes)) (k - 1) 0 ≡ newline) →
-    Reached start bytes (at_base (at + k) true true searched)
-reach_lines {start = start} {bytes = bytes} at searched r zero h t e =
-    let same : at ≡ at + 0 = omega arith in
-    subst (λ (n : ℕ). Reached start bytes (at_base n true true searched)) same r
-reach_lines at searched r (suc k) h t e =
-    reach_comment r (suc k) (omega arith) h (t (omega arith)) (e (omega arith))
-
 -- No star pair ends before the next significant byte.
 pub none_on : (bytes : List ℕ) (at from end : ℕ) → end ≡ from + position_or_len is_significant (drop from bytes) →
     ((k : ℕ) → at ≤ k → k + 1 < from → is_star_pair (get_or bytes k 0) (get_or bytes (k + 1) 0) ≡ false) →
