@@ -107,9 +107,6 @@ fn begins_conditional(line: &[u8]) -> bool
         (λ rest. result ≡ not (is_other_word rest)) }
 {
     match line {
-        [b'#', b'i', b'f', ..] => true,
-        [b'#', b'e', b'n', ..] => true,
-        [b'#', b'e', b'l', ..] => true,
         [b'#', rest @ ..] => !is_other_word(rest),
         _ => false,
     }

@@ -98,7 +98,7 @@ impl LineDecider {
         if is_else(line.body) {
             return self.decide_else(line.ending, line.number, symbols, keyword);
         }
-        self.decide_other(line.body, line.ending, line.number, symbols, keyword)
+        self.decide_any(line.body, line.ending, line.number, symbols, keyword)
     }
 
     /// Decides the next line, an `#endif`. Returns its verdict, and sets the span of its keyword.
@@ -138,114 +138,7 @@ impl LineDecider {
         self.decide_parts(b"#else", ending, number, symbols, keyword)
     }
 
-    /// Decides the next line, whatever its body is, as `decide_endif` does. The most frequent
-    /// directives have functions of their own. Each looks at the first bytes again, so that the
-    /// compiler knows the keyword there.
-    #[inline(never)]
-    fn decide_other(
-        &mut self,
-        body: &[u8],
-        ending: &[u8],
-        number: u32,
-        symbols: &Symbols,
-        keyword: &mut Span,
-    ) -> Option<Verdict>
-        requires ended { IsTrue (is_ending ending.now) }
-        requires within { IsWithinLimits (line_with body.now ending.now number) }
-        requires one_line { NoNewline body.now }
-        ensures decides { DecidesAs symbols.now self.old self.new
-            (line_with body.now ending.now number) keyword.new result }
-        ensures cursor { IfSome result (λ v. KeywordIsWithin v keyword.new body.now) }
-    {
-        match body {
-            [b'#', b'i', b'f', b' ', ..] => self.decide_if(body, ending, number, symbols, keyword),
-            [b'#', b'i', b'f', b'd', b'e', b'f', b' ', ..] => self.decide_ifdef(
-                body, ending, number, symbols, keyword,
-            ),
-            [b'#', b'e', b'l', b'i', b'f', b' ', ..] => self.decide_elif(
-                body, ending, number, symbols, keyword,
-            ),
-            _ => self.decide_any(body, ending, number, symbols, keyword),
-        }
-    }
-
-    /// Decides the next line, which begins with `#if` and a space, as `decide_endif` does.
-    #[inline(never)]
-    fn decide_if(
-        &mut self,
-        body: &[u8],
-        ending: &[u8],
-        number: u32,
-        symbols: &Symbols,
-        keyword: &mut Span,
-    ) -> Option<Verdict>
-        requires ended { IsTrue (is_ending ending.now) }
-        requires within { IsWithinLimits (line_with body.now ending.now number) }
-        requires one_line { NoNewline body.now }
-        ensures decides { DecidesAs symbols.now self.old self.new
-            (line_with body.now ending.now number) keyword.new result }
-        ensures cursor { IfSome result (λ v. KeywordIsWithin v keyword.new body.now) }
-    {
-        match body {
-            [b'#', b'i', b'f', b' ', ..] => self.decide_parts(
-                body, ending, number, symbols, keyword,
-            ),
-            _ => self.decide_marked(body, ending, number, symbols, keyword),
-        }
-    }
-
-    /// Decides the next line, which begins with `#ifdef` and a space, as `decide_endif` does.
-    #[inline(never)]
-    fn decide_ifdef(
-        &mut self,
-        body: &[u8],
-        ending: &[u8],
-        number: u32,
-        symbols: &Symbols,
-        keyword: &mut Span,
-    ) -> Option<Verdict>
-        requires ended { IsTrue (is_ending ending.now) }
-        requires within { IsWithinLimits (line_with body.now ending.now number) }
-        requires one_line { NoNewline body.now }
-        ensures decides { DecidesAs symbols.now self.old self.new
-            (line_with body.now ending.now number) keyword.new result }
-        ensures cursor { IfSome result (λ v. KeywordIsWithin v keyword.new body.now) }
-    {
-        match body {
-            [b'#', b'i', b'f', b'd', b'e', b'f', b' ', ..] => self.decide_parts(
-                body, ending, number, symbols, keyword,
-            ),
-            _ => self.decide_marked(body, ending, number, symbols, keyword),
-        }
-    }
-
-    /// Decides the next line, which begins with `#elif` and a space, as `decide_endif` does.
-    #[inline(never)]
-    fn decide_elif(
-        &mut self,
-        body: &[u8],
-        ending: &[u8],
-        number: u32,
-        symbols: &Symbols,
-        keyword: &mut Span,
-    ) -> Option<Verdict>
-        requires ended { IsTrue (is_ending ending.now) }
-        requires within { IsWithinLimits (line_with body.now ending.now number) }
-        requires one_line { NoNewline body.now }
-        ensures decides { DecidesAs symbols.now self.old self.new
-            (line_with body.now ending.now number) keyword.new result }
-        ensures cursor { IfSome result (λ v. KeywordIsWithin v keyword.new body.now) }
-    {
-        match body {
-            [b'#', b'e', b'l', b'i', b'f', b' ', ..] => self.decide_parts(
-                body, ending, number, symbols, keyword,
-            ),
-            _ => self.decide_marked(body, ending, number, symbols, keyword),
-        }
-    }
-
-    /// Decides the next line, whatever its body is, as `decide_endif` does, without a look at which
-    /// directive it is.
+    /// Decides the next line, whatever its body is, as `decide_endif` does.
     #[inline(never)]
     fn decide_any(
         &mut self,
