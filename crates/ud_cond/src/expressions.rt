@@ -6,15 +6,15 @@
 //! `constants` has those of constants, and `operators` the precedence of each operator.
 //!
 //! `residuals` reads which tokens are left of an expression without the operands that the table
-//! decides. It keeps a `parts.Part` of each part, over the two stacks of `part_stacks`.
+//! decides. It keeps a `parts.Part` of each part, over the same two stacks.
 //!
 //! A new operator needs a token, a precedence, and its value in `values`.
 
 mod constants;
 pub(crate) mod fast_path;
 mod operators;
+mod packed_value;
 pub(crate) mod parsing;
-mod part_stacks;
 mod parts;
 mod pending_slot;
 pub(crate) mod residuals;

@@ -16,9 +16,10 @@ ghost use Rattle.ud_cond.specs.expressions.Stacks.{Suffice, weight, parse_state,
 ghost use Rattle.ud_cond.specs.expressions.Evaluation.{value_meaning_in, step_in, reads_in};
 
 use crate::expressions::operators::{is_prefix, precedence};
+use crate::expressions::packed_value::PackedValue;
 use crate::expressions::stacks::Stacks;
 use crate::expressions::tokens::{NextToken, Token, next_token};
-use crate::expressions::values::{NO_VALUE, Scope, Value, constant, defined, named};
+use crate::expressions::values::{NO_VALUE, Scope, Value, binary, constant, defined, named, unary};
 use ud_model::LINE_BYTES;
 
 /// The most bytes of a tiny text.
@@ -114,13 +115,35 @@ fn defined_operand<'a>(scope: &Scope<'_>, text: &'a [u8]) -> Option<(Value, &'a 
     }
 }
 
+/// Applies the pending operators that bind at least as tightly as `least`, with `last` as their
+/// last operand.
+fn reduce<const BYTES: usize, const OPERANDS: usize>(
+    scope: &Scope<'_>,
+    stacks: &mut Stacks<PackedValue, BYTES, OPERANDS>,
+    least: u8,
+    last: Value,
+) -> Value
+    ensures value { spec.reduce (value_meaning_in scope.now) least last stacks.old ≡
+        (result, stacks.new) }
+    ensures lighter { weight stacks.new ≤ weight stacks.old }
+{
+    let mut value = last;
+    'waiting: while let Some((operator, operand)) = stacks.pop_operator(least) {
+        value = match operand {
+            Some(operand) => binary(scope, operator, operand.value(), value),
+            None => unary(scope, operator, value),
+        };
+    }
+    value
+}
+
 /// Reads a token where an operand has to come.
 ///
 /// Returns the operand that has come then, if one has, and what follows it. Returns `None` if no
 /// expression continues so.
 fn read_operand<'a, const BYTES: usize, const OPERANDS: usize>(
     scope: &Scope<'_>,
-    stacks: &mut Stacks<BYTES, OPERANDS>,
+    stacks: &mut Stacks<PackedValue, BYTES, OPERANDS>,
     token: Token<'a>,
     rest: &'a [u8],
 ) -> Option<(Option<Value>, &'a [u8])>
@@ -169,7 +192,7 @@ fn read_operand<'a, const BYTES: usize, const OPERANDS: usize>(
 /// Returns the operand that has come then, if one has, or `None` if no expression continues so.
 fn read_operator<const BYTES: usize, const OPERANDS: usize>(
     scope: &Scope<'_>,
-    stacks: &mut Stacks<BYTES, OPERANDS>,
+    stacks: &mut Stacks<PackedValue, BYTES, OPERANDS>,
     value: Value,
     token: Token<'_>,
 ) -> Option<Option<Value>>
@@ -187,12 +210,12 @@ fn read_operator<const BYTES: usize, const OPERANDS: usize>(
             if tightness == 0 {
                 return None;
             }
-            let operand = stacks.reduce(scope, tightness, value);
-            stacks.push_binary(operator, operand);
+            let operand = reduce(scope, stacks, tightness, value);
+            stacks.push_binary(operator, PackedValue::of(operand));
             Some(None)
         }
         Token::Closing => {
-            let inside = stacks.reduce(scope, 0, value);
+            let inside = reduce(scope, stacks, 0, value);
             if stacks.pop_paren() {
                 Some(Some(inside))
             } else {
@@ -209,12 +232,12 @@ fn read_operator<const BYTES: usize, const OPERANDS: usize>(
 /// Returns the value of a whole expression at its end.
 fn finish<const BYTES: usize, const OPERANDS: usize>(
     scope: &Scope<'_>,
-    stacks: &mut Stacks<BYTES, OPERANDS>,
+    stacks: &mut Stacks<PackedValue, BYTES, OPERANDS>,
     operand: Option<Value>,
 ) -> Option<Value>
     ensures { result ≡ spec.finish (value_meaning_in scope.now) (parse_state operand stacks.old) }
 {
-    let value = stacks.reduce(scope, 0, operand?);
+    let value = reduce(scope, stacks, 0, operand?);
     if stacks.is_empty() { Some(value) } else { None }
 }
 
@@ -228,7 +251,7 @@ fn evaluate_with_stacks<const BYTES: usize, const OPERANDS: usize>(
     requires stacks { Suffice BYTES OPERANDS }
     ensures { result ≡ spec.reads (value_meaning_in scope.now) (spec.needs []) text.now }
 {
-    let mut stacks = Stacks::<BYTES, OPERANDS>::new();
+    let mut stacks = Stacks::<PackedValue, BYTES, OPERANDS>::new();
     let mut operand: Option<Value> = None;
     let mut rest = text;
     'tokens: loop {

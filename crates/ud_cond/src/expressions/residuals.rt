@@ -30,8 +30,8 @@ ghost use Rattle.ud_cond.specs.expressions.ResidualReading.{IsResult};
 
 use crate::conditions::{Rules, negate};
 use crate::expressions::operators::{is_prefix, precedence};
-use crate::expressions::part_stacks::PartStacks;
 use crate::expressions::parts::{Part, constant_part, defined_part, leaf_part, named_part};
+use crate::expressions::stacks::Stacks;
 use crate::expressions::tokens::{NextToken, Token, next_token};
 use crate::expressions::values::{Scope, Value, apply_binary, apply_unary, binary, unary};
 use crate::symbols::Symbols;
@@ -270,7 +270,7 @@ fn enclose(a: Part, flags: &mut TokenFlags) -> Part
 /// last operand.
 fn reduce_parts<const BYTES: usize, const OPERANDS: usize>(
     rules: Rules,
-    stacks: &mut PartStacks<BYTES, OPERANDS>,
+    stacks: &mut Stacks<Part, BYTES, OPERANDS>,
     least: u8,
     last: Part,
     flags: &mut TokenFlags,
@@ -295,7 +295,7 @@ fn reduce_parts<const BYTES: usize, const OPERANDS: usize>(
 fn read_operand<'a, const BYTES: usize, const OPERANDS: usize>(
     symbols: &Symbols,
     rules: Rules,
-    stacks: &mut PartStacks<BYTES, OPERANDS>,
+    stacks: &mut Stacks<Part, BYTES, OPERANDS>,
     flags: &mut TokenFlags,
     token: Token<'a>,
 ) -> Option<State<'a>>
@@ -337,7 +337,7 @@ fn read_operand<'a, const BYTES: usize, const OPERANDS: usize>(
 /// Reads a token after an operand. Returns `None` if no expression continues so.
 fn read_operator<'a, const BYTES: usize, const OPERANDS: usize>(
     rules: Rules,
-    stacks: &mut PartStacks<BYTES, OPERANDS>,
+    stacks: &mut Stacks<Part, BYTES, OPERANDS>,
     flags: &mut TokenFlags,
     part: Part,
     token: Token<'a>,
@@ -480,7 +480,7 @@ fn read_after_name<'a>(
 fn read_token<'a, const BYTES: usize, const OPERANDS: usize>(
     symbols: &Symbols,
     rules: Rules,
-    stacks: &mut PartStacks<BYTES, OPERANDS>,
+    stacks: &mut Stacks<Part, BYTES, OPERANDS>,
     flags: &mut TokenFlags,
     state: State<'a>,
     token: Token<'a>,
@@ -511,7 +511,7 @@ fn read_token<'a, const BYTES: usize, const OPERANDS: usize>(
 /// Returns the condition of the residual of a whole expression at its end.
 fn finish<const BYTES: usize, const OPERANDS: usize>(
     rules: Rules,
-    stacks: &mut PartStacks<BYTES, OPERANDS>,
+    stacks: &mut Stacks<Part, BYTES, OPERANDS>,
     flags: &mut TokenFlags,
     state: State<'_>,
 ) -> Option<Cond>
@@ -550,7 +550,7 @@ fn read_with_stacks<const BYTES: usize, const OPERANDS: usize>(
     ensures none { IfNone result
         (parsing.reads (kept_meaning symbols.now (as_rules rules)) (needs []) text.now ≡ None) }
 {
-    let mut stacks = PartStacks::<BYTES, OPERANDS>::new();
+    let mut stacks = Stacks::<Part, BYTES, OPERANDS>::new();
     let mut state = State::Needs;
     let mut rest = text;
     'tokens: loop {

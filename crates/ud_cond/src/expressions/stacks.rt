@@ -5,13 +5,11 @@
 //! and half as many operands.
 
 ghost use Rattle.std.specs.Prelude.{◌≡◌, ◌≤◌, ◌+◌, ◌∷◌, [], IfSome, IfNone, IsTrue, false};
-ghost use Rattle.ud_model.specs.aids.Parsing.{left, before, paren, reduce};
+ghost use Rattle.ud_model.specs.aids.Parsing.{left, before, paren};
 ghost use Rattle.ud_cond.specs.expressions.Stacks as spec;
 ghost use Rattle.ud_cond.specs.expressions.Stacks.{weight};
-ghost use Rattle.ud_cond.specs.expressions.Evaluation.{value_meaning_in};
 
 use crate::expressions::operators::precedence;
-use crate::expressions::values::{Scope, Value, binary, unary};
 use arrayvec::ArrayVec;
 use std::marker::Model;
 use ud_model::Operator;
@@ -33,84 +31,22 @@ impl Default for PendingOp {
     }
 }
 
-/// A left operand that takes no more memory than its number and facts.
-#[derive(Default, Drop)]
-struct PackedValue {
-    /// The number, if it is known.
-    number: i64,
-    /// `true` if the number is known.
-    is_known: bool,
-    /// `true` if a constant in the operand, or one to which a symbol in it resolves, has a `u`.
-    has_u: bool,
-    /// `true` if the operand names a symbol of the table.
-    is_listed: bool,
-    /// `true` if the operand has an undefined symbol with arguments.
-    calls_undefined: bool,
-}
-
-impl Model for PackedValue {
-    ghost use Rattle.std.specs.Prelude.{Some, None, if◌then◌else◌};
-    ghost use Rattle.ud_cond.specs.declared.expressions.values.Value as declared;
-
-    ghost Value = { declared.Value };
-
-    ghost view = { λ o. record {
-      number = if o.is_known then Some o.number
-          else None;
-      unsigned = o.has_u;
-      listed = o.is_listed;
-      calls_undefined = o.calls_undefined;
-    } };
-}
-
-impl PackedValue {
-    /// Packs a value.
-    fn of(value: Value) -> PackedValue
-        ensures { result ≡ value }
-    {
-        PackedValue {
-            number: value.number.unwrap_or(0),
-            is_known: value.number.is_some(),
-            has_u: value.unsigned,
-            is_listed: value.listed,
-            calls_undefined: value.calls_undefined,
-        }
-    }
-
-    /// Returns the packed value.
-    fn value(&self) -> Value
-        ensures { result ≡ self.now }
-    {
-        Value {
-            number: if self.is_known {
-                Some(self.number)
-            } else {
-                None
-            },
-            unsigned: self.has_u,
-            listed: self.is_listed,
-            calls_undefined: self.calls_undefined,
-        }
-    }
-}
-
-/// The stacks for a text of at most `BYTES` bytes.
+/// The stacks for a text of at most `BYTES` bytes, with operands of one type.
 #[derive(Drop)]
-pub(crate) struct Stacks<const BYTES: usize, const OPERANDS: usize> {
+pub(crate) struct Stacks<T, const BYTES: usize, const OPERANDS: usize> {
     /// The pending operators and parentheses; the last one is the innermost.
     operators: ArrayVec<PendingOp, BYTES>,
     /// The left operands of those operators that have one.
-    operands: ArrayVec<PackedValue, OPERANDS>,
+    operands: ArrayVec<T, OPERANDS>,
 }
 
-impl<const BYTES: usize, const OPERANDS: usize> Model for Stacks<BYTES, OPERANDS> {
+impl<T, const BYTES: usize, const OPERANDS: usize> Model for Stacks<T, BYTES, OPERANDS> {
     ghost use Rattle.std.specs.Prelude.{◌≤◌, List, reverse};
     ghost use Rattle.arrayvec.specs.ArrayVec.{array_vec_len};
     ghost use Rattle.ud_model.specs.aids.Parsing.{Frame};
     ghost use Rattle.ud_cond.specs.expressions.Stacks.{frames, AreMatched, Suffice};
-    ghost use Rattle.ud_cond.specs.declared.expressions.values.Value as declared;
 
-    ghost Value = { List (Frame declared.Value) };
+    ghost Value = { List (Frame T) };
 
     ghost view = { λ s. frames (reverse s.operators.items) (reverse s.operands.items) };
 
@@ -118,7 +54,7 @@ impl<const BYTES: usize, const OPERANDS: usize> Model for Stacks<BYTES, OPERANDS
         (array_vec_len s.operators ≤ BYTES) × Suffice BYTES OPERANDS };
 }
 
-impl<const BYTES: usize, const OPERANDS: usize> Stacks<BYTES, OPERANDS> {
+impl<T: Default + Drop, const BYTES: usize, const OPERANDS: usize> Stacks<T, BYTES, OPERANDS> {
     /// Returns empty stacks.
     pub(crate) fn new() -> Self
         requires { spec.Suffice BYTES OPERANDS }
@@ -138,12 +74,12 @@ impl<const BYTES: usize, const OPERANDS: usize> Stacks<BYTES, OPERANDS> {
     }
 
     /// Pushes a binary operator with its left operand.
-    pub(crate) fn push_binary(&mut self, operator: Operator, operand: Value)
+    pub(crate) fn push_binary(&mut self, operator: Operator, operand: T)
         requires { weight self.old + 2 ≤ BYTES }
         ensures { self.new ≡ left operator operand ∷ self.old }
     {
         self.operators.push(PendingOp::Binary(operator));
-        self.operands.push(PackedValue::of(operand));
+        self.operands.push(operand);
     }
 
     /// Pushes a prefix operator.
@@ -179,7 +115,7 @@ impl<const BYTES: usize, const OPERANDS: usize> Stacks<BYTES, OPERANDS> {
 
     /// Pops the innermost operator if it binds at least as tightly as `least`, with its left
     /// operand if it has one.
-    fn pop_operator(&mut self, least: u8) -> Option<(Operator, Option<Value>)>
+    pub(crate) fn pop_operator(&mut self, least: u8) -> Option<(Operator, Option<T>)>
         ensures none { IfNone result (self.new ≡ self.old × spec.IsSettled least self.old) }
         ensures some { IfSome result (λ t. self.old ≡ spec.popped t.0 t.1 ∷ self.new ×
             spec.BindsAsTightly least t.0 t.1) }
@@ -191,7 +127,7 @@ impl<const BYTES: usize, const OPERANDS: usize> Stacks<BYTES, OPERANDS> {
                     return None;
                 }
                 let operand = self.operands.pop().unwrap();
-                Some((operator, Some(operand.value())))
+                Some((operator, Some(operand)))
             }
             Some(PendingOp::Prefix(operator)) => Some((operator, None)),
             Some(PendingOp::Opening) => {
@@ -200,22 +136,5 @@ impl<const BYTES: usize, const OPERANDS: usize> Stacks<BYTES, OPERANDS> {
             }
             None => None,
         }
-    }
-
-    /// Applies the pending operators that bind at least as tightly as `least`, with `last` as their
-    /// last operand.
-    pub(crate) fn reduce(&mut self, scope: &Scope<'_>, least: u8, last: Value) -> Value
-        ensures value { reduce (value_meaning_in scope.now) least last self.old ≡
-            (result, self.new) }
-        ensures lighter { weight self.new ≤ weight self.old }
-    {
-        let mut value = last;
-        'waiting: while let Some((operator, operand)) = self.pop_operator(least) {
-            value = match operand {
-                Some(operand) => binary(scope, operator, operand, value),
-                None => unary(scope, operator, value),
-            };
-        }
-        value
     }
 }
