@@ -4,9 +4,7 @@
 //! the names. A binary search finds a name, and a later call for a name changes its row.
 //! Memory is taken before anything changes, so a failed call leaves the table as it was.
 //!
-//! A cache gives the position of most rows without a search. Positions change with each insertion,
-//! so all of them are cached once, after the last one. So are the ends of the paths from name to
-//! name, each of which is followed twice as far again and again.
+//! The end of the path from each name to name is cached once, after the last call.
 
 ghost use Rattle.std.specs.Prelude.{◌≡◌, ◌++◌, ◌∷◌, [], List, option_map, OnOk, OnErr, IfOk, IfErr};
 ghost use Rattle.std.specs.Prelude.{IsErrOf, Some, None, ◌↔◌, false, true, IsTrue, length};
@@ -18,13 +16,13 @@ ghost use Rattle.ud_model.specs.conditions.Symbols as ends;
 ghost use Rattle.ud_cond.specs.symbols.Keys as spec;
 ghost use Rattle.ud_cond.specs.symbols.SymbolTable.{TableRepresents, SetsEntry, name_cmp};
 ghost use Rattle.ud_cond.specs.symbols.SymbolTable.{same_key_cmp, IsRowOf, IsGapFor, name_at};
+ghost use Rattle.ud_cond.specs.symbols.SymbolTable.{AreSorted};
 ghost use Rattle.ud_cond.specs.symbols.Paths.{LeadsTo, AllLead};
 ghost use Rattle.ud_cond.specs.CondViews.{as_entry, argument_for};
 
-use keys::{is_same, key_of};
+use keys::key_of;
 use name_filter::NameFilter;
 use paths::Path;
-use slot_cache::SlotCache;
 use std::alloc::Global;
 use std::cmp::Ordering;
 use std::marker::Model;
@@ -36,7 +34,6 @@ mod fault;
 mod keys;
 mod name_filter;
 mod paths;
-mod slot_cache;
 
 pub use calls::SymbolCalls;
 pub use fault::SymbolFault;
@@ -129,15 +126,6 @@ impl Row {
         self.named.symbol.as_slice()
     }
 
-    /// Returns whether the row is that of `name`, whose key is `key`.
-    #[inline(always)]
-    fn has_key_and_name(&self, key: u64, name: &[u8]) -> bool
-        requires { key ≡ spec.key_of name.now }
-        ensures { IsTrue result → bytes_eq self.now.name name.now ≡ true }
-    {
-        self.number == key && is_same(self.named.symbol.as_slice(), name)
-    }
-
     /// Returns whether the row is that of `name`.
     fn has_name(&self, name: &[u8]) -> bool
         ensures { result ≡ bytes_eq self.now.name name.now }
@@ -196,8 +184,6 @@ pub struct Symbols {
     rows: Vec<Row>,
     /// The filter of the rows' names.
     filter: NameFilter,
-    /// The positions of rows, to be tried before a search.
-    cache: SlotCache,
     /// The end of the path from each row's name; empty unless they were cached.
     paths: Vec<Path>,
 }
@@ -228,7 +214,6 @@ impl Symbols {
             alloc,
             rows: Vec::new(alloc),
             filter: NameFilter::new(),
-            cache: SlotCache::new(alloc),
             paths: Vec::new(alloc),
         }
     }
@@ -282,26 +267,17 @@ impl Symbols {
         if !self.filter.may_contain(key) {
             return None;
         }
-        match self.position(key, name) {
+        match self.binary_search(key, name) {
             Ok(i) => Some(self.rows[i].entry()),
             Err(_) => None,
         }
     }
 
-    /// Caches the position of each row, so that `find` mostly needs no search, and the end of each
-    /// path from name to name. Changes no result.
+    /// Caches the end of the path from each name, if a value is a name. Changes no result.
     ///
     /// Each later call for a name makes what was cached stale. So call it once, after the last
     /// name.
-    pub fn cache_positions(&mut self)
-        ensures { self.new ≡ self.old }
-    {
-        cache_positions_of(&mut self.cache, self.rows.as_slice());
-        self.cache_paths();
-    }
-
-    /// Caches the end of the path from each name, if memory was taken for paths.
-    fn cache_paths(&mut self)
+    pub fn cache_paths(&mut self)
         ensures { self.new ≡ self.old }
     {
         if self.paths.capacity() == 0 {
@@ -396,7 +372,7 @@ impl Symbols {
         if !self.filter.may_contain(key) {
             return None;
         }
-        match self.position(key, name) {
+        match self.binary_search(key, name) {
             Ok(i) => Some(i),
             Err(_) => None,
         }
@@ -455,26 +431,13 @@ impl Symbols {
     }
 
     /// Returns the position of the row of `name`, whose key is `key`, or else the position at which
-    /// to insert it. Tries the cached position first, at which most rows are.
-    #[inline(always)]
-    fn position(&self, key: u64, name: &[u8]) -> Result<usize, usize>
-        requires keyed { key ≡ spec.key_of name.now }
-        ensures found { IfOk result (λ i. IsRowOf self.now i name.now) }
-        ensures absent { IfErr result (λ i. IsGapFor self.now i name.now) }
-    {
-        let i = self.cache.get(key);
-        if i < self.rows.len() && self.rows[i].has_key_and_name(key, name) {
-            return Ok(i);
-        }
-        self.binary_search(key, name)
-    }
-
-    /// Finds the position as `position` does, by a binary search. Most names have their own key.
+    /// to insert it. Most names have their own key.
     #[inline(never)]
     fn binary_search(&self, key: u64, name: &[u8]) -> Result<usize, usize>
         requires keyed { key ≡ spec.key_of name.now }
         ensures found { IfOk result (λ i. IsRowOf self.now i name.now) }
         ensures absent { IfErr result (λ i. IsGapFor self.now i name.now) }
+        ensures sorted { AreSorted self.now }
     {
         match self.rows.binary_search_by_key(&key, |row| row.key()) {
             Err(i) => Err(i),
@@ -487,7 +450,7 @@ impl Symbols {
         }
     }
 
-    /// Finds the position as `position` does, if rows of other names have the same key.
+    /// Finds the position as `binary_search` does, if rows of other names have the same key.
     #[inline(never)]
     fn binary_search_same_key(&self, key: u64, name: &[u8]) -> Result<usize, usize>
         requires keyed { key ≡ spec.key_of name.now }
@@ -518,7 +481,7 @@ impl Symbols {
     }
 
     /// Takes memory for the paths of all rows and of one more, once a value is an identifier. So
-    /// `cache_positions` takes none.
+    /// `cache_paths` takes none.
     fn reserve_paths(&mut self, value: Option<&[u8]>) -> Result<(), SymbolFault>
         ensures same { self.new ≡ self.old }
         ensures fault { OnErr result (IsErrOf result SymbolFault.OutOfMemory) }
@@ -541,7 +504,6 @@ impl Symbols {
         ensures err { OnErr result (self.new ≡ self.old) }
         ensures fault { OnErr result (IsErrOf result SymbolFault.OutOfMemory) }
     {
-        self.cache.reserve(self.alloc)?;
         self.reserve_paths(row.entry().value)?;
         let key = row.key();
         match self.binary_search(key, row.name()) {
@@ -573,18 +535,10 @@ impl Symbols {
         self.paths.clear();
         self.filter.insert(key);
         let added = self.rows.insert(i, row);
-        self.cache.set(key, i);
         match added {
             Ok(()) => Ok(()),
             Err(_) => Err(SymbolFault::OutOfMemory),
         }
-    }
-}
-
-/// Caches the position of each row.
-fn cache_positions_of(cache: &mut SlotCache, rows: &[Row]) {
-    for i in 0..rows.len() {
-        cache.set(rows[i].key(), i);
     }
 }
 

@@ -2,6 +2,5 @@
 pub mod TableLemmas
 pub mod SortedLemmas
 pub mod FilterLemmas
-pub mod KeyLemmas
 pub mod PathLemmas
 pub mod StableLemmas

@@ -73,7 +73,7 @@ impl SymbolCalls {
         }
     }
 
-    /// Returns the table after these calls. Its positions are cached.
+    /// Returns the table after these calls, with its paths cached.
     ///
     /// # Errors
     /// `OutOfMemory` if an allocation fails, which never happens without a call.
@@ -89,7 +89,7 @@ impl SymbolCalls {
         'rows: for row in rows {
             symbols.add(row)?;
         }
-        symbols.cache_positions();
+        symbols.cache_paths();
         Ok(symbols)
     }
 }

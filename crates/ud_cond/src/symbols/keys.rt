@@ -32,34 +32,6 @@ fn key_in(bytes: &[u8]) -> u64
     }
 }
 
-/// Returns whether two names with the same key are equal.
-///
-/// For names of at most twice `KEY_BYTES` bytes, a comparison of the first bytes suffices.
-#[inline(always)]
-pub(crate) fn is_same(a: &[u8], b: &[u8]) -> bool
-    requires { spec.key_of a.now ≡ spec.key_of b.now }
-    ensures { IsTrue result → bytes_eq a.now b.now ≡ true }
-{
-    if a.len() != b.len() {
-        return false;
-    }
-    if a.len() <= KEY_BYTES {
-        return true;
-    }
-    if a.len() <= 2 * KEY_BYTES {
-        return key_in(&a[..KEY_BYTES]) == key_in(&b[..KEY_BYTES]);
-    }
-    is_same_text(a, b)
-}
-
-/// Returns whether two texts are equal.
-#[inline(never)]
-fn is_same_text(a: &[u8], b: &[u8]) -> bool
-    ensures { result ≡ bytes_eq a.now b.now }
-{
-    a == b
-}
-
 /// Returns the first bytes of a text as one number, if the text may be shorter than a key.
 fn byte_by_byte(bytes: &[u8]) -> u64
     ensures { result ≡ spec.key_in bytes.now }

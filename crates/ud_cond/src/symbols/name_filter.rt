@@ -4,7 +4,7 @@ ghost use Rattle.std.specs.Prelude.{◌≡◌, ◌<◌, ℕ, true};
 ghost use Rattle.ud_cond.specs.symbols.NameFilters as spec;
 
 /// The number of slots.
-pub(crate) const FILTER_SLOTS: usize = 2048;
+const FILTER_SLOTS: usize = 2048;
 
 /// The number of slots that one word has a bit for.
 pub(crate) const WORD_SLOTS: usize = 64;
@@ -57,7 +57,7 @@ impl NameFilter {
 
 /// Returns the slot of a key.
 #[inline(always)]
-pub(crate) fn slot_of(key: u64) -> usize
+fn slot_of(key: u64) -> usize
     ensures value { result ≡ spec.slot_of key }
     ensures bound { result < FILTER_SLOTS }
 {
