@@ -4,7 +4,7 @@
 --   Applies change old new     the change makes `new` of the open sections `old`
 --
 -- `plain` is whether text outside all sections is plain, and `section` is the innermost open one.
-use Rattle.std.specs.Prelude.{◌≡◌, ℕ, List, [], ◌∷◌, ◌++◌, Bool, true, false, not, ◌||◌}
+use Rattle.std.specs.Prelude.{◌≡◌, ℕ, List, [], ◌∷◌, ◌++◌, Bool, true, not, ◌||◌}
 use Rattle.std.specs.Prelude.{if◌then◌else◌, Option, Some, None}
 use Rattle.ud_model.specs.declared.cond.Cond.{Cond}
 use Rattle.ud_model.specs.declared.cond.Cond.TheVariants.{Yes}
@@ -20,18 +20,12 @@ use Rattle.ud_sections.specs.declared.sections.line_kind.LineKind.TheVariants.{T
 use Rattle.ud_sections.specs.declared.sections.line_kind.LineKind.TheVariants.{Endif}
 use Rattle.ud_sections.specs.sections.SectionStates.{opener_verdict_in, endif_verdict_in}
 use Rattle.ud_sections.specs.sections.SectionStates.{is_kept_in, is_in_removed, new_state}
-use Rattle.ud_sections.specs.sections.SectionStates.{is_settled}
 use Rattle.ud_sections.specs.sections.OpenSections.{new_section, section_with_group}
 
 -- `kept_at section`: the text in `section` is in a kept place; outside all sections it is.
 abbrev pub kept_at : Option OpenSection → Bool
 kept_at None = true
 kept_at (Some l) = is_kept_in l.state
-
--- `settled_at section`: the condition of a further group of `section` decides nothing.
-abbrev pub settled_at : Option OpenSection → Bool
-settled_at None = false
-settled_at (Some l) = is_settled l.state
 
 -- `plain_at plain section`: the next line in `section` is read as plain text.
 abbrev pub plain_at : Bool → Option OpenSection → Bool

@@ -6,7 +6,6 @@
 --   endif_verdict_in p           the verdict of the `#endif`
 --   is_kept_in p                 the last group is kept
 --   is_in_removed p              the section is in a removed place
---   is_settled p                 the condition of a further group decides nothing
 --
 -- A section in a kept place begins with NoneKept, one in a removed place with InRemoved. An `#else`
 -- counts as true.
@@ -103,14 +102,3 @@ is_in_removed LastUnknown = false
 is_in_removed LastFalse = false
 is_in_removed LastTrue = false
 is_in_removed AfterTrue = false
-
--- `is_settled p`: the condition of a further group decides nothing. The section is in a removed
--- place, or a group so far is true.
-abbrev pub is_settled : SectionState → Bool
-is_settled InRemoved = true
-is_settled NoneKept = false
-is_settled OnlyTrue = true
-is_settled LastUnknown = false
-is_settled LastFalse = false
-is_settled LastTrue = true
-is_settled AfterTrue = true

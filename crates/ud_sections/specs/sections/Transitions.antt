@@ -4,11 +4,10 @@
 --   text_verdict m             the verdict of the next line, if it is text
 --   text_policy_of m           the mode of the next line, and its verdict if it is text
 --   transition_of before n s   the transition of the classified line `s` of number `n`
---   HasSameCheck before scan keyword kind other   with either kind the line's check is the same
 --   IsTransition m scan table n result   the result is the transition of the line of this scan
 use Rattle.std.specs.Prelude.{◌≡◌, ℕ, List, length, Result, Ok, Err}
 use Rattle.ud_model.specs.text.Scans.{Scan}
-use Rattle.ud_model.specs.sections.Directives.{content_of, Span as TextSpan}
+use Rattle.ud_model.specs.sections.Directives.{content_of}
 use Rattle.ud_model.specs.conditions.Table.{Argument}
 use Rattle.ud_model.specs.declared.verdict.Verdict.{Verdict}
 use Rattle.ud_model.specs.sections.Items.{mode_by, rules_of}
@@ -21,12 +20,11 @@ use Rattle.ud_sections.specs.declared.sections.open_section.Action.{Action}
 use Rattle.ud_sections.specs.declared.sections.machine.Machine.{Machine}
 use Rattle.ud_sections.specs.declared.sections.machine.Transition.{Transition}
 use Rattle.ud_sections.specs.declared.sections.classify_line.ClassifiedLine.{ClassifiedLine}
-use Rattle.ud_sections.specs.declared.sections.line_kind.LineKind.{LineKind}
 use Rattle.ud_sections.specs.declared.sections.step.Span.{Span}
 use Rattle.ud_sections.specs.declared.sections.text_policy.TextPolicy.{TextPolicy}
 use Rattle.ud_sections.specs.sections.Actions.{kept_at, plain_at, text_action}
 use Rattle.ud_sections.specs.sections.StackOps.{innermost_of}
-use Rattle.ud_sections.specs.sections.ClassifiedLines.{classified, classified_with}
+use Rattle.ud_sections.specs.sections.ClassifiedLines.{classified}
 use Rattle.ud_sections.specs.sections.Checking.{checked_by}
 
 -- `context_of m`: the context of the next line, which is what the lines before it decide.
@@ -61,13 +59,6 @@ abbrev pub transition_of : LineContext → ℕ → Result ClassifiedLine Cut →
     Result Transition SectionFault
 transition_of before n (Ok scanned) = transition_with scanned.keyword (checked_by before scanned n)
 transition_of before n (Err cut) = Err (Obfuscated n)
-
--- `HasSameCheck before scan keyword kind other`: the check of a line with this scan and keyword is
--- the same with the kind `kind` as with the kind `other`, whatever its number is.
-abbrev pub HasSameCheck : LineContext → Scan → TextSpan → LineKind → LineKind → Type 0
-HasSameCheck before scan keyword kind other =
-    (n : ℕ) → checked_by before (classified_with scan keyword kind) n ≡
-    checked_by before (classified_with scan keyword other) n
 
 -- `IsTransition m scan table n result`: for the calls that `table` represents, `result` is the
 -- transition of the line of number `n` with this scan.

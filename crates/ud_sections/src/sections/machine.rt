@@ -13,17 +13,14 @@ ghost use Rattle.ud_model.specs.text.Scans.{Reading};
 ghost use Rattle.ud_model.specs.sections.Tree.{Item, Tree, closed, nothing, depth};
 ghost use Rattle.ud_model.specs.sections.Directives.{content_of};
 ghost use Rattle.ud_model.specs.sections.Items.{Options, mode_after, rules_of};
-ghost use Rattle.ud_model.specs.conditions.Table.{Argument};
 ghost use Rattle.ud_model.specs.declared.limits.TheConstants.{LINE_BYTES, OPEN_SECTIONS};
 ghost use Rattle.ud_model.specs.text.LineViews.{as_line, as_scan};
-ghost use Rattle.ud_cond.specs.symbols.SymbolTable.{TableRepresents};
-ghost use Rattle.ud_cond.specs.KnownConditions.{IsKnownCondition};
-ghost use Rattle.ud_sections.specs.directives.ParsedDirectives.{as_directive, content_found};
+ghost use Rattle.ud_sections.specs.directives.ParsedDirectives.{content_found};
 ghost use Rattle.ud_sections.specs.directives.ParsedDirectives.{IsWithinScan, IsKnownFor};
 ghost use Rattle.ud_sections.specs.directives.ParsedDirectives.{IsUnderstood};
-ghost use Rattle.ud_sections.specs.sections.ClassifiedLines.{classified, directive_kind};
+ghost use Rattle.ud_sections.specs.sections.ClassifiedLines.{classified};
 ghost use Rattle.ud_sections.specs.sections.Limits.{IsWithinLimits};
-ghost use Rattle.ud_sections.specs.sections.StepViews.{HoldsKeyword, as_span};
+ghost use Rattle.ud_sections.specs.sections.StepViews.{HoldsKeyword};
 ghost use Rattle.ud_sections.specs.sections.StackOps.{applied, innermost_of};
 ghost use Rattle.ud_model.specs.sections.Pruning.{is_removed};
 ghost use Rattle.ud_sections.specs.sections.Checking.{opens_section};
@@ -39,7 +36,7 @@ use crate::sections::text_policy::TextPolicy;
 use arrayvec::ArrayVec;
 use ud_cond::{Symbols, fast_condition};
 use ud_faults::SectionFault;
-use ud_model::{Cond, Kind, Line, Mode, OPEN_SECTIONS, Scan, Settings, Verdict};
+use ud_model::{Cond, Line, Mode, OPEN_SECTIONS, Scan, Settings, Verdict};
 
 /// The step of a line, and the line's change of the open sections.
 #[derive(Clone, Copy)]
@@ -73,7 +70,7 @@ impl Machine {
     ghost use Rattle.ud_sections.specs.sections.Transitions.{IsTransition};
     ghost use Rattle.ud_sections.specs.sections.Transitions.{text_verdict};
     ghost use Rattle.ud_sections.specs.sections.Transitions.{text_policy_of, transition_of};
-    ghost use Rattle.ud_sections.specs.sections.Transitions.{context_of, HasSameCheck};
+    ghost use Rattle.ud_sections.specs.sections.Transitions.{context_of};
     ghost use Rattle.ud_sections.specs.sections.EndFaults.{end_in};
 
     /// Creates a machine that has read no line.
@@ -335,42 +332,13 @@ impl Machine {
             return Err(SectionFault::Obfuscated { line: number });
         };
         let (kind, keyword) = match content {
-            Some(found) => (self.kind_of(scan, &found, known, symbols), found.keyword),
+            Some(found) => (
+                line_kind_of(scan, &found, known, symbols, self.settings),
+                found.keyword,
+            ),
             None => (LineKind::Text, Span { at: 0, len: 0 }),
         };
         self.check(classify(scan, keyword, kind), number)
-    }
-
-    /// Returns the kind of a line's directive among the sections, or another kind with which the
-    /// line's check is the same. The condition of an `#if` or `#elif` isn't evaluated where it
-    /// decides nothing. `known` is the condition, if it is known.
-    #[inline(always)]
-    fn kind_of(
-        &self,
-        scan: &Scan<'_>,
-        found: &Directive<'_>,
-        known: Option<Cond>,
-        symbols: &Symbols,
-    ) -> LineKind
-        requires fits { length found.now.after.now ≤ LINE_BYTES }
-        requires known { IfSome known (IsKnownCondition found.now.kind found.now.after.now
-            symbols.now (rules_of self.now.settings)) }
-        ensures { (calls : List Argument) → TableRepresents symbols.now calls →
-            HasSameCheck (context_of self.now) (as_scan scan.now) (as_span found.now.keyword) result
-            (directive_kind (as_scan scan.now) (as_directive found.now) calls
-            (rules_of self.now.settings)) }
-    {
-        let enclosing = self.enclosing();
-        match found.kind {
-            Kind::If if known.is_none() && !enclosing.is_kept() => LineKind::If {
-                cond: Cond::Unknown,
-                ignoring: false,
-            },
-            Kind::Elif if known.is_none() && enclosing.is_settled() => LineKind::Elif {
-                cond: Cond::Unknown,
-            },
-            _ => line_kind_of(scan, found, known, symbols, self.settings),
-        }
     }
 
     /// Checks a classified line, and returns its step and its change of the open sections.

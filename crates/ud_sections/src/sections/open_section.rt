@@ -5,7 +5,6 @@ ghost use Rattle.ud_sections.specs.sections.SectionStates.{part_of, opener_verdi
 ghost use Rattle.ud_sections.specs.sections.OpenSections.{new_section, section_with_group};
 ghost use Rattle.ud_sections.specs.sections.Actions.{opener_action, endif_action, text_action};
 ghost use Rattle.ud_sections.specs.sections.Actions.{if_action, act, kept_at, plain_at};
-ghost use Rattle.ud_sections.specs.sections.Actions.{settled_at};
 ghost use Rattle.ud_model.specs.sections.Items.{mode_by};
 
 use crate::sections::line_kind::LineKind;
@@ -135,17 +134,6 @@ impl Enclosing {
         match self.section {
             Some(inner) => inner.state.is_kept(),
             None => true,
-        }
-    }
-
-    /// Returns whether the condition of a further group of the innermost section decides nothing.
-    #[inline(always)]
-    pub(crate) fn is_settled(self) -> bool
-        ensures { result ≡ settled_at self.section }
-    {
-        match self.section {
-            Some(inner) => inner.state.is_settled(),
-            None => false,
         }
     }
 

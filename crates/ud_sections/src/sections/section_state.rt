@@ -6,7 +6,7 @@ ghost use Rattle.std.specs.Prelude.{◌≡◌};
 ghost use Rattle.ud_model.specs.sections.Pruning.{first_kept_verdict, first_true_verdict};
 ghost use Rattle.ud_sections.specs.sections.SectionStates.{part_of, new_state, next_section_state};
 ghost use Rattle.ud_sections.specs.sections.SectionStates.{opener_verdict_in, endif_verdict_in};
-ghost use Rattle.ud_sections.specs.sections.SectionStates.{is_kept_in, is_in_removed, is_settled};
+ghost use Rattle.ud_sections.specs.sections.SectionStates.{is_kept_in, is_in_removed};
 
 use ud_model::{Cond, Verdict};
 
@@ -104,20 +104,6 @@ impl SectionState {
             | SectionState::NoneKept
             | SectionState::LastFalse
             | SectionState::AfterTrue => false,
-        }
-    }
-
-    /// Returns whether the condition of a further group decides nothing.
-    #[inline(always)]
-    pub(crate) fn is_settled(self) -> bool
-        ensures { result ≡ is_settled self }
-    {
-        match self {
-            SectionState::OnlyTrue
-            | SectionState::LastTrue
-            | SectionState::AfterTrue
-            | SectionState::InRemoved => true,
-            SectionState::NoneKept | SectionState::LastUnknown | SectionState::LastFalse => false,
         }
     }
 
