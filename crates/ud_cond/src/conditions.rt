@@ -10,7 +10,6 @@ ghost use Rattle.ud_model.specs.conditions.Conditions as spec;
 ghost use Rattle.ud_model.specs.declared.limits.TheConstants.{LINE_BYTES};
 ghost use Rattle.ud_cond.specs.symbols.SymbolTable.{TableRepresents};
 ghost use Rattle.ud_cond.specs.CondViews.{as_rules, as_decision};
-ghost use Rattle.ud_cond.specs.KnownConditions.{IsKnownCondition};
 ghost use Rattle.ud_cond.specs.expressions.Evaluation.{cond_of_value, DecidesFast};
 
 use crate::expressions::fast_path::evaluate_fast;
@@ -64,27 +63,6 @@ pub(crate) fn fast_cond(scope: &Scope<'_>, rules: Rules, text: &[u8]) -> Option<
         return None;
     }
     Some(cond_of_value(rules, value))
-}
-
-/// Returns the condition of an `#if` or `#elif`, if its text suits the fast path. Such a text is
-/// understood.
-///
-/// A caller that needs the names of the text too evaluates it so, and once. Most texts suit the
-/// fast path. The result is `None` for other directives.
-#[inline(always)]
-pub fn fast_condition(kind: Kind, text: &[u8], symbols: &Symbols, rules: Rules) -> Option<Cond>
-    ensures { IfSome result (IsKnownCondition kind text.now symbols.now (as_rules rules)) }
-{
-    let Test::Nonzero = kind.test() else {
-        return None;
-    };
-    let signed = Scope {
-        symbols: Some(symbols),
-        strict: rules.strict,
-        unsigned: false,
-    };
-    let cond = fast_cond(&signed, rules, text)?;
-    Some(cond)
 }
 
 /// Returns the condition of the text of an `#if` or `#elif`.

@@ -15,10 +15,10 @@ mod list_names;
 mod symbols;
 mod token_flags;
 
-pub use conditions::{Answer, Rules, condition, fast_condition};
+pub use conditions::{Answer, Rules, condition};
 pub use expressions::residuals::residual;
 pub use expressions::tokens::{NextToken, Token, next_token};
 pub use list_names::names_iter::Names;
-pub use list_names::{names, understood_names};
+pub use list_names::names;
 pub use symbols::{Entry, SymbolCalls, SymbolFault, Symbols};
 pub use token_flags::TokenFlags;

@@ -1,6 +1,6 @@
 //! The names in the text of a directive.
 
-ghost use Rattle.std.specs.Prelude.{◌≡◌, ◌≤◌, length, is_some, option_map, None, true};
+ghost use Rattle.std.specs.Prelude.{◌≡◌, ◌≤◌, length, is_some, option_map, None};
 ghost use Rattle.ud_model.specs.aids.Parsing.{expression_of};
 ghost use Rattle.ud_model.specs.conditions.Names.{names_of, names_in_tree, name_alone};
 ghost use Rattle.ud_model.specs.conditions.Conditions.{sole_name};
@@ -34,21 +34,13 @@ fn is_expression(text: &[u8]) -> bool
     evaluate(&scope, text).is_some()
 }
 
-/// Returns the names of a text that is one expression, in order and with repeats.
-pub fn understood_names(text: &[u8]) -> Names<'_>
-    requires { is_some (expression_of text.now) ≡ true }
-    ensures { result ≡ names_in_tree (expression_of text.now) }
-{
-    Names::of_text(text)
-}
-
-/// Returns the names of an expression; none if the text isn't one.
+/// Returns the names of an expression, in order and with repeats; none if the text isn't one.
 fn expression_names(text: &[u8]) -> Names<'_>
     requires fits { length text.now ≤ LINE_BYTES }
     ensures { result ≡ names_in_tree (expression_of text.now) }
 {
     if is_expression(text) {
-        understood_names(text)
+        Names::of_text(text)
     } else {
         Names::none()
     }

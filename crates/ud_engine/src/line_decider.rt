@@ -305,14 +305,13 @@ impl LineDecider {
             return self.list_names_marked(line, symbols, lister, pending, output, out);
         };
         let content = directive(&scan);
-        let known = self.machine.fast_condition(content, symbols);
-        if let Err(reason) = self.machine.step_by(&scan, content, known, line, symbols) {
+        if let Err(reason) = self.machine.step_by(&scan, content, line, symbols) {
             return Err(reason);
         }
         output.append(pending, out);
         let around = self.machine.depth().saturating_sub(1);
         let prefix = lister.prefix(around);
-        let names = Lister::names_in(content, known.is_some());
+        let names = Lister::names_in(content);
         append_names(output, prefix, names, out);
         Ok(())
     }
@@ -520,18 +519,12 @@ fn list_names_with<const N: usize, W: Write>(
     let mode = machine.mode();
     let scan = scanner.read(mode, line);
     let content = directive(&scan);
-    let known = machine.fast_condition(content, symbols);
-    if let Err(fault) = machine.step_by(&scan, content, known, line, symbols) {
+    if let Err(fault) = machine.step_by(&scan, content, line, symbols) {
         return Err(fault);
     }
     output.append(pending, out);
     let around = machine.depth().saturating_sub(1);
     let prefix = lister.prefix(around);
-    append_names(
-        output,
-        prefix,
-        Lister::names_in(content, known.is_some()),
-        out,
-    );
+    append_names(output, prefix, Lister::names_in(content), out);
     Ok(())
 }

@@ -2,19 +2,11 @@
 --
 --   content_found found   a cut keyword, else a directive, else text
 --   IsWithinScan found n  a directive that was found is within the `n` masked bytes of its line
---   IsKnownFor found table rules c   a directive that was found has this condition
---   IsUnderstood found    a directive that was found has an expression
 --
 -- Example: a line on which the program finds no directive is text.
 use Rattle.std.specs.Prelude.{◌≡◌, ◌+◌, ℕ, length, Option, Some, None, Result, Ok, Err}
-use Rattle.std.specs.Prelude.{IfOk, IfSome, List, is_some, true}
-use Rattle.ud_model.specs.aids.Parsing.{expression_of}
-use Rattle.ud_model.specs.sections.Directives.{Content, cut_keyword, text, test_of}
-use Rattle.ud_model.specs.conditions.Table.{Argument}
-use Rattle.ud_model.specs.conditions.Conditions.{Rules}
-use Rattle.ud_model.specs.declared.cond.Cond.{Cond}
-use Rattle.ud_model.specs.declared.kind.Test.TheVariants.{Nonzero}
-use Rattle.ud_cond.specs.KnownConditions.{IsKnownCondition}
+use Rattle.std.specs.Prelude.{IfOk, IfSome}
+use Rattle.ud_model.specs.sections.Directives.{Content, cut_keyword, text}
 use Rattle.ud_model.specs.sections.Directives as model
 use Rattle.ud_sections.specs.declared.directives.Directive.{Directive}
 use Rattle.ud_sections.specs.declared.directives.Cut.{Cut}
@@ -45,14 +37,3 @@ content_found (Err cut) = cut_keyword
 abbrev pub IsWithinScan : Result (Option Directive) Cut → ℕ → Type 0
 IsWithinScan found n =
     IfOk found (λ o. IfSome o (λ d. d.keyword.at + d.keyword.len + length d.after.now ≡ n))
-
--- `IsKnownFor found table rules c`: if a directive was found, it has the known condition `c`.
-abbrev pub IsKnownFor : Result (Option Directive) Cut → List Argument → Rules → Cond → Type 0
-IsKnownFor found table rules c =
-    IfOk found (λ o. IfSome o (λ d. IsKnownCondition d.kind d.after.now table rules c))
-
--- `IsUnderstood found`: if a directive was found, it is an `#if` or `#elif`, and its text is an
--- expression.
-abbrev pub IsUnderstood : Result (Option Directive) Cut → Type 0
-IsUnderstood found = IfOk found (λ o. IfSome o (λ d.
-    (test_of d.kind ≡ Nonzero) × (is_some (expression_of d.after.now) ≡ true)))

@@ -1,7 +1,7 @@
 //! A lister of the names of conditions, which are printed instead of the text.
 
-ghost use Rattle.std.specs.Prelude.{◌≡◌, ◌+◌, ◌≤◌, ◌++◌, length, Bool, IfOk, IfSome, true};
-ghost use Rattle.ud_sections.specs.directives.ParsedDirectives.{content_found, IsUnderstood};
+ghost use Rattle.std.specs.Prelude.{◌≡◌, ◌+◌, ◌≤◌, ◌++◌, length, Bool, IfOk, IfSome};
+ghost use Rattle.ud_sections.specs.directives.ParsedDirectives.{content_found};
 ghost use Rattle.ud_model.specs.answer.Listing.{depth_prefix};
 
 use crate::directives::parse_directive::directive;
@@ -10,7 +10,7 @@ use crate::printing::append_bytes::append;
 use arrayvec::ArrayVec;
 use itoa::Buffer;
 use std::marker::Model;
-use ud_cond::{Names, names, understood_names};
+use ud_cond::{Names, names};
 use ud_model::{Kind, Scan};
 
 /// The maximum length of a name's prefix: twenty digits and a space.
@@ -62,24 +62,18 @@ impl Lister {
         requires fits { length scan.now.masked.now ≤ LINE_BYTES }
         ensures { result ≡ names_in_content (content_of (as_scan scan.now)) }
     {
-        Lister::names_in(directive(scan), false)
+        Lister::names_in(directive(scan))
     }
 
     /// Returns the names in the condition of a line, as `names` does. `content` is what `directive`
-    /// returns for its scan. `understood` is whether its text is known to be an expression.
+    /// returns for its scan.
     #[inline(always)]
-    pub fn names_in<'a>(content: Result<Option<Directive<'a>>, Cut>, understood: bool) -> Names<'a>
+    pub fn names_in<'a>(content: Result<Option<Directive<'a>>, Cut>) -> Names<'a>
         requires fits { IfOk content (λ o. IfSome o (λ d. length d.after.now ≤ LINE_BYTES)) }
-        requires understood { understood ≡ true → IsUnderstood content }
         ensures { result ≡ names_in_content (content_found content.entry) }
     {
         match content {
-            Ok(Some(found)) if !found.broken => {
-                if understood {
-                    return understood_names(found.after);
-                }
-                names(found.kind, found.after)
-            }
+            Ok(Some(found)) if !found.broken => names(found.kind, found.after),
             _ => names(Kind::Endif, &[]),
         }
     }

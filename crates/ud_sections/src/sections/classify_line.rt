@@ -1,14 +1,13 @@
 //! The classification of a line: what decides it among the sections.
 
-ghost use Rattle.std.specs.Prelude.{◌≡◌, ◌≤◌, List, length, IfSome};
+ghost use Rattle.std.specs.Prelude.{◌≡◌, ◌≤◌, List, length};
 ghost use Rattle.ud_model.specs.text.Scans.{is_spanning};
-ghost use Rattle.ud_model.specs.conditions.Conditions.{condition_of, decision_on};
+ghost use Rattle.ud_model.specs.conditions.Conditions.{decision_on};
 ghost use Rattle.ud_model.specs.sections.Items.{rules_of};
 ghost use Rattle.ud_model.specs.conditions.Table.{Argument};
 ghost use Rattle.ud_model.specs.declared.limits.TheConstants.{LINE_BYTES};
 ghost use Rattle.ud_cond.specs.symbols.SymbolTable.{TableRepresents};
 ghost use Rattle.ud_cond.specs.CondViews.{as_decision, as_rules};
-ghost use Rattle.ud_cond.specs.KnownConditions.{IsKnownCondition};
 ghost use Rattle.ud_model.specs.text.LineViews.{as_scan};
 ghost use Rattle.ud_sections.specs.directives.ParsedDirectives.{as_directive};
 ghost use Rattle.ud_sections.specs.sections.ClassifiedLines.{classified_with, directive_kind};
@@ -53,44 +52,16 @@ fn joins_a_neighbor(scan: &Scan<'_>) -> bool
     scan.joins_before || scan.joins_after
 }
 
-/// Returns the decision on a directive that isn't broken. `known` is its condition, if it is known.
-#[inline(always)]
-fn known_or_condition(
-    found: &Directive<'_>,
-    known: Option<Cond>,
-    symbols: &Symbols,
-    settings: Settings,
-) -> Answer
-    requires fits { length found.now.after.now ≤ LINE_BYTES }
-    requires known { IfSome known (IsKnownCondition found.now.kind found.now.after.now symbols.now
-        (rules_of settings)) }
-    ensures { (calls : List Argument) → TableRepresents symbols.now calls →
-        as_decision result ≡ condition_of found.now.kind found.now.after.now calls
-        (rules_of settings) }
-{
-    match known {
-        Some(cond) => Answer {
-            cond,
-            ignoring: false,
-        },
-        None => condition(found.kind, found.after, symbols, rules_of(settings)),
-    }
-}
-
 /// Returns what the symbols decide of a line's directive. A broken directive is undecided. One that
-/// joins the next line opens no section that is plain text. `known` is the condition, if it is
-/// known.
+/// joins the next line opens no section that is plain text.
 #[inline(always)]
 fn condition_on(
     scan: &Scan<'_>,
     found: &Directive<'_>,
-    known: Option<Cond>,
     symbols: &Symbols,
     settings: Settings,
 ) -> Answer
     requires fits { length found.now.after.now ≤ LINE_BYTES }
-    requires known { IfSome known (IsKnownCondition found.now.kind found.now.after.now symbols.now
-        (rules_of settings)) }
     ensures { (calls : List Argument) → TableRepresents symbols.now calls →
         as_decision result ≡ decision_on (as_scan scan.now) (as_directive found.now) calls
         (rules_of settings) }
@@ -101,7 +72,7 @@ fn condition_on(
             ignoring: false,
         };
     }
-    let answer = known_or_condition(found, known, symbols, settings);
+    let answer = condition(found.kind, found.after, symbols, rules_of(settings));
     Answer {
         cond: answer.cond,
         ignoring: answer.ignoring && !scan.joins_after,
@@ -109,7 +80,7 @@ fn condition_on(
 }
 
 /// Returns the rules by which the settings have expressions evaluated.
-pub(crate) fn rules_of(settings: Settings) -> Rules
+fn rules_of(settings: Settings) -> Rules
     ensures { as_rules result ≡ rules_of settings }
 {
     Rules {
@@ -119,32 +90,29 @@ pub(crate) fn rules_of(settings: Settings) -> Rules
 }
 
 /// Returns the kind of a line's directive among the sections, with what the symbols decide of it.
-/// Only a condition is evaluated, unless `known` has it.
+/// Only a condition is evaluated.
 #[inline(always)]
 pub(crate) fn line_kind_of(
     scan: &Scan<'_>,
     found: &Directive<'_>,
-    known: Option<Cond>,
     symbols: &Symbols,
     settings: Settings,
 ) -> LineKind
     requires fits { length found.now.after.now ≤ LINE_BYTES }
-    requires known { IfSome known (IsKnownCondition found.now.kind found.now.after.now symbols.now
-        (rules_of settings)) }
     ensures { (calls : List Argument) → TableRepresents symbols.now calls →
         result ≡ directive_kind (as_scan scan.now) (as_directive found.now) calls
         (rules_of settings) }
 {
     match found.kind.role() {
         Role::IfGroup => {
-            let answer = condition_on(scan, found, known, symbols, settings);
+            let answer = condition_on(scan, found, symbols, settings);
             LineKind::If {
                 cond: answer.cond,
                 ignoring: answer.ignoring,
             }
         }
         Role::ElifGroup => {
-            let answer = condition_on(scan, found, known, symbols, settings);
+            let answer = condition_on(scan, found, symbols, settings);
             LineKind::Elif { cond: answer.cond }
         }
         Role::ElseGroup => LineKind::Else,

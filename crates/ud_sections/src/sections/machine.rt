@@ -7,17 +7,16 @@
 //! lines and their tree.
 
 ghost use Rattle.std.specs.Prelude.{◌≡◌, ◌≤◌, ◌<◌, ◌+◌, [], List, length, IsTrue, IfOk, IfErr};
-ghost use Rattle.std.specs.Prelude.{OnOk, OnErr, IfSome, OnSome, None, Some, Ok};
+ghost use Rattle.std.specs.Prelude.{OnOk, OnErr, None, Some, Ok};
 ghost use Rattle.arrayvec.specs.ArrayVec.{array_vec_len};
 ghost use Rattle.ud_model.specs.text.Scans.{Reading};
 ghost use Rattle.ud_model.specs.sections.Tree.{Item, Tree, closed, nothing, depth};
 ghost use Rattle.ud_model.specs.sections.Directives.{content_of};
-ghost use Rattle.ud_model.specs.sections.Items.{Options, mode_after, rules_of};
+ghost use Rattle.ud_model.specs.sections.Items.{Options, mode_after};
 ghost use Rattle.ud_model.specs.declared.limits.TheConstants.{LINE_BYTES, OPEN_SECTIONS};
 ghost use Rattle.ud_model.specs.text.LineViews.{as_line, as_scan};
 ghost use Rattle.ud_sections.specs.directives.ParsedDirectives.{content_found};
-ghost use Rattle.ud_sections.specs.directives.ParsedDirectives.{IsWithinScan, IsKnownFor};
-ghost use Rattle.ud_sections.specs.directives.ParsedDirectives.{IsUnderstood};
+ghost use Rattle.ud_sections.specs.directives.ParsedDirectives.{IsWithinScan};
 ghost use Rattle.ud_sections.specs.sections.ClassifiedLines.{classified};
 ghost use Rattle.ud_sections.specs.sections.Limits.{IsWithinLimits};
 ghost use Rattle.ud_sections.specs.sections.StepViews.{HoldsKeyword};
@@ -28,15 +27,15 @@ ghost use Rattle.ud_sections.specs.sections.Checking.{opens_section};
 use crate::directives::parse_directive::directive;
 use crate::directives::{Cut, Directive};
 use crate::sections::check::{LineContext, check_line};
-use crate::sections::classify_line::{ClassifiedLine, classify, line_kind_of, rules_of};
+use crate::sections::classify_line::{ClassifiedLine, classify, line_kind_of};
 use crate::sections::line_kind::LineKind;
 use crate::sections::open_section::{Enclosing, OpenSection, StackOp};
 use crate::sections::step::{Span, Step};
 use crate::sections::text_policy::TextPolicy;
 use arrayvec::ArrayVec;
-use ud_cond::{Symbols, fast_condition};
+use ud_cond::Symbols;
 use ud_faults::SectionFault;
-use ud_model::{Cond, Line, Mode, OPEN_SECTIONS, Scan, Settings, Verdict};
+use ud_model::{Line, Mode, OPEN_SECTIONS, Scan, Settings, Verdict};
 
 /// The step of a line, and the line's change of the open sections.
 #[derive(Clone, Copy)]
@@ -169,33 +168,11 @@ impl Machine {
             MachineRepresents self.old o xs t → MachineRepresents self.new o xs t) }
         ensures fused { (f : SectionFault) → machine_fault self.old ≡ Some f → result ≡ Err f }
     {
-        self.step_by(scan, directive(scan), None, line, symbols)
+        self.step_by(scan, directive(scan), line, symbols)
     }
 
-    /// Returns the condition of the next line, which has this content, if the line's text suits the
-    /// fast path. The text is then understood.
-    #[inline(always)]
-    pub fn fast_condition(
-        &self,
-        content: Result<Option<Directive<'_>>, Cut>,
-        symbols: &Symbols,
-    ) -> Option<Cond>
-        ensures known { IfSome result (IsKnownFor content.entry symbols.now
-            (rules_of self.now.settings)) }
-        ensures understood { OnSome result (IsUnderstood content.entry) }
-    {
-        match content {
-            Ok(Some(found)) if !found.broken => {
-                let rules = rules_of(self.settings);
-                fast_condition(found.kind, found.after, symbols, rules)
-            }
-            _ => None,
-        }
-    }
-
-    /// Decides the next line, as `step` does. `content` is what `directive` returns for `scan`, and
-    /// `known` the line's condition, if it is known, as from `fast_condition`. So a caller that
-    /// needs them too doesn't parse the line again.
+    /// Decides the next line, as `step` does. `content` is what `directive` returns for `scan`. So
+    /// a caller that needs it too doesn't parse the line again.
     ///
     /// # Errors
     /// As `step`.
@@ -204,7 +181,6 @@ impl Machine {
         &mut self,
         scan: &Scan<'_>,
         content: Result<Option<Directive<'_>>, Cut>,
-        known: Option<Cond>,
         line: &Line<'_>,
         symbols: &Symbols,
     ) -> Result<Step, SectionFault>
@@ -212,8 +188,6 @@ impl Machine {
         requires within { IsWithinLimits (as_line line.now) }
         requires content { content_found content ≡ content_of (as_scan scan.now) }
         requires keyword { IsWithinScan content (length scan.now.masked.now) }
-        requires known { IfSome known (IsKnownFor content symbols.now
-            (rules_of self.old.settings)) }
         ensures represents { StepsNext self.old self.new (as_scan scan.now) (as_line line.now)
             symbols.now result }
         ensures finds_fault { FindsFault self.old (as_scan scan.now) (as_line line.now)
@@ -236,7 +210,7 @@ impl Machine {
                 keyword: Span { at: 0, len: 0 },
             });
         }
-        match self.transition(scan, content, known, line.number, symbols) {
+        match self.transition(scan, content, line.number, symbols) {
             Ok(next) => {
                 apply(&mut self.open_sections, next.change);
                 self.removed = next.step.verdict.is_removed();
@@ -309,15 +283,12 @@ impl Machine {
         &self,
         scan: &Scan<'_>,
         content: Result<Option<Directive<'_>>, Cut>,
-        known: Option<Cond>,
         number: u32,
         symbols: &Symbols,
     ) -> Result<Transition, SectionFault>
         requires fits { length scan.now.masked.now ≤ LINE_BYTES }
         requires content { content_found content ≡ content_of (as_scan scan.now) }
         requires keyword { IsWithinScan content (length scan.now.masked.now) }
-        requires known { IfSome known (IsKnownFor content symbols.now
-            (rules_of self.now.settings)) }
         ensures value { IsTransition self.now (as_scan scan.now) symbols.now number result }
         ensures keyword_within { IfOk result
             (λ next. next.step.keyword.at + next.step.keyword.len ≤ length
@@ -333,7 +304,7 @@ impl Machine {
         };
         let (kind, keyword) = match content {
             Some(found) => (
-                line_kind_of(scan, &found, known, symbols, self.settings),
+                line_kind_of(scan, &found, symbols, self.settings),
                 found.keyword,
             ),
             None => (LineKind::Text, Span { at: 0, len: 0 }),
