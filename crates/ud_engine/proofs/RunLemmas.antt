@@ -193,35 +193,3 @@ module _ (o : Options) where
     pub ended_appended : (r : Result Bool RunFault) → Finishes (own_session given printed) failed b c r → (x : List ℕ) × Appends b c x
     ended_appended (Ok d) w = (w.more, w.appended)
     ended_appended (Err f) w = end_appended failed b c given printed f w
-
-  -- The faults possible at the end.
-  pub ended_read : (b c : Option (List ℕ)) (given printed : List ℕ) (failed reader : Bool) (r : Result Bool RunFault) → reader ≡ false → Finishes (own_session given printed) failed b c r →
-      (reader ≡ true → r ≡ Err Read) × (r ≡ Err Read → reader ≡ true)
-  ended_read b c given printed failed reader (Ok d) e w = (λ f. cc, λ f. cc)
-  ended_read b c given printed failed reader (Err (Text f)) e w = (λ f. cc, λ f. cc)
-  ended_read b c given printed failed reader (Err (Section f)) e w = (λ f. cc, λ f. cc)
-  ended_read b c given printed failed reader (Err Read) e w = absurd w
-  ended_read b c given printed failed reader (Err Write) e w = (λ f. cc, λ f. cc)
-
-  pub ended_write : (b c : Option (List ℕ)) (given printed : List ℕ) (failed : Bool) (r : Result Bool RunFault) → WriterMatches failed r → Finishes (own_session given printed) failed b c r →
-      (failed ≡ true → r ≡ Err Write) × (r ≡ Err Write → failed ≡ true)
-  ended_write b c given printed failed (Ok d) e w = (λ f. cc, λ f. cc)
-  ended_write b c given printed failed (Err (Text f)) e w = (λ g. let no = w.0 in cc, λ g. cc)
-  ended_write b c given printed failed (Err (Section f)) e w = (λ g. let no = w.0 in cc, λ g. cc)
-  ended_write b c given printed failed (Err Read) e w = absurd w
-  ended_write b c given printed failed (Err Write) e w = (λ f. refl, λ f. w.0)
-
-  -- The faults possible in a chunk.
-  pub fed_read : (b c : Option (List ℕ)) (longer printed : List ℕ) (failed reader : Bool) (f : RunFault) → reader ≡ false → FeedFails o own_piece failed b c longer printed f →
-      (reader ≡ true → the_err f ≡ Err Read) × (the_err f ≡ Err Read → reader ≡ true)
-  fed_read b c longer printed failed reader (Text f) e w = (λ g. cc, λ g. cc)
-  fed_read b c longer printed failed reader (Section f) e w = (λ g. cc, λ g. cc)
-  fed_read b c longer printed failed reader Read e w = absurd w
-  fed_read b c longer printed failed reader Write e w = (λ g. cc, λ g. cc)
-
-  pub fed_write : (b c : Option (List ℕ)) (longer printed : List ℕ) (failed : Bool) (f : RunFault) → FeedFails o own_piece failed b c longer printed f →
-      (failed ≡ true → the_err f ≡ Err Write) × (the_err f ≡ Err Write → failed ≡ true)
-  fed_write b c longer printed failed (Text f) w = (λ g. let no = w.0 in cc, λ g. cc)
-  fed_write b c longer printed failed (Section f) w = (λ g. let no = w.0 in cc, λ g. cc)
-  fed_write b c longer printed failed Read w = absurd w
-  fed_write b c longer printed failed Write w = (λ g. refl, λ g. w.0)

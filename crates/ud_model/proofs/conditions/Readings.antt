@@ -35,9 +35,6 @@ module _ {A : Type 0} (m : Meaning A) where
   reduce_meant j e (before o ∷ s) = reduce_meant j (itself.unary o e) s
   reduce_meant _ _ _ = refl
 
-  wait_meant : (o : Operator) (r : Expression × List (Frame Expression)) → wait m o (pair_meant r) ≡ state_meant (wait itself o r)
-  wait_meant o (e, s) = refl
-
   step_meant : (s : ParseState Expression) (t : Token) → step m (state_meant s) t ≡ state_meant (step itself s t)
   step_meant s t = grind (arith, reduce_meant)
 
