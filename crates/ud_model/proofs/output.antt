@@ -19,6 +19,10 @@ pub mod PrintedPruned
 pub mod PrunedTree
 pub mod PrunedGroups
 pub mod SelectedPruned
+pub mod SelectedSomewhere
+pub mod LiveWorlds
+pub mod OnlyDead
+pub mod LiveAnswers
 pub mod ProcessedPruned
 pub mod CProcessed
 pub mod ProcessedAlike

@@ -3,6 +3,7 @@ pub mod Worlds
 pub mod Pruned
 pub mod Rereading
 pub mod CSelection
+pub mod LiveLines
 pub mod ListedNames
 pub mod BlankedLines
 pub mod SharedLines

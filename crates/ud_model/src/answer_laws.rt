@@ -11,6 +11,7 @@ ghost use Rattle.ud_model.specs.output.Worlds.{World, selected};
 ghost use Rattle.ud_model.specs.output.Rereading.{IsPlain, IsTreeOf, LinesFit, line_bytes};
 ghost use Rattle.ud_model.specs.output.Rereading.{KeepsTruths, IsPlainC, PrintsText};
 ghost use Rattle.ud_model.specs.output.CSelection.{IsCWorld, SelectsAlike};
+ghost use Rattle.ud_model.specs.output.LiveLines.{LeavesLive, SelectsLive};
 ghost use Rattle.ud_model.specs.output.InsertedLines.{read_as};
 ghost use Rattle.ud_model.specs.output.Processing.{Processes, over_readings, DecidesAsC};
 ghost use Rattle.ud_model.specs.output.Processing.{HasOneChoice};
@@ -78,6 +79,21 @@ pub fn law_answer_processed<P: Preprocessing>()
         let p = over_readings P.takes P.enters P.leaves P.decides in
         HasOneChoice p → Processes p k.before (k.before f) s t →
         Processes p k.after (k.after f) s u → u ≡ t }
+{}
+
+/// Only dead lines go, and all of them do.
+///
+/// The arguments only decide conditions, and the input has no fault. A text line is live if some
+/// world selects it that agrees with the decided conditions. The text lines of the output are then
+/// the live ones of the input, byte by byte and in order (unifdef(1)). Each line that C may select
+/// is live, so C selects no line that is removed (C11 6.10.1p4, p6). A line that stays is selected
+/// if C gives the unknown conditions the truths of such a world. Whether it may do so depends on
+/// what they say: `#if 0` is unknown without `-k`, and never true.
+pub fn law_answer_only_dead()
+    ensures live { (args : List (List ℕ)) (input : List ℕ) (a : Answer) → Succeeds args input a →
+        IsPlain (options_of args) → LeavesLive (options_of args) input a.output }
+    ensures in_c { (args : List (List ℕ)) (input : List ℕ) (a : Answer) → Succeeds args input a →
+        SelectsLive (options_of args) input }
 {}
 
 /// The status reports whether output and input differ.

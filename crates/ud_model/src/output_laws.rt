@@ -13,6 +13,7 @@ ghost use Rattle.ud_model.specs.output.Rereading.{IsPlain, IsTreeOf, IsClean, Cl
 ghost use Rattle.ud_model.specs.output.Rereading.{line_bytes, edited_bytes, KeepsTruths, IsPlainC};
 ghost use Rattle.ud_model.specs.output.Rereading.{PrintsText, selected_bytes};
 ghost use Rattle.ud_model.specs.output.CSelection.{IsCWorld, condition_in, IsCPair};
+ghost use Rattle.ud_model.specs.output.LiveLines.{text_lines_in, AreNumbered, AreLive};
 ghost use Rattle.ud_model.specs.output.InsertedLines.{read_as};
 ghost use Rattle.ud_model.specs.output.Processing.{Condition, Processes, over_readings, agreeing};
 ghost use Rattle.ud_model.specs.output.Processing.{of_origin};
@@ -35,6 +36,16 @@ pub fn law_selected_tree()
     ensures { (w : World Reading) (ns : Nodes Reading) (ps : Nodes (Edited Reading)) →
         IsPruned ns ps → Agrees w ns → selected (λ e. w e.line) ps
         ≡ map (edited Verdict.Keep) (selected w ns) }
+{}
+
+/// Exactly the dead lines go: a text line of nodes stays if some world that agrees with the decided
+/// conditions selects it, and else it is removed (C11 6.10.1p6).
+///
+/// No line has the number of another. Such a world may give an unknown condition either truth,
+/// whatever the condition says.
+pub fn law_only_dead_lines()
+    ensures { (ns : Nodes Reading) → AreNumbered ns →
+        AreLive ns (map (λ e. e.line) (text_lines_in (pruned_lines ns))) }
 {}
 
 /// The output is well nested: the lines that the marks leave of nodes, with edited directives, have

@@ -82,7 +82,7 @@ item_bytes ys zs e =
     ∙ ap bytes (sym (map_lines scanned ys) ∙ ap (λ (l : List (Item Seen)). map line_in l) e ∙ map_lines left_seen zs)
     ∙ map-twice (λ (z : Item (Edited Reading)). left_seen (line_in z)) (λ (s : Seen). s.bytes) zs
 
-kept_bytes : (ls : List Reading) → map edited_bytes (map (edited Keep) ls) ≡ map line_bytes ls
+pub kept_bytes : (ls : List Reading) → map edited_bytes (map (edited Keep) ls) ≡ map line_bytes ls
 kept_bytes [] = refl
 kept_bytes (l ∷ ls) = ap (λ (t : List (List ℕ)). line_bytes l ∷ t) (kept_bytes ls)
 

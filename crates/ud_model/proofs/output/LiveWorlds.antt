@@ -1,0 +1,180 @@
+-- A world that agrees with the decided conditions of nodes, and has certain truths for the openers
+-- of the pruned nodes.
+use Rattle.std.proofs.Common.{◌≡◌, List, [], ◌∷◌, ◌++◌, length, map, Bool, true, false, refl, sym, ◌∙◌, ap, ap₂, subst, append_assoc, arith}
+use Rattle.ud_model.specs.declared.cond.Cond.{Cond}
+use Rattle.ud_model.specs.declared.cond.Cond.TheVariants.{Yes, No, Unknown}
+use Rattle.ud_model.specs.declared.verdict.Verdict.{Verdict}
+use Rattle.ud_model.specs.declared.verdict.Verdict.TheVariants.{Remove, ToElse, ToEndif}
+use Rattle.ud_model.specs.sections.Tree.{Item, Opener, Nodes, Groups, Elifs, text_line, if_line, elif_line, else_line, endif_line, nothing, text, section, conditional, otherwise, first, elif, lines_of_nodes, lines_of_groups, lines_of_elifs}
+use Rattle.ud_model.specs.sections.Pruning.{Mark}
+use Rattle.ud_model.specs.output.Worlds.{World, AgreesWith, EachReached, GroupsReached, ElifsReached, openers_in}
+use Rattle.ud_model.specs.output.Pruned.{Edited, kept_line, printed, IsUndecided, GroupsUndecided, ElifsUndecided}
+use Rattle.ud_model.specs.output.LiveLines.{text_line_of, text_lines_in}
+use Rattle.ud_model.proofs.output.Each.{Each, each_parts, each_both}
+use Rattle.ud_model.proofs.output.SelectedPruned.{out_world, Fits}
+use Rattle.ud_model.proofs.output.SelectedSomewhere.{Truths, weaker, any_truths, one_truth, both_truths, text_lines_append}
+
+-- 1. The openers among lines, with their conditions.
+
+module _ {L : Type 0} where
+  abbrev head_of : Item L → List (Opener L)
+  head_of (if_line o) = o ∷ []
+  head_of (elif_line o) = o ∷ []
+  head_of _ = []
+
+  abbrev pub heads_in : List (Item L) → List (Opener L)
+  heads_in [] = []
+  heads_in (x ∷ xs) = head_of x ++ heads_in xs
+
+  abbrev pub lines_of_heads : List (Opener L) → List L
+  lines_of_heads os = map (λ (o : Opener L). o.line) os
+
+  heads_append : (xs ys : List (Item L)) → heads_in (xs ++ ys) ≡ heads_in xs ++ heads_in ys
+  heads_append [] ys = refl
+  heads_append (x ∷ xs) ys =
+      ap (λ (os : List (Opener L)). head_of x ++ os) (heads_append xs ys) ∙ sym (append_assoc (head_of x) (heads_in xs) (heads_in ys))
+
+  pub head_lines : (xs : List (Item L)) → lines_of_heads (heads_in xs) ≡ openers_in xs
+  head_lines [] = refl
+  head_lines (if_line o ∷ xs) = ap (λ (ls : List L). o.line ∷ ls) (head_lines xs)
+  head_lines (elif_line o ∷ xs) = ap (λ (ls : List L). o.line ∷ ls) (head_lines xs)
+  head_lines (x ∷ xs) = head_lines xs
+
+  module _ (P : Opener L → Type 0) where
+    abbrev EachHead : List (Item L) → Type 0
+    EachHead xs = Each P (heads_in xs)
+
+    heads_apart : (xs ys : List (Item L)) → EachHead (xs ++ ys) → EachHead xs × EachHead ys
+    heads_apart xs ys h = each_parts P (heads_in xs) (heads_in ys) (subst (Each P) (heads_append xs ys) h)
+
+    heads_both : (xs ys : List (Item L)) → EachHead xs → EachHead ys → EachHead (xs ++ ys)
+    heads_both xs ys a b = subst (Each P) (sym (heads_append xs ys)) (each_both P (heads_in xs) (heads_in ys) a b)
+
+    -- What is true of each opener is true of each that is reached.
+    module _ (w : World L) where
+      mutual
+        pub each_reached : (ns : Nodes L) → EachHead (lines_of_nodes ns) → EachReached w P ns
+        each_reached nothing h = tt
+        each_reached (text ns l) h = each_reached ns (heads_apart (lines_of_nodes ns) (text_line l ∷ []) h).0
+        each_reached (section ns gs e) h =
+            let r = heads_apart (lines_of_nodes ns) (lines_of_groups gs) (heads_apart (lines_of_nodes ns ++ lines_of_groups gs) (endif_line e ∷ []) h).0 in
+            (each_reached ns r.0, groups_reached gs r.1)
+
+        groups_reached : (gs : Groups L) → EachHead (lines_of_groups gs) → GroupsReached w P gs
+        groups_reached (conditional es) h = elifs_reached es h
+        groups_reached (otherwise es l ns) h =
+            let r = heads_apart (lines_of_elifs es ++ else_line l ∷ []) (lines_of_nodes ns) h in
+            (elifs_reached es (heads_apart (lines_of_elifs es) (else_line l ∷ []) r.0).0, λ e. each_reached ns r.1)
+
+        elifs_reached : (es : Elifs L) → EachHead (lines_of_elifs es) → ElifsReached w P es
+        elifs_reached (first o ns) h = (h.0, λ e. each_reached ns h.1)
+        elifs_reached (elif es o ns) h =
+            let r = heads_apart (lines_of_elifs es ++ elif_line o ∷ []) (lines_of_nodes ns) h in
+            let q = heads_apart (lines_of_elifs es) (elif_line o ∷ []) r.0 in
+            (elifs_reached es q.0, λ e. (q.1.0, λ t. each_reached ns r.1))
+
+  abbrev pub IsUnknown : Opener L → Type 0
+  IsUnknown o = o.cond ≡ Unknown
+
+  mutual
+    -- If nothing is decided, each opener is unknown.
+    pub each_unknown : (ns : Nodes L) → IsUndecided ns → EachHead IsUnknown (lines_of_nodes ns)
+    each_unknown nothing h = tt
+    each_unknown (text ns l) h = heads_both IsUnknown (lines_of_nodes ns) (text_line l ∷ []) (each_unknown ns h) tt
+    each_unknown (section ns gs e) h =
+        heads_both IsUnknown (lines_of_nodes ns ++ lines_of_groups gs) (endif_line e ∷ [])
+        (heads_both IsUnknown (lines_of_nodes ns) (lines_of_groups gs) (each_unknown ns h.0) (groups_unknown gs h.1)) tt
+
+    groups_unknown : (gs : Groups L) → GroupsUndecided gs → EachHead IsUnknown (lines_of_groups gs)
+    groups_unknown (conditional es) h = elifs_unknown es h
+    groups_unknown (otherwise es l ns) h =
+        heads_both IsUnknown (lines_of_elifs es ++ else_line l ∷ []) (lines_of_nodes ns)
+        (heads_both IsUnknown (lines_of_elifs es) (else_line l ∷ []) (elifs_unknown es h.0) tt) (each_unknown ns h.1)
+
+    elifs_unknown : (es : Elifs L) → ElifsUndecided es → EachHead IsUnknown (lines_of_elifs es)
+    elifs_unknown (first o ns) h = (h.0, each_unknown ns h.1)
+    elifs_unknown (elif es o ns) h =
+        heads_both IsUnknown (lines_of_elifs es ++ elif_line o ∷ []) (lines_of_nodes ns)
+        (heads_both IsUnknown (lines_of_elifs es) (elif_line o ∷ []) (elifs_unknown es h.0) (h.1, tt)) (each_unknown ns h.2)
+
+-- 2. The lines that are left of lines.
+
+module _ {A B : Type 0} (R : A → B → Type 0) where
+  -- The later list has some elements of the first, each with its relation.
+  pub data Left : List A → List B → Type 0 where
+    none : Left [] []
+    gone : {x : A} {xs : List A} {ys : List B} → Left xs ys → Left (x ∷ xs) ys
+    stays : {x : A} {y : B} {xs : List A} {ys : List B} → R x y → Left xs ys → Left (x ∷ xs) (y ∷ ys)
+
+  none_left : (xs : List A) → Left xs []
+  none_left [] = none
+  none_left (x ∷ xs) = gone (none_left xs)
+
+module _ {L : Type 0} where
+  -- An opener of the output comes from this one.
+  abbrev pub IsFrom : Opener L → Opener (Edited L) → Type 0
+  IsFrom o p = (p.line.line ≡ o.line) × (p.cond ≡ o.cond)
+
+  one_head : (v : Verdict) (x : Item L) {os : List (Opener L)} {ps : List (Opener (Edited L))} → Left IsFrom os ps → Left IsFrom (head_of x ++ os) (heads_in (kept_line v x) ++ ps)
+  one_head Remove (if_line o) h = gone h
+  one_head Remove (elif_line o) h = gone h
+  one_head ToElse (elif_line o) h = gone h
+  one_head ToEndif (elif_line o) h = gone h
+  one_head v (if_line o) h = stays (refl, refl) h
+  one_head v (elif_line o) h = stays (refl, refl) h
+  one_head v x h = h
+
+  pub heads_left : (xs : List (Item L)) (ms : List Mark) → Left IsFrom (heads_in xs) (heads_in (printed xs ms))
+  heads_left [] ms = none
+  heads_left (x ∷ xs) [] = none_left IsFrom (heads_in (x ∷ xs))
+  heads_left (x ∷ xs) (m ∷ ms) =
+      subst (Left IsFrom (heads_in (x ∷ xs))) (sym (heads_append (kept_line m.verdict x) (printed xs ms))) (one_head m.verdict x (heads_left xs ms))
+
+  -- A text line of the output comes from this one.
+  abbrev pub IsOfLine : L → Edited L → Type 0
+  IsOfLine l e = e.line ≡ l
+
+  one_text : (v : Verdict) (x : Item L) {ls : List L} {es : List (Edited L)} → Left IsOfLine ls es → Left IsOfLine (text_line_of x ++ ls) (text_lines_in (kept_line v x) ++ es)
+  one_text Remove (text_line l) h = gone h
+  one_text v (text_line l) h = stays refl h
+  one_text v x h = h
+
+  pub texts_left : (xs : List (Item L)) (ms : List Mark) → Left IsOfLine (text_lines_in xs) (text_lines_in (printed xs ms))
+  texts_left [] ms = none
+  texts_left (x ∷ xs) [] = none_left IsOfLine (text_lines_in (x ∷ xs))
+  texts_left (x ∷ xs) (m ∷ ms) =
+      subst (Left IsOfLine (text_lines_in (x ∷ xs))) (sym (text_lines_append (kept_line m.verdict x) (printed xs ms))) (one_text m.verdict x (texts_left xs ms))
+
+-- 3. The truths of the openers.
+
+abbrev is_yes : Cond → Bool
+is_yes Yes = true
+is_yes _ = false
+
+module _ {L : Type 0} where
+  fits_by : (w : World L) (c : Cond) (l : L) → w l ≡ is_yes c → AgreesWith w c l
+  fits_by w Yes l e = e
+  fits_by w No l e = e
+  fits_by w Unknown l e = tt
+
+  unknown_fits : (w : World L) (c : Cond) (l : L) → c ≡ Unknown → AgreesWith w c l
+  unknown_fits w c l e = subst (λ (d : Cond). AgreesWith w d l) (sym e) tt
+
+  -- The world agrees with each of the openers, and has these truths for those that are left.
+  pub record Gives (os : List (Opener L)) (ps : List (Opener (Edited L))) (bs : List Bool) (w : World L) : Type 0 where
+    pub agrees : Each (Fits w) os
+    pub truths : map (out_world w) (lines_of_heads ps) ≡ bs
+
+  -- If what is left is unknown, the openers can be given such truths.
+  pub given : {os : List (Opener L)} {ps : List (Opener (Edited L))} → Left IsFrom os ps → Each IsUnknown ps → (bs : List Bool) → length bs ≡ length ps →
+      Truths (lines_of_heads os) (Gives os ps bs)
+  given none u [] e = weaker (λ w s. record { agrees = tt; truths = refl }) (any_truths [])
+  given none u (b ∷ bs) e = absurd (omega (arith, e))
+  given (gone {x = o} h) u bs e =
+      weaker (λ w s. record { agrees = (fits_by w o.cond o.line s.0, s.1.agrees); truths = s.1.truths }) (both_truths (one_truth o.line (is_yes o.cond)) (given h u bs e))
+  given (stays r h) u [] e = absurd (omega (arith, e))
+  given (stays {x = o} {y = p} r h) u (b ∷ bs) e =
+      weaker (λ w s. record {
+        agrees = (unknown_fits w o.cond o.line (sym r.1 ∙ u.0), s.1.agrees);
+        truths = ap₂ (λ (c : Bool) (cs : List Bool). c ∷ cs) (ap w r.0 ∙ s.0) s.1.truths;
+      }) (both_truths (one_truth o.line b) (given h u.1 bs (omega (arith, e))))
