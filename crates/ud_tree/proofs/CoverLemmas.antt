@@ -57,10 +57,15 @@ visits_all_within : {xs ys : List WalkCall} {p q : List ℕ → Type 0} {s t : T
 visits_all_within names w d e h = search (rules, All-weaker, visits_within)
 
 -- A path of the command line that can be taken stays so.
-pub begins_within : {xs ys : List WalkCall} {p q : List ℕ → Type 0} {path : List ℕ} → Within xs ys → ((path : List ℕ) → p path → q path) → Begins xs p path → Begins ys q path
-begins_within {path = path} w d (at_file node seen kind) = at_file node (w (met path (Present node)) seen) kind
-begins_within {path = path} w d (at_folder node seen kind due) = at_folder node (w (met path (Present node)) seen) kind (d path due)
-begins_within {path = path} w d (at_link node seen kind led due) = at_link node (w (met path (Present node)) seen) kind (w (followed path true) led) (d path due)
+pub begins_within : {xs ys : List WalkCall} {p q : List ℕ → Type 0} {has later : List ℕ → FileId → Type 0} {path : List ℕ} → Within xs ys → ((path : List ℕ) → p path → q path) →
+    ((path : List ℕ) (id : FileId) → has path id → later path id) → Begins xs p has path → Begins ys q later path
+begins_within {path = path} w d e (at_file node seen kind there) = at_file node (w (met path (Present node)) seen) kind (e path node.id there)
+begins_within {path = path} w d e (at_folder node seen kind due) = at_folder node (w (met path (Present node)) seen) kind (d path due)
+begins_within {path = path} w d e (at_link node seen kind led due) = at_link node (w (met path (Present node)) seen) kind (w (followed path true) led) (d path due)
+
+-- A file that was found stays so.
+is_in_later : (found found' : List Found) → All (Contains found') found → (path : List ℕ) (id : FileId) → IsIn found path id → IsIn found' path id
+is_in_later found found' h path id k = (k.0, All-contains (Contains found') found k.0 h k.1, k.2, k.3)
 
 pub later_calls : (xs ys : List WalkCall) → Within ys (ys ++ xs)
 later_calls xs ys x h = Contains-append_left ys xs x h
@@ -148,14 +153,14 @@ waits_due ws {folders = folders} h =
     (h.folder, h.is_path, inr (subst (λ (fs : List (List ℕ)). Contains fs h.folder) (sym h.grown) (Contains-push folders h.folder)))
 
 -- A path of the command line can be taken.
-pub starts_good : (ws : List WalkCall) (path : List ℕ) {calls calls' : List Call} (folders folders' : List (List ℕ)) (r : Report) → calls' ≡ map walked ws ++ calls → ListsNone ws → Within folders folders' →
-    Begins ws (IsDue ws folders') path → Starts path calls calls' folders folders' r r
+pub starts_good : (ws : List WalkCall) (path : List ℕ) {calls calls' : List Call} (folders folders' : List (List ℕ)) {found' : List Found} (r : Report) → calls' ≡ map walked ws ++ calls → ListsNone ws → Within folders folders' →
+    Begins ws (IsDue ws folders') (IsIn found') path → Starts path calls calls' folders folders' found' r r
 unfolding explores_few
 starts_good ws path folders folders' r is none kept b = record { explores = explores_few ws folders folders' r r (λ some. some) is none kept; begins = inr b }
 
 -- A path of the command line has a fault.
-pub starts_bad : (ws : List WalkCall) (path : List ℕ) {calls calls' : List Call} (folders : List (List ℕ)) (r r' : Report) → calls' ≡ map walked ws ++ calls → ListsNone ws → 0 < r'.faulty →
-    Starts path calls calls' folders folders r r'
+pub starts_bad : (ws : List WalkCall) (path : List ℕ) {calls calls' : List Call} (folders : List (List ℕ)) {found' : List Found} (r r' : Report) → calls' ≡ map walked ws ++ calls → ListsNone ws → 0 < r'.faulty →
+    Starts path calls calls' folders folders found' r r'
 starts_bad ws path folders r r' is none some = record { explores = explores_few ws folders folders r r' (λ before. some) is none (waits_still folders); begins = inl some }
 
 -- A name in a folder was looked at.
@@ -369,19 +374,20 @@ pub waits_pushed : {X : Type 0} (f : X → List ℕ) (before after : List X) (x 
 waits_pushed f before after x path h is = record { folder = f x; is_path = h; grown = ap (map f) is ∙ map-append f before (x ∷ []) }
 
 -- Some paths of the command line can be taken, or have a fault.
-pub record StartsSome (paths : List (List ℕ)) (x y : List Call) (f g : List (List ℕ)) (first r : Report) : Type 0 where
+pub record StartsSome (paths : List (List ℕ)) (x y : List Call) (f g : List (List ℕ)) (found : List Found) (first r : Report) : Type 0 where
   pub explores : Explores x y f g first r
-  pub begins : (0 < r.faulty) ⊎ All (Begins explores.made (IsDue explores.made g)) paths
+  pub begins : (0 < r.faulty) ⊎ All (Begins explores.made (IsDue explores.made g) (IsIn found)) paths
 
 -- There was none yet.
-pub starts_none : (calls : List Call) (folders : List (List ℕ)) (r : Report) → StartsSome [] calls calls folders folders r r
+pub starts_none : (calls : List Call) (folders : List (List ℕ)) (found : List Found) (r : Report) → StartsSome [] calls calls folders folders found r r
 unfolding explores_none explores_few
-starts_none calls folders r = record { explores = explores_none calls folders r r (λ some. some); begins = inr (All-nil (Begins [] (IsDue [] folders))) }
+starts_none calls folders found r = record { explores = explores_none calls folders r r (λ some. some); begins = inr (All-nil (Begins [] (IsDue [] folders) (IsIn found))) }
 
 -- One path more can be taken, or has a fault.
-starts_more : {paths : List (List ℕ)} {path : List ℕ} {x y z : List Call} {f g h : List (List ℕ)} {first a b : Report} → StartsSome paths x y f g first a → Starts path y z g h a b → StartsSome (paths ++ path ∷ []) x z f h first b
+starts_more : {paths : List (List ℕ)} {path : List ℕ} {x y z : List Call} {f g h : List (List ℕ)} {found found' : List Found} {first a b : Report} → All (Contains found') found → StartsSome paths x y f g found first a →
+    Starts path y z g h found' a b → StartsSome (paths ++ path ∷ []) x z f h found' first b
 unfolding explores_then
-starts_more {paths = paths} {path = path} {g = g} {h = h} {a = a} {b = b} k l = record { explores = explores_then k.explores l.explores; begins = by_case k.begins l.begins }
+starts_more {paths = paths} {path = path} {g = g} {h = h} {found = found} {found' = found'} {a = a} {b = b} stay k l = record { explores = explores_then k.explores l.explores; begins = by_case k.begins l.begins }
   where
     xs : List WalkCall
     xs = k.explores.made
@@ -389,18 +395,21 @@ starts_more {paths = paths} {path = path} {g = g} {h = h} {a = a} {b = b} k l = 
     ys : List WalkCall
     ys = l.explores.made
 
-    by_case : (0 < a.faulty) ⊎ All (Begins xs (IsDue xs g)) paths → (0 < b.faulty) ⊎ Begins ys (IsDue ys h) path → (0 < b.faulty) ⊎ All (Begins (ys ++ xs) (IsDue (ys ++ xs) h)) (paths ++ path ∷ [])
+    Later : List ℕ → Type 0
+    Later p = Begins (ys ++ xs) (IsDue (ys ++ xs) h) (IsIn found') p
+
+    by_case : (0 < a.faulty) ⊎ All (Begins xs (IsDue xs g) (IsIn found)) paths → (0 < b.faulty) ⊎ Begins ys (IsDue ys h) (IsIn found') path → (0 < b.faulty) ⊎ All Later (paths ++ path ∷ [])
     by_case (inl some) e = inl (l.explores.kept some)
     by_case (inr each) (inl some) = inl some
-    by_case (inr each) (inr good) = inr (All-push (Begins (ys ++ xs) (IsDue (ys ++ xs) h)) paths path
-        (All-weaker (Begins xs (IsDue xs g)) (Begins (ys ++ xs) (IsDue (ys ++ xs) h)) (λ p start. begins_within (earlier_calls xs ys) (due_later xs ys g h l.explores.waits) start) paths each)
-        (begins_within (later_calls xs ys) (due_still xs ys h) good))
+    by_case (inr each) (inr good) = inr (All-push Later paths path
+        (All-weaker (Begins xs (IsDue xs g) (IsIn found)) Later (λ p start. begins_within (earlier_calls xs ys) (due_later xs ys g h l.explores.waits) (is_in_later found found' stay) start) paths each)
+        (begins_within (later_calls xs ys) (due_still xs ys h) (λ p id there. there) good))
 
 -- The same, by the index of the path.
-pub starts_at : {X : Type 0} (f : X → List ℕ) (xs : List X) (i : ℕ) (v : X) (path : List ℕ) {x y z : List Call} {a b c : List (List ℕ)} {first r s : Report} → i < length xs → v ≡ get_or xs i v → path ≡ f v →
-    StartsSome (map f (take i xs)) x y a b first r → Starts path y z b c r s → StartsSome (map f (take (i + 1) xs)) x z a c first s
-starts_at f xs i v path {x = x} {z = z} {a = a} {c = c} {first = first} {s = s} within is named h k =
-    subst (λ (ps : List (List ℕ)). StartsSome ps x z a c first s) (sym (one_more f xs i v path within is named)) (starts_more h k)
+pub starts_at : {X : Type 0} (f : X → List ℕ) (xs : List X) (i : ℕ) (v : X) (path : List ℕ) {x y z : List Call} {a b c : List (List ℕ)} {found found' : List Found} {first r s : Report} → i < length xs → v ≡ get_or xs i v → path ≡ f v →
+    All (Contains found') found → StartsSome (map f (take i xs)) x y a b found first r → Starts path y z b c found' r s → StartsSome (map f (take (i + 1) xs)) x z a c found' first s
+starts_at f xs i v path {x = x} {z = z} {a = a} {c = c} {found' = found'} {first = first} {s = s} within is named stay h k =
+    subst (λ (ps : List (List ℕ)). StartsSome ps x z a c found' first s) (sym (one_more f xs i v path within is named)) (starts_more stay h k)
 
 -- Calls of a walk are the same ones if they leave the same calls.
 same_walked : (xs ys : List WalkCall) → map walked xs ≡ map walked ys → xs ≡ ys
@@ -415,16 +424,16 @@ same_calls : (xs ys : List WalkCall) (old : List Call) → map walked xs ++ old 
 same_calls xs ys old e = same_walked xs ys (append_cancel_right (map walked xs) (map walked ys) old e)
 
 -- All paths can be taken, and all folders were entered.
-pub covers_paths : {X : Type 0} (f : X → List ℕ) (xs : List X) (i : ℕ) {x y z : List Call} {a b c : List (List ℕ)} {first r last : Report} → i ≡ length xs → ¬ (0 < r.faulty) → StartsSome (map f (take i xs)) x y a b first r → Exhausts y z b c r last →
-    {w v : Walk} → Catches x z w v → (patterns : List (List ℕ)) → map string_bytes w.patterns.now ≡ patterns →
+pub covers_paths : {X : Type 0} (f : X → List ℕ) (xs : List X) (i : ℕ) {x y z : List Call} {a b c : List (List ℕ)} {found : List Found} {first r last : Report} → i ≡ length xs → ¬ (0 < r.faulty) → StartsSome (map f (take i xs)) x y a b found first r → Exhausts y z b c r last →
+    {w v : Walk} → All (Contains v.found.items) found → Catches x z w v → (patterns : List (List ℕ)) → map string_bytes w.patterns.now ≡ patterns →
     CoversPaths (map f xs) patterns x z (IsIn v.found.items) (0 < last.faulty)
 unfolding explores_then
-covers_paths f xs i {x = x} {y = y} {z = z} {b = b} {c = c} {r = r} all fine h k {w = w} {v = v} caught patterns are = record {
+covers_paths f xs i {x = x} {y = y} {z = z} {b = b} {c = c} {found = found} {r = r} all fine h k {w = w} {v = v} stay caught patterns are = record {
   calls = ys ++ ws;
   are = (explores_then h.explores k.explores).are;
   waiting = c;
   all_listed = λ few. k.done (fewer few);
-  begins = subst (λ l. All (Begins (ys ++ ws) (IsDue (ys ++ ws) c)) (map f l)) (take_all i xs (omega arith)) (by_case h.begins);
+  begins = subst (λ l. All Later (map f l)) (take_all i xs (omega arith)) (by_case h.begins);
   visits = (explores_then h.explores k.explores).visits;
   taken = λ path node there kind.
       subst (λ (ps : List (List ℕ)). IsIn v.found.items path node.id ⊎ IsLeft ps path) (ap (map string_bytes) caught.grows.same ∙ are)
@@ -443,10 +452,13 @@ covers_paths f xs i {x = x} {y = y} {z = z} {b = b} {c = c} {r = r} all fine h k
         let both = length-append ys ws in
         omega (arith, both, few)
 
-    by_case : (0 < r.faulty) ⊎ All (Begins ws (IsDue ws b)) (map f (take i xs)) → All (Begins (ys ++ ws) (IsDue (ys ++ ws) c)) (map f (take i xs))
+    Later : List ℕ → Type 0
+    Later p = Begins (ys ++ ws) (IsDue (ys ++ ws) c) (IsIn v.found.items) p
+
+    by_case : (0 < r.faulty) ⊎ All (Begins ws (IsDue ws b) (IsIn found)) (map f (take i xs)) → All Later (map f (take i xs))
     by_case (inl some) = absurd (fine some)
     by_case (inr each) =
-        All-weaker (Begins ws (IsDue ws b)) (Begins (ys ++ ws) (IsDue (ys ++ ws) c)) (λ p start. begins_within (earlier_calls ws ys) (due_later ws ys b c k.explores.waits) start) (map f (take i xs)) each
+        All-weaker (Begins ws (IsDue ws b) (IsIn found)) Later (λ p start. begins_within (earlier_calls ws ys) (due_later ws ys b c k.explores.waits) (is_in_later found v.found.items stay) start) (map f (take i xs)) each
 
 -- A path of the input was looked at, and isn't that of a regular file, or was found.
 takes_met : (answer : Lookup) (path name : List ℕ) {calls calls' : List Call} (found found' : List Found) (r r' : Report) → (0 < r.faulty → 0 < r'.faulty) → name ≡ path → calls' ≡ walked (met path answer) ∷ calls → All (Contains found') found →
@@ -499,10 +511,6 @@ gives_within : {xs ys : List WalkCall} {p q : List ℕ → FileId → Type 0} {s
 gives_within w d e (no_path_text other told) = no_path_text other (e told)
 gives_within {path = path} w d e (was_given answer seen k l) = was_given answer (w (met path answer) seen) (λ node is kind. d path node.id (k node is kind)) (λ node is kind. e (l node is kind))
 
--- A file that was found stays so.
-is_in_later : (found found' : List Found) → All (Contains found') found → (path : List ℕ) (id : FileId) → IsIn found path id → IsIn found' path id
-is_in_later found found' h path id k = (k.0, All-contains (Contains found') found k.0 h k.1, k.2, k.3)
-
 -- No path of the input was given yet.
 pub takes_none : (calls : List Call) (found : List Found) (told : Type 0) → CoversInput [] calls calls (IsIn found) told
 takes_none calls found told = record { calls = []; are = refl; gives = All-nil (Gives [] (IsIn found) told) }
@@ -545,7 +553,8 @@ misses_kept args text found files s t e kept (misses_no_path none h) = misses_no
   are = h.are;
   waiting = h.waiting;
   all_listed = h.all_listed;
-  begins = h.begins;
+  begins = All-weaker (Begins h.calls (IsDue h.calls h.waiting) (IsIn found)) (Begins h.calls (IsDue h.calls h.waiting) (StandsIn files)) (λ p start. begins_within (λ w here. here) (λ path due. due) (stands_in found files kept) start)
+      (map (λ p. string_bytes p) args.paths.items) h.begins;
   visits = λ folder names answer there. visits_all_within names (λ w here. here) (λ path due. due) e (h.visits folder names answer there);
   taken = λ path node there kind. left_kept found files kept path node.id (h.taken path node there kind);
 })

@@ -1,7 +1,7 @@
 -- CoverParts: parts of a walk, which miss no name.
 --
 --   Explores c c' d d' old new       a part of a walk that misses no name of a folder
---   Starts path c c' d d' old new    a path of the command line was looked at
+--   Starts path c c' d d' f' old new   a path of the command line was looked at
 --   VisitsOne folder name c c' d d' old new   a name in a folder was visited
 --   Enters folder c c' d d' old new  a folder was listed
 --   Exhausts c c' d d' old new       no folder waits any more
@@ -34,12 +34,13 @@ pub record Explores (calls calls' : List Call) (folders folders' : List (List �
   pub visits : VisitsAll made (IsDue made folders') (0 < new.faulty)
   pub kept : 0 < old.faulty → 0 < new.faulty
 
--- `Starts path calls calls' folders folders' old new`: the same, and the path `path` of the command
--- line can be taken, or a fault was counted.
+-- `Starts path calls calls' folders folders' found' old new`: the same, and the path `path` of the
+-- command line can be taken, or a fault was counted.
 pub record Starts (path : List ℕ) (calls calls' : List Call) (folders folders' : List (List ℕ))
-    (old new : Report) : Type 0 where
+    (found' : List Found) (old new : Report) : Type 0 where
   pub explores : Explores calls calls' folders folders' old new
-  pub begins : (0 < new.faulty) ⊎ Begins explores.made (IsDue explores.made folders') path
+  pub begins : (0 < new.faulty) ⊎
+      Begins explores.made (IsDue explores.made folders') (IsIn found') path
 
 -- `VisitsOne folder name calls calls' folders folders' old new`: the same, and `name` in `folder`
 -- was visited.

@@ -4,7 +4,7 @@
 --   WasEntered calls folder       a folder was listed
 --   IsDue calls folders path      a folder was listed, or waits for that
 --   IsVersioned name              a name is that of a folder of version control, or of quilt
---   Begins calls due path         a path of the command line can be taken
+--   Begins calls due has path     a path of the command line can be taken
 --   Visits calls due told folder name   what became of a name in a folder
 --   VisitsAll calls due told      so for each name of each folder that was listed
 --   IsIn found path id            a file was found
@@ -52,15 +52,16 @@ abbrev pub IsVersioned : List ℕ → Type 0
 IsVersioned name = (name ≡ codes ".git") ⊎ (name ≡ codes ".hg") ⊎ (name ≡ codes ".svn")
     ⊎ (name ≡ codes ".bzr") ⊎ (name ≡ codes "CVS") ⊎ (name ≡ codes ".pc")
 
--- `Begins calls due path`: `path` was met as a regular file. Or it was met as a folder, or as a
--- link that leads to one, and that is due.
-pub data Begins (calls : List WalkCall) (due : List ℕ → Type 0) (path : List ℕ) : Type 0 where
+-- `Begins calls due has path`: `path` was met as a regular file, and was found, whatever its name.
+-- Or it was met as a folder, or as a link that leads to one, and that is due.
+pub data Begins (calls : List WalkCall) (due : List ℕ → Type 0) (has : List ℕ → FileId → Type 0)
+    (path : List ℕ) : Type 0 where
   at_file : (node : Node) → Contains calls (met path (Present node)) → node.kind ≡ File →
-      Begins calls due path
+      has path node.id → Begins calls due has path
   at_folder : (node : Node) → Contains calls (met path (Present node)) → node.kind ≡ Folder →
-      due path → Begins calls due path
+      due path → Begins calls due has path
   at_link : (node : Node) → Contains calls (met path (Present node)) → node.kind ≡ Link →
-      Contains calls (followed path true) → due path → Begins calls due path
+      Contains calls (followed path true) → due path → Begins calls due has path
 
 -- `Visits calls due told folder name`: `name` isn't UTF-8, and a message says so. Or it was looked
 -- at, and is due if it is a folder, unless that has earlier texts (`IsVersioned`).
@@ -113,16 +114,16 @@ abbrev pub paths_of : List ℕ → List (List ℕ)
 paths_of text = paths_after [] text
 
 -- `CoversPaths paths patterns old new has told`: since `old`, only calls of a walk were made. Each
--- of `paths` can be taken. Of each folder that was listed, each name was visited. Each folder that
--- is due was listed, unless there were more calls than a machine counts. Each regular file that was
--- met was found, or the patterns don't choose it.
+-- of `paths` can be taken, and was found if it is a regular file. Of each folder that was listed,
+-- each name was visited. Each folder that is due was listed, unless there were more calls than a
+-- machine counts. Each regular file that was met was found, or the patterns don't choose it.
 pub record CoversPaths (paths patterns : List (List ℕ)) (old new : List Call)
     (has : List ℕ → FileId → Type 0) (told : Type 0) : Type 0 where
   pub calls : List WalkCall
   pub are : new ≡ map walked calls ++ old
   pub waiting : List (List ℕ)
   pub all_listed : length calls + 1 < 2 ^ 64 → waiting ≡ []
-  pub begins : All (Begins calls (IsDue calls waiting)) paths
+  pub begins : All (Begins calls (IsDue calls waiting) has) paths
   pub visits : VisitsAll calls (IsDue calls waiting) told
   pub taken : (path : List ℕ) (node : Node) → Contains calls (met path (Present node)) →
       node.kind ≡ File → has path node.id ⊎ IsLeft patterns path

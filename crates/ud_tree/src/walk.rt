@@ -69,7 +69,8 @@ impl<'w> Walk<'w> {
         }
     }
 
-    /// Begins at a path of the command line. A folder may be named by a link.
+    /// Begins at a path of the command line. A file is taken whatever its name. A folder may be named
+    /// by a link.
     ///
     /// # Errors
     /// Fails if memory runs out.
@@ -86,7 +87,8 @@ impl<'w> Walk<'w> {
             (stream_of E.contents err.old) (stream_of E.contents err.new) }
         ensures starts { OnOk result (Starts path.now (T.history tree.old) (T.history tree.new)
             (map (λ d. string_bytes d) self.old.folders.items)
-            (map (λ d. string_bytes d) self.new.folders.items) report.old report.new) }
+            (map (λ d. string_bytes d) self.new.folders.items) self.new.found.items
+            report.old report.new) }
         ensures catches { OnOk result
             (Catches (T.history tree.old) (T.history tree.new) self.old self.new) }
     {
@@ -108,7 +110,7 @@ impl<'w> Walk<'w> {
                 report.fault(err, path.as_bytes(), b"Is a symbolic link");
                 Ok(())
             }
-            NodeKind::File => self.add_file(path, node.id),
+            NodeKind::File => self.push_file(path, node.id),
             NodeKind::Other => {
                 report.fault(err, path.as_bytes(), b"Is no regular file");
                 Ok(())

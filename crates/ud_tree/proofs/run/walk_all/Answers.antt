@@ -19,7 +19,7 @@ pub loop-path-init : goal.loop-path-init
 loop-path-init g c = (
   finds_none (g.T.Folder.history c.args.tree.now) c.args.walk.now.found.items,
   walk_none (g.T.Folder.history c.args.tree.now) c.args.report.now (stream_of g.E.Write.contents c.args.err.now),
-  starts_none (g.T.Folder.history c.args.tree.now) (map (λ d. string_bytes d) c.args.walk.now.folders.items) c.args.report.now,
+  starts_none (g.T.Folder.history c.args.tree.now) (map (λ d. string_bytes d) c.args.walk.now.folders.items) c.args.walk.now.found.items c.args.report.now,
   catches_none (g.T.Folder.history c.args.tree.now) c.args.walk.now c.args.walk.now (grows_same _ _ refl refl),
 )
 
@@ -27,7 +27,7 @@ pub loop-path-preserved : goal.loop-path-preserved
 loop-path-preserved g c = (
   finds_then c.loop-path.invariant.0 c.start.ensures.finds,
   walk_then c.loop-path.invariant.1 c.start.ensures.told,
-  starts_at (λ p. string_bytes p) c.as_slice-path-items.result.now c.loop-path.path-index c.path-item.result c.as_str.result.now c.loop-path-test.true c.path-item.is c.as_str.ensures.value c.loop-path.invariant.2 c.in_ok-start.ensures.starts,
+  starts_at (λ p. string_bytes p) c.as_slice-path-items.result.now c.loop-path.path-index c.path-item.result c.as_str.result.now c.loop-path-test.true c.path-item.is c.as_str.ensures.value c.in_ok-start.ensures.catches.grows.stay c.loop-path.invariant.2 c.in_ok-start.ensures.starts,
   catches_then c.loop-path.invariant.3 c.in_ok-start.ensures.catches,
 )
 
@@ -56,5 +56,5 @@ pub returns-clause-takes : goal.returns-clause-takes
 returns-clause-takes g c = λ all.
     paths_covered c.args.job.now.arguments.now c.if-job.false
     (covers_paths (λ p. string_bytes p) c.as_slice-path-items.result.now c.loop-path.path-index (omega arith) (λ some. omega (arith, some, c.faulty.ensures, c.if-faulty-gt0.false)) c.loop-path.invariant.2 c.in_ok-go.ensures.exhausts
-    (catches_then c.loop-path.invariant.3 c.in_ok-go.ensures.catches) _ (ap (map string_bytes) c.requires))
+    c.in_ok-go.ensures.catches.grows.stay (catches_then c.loop-path.invariant.3 c.in_ok-go.ensures.catches) _ (ap (map string_bytes) c.requires))
     c.as_slice-path-items.ensures.value

@@ -11,5 +11,5 @@ abbrev pub invariant-loop-path : goal.invariant-loop-path
 invariant-loop-path g l =
     Finds (g.T.Folder.history l.fn.tree) (g.T.Folder.history l.tree) l.fn.walk.found.items l.walk.found.items
     × ReportsWalk (g.T.Folder.history l.fn.tree) (g.T.Folder.history l.tree) l.fn.report l.report (stream_of g.E.Write.contents l.fn.err) (stream_of g.E.Write.contents l.err)
-    × StartsSome (map (λ p. string_bytes p) (take l.path-index l.path-items)) (g.T.Folder.history l.fn.tree) (g.T.Folder.history l.tree) (map (λ d. string_bytes d) l.fn.walk.folders.items) (map (λ d. string_bytes d) l.walk.folders.items) l.fn.report l.report
+    × StartsSome (map (λ p. string_bytes p) (take l.path-index l.path-items)) (g.T.Folder.history l.fn.tree) (g.T.Folder.history l.tree) (map (λ d. string_bytes d) l.fn.walk.folders.items) (map (λ d. string_bytes d) l.walk.folders.items) l.walk.found.items l.fn.report l.report
     × Catches (g.T.Folder.history l.fn.tree) (g.T.Folder.history l.tree) l.fn.walk l.walk

@@ -1,13 +1,13 @@
 use Rattle.ud_tree.proofs.WalkLemmas.{finds_call, finds_file, finds_same, finds_then}
 use Rattle.ud_io.specs.Streams.{stream_of}
 use Rattle.ud_tree.proofs.WalkTellLemmas.{walk_met, walk_followed, walk_unmet, walk_link, walk_other, other_kind, walk_then, reported}
-use Rattle.std.proofs.Common.{ap, ◌∙◌, [], ◌∷◌, refl, true, false, arith, List}
+use Rattle.std.proofs.Common.{ap, ◌∙◌, [], ◌∷◌, refl, true, false, arith, List, inl}
 use Rattle.std.specs.Prelude.{string_bytes}
 use Rattle.std.proofs.lemmas.Result.{on_ok_weaker}
 use Rattle.ud_replace.specs.declared.node.Lookup.TheVariants.{Present, Absent, Unknown}
 use Rattle.ud_replace.specs.Calls.{Call, walked, met, followed}
 use Rattle.ud_tree.specs.Covering.{at_file, at_folder, at_link}
-use Rattle.ud_tree.proofs.CoverLemmas.{starts_bad, starts_good, met_none, followed_none, waits_same, waits_more, waits_due, on_ok_always, on_ok_both}
+use Rattle.ud_tree.proofs.CoverLemmas.{starts_bad, starts_good, met_none, followed_none, waits_same, waits_more, waits_due, on_ok_both}
 use Rattle.ud_tree.proofs.CatchLemmas.{grows_same, catches_met, catches_node, catches_followed, catches_then}
 use Rattle.ud_tree.proofs.walk.Walk.start.Goals as goal
 
@@ -27,7 +27,7 @@ pub returns-in-Link-2-clause-finds : goal.returns-in-Link-2-clause-finds
 returns-in-Link-2-clause-finds g c = finds_then (finds_call _ c.args.self.now.found.items c.node.ensures) (finds_call _ c.args.self.now.found.items c.leads_to_folder.ensures)
 
 pub returns-in-File-clause-finds : goal.returns-in-File-clause-finds
-returns-in-File-clause-finds g c = finds_file _ c.in-Present.node c.in-Present.ensures c.in-File.is c.add_file.ensures.adds
+returns-in-File-clause-finds g c = finds_file _ c.in-Present.node c.in-Present.ensures c.in-File.is c.push_file.ensures.adds
 
 pub returns-in-Other-clause-finds : goal.returns-in-Other-clause-finds
 returns-in-Other-clause-finds g c = finds_call _ c.args.self.now.found.items c.node.ensures
@@ -87,9 +87,10 @@ returns-in-Link-2-clause-starts g c =
 
 pub returns-in-File-clause-starts : goal.returns-in-File-clause-starts
 returns-in-File-clause-starts g c =
-    on_ok_always c.add_file.result
-    (starts_good (met c.args.path.now (Present c.in-Present.node) ∷ []) c.args.path.now _ _ c.args.report.now c.in-Present.ensures (met_none c.args.path.now (Present c.in-Present.node))
-    (waits_same (λ d. string_bytes d) _ _ c.add_file.ensures.folders) (at_file c.in-Present.node (0, omega arith, refl) c.in-File.is))
+    on_ok_weaker c.push_file.result
+    (λ there. starts_good (met c.args.path.now (Present c.in-Present.node) ∷ []) c.args.path.now _ _ c.args.report.now c.in-Present.ensures (met_none c.args.path.now (Present c.in-Present.node))
+    (waits_same (λ d. string_bytes d) _ _ c.push_file.ensures.folders) (at_file c.in-Present.node (0, omega arith, refl) c.in-File.is there))
+    c.push_file.ensures.is_in
 
 pub returns-in-Other-clause-starts : goal.returns-in-Other-clause-starts
 returns-in-Other-clause-starts g c = starts_bad (met c.args.path.now (Present c.in-Present.node) ∷ []) c.args.path.now _ _ _ c.in-Present.ensures (met_none c.args.path.now (Present c.in-Present.node)) c.fault-in-Other.ensures.some
@@ -118,8 +119,8 @@ returns-in-Link-2-clause-catches g c =
 
 pub returns-in-File-clause-catches : goal.returns-in-File-clause-catches
 returns-in-File-clause-catches g c =
-    on_ok_weaker c.add_file.result (λ both. catches_node c.args.path.now c.in-Present.node _ _ c.in-Present.ensures both.0 (λ kind. both.1))
-    (on_ok_both _ _ c.add_file.result c.add_file.ensures.grows c.add_file.ensures.taken)
+    on_ok_weaker c.push_file.result (λ both. catches_node c.args.path.now c.in-Present.node _ _ c.in-Present.ensures both.0 (λ kind. inl both.1))
+    (on_ok_both _ _ c.push_file.result c.push_file.ensures.grows c.push_file.ensures.is_in)
 
 pub returns-in-Other-clause-catches : goal.returns-in-Other-clause-catches
 returns-in-Other-clause-catches g c =
