@@ -26,6 +26,7 @@ const WORKS: Failures = Failures {
 const FILE: FileId = FileId {
     device: 1,
     inode: 2,
+    born: 3,
 };
 
 /// The state that `replace` leaves.

@@ -6,7 +6,7 @@ use Rattle.std.specs.Prelude.{Bool, ◌&&◌, ◌==◌}
 use Rattle.ud_replace.specs.declared.node.FileId.{FileId}
 use Rattle.ud_replace.specs.declared.stat.FileStat.{FileStat}
 
--- `is_of id s`: `s` are the facts about the file `id`.
+-- `is_of id s`: `s` are the facts about the file `id`, by its device and its number.
 abbrev pub is_of : FileId → FileStat → Bool
 is_of id s = s.version.device == id.device && s.version.inode == id.inode
 

@@ -20,6 +20,9 @@ pub struct FileId {
     pub device: u64,
     /// The number of the file on that device.
     pub inode: u64,
+    /// When the file was made, in nanoseconds since the beginning of 1970; 0 if that isn't known. A
+    /// file that is made later may get the number of one that is gone.
+    pub born: u64,
 }
 
 /// A file, a folder or anything else that has a path.

@@ -45,7 +45,7 @@ pub struct FileStat {
 }
 
 impl FileStat {
-    /// Returns whether these are the facts about the file `id`.
+    /// Returns whether these are the facts about the file `id`, by its device and its number.
     pub fn is_of(&self, id: FileId) -> bool
         ensures { result ≡ is_of id self.now }
     {

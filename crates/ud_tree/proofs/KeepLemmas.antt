@@ -11,7 +11,7 @@ use Rattle.std.specs.BTreeSet.{BTreeSet, contains}
 use Rattle.std.specs.declared.cmp.Ordering.{Ordering}
 use Rattle.std.specs.declared.cmp.Ordering.TheVariants.{Less, Equal, Greater}
 use Rattle.ud_tree.specs.declared.walk.Found.{Found}
-use Rattle.ud_tree.specs.Walks.{IsBefore, IsKept, ArePicked, key_cmp}
+use Rattle.ud_tree.specs.Walks.{IsBefore, IsKept, ArePicked, key_cmp, Key, key_of}
 
 less_is_none : Less ≡ Equal → ⊥
 less_is_none e = absurd cc
@@ -87,12 +87,12 @@ kept_by_path files found sorted h =
     (h.0, h.1, inl (same_path h.0 found h.2 (All-contains (λ f. ¬ (IsBefore found f)) files h.0 sorted h.1)))
 
 -- A file with the device and number of one of them is kept.
-pub kept_by_key : (seen : BTreeSet (ℕ × ℕ)) (files : List Found) (found : Found) (added : Bool) → ArePicked seen files → added ≡ not (contains key_cmp seen (found.id.device, found.id.inode)) → added ≡ false →
+pub kept_by_key : (seen : BTreeSet Key) (files : List Found) (found : Found) (added : Bool) → ArePicked seen files → added ≡ not (contains key_cmp seen (key_of found.id)) → added ≡ false →
     IsKept files found
 kept_by_key seen files found added h is old =
-    let has = h.only (found.id.device, found.id.inode) (not_false (contains key_cmp seen (found.id.device, found.id.inode)) (sym is ∙ old)) in
-    let both : (has.0.id.device, has.0.id.inode) ≡ (found.id.device, found.id.inode) = has.2 in
-    let same : has.0.id ≡ found.id = ap (λ (k : ℕ × ℕ). record { device = k.0; inode = k.1 }) both in
+    let has = h.only (key_of found.id) (not_false (contains key_cmp seen (key_of found.id)) (sym is ∙ old)) in
+    let both : key_of has.0.id ≡ key_of found.id = has.2 in
+    let same : has.0.id ≡ found.id = ap (λ (k : Key). record { device = k.0; inode = k.1; born = k.2 }) both in
     (has.0, has.1, inr same)
   where
     not_false : (b : Bool) → not b ≡ false → b ≡ true

@@ -16,7 +16,7 @@ use Rattle.std.specs.Prelude.{string_bytes, not}
 use Rattle.std.specs.BTreeSet.{BTreeSet, contains, Updates}
 use Rattle.ud_replace.specs.declared.node.FileId.{FileId}
 use Rattle.ud_tree.specs.declared.walk.Found.{Found}
-use Rattle.ud_tree.specs.Walks.{IsBefore, IsOtherFile, IsMarked, HasKey, IsKept, ArePicked, key_cmp}
+use Rattle.ud_tree.specs.Walks.{IsBefore, IsOtherFile, IsMarked, HasKey, IsKept, ArePicked, key_cmp, Key, key_of}
 use Rattle.ud_tree.proofs.KeepLemmas.{kept_later}
 
 -- A file that was added, or one of those before.
@@ -42,15 +42,15 @@ after_last files last found ascend some is before k d within =
         subst (λ (g : Found). IsBefore g found) (sym last_at ∙ ap (λ (i : ℕ). get_or files i d) same) before
 
 -- A set keeps what it has.
-still_marked : (seen new : BTreeSet (ℕ × ℕ)) (key : ℕ × ℕ) → Updates key_cmp seen new key true → (files : List Found) → All (IsMarked seen) files → All (IsMarked new) files
+still_marked : (seen new : BTreeSet Key) (key : Key) → Updates key_cmp seen new key true → (files : List Found) → All (IsMarked seen) files → All (IsMarked new) files
 still_marked seen new key u files h = grind arith
 
 -- Each key of the set is the one that was inserted, or was there before.
-key_cases : (seen new : BTreeSet (ℕ × ℕ)) (key q : ℕ × ℕ) → Updates key_cmp seen new key true → contains key_cmp new q ≡ true → (q ≡ key) ⊎ (contains key_cmp seen q ≡ true)
+key_cases : (seen new : BTreeSet Key) (key q : Key) → Updates key_cmp seen new key true → contains key_cmp new q ≡ true → (q ≡ key) ⊎ (contains key_cmp seen q ≡ true)
 key_cases seen new key q u there = grind arith
 
 -- The set has a key more that it had, and the files are the same.
-pub picked_same : (seen new : BTreeSet (ℕ × ℕ)) (files : List Found) (key : ℕ × ℕ) (added : Bool) → added ≡ not (contains key_cmp seen key) → added ≡ false → Updates key_cmp seen new key true → ArePicked seen files →
+pub picked_same : (seen new : BTreeSet Key) (files : List Found) (key : Key) (added : Bool) → added ≡ not (contains key_cmp seen key) → added ≡ false → Updates key_cmp seen new key true → ArePicked seen files →
     ArePicked new files
 picked_same seen new files key added is old u h = record { ascend = h.ascend; once = h.once; marked = still_marked seen new key u files h.marked; only = λ q there. by_case q (key_cases seen new key q u there) }
   where
@@ -58,29 +58,29 @@ picked_same seen new files key added is old u h = record { ascend = h.ascend; on
     not_false true e = refl
     not_false false e = absurd (true≢false e)
 
-    by_case : (q : ℕ × ℕ) → (q ≡ key) ⊎ (contains key_cmp seen q ≡ true) → HasKey files q
-    by_case q (inl same) = h.only q (subst (λ (k : ℕ × ℕ). contains key_cmp seen k ≡ true) (sym same) (not_false (contains key_cmp seen key) (sym is ∙ old)))
+    by_case : (q : Key) → (q ≡ key) ⊎ (contains key_cmp seen q ≡ true) → HasKey files q
+    by_case q (inl same) = h.only q (subst (λ (k : Key). contains key_cmp seen k ≡ true) (sym same) (not_false (contains key_cmp seen key) (sym is ∙ old)))
     by_case q (inr there) = h.only q there
 
 -- One more file is picked.
-pub picked_more : (seen new : BTreeSet (ℕ × ℕ)) (files : List Found) (found : Found) → contains key_cmp seen (found.id.device, found.id.inode) ≡ false →
-    Updates key_cmp seen new (found.id.device, found.id.inode) true → All (λ f. IsBefore f found) files → ArePicked seen files → ArePicked new (files ++ found ∷ [])
+pub picked_more : (seen new : BTreeSet Key) (files : List Found) (found : Found) → contains key_cmp seen (key_of found.id) ≡ false →
+    Updates key_cmp seen new (key_of found.id) true → All (λ f. IsBefore f found) files → ArePicked seen files → ArePicked new (files ++ found ∷ [])
 picked_more seen new files found unseen u before h = record {
   ascend = all_pairs_push IsBefore files found h.ascend before;
   once = all_pairs_push IsOtherFile files found h.once other;
-  marked = All-push (IsMarked new) files found (still_marked seen new (found.id.device, found.id.inode) u files h.marked) u.1;
-  only = λ q there. by_case q (key_cases seen new (found.id.device, found.id.inode) q u there);
+  marked = All-push (IsMarked new) files found (still_marked seen new (key_of found.id) u files h.marked) u.1;
+  only = λ q there. by_case q (key_cases seen new (key_of found.id) q u there);
 }
   where
-    by_case : (q : ℕ × ℕ) → (q ≡ (found.id.device, found.id.inode)) ⊎ (contains key_cmp seen q ≡ true) → HasKey (files ++ found ∷ []) q
+    by_case : (q : Key) → (q ≡ key_of found.id) ⊎ (contains key_cmp seen q ≡ true) → HasKey (files ++ found ∷ []) q
     by_case q (inl same) = (found, Contains-push files found, sym same)
     by_case q (inr there) = let k = h.only q there in (k.0, Contains-append_left files (found ∷ []) k.0 k.1, k.2)
 
     other : (k : ℕ) (d : Found) → k < length files → IsOtherFile (get_or files k d) found
     other k d within e =
         let marked : IsMarked seen (get_or files k d) = h.marked k d within in
-        let there : contains key_cmp seen (found.id.device, found.id.inode) ≡ true =
-        ap (λ (i : FileId). contains key_cmp seen (i.device, i.inode)) (sym e) ∙ marked in
+        let there : contains key_cmp seen (key_of found.id) ≡ true =
+        ap (λ (i : FileId). contains key_cmp seen (key_of i)) (sym e) ∙ marked in
         true≢false (sym there ∙ unseen)
 
 -- After one more file, all are still of the list.
@@ -116,18 +116,18 @@ others_kept files after found is =
     (All-weaker (Contains files) (Contains (files ++ found ∷ [])) (λ f there. Contains-append_left files (found ∷ []) f there) files (All-contains_itself files))
 
 -- Some files were looked at, and each is kept.
-pub record PickedSome (seen : BTreeSet (ℕ × ℕ)) (files found yielded : List Found) : Type 0 where
+pub record PickedSome (seen : BTreeSet Key) (files found yielded : List Found) : Type 0 where
   pub picked : ArePicked seen files
   pub from : All (Contains found) files
   pub within : All (Contains yielded) files
   pub kept : All (IsKept files) yielded
 
 -- None was yet.
-pub picked_begun : (seen : BTreeSet (ℕ × ℕ)) (files found : List Found) → seen.keys ≡ [] → files ≡ [] → PickedSome seen files found []
+pub picked_begun : (seen : BTreeSet Key) (files found : List Found) → seen.keys ≡ [] → files ≡ [] → PickedSome seen files found []
 picked_begun seen files found none empty = grind arith
 
 -- One file more was looked at.
-pub picked_next : {seen new : BTreeSet (ℕ × ℕ)} {files after found yielded : List Found} (x : Found) → PickedSome seen files found yielded → ArePicked new after → Contains found x → All (OldOrThis x files) after → All (Contains after) files →
+pub picked_next : {seen new : BTreeSet Key} {files after found yielded : List Found} (x : Found) → PickedSome seen files found yielded → ArePicked new after → Contains found x → All (OldOrThis x files) after → All (Contains after) files →
     IsKept after x → PickedSome new after found (yielded ++ x ∷ [])
 picked_next {files = files} {after = after} {found = found} {yielded = yielded} x h picked inside from others kept = record {
   picked = picked;
@@ -141,12 +141,12 @@ picked_next {files = files} {after = after} {found = found} {yielded = yielded} 
     here f (inr this) = subst (λ (g : Found). Contains (yielded ++ x ∷ []) g) (sym this) (Contains-push yielded x)
 
 -- A file with a new key was added.
-pub picked_new : (seen new : BTreeSet (ℕ × ℕ)) (files after : List Found) (found : Found) (added : Bool) → added ≡ not (contains key_cmp seen (found.id.device, found.id.inode)) →
-    added ≡ true → Updates key_cmp seen new (found.id.device, found.id.inode) true → All (λ f. IsBefore f found) files → after ≡ files ++ found ∷ [] → ArePicked seen files →
+pub picked_new : (seen new : BTreeSet Key) (files after : List Found) (found : Found) (added : Bool) → added ≡ not (contains key_cmp seen (key_of found.id)) →
+    added ≡ true → Updates key_cmp seen new (key_of found.id) true → All (λ f. IsBefore f found) files → after ≡ files ++ found ∷ [] → ArePicked seen files →
     ArePicked new after
 picked_new seen new files after found added is holds u before grown h =
     subst (λ (fs : List Found). ArePicked new fs) (sym grown)
-    (picked_more seen new files found (not_true (contains key_cmp seen (found.id.device, found.id.inode)) (sym is ∙ holds)) u before h)
+    (picked_more seen new files found (not_true (contains key_cmp seen (key_of found.id)) (sym is ∙ holds)) u before h)
   where
     not_true : (b : Bool) → not b ≡ true → b ≡ false
     not_true true e = absurd (true≢false (sym e))

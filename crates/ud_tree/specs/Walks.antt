@@ -8,9 +8,10 @@
 --   IsOtherFile f g              `f` and `g` are not the same file
 --   IsKept files f               a file that was found is kept
 --   IsFileList found files       the files, each once and in order
---   key_cmp a b                  the order of devices and numbers
---   IsMarked seen f              a set has a file's device and number
---   HasKey files key             a file has a device and number
+--   Key, key_of id               a device, a number on it and a time, of a file
+--   key_cmp a b                  the order of keys
+--   IsMarked seen f              a set has a file's key
+--   HasKey files key             a file has a key
 --   ArePicked seen files         the files so far, each once and in order
 --   WalksOnly old new            only calls of a walk were made
 --   IsWalk old new files         a whole walk, and its files
@@ -79,25 +80,33 @@ pub record IsFileList (found files : List Found) : Type 0 where
   pub ascend : AllPairs IsBefore files
   pub once : AllPairs IsOtherFile files
 
--- `key_cmp a b`: the order of devices and numbers.
-abbrev pub key_cmp : ℕ × ℕ → ℕ × ℕ → Ordering
-key_cmp a b = ordering_then (nat_cmp a.0 b.0) (nat_cmp a.1 b.1)
+-- A device, the number of a file on it, and the time at which that was made.
+abbrev pub Key : Type 0
+Key = ℕ × ℕ × ℕ
 
--- `IsMarked seen f`: `seen` has the device and the number of `f`.
-abbrev pub IsMarked : BTreeSet (ℕ × ℕ) → Found → Type 0
-IsMarked seen f = contains key_cmp seen (f.id.device, f.id.inode) ≡ true
+-- `key_of id`: the key of the file `id`.
+abbrev pub key_of : FileId → Key
+key_of id = (id.device, id.inode, id.born)
 
--- `HasKey files key`: one of `files` has this device and number.
-abbrev pub HasKey : List Found → ℕ × ℕ → Type 0
-HasKey files key = (f : Found) × Contains files f × ((f.id.device, f.id.inode) ≡ key)
+-- `key_cmp a b`: the order of keys.
+abbrev pub key_cmp : Key → Key → Ordering
+key_cmp a b = ordering_then (ordering_then (nat_cmp a.0 b.0) (nat_cmp a.1 b.1)) (nat_cmp a.2 b.2)
+
+-- `IsMarked seen f`: `seen` has the key of `f`.
+abbrev pub IsMarked : BTreeSet Key → Found → Type 0
+IsMarked seen f = contains key_cmp seen (key_of f.id) ≡ true
+
+-- `HasKey files key`: one of `files` has this key.
+abbrev pub HasKey : List Found → Key → Type 0
+HasKey files key = (f : Found) × Contains files f × (key_of f.id ≡ key)
 
 -- `ArePicked seen files`: the paths of the files ascend, no two are the same file, and `seen` has
 -- each of them, and nothing else.
-pub record ArePicked (seen : BTreeSet (ℕ × ℕ)) (files : List Found) : Type 0 where
+pub record ArePicked (seen : BTreeSet Key) (files : List Found) : Type 0 where
   pub ascend : AllPairs IsBefore files
   pub once : AllPairs IsOtherFile files
   pub marked : All (IsMarked seen) files
-  pub only : (key : ℕ × ℕ) → contains key_cmp seen key ≡ true → HasKey files key
+  pub only : (key : Key) → contains key_cmp seen key ≡ true → HasKey files key
 
 -- `WalksOnly old new`: since `old`, only calls of a walk were made.
 pub record WalksOnly (old new : List Call) : Type 0 where

@@ -8,7 +8,7 @@ ghost use Rattle.std.specs.Io.{WritesAtMost};
 ghost use Rattle.ud_replace.specs.Calls.{walked};
 ghost use Rattle.ud_replace.specs.CallRecords.{walk_call_of};
 
-use crate::folders::{Folders, other_file, text_of};
+use crate::folders::{Folders, file_id, other_file, text_of};
 use crate::lock::Lock;
 use crate::tree::Tree;
 use std::alloc::{AllocError, Global};
@@ -17,6 +17,7 @@ use std::io::{self, ErrorKind, Read, Seek, SeekFrom, Write};
 use std::os::fd::AsFd;
 use std::os::unix::fs::{MetadataExt, OpenOptionsExt, PermissionsExt, fchown};
 use std::rt::Files;
+use ud_model::LINE_BYTES;
 use ud_replace::{
     CreateError, FileId, FileStat, FileTime, FileVersion, Folder, FolderCall, FolderWalk, History,
     Lookup, Node, NodeKind,
@@ -28,9 +29,9 @@ const ACCESS: u32 = 0o777;
 /// The bits of a mode that `chmod` sets.
 const MODE: u32 = 0o7777;
 
-/// The most bytes that are reserved before a file is read. A file that is larger, or says so, takes
-/// more as it is read.
-const MOST_RESERVED: u64 = 16 << 20;
+/// The most bytes that are reserved before a file is read, and that are read before another look at
+/// its last line. A file that is larger, or says so, takes more as it is read.
+const BLOCK_BYTES: u64 = 16 << 20;
 
 /// A file that is open for reading and writing.
 #[derive(Drop)]
@@ -146,13 +147,30 @@ fn read_file<R: Files>(files: &R, path: &str, text: &mut Vec<u8>) -> io::Result<
     Ok(stat)
 }
 
-/// Reads what follows in a file.
+/// Reads what follows in a file. A file with a line over the limit is read no further once that is
+/// seen: most such files are no text, and may be larger than the memory.
 fn read_rest<F: Read>(file: &mut F, stat: &FileStat, text: &mut Vec<u8>) -> io::Result<()> {
     // Beside the file's bytes there is room to see that it has ended, so it takes two reads.
-    let expected = stat.version.size.min(MOST_RESERVED) as usize;
+    let expected = stat.version.size.min(BLOCK_BYTES) as usize;
     text.reserve_exact(expected + 1)?;
-    file.read_to_end(text)?;
+    for _block in 0..u64::MAX {
+        let count = file.by_ref().take(BLOCK_BYTES).read_to_end(text)?;
+        if (count as u64) < BLOCK_BYTES {
+            return Ok(());
+        }
+        if ends_in_long_line(text.as_slice()) {
+            return Err(io::Error::new(ErrorKind::FileTooLarge, "line too long"));
+        }
+    }
     Ok(())
+}
+
+/// Returns whether the last line of a text is over the limit.
+fn ends_in_long_line(text: &[u8]) -> bool {
+    match text.len().checked_sub(LINE_BYTES + 1) {
+        Some(start) => !text[start..].contains(&b'\n'),
+        None => false,
+    }
 }
 
 /// Does what `read_file` does with a file that was opened before. If another one has its name now,
@@ -499,11 +517,10 @@ fn node_of(found: &Metadata) -> Node {
     } else {
         NodeKind::Other
     };
-    let id = FileId {
-        device: found.dev(),
-        inode: found.ino(),
-    };
-    Node { kind, id }
+    Node {
+        kind,
+        id: file_id(found),
+    }
 }
 
 /// Returns what has a path, without following a link. If it is a folder, that one was met.

@@ -8,11 +8,12 @@
 use crate::paths::{folder, last_name};
 use std::alloc::Global;
 use std::collections::BTreeMap;
-use std::fs::{self, OpenFile};
+use std::fs::{self, Metadata, OpenFile};
 use std::io::{self, ErrorKind};
 use std::os::fd::{AsFd, AsRawFd};
 use std::os::unix::fs::MetadataExt;
 use std::rt::Files;
+use std::time::UNIX_EPOCH;
 use ud_replace::FileId;
 
 /// The folder at a path.
@@ -105,7 +106,7 @@ where
         };
         let found = id_of(&open)?;
         match met {
-            Some(Met::Is(id)) if id != found => return Err(other_file()),
+            Some(Met::Is(id)) if !is_same(id, found) => return Err(other_file()),
             Some(_) => {}
             None => {
                 let _ = self.met.insert(key, Met::Is(found))?;
@@ -174,17 +175,39 @@ pub(crate) fn other_file() -> io::Error {
 
 /// Returns which file is open.
 fn id_of<F: OpenFile>(open: &F) -> io::Result<FileId> {
-    let found = open.metadata()?;
-    Ok(FileId {
+    Ok(file_id(&open.metadata()?))
+}
+
+/// Returns which file it is, by the facts about it.
+pub(crate) fn file_id(found: &Metadata) -> FileId {
+    FileId {
         device: found.dev(),
         inode: found.ino(),
-    })
+        born: born(found),
+    }
+}
+
+/// Returns when a file was made, in nanoseconds since the beginning of 1970; 0 if that isn't known.
+fn born(found: &Metadata) -> u64 {
+    let Ok(time) = found.created() else {
+        return 0;
+    };
+    match time.duration_since(UNIX_EPOCH) {
+        Ok(since) => u64::try_from(since.as_nanos()).unwrap_or(0),
+        Err(_) => 0,
+    }
 }
 
 /// Returns whether a path leads to an open folder.
 fn leads_to<R: Files>(files: &R, path: &str, open: &R::File) -> bool {
     match (files.metadata(path), id_of(open)) {
-        (Ok(found), Ok(id)) => found.dev() == id.device && found.ino() == id.inode,
+        (Ok(found), Ok(id)) => is_same(file_id(&found), id),
         _ => false,
     }
+}
+
+/// Returns whether both are the same folder. An overlay file system copies a folder in which a file
+/// is made, and then its time is another one.
+fn is_same(one: FileId, other: FileId) -> bool {
+    one.device == other.device && one.inode == other.inode
 }

@@ -374,10 +374,10 @@ impl<'w> Walk<'w> {
 }
 
 /// Adds a file, if its path comes after those of all files, and none of them is the same file. No
-/// path of these comes after it. `seen` has the files by their devices and numbers.
+/// path of these comes after it. `seen` has the keys of the files.
 fn pick(
     files: &mut Vec<Found>,
-    seen: &mut BTreeSet<(u64, u64)>,
+    seen: &mut BTreeSet<(u64, u64, u64)>,
     found: Found,
 ) -> Result<(), AllocError>
     requires picked { ArePicked seen.old files.old.items }
@@ -390,8 +390,8 @@ fn pick(
     if !comes_after(files.as_slice(), &found) {
         return Ok(());
     }
-    let id = (found.id.device, found.id.inode);
-    let is_new = seen.insert(id)?;
+    let key = (found.id.device, found.id.inode, found.id.born);
+    let is_new = seen.insert(key)?;
     if is_new {
         files.push(found)?;
     }
