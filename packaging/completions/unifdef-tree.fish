@@ -27,7 +27,7 @@ function __unifdef_tree_at_options
     for word in $words
         if test $value = yes
             set value no
-        else if string match -qr '^-[^DUixgj]*[DUixgj]$' -- $word
+        else if string match -qr '^-[^DUixg]*[DUixg]$' -- $word
             set value yes
         else if not string match -q -- '-?*' $word
             return 1
@@ -54,5 +54,5 @@ complete -c unifdef-tree -n __unifdef_tree_at_options -s p -d 'Remove decided op
 complete -c unifdef-tree -n __unifdef_tree_at_options -s q -d 'Leave out the counts'
 complete -c unifdef-tree -n __unifdef_tree_at_options -s r -d 'List the conditions that still name a symbol'
 complete -c unifdef-tree -n __unifdef_tree_at_options -s s -d 'Count the names in conditions'
-complete -c unifdef-tree -n __unifdef_tree_at_options -s V -d 'Print the version'
+complete -c unifdef-tree -n __unifdef_tree_at_options -s V -l version -d 'Print the version'
 complete -c unifdef-tree -n __unifdef_tree_at_options -s w -d 'Write into files that cannot be replaced'

@@ -380,7 +380,13 @@ pub(crate) const USAGE: &[u8] =
 pub fn report_argument_fault<E: Write>(alloc: Global, err: &mut Watched<E>, fault: &ArgumentFault) {
     match fault {
         ArgumentFault::UnknownOption(letter) => {
-            report_letter(alloc, err, b"Unknown option -", *letter, b"");
+            report_letter(
+                alloc,
+                err,
+                b"Unknown option -",
+                *letter,
+                in_its_place(*letter),
+            );
             send_parts(err, &[USAGE]);
         }
         ArgumentFault::MissingArgument(letter) => {
@@ -420,6 +426,21 @@ pub fn report_argument_fault<E: Write>(alloc: Global, err: &mut Watched<E>, faul
             send_parts(err, &[USAGE]);
         }
         ArgumentFault::OutOfMemory => report_line(alloc, err, &[b"Out of memory"]),
+    }
+}
+
+/// Returns what takes the place of an option of unifdef(1), version 2.12, that isn't one here.
+fn in_its_place(letter: char) -> &'static [u8] {
+    match letter {
+        'B' => b": blank lines stay as they are",
+        'e' => b": what can't be edited is left as it is, and named",
+        'f' => b": each symbol is an option -D or -U",
+        'I' => b": included files are not read",
+        'M' => b": -d prints a diff with which patch -R undoes the run",
+        'm' => b": files are changed in place without it",
+        'o' => b": files are changed in place; unifdef writes to its output",
+        'S' => b": -s lists the symbols with their numbers",
+        _ => b"",
     }
 }
 

@@ -3,6 +3,7 @@
 --
 --   Parsed              an option, a path, or a fault
 --   letters_then letters next rest   what the letters of a word give, and then what follows it
+--   long_flag w         the letter of the flag that a word is, as `h` of `--help`
 --   parsed_words words  what the words give, in reading order
 --   is_fault g          this is a fault
 --   first_fault gs      the first fault, if there is one
@@ -15,7 +16,7 @@
 -- A word that starts with `-` and is longer has letters of options. A letter's argument is the rest
 -- of its word after it, or the whole next word if nothing is left. Each other word is a path, and
 -- so is each word after `--`. An option after a path is a fault. The word `--help` is the flag
--- `h`.
+-- `h`, and `--version` is `V`.
 --
 -- Example: the words `-nDA` and `src` give the flag `n`, the option `D` with `A`, and the path
 -- `src`.
@@ -66,15 +67,26 @@ letters_then (c ∷ cs) next rest =
 abbrev pub is_path : List ℕ → Bool
 is_path w = bytes_eq (option_letters w) []
 
--- `ordinary_then w after_path next rest others`: what the word `w` gives, which is neither `--` nor
--- `--help`, and then the words after it: `next c` if the option `c` takes the first of them,
--- `others` if a path came before them, else `rest`.
+-- `ordinary_then w after_path next rest others`: what the word `w` gives, which is none of `--`,
+-- `--help` and `--version`, and then the words after it: `next c` if the option `c` takes the first
+-- of them, `others` if a path came before them, else `rest`.
 abbrev pub ordinary_then : List ℕ → Bool → (ℕ → List Parsed) → List Parsed → List Parsed →
     List Parsed
 ordinary_then w after_path next rest others =
     if is_path w then path w ∷ others
     else if after_path then late w ∷ others
     else letters_then (option_letters w) next rest
+
+-- `long_flag w`: the letter of the flag that the word `w` is, if it is one.
+abbrev pub long_flag : List ℕ → Option ℕ
+long_flag w = if bytes_eq w (codes "--help") then Some 104
+    else if bytes_eq w (codes "--version") then Some 86
+    else None
+
+-- `long_then letter rest others`: the flag `letter` and then `rest`; `others` if there is none.
+abbrev pub long_then : Option ℕ → List Parsed → List Parsed → List Parsed
+long_then None rest others = others
+long_then (Some c) rest others = flag c ∷ rest
 
 -- `parsed_next waits after_path words`: what the words give, if the option `waits` takes the first
 -- of them. `after_path` says whether a path came before.
@@ -84,9 +96,9 @@ parsed_next (Some c) after_path [] = lacking c ∷ []
 parsed_next (Some c) after_path (w ∷ ws) = option c w ∷ parsed_next None after_path ws
 parsed_next None after_path (w ∷ ws) =
     if bytes_eq w (codes "--") then map path ws
-    else if bytes_eq w (codes "--help") then flag 104 ∷ parsed_next None after_path ws
-    else ordinary_then w after_path (λ c. parsed_next (Some c) after_path ws)
-    (parsed_next None after_path ws) (parsed_next None true ws)
+    else long_then (long_flag w) (parsed_next None after_path ws)
+    (ordinary_then w after_path (λ c. parsed_next (Some c) after_path ws)
+    (parsed_next None after_path ws) (parsed_next None true ws))
 
 -- `parsed_words words`: what the words give, in reading order.
 abbrev pub parsed_words : List (List ℕ) → List Parsed

@@ -34,8 +34,8 @@ abbrev pub after_word : List ℕ → Bool → List (List ℕ) → List Parsed
 after_word letters after_path words = letters_then letters
     (λ c. parsed_next (Some c) after_path words) (parsed_next None after_path words)
 
--- `ordinary_word w after_path words`: what the word `w` gives, which is neither `--` nor `--help`,
--- and then the words.
+-- `ordinary_word w after_path words`: what the word `w` gives, which is none of `--`, `--help` and
+-- `--version`, and then the words.
 abbrev pub ordinary_word : List ℕ → Bool → List (List ℕ) → List Parsed
 ordinary_word w after_path words = ordinary_then w after_path
     (λ c. parsed_next (Some c) after_path words) (parsed_next None after_path words)

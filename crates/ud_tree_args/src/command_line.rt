@@ -3,7 +3,7 @@
 ghost use Rattle.std.specs.Prelude.{◌≡◌, ◌∷◌, IfOk, List, chars, map, string_bytes, None, Some};
 ghost use Rattle.ud_model.specs.answer.CommandLine.{option_letters};
 ghost use Rattle.ud_tree_args.specs.CommandLines.{is_flag, takes_argument, parsed_words};
-ghost use Rattle.ud_tree_args.specs.CommandLines.{parsed_next, option_then, path};
+ghost use Rattle.ud_tree_args.specs.CommandLines.{parsed_next, option_then, path, long_flag};
 ghost use Rattle.ud_tree_args.specs.GivenWords.{parsed, letters_of, bytes_of};
 
 use crate::given::Given;
@@ -84,13 +84,13 @@ impl<'a> CommandLine<'a> {
         if word.as_bytes() == b"--".as_slice() {
             return after.path();
         }
-        if word.as_bytes() == b"--help".as_slice() {
-            return Some((Given::Flag { letter: 'h' }, after));
+        match long_flag(word.as_bytes()) {
+            Some(letter) => Some((Given::Flag { letter }, after)),
+            None => Some(after.option_or_path(word.as_str())),
         }
-        Some(after.option_or_path(word.as_str()))
     }
 
-    /// Takes the word that was read last, which is neither `--` nor `--help`.
+    /// Takes the word that was read last, which is none of `--`, `--help` and `--version`.
     fn option_or_path(&self, word: &'a str) -> (Given<'a>, CommandLine<'a>)
         ensures { ordinary_word word.now self.now.after_path
             (map string_bytes self.now.words.now) ≡ as_parsed result.0 ∷ remaining result.1 }
@@ -216,6 +216,19 @@ fn split_first_letter(text: &str) -> Option<(char, &str)>
     let mut letters = text.chars();
     let letter = letters.next()?;
     Some((letter, letters.as_str()))
+}
+
+/// Returns the letter of the flag that a word is, if it is one.
+fn long_flag(word: &[u8]) -> Option<char>
+    ensures { result ≡ long_flag word.now }
+{
+    if word == b"--help".as_slice() {
+        Some('h')
+    } else if word == b"--version".as_slice() {
+        Some('V')
+    } else {
+        None
+    }
 }
 
 /// Returns whether a letter is an option without an argument.
