@@ -101,12 +101,16 @@ names() {
   tree -DA -- -x.c
   check 'names: a path with a hyphen' holds ./-x.c 'yes\n'
   put src/a.txt "$text"
-  for name in '-g *.none src' src/a.txt; do
-    # shellcheck disable=SC2086
-    set -f && tree -DA $name && set +f
-    check "no file matches: $name" same "$status $(cat "$work/err")" '2 unifdef-tree: No file matches'
-  done
+  tree -DA -g '*.none' src
+  check 'no file matches' same "$status $(cat "$work/err")" '2 unifdef-tree: No file matches'
   check 'no file matches: nothing is done' holds src/a.txt "$text"
+  tree -DA src/a.txt
+  check 'names: a file that is named' holds src/a.txt 'yes\n'
+  put src/a.txt "$text"
+  put src/b.txt "$text"
+  tree -DA -g src/a.txt src/b.txt
+  check 'names: a file that is named, beside -g' holds src/b.txt 'yes\n'
+  check 'names: a file that is named, beside -g: the other one' holds src/a.txt "$text"
   put src/x.cc "$text"
   tree -DA src/x.cc src/pipe.c
   check 'names: a pipe that is named' same "$status $(cat "$work/err")" '2 unifdef-tree: src/pipe.c: Is no regular file'
@@ -247,6 +251,11 @@ bad.c' 'x\n#else\n'
   done
   (cd "$work/run" && "$TREE" -h > /dev/full 2> /dev/null)
   check '-h: the output can not be written' same "$?" 2
+  tree -m src
+  check 'refused: an option of unifdef 2.12' has_line "$work/err" \
+    'unifdef-tree: Unknown option -m: files are changed in place without it'
+  tree -L src
+  check 'refused: another option' has_line "$work/err" 'unifdef-tree: Unknown option -L'
   tree -D
   check 'refused: no argument' has_line "$work/err" 'unifdef-tree: Option -D needs an argument'
   tree -DA
@@ -673,8 +682,10 @@ paths_from_input() {
   check 'input: with a path' same "$status" 2
   tree -0 -DA
   check 'input: no path' same "$status $(cat "$work/err")" '0 unifdef-tree: 0 changed, 0 unchanged, 0 faulty'
-  tree -V
-  check 'version' same "$(cat "$work/out")" "unifdef-tree $("$here/../packaging/version.sh")"
+  for option in -V --version; do
+    tree "$option"
+    check "$option" same "$status $(cat "$work/out")" "0 unifdef-tree $("$here/../packaging/version.sh")"
+  done
 }
 
 # Tests the counter on a terminal.

@@ -144,6 +144,39 @@ put_other() {
   ln -s "$work/victim" src/a.c
 }
 
+# Tests that two files are not taken for one if the second one gets the number of the first one,
+# which is gone, before it is met.
+numbers_used_again() {
+  local number first second
+  options=(-DA)
+  fresh_tree
+  put src/a.c "$text"
+  put src/b.c "$text"
+  [ "$(stat -c %W src/a.c)" -gt 0 ] 2> /dev/null || return 0
+  strace -f -o "$work/calls" -e trace=statx "$TREE" -n -DA src > /dev/null 2>&1
+  number=$(grep 'statx(' "$work/calls" | grep -n -m 1 '/[ab]\.c"' | cut -d : -f 1)
+  first=$(grep -m 1 -o '[ab]\.c"' "$work/calls" | tr -d '"')
+  second=$([ "$first" = a.c ] && echo b.c || echo a.c)
+  old=$(number "src/$first")
+  run_paused statx "$number" save_both "$first" "$second"
+  [ "$old" = "$new" ] || return 0
+  check 'a number that is used again: status' same "$status" 2
+  check 'a number that is used again: the first file' has_line "$work/err" \
+    "unifdef-tree: src/$first: Changed meanwhile"
+  check 'a number that is used again: the second file' holds "src/$second" 'yes\n'
+}
+
+# save_both FIRST SECOND: saves both as editors do, by a new file that is renamed. Sets new to the
+# number of the second one.
+save_both() {
+  local name
+  for name in "$1" "$2"; do
+    put src/.saved "$text"
+    mv src/.saved "src/$name"
+  done
+  new=$(number "src/$2")
+}
+
 put_pipe() {
   rm "$1"
   mkfifo "$1"
@@ -451,6 +484,17 @@ tree_within() {
     status=$?
 }
 
+# Tests that a file with a line over the limit is not read to its end, which may be far away.
+long_lines() {
+  fresh_tree
+  put src/a.c "$text"
+  truncate -s 2G src/long.c
+  tree_within 200000 -DA src
+  check 'a long line: status' same "$status" 2
+  check 'a long line: message' has_line "$work/err" 'unifdef-tree: src/long.c: Cannot be read: line too long'
+  check 'a long line: the other file' holds src/a.c 'yes\n'
+}
+
 # Tests the lists of -r and -s with less and less memory: each is whole, or a message says that it
 # isn't, and the status is 2.
 little_memory() {
@@ -522,6 +566,7 @@ undoes() {
 safety() {
   locks
   inputs
+  long_lines
   little_memory
   undoes
   promises
@@ -534,6 +579,7 @@ safety() {
     finds_same_file
     stays_in_tree
     writes_into_open_file
+    numbers_used_again
     compares_bytes
     syncs
     fails_in_turn
