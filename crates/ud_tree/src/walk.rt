@@ -69,8 +69,8 @@ impl<'w> Walk<'w> {
         }
     }
 
-    /// Begins at a path of the command line. A file is taken whatever its name. A folder may be named
-    /// by a link.
+    /// Begins at a path of the command line. A file is taken whatever its name. A folder may be
+    /// named by a link.
     ///
     /// # Errors
     /// Fails if memory runs out.
