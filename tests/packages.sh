@@ -30,7 +30,7 @@ works_in() {
   printf '#ifdef A\nx\n#endif\n' > "$work/a.c"
   check "$1: runs" same "$("$2/bin/unifdef" -DA "$work/a.c"; echo $?)" $'x\n1'
   check "$1: over a tree" same "$("$2/bin/unifdef-tree" -DA "$work/a.c" 2>&1; cat "$work/a.c")" \
-    $'unifdef-tree: 1 changed, 0 unchanged, 0 faulty\nx'
+    $'unifdef-tree: 1 changed, 0 unchanged, 0 faulty\nunifdef-tree: 2 lines removed\nx'
   check "$1: the version" same "$("$2/bin/unifdef-tree" -V)" "unifdef-tree $version"
   for manual in "$2"/share/man/man1/unifdef.1* "$2"/share/man/man1/unifdef-tree.1*; do
     check "$1: ${manual##*/}" shows "$manual" "unifdef $version"

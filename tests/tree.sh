@@ -383,6 +383,22 @@ src/c.c:7: #if A\'
 unifdef-tree: 0 conditions still name a symbol'
 }
 
+# Tests the number of removed lines: that of all files, and none under -b.
+removed_lines() {
+  fresh_tree
+  put src/a.c "$text"
+  put src/b.c '#ifdef A\nx\n#endif'
+  put src/c.c '#if X\n#endif\n'
+  tree -n -DA src
+  check 'removed lines: of two files' has_line "$work/err" 'unifdef-tree: 5 lines removed'
+  tree -DA src/b.c
+  check 'removed lines: one' has_line "$work/err" 'unifdef-tree: 1 line removed'
+  tree -b -DA src
+  check 'removed lines: -b' same "$(cat "$work/err")" 'unifdef-tree: 1 changed, 2 unchanged, 0 faulty'
+  tree -s src
+  check 'removed lines: -s' same "$(grep -c removed "$work/err")" 0
+}
+
 # Makes a file of which each condition that stays has decided operands under -UVMS.
 unpruned='#if defined(UNIX) || defined(VMS)\nx\n#elif defined(VMS) || (defined(A) && !defined(VMS))\ny\n#endif\n#ifdef VMS\nz\n#endif\n'
 pruned='#if defined(UNIX)\nx\n#elif defined(A)\ny\n#endif\n'
@@ -404,6 +420,7 @@ prunes() {
   check '-p: the line ending and a comment' holds src/only.c '#if X /* c */\r\n#endif\r\n'
   check '-p: a file that stays' same "$(stat -c '%i %y' src/same.c)" "$before"
   check '-p: counts' same "$(cat "$work/err")" 'unifdef-tree: 2 changed, 1 unchanged, 0 faulty
+unifdef-tree: 3 lines removed
 unifdef-tree: 3 conditions edited'
   check '-p: nothing left over' no_rest
   tree -p -UVMS src
@@ -415,6 +432,7 @@ unifdef-tree: 3 conditions edited'
   check '-p -n: status' same "$status" 1
   check '-p -n: changes nothing' diff -r was src
   check '-p -n: counts' same "$(cat "$work/err")" 'unifdef-tree: 1 would change, 2 unchanged, 0 faulty
+unifdef-tree: 3 lines removed
 unifdef-tree: 2 conditions edited'
   cp "$work/out" diff
   tree -d -p -UVMS src
@@ -572,7 +590,8 @@ lost_diffs() {
   "$TREE" -d -DA -- src > /dev/full 2> "$work/err" || status=$?
   check 'lost diffs: status' same "$status" 2
   check 'lost diffs: messages' same "$(cat "$work/err")" 'unifdef-tree: stdout: Cannot be written
-unifdef-tree: 1 changed, 0 unchanged, 1 faulty'
+unifdef-tree: 1 changed, 0 unchanged, 1 faulty
+unifdef-tree: 4 lines removed'
   check 'lost diffs: the first file' holds src/a.c 'yes\n'
   check 'lost diffs: no other file' holds src/b.c "$text"
   "$TREE" -DA -- src > /dev/full 2> "$work/err"
@@ -677,7 +696,8 @@ paths_from_input() {
   find src -print0 > "$work/paths"
   status=0
   (cd "$work/run" && "$TREE" -0 -DA < "$work/paths" > "$work/out" 2> "$work/err") || status=$?
-  check 'input: find -print0' same "$status $(cat "$work/err")" '1 unifdef-tree: 2 changed, 1 unchanged, 0 faulty'
+  check 'input: find -print0' same "$status $(cat "$work/err")" '1 unifdef-tree: 2 changed, 1 unchanged, 0 faulty
+unifdef-tree: 8 lines removed'
   tree -0 src
   check 'input: with a path' same "$status" 2
   tree -0 -DA
@@ -886,6 +906,7 @@ in_folder() {
   refusals
   lists
   remaining
+  removed_lines
   prunes
   diffs
   lost_diffs

@@ -291,7 +291,8 @@ locks() {
   ln src/.unifdef-tree.a.c linked
   tree -DA src
   check 'left over: status' same "$status $(cat "$work/err")" \
-    '1 unifdef-tree: 1 changed, 0 unchanged, 0 faulty'
+    '1 unifdef-tree: 1 changed, 0 unchanged, 0 faulty
+unifdef-tree: 4 lines removed'
   check 'left over: the file' holds src/a.c 'yes\n'
   check 'left over: is not written' holds linked 'left\n'
   check 'left over: removed' no_rest

@@ -11,12 +11,13 @@ use Rattle.ud_replace.specs.declared.error.ReplaceError.{ReplaceError}
 use Rattle.ud_replace.specs.Calls.{Call}
 use Rattle.ud_tree.specs.declared.counts.Fate.{Fate}
 use Rattle.ud_tree.specs.declared.counts.Counts.{Counts}
+use Rattle.ud_tree.specs.declared.counts.Edits.{Edits}
 use Rattle.ud_tree.specs.declared.walk.Found.{Found}
 use Rattle.ud_tree.specs.declared.arguments.Arguments.{Arguments}
 use Rattle.ud_tree.specs.declared.arguments.Task.{Task}
 use Rattle.ud_tree.specs.declared.arguments.Task.TheVariants.{Names}
-use Rattle.ud_tree.specs.Fates.{is_changed, is_same, is_faulty}
-use Rattle.ud_tree.specs.Runs.{fate_of, FileResult, Unshown, EachFile, no_file, then_file, changed_in, faulty_in, edited_in, shown_of, told_of, Counted, names_of, nothing_listed, listed_of, outputs_of}
+use Rattle.ud_tree.specs.Fates.{fate_of, is_changed, is_same, is_faulty, no_edits}
+use Rattle.ud_tree.specs.Runs.{FileResult, Unshown, EachFile, no_file, then_file, changed_in, faulty_in, edited_in, removed_in, shown_of, told_of, Counted, names_of, nothing_listed, listed_of, outputs_of}
 use Rattle.ud_tree.specs.Remainders.{FindsAll, listing_of, mode_of, texts_of, count_of}
 use Rattle.ud_tree.proofs.RemainderLemmas.{finds_none, finds_then, finds_same}
 use Rattle.ud_tree.specs.Statuses.{tree_status}
@@ -56,16 +57,16 @@ told_push results r = grind (arith, common_steps, flat_map-append)
 
 -- No file has been processed yet.
 counted_none : {P : List ℕ → List Call → List Call → FileResult → Type 0} {old : List Call} (counts : Counts) →
-    counts.changed ≡ 0 → counts.unchanged ≡ 0 → counts.faulty ≡ 0 → counts.edited ≡ 0 → Counted P old [] old counts [] []
+    counts.changed ≡ 0 → counts.unchanged ≡ 0 → counts.faulty ≡ 0 → counts.edits ≡ no_edits → Counted P old [] old counts [] []
 counted_none counts a b c d =
-    record { results = []; each = no_file; counts_are = record { changed = a; unchanged = b; faulty = c; edited = λ small. d }; shown_is = refl; told_is = refl }
+    record { results = []; each = no_file; counts_are = record { changed = a; unchanged = b; faulty = c; edited = λ small. ap (λ (e : Edits). e.conditions) d; removed = λ small. ap (λ (e : Edits). e.lines) d }; shown_is = refl; told_is = refl }
 
 -- The path of a file more follows those of the files before.
 pub names_push : (files : List Found) (i : ℕ) (f : Found) → i < length files → f ≡ get_or files i f →
     names_of (take (i + 1) files) ≡ names_of (take i files) ++ string_bytes f.path ∷ []
 names_push files i f within is = grind (arith, common_steps, take_more, map-append)
 
--- The edited conditions of one file more are counted.
+-- The edits of one file more are counted.
 edits_push : (s t b n a : ℕ) → t ≡ s + n → (s < 2 ^ 64 → b ≡ s) → (b + n < 2 ^ 64 → a ≡ b + n) → t < 2 ^ 64 → a ≡ t
 edits_push s t b n a e f g small = grind arith
 
@@ -76,21 +77,23 @@ counted_push : {P : List ℕ → List Call → List Call → FileResult → Type
     after.changed ≡ before.changed + cond (is_changed (fate_of r.update)) 1 0 →
     after.unchanged ≡ before.unchanged + cond (is_same (fate_of r.update)) 1 0 →
     after.faulty ≡ before.faulty + cond (is_faulty (fate_of r.update)) 1 0 →
-    (before.edited + r.edited < 2 ^ 64 → after.edited ≡ before.edited + r.edited) →
+    (before.edits.conditions + r.edits.conditions < 2 ^ 64 → after.edits.conditions ≡ before.edits.conditions + r.edits.conditions) →
+    (before.edits.lines + r.edits.lines < 2 ^ 64 → after.edits.lines ≡ before.edits.lines + r.edits.lines) →
     Counted P old (names_of (take (i + 1) files)) new after (shown ++ r.shown) (told ++ r.told)
-counted_push {P = P} {old = old} {mid = mid} {new = new} {before = before} {shown = shown} files i f name r after within is named h p t a b c d =
+counted_push {P = P} {old = old} {mid = mid} {new = new} {before = before} {shown = shown} files i f name r after within is named h p t a b c d e =
     let named_names : names_of (take i files) ++ name ∷ [] ≡ names_of (take (i + 1) files) =
     ap (λ (n : List ℕ). names_of (take i files) ++ n ∷ []) named ∙ sym (names_push files i f within is) in
-    let e : EachFile P old (names_of (take i files) ++ name ∷ []) new (h.results ++ r ∷ []) = then_file h.each p t in
+    let each : EachFile P old (names_of (take i files) ++ name ∷ []) new (h.results ++ r ∷ []) = then_file h.each p t in
     let k = h.counts_are in
     record {
       results = h.results ++ r ∷ [];
-      each = subst (λ (ns : List (List ℕ)). EachFile P old ns new (h.results ++ r ∷ [])) named_names e;
+      each = subst (λ (ns : List (List ℕ)). EachFile P old ns new (h.results ++ r ∷ [])) named_names each;
       counts_are = record {
         changed = a ∙ ap (λ (n : ℕ). n + cond (is_changed (fate_of r.update)) 1 0) k.changed ∙ sym (count_push is_changed h.results r);
         unchanged = b ∙ ap (λ (n : ℕ). n + cond (is_same (fate_of r.update)) 1 0) k.unchanged ∙ sym (count_push is_same h.results r);
         faulty = c ∙ ap (λ (n : ℕ). n + cond (is_faulty (fate_of r.update)) 1 0) k.faulty ∙ sym (count_push is_faulty h.results r);
-        edited = edits_push (edited_in h.results) (edited_in (h.results ++ r ∷ [])) before.edited r.edited after.edited (sum_by_push (λ (s : FileResult). s.edited) h.results r) k.edited d;
+        edited = edits_push (edited_in h.results) (edited_in (h.results ++ r ∷ [])) before.edits.conditions r.edits.conditions after.edits.conditions (sum_by_push (λ (s : FileResult). s.edits.conditions) h.results r) k.edited d;
+        removed = edits_push (removed_in h.results) (removed_in (h.results ++ r ∷ [])) before.edits.lines r.edits.lines after.edits.lines (sum_by_push (λ (s : FileResult). s.edits.lines) h.results r) k.removed e;
       };
       shown_is = ap (λ (x : List ℕ). x ++ r.shown) h.shown_is ∙ sym (shown_push h.results r);
       told_is = ap (λ (x : List ℕ). x ++ r.told) h.told_is ∙ sym (told_push h.results r);
@@ -106,7 +109,7 @@ adds_push results r h k = grind (arith, common_steps, flat_map-append, sum_by_pu
 
 -- No file has been processed, and nothing was written.
 pub writes_none : {args : Arguments} {P : List ℕ → List Call → List Call → FileResult → Type 0} {m : Moment} {r : Report} (lists : NameLists) (counts : Counts) →
-    counts.changed ≡ 0 → counts.unchanged ≡ 0 → counts.faulty ≡ 0 → counts.edited ≡ 0 → WritesAll args P m [] r m r counts lists lists
+    counts.changed ≡ 0 → counts.unchanged ≡ 0 → counts.faulty ≡ 0 → counts.edits ≡ no_edits → WritesAll args P m [] r m r counts lists lists
 unfolding counted_none
 writes_none {m = m} lists counts a b c d =
     record { shown = []; told = []; counted = counted_none counts a b c d; sent = sends_none m.out; tells = tells_kept m.err refl refl; adds = adds_none lists; finds = finds_none refl (λ lost. lost) }
@@ -120,24 +123,25 @@ finds_push results r h k = grind (arith, common_steps, finds_same, flat_map-appe
 -- files was shown.
 pub writes_push : {args : Arguments} {P : List ℕ → List Call → List Call → FileResult → Type 0} {old mid new : Moment} {next : Stream} {r mid_report next_report file_report after_report : Report} {before : Counts}
     {lists mid_lists new_lists : NameLists}
-    (files : List Found) (i : ℕ) (f : Found) (name : List ℕ) (update : Result Update ReplaceError) (edited : ℕ) (fate : Fate) (after : Counts) → i < length files → f ≡ get_or files i f →
+    (files : List Found) (i : ℕ) (f : Found) (name : List ℕ) (update : Result Update ReplaceError) (edits : Edits) (fate : Fate) (after : Counts) → i < length files → f ≡ get_or files i f →
     name ≡ string_bytes f.path → WritesAll args P old (names_of (take i files)) r mid mid_report before lists mid_lists →
     FindsAll args [] mid_report next_report → FindsAll args [] file_report after_report → Tells mid_report next_report mid.err next [] → file_report.is_terminal ≡ next_report.is_terminal → file_report.is_shown ≡ next_report.is_shown →
-    ProcessesOne args P name mid.calls new.calls mid.out new.out update edited mid_lists new_lists next_report file_report → TellsResult name update file_report after_report next new.err → fate ≡ fate_of update →
+    ProcessesOne args P name mid.calls new.calls mid.out new.out update edits mid_lists new_lists next_report file_report → TellsResult name update file_report after_report next new.err → fate ≡ fate_of update →
     after.changed ≡ before.changed + cond (is_changed fate) 1 0 →
     after.unchanged ≡ before.unchanged + cond (is_same fate) 1 0 →
     after.faulty ≡ before.faulty + cond (is_faulty fate) 1 0 →
-    (before.edited + edited < 2 ^ 64 → after.edited ≡ before.edited + edited) →
+    (before.edits.conditions + edits.conditions < 2 ^ 64 → after.edits.conditions ≡ before.edits.conditions + edits.conditions) →
+    (before.edits.lines + edits.lines < 2 ^ 64 → after.edits.lines ≡ before.edits.lines + edits.lines) →
     WritesAll args P old (names_of (take (i + 1) files)) r new after_report after lists new_lists
 unfolding counted_push
-writes_push {next = next} files i f name update edited fate after within is named h before_it after_it progress terminal shown p t e a b c d =
+writes_push {next = next} files i f name update edits fate after within is named h before_it after_it progress terminal shown p t e a b c d l =
     let quiet = tells_then progress (tells_kept next terminal shown) in
     let w = p.writes in
-    let result : FileResult = record { update = update; shown = w.shown; told = t.told; edited = edited; listed = p.listed; outputs = w.outputs } in
+    let result : FileResult = record { update = update; shown = w.shown; told = t.told; edits = edits; listed = p.listed; outputs = w.outputs } in
     record {
       shown = h.shown ++ w.shown;
       told = h.told ++ t.told;
-      counted = counted_push files i f name result after within is named h.counted (w.does t.told) t.is_told (rw e at a) (rw e at b) (rw e at c) d;
+      counted = counted_push files i f name result after within is named h.counted (w.does t.told) t.is_told (rw e at a) (rw e at b) (rw e at c) d l;
       sent = sends_then h.sent w.sent;
       tells = tells_then h.tells (tells_then quiet t.tells);
       adds = adds_push h.counted.results result h.adds p.adds;
@@ -150,7 +154,7 @@ pub writes_all : {args : Arguments} {P : List ℕ → List Call → List Call �
 writes_all files i is h = grind (arith, take_all)
 
 -- A file was processed of which nothing is shown.
-pub lists_unshown : {args : Arguments} {r : Report} {plan : TextPlan} {lists : Bool} {name : List ℕ} {calls calls' : List Call} {old new : NameLists} {update : Result Update ReplaceError} (out : Stream) {n : ℕ} → n ≡ 0 →
+pub lists_unshown : {args : Arguments} {r : Report} {plan : TextPlan} {lists : Bool} {name : List ℕ} {calls calls' : List Call} {old new : NameLists} {update : Result Update ReplaceError} (out : Stream) {n : Edits} → n ≡ no_edits →
     ListsInto plan lists name calls calls' old new update → ProcessesOne args (Unshown (ListsOne plan lists)) name calls calls' out out update n old new r r
 lists_unshown out none h = record {
   listed = h.listed;
@@ -159,12 +163,12 @@ lists_unshown out none h = record {
 }
 
 -- A file was processed of which nothing is listed.
-pub unlisted_one : {args : Arguments} {r r' : Report} {P : List ℕ → List Call → List Call → FileResult → Type 0} {name : List ℕ} {calls calls' : List Call} {out out' : Stream} {update : Result Update ReplaceError} {n : ℕ} (lists : NameLists) →
+pub unlisted_one : {args : Arguments} {r r' : Report} {P : List ℕ → List Call → List Call → FileResult → Type 0} {name : List ℕ} {calls calls' : List Call} {out out' : Stream} {update : Result Update ReplaceError} {n : Edits} (lists : NameLists) →
     WritesOne args P name calls calls' out out' update n nothing_listed r r' → ProcessesOne args P name calls calls' out out' update n lists lists r r'
 unlisted_one lists h = record { listed = nothing_listed; writes = h; adds = adds_none lists }
 
 -- The task of the arguments does what they ask for.
-pub done_by : (t : Task) (args : Arguments) {name : List ℕ} {calls calls' : List Call} {out out' : Stream} {update : Result Update ReplaceError} {n : ℕ} {lists lists' : NameLists} {r r' : Report} →
+pub done_by : (t : Task) (args : Arguments) {name : List ℕ} {calls calls' : List Call} {out out' : Stream} {update : Result Update ReplaceError} {n : Edits} {lists lists' : NameLists} {r r' : Report} →
     args.task ≡ t → ProcessesOne args (DoesBy t args) name calls calls' out out' update n lists lists' r r' → ProcessesOne args (DoesOne args) name calls calls' out out' update n lists lists' r r'
 done_by t args is h = grind arith
 
@@ -206,7 +210,7 @@ ends job files {old = old} {new = new} {counts = counts} lost unwritten in_walk 
     let args = job.arguments.now in
     let of_output = joined (output_messages lost unwritten) in
     let both = tells_same (sym (output_told lost unwritten)) (tells_then t u) in
-    let last = last_lines args counts.changed counts.unchanged faults hidden counts.edited e.remaining in
+    let last = last_lines args counts.changed counts.unchanged faults hidden counts.edits e.remaining in
     let all_names : lists.list.items ≡ (listed_of h.results).names = w.adds.names ∙ ap (λ (x : List ℕ). x ++ (listed_of h.results).names) no_name in
     let all_hidden : lists.hidden_list.items ≡ (listed_of h.results).hidden_list = w.adds.hidden_list ∙ ap (λ (x : List ℕ). x ++ (listed_of h.results).hidden_list) no_condition in
     record {
@@ -237,16 +241,17 @@ ends job files {old = old} {new = new} {counts = counts} lost unwritten in_walk 
             ∙ ap (λ (b : Bool). tree_status args.task args.plan.run.settings.exit_mode b faults (changed_in h.results)) heard;
         hidden = hidden;
         hidden_is = λ small. let sum = w.adds.hidden (omega (arith, none, small)) in omega (arith, hidden_now, none, sum);
-        edited = counts.edited;
+        edits = counts.edits;
         edited_is = h.counts_are.edited;
+        removed_is = h.counts_are.removed;
         remaining = e.remaining;
         remaining_is = λ whole wanted calls represents small.
             e.remaining_is ∙ ap (λ (s : RemainingState). s.count) same_remainder
             ∙ counted_from (count_of calls (mode_of args) (outputs_of h.results)) (ap (λ (s : RemainingState). s.count) no_remainder)
             (w.finds.added (whole_report whole) wanted calls represents).count_is small;
         none_remains = λ off. e.remaining_is ∙ ap (λ (s : RemainingState). s.count) (same_remainder ∙ w.finds.same off ∙ no_remainder);
-        last_is = ap (λ (x : ℕ). last_lines args x counts.unchanged faults hidden counts.edited e.remaining) h.counts_are.changed
-            ∙ ap (λ (x : ℕ). last_lines args (changed_in h.results) x faults hidden counts.edited e.remaining) h.counts_are.unchanged;
+        last_is = ap (λ (x : ℕ). last_lines args x counts.unchanged faults hidden counts.edits e.remaining) h.counts_are.changed
+            ∙ ap (λ (x : ℕ). last_lines args (changed_in h.results) x faults hidden counts.edits e.remaining) h.counts_are.unchanged;
         told_is = ap (λ (x : List ℕ). (x ++ of_output) ++ last) h.told_is ∙ ap (λ (b : Bool). (told_of h.results ++ joined (output_messages lost b)) ++ last) failed;
         faults_are = subst (λ (b : Bool). in_walk + length (output_messages lost b) + faulty_in h.results < 2 ^ 64 → faults ≡ in_walk + length (output_messages lost b) + faulty_in h.results) failed
             (rw (output_count lost unwritten, ← h.counts_are.faulty) all);

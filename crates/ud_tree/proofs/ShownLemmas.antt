@@ -15,6 +15,8 @@ use Rattle.ud_model.specs.declared.kind.Mode.{Mode}
 use Rattle.ud_tree.specs.declared.arguments.Arguments.{Arguments}
 use Rattle.ud_tree.specs.declared.report.Report.{Report}
 use Rattle.ud_tree.specs.Remainders.{FindsAll}
+use Rattle.ud_tree.specs.declared.counts.Edits.{Edits}
+use Rattle.ud_tree.specs.Fates.{no_edits, removed_by}
 use Rattle.ud_tree.specs.Runs.{ReadsOne, nothing_listed, Output, made}
 use Rattle.ud_tree.specs.Shown.{WasRead, Fails, fails_over, HasDiff, ShowsFile, same, several, changed, ShowsOne, listed_by, ListsFile, names_listed}
 use Rattle.ud_io.specs.Streams.{Stream}
@@ -59,34 +61,35 @@ pub has_diff : (o : TextOptions) (name text output seen diff : List ℕ) (ran : 
 has_diff o name text output seen diff ran h e p is = grind arith
 
 -- Nothing was written of a file.
-pub shows_none : {args : Arguments} {plan : TextPlan} {into : Bool} {r r' : Report} {outputs : List Output} {name : List ℕ} {calls calls' : List Call} {update : Result Update ReplaceError} (out : Stream) {n : ℕ} → n ≡ 0 → ReadsOne name calls calls' →
-    ((o : TextOptions) → IsPlanned plan o → ShowsFile o into name calls calls' update [] 0 outputs) →
+pub shows_none : {args : Arguments} {plan : TextPlan} {into : Bool} {r r' : Report} {outputs : List Output} {name : List ℕ} {calls calls' : List Call} {update : Result Update ReplaceError} (out : Stream) {n : Edits} → n ≡ no_edits → ReadsOne name calls calls' →
+    ((o : TextOptions) → IsPlanned plan o → ShowsFile o into name calls calls' update [] no_edits outputs) →
     FindsAll args outputs r r' → WritesOne args (ShowsOne plan into) name calls calls' out out update n nothing_listed r r'
 shows_none {into = into} {outputs = outputs} {name = name} {calls = calls} {calls' = calls'} {update = update} out none read h finds = record {
   shown = [];
   outputs = outputs;
-  does = λ told. record { reads = read; shows = λ o p. subst (λ (k : ℕ). ShowsFile o into name calls calls' update [] k outputs) (sym none) (h o p) };
+  does = λ told. record { reads = read; shows = λ o p. subst (λ (k : Edits). ShowsFile o into name calls calls' update [] k outputs) (sym none) (h o p) };
   sent = sends_none out;
   finds = finds;
 }
 
 -- Nothing is shown of a file whose output doesn't differ.
 pub shows_same : (o : TextOptions) (into : Bool) (name text old output : List ℕ) (ran : TextRun) (stat : FileStat) (calls calls' : List Call) →
-    {seen : List ℕ} → seen ≡ output → old ≡ [] → ran.differs ≡ false → WasRead name text stat calls calls' → RunsOver o text old output ran → ShowsFile o into name calls calls' (Ok Unchanged) [] 0 (made name seen)
+    {seen : List ℕ} → seen ≡ output → old ≡ [] → ran.differs ≡ false → WasRead name text stat calls calls' → RunsOver o text old output ran → ShowsFile o into name calls calls' (Ok Unchanged) [] no_edits (made name seen)
 shows_same o into name text old output ran stat calls calls' q e is was h =
-    subst (λ (x : List ℕ). ShowsFile o into name calls calls' (Ok Unchanged) [] 0 (made name x)) (sym q) (same text output stat ran was (from_nothing e h) is)
+    subst (λ (x : List ℕ). ShowsFile o into name calls calls' (Ok Unchanged) [] no_edits (made name x)) (sym q) (same text output stat ran was (from_nothing e h) is)
 
 -- Nothing is shown of a file whose output differs, and which is left alone for its links.
 pub shows_several : (o : TextOptions) (into : Bool) (name text old output : List ℕ) (ran : TextRun) (stat : FileStat) (calls calls' : List Call) →
     old ≡ [] → ran.differs ≡ true → WasRead name text stat calls calls' → RunsOver o text old output ran → (1 < stat.links) × (into ≡ false) →
-    ShowsFile o into name calls calls' (Err SeveralLinks) [] 0 []
+    ShowsFile o into name calls calls' (Err SeveralLinks) [] no_edits []
 shows_several o into name text old output ran stat calls calls' e is was h left = several text output stat ran was (from_nothing e h) is left.0 left.1
 
 -- A file whose output differs is shown by its diff.
 pub shows_changed : (o : TextOptions) (into : Bool) (name text read old output seen diff : List ℕ) (ran : TextRun) (stat : FileStat) (calls calls' : List Call) →
     old ≡ [] → ran.differs ≡ true → WasRead name text stat calls calls' → RunsOver o text old output ran → (stat.links ≤ 1) ⊎ (into ≡ true) →
-    read ≡ text → seen ≡ output → IsDiff name read seen diff → ShowsFile o into name calls calls' (Ok Replaced) diff ran.edited (made name seen)
+    read ≡ text → seen ≡ output → IsDiff name read seen diff → (lines : ℕ) → lines ≡ removed_by Replaced text seen →
+    ShowsFile o into name calls calls' (Ok Replaced) diff (record { conditions = ran.edited; lines = lines }) (made name seen)
 unfolding has_diff from_nothing
-shows_changed o into name text read old output seen diff ran stat calls calls' e is was h may r q diffs =
-    changed text seen diff ran.edited stat was may (has_diff o name text output seen diff ran (from_nothing e h) is q (subst (λ (x : List ℕ). IsDiff name x seen diff) r diffs))
-    (q ∙ (from_nothing e h).appended)
+shows_changed o into name text read old output seen diff ran stat calls calls' e is was h may r q diffs lines fewer =
+    changed text seen diff (record { conditions = ran.edited; lines = lines }) stat was may (has_diff o name text output seen diff ran (from_nothing e h) is q (subst (λ (x : List ℕ). IsDiff name x seen diff) r diffs))
+    (q ∙ (from_nothing e h).appended) fewer

@@ -2,7 +2,7 @@
 --
 --   KeepsOne o into name old new r text output edited   a file was replaced, with this output
 --   ShowsChange shows name update text output shown   the diff of a file that was changed
---   ShowsUpdate plan into shows name old new r shown edited outputs   the same, by the result
+--   ShowsUpdate plan into shows name old new r shown edits outputs   the same, by the result
 --   ReplacesShowing plan into shows name old new result   both: it was replaced, and is shown
 --
 -- `old` and `new` are the calls before and after, the newest first.
@@ -15,9 +15,10 @@ use Rattle.ud_replace.specs.declared.text_plan.TextPlan.{TextPlan}
 use Rattle.ud_replace.specs.Calls.{Call}
 use Rattle.ud_replace.specs.Replacing.{Keeps}
 use Rattle.ud_replace.specs.TextOutcomes.{TextOptions, IsPlanned}
-use Rattle.ud_tree.specs.Fates.{is_changed}
+use Rattle.ud_tree.specs.declared.counts.Edits.{Edits}
+use Rattle.ud_tree.specs.Fates.{fate_of, is_changed, no_edits, removed_by}
 use Rattle.ud_tree.specs.Paths.{fresh_name}
-use Rattle.ud_tree.specs.Runs.{FileResult, ReplacesOne, fate_of, Output, made}
+use Rattle.ud_tree.specs.Runs.{FileResult, ReplacesOne, Output, made}
 
 -- `KeepsOne o into name old new r text output edited`: the file `name` was read as `text`, and was
 -- replaced by the help of a new one, with the result `r`. `output` is the output for `text`, of
@@ -35,17 +36,18 @@ pub data ShowsChange (shows : Bool) (name : List ℕ) (update : Update) (text ou
   change_shown : {shown : List ℕ} → shows ≡ true → is_changed (fate_of (Ok update)) ≡ true →
       IsDiff name text output shown → ShowsChange shows name update text output shown
 
--- `ShowsUpdate plan into shows name old new r shown edited outputs`: nothing is shown of the file
+-- `ShowsUpdate plan into shows name old new r shown edits outputs`: nothing is shown of the file
 -- `name` after an error, and there is no output. Else its diff is, as `ShowsChange` has it, with
--- the text that was read and its output, of which `edited` conditions were edited.
+-- the text that was read and its output, by which `edits` are.
 pub data ShowsUpdate (plan : TextPlan) (into shows : Bool) (name : List ℕ) (old new : List Call) :
-    Result Update ReplaceError → List ℕ → ℕ → List Output → Type 0 where
-  after_error : {e : ReplaceError} → ShowsUpdate plan into shows name old new (Err e) [] 0 []
-  after_update : {update : Update} {shown : List ℕ} (text output : List ℕ) (edited : ℕ) →
+    Result Update ReplaceError → List ℕ → Edits → List Output → Type 0 where
+  after_error : {e : ReplaceError} → ShowsUpdate plan into shows name old new (Err e) [] no_edits []
+  after_update : {update : Update} {shown : List ℕ} (text output : List ℕ) (edits : Edits) →
       ((o : TextOptions) → IsPlanned plan o →
-      KeepsOne o into name old new (Ok update) text output edited) →
+      KeepsOne o into name old new (Ok update) text output edits.conditions) →
+      edits.lines ≡ removed_by update text output →
       ShowsChange shows name update text output shown →
-      ShowsUpdate plan into shows name old new (Ok update) shown edited (made name output)
+      ShowsUpdate plan into shows name old new (Ok update) shown edits (made name output)
 
 -- `ReplacesShowing plan into shows name old new result`: the file `name` was replaced, and its diff
 -- is shown if `shows`.
@@ -53,4 +55,4 @@ pub record ReplacesShowing (plan : TextPlan) (into shows : Bool) (name : List �
     (old new : List Call) (result : FileResult) : Type 0 where
   pub does : ReplacesOne plan into name old new result.update
   pub change : ShowsUpdate plan into shows name old new result.update result.shown
-      result.edited result.outputs
+      result.edits result.outputs

@@ -1,7 +1,6 @@
 -- Runs: what is asked for the files of a run, and what becomes of them.
 --
 --   ReadsOne name old new   a file was read, and nothing else was asked
---   fate_of r               what became of a file, by the result of replacing it
 --   ReplacesOne plan into name old new update   a file was replaced, or its name took no memory
 --   Listed, nothing_listed  what is listed of a file
 --   Output, made name bytes   the output for a file
@@ -9,7 +8,7 @@
 --   Unshown P name old new result   `P` holds of a file, of which nothing is written to the output
 --   EachFile P old names new results   `P` holds of each file in turn, and nothing else was asked
 --   changed_in results, same_in results, faulty_in results   the numbers of each fate
---   edited_in results       the number of edited conditions
+--   edited_in results, removed_in results   the numbers of edited conditions and removed lines
 --   CountsAre counts results   these are the counts
 --   shown_of results        what is written of the files to the output
 --   told_of results         what is written of the files to the error stream
@@ -19,11 +18,10 @@
 --   names_of files          the paths of the files that the walk found
 --
 -- `old` and `new` are the calls before and after, the newest first.
-use Rattle.std.specs.Prelude.{◌≡◌, ℕ, List, [], ◌∷◌, ◌++◌, Bool, Option, Result, Ok, Err, map}
+use Rattle.std.specs.Prelude.{◌≡◌, ℕ, List, [], ◌∷◌, ◌++◌, Bool, Option, Result, Err, map}
 use Rattle.std.specs.Prelude.{count_by, string_bytes, sum_by, ◌<◌, ◌^◌}
 use Rattle.std.specs.List.{flat_map}
 use Rattle.ud_replace.specs.declared.error.Update.{Update}
-use Rattle.ud_replace.specs.declared.error.Update.TheVariants.{Unchanged, Replaced, WrittenInto}
 use Rattle.ud_replace.specs.declared.error.ReplaceError.{ReplaceError}
 use Rattle.ud_replace.specs.declared.error.ReplaceError.TheVariants.{OutOfMemory}
 use Rattle.ud_replace.specs.declared.node.FileId.{FileId}
@@ -32,11 +30,10 @@ use Rattle.ud_replace.specs.declared.text_plan.TextPlan.{TextPlan}
 use Rattle.ud_replace.specs.Calls.{Call, was_read}
 use Rattle.ud_replace.specs.Replacing.{Replaces}
 use Rattle.ud_replace.specs.TextOutcomes.{TextOptions, IsPlanned}
-use Rattle.ud_tree.specs.declared.counts.Fate.{Fate}
-use Rattle.ud_tree.specs.declared.counts.Fate.TheVariants.{Changed, Same, Faulty}
 use Rattle.ud_tree.specs.declared.counts.Counts.{Counts}
+use Rattle.ud_tree.specs.declared.counts.Edits.{Edits}
 use Rattle.ud_tree.specs.declared.walk.Found.{Found}
-use Rattle.ud_tree.specs.Fates.{is_changed, is_same, is_faulty}
+use Rattle.ud_tree.specs.Fates.{fate_of, is_changed, is_same, is_faulty, no_edits}
 use Rattle.ud_tree.specs.Messages.{IsTold}
 use Rattle.ud_tree.specs.Paths.{fresh_name}
 
@@ -44,13 +41,6 @@ use Rattle.ud_tree.specs.Paths.{fresh_name}
 pub data ReadsOne (name : List ℕ) (old new : List Call) : Type 0 where
   reads : (text : List ℕ) (answer : Option FileStat) → new ≡ was_read name text answer ∷ old →
       ReadsOne name old new
-
--- `fate_of r`: what became of a file.
-abbrev pub fate_of : Result Update ReplaceError → Fate
-fate_of (Ok Unchanged) = Same
-fate_of (Ok Replaced) = Changed
-fate_of (Ok WrittenInto) = Changed
-fate_of (Err e) = Faulty
 
 -- `ReplacesOne plan into name old new update`: the calls are those that replace the file `name`, by
 -- the help of a new one, and `update` is their result. It is some file that the walk met. Or memory
@@ -84,25 +74,24 @@ abbrev pub made : List ℕ → List ℕ → List Output
 made name bytes = record { name = name; bytes = bytes } ∷ []
 
 -- `FileResult`: the result of a file, the bytes that are written of it to the output and to the
--- error stream, the number of conditions of its output that were edited, or would be, what is
--- listed of it, and the output for it, of which there is none after an error.
+-- error stream, the edits of its text, which were made or would be, what is listed of it, and the
+-- output for it, of which there is none after an error.
 pub record FileResult : Type 0 where
   pub update : Result Update ReplaceError
   pub shown : List ℕ
   pub told : List ℕ
-  pub edited : ℕ
+  pub edits : Edits
   pub listed : Listed
   pub outputs : List Output
 
 -- `Unshown P name old new result`: `P` holds of the file, its result, and what is listed of it.
--- Nothing else is written of it to the output. It has no output of its own, and no condition is
--- edited.
+-- Nothing else is written of it to the output. It has no output of its own, and no edits.
 pub record Unshown
     (P : List ℕ → List Call → List Call → Result Update ReplaceError → Listed → Type 0)
     (name : List ℕ) (old new : List Call) (result : FileResult) : Type 0 where
   pub does : P name old new result.update result.listed
   pub nothing : result.shown ≡ []
-  pub unedited : result.edited ≡ 0
+  pub unedited : result.edits ≡ no_edits
   pub no_output : result.outputs ≡ []
 
 -- `EachFile P old names new results`: `P name mid next result` holds of each file in turn, where
@@ -130,15 +119,20 @@ faulty_in results = count_by (λ r. is_faulty (fate_of r.update)) results
 
 -- `edited_in results`: the number of conditions that were edited, or would be.
 abbrev pub edited_in : List FileResult → ℕ
-edited_in results = sum_by (λ r. r.edited) results
+edited_in results = sum_by (λ r. r.edits.conditions) results
 
--- `CountsAre counts results`: `counts` has the number of each fate, and of the edited conditions if
--- that is one that a machine can count.
+-- `removed_in results`: the number of lines that were removed, or would be.
+abbrev pub removed_in : List FileResult → ℕ
+removed_in results = sum_by (λ r. r.edits.lines) results
+
+-- `CountsAre counts results`: `counts` has the number of each fate, and those of edited conditions
+-- and removed lines if a machine can count these.
 pub record CountsAre (counts : Counts) (results : List FileResult) : Type 0 where
   pub changed : counts.changed ≡ changed_in results
   pub unchanged : counts.unchanged ≡ same_in results
   pub faulty : counts.faulty ≡ faulty_in results
-  pub edited : edited_in results < 2 ^ 64 → counts.edited ≡ edited_in results
+  pub edited : edited_in results < 2 ^ 64 → counts.edits.conditions ≡ edited_in results
+  pub removed : removed_in results < 2 ^ 64 → counts.edits.lines ≡ removed_in results
 
 -- `shown_of results`: what is written of the files to the output, in order.
 abbrev pub shown_of : List FileResult → List ℕ

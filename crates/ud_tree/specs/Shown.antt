@@ -3,7 +3,7 @@
 --   WasRead name text stat old new   a file was read, and `text` are its bytes
 --   Fails o name calls calls' e      a file couldn't be read, or the run over its text failed
 --   HasDiff o name text diff edited  the diff of a text and its output
---   ShowsFile o into name calls calls' update shown edited outputs   a file was read, and its diff
+--   ShowsFile o into name calls calls' update shown edits outputs   a file was read, and its diff
 --                                    shown
 --   ShowsOne plan into name calls calls' result   the same for all options of a plan
 --   listed_by mode lists name text output   what is listed of a file with these bytes
@@ -28,6 +28,8 @@ use Rattle.ud_replace.specs.Calls.{Call, was_read}
 use Rattle.ud_replace.specs.TextOutcomes.{TextOptions, IsPlanned, TextOutcome, HasTextOutcome}
 use Rattle.ud_replace.specs.TextOutcomes.{RunsOver, FailsOver}
 use Rattle.ud_names.specs.UnlistedConditions.{unlisted_in, unlisted_text}
+use Rattle.ud_tree.specs.declared.counts.Edits.{Edits}
+use Rattle.ud_tree.specs.Fates.{no_edits, removed_by}
 use Rattle.ud_tree.specs.Runs.{FileResult, ReadsOne, Listed, Output, made}
 
 -- `WasRead name text stat old new`: the file `name` was read, and nothing else was asked. Its bytes
@@ -56,26 +58,27 @@ pub record HasDiff (o : TextOptions) (name text diff : List ℕ) (edited : ℕ) 
   pub is_diff : IsDiff name text outcome.output diff
   pub edited_is : edited ≡ outcome.edited
 
--- `ShowsFile o into name calls calls' update shown edited outputs`: the file `name` was read. If
+-- `ShowsFile o into name calls calls' update shown edits outputs`: the file `name` was read. If
 -- its output differs, its diff is shown, and the result is `Replaced`. If it doesn't, nothing is
 -- shown, and the result is `Unchanged`. Nothing is shown either of a file with several links, which
 -- a run leaves alone unless `into`, or if `Fails` is true of the error. Then there is no output.
 pub data ShowsFile (o : TextOptions) (into : Bool) (name : List ℕ) (calls calls' : List Call) :
-    Result Update ReplaceError → List ℕ → ℕ → List Output → Type 0 where
+    Result Update ReplaceError → List ℕ → Edits → List Output → Type 0 where
   faulty : {e : ReplaceError} → Fails o name calls calls' e →
-      ShowsFile o into name calls calls' (Err e) [] 0 []
+      ShowsFile o into name calls calls' (Err e) [] no_edits []
   several : (text output : List ℕ) (stat : FileStat) (ran : TextRun) →
       WasRead name text stat calls calls' → RunsOver o text [] output ran →
       ran.differs ≡ true → 1 < stat.links → into ≡ false →
-      ShowsFile o into name calls calls' (Err SeveralLinks) [] 0 []
+      ShowsFile o into name calls calls' (Err SeveralLinks) [] no_edits []
   same : (text output : List ℕ) (stat : FileStat) (ran : TextRun) →
       WasRead name text stat calls calls' → RunsOver o text [] output ran →
       ran.differs ≡ false →
-      ShowsFile o into name calls calls' (Ok Unchanged) [] 0 (made name output)
-  changed : (text output diff : List ℕ) (edited : ℕ) (stat : FileStat) →
+      ShowsFile o into name calls calls' (Ok Unchanged) [] no_edits (made name output)
+  changed : (text output diff : List ℕ) (edits : Edits) (stat : FileStat) →
       WasRead name text stat calls calls' → (stat.links ≤ 1) ⊎ (into ≡ true) →
-      (h : HasDiff o name text diff edited) → output ≡ h.outcome.output →
-      ShowsFile o into name calls calls' (Ok Replaced) diff edited (made name output)
+      (h : HasDiff o name text diff edits.conditions) → output ≡ h.outcome.output →
+      edits.lines ≡ removed_by Replaced text output →
+      ShowsFile o into name calls calls' (Ok Replaced) diff edits (made name output)
 
 -- `ShowsOne plan into name calls calls' result`: the file `name` was read once. Its result, what is
 -- shown of it, and its output, are those of the text that was read, for the options of the plan.
@@ -83,7 +86,7 @@ pub record ShowsOne (plan : TextPlan) (into : Bool) (name : List ℕ) (calls cal
     (result : FileResult) : Type 0 where
   pub reads : ReadsOne name calls calls'
   pub shows : (o : TextOptions) → IsPlanned plan o →
-      ShowsFile o into name calls calls' result.update result.shown result.edited result.outputs
+      ShowsFile o into name calls calls' result.update result.shown result.edits result.outputs
 
 -- `listed_by mode lists name text output`: what is listed of the file `name` with these bytes, by
 -- the output for them: its names, and its conditions whose names can't be listed, which are counted

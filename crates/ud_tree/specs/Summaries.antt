@@ -6,8 +6,9 @@
 --   changes_line word changed unchanged faults   how many files changed, or would
 --   summary task changed unchanged faults hidden   how many files there were of each kind
 --   remaining_line listed count   how many conditions still name a symbol
+--   removed_line count        how many lines were removed
 --   edited_line prunes count   how many conditions were edited
---   last_lines args changed unchanged faults hidden edited remaining   these lines, unless quiet
+--   last_lines args changed unchanged faults hidden edits remaining   these lines, unless quiet
 --   TellsEnd args counts faults hidden old err err'   they were written last
 --   EndsWith s bytes          the last bytes that were written to `s`
 --   Says old new err err' bytes   `bytes` were written, after the number of files was removed
@@ -17,6 +18,7 @@ use Rattle.ud_tree.specs.declared.arguments.Task.{Task}
 use Rattle.ud_tree.specs.declared.arguments.Task.TheVariants.{Replace, Diff, Names}
 use Rattle.ud_tree.specs.declared.arguments.Arguments.{Arguments}
 use Rattle.ud_tree.specs.declared.counts.Counts.{Counts}
+use Rattle.ud_tree.specs.declared.counts.Edits.{Edits}
 use Rattle.ud_tree.specs.declared.report.Report.{Report}
 use Rattle.ud_io.specs.Streams.{Stream, Sends}
 use Rattle.ud_tree.specs.Visible.{visible}
@@ -63,6 +65,15 @@ abbrev pub remaining_line : Bool → ℕ → List ℕ
 remaining_line listed count = if count == 0 && not listed then [] else line_of (decimal count ++
     remaining_text count ++ (if listed then [] else codes "; -r lists them"))
 
+-- `removed_text count`: what follows the number of removed lines.
+abbrev pub removed_text : ℕ → List ℕ
+removed_text count = if count == 1 then codes " line removed" else codes " lines removed"
+
+-- `removed_line count`: the line with the number of removed lines, which is left out if there is
+-- none.
+abbrev pub removed_line : ℕ → List ℕ
+removed_line count = if count == 0 then [] else line_of (decimal count ++ removed_text count)
+
 -- `edited_text count`: what follows the number of edited conditions.
 abbrev pub edited_text : ℕ → List ℕ
 edited_text count = if count == 1 then codes " condition edited" else codes " conditions edited"
@@ -76,13 +87,13 @@ edited_line prunes count = if prunes then line_of (decimal count ++ edited_text 
 abbrev pub EndsWith : Stream → List ℕ → Type 0
 EndsWith s bytes = (mid : Stream) × Sends mid s bytes
 
--- `last_lines args changed unchanged faults hidden edited remaining`: the summary, and the lines
--- with the numbers of edited conditions and of those that still name a symbol; nothing if the run
--- is quiet.
-abbrev pub last_lines : Arguments → ℕ → ℕ → ℕ → ℕ → ℕ → ℕ → List ℕ
-last_lines args changed unchanged faults hidden edited remaining = if args.quiet then []
-    else summary args.task changed unchanged faults hidden ++
-    edited_line args.plan.prunes edited ++ remaining_line args.list_remaining remaining
+-- `last_lines args changed unchanged faults hidden edits remaining`: the summary, and the lines
+-- with the numbers of removed lines, of edited conditions and of those that still name a symbol;
+-- nothing if the run is quiet.
+abbrev pub last_lines : Arguments → ℕ → ℕ → ℕ → ℕ → Edits → ℕ → List ℕ
+last_lines args changed unchanged faults hidden edits remaining = if args.quiet then []
+    else summary args.task changed unchanged faults hidden ++ removed_line edits.lines ++
+    edited_line args.plan.prunes edits.conditions ++ remaining_line args.list_remaining remaining
 
 -- `TellsEnd args counts faults hidden old err err'`: the last lines were written, with these
 -- numbers and that of the conditions that still name a symbol, which the report has. Nothing else
@@ -92,9 +103,9 @@ pub record TellsEnd (args : Arguments) (counts : Counts) (faults hidden : ℕ) (
   pub remaining : ℕ
   pub remaining_is : remaining ≡ old.remaining.count
   pub told : EndsWith err'
-      (last_lines args counts.changed counts.unchanged faults hidden counts.edited remaining)
+      (last_lines args counts.changed counts.unchanged faults hidden counts.edits remaining)
   pub alone : old.is_shown ≡ false → Sends err err'
-      (last_lines args counts.changed counts.unchanged faults hidden counts.edited remaining)
+      (last_lines args counts.changed counts.unchanged faults hidden counts.edits remaining)
 
 -- `Says old new err err' bytes`: `bytes` were written. If a terminal showed the number of files,
 -- that was removed before.

@@ -15,7 +15,7 @@ use Rattle.ud_tree.specs.Walks.{WalksOnly, IsWalk}
 -- diff if a run would change it.
 abbrev pub ShowsAs : TextOptions → Bool → List ℕ → List Call → List Call → FileResult → Type 0
 ShowsAs o into name old new result =
-    ShowsFile o into name old new result.update result.shown result.edited result.outputs
+    ShowsFile o into name old new result.update result.shown result.edits result.outputs
 
 -- `ShowsDiffs o run`: no file was read, and nothing is shown. Or a walk found some files, each was
 -- read once, and their diffs are shown in the same order. A list follows, if one is wanted.

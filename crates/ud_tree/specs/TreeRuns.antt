@@ -25,6 +25,7 @@ use Rattle.ud_tree.specs.declared.arguments.Task.{Task}
 use Rattle.ud_tree.specs.declared.arguments.Task.TheVariants.{Replace, Diff, Names}
 use Rattle.ud_tree.specs.declared.arguments.Arguments.{Arguments}
 use Rattle.ud_tree.specs.declared.counts.Counts.{Counts}
+use Rattle.ud_tree.specs.declared.counts.Edits.{Edits}
 use Rattle.ud_tree.specs.declared.job.Job.{Job}
 use Rattle.ud_tree.specs.declared.report.Report.{Report}
 use Rattle.ud_tree.specs.declared.walk.Found.{Found}
@@ -34,7 +35,7 @@ use Rattle.ud_names.specs.NameTables.{names_in, Tabulates}
 use Rattle.ud_tree.specs.Remainders.{is_searched, listing_of, mode_of, texts_of, count_of}
 use Rattle.ud_tree.specs.Runs.{FileResult, Unshown, EachFile, shown_of, told_of, listed_of}
 use Rattle.ud_tree.specs.Runs.{outputs_of}
-use Rattle.ud_tree.specs.Runs.{changed_in, same_in, faulty_in, edited_in, names_of}
+use Rattle.ud_tree.specs.Runs.{changed_in, same_in, faulty_in, edited_in, removed_in, names_of}
 use Rattle.ud_tree.specs.Shown.{ShowsOne, ListsOne}
 use Rattle.ud_tree.specs.Messages.{output_messages}
 use Rattle.ud_tree.specs.Streams.{StreamEnds, ends_of, Source, TakesInput, ReadsWhole}
@@ -90,10 +91,10 @@ pub record DoesFiles (job : Job) (files : List Found) (before : Moment) (report 
 -- was lost. There is no line if no option names a symbol. The output has failed or is flushed. The
 -- status is that of some number of faults, at least one for each faulty file, and of the number of
 -- changed files. It is 2 if the error stream has failed. The last lines have the same numbers, that
--- of the conditions whose names can't be listed, and that of the conditions of all outputs that
--- still name a symbol. The messages of the faulty files come first, then those about the output,
--- which has one if it has failed, and then the last lines. There is one fault for each message, and
--- for each of the walk.
+-- of the conditions whose names can't be listed, those of removed lines and edited conditions, and
+-- that of the conditions of all outputs that still name a symbol. The messages of the faulty files
+-- come first, then those about the output, which has one if it has failed, and then the last lines.
+-- There is one fault for each message, and for each of the walk.
 pub record Ends (args : Arguments) (in_walk : ℕ) (streams : StreamEnds)
     (old : List Call) (names : List (List ℕ)) (new : List Call) (shown told last : List ℕ)
     (status : ℕ) : Type 0 where
@@ -117,8 +118,9 @@ pub record Ends (args : Arguments) (in_walk : ℕ) (streams : StreamEnds)
       streams.unheard faults (changed_in results)
   pub hidden : ℕ
   pub hidden_is : (listed_of results).hidden < 2 ^ 64 → hidden ≡ (listed_of results).hidden
-  pub edited : ℕ
-  pub edited_is : edited_in results < 2 ^ 64 → edited ≡ edited_in results
+  pub edits : Edits
+  pub edited_is : edited_in results < 2 ^ 64 → edits.conditions ≡ edited_in results
+  pub removed_is : removed_in results < 2 ^ 64 → edits.lines ≡ removed_in results
   pub remaining : ℕ
   pub remaining_is : is_lost ≡ false → is_searched args ≡ true → (calls : List Argument) →
       TableRepresents args.plan.run.symbols calls →
@@ -126,7 +128,7 @@ pub record Ends (args : Arguments) (in_walk : ℕ) (streams : StreamEnds)
       remaining ≡ count_of calls (mode_of args) (outputs_of results)
   pub none_remains : is_searched args ≡ false → remaining ≡ 0
   pub last_is : last ≡ last_lines args (changed_in results) (same_in results) faults hidden
-      edited remaining
+      edits remaining
   pub told_is : told ≡ told_of results ++ joined (output_messages is_lost streams.failed) ++ last
   pub faults_are :
       in_walk + length (output_messages is_lost streams.failed) + faulty_in results < 2 ^ 64 →

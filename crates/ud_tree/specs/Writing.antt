@@ -2,9 +2,9 @@
 --
 --   Moment                                the calls so far, the output and the error stream
 --   moment history contents reported tree out err   those of a tree and two writers
---   WritesOne args P name calls calls' out out' update edited listed report report'
+--   WritesOne args P name calls calls' out out' update edits listed report report'
 --                                         a file was processed, and shown
---   ProcessesOne args P name calls calls' out out' update edited lists lists' report report'
+--   ProcessesOne args P name calls calls' out out' update edits lists lists' report report'
 --                                         the same, and what is listed of it was added
 --   WritesAll args P before names report after report' counts lists lists'
 --                                         each file in turn was processed
@@ -19,6 +19,7 @@ use Rattle.ud_replace.specs.Calls.{Call}
 use Rattle.ud_tree.specs.declared.arguments.Arguments.{Arguments}
 use Rattle.ud_tree.specs.declared.arguments.Task.TheVariants.{Names}
 use Rattle.ud_tree.specs.declared.counts.Counts.{Counts}
+use Rattle.ud_tree.specs.declared.counts.Edits.{Edits}
 use Rattle.ud_tree.specs.declared.report.Report.{Report}
 use Rattle.ud_tree.specs.Messages.{Tells}
 use Rattle.ud_tree.specs.Lists.{Adds}
@@ -42,14 +43,14 @@ moment history contents reported tree out err = record {
   err = stream_of reported err;
 }
 
--- `WritesOne args P name calls calls' out out' update edited listed report report'`: `P` holds of a
--- file with this result, this number of edited conditions, and what is listed of it. What is shown
+-- `WritesOne args P name calls calls' out out' update edits listed report report'`: `P` holds of a
+-- file with this result, these edits, and what is listed of it. What is shown
 -- of it was written, and the conditions of its output that still name a symbol were added to the
 -- report. `calls` and `calls'` are the calls before and after it.
 pub record WritesOne (args : Arguments)
     (P : List ℕ → List Call → List Call → FileResult → Type 0) (name : List ℕ)
     (calls calls' : List Call) (out out' : Stream) (update : Result Update ReplaceError)
-    (edited : ℕ) (listed : Listed) (report report' : Report) : Type 0 where
+    (edits : Edits) (listed : Listed) (report report' : Report) : Type 0 where
   pub shown : List ℕ
   pub outputs : List Output
   pub does : (told : List ℕ) →
@@ -57,21 +58,21 @@ pub record WritesOne (args : Arguments)
         update = update;
         shown = shown;
         told = told;
-        edited = edited;
+        edits = edits;
         listed = listed;
         outputs = outputs;
       })
   pub sent : Sends out out' shown
   pub finds : FindsAll args outputs report report'
 
--- `ProcessesOne args P name calls calls' out out' update edited lists lists' report report'`: the
+-- `ProcessesOne args P name calls calls' out out' update edits lists lists' report report'`: the
 -- same, and what is listed of the file was added to `lists`.
 pub record ProcessesOne (args : Arguments)
     (P : List ℕ → List Call → List Call → FileResult → Type 0) (name : List ℕ)
     (calls calls' : List Call) (out out' : Stream) (update : Result Update ReplaceError)
-    (edited : ℕ) (lists lists' : NameLists) (report report' : Report) : Type 0 where
+    (edits : Edits) (lists lists' : NameLists) (report report' : Report) : Type 0 where
   pub listed : Listed
-  pub writes : WritesOne args P name calls calls' out out' update edited listed report report'
+  pub writes : WritesOne args P name calls calls' out out' update edits listed report report'
   pub adds : Adds lists lists' listed
 
 -- `WritesAll args P before names report after report' counts lists lists'`: `P` holds of each file

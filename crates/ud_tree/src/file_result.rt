@@ -2,7 +2,7 @@
 
 ghost use Rattle.std.specs.Prelude.{◌≡◌};
 ghost use Rattle.ud_tree.specs.Messages.{TellsError, TellsResult};
-ghost use Rattle.ud_tree.specs.Runs.{fate_of};
+ghost use Rattle.ud_tree.specs.Fates.{fate_of};
 ghost use Rattle.ud_io.specs.Streams.{stream_of};
 
 use crate::counts::Fate;

@@ -2,11 +2,12 @@
 
 ghost use Rattle.std.specs.Prelude.{◌≡◌, true, false};
 ghost use Rattle.ud_io.specs.Streams.{stream_of};
+ghost use Rattle.ud_tree.specs.Fates.{no_edits};
 ghost use Rattle.ud_tree.specs.TreeRuns.{DoesFiles, DoesOne};
 ghost use Rattle.ud_tree.specs.Writing.{ProcessesOne, moment};
 
 use crate::arguments::{Arguments, Task};
-use crate::counts::Counts;
+use crate::counts::{Counts, Edits};
 use crate::file_result::fate_of;
 use crate::job::Job;
 use crate::list_file::list_file;
@@ -48,10 +49,10 @@ pub(crate) fn process_files<T: Tree, W: Write, E: Write>(
         report.progress(err, done, files.len());
         let name = found.path.as_bytes();
         let file = FileAt { name, id: found.id };
-        let mut edited = 0;
-        let update = process_file(job, tree, file, out, names, report, &mut edited);
+        let mut edits = Edits::none();
+        let update = process_file(job, tree, file, out, names, report, &mut edits);
         report.file_result(err, job, tree, name, update);
-        counts.add(fate_of(update), edited);
+        counts.add(fate_of(update), edits);
     }
     counts
 }
@@ -69,8 +70,8 @@ fn is_unrecorded<W: Write>(arguments: &Arguments, out: &Watched<W>) -> bool
     }
 }
 
-/// Does with a file what the arguments ask for. Leaves in `edited`, which is 0 before, the number
-/// of conditions of its output that were edited, or would be.
+/// Does with a file what the arguments ask for. Leaves in `edits`, of which there are none before,
+/// those of its text, which were made or would be.
 ///
 /// # Errors
 /// As `replace_file`, `show_file` or `list_file`.
@@ -81,22 +82,22 @@ fn process_file<T: Tree, W: Write>(
     out: &mut Watched<W>,
     names: &mut Names,
     report: &mut Report,
-    edited: &mut usize,
+    edits: &mut Edits,
 ) -> Result<Update, ReplaceError>
-    requires none { edited.old ≡ 0 }
+    requires none { edits.old ≡ no_edits }
     requires recorded { job.now.arguments.now.task ≡ Task.Replace →
         job.now.arguments.now.show_changes ≡ true → out.old.failed ≡ false }
     requires lists { names.old.lists_hidden ≡ job.now.arguments.now.list_hidden }
     ensures writes { ProcessesOne job.now.arguments.now (DoesOne job.now.arguments.now)
         file.entry.name.now (T.history tree.old) (T.history tree.new) (stream_of W.contents out.old)
-        (stream_of W.contents out.new) result edited.new names.old names.new
+        (stream_of W.contents out.new) result edits.new names.old names.new
         report.old report.new }
     ensures terminal { report.new.is_terminal ≡ report.old.is_terminal }
     ensures shown { report.new.is_shown ≡ report.old.is_shown }
 {
     match job.arguments.task {
-        Task::Replace => replace_file(job, tree, file, out, report, edited),
-        Task::Diff => show_file(job, tree, file, out, report, edited),
+        Task::Replace => replace_file(job, tree, file, out, report, edits),
+        Task::Diff => show_file(job, tree, file, out, report, edits),
         Task::Names => list_file(job, tree, file, names),
     }
 }

@@ -3,11 +3,12 @@
 ghost use Rattle.std.specs.Prelude.{◌≡◌, [], true, false, Ok, is_ok};
 ghost use Rattle.ud_replace.specs.TextOutcomes.{TextOptions, IsPlanned};
 ghost use Rattle.ud_tree.specs.Changes.{KeepsOne, ReplacesShowing, ShowsChange};
-ghost use Rattle.ud_tree.specs.Fates.{is_changed};
-ghost use Rattle.ud_tree.specs.Runs.{ReplacesOne, fate_of, nothing_listed};
+ghost use Rattle.ud_tree.specs.Fates.{fate_of, is_changed, no_edits, removed_by};
+ghost use Rattle.ud_tree.specs.Runs.{ReplacesOne, nothing_listed};
 ghost use Rattle.ud_io.specs.Streams.{stream_of};
 ghost use Rattle.ud_tree.specs.Writing.{WritesOne};
 
+use crate::counts::Edits;
 use crate::file_diff::diff_of;
 use crate::job::Job;
 use crate::paths::fresh_name;
@@ -18,11 +19,11 @@ use std::io::Write;
 use ud_engine::Watched;
 use ud_io::send;
 use ud_replace::{ReplaceError, Target, Update, replace_keeping};
+use ud_text::count_lines;
 
 /// Replaces a file, and adds the conditions of its output that still name a symbol to the report.
 /// Writes the diff of a file that was changed, if the arguments ask for it; the output hasn't
-/// failed before then. Leaves in `edited`, which is 0 before, the number of conditions of the
-/// output that were edited.
+/// failed before then. Leaves in `edits`, of which there are none before, those of its text.
 ///
 /// # Errors
 /// As `replace_keeping`. `OutOfMemory` also if memory for the new file's name can't be allocated.
@@ -33,15 +34,15 @@ pub(crate) fn replace_file<T: Tree, W: Write>(
     file: FileAt<'_>,
     out: &mut Watched<W>,
     report: &mut Report,
-    edited: &mut usize,
+    edits: &mut Edits,
 ) -> Result<Update, ReplaceError>
-    requires none { edited.old ≡ 0 }
+    requires none { edits.old ≡ no_edits }
     requires recorded { job.now.arguments.now.show_changes ≡ true → out.old.failed ≡ false }
     ensures writes { WritesOne job.now.arguments.now
         (ReplacesShowing job.now.arguments.now.plan job.now.arguments.now.write_into
         job.now.arguments.now.show_changes) file.entry.name.now (T.history tree.old)
         (T.history tree.new) (stream_of W.contents out.old) (stream_of W.contents out.new) result
-        edited.new nothing_listed report.old report.new }
+        edits.new nothing_listed report.old report.new }
     ensures terminal { report.new.is_terminal ≡ report.old.is_terminal }
     ensures shown { report.new.is_shown ≡ report.old.is_shown }
 {
@@ -52,7 +53,10 @@ pub(crate) fn replace_file<T: Tree, W: Write>(
         Ok(update) => update,
         Err(error) => return Err(error),
     };
-    *edited = count;
+    *edits = Edits {
+        conditions: count,
+        lines: removed_by(update, text.as_slice(), output.inner().as_slice()),
+    };
     report.search(job, file.name, output.inner().as_slice());
     let diff = change_of(
         job,
@@ -96,6 +100,17 @@ fn change_of(
             report.lose();
             nothing
         }
+    }
+}
+
+/// Returns how many lines the output for a file has fewer than its text, if the file was changed.
+pub(crate) fn removed_by(update: Update, text: &[u8], output: &[u8]) -> usize
+    ensures { result ≡ removed_by update text.now output.now }
+{
+    if is_change(update) {
+        count_lines(text).saturating_sub(count_lines(output))
+    } else {
+        0
     }
 }
 

@@ -13,6 +13,7 @@ ghost use Rattle.ud_tree.specs.Summaries.{Says, TellsEnd, changes_line, summary}
 ghost use Rattle.ud_tree.specs.Summaries.{files_text, hidden_text};
 ghost use Rattle.ud_tree.specs.Summaries.{remaining_line, remaining_text};
 ghost use Rattle.ud_tree.specs.Summaries.{edited_line, edited_text};
+ghost use Rattle.ud_tree.specs.Summaries.{removed_line, removed_text};
 ghost use Rattle.ud_tree.specs.TreeRuns.{EndsWriting, RunsTree};
 ghost use Rattle.ud_tree.specs.WalkMessages.{FindsFiles, ReportsWalk, StopsWalk};
 ghost use Rattle.ud_tree.specs.WalkMessages.{TakesEach, TakesPaths};
@@ -347,8 +348,8 @@ fn finish_output<W: Write, E: Write>(
     true
 }
 
-/// Writes the last lines, unless the run is quiet: the counts, how many conditions were edited, and
-/// how many still name a symbol.
+/// Writes the last lines, unless the run is quiet: the counts, how many lines were removed, how
+/// many conditions were edited, and how many still name a symbol.
 fn report_end<E: Write>(
     job: &Job<'_>,
     report: &mut Report,
@@ -364,7 +365,13 @@ fn report_end<E: Write>(
         return;
     }
     report_counts(job.arguments.task, report, err, hidden, counts, faults);
-    report_edited(job.arguments.plan.prunes, report, err, counts.edited);
+    report_removed(report, err, counts.edits.lines);
+    report_edited(
+        job.arguments.plan.prunes,
+        report,
+        err,
+        counts.edits.conditions,
+    );
     report_remaining(job.arguments, report, err);
 }
 
@@ -468,6 +475,32 @@ fn hidden_text(count: usize) -> &'static [u8]
         b" condition could not be listed"
     } else {
         b" conditions could not be listed"
+    }
+}
+
+/// Writes how many lines were removed, if there are some.
+fn report_removed<E: Write>(report: &mut Report, err: &mut Watched<E>, count: usize)
+    ensures line { report.old.is_shown ≡ false → Sends (stream_of E.contents err.old)
+        (stream_of E.contents err.new) (removed_line count) }
+    ensures hidden { report.old.is_shown ≡ false → report.new.is_shown ≡ false }
+    ensures remaining { report.new.remaining ≡ report.old.remaining }
+{
+    if count == 0 {
+        return;
+    }
+    let mut digits = Buffer::new();
+    let number = digits.format(count).as_bytes();
+    report.line(err, &[number, removed_text(count)]);
+}
+
+/// Returns what follows the number of removed lines.
+fn removed_text(count: usize) -> &'static [u8]
+    ensures { result.now ≡ removed_text count }
+{
+    if count == 1 {
+        b" line removed"
+    } else {
+        b" lines removed"
     }
 }
 

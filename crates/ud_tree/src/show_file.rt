@@ -1,13 +1,16 @@
 //! Showing what would change of one file.
 
 ghost use Rattle.std.specs.Prelude.{◌≡◌, ◌⊎◌, ◌<◌, ◌≤◌, true, false};
+ghost use Rattle.ud_tree.specs.Fates.{no_edits};
 ghost use Rattle.ud_tree.specs.Runs.{nothing_listed};
 ghost use Rattle.ud_tree.specs.Shown.{ShowsOne};
 ghost use Rattle.ud_io.specs.Streams.{stream_of};
 ghost use Rattle.ud_tree.specs.Writing.{WritesOne};
 
+use crate::counts::Edits;
 use crate::file_diff::diff_of;
 use crate::job::Job;
+use crate::replace_file::removed_by;
 use crate::report::Report;
 use crate::run_file::run_file;
 use crate::tree::Tree;
@@ -17,8 +20,8 @@ use ud_io::{Watched, send};
 use ud_replace::{FileStat, ReplaceError, Update};
 
 /// Writes the diff of a file, and adds the conditions of its output that still name a symbol to the
-/// report. Returns `Replaced` if the file would change. Leaves in `edited`, which is 0 before, the
-/// number of conditions of the output that would be edited.
+/// report. Returns `Replaced` if the file would change. Leaves in `edits`, of which there are none
+/// before, those of its text.
 ///
 /// Nothing is asked but that the file is read once.
 ///
@@ -32,13 +35,13 @@ pub(crate) fn show_file<T: Tree, W: Write>(
     file: FileAt<'_>,
     out: &mut Watched<W>,
     report: &mut Report,
-    edited: &mut usize,
+    edits: &mut Edits,
 ) -> Result<Update, ReplaceError>
-    requires none { edited.old ≡ 0 }
+    requires none { edits.old ≡ no_edits }
     ensures writes { WritesOne job.now.arguments.now
         (ShowsOne job.now.arguments.now.plan job.now.arguments.now.write_into)
         file.entry.name.now (T.history tree.old) (T.history tree.new)
-        (stream_of W.contents out.old) (stream_of W.contents out.new) result edited.new
+        (stream_of W.contents out.old) (stream_of W.contents out.new) result edits.new
         nothing_listed report.old report.new }
     ensures terminal { report.new.is_terminal ≡ report.old.is_terminal }
     ensures shown { report.new.is_shown ≡ report.old.is_shown }
@@ -59,7 +62,14 @@ pub(crate) fn show_file<T: Tree, W: Write>(
     let Some(diff) = diff_of(job, name, ran.text.as_slice(), output.inner().as_slice()) else {
         return Err(ReplaceError::OutOfMemory);
     };
-    *edited = ran.run.edited;
+    *edits = Edits {
+        conditions: ran.run.edited,
+        lines: removed_by(
+            Update::Replaced,
+            ran.text.as_slice(),
+            output.inner().as_slice(),
+        ),
+    };
     report.search(job, name, output.inner().as_slice());
     send(out, diff.as_slice());
     Ok(Update::Replaced)

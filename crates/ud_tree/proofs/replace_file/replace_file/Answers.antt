@@ -1,5 +1,6 @@
-use Rattle.std.proofs.Common.{ℕ, [], refl, sym, ap, ◌∙◌, subst, Err}
+use Rattle.std.proofs.Common.{[], refl, sym, ap, ◌∙◌, subst, Err}
 use Rattle.ud_tree.specs.Changes.{ShowsUpdate, after_error, after_update}
+use Rattle.ud_tree.specs.declared.counts.Edits.{Edits}
 use Rattle.ud_tree.specs.Runs.{made}
 use Rattle.ud_tree.proofs.RemainderLemmas.{finds_none, finds_output, finds_then}
 use Rattle.ud_io.specs.Streams.{stream_of}
@@ -12,7 +13,7 @@ returns-in-Err-clause-writes g c = record {
   outputs = [];
   does = λ told. record {
     does = c.in-Err.ensures.replaces;
-    change = subst (λ (n : ℕ). ShowsUpdate c.args.job.now.arguments.now.plan c.args.job.now.arguments.now.write_into c.args.job.now.arguments.now.show_changes c.args.file.name.now
+    change = subst (λ (n : Edits). ShowsUpdate c.args.job.now.arguments.now.plan c.args.job.now.arguments.now.write_into c.args.job.now.arguments.now.show_changes c.args.file.name.now
         (g.T.Folder.history c.args.tree.now) (g.T.Folder.history c.replace_named.new.tree) (Err c.in-Err.error) [] n []) (sym c.requires.none) after_error;
   };
   sent = sends_none (stream_of g.W.Write.contents c.args.out.now);
@@ -22,12 +23,13 @@ returns-in-Err-clause-writes g c = record {
 pub returns-clause-writes : goal.returns-clause-writes
 returns-clause-writes g c = record {
   shown = c.change_of-diff.result.items;
-  outputs = made c.args.file.name.now c.as_slice.result.now;
+  outputs = made c.args.file.name.now c.as_slice-3.result.now;
   does = λ told. record {
     does = c.in-Ok.ensures.replaces;
-    change = after_update _ _ _ (λ o p. rw (← (c.as_slice.ensures.value ∙ ap (λ v. v.items) c.inner.ensures)) at (c.in-Ok.ensures.keeps o p refl))
-        (rw (c.as_slice-2.ensures.value, c.as_slice-3.ensures.value ∙ ap (λ v. v.items) c.inner-2.ensures, ← (c.as_slice.ensures.value ∙ ap (λ v. v.items) c.inner.ensures)) at c.change_of-diff.ensures.change);
+    change = after_update _ _ _ (λ o p. rw (← (c.as_slice-3.ensures.value ∙ ap (λ v. v.items) c.inner-2.ensures)) at (c.in-Ok.ensures.keeps o p refl))
+        (rw (c.as_slice.ensures.value, c.as_slice-2.ensures.value ∙ ap (λ v. v.items) c.inner.ensures, ← (c.as_slice-3.ensures.value ∙ ap (λ v. v.items) c.inner-2.ensures)) at c.removed_by.ensures)
+        (rw (c.as_slice-4.ensures.value, c.as_slice-5.ensures.value ∙ ap (λ v. v.items) c.inner-3.ensures, ← (c.as_slice-3.ensures.value ∙ ap (λ v. v.items) c.inner-2.ensures)) at c.change_of-diff.ensures.change);
   };
-  sent = sends_same c.as_slice-4.ensures.value c.send.ensures;
-  finds = finds_then (made c.args.file.name.now c.as_slice.result.now) [] (finds_output c.search.ensures.finds) (finds_none c.change_of-diff.ensures.remaining c.change_of-diff.ensures.lost);
+  sent = sends_same c.as_slice-6.ensures.value c.send.ensures;
+  finds = finds_then (made c.args.file.name.now c.as_slice-3.result.now) [] (finds_output c.search.ensures.finds) (finds_none c.change_of-diff.ensures.remaining c.change_of-diff.ensures.lost);
 }

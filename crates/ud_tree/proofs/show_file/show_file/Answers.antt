@@ -38,10 +38,11 @@ returns-clause-writes g c = record {
     reads = c.run_file.ensures.reads;
     shows = λ o p. shows_changed o _ _ _ _ _ _ _ _ _ _ _ _ (ap (λ v. v.items) c.new-output.ensures.inner ∙ c.new.ensures.items) c.if-not-ran.false
         c.in-Ok.ensures.text (c.in-Ok.ensures.ran o p) (c.is_left_alone.ensures.replaced c.if-is_left_alone.false) c.as_slice-2.ensures.value
-        (c.as_slice-3.ensures.value ∙ ap (λ v. v.items) c.inner-2.ensures) c.in-Some.ensures;
+        (c.as_slice-3.ensures.value ∙ ap (λ v. v.items) c.inner-2.ensures) c.in-Some.ensures _
+        (rw (c.as_slice-4.ensures.value, c.as_slice-5.ensures.value ∙ ap (λ v. v.items) c.inner-3.ensures, ← (c.as_slice-3.ensures.value ∙ ap (λ v. v.items) c.inner-2.ensures)) at c.removed_by.ensures);
   };
-  sent = sends_same c.as_slice-5.ensures.value c.send.ensures;
+  sent = sends_same c.as_slice-7.ensures.value c.send.ensures;
   finds = finds_same
-      (ap (λ x. made c.args.file.name.now x) (c.as_slice-4.ensures.value ∙ ap (λ v. v.items) c.inner-3.ensures ∙ sym (c.as_slice-3.ensures.value ∙ ap (λ v. v.items) c.inner-2.ensures)))
+      (ap (λ x. made c.args.file.name.now x) (c.as_slice-6.ensures.value ∙ ap (λ v. v.items) c.inner-4.ensures ∙ sym (c.as_slice-3.ensures.value ∙ ap (λ v. v.items) c.inner-2.ensures)))
       (finds_output c.search-2.ensures.finds);
 }
