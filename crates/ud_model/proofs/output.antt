@@ -54,6 +54,7 @@ pub mod PrunedOpeners
 pub mod AnswerLaws
 pub mod WorldsExist
 pub mod ListComplete
+pub mod SymbolsGone
 pub mod BlankedLineLemmas
 pub mod SharedLineLemmas
 pub mod StrictTrees

@@ -5,6 +5,7 @@ pub mod Rereading
 pub mod CSelection
 pub mod LiveLines
 pub mod ListedNames
+pub mod GoneSymbols
 pub mod BlankedLines
 pub mod SharedLines
 pub mod StrictLines

@@ -11,6 +11,8 @@ ghost use Rattle.ud_model.specs.output.Worlds.{World, selected};
 ghost use Rattle.ud_model.specs.output.Rereading.{IsPlain, IsTreeOf, LinesFit, line_bytes};
 ghost use Rattle.ud_model.specs.output.Rereading.{KeepsTruths, IsPlainC, PrintsText};
 ghost use Rattle.ud_model.specs.output.CSelection.{IsCWorld, SelectsAlike};
+ghost use Rattle.ud_model.specs.conditions.Table.{Argument};
+ghost use Rattle.ud_model.specs.output.GoneSymbols.{SelectsWithout};
 ghost use Rattle.ud_model.specs.output.LiveLines.{LeavesLive, SelectsLive};
 ghost use Rattle.ud_model.specs.output.InsertedLines.{read_as};
 ghost use Rattle.ud_model.specs.output.Processing.{Processes, over_readings, DecidesAsC};
@@ -79,6 +81,18 @@ pub fn law_answer_processed<P: Preprocessing>()
         let p = over_readings P.takes P.enters P.leaves P.decides in
         HasOneChoice p → Processes p k.before (k.before f) s t →
         Processes p k.after (k.after f) s u → u ≡ t }
+{}
+
+/// After a run, the build may forget a symbol that no condition of the output names.
+///
+/// The arguments only decide conditions, without `-t`, and the input has no fault. Compile the
+/// output with any other definition of that symbol, or with none. C may then decide the conditions
+/// of the output as it may decide those of the input with the options, and it selects the same
+/// lines, byte by byte (C11 6.10.1p4, p6).
+pub fn law_answer_symbol_is_gone()
+    ensures { (args : List (List ℕ)) (input : List ℕ) (a : Answer) → Succeeds args input a →
+        IsPlainC (options_of args) → (name : List ℕ) (u : List Argument) →
+        SelectsWithout (options_of args) name u input a.output }
 {}
 
 /// Only dead lines go, and all of them do.

@@ -13,6 +13,9 @@ ghost use Rattle.ud_model.specs.output.Rereading.{IsPlain, IsTreeOf, IsClean, Cl
 ghost use Rattle.ud_model.specs.output.Rereading.{line_bytes, edited_bytes, KeepsTruths, IsPlainC};
 ghost use Rattle.ud_model.specs.output.Rereading.{PrintsText, selected_bytes};
 ghost use Rattle.ud_model.specs.output.CSelection.{IsCWorld, condition_in, IsCPair};
+ghost use Rattle.ud_model.specs.output.GoneSymbols.{IsGone};
+ghost use Rattle.ud_model.specs.output.ListedNames.{DifferAtMostAt};
+ghost use Rattle.ud_model.specs.conditions.Table.{Argument};
 ghost use Rattle.ud_model.specs.output.LiveLines.{text_lines_in, AreNumbered, AreLive};
 ghost use Rattle.ud_model.specs.output.InsertedLines.{read_as};
 ghost use Rattle.ud_model.specs.output.Processing.{Condition, Processes, over_readings, agreeing};
@@ -140,6 +143,16 @@ pub fn law_c_selects()
         (openers_in (pruned_lines k.before)) }
     ensures world { (k : CleanRun) → k.options.settings.plain ≡ false → (w v : World Reading) →
         IsCPair k.options w k.before v k.after → IsCWorld k.options.table v k.after }
+{}
+
+/// The build may forget a symbol that no condition names.
+///
+/// No condition of the nodes has the name, and no symbol has it as its value. Let another table say
+/// of that name alone something else, or nothing. By either table C may then give the conditions
+/// the same truths, so it selects the same lines (C11 6.10.1p4, p6).
+pub fn law_symbol_is_gone()
+    ensures { (t u : List Argument) (name : List ℕ) (ns : Nodes Reading) → IsGone t name ns →
+        DifferAtMostAt name t u → (w : World Reading) → IsCWorld t w ns ↔ IsCWorld u w ns }
 {}
 
 /// A preprocessor: what it may do in each state. It may have several choices, or none (C11 5.1.1.2,

@@ -42,15 +42,15 @@ module _ (t u : List Argument) where
   end_alike n h =
       same_by (resolve t n) (resolve u n) (λ v e. end_found u n v (ends_over n v h (end_is t n v e))) (λ v e. end_found t n v (ends_back n v h (end_is u n v e)))
 
-  name_value_alike : (b : Bool) (n : List ℕ) → Alike n → name_value t b n ≡ name_value u b n
+  pub name_value_alike : (b : Bool) (n : List ℕ) → Alike n → name_value t b n ≡ name_value u b n
   unfolding name_value
   name_value_alike b n h = ap₂ (name_value_by b) (end_alike n h) (h n (itself n))
 
-  name_has_u_alike : (n : List ℕ) → Alike n → name_has_u t n ≡ name_has_u u n
+  pub name_has_u_alike : (n : List ℕ) → Alike n → name_has_u t n ≡ name_has_u u n
   unfolding name_has_u
   name_has_u_alike n h = ap end_has_u (end_alike n h)
 
-  defined_value_alike : (n : List ℕ) → Alike n → defined_value t n ≡ defined_value u n
+  pub defined_value_alike : (n : List ℕ) → Alike n → defined_value t n ≡ defined_value u n
   unfolding defined_value
   defined_value_alike n h = ap defined_value_by (h n (itself n))
 
@@ -64,7 +64,7 @@ module _ (t u : List Argument) where
       ap₂ (apply_binary strict b o) (number_of_alike strict b x p.0) (number_of_alike strict b y p.1)
   number_of_alike strict b (parens x) h = number_of_alike strict b x h
 
-  has_unsigned_alike : (e : Expression) → Each Alike (names_in e) → has_unsigned t e ≡ has_unsigned u e
+  pub has_unsigned_alike : (e : Expression) → Each Alike (names_in e) → has_unsigned t e ≡ has_unsigned u e
   has_unsigned_alike (named n a) h = name_has_u_alike n h.0
   has_unsigned_alike (unary o x) h = has_unsigned_alike x h
   has_unsigned_alike (binary o x y) h =

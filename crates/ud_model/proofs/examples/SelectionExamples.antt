@@ -2,6 +2,7 @@
 -- checker.
 use Rattle.std.proofs.Common.{◌≡◌, refl, ℕ, ◌==◌, ◌||◌, List, [], ◌∷◌, codes, Some, None, Bool}
 use Rattle.std.proofs.Common.{true, false, arith, pos}
+use Rattle.std.specs.List.{Contains}
 use Rattle.ud_model.specs.text.Scans.{Reading, plain_scan}
 use Rattle.ud_model.specs.conditions.Table.{Argument}
 use Rattle.ud_model.specs.conditions.Tokens.{next_token}
@@ -16,12 +17,14 @@ use Rattle.ud_model.specs.sections.Tree.{Nodes, Opener, nothing, text, section, 
 use Rattle.ud_model.specs.sections.Tree.{otherwise, first, elif}
 use Rattle.ud_model.specs.output.Worlds.{World, selected, Agrees}
 use Rattle.ud_model.specs.output.CSelection.{condition_in, MayBe, IsCWorld}
+use Rattle.ud_model.specs.output.GoneSymbols.{names_in_conditions}
+use Rattle.ud_model.specs.output.ListedNames.{IsNoValue}
 use Rattle.ud_model.specs.declared.cond.Cond.{Cond}
 use Rattle.ud_model.specs.declared.cond.Cond.TheVariants.{Yes, No, Unknown}
 use Rattle.ud_model.specs.declared.kind.Mode.TheVariants.{Plain}
 use Rattle.ud_model.specs.declared.operator.Operator.TheVariants.{And, Not}
 use Rattle.ud_model.proofs.conditions.DecidedConditions.{no_is_false}
-use Rattle.ud_model.proofs.examples.CValueExamples.{undefines}
+use Rattle.ud_model.proofs.examples.CValueExamples.{sets, undefines}
 
 -- An opener with this condition.
 abbrev opener : {L : Type 0} → L → Cond → Opener L
@@ -106,3 +109,15 @@ never_true h = h.2 (no_is_false without (record { constants = false; strict = fa
 
 pub not_the_first : ¬ (IsCWorld without (true_on 1) some_lines)
 not_the_first h = never_true h.1.0.0
+
+-- The conditions have the names A and X, so VMS is gone, and A isn't.
+pub names_left : names_in_conditions some_lines ≡ codes "A" ∷ codes "X" ∷ codes "X" ∷ []
+unfolding expression_of reads tokens_of next_token suffix_sign
+names_left = refl
+
+pub vms_is_gone : ¬ (Contains (codes "A" ∷ codes "X" ∷ codes "X" ∷ []) (codes "VMS"))
+vms_is_gone h = grind arith
+
+-- Under `-DX=VMS`, VMS would count: X has it as its value.
+pub vms_is_value : ¬ (IsNoValue (sets (codes "X") (codes "VMS") ∷ []) (codes "VMS"))
+vms_is_value h = h (codes "X") refl

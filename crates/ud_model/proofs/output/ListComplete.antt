@@ -200,7 +200,7 @@ list_serves q o p input set calm n (ran_as (ends xs t g)) e same alike run =
 -- 5. One symbol.
 
 -- A name to which another leads is that one, or the value of a name.
-led_to : (t : List Argument) (n m : List ℕ) → LeadsTo t n m → (m ≡ n) ⊎ ((k : List ℕ) × (defined_text t k ≡ Some m))
+pub led_to : (t : List Argument) (n m : List ℕ) → LeadsTo t n m → (m ≡ n) ⊎ ((k : List ℕ) × (defined_text t k ≡ Some m))
 led_to t _ _ (itself n) = inl refl
 led_to t _ _ (by_value n v m d i l) = elim (led_to t v m l) [ inl e ↦ inr (n, d ∙ ap (λ (w : List ℕ). Some w) (sym e)) | inr k ↦ inr k ]
 

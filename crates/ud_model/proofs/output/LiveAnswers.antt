@@ -16,7 +16,10 @@ use Rattle.ud_model.proofs.output.PrintedPruned.{printed-pruned}
 use Rattle.ud_model.proofs.output.AnswerLaws.{faultless}
 use Rattle.ud_model.proofs.output.CSelected.{c_agrees}
 use Rattle.ud_model.proofs.output.OnlyDead.{line_from, live_lines, texts_stay}
-use Rattle.ud_model.proofs.output.RereadLaws.{what_is_left, clear_run, kept_bytes}
+use Rattle.ud_model.proofs.output.RereadLaws.{what_is_left, clear_run, kept_bytes, c_world_again, c_selected_again}
+use Rattle.ud_model.proofs.output.SymbolsGone.{same_worlds}
+use Rattle.ud_model.specs.conditions.Table.{Argument}
+use Rattle.ud_model.specs.output.GoneSymbols.{SelectsWithout}
 use Rattle.ud_model.proofs.output.WorldsExist.{Rise, text_rise}
 
 module _ {L M : Type 0} (f : L → M) where
@@ -86,3 +89,10 @@ pub answered_c_live : {args : List (List ℕ)} {input : List ℕ} {a : Answer} �
 answered_c_live (refused f e) n = absurd (n refl)
 answered_c_live {args = args} {input = input} (ran r e d) n = λ ns i w g l c.
     (w, c_agrees (options_of args) w ns (clear_run d (faultless (options_of args).settings r.differs r.fault n) ns i) g, c)
+
+-- C selects the same lines of the output without a symbol that is gone.
+pub answered_without : {args : List (List ℕ)} {input : List ℕ} {a : Answer} → IsAnswer args input a → a.status ≢ 2 → IsPlain (options_of args) → (name : List ℕ) (u : List Argument) → SelectsWithout (options_of args) name u input a.output
+answered_without (refused f e) n p name u = absurd (n refl)
+answered_without {args = args} {input = input} (ran r e d) n p name u = λ ns us i j gone same w v pair.
+    let k : CleanRun = run_of (options_of args) input r d (faultless (options_of args).settings r.differs r.fault n) p ns us i j in
+    ((same_worlds (options_of args).table u name gone.no_value same us gone.unnamed v).0 (c_world_again k w pair.c_world v pair.truths), c_selected_again k w pair.c_world v pair.truths)

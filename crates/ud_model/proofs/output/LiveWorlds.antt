@@ -50,7 +50,7 @@ module _ {L : Type 0} where
     heads_both : (xs ys : List (Item L)) → EachHead xs → EachHead ys → EachHead (xs ++ ys)
     heads_both xs ys a b = subst (Each P) (sym (heads_append xs ys)) (each_both P (heads_in xs) (heads_in ys) a b)
 
-    -- What is true of each opener is true of each that is reached.
+    -- A property of each opener is one of each that is reached.
     module _ (w : World L) where
       mutual
         pub each_reached : (ns : Nodes L) → EachHead (lines_of_nodes ns) → EachReached w P ns

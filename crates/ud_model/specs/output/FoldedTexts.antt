@@ -170,7 +170,7 @@ abbrev pub restored_line : Line → List ℕ
 restored_line l =
     if has_tab l.body
     then flat_map (restored_cell l.ending) (content_cells [] l) ++
-        drop (length (content l)) l.body ++ l.ending
+    drop (length (content l)) l.body ++ l.ending
     else text_of l
 
 -- `restored_text bytes`: the text with newlines in place of the vertical tabs.

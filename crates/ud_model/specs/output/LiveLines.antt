@@ -13,8 +13,8 @@
 -- Such a world may give an unknown condition either truth, whatever the condition says. C may know
 -- more: of `#if 0` the lines are live unless -k decides it, though C selects none of them.
 --
--- Example: of `#if A`, `a`, `#elif X`, `b`, `#else`, `c`, `#endif` with A undefined, `b` and `c` are
--- live. With A defined only `a` is.
+-- Example: of `#if A`, `a`, `#elif X`, `b`, `#else`, `c`, `#endif` with A undefined, `b` and `c`
+-- are live. With A defined only `a` is.
 use Rattle.std.specs.Prelude.{◌≡◌, ℕ, List, [], ◌∷◌, ◌++◌, map}
 use Rattle.std.specs.List.{Contains}
 use Rattle.std.specs.List.Sorted.{IsStrictlyIncreasing}

@@ -23,9 +23,10 @@ returns-clause-selected c = λ args input final a s p q ns us ss i j k w x v h e
     ∙ answered_selects s.answer s.no_fault p.plain ns us i j w x h.c_world h.truths
 
 pub returns-clause-again : goal.returns-clause-again
-returns-clause-again c = λ args input final a s p q fit.
-    ( subst (λ (y : List ℕ). IsAnswer args y (copy_answer args y)) (sym q)
-    (answered_left s.answer s.no_fault p fit)
-    , subst (λ (y : List ℕ). simplified_text (options_of args).table
-    (rules_of (options_of args).settings) y ≡ y) (sym q)
-    (text_again (options_of args).table (rules_of (options_of args).settings) a.output) )
+returns-clause-again c = λ args input final a s p q fit. (
+  subst (λ (y : List ℕ). IsAnswer args y (copy_answer args y)) (sym q)
+      (answered_left s.answer s.no_fault p fit),
+  subst (λ (y : List ℕ). simplified_text (options_of args).table
+      (rules_of (options_of args).settings) y ≡ y) (sym q)
+      (text_again (options_of args).table (rules_of (options_of args).settings) a.output),
+)
