@@ -233,15 +233,8 @@ bad.c' 'x\n#else\n'
     check '-n: the diff is a patch' patch -s -p0 -i diff
     check '-n: and the right one' diff -r is src
   fi
+  refused_arguments
   local words
-  for words in '-D1A' '-Udefined' '-iXA' '-x3' '-S' '-L' '-n -s' '-d -s' '-p -s' '-p -c' '-p -t' '-DA'; do
-    # shellcheck disable=SC2086
-    tree $words src
-    [ "$words" = -DA ] || check "refused: $words" same "$status" 2
-  done
-  tree
-  check 'no path: the reason comes first' same "$status $(head -n 1 "$work/err")" '2 unifdef-tree: No path'
-  check 'no path: the usage follows' grep -q '^usage: unifdef-tree ' "$work/err"
   for words in -h --help '-DA -h src'; do
     # shellcheck disable=SC2086
     tree $words
@@ -251,18 +244,49 @@ bad.c' 'x\n#else\n'
   done
   (cd "$work/run" && "$TREE" -h > /dev/full 2> /dev/null)
   check '-h: the output can not be written' same "$?" 2
-  tree -m src
-  check 'refused: an option of unifdef 2.12' has_line "$work/err" \
-    'unifdef-tree: Unknown option -m: files are changed in place without it'
-  tree -L src
-  check 'refused: another option' has_line "$work/err" 'unifdef-tree: Unknown option -L'
-  tree -D
-  check 'refused: no argument' has_line "$work/err" 'unifdef-tree: Option -D needs an argument'
-  tree -DA
-  check 'refused: no path' same "$status" 2
   put src/good.c '#if A == 2\nyes\n#endif\n'
   tree -D 'A=1 ' -D 'A=2' -U "B" src
   check 'words go on as they are' holds src/good.c 'yes\n'
+}
+
+# Tests the message of each fault of the arguments. The usage follows where the manual says so, and
+# nothing is done.
+refused_arguments() {
+  local words message usage
+  put src/good.c "$text"
+  while IFS=: read -r usage words message; do
+    # shellcheck disable=SC2086
+    tree $words
+    check "refused: $words: status" same "$status $(cat "$work/out")" '2 '
+    check "refused: $words: message" same "$(head -n 1 "$work/err")" "unifdef-tree: $message"
+    check "refused: $words: the usage" same "$(sed 1d "$work/err" | grep -c '^usage: unifdef-tree ')" "$usage"
+    [ "$usage" -eq 1 ] || check "refused: $words: nothing else" same "$(wc -l < "$work/err")" 1
+  done << 'EOT'
+0:-D1A src:Bad symbol: -D1A
+0:-Udefined src:Bad symbol: -Udefined
+0:-iXA src:Bad symbol: -iXA
+0:-x3 src:Bad exit mode: 3
+0:-x 3 src:Bad exit mode: 3
+0:-x-x1 src:Bad exit mode: -x1
+0:-DA -x1x src:Bad exit mode: 1x
+1:-L src:Unknown option -L
+1:-m src:Unknown option -m: files are changed in place without it
+1:-DA -qa src:Unknown option -a
+0:-D:Option -D needs an argument
+0:-g:Option -g needs an argument
+0:-DA src -x2:Option after a path: -x2
+0:-0 src:-0 takes no paths
+0:-n -s src:-n and -s don't go together
+0:-d -s src:-d and -s don't go together
+0:-p -s src:-p and -s don't go together
+0:-p -c src:-p and -c don't go together: the complement is no C
+0:-p -t src:-p and -t don't go together: plain text has no comments
+1::No path
+1:-DA:No path
+EOT
+  tree -DA $'src/\xff.c'
+  check 'refused: not UTF-8' same "$status $(cat "$work/err")" '2 unifdef-tree: Cannot take arguments'
+  check 'refused: nothing is done' holds src/good.c "$text"
 }
 
 # Tests files that can't be read or written, and those of another owner.
@@ -324,6 +348,9 @@ src/b.h:5: #ifdef X Y
  1 C'
   check '-s -r: their number' has_line "$work/err" 'unifdef-tree: 2 files listed, 1 faulty; 3 conditions could not be listed'
   check '-s -r: nothing else' same "$(grep -c 'names a symbol' "$work/err")" 0
+  put src/c.h '#if C\n#elif D && D\n#endif\n#else\n#if C && E\n#endif\n'
+  tree -s src/c.h
+  check '-s: names up to a fault' same "$status $(tr -s ' ' < "$work/out")" $'2  2 D\n 1 C'
   rm src/*.h
   put src/crlf.h '/*\n#if (\n*/ #if (\r\n#if 1 / 0\n#elif 08\n#elifdef A B \\\n\n#endif\n#else \\\n\n#endif x\n'
   tree -s -r src
@@ -532,6 +559,37 @@ src/b.c:8: not understood: #elifdef VMS -1'
   done
 }
 
+# Tests that a diff has the changed lines, three lines around them, and no other ones.
+small_diffs() {
+  fresh_tree
+  put src/a.c "1\\n2\\n3\\n4\\n${text}5\\n6\\n7\\n8\\n"
+  tree -n -q -DA src
+  check 'a diff: lines' same "$(cat "$work/out")" '--- src/a.c
++++ src/a.c
+@@ -2,11 +2,7 @@
+ 2
+ 3
+ 4
+-#ifdef A
+ yes
+-#else
+-no
+-#endif
+ 5
+ 6
+ 7'
+  put src/a.c "$text"
+  tree -n -q -c -UA src
+  check 'a diff: lines under -c' same "$(cat "$work/out")" '--- src/a.c
++++ src/a.c
+@@ -1,5 +1,4 @@
+ #ifdef A
+ yes
+ #else
+-no
+ #endif'
+}
+
 # Tests that the diffs of -n turn each text into its output, and back: by patch, and by git apply.
 # Each text has another trap for them. What a run in place makes is tested elsewhere.
 diffs() {
@@ -698,8 +756,6 @@ paths_from_input() {
   (cd "$work/run" && "$TREE" -0 -DA < "$work/paths" > "$work/out" 2> "$work/err") || status=$?
   check 'input: find -print0' same "$status $(cat "$work/err")" '1 unifdef-tree: 2 changed, 1 unchanged, 0 faulty
 unifdef-tree: 8 lines removed'
-  tree -0 src
-  check 'input: with a path' same "$status" 2
   tree -0 -DA
   check 'input: no path' same "$status $(cat "$work/err")" '0 unifdef-tree: 0 changed, 0 unchanged, 0 faulty'
   for option in -V --version; do
@@ -717,7 +773,8 @@ counts() {
     put "src/$i.c" "$text"
   done
   script -qec "'$TREE' -DA src" /dev/null < /dev/null > "$work/out"
-  check 'counter: on a terminal' grep -q 'unifdef-tree: 64 of 100 files' "$work/out"
+  check 'counter: on a terminal' same "$(grep -o 'unifdef-tree: [0-9]* of .* files' "$work/out" |
+    tr '\r' '\n' | tr -d '\n')" 'unifdef-tree: 0 of 100 files unifdef-tree: 64 of 100 files'
   check 'counter: goes away' grep -q $'\r\x1b\\[Kunifdef-tree: 100 changed, 0 unchanged, 0 faulty' "$work/out"
   for i in -q -n -r -s; do
     script -qec "'$TREE' $i -DB src" /dev/null < /dev/null > "$work/out"
@@ -908,6 +965,7 @@ in_folder() {
   remaining
   removed_lines
   prunes
+  small_diffs
   diffs
   lost_diffs
   diff_paths

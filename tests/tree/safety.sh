@@ -201,9 +201,29 @@ compares_bytes() {
   check 'another mode: the file' same "$(stat -c %a src/a.c)" 600
 }
 
+# Tests that a change between the second reading of a file and the last look at it is found, though
+# the size stays: by the file's times, which were looked at before that reading.
+looks_at_times() {
+  local number
+  options=(-DA)
+  small_tree
+  touch -d '2001-01-01' src/a.c
+  strace -f -y -o "$work/calls" -e trace=read "$TREE" -DA src > /dev/null 2>&1
+  number=$(grep 'read(' "$work/calls" | grep -n '/src/a.c>' | tail -n 1 | cut -d : -f 1)
+  small_tree
+  touch -d '2001-01-01' src/a.c
+  run_paused read "$number" edit
+  check 'an edit after the second reading: message' has_line "$work/err" \
+    'unifdef-tree: src/a.c: Changed meanwhile'
+  check 'an edit after the second reading: the file' holds src/a.c '#ifdef B\nyes\n#else\nno\n#endif\n'
+  check 'an edit after the second reading: nothing left over' no_rest
+}
+
+edit() { printf '#ifdef B' | dd of=src/a.c conv=notrunc status=none; }
+
 edit_in_secret() {
   touch -r src/a.c "$work/time"
-  printf '#ifdef B' | dd of=src/a.c conv=notrunc status=none
+  edit
   touch -r "$work/time" src/a.c
 }
 
@@ -537,6 +557,35 @@ little_memory() {
   done
 }
 
+# Tests that a message says so if memory for the diff of a changed file was refused: each growth of
+# memory is refused in turn.
+lost_for_memory() {
+  local i all lost=0 untold=0
+  if ! "${CC:-cc}" -O1 -shared -fPIC -o "$work/refuse.so" "$here/faults/refuse.c" -ldl 2> /dev/null; then
+    echo 'tree-test: there is no C compiler, so refused memory is left out'
+    return
+  fi
+  fresh_tree
+  put src/a.c "$text"
+  REFUSE_COUNT=$work/count LD_PRELOAD=$work/refuse.so "$TREE" -d -DA src > "$work/out" 2> "$work/err"
+  check 'refused memory: the diff' test -s "$work/out"
+  all=$(wc -c < "$work/count")
+  for i in $(seq 1 "$all"); do
+    put src/a.c "$text"
+    status=0
+    REFUSE_FROM=$i REFUSE_TO=$i LD_PRELOAD=$work/refuse.so "$TREE" -d -DA src \
+      > "$work/out" 2> "$work/err" || status=$?
+    if holds src/a.c 'yes\n' && [ ! -s "$work/out" ]; then
+      lost=$((lost + 1))
+      has_line "$work/err" 'unifdef-tree: stdout: Out of memory' || untold=$((untold + 1))
+      check "refused memory: growth $i: status" same "$status" 2
+    fi
+  done
+  check 'refused memory: a diff is lost' test "$lost" -gt 0
+  check 'refused memory: each lost diff has a message' same "$untold" 0
+  rm "$work/refuse.so" "$work/count"
+}
+
 # Tests that -d prints the diff of what a run changes, and that patch -R undoes the run with it.
 undoes() {
   small_tree
@@ -569,6 +618,7 @@ safety() {
   inputs
   long_lines
   little_memory
+  lost_for_memory
   undoes
   promises
   overlay
@@ -582,6 +632,7 @@ safety() {
     writes_into_open_file
     numbers_used_again
     compares_bytes
+    looks_at_times
     syncs
     fails_in_turn
   fi
