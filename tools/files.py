@@ -16,13 +16,13 @@ MADE_END = (".deb", ".tar.gz")
 
 
 def tracked():
-    """Returns the files that git tracks. Without git, as in a tarball: all files that no build
-    makes."""
+    """Returns the files that git tracks, without those that were removed. Without git, as in a
+    tarball: all files that no build makes."""
     if os.path.exists(f"{TOP}/.git") and shutil.which("git"):
         listed = subprocess.run(
             ["git", "ls-files"], cwd=TOP, check=True, capture_output=True, text=True
         )
-        return listed.stdout.split()
+        return [it for it in listed.stdout.split() if os.path.exists(f"{TOP}/{it}")]
     return sorted(unmade())
 
 
