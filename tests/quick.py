@@ -36,6 +36,8 @@ RT = os.environ.get("RT", "rt")
 MAKE = os.environ.get("MAKE", "make")
 UNPROVED = "crates/unifdef_cli/out/unproved"
 RUNNER = "test_runner"
+# How long the runner takes on four quiet processors, without --all. Its cases end all at once.
+RUNNER_SECONDS = 45
 HANG = "3600"
 # Those that take longest come first, so that none of them ends alone.
 FIRST = ["cases", RUNNER, "test_text", "test_sections", "test_engine"]
@@ -55,16 +57,20 @@ class State:
 
     def __init__(self):
         self.progress, self.lock, self.stopped = Progress("test"), threading.Lock(), False
-        self.all_cases = self.done_cases = self.wrong_cases = 0
+        self.all_cases = self.done_cases = self.wrong_cases = self.runner_cases = 0
         self.is_built, self.running = False, set()
 
     def text(self):
         """Returns how far the tasks are."""
         if not self.all_cases:
             return f"{len(self.running)} tasks are running"
-        if self.is_built:
-            return f"cases {self.done_cases} of {self.all_cases}"
-        return f"{building(self.progress.spent())}, then {self.all_cases} cases"
+        if not self.is_built:
+            return f"{building(self.progress.spent())}, then {self.all_cases} cases"
+        done = f"cases {self.done_cases} of {self.all_cases}"
+        if self.done_cases + self.runner_cases < self.all_cases or not self.runner_cases:
+            return done
+        rest = building(self.progress.spent(), RUNNER_SECONDS)
+        return f"{done}; {RUNNER} has the other {self.runner_cases}: {rest}"
 
     def run(self, words, folder, out, given=b""):
         """Runs a command to its end, and returns its status."""
@@ -205,11 +211,14 @@ def ends_well(task, state):
 def main():
     names = [it for it in sys.argv[1:] if it != "--all"]
     state, every_case = State(), list(cases.cases_in())
-    todo = tasks(every_case, "--all" in sys.argv or bool(names))
+    is_all = "--all" in sys.argv or bool(names)
+    todo = tasks(every_case, is_all)
     todo = [it for it in todo if not names or it.name in names]
     for task in todo:
         # The runner runs those without streams too, which are counted once.
-        state.all_cases += sum(bool(it.streams) == (task.name == RUNNER) for it in task.cases)
+        count = sum(bool(it.streams) == (task.name == RUNNER) for it in task.cases)
+        state.all_cases += count
+        state.runner_cases += count if task.name == RUNNER and not is_all else 0
     state.is_built = not any(it.name == "cases" for it in todo)
     for number in (signal.SIGHUP, signal.SIGINT, signal.SIGTERM):
         signal.signal(number, lambda number, _: sys.exit(128 + number))

@@ -16,10 +16,10 @@ def minutes(seconds):
     return f"{seconds:.0f} s" if seconds < 90 else f"{seconds / 60:.0f} minutes"
 
 
-def building(spent):
-    """Returns how far a build without a proof is after some seconds."""
-    rest = f"of some {BUILD_SECONDS}"
-    rest = rest if spent < BUILD_SECONDS else f"({BUILD_SECONDS} on a quiet machine)"
+def building(spent, seconds=BUILD_SECONDS):
+    """Returns how far a build without a proof, which takes this long, is after some seconds."""
+    rest = f"of some {seconds}"
+    rest = rest if spent < seconds else f"({seconds} on a quiet machine)"
     return f"building, {spent:.0f} s {rest}"
 
 
