@@ -37,7 +37,7 @@ SOURCES := crates.txt HANDLES \
 	$(shell find crates -name out -prune -o \( -name '*.rt' -o -name '*.antt' \) -print)
 
 .DELETE_ON_ERROR:
-.PHONY: all help build native kit try try-tree test test-all check edits edits-test cases examples manual-examples differences
+.PHONY: all help build native kit try try-tree case test test-all check edits edits-test cases examples manual-examples differences
 .PHONY: faults fail-alloc tree-test
 .PHONY: install uninstall dist deb packages-test manuals around bench bench-text
 .PHONY: lib lib-test install-lib uninstall-lib deb-lib
@@ -89,6 +89,11 @@ try: $(UNPROVED)
 ## make try-tree ARGS='-s -- src'
 try-tree: $(UNPROVED_TREE)
 	$(RUN_UNPROVED)
+
+## runs the case of one file without a proof:
+## make case FILE=crates/test_runner/data/limits/NAME.case
+case: $(UNPROVED)
+	@tests/cases.py $< --case $(FILE)
 
 ## runs each worked case once, in a minute and without a
 ## proof
