@@ -160,7 +160,8 @@ void unifdef_close(struct unifdef_stream *stream);
 
 /*
  * Removes from the conditions of a text the operands that words decide. With -UA, "#if A || X"
- * becomes "#if X". Lines are only made shorter, and a compiler selects the same ones.
+ * becomes "#if X". Lines are only made shorter, and a compiler selects the same ones, if the words
+ * are true of the text.
  *
  * words are those of unifdef_text, of which -D, -U, -iD, -iU, -k and -K count. text may be the
  * output of unifdef_text for the same words, if it has no fault. It is read as C. What is left goes
