@@ -18,8 +18,8 @@ use ud_prune::prune;
 /// Appends the output for a text, as the plan asks.
 ///
 /// # Errors
-/// `Text` if the text has a fault: no condition is pruned then, and the output up to the fault was
-/// appended. `OutOfMemory` if memory can't be allocated.
+/// `Text` if the text has a fault. The output up to the fault was appended, unless conditions are
+/// to be pruned. `OutOfMemory` if memory can't be allocated.
 pub fn run_text(
     alloc: Global,
     plan: &TextPlan,
@@ -53,19 +53,12 @@ fn run_pruning(
         (RunsOver o text.now out.old.inner.items out.new.inner.items) (FailsOver o text.now) }
 {
     let mut output = Watched::new(Vec::<u8>::new(alloc));
-    match run_unpruned(&plan.run, text, &mut output) {
-        Ok(differs) => {
-            let edited = append_pruned(alloc, &plan.run, output.inner().as_slice(), out)?;
-            Ok(TextRun {
-                differs: differs || edited > 0,
-                edited,
-            })
-        }
-        Err(error) => {
-            let _appended = write_all(out, output.inner().as_slice());
-            Err(error)
-        }
-    }
+    let differs = run_unpruned(&plan.run, text, &mut output)?;
+    let edited = append_pruned(alloc, &plan.run, output.inner().as_slice(), out)?;
+    Ok(TextRun {
+        differs: differs || edited > 0,
+        edited,
+    })
 }
 
 /// Appends a text without the operands of its conditions that the symbols decide. Returns how many

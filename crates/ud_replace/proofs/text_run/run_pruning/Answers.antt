@@ -5,19 +5,21 @@ use Rattle.ud_replace.proofs.TextLemmas.{fails_memory, fails_over, runs_pruned}
 use Rattle.ud_replace.proofs.text_run.run_pruning.Goals as goal
 use Rattle.ud_replace.proofs.text_run.run_pruning.Goals.{then-differs, else-differs}
 
-pub returns-in_err-edited-in-Ok : goal.returns-in_err-edited-in-Ok
-returns-in_err-edited-in-Ok c = λ o p.
+pub returns-in_err-differs : goal.returns-in_err-differs
+returns-in_err-differs c = λ o p.
     let e = err_from_is_err_and c.from_residual.result c.from_residual.ensures.1 in
-    rw (e.1, e.2) (fails_memory o c.args.text.now (c.in_err-edited-in-Ok.ensures o.run p.settings p.table))
+    rw (e.1, e.2) (fails_over o (c.in_err-differs.ensures o.run p.settings p.table))
 
-pub returns-in-Ok : goal.returns-in-Ok
-returns-in-Ok c = λ o p.
-    let differs : c.if-differs.result ≡ (c.in-Ok.differs || nat_lt 0 c.in_ok-edited-in-Ok.edited) = elim c.if-differs.branch [
-      | then-differs w ↦ w.result-is ∙ w.if-differs.true ∙ sym (ap (λ b. b || nat_lt 0 c.in_ok-edited-in-Ok.edited) w.if-differs.true)
-      | else-differs w ↦ w.result-is ∙ sym (ap (λ b. b || nat_lt 0 c.in_ok-edited-in-Ok.edited) w.if-differs.false)
-    ] in
-    runs_pruned o _ (p.prunes ∙ c.requires.prunes) differs refl (ap (λ v. v.items) c.new-output.ensures.inner ∙ c.new.ensures.items) (c.in-Ok.ensures o.run p.settings p.table)
-    (c.as_slice.ensures.value ∙ ap (λ v. v.items) c.inner.ensures) (c.in_ok-edited-in-Ok.ensures o.run p.settings p.table)
+pub returns-in_err-edited : goal.returns-in_err-edited
+returns-in_err-edited c = λ o p.
+    let e = err_from_is_err_and c.from_residual-in_err-edited.result c.from_residual-in_err-edited.ensures.1 in
+    rw (e.1, e.2) (fails_memory o c.args.text.now (c.in_err-edited.ensures o.run p.settings p.table))
 
 pub returns : goal.returns
-returns c = λ o p. fails_over o (c.in-Err.ensures o.run p.settings p.table)
+returns c = λ o p.
+    let differs : c.if-differs.result ≡ (c.in_ok-differs.differs || nat_lt 0 c.in_ok-edited.edited) = elim c.if-differs.branch [
+      | then-differs w ↦ w.result-is ∙ w.if-differs.true ∙ sym (ap (λ b. b || nat_lt 0 c.in_ok-edited.edited) w.if-differs.true)
+      | else-differs w ↦ w.result-is ∙ sym (ap (λ b. b || nat_lt 0 c.in_ok-edited.edited) w.if-differs.false)
+    ] in
+    runs_pruned o _ (p.prunes ∙ c.requires.prunes) differs refl (ap (λ v. v.items) c.new-output.ensures.inner ∙ c.new.ensures.items) (c.in_ok-differs.ensures o.run p.settings p.table)
+    (c.as_slice.ensures.value ∙ ap (λ v. v.items) c.inner.ensures) (c.in_ok-edited.ensures o.run p.settings p.table)
