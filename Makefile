@@ -41,7 +41,7 @@ SOURCES := crates.txt HANDLES \
 .PHONY: faults fail-alloc tree-test
 .PHONY: install uninstall dist deb packages-test manuals around bench bench-text
 .PHONY: lib lib-test install-lib uninstall-lib deb-lib
-.PHONY: bench-library bench-conditions pictures trees pruned selects lines lines-test hostile fronts clean
+.PHONY: bench-library bench-conditions bench-folders pictures trees pruned selects lines lines-test hostile fronts clean
 
 ## proves the crates side by side, and builds ./unifdef
 all: build
@@ -281,8 +281,8 @@ manuals:
 ## tries everything around the programs that is quick
 around: manuals cases examples manual-examples differences faults lines-test tree-test lib-test packages-test
 
-## measures speed (bench/README.md): the next three
-bench: bench-text bench-library bench-conditions
+## measures speed (bench/README.md): the next four
+bench: bench-text bench-library bench-conditions bench-folders
 
 ## measures ./unifdef beside the released program
 bench-text: unifdef
@@ -296,6 +296,10 @@ bench-library: unifdef lib
 bench-conditions: kit
 	cd crates/bench_conditions && $(RT) run -- conditions 1 < /dev/null > /dev/null
 	bench/conditions.sh
+
+## measures ./unifdef-tree over copies of the headers
+bench-folders: unifdef-tree
+	python3 bench/folders.py ./unifdef-tree
 
 # Graphviz repeats the name of each node and edge in a comment and a title, and ends each in a line
 # of its own. The picture's title stays.
