@@ -3,8 +3,9 @@
 
 The wrong ones are to be refused. The right ones change the contract of a law, which stays true,
 or a body under its contract, also that of a caller of a function with a wrong edit. So each is to
-be proved, although all are checked together. One edit doesn't compile, and nothing is proved or
-refused of a crate that has it.
+be proved, although all are checked together. Two edits are of bodies with an answer, which then
+fails: without it, one is refused, and one isn't decided, as its contract accepts the body. One edit
+doesn't compile, and nothing is proved or refused of a crate that has it.
 """
 import os
 import sys
@@ -13,14 +14,14 @@ import tempfile
 sys.dont_write_bytecode = True
 
 sys.path.insert(0, f"{os.path.dirname(os.path.dirname(os.path.realpath(__file__)))}/tools")
-from edits import BAD, PROVED, REFUSED, edits_of, run
+from edits import BAD, OPEN, PROVED, REFUSED, edits_of, run
 
 SOURCE = """\
 //! Functions with contracts, for wrong and right edits.
 
 #![tactic(auto)]
 
-ghost use Rattle.std.specs.Prelude.{◌≡◌, ◌+◌, ◌<◌, ◌≤◌, ℕ};
+ghost use Rattle.std.specs.Prelude.{◌≡◌, ◌+◌, ◌<◌, ◌≤◌, ◌^◌, ℕ};
 
 /// Returns a number that exceeds neither.
 pub fn lesser(a: u32, b: u32) -> u32
@@ -78,6 +79,24 @@ pub fn second(a: u32) -> u32
     successor(successor(a))
 }
 
+/// Returns a number whose power of 2 isn't larger.
+pub fn half(a: u32) -> u32
+    requires { a < 100 }
+    ensures { 2 ^ result ≤ 2 ^ a }
+{
+    let quotient = a / 2;
+    quotient
+}
+
+/// Returns a number whose power of 2 isn't larger.
+pub fn third(a: u32) -> u32
+    requires { a < 100 }
+    ensures { 2 ^ result ≤ 2 ^ a }
+{
+    let quotient = a / 3;
+    quotient
+}
+
 /// A number is less than the next one.
 pub fn law_next()
     ensures { (n : ℕ) → n < n + 1 }
@@ -89,8 +108,21 @@ pub fn law_order()
 {}
 """
 
+# The answers of the functions whose contracts no search proves, by the divisor of each.
+ANSWERS = """\
+-- By the order of powers.
+use Rattle.std.proofs.Math.Nat.{{div-le_self}}
+use Rattle.std.proofs.Math.Pow.{{pow_mono}}
+use Rattle.control.proofs.{name}.Goals as goal
+
+pub returns : goal.returns
+returns c = pow_mono (div-le_self c.args.a {divisor})
+"""
+DIVISORS = {"half": 2, "third": 3}
+
 # The name of each edit, with its old and its new text.
 WRONG = {
+    "half_is_more": ("let quotient = a / 2;", "let quotient = a + 1;"),
     "law_next_of_the_number_before": ("n < n + 1", "n + 1 < n"),
     "lesser_is_greater": ("if a < b { a } else { b }", "if a > b { a } else { b }"),
     "origin_is_1": ("let zero = 0;", "let zero = 1;"),
@@ -101,6 +133,7 @@ RIGHT = {
     "least_begins_at_the_end": ("lesser(lesser(a, b), c)", "lesser(a, lesser(b, c))"),
     "second_calls_once": ("successor(successor(a))", "successor(a) + 1"),
 }
+UNDECIDED = {"third_is_a_fourth": ("let quotient = a / 3;", "let quotient = a / 4;")}
 # Its name comes first, so that it is in the first batch.
 BROKEN = {"broken_same": ("let b = a;", "let b = c;")}
 # Those of which one can't be applied, and one has the name of another.
@@ -126,12 +159,16 @@ def main():
         write(f"{top}/crates.txt", "control:\n")
         write(f"{top}/HANDLES", "Handles allowed: none.\n")
         write(f"{crate}/src/lib.rt", SOURCE)
-        write_edits(f"{crate}/must-fail", {**WRONG, **RIGHT, **BROKEN})
+        for name, divisor in DIVISORS.items():
+            answers = ANSWERS.format(name=name, divisor=divisor)
+            write(f"{crate}/proofs/{name}/Answers.antt", answers)
+        write_edits(f"{crate}/must-fail", {**WRONG, **RIGHT, **UNDECIDED, **BROKEN})
         write_edits(f"{crate}/must-fail-second", UNREADABLE)
         found = run(top, "control", [], ["must-fail"], False)
         unread = edits_of(top, "control", ["must-fail", "must-fail-second"])[1]
-    wanted = {REFUSED: sorted(WRONG), PROVED: sorted(RIGHT), BAD: sorted(BROKEN)}
-    if {it: sorted(names) for it, names in found.items()} != wanted or len(unread) != 2:
+    wanted = {REFUSED: WRONG, OPEN: UNDECIDED, PROVED: RIGHT, BAD: BROKEN}
+    is_right = all(sorted(found[it]) == sorted(names) for it, names in wanted.items())
+    if not is_right or len(unread) != 2:
         return "edits-test: FAILED: not exactly the wrong edits are refused"
     print("edits-test: exactly the wrong edits are refused")
     return 0

@@ -16,6 +16,11 @@ isn't proved doesn't count. The other edits are checked again without those that
 none is refused, they are checked in halves, and at last each alone. An edit outside a body is
 checked alone, and so is each with --alone.
 
+An answer may fail though the contract accepts the body, since it was written for another one. So an
+edit of which answers alone fail is checked once more without those answers. It is refused if the
+prover finds values at which a goal is false. If a goal is just left open, the edit isn't decided:
+the contract may accept it or not.
+
 Prints a line for each edit, and how many there are at the end. The status is 1 if one is proved or
 can't be tried. With --read, it is 1 if an old text isn't in its file exactly once, or if two edits
 of a crate have one name.
@@ -37,7 +42,7 @@ sys.dont_write_bytecode = True
 from gate import is_of_gate, jobs
 from prove import HERE, RT, Build, at_or_below, expected, libraries, link
 
-REFUSED, PROVED, BAD = "refused", "PROVED", "BAD EDIT"
+REFUSED, OPEN, PROVED, BAD = "refused", "not decided", "PROVED", "BAD EDIT"
 
 # The line on which a function begins. `const fn` is left out: a type may rest on the body.
 FUNCTION = re.compile(r'( *)(?:pub(?:\([a-z: ]+\))? )?(?:unsafe )?(?:extern "C" )?fn (\w+)')
@@ -50,6 +55,11 @@ FOLDERS = ["must-fail", "must-fail-second"]
 OBLIGATION = re.compile(r"note: (?:\./)?(src/\S+?\.rt):(\d+):\d+: (?=.*is not proved that)")
 ANSWER = re.compile(r"(?:\./)?proofs/(\S+)/(?:Answers|Invariants|Proof)\.antt:\d+:\d+: error: ")
 ERROR = re.compile(r"(?:note: )?(?:\./)?\S+:\d+:\d+: error")
+
+# An error in an answer, the beginning of one, and what a check says of a goal that is false.
+IN_ANSWER = re.compile(r"(?:\./)?(proofs/\S+/Answers\.antt):(\d+):\d+: error: ")
+BEGINS_ANSWER = re.compile(r"(?:pub )?\S+ : ")
+FALSE = re.compile(r"the facts known there allow values at which this goal is false")
 
 # What a check says of a function that isn't proved.
 UNPROVED = re.compile(r"fn \S+: (?:not proved|no proof)")
@@ -237,8 +247,8 @@ class Batch:
         return True
 
     def reasons(self, said, room):
-        """Returns a failed goal of each edit's own functions. There are none if anything else fails
-        too."""
+        """Returns the failed goals of each edit's own functions. There are none if anything else
+        fails too."""
         every, found = [], {}
         for path in room.sources():
             every += functions_of(path, self.texts.get(path) or room.read(path))
@@ -249,8 +259,7 @@ class Batch:
             mine = [edit for edit, changed in self.edits if changed & places]
             if not mine:
                 return {}
-            if NAME.search(found.setdefault(mine[0], line)):
-                found[mine[0]] = line
+            found.setdefault(mine[0], []).append(line)
         return found
 
 
@@ -291,27 +300,73 @@ def is_unproved(status, said):
     return status == 1 and any(it.startswith("logic=not-proved") for it in said)
 
 
+def first_of(goals):
+    """Returns the failed goal that says most: the first one for which no name is missing."""
+    return next((it for it in goals if not NAME.search(it)), goals[0])
+
+
 def verdict_of(status, said):
-    """Returns the verdict on an edit that was checked alone, and the reason."""
+    """Returns the verdict on an edit that was checked alone, and the reasons."""
     if not status:
-        return PROVED, "the contract accepts it"
+        return PROVED, ["the contract accepts it"]
     goals = [it for it in said if OBLIGATION.match(it) or ERROR.match(it)]
     goals = goals or [it for it in said if UNPROVED.match(it)] or said[-1:]
-    first = next((it for it in goals if not NAME.search(it)), goals[0])
-    return REFUSED if is_unproved(status, said) else BAD, first
+    return REFUSED if is_unproved(status, said) else BAD, goals
 
 
 def try_edits(room, edits, alone):
     """Yields the name of each edit with the verdict and the reason."""
+    answered = {}
+    for edit, verdict, goals in try_batches(room, edits, alone):
+        if verdict == REFUSED and all(map(IN_ANSWER.match, goals)) and edit.apply({}, room.read)[1]:
+            answered[edit] = goals
+        else:
+            yield edit.name, verdict, first_of(goals)
+    for batch in batches_of(answered, room.read, alone):
+        yield from try_unanswered(room, batch, answered)
+
+
+def without_answers(text, numbers):
+    """Returns a file of answers without those that have lines with these numbers. If a line is
+    above all answers, none is left."""
+    lines, kept = text.split("\n"), []
+    begins = [it for it, line in enumerate(lines) if BEGINS_ANSWER.match(line)]
+    if min(numbers) <= min(begins, default=len(lines)):
+        return "-- None.\n"
+    for begin, end in zip([0, *begins], [*begins, len(lines)]):
+        kept += [] if any(begin < it <= end for it in numbers) else lines[begin:end]
+    return "\n".join(kept)
+
+
+def try_unanswered(room, batch, answered):
+    """Yields the same for a batch of edits of which answers alone have failed, without these."""
+    mine, numbers = [edit for edit, _ in batch.edits], collections.defaultdict(set)
+    for goal in (it for edit in mine for it in answered[edit]):
+        path, number = IN_ANSWER.match(goal).groups()
+        numbers[path].add(int(number))
+    left = {path: without_answers(room.read(path), them) for path, them in numbers.items()}
+    status, said = room.check({**batch.texts, **left})
+    reasons = batch.reasons(said, room) if status else {}
+    for edit in mine:
+        goals = reasons.get(edit, [])
+        false = [it for it in goals if FALSE.search(it)]
+        if not status or (reasons and not goals):
+            yield edit.name, PROVED, "the contract accepts it without an answer"
+        else:
+            yield edit.name, REFUSED if false else OPEN, first_of(false or goals or answered[edit])
+
+
+def try_batches(room, edits, alone):
+    """Yields each edit with the verdict and its reasons."""
     left = batches_of(edits, room.read, alone)
     while left:
         batch = left.pop(0)
         status, said = room.check(batch.texts)
         if len(batch.edits) == 1:
-            yield batch.edits[0][0].name, *verdict_of(status, said)
+            yield batch.edits[0][0], *verdict_of(status, said)
             continue
         reasons = batch.reasons(said, room) if is_unproved(status, said) else {}
-        yield from ((edit.name, REFUSED, reason) for edit, reason in reasons.items())
+        yield from ((edit, REFUSED, goals) for edit, goals in reasons.items())
         again = [edit for edit, _ in batch.edits if edit not in reasons]
         if reasons:
             # The others join the batches to come.
@@ -349,7 +404,7 @@ def say(*lines):
 
 def run(top, crate, below, folders, alone):
     """Tries the edits of a crate that is proved, and returns their names by verdict."""
-    found, begin = {REFUSED: [], PROVED: [], BAD: []}, time.monotonic()
+    found, begin = {REFUSED: [], OPEN: [], PROVED: [], BAD: []}, time.monotonic()
     edits, bad = edits_of(top, crate, folders)
     edits = [it for it in edits if not it.is_of_gate]
     with tempfile.TemporaryDirectory(prefix=".edits-", dir=top) as place:
@@ -357,7 +412,7 @@ def run(top, crate, below, folders, alone):
         for name, verdict, reason in try_edits(room, edits, alone):
             found[verdict].append(name)
             by = "a name is missing: " if NAME.search(reason) else ""
-            say(f"{verdict:8} {crate}/{name}: {by}{reason[:160]}")
+            say(f"{verdict:11} {crate}/{name}: {by}{reason[:160]}")
     say(*bad)
     found[BAD] += bad
     spent = f"{room.processor:.0f} s of a processor, {time.monotonic() - begin:.0f} s of the clock"
@@ -368,7 +423,7 @@ def run(top, crate, below, folders, alone):
 def run_all(crates, used, folders, alone):
     """Tries the edits of crates side by side, and returns how many there are of each verdict."""
     order = sorted(crates, key=lambda it: -expected(it) * len(edits_of(HERE, it, folders)[0]))
-    count = dict.fromkeys((REFUSED, PROVED, BAD), 0)
+    count = dict.fromkeys((REFUSED, OPEN, PROVED, BAD), 0)
     with concurrent.futures.ThreadPoolExecutor(jobs()) as pool:
         try:
             below = {it: at_or_below(it, used)[:-1] for it in order}
@@ -410,7 +465,7 @@ def main():
         return 1
     count = run_all(crates, used, folders, options.alone)
     bad = f", {count[BAD]} can't be tried" if count[BAD] else ""
-    print(f"{count[REFUSED]} refused, {count[PROVED]} proved{bad}")
+    print(f"{count[REFUSED]} refused, {count[OPEN]} not decided, {count[PROVED]} proved{bad}")
     return 1 if count[PROVED] or count[BAD] else 0
 
 
