@@ -2,6 +2,7 @@
 pub mod Evaluation
 pub mod Stacks
 pub mod DefinedOperands
+pub mod Keepings
 pub mod TwoSlots
 pub mod Digits
 pub mod ResidualReading

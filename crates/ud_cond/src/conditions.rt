@@ -12,8 +12,8 @@ ghost use Rattle.ud_cond.specs.symbols.SymbolTable.{TableRepresents};
 ghost use Rattle.ud_cond.specs.CondViews.{as_rules, as_decision};
 ghost use Rattle.ud_cond.specs.expressions.Evaluation.{cond_of_value, DecidesFast};
 
+use crate::expressions::evaluation::evaluate;
 use crate::expressions::fast_path::evaluate_fast;
-use crate::expressions::parsing::evaluate;
 use crate::expressions::values::{Scope, Value};
 use crate::symbols::Symbols;
 use ud_model::bytes::{are_white, is_digit, skip_white, word_len};

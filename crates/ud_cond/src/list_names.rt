@@ -7,7 +7,7 @@ ghost use Rattle.ud_model.specs.conditions.Conditions.{sole_name};
 ghost use Rattle.ud_model.specs.declared.limits.TheConstants.{LINE_BYTES};
 
 use crate::conditions::{Rules, fast_cond, sole_name};
-use crate::expressions::parsing::evaluate;
+use crate::expressions::evaluation::evaluate;
 use crate::expressions::values::Scope;
 use names_iter::Names;
 use ud_model::{Kind, Test};

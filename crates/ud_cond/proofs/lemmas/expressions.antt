@@ -9,4 +9,5 @@ pub mod DigitLemmas
 pub mod ResidualLemmas
 pub mod ReduceLemmas
 pub mod StateLemmas
+pub mod KeepingLemmas
 pub mod KeptLemmas

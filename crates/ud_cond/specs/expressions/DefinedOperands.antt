@@ -1,17 +1,16 @@
 -- DefinedOperands: the name after `defined`, and what follows.
--- `ud_model.specs.aids.Parsing` defines what a text means in a state. A name that is read after
--- `defined` means the same there: the state that asks for it comes to the state that has its
--- value, after fewer bytes.
+-- `ud_model.specs.aids.Parsing` defines what a text means in a state.
 --
---   ReadsDefined m text r           `r` is the value of a `defined` and what follows; or nothing
---   IsAfterNot text rest            `rest` follows the `!` with which `text` begins
---   ReadsDefinedInParens m text r   `r` is the value of a `defined (` and what follows the
---                                   parenthesis; or nothing
-use Rattle.std.specs.Prelude.{◌≡◌, ℕ, ◌<◌, false, List, length, Option, Some, None}
+--   asked_name next          the name after a `defined`, by the token there
+--   Asked m start text v r   in each state `start s`, `text` means the operand `v` and then `r`
+--   IsAfterNot text rest     `rest` follows the `!` with which `text` begins
+use Rattle.std.specs.Prelude.{◌≡◌, ℕ, ◌<◌, Bool, true, false, List, length, Option, Some, None}
+use Rattle.std.specs.Prelude.{option_map}
 use Rattle.ud_model.specs.text.Bytes.{skip_white}
-use Rattle.ud_model.specs.conditions.Tokens.{name, closing, operator, NextToken, found, next_token}
+use Rattle.ud_model.specs.conditions.Tokens.{name, opening, closing, operator, NextToken, found}
+use Rattle.ud_model.specs.conditions.Tokens.{next_token}
 use Rattle.ud_model.specs.declared.operator.Operator.TheVariants.{Not}
-use Rattle.ud_model.specs.aids.Parsing.{Meaning, Frame, ParseState, has, asks, asks_inside, reads}
+use Rattle.ud_model.specs.aids.Parsing.{Meaning, Frame, ParseState, has, reads}
 
 -- `plain_name next`: the name and what follows it, if the next token is a name without arguments
 abbrev pub plain_name : NextToken → Option (List ℕ × List ℕ)
@@ -23,26 +22,23 @@ abbrev pub after_paren : NextToken → Option (List ℕ)
 after_paren (found closing rest) = Some rest
 after_paren _ = None
 
+-- `enclosed_name r`: the name, that it is in parentheses, and what follows the closing one
+abbrev pub enclosed_name : Option (List ℕ × List ℕ) → Option (List ℕ × Bool × List ℕ)
+enclosed_name None = None
+enclosed_name (Some r) = option_map (λ rest. (r.0, true, rest)) (after_paren (next_token r.1))
+
+-- `asked_name next`: the name after a `defined`, whether it is in parentheses, and what follows
+abbrev pub asked_name : NextToken → Option (List ℕ × Bool × List ℕ)
+asked_name (found (name n false) rest) = Some (n, false, rest)
+asked_name (found opening inside) = enclosed_name (plain_name (next_token inside))
+asked_name _ = None
+
 module _ {A : Type 0} (m : Meaning A) (start : List (Frame A) → ParseState A) where
   -- `Asked m start text v rest`: in each state `start s`, `text` means what the shorter `rest`
   -- means after the operand `v`
   pub record Asked (text : List ℕ) (v : A) (rest : List ℕ) : Type 0 where
     pub same : (s : List (Frame A)) → reads m (start s) text ≡ reads m (has v s) rest
     pub shorter : length rest < length text
-
-  -- `ReadsValueOrNothing m start text r`: `r` is a value and what follows it; or `r` is nothing,
-  -- and no expression continues so
-  abbrev pub ReadsValueOrNothing : List ℕ → Option (A × List ℕ) → Type 0
-  ReadsValueOrNothing text None = (s : List (Frame A)) → reads m (start s) text ≡ None
-  ReadsValueOrNothing text (Some r) = Asked text r.0 r.1
-
--- `ReadsDefined m text r`: `ReadsValueOrNothing` after `defined`
-abbrev pub ReadsDefined : {A : Type 0} → Meaning A → List ℕ → Option (A × List ℕ) → Type 0
-ReadsDefined m = ReadsValueOrNothing m asks
-
--- `ReadsDefinedInParens m text r`: `ReadsValueOrNothing` after `defined (`
-abbrev pub ReadsDefinedInParens : {A : Type 0} → Meaning A → List ℕ → Option (A × List ℕ) → Type 0
-ReadsDefinedInParens m = ReadsValueOrNothing m asks_inside
 
 -- `IsAfterNot text rest`: `text` begins with a `!`, and `rest` follows it and its white space
 pub record IsAfterNot (text rest : List ℕ) : Type 0 where

@@ -26,6 +26,7 @@ use Rattle.ud_model.specs.conditions.Conditions.{calls_undefined, truth_of}
 use Rattle.ud_model.specs.declared.operator.Operator.{Operator}
 use Rattle.ud_model.specs.declared.cond.Cond.{Cond}
 use Rattle.ud_model.specs.declared.cond.Cond.TheVariants.{Unknown}
+use Rattle.ud_cond.specs.expressions.Keepings.{Keeping}
 use Rattle.ud_cond.specs.declared.expressions.values.Value.{Value}
 use Rattle.ud_cond.specs.declared.expressions.values.Scope.{Scope}
 
@@ -107,6 +108,10 @@ table_in s = rows_in s.symbols
 -- `value_meaning_in s`: the value of each part of an expression in a scope
 abbrev pub value_meaning_in : Scope → Meaning Value
 value_meaning_in s = value_meaning (table_in s) s.strict s.unsigned
+
+-- `value_keeping`: a program keeps the values themselves, and notes nothing
+abbrev pub value_keeping : Keeping Value Value (Unit {0})
+value_keeping = record { part = λ v n. v; flags = λ v. []; notes = λ n. None }
 
 -- `step_in s state token`: the state after one more token, by the values in a scope
 abbrev pub step_in : Scope → ParseState Value → Token → ParseState Value

@@ -8,11 +8,10 @@
 --   is_empty s               nothing is pending
 --   weight s                 the least number of bytes of the text that the frames take
 --   IsSettled j s            no operator on top binds at least as tightly as `j`
---   parse_state v s          the state after an operand, or the one that needs an operand
 use Rattle.std.specs.Prelude.{ℕ, ◌<◌, ◌≤◌, ◌+◌, ◌*◌, Bool, true, false, List, [], ◌∷◌, Option, Some}
 use Rattle.std.specs.Prelude.{None}
 use Rattle.ud_model.specs.conditions.Expressions.{precedence}
-use Rattle.ud_model.specs.aids.Parsing.{Frame, left, before, paren, ParseState, needs, has}
+use Rattle.ud_model.specs.aids.Parsing.{Frame, left, before, paren}
 use Rattle.ud_model.specs.declared.operator.Operator.{Operator}
 use Rattle.ud_model.specs.declared.limits.TheConstants.{LINE_BYTES}
 use Rattle.ud_cond.specs.declared.expressions.stacks.PendingOp.{PendingOp}
@@ -76,11 +75,6 @@ IsNoParen [] = Unit {0}
 IsNoParen (left o a ∷ s) = Unit {0}
 IsNoParen (before o ∷ s) = Unit {0}
 IsNoParen (paren ∷ s) = ⊥
-
--- `parse_state v s`: the state after the operand `v`, or the one that needs an operand
-abbrev pub parse_state : {A : Type 0} → Option A → List (Frame A) → ParseState A
-parse_state (Some v) s = has v s
-parse_state None s = needs s
 
 -- `operand_weight v`: the least number of bytes of the text that the operand takes, if there is one
 abbrev pub operand_weight : {A : Type 0} → Option A → ℕ

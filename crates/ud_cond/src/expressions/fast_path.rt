@@ -1,7 +1,7 @@
 //! The fast path: evaluates an expression that needs at most two pending operators.
 //!
 //! Most expressions have no parentheses but those after `defined`, and few pending operators.
-//! Such an expression is read with two slots and no stacks. `parsing` reads every other one, from
+//! Such an expression is read with two slots and no stacks. `reader` reads every other one, from
 //! its beginning.
 
 ghost use Rattle.std.specs.Prelude.{◌≡◌, ◌∷◌, [], ℕ, List, IfSome, OnSome, IsTrue, Some, false};

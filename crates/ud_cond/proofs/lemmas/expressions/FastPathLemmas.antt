@@ -8,7 +8,7 @@ use Rattle.ud_model.specs.declared.operator.Operator.{Operator}
 use Rattle.ud_model.specs.declared.operator.Operator.TheVariants.{Not}
 use Rattle.ud_cond.specs.expressions.DefinedOperands.{Asked}
 use Rattle.ud_model.proofs.conditions.TokenLemmas.{shorter}
-use Rattle.ud_cond.proofs.lemmas.expressions.DefinedLemmas.{asks-plain, asks-parens, encloses}
+use Rattle.ud_cond.proofs.lemmas.expressions.DefinedLemmas.{asks-plain, asks-parens}
 use Rattle.ud_cond.proofs.lemmas.expressions.ReadingLemmas.{reads_on, reads-on, reads-found}
 
 skip_white-one : (w : Bool) (b : ℕ) (bs : List ℕ) → is_white b ≡ w → skip_white (skip_white bs) ≡ skip_white bs → skip_white (skip_white (b ∷ bs)) ≡ skip_white (b ∷ bs)
@@ -60,7 +60,7 @@ module _ {A : Type 0} (m : Meaning A) where
   pub asks-enclosed : {B : Type 0} (f : B → List ℕ) (text inside n end : List ℕ) (r : Option B) → next_token text ≡ found opening inside → next_token inside ≡ found (name n false) end →
       IfSome r (λ b. next_token end ≡ found closing (f b)) → IfSome r (λ b. Asked m asks text (m.is_defined n true) (f b))
   asks-enclosed f text inside n end None e h g = tt
-  asks-enclosed f text inside n end (Some b) e h g = asks-parens m text inside (Some (m.is_defined n true, f b)) e (encloses m inside n end (f b) h g)
+  asks-enclosed f text inside n end (Some b) e h g = asks-parens m text inside n end (f b) e h g
 
   before_on : (s : List (Frame A)) (o : Operator) (v : A) (x : NextToken) → reads_on m (has v (before o ∷ s)) x ≡ reads_on m (has (m.unary o v) s) x
   before_on s o v at_end = refl

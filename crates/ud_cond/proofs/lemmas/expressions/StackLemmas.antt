@@ -1,14 +1,14 @@
 -- Both stacks: what a push and a pop do to the frames, and how much the frames weigh.
 use Rattle.std.proofs.Common.{◌≡◌, ℕ, ◌≤◌, ◌<◌, ◌+◌, ◌*◌, ◌==◌, List, [], ◌∷◌, ◌++◌, length, reverse, Option, None, refl, sym, ◌∙◌, ap, subst, arith}
 use Rattle.std.proofs.lemmas.List.{length-reverse, reverse-append}
-use Rattle.ud_model.specs.conditions.Tokens.{Token, at_end, unreadable, found, next_token}
+use Rattle.ud_model.specs.conditions.Tokens.{at_end, unreadable, next_token}
 use Rattle.ud_model.specs.conditions.Expressions.{precedence}
-use Rattle.ud_model.specs.aids.Parsing.{Meaning, Frame, ParseState, step, finish, reads}
+use Rattle.ud_model.specs.aids.Parsing.{Meaning, ParseState, finish, reads}
 use Rattle.ud_model.specs.declared.operator.Operator.{Operator}
 use Rattle.ud_cond.specs.declared.expressions.stacks.PendingOp.{PendingOp}
 use Rattle.ud_cond.specs.declared.expressions.stacks.PendingOp.TheVariants.{Binary, Prefix, Opening}
-use Rattle.ud_cond.specs.expressions.Stacks.{frames, AreMatched, weight, IsSettled, is_empty, parse_state}
-use Rattle.ud_cond.proofs.lemmas.expressions.ReadingLemmas.{reads_on, reads-on, reads-found}
+use Rattle.ud_cond.specs.expressions.Stacks.{frames, AreMatched, weight, IsSettled, is_empty}
+use Rattle.ud_cond.proofs.lemmas.expressions.ReadingLemmas.{reads_on, reads-on}
 
 -- the frames weigh as much as both stacks are long
 pub weighs : {A : Type 0} (ws : List PendingOp) (vs : List A) → AreMatched ws vs → weight (frames ws vs) ≡ length ws + length vs
@@ -68,11 +68,6 @@ pub settled-top : {A : Type 0} (old new : List PendingOp) (vs : List A) (j : ℕ
 settled-top old new vs j o e l = subst (λ ws. IsSettled j (frames ws vs)) (sym (ap reverse e ∙ reverse-append new (Binary o ∷ []))) (settled-between j o (reverse new) vs l)
 
 module _ {A : Type 0} (m : Meaning A) where
-  -- the meaning so far continues in the state that the next token makes
-  pub goes-on : (all : Option A) (o : Option A) (s : List (Frame A)) (q : ParseState A) (text : List ℕ) (t : Token) (rest : List ℕ) → all ≡ reads m (parse_state o s) text → parse_state o s ≡ q →
-      found t rest ≡ next_token text → all ≡ reads m (step m q t) rest
-  goes-on all o s q text t rest e f h = e ∙ ap (λ p. reads m p text) f ∙ reads-found m q text t rest (sym h)
-
   -- the meaning so far is that of the state if the text ends, and nothing if the text is unreadable
   pub ends : (all : Option A) (q : ParseState A) (text : List ℕ) → all ≡ reads m q text → at_end ≡ next_token text → finish m q ≡ all
   ends all q text e h = sym (e ∙ reads-on m q text ∙ ap (reads_on m q) (sym h))

@@ -1,0 +1,61 @@
+use Rattle.std.proofs.Common.{◌≡◌, ◌∙◌, ◌∷◌, false, true, if◌then◌else◌, sym, ap}
+use Rattle.ud_model.specs.conditions.Expressions.{is_prefix}
+use Rattle.ud_model.specs.aids.Parsing.{reads, step, needs, has, before, paren, stuck}
+use Rattle.ud_cond.specs.CondViews.{as_token}
+use Rattle.ud_cond.specs.expressions.Keepings.{flags_in}
+use Rattle.ud_cond.proofs.lemmas.expressions.ReadingLemmas.{reads-stuck}
+use Rattle.ud_cond.proofs.lemmas.expressions.DefinedLemmas.{asked, asked_none}
+use Rattle.ud_cond.proofs.expressions.reader.read_operand.Goals as goal
+
+pub returns-in_err-name-in-Defined-clause-none : goal.returns-in_err-name-in-Defined-clause-none
+returns-in_err-name-in-Defined-clause-none g c =
+    let m = g.K.Keeper.meaning c.args.keeper.now in
+    rw c.from_residual.ensures
+    (λ s. ap (λ t. reads m (step m (needs s) (as_token t)) c.args.rest.now) c.in-Defined.is ∙ asked_none m s c.args.rest.now (sym c.in_err-name-in-Defined.ensures.name))
+
+pub returns-then-not-is_prefix-clause-none : goal.returns-then-not-is_prefix-clause-none
+returns-then-not-is_prefix-clause-none g c = λ s.
+    let m = g.K.Keeper.meaning c.args.keeper.now in
+    let between : is_prefix c.in-Operator.operator ≡ false = sym c.is_prefix.ensures ∙ c.if-not-is_prefix.true in
+    ap (λ t. reads m (step m (needs s) (as_token t)) c.args.rest.now) c.in-Operator.is
+    ∙ ap (λ b. reads m (if b then needs (before c.in-Operator.operator ∷ s) else stuck) c.args.rest.now) between
+    ∙ reads-stuck m c.args.rest.now
+
+pub returns-in-Number-clause-some : goal.returns-in-Number-clause-some
+returns-in-Number-clause-some g c = λ s h.
+    let m = g.K.Keeper.meaning c.args.keeper.now in
+    (has (m.constant c.in-Number.word.now) s, (h.0, c.constant.ensures.kept (flags_in g.K.Keeper.keeping s) h.1), ap (λ t. reads m (step m (needs s) (as_token t)) c.args.rest.now) c.in-Number.is)
+
+pub returns-in-Name-clause-some : goal.returns-in-Name-clause-some
+returns-in-Name-clause-some g c = λ s h.
+    let m = g.K.Keeper.meaning c.args.keeper.now in
+    (has (m.named c.in-Name.name.now c.in-Name.arguments) s, (h.0, c.named-part.ensures.kept (flags_in g.K.Keeper.keeping s) h.1), ap (λ t. reads m (step m (needs s) (as_token t)) c.args.rest.now) c.in-Name.is)
+
+pub returns-in_ok-name-in-Defined-clause-some : goal.returns-in_ok-name-in-Defined-clause-some
+returns-in_ok-name-in-Defined-clause-some g c = λ s h.
+    let m = g.K.Keeper.meaning c.args.keeper.now in
+    let n = c.in_ok-name-in-Defined in (
+      has (m.is_defined n.name.now n.enclosed) s,
+      (h.0, c.asked-part.ensures.kept (flags_in g.K.Keeper.keeping s) h.1),
+      ap (λ t. reads m (step m (needs s) (as_token t)) c.args.rest.now) c.in-Defined.is ∙ asked m s c.args.rest.now n.name.now n.enclosed n.end.now (sym n.ensures.name),
+    )
+
+pub returns-else-not-is_prefix-clause-some : goal.returns-else-not-is_prefix-clause-some
+returns-else-not-is_prefix-clause-some g c = λ s h.
+    let m = g.K.Keeper.meaning c.args.keeper.now in
+    let o = c.in-Operator.operator in
+    let yes : is_prefix o ≡ true = sym c.is_prefix.ensures ∙ c.if-not-is_prefix.false in (
+      needs (before o ∷ s),
+      (c.push_prefix.ensures ∙ ap (λ ps. before o ∷ ps) h.0, c.note.ensures.noted (flags_in g.K.Keeper.keeping s) h.1),
+      ap (λ t. reads m (step m (needs s) (as_token t)) c.args.rest.now) c.in-Operator.is ∙ ap (λ b. reads m (if b then needs (before o ∷ s) else stuck) c.args.rest.now) yes,
+    )
+
+pub returns-in-Opening-clause-some : goal.returns-in-Opening-clause-some
+returns-in-Opening-clause-some g c = λ s h.
+    let m = g.K.Keeper.meaning c.args.keeper.now in
+    (needs (paren ∷ s), (c.push_paren.ensures ∙ ap (λ ps. paren ∷ ps) h.0, c.note-in-Opening.ensures.noted (flags_in g.K.Keeper.keeping s) h.1), ap (λ t. reads m (step m (needs s) (as_token t)) c.args.rest.now) c.in-Opening.is)
+
+pub returns-in-Closing-clause-none : goal.returns-in-Closing-clause-none
+returns-in-Closing-clause-none g c = λ s.
+    let m = g.K.Keeper.meaning c.args.keeper.now in
+    ap (λ t. reads m (step m (needs s) (as_token t)) c.args.rest.now) c.in-Closing.is ∙ reads-stuck m c.args.rest.now

@@ -1,0 +1,142 @@
+//! The evaluation of any expression: `reader` reads it, and the value of each part is kept.
+
+ghost use Rattle.std.specs.Prelude.{◌≡◌, ◌≤◌, [], length};
+ghost use Rattle.ud_model.specs.aids.Parsing as spec;
+ghost use Rattle.ud_model.specs.declared.limits.TheConstants.{LINE_BYTES};
+ghost use Rattle.ud_cond.specs.expressions.Stacks.{Suffice};
+ghost use Rattle.ud_cond.specs.expressions.Evaluation.{value_meaning_in};
+
+use crate::expressions::keeper::Keeper;
+use crate::expressions::packed_value::PackedValue;
+use crate::expressions::reader::read;
+use crate::expressions::stacks::Stacks;
+use crate::expressions::values::{NO_VALUE, Scope, Value, binary, constant, defined, named, unary};
+use ud_model::{LINE_BYTES, Operator};
+
+/// The most bytes of a tiny text.
+const TINY_TEXT_BYTES: usize = 32;
+
+/// The most operands that are pending in a tiny text.
+const TINY_TEXT_OPERANDS: usize = TINY_TEXT_BYTES / 2;
+
+/// The most bytes of a short text.
+const SHORT_TEXT_BYTES: usize = 64;
+
+/// The most operands that are pending in a short text.
+const SHORT_TEXT_OPERANDS: usize = SHORT_TEXT_BYTES / 2;
+
+/// The most bytes of a text of medium length.
+const MEDIUM_TEXT_BYTES: usize = 128;
+
+/// The most operands that are pending in a text of medium length.
+const MEDIUM_TEXT_OPERANDS: usize = MEDIUM_TEXT_BYTES / 2;
+
+/// The most bytes of a long text.
+const LONG_TEXT_BYTES: usize = 1024;
+
+/// The most operands that are pending in a long text.
+const LONG_TEXT_OPERANDS: usize = LONG_TEXT_BYTES / 2;
+
+/// The most bytes of a very long text.
+const VERY_LONG_TEXT_BYTES: usize = 8192;
+
+/// The most operands that are pending in a very long text.
+const VERY_LONG_TEXT_OPERANDS: usize = VERY_LONG_TEXT_BYTES / 2;
+
+/// The most operands that are pending in a line.
+const LINE_OPERANDS: usize = LINE_BYTES / 2;
+
+impl Keeper for Scope<'_> {
+    ghost use Rattle.ud_cond.specs.declared.expressions.values.Value.{Value};
+    ghost use Rattle.ud_cond.specs.expressions.Evaluation.{value_meaning_in, value_keeping};
+
+    type Part = PackedValue;
+
+    type Notes = ();
+
+    ghost Meant = { Value };
+
+    ghost meaning = { value_meaning_in };
+
+    ghost keeping = { value_keeping };
+
+    fn note(&self, _notes: &mut ()) {}
+
+    fn constant(&self, word: &[u8], _notes: &mut ()) -> PackedValue {
+        let mut value = NO_VALUE;
+        constant(word, &mut value);
+        PackedValue::of(value)
+    }
+
+    fn named(&self, name: &[u8], arguments: bool, _notes: &mut ()) -> PackedValue {
+        let mut value = NO_VALUE;
+        named(self, name, arguments, &mut value);
+        PackedValue::of(value)
+    }
+
+    fn asked(&self, name: &[u8], _enclosed: bool, _notes: &mut ()) -> PackedValue {
+        let mut value = NO_VALUE;
+        defined(self, name, &mut value);
+        PackedValue::of(value)
+    }
+
+    fn unary(&self, operator: Operator, operand: PackedValue, _notes: &mut ()) -> PackedValue {
+        PackedValue::of(unary(self, operator, operand.value()))
+    }
+
+    fn binary(
+        &self,
+        operator: Operator,
+        first: PackedValue,
+        second: PackedValue,
+        _notes: &mut (),
+    ) -> PackedValue {
+        PackedValue::of(binary(self, operator, first.value(), second.value()))
+    }
+
+    fn parens(&self, inside: PackedValue, _notes: &mut ()) -> PackedValue {
+        inside
+    }
+}
+
+/// Evaluates a text of at most `BYTES` bytes. Returns `None` if the text isn't one expression.
+#[inline(never)]
+fn evaluate_with_stacks<const BYTES: usize, const OPERANDS: usize>(
+    scope: &Scope<'_>,
+    text: &[u8],
+) -> Option<Value>
+    requires fits { length text.now ≤ BYTES }
+    requires stacks { Suffice BYTES OPERANDS }
+    ensures { result ≡ spec.reads (value_meaning_in scope.now) (spec.needs []) text.now }
+{
+    let mut stacks = Stacks::<PackedValue, BYTES, OPERANDS>::new();
+    let value = read(scope, &mut stacks, &mut (), text)?;
+    Some(value.value())
+}
+
+/// Evaluates a text. Returns `None` if the text isn't one expression.
+#[inline(never)]
+pub(crate) fn evaluate(scope: &Scope<'_>, text: &[u8]) -> Option<Value>
+    requires fits { length text.now ≤ LINE_BYTES }
+    ensures { result ≡ spec.reads (value_meaning_in scope.now) (spec.needs []) text.now }
+{
+    match text.len() {
+        0..=TINY_TEXT_BYTES => evaluate_with_stacks::<TINY_TEXT_BYTES, TINY_TEXT_OPERANDS>(
+            scope, text,
+        ),
+        0..=SHORT_TEXT_BYTES => evaluate_with_stacks::<SHORT_TEXT_BYTES, SHORT_TEXT_OPERANDS>(
+            scope, text,
+        ),
+        0..=MEDIUM_TEXT_BYTES => evaluate_with_stacks::<MEDIUM_TEXT_BYTES, MEDIUM_TEXT_OPERANDS>(
+            scope, text,
+        ),
+        0..=LONG_TEXT_BYTES => evaluate_with_stacks::<LONG_TEXT_BYTES, LONG_TEXT_OPERANDS>(
+            scope, text,
+        ),
+        0..=VERY_LONG_TEXT_BYTES => evaluate_with_stacks::<
+            VERY_LONG_TEXT_BYTES,
+            VERY_LONG_TEXT_OPERANDS,
+        >(scope, text),
+        _ => evaluate_with_stacks::<LINE_BYTES, LINE_OPERANDS>(scope, text),
+    }
+}
