@@ -7,7 +7,5 @@ pub mod NamedLemmas
 pub mod EvaluationLemmas
 pub mod DigitLemmas
 pub mod ResidualLemmas
-pub mod ReduceLemmas
-pub mod StateLemmas
 pub mod KeepingLemmas
 pub mod KeptLemmas

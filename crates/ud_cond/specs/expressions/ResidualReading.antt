@@ -6,11 +6,8 @@
 --   Kept                         the value, the residual's condition and the flags of a part
 --   kept_meaning table rules     the record `Kept` of each part of an expression
 --   kept_of_tree table rules e   the record `Kept` of a tree
---   flags_in s                   the flags of the tokens that are pending in the frames `s`
 --   part_of k n                  the program's part for `k`, whose flags begin at `n`
---   parts_of s                   the frames `s` with such parts
---   IsAt ps x flags (k, s)       the program has the part `k` after the frames `s`
---   Represents st ps flags q     the program is in the state `q`
+--   kept_keeping                 how a program keeps such parts
 use Rattle.std.specs.Prelude.{◌≡◌, ℕ, ◌+◌, suc, List, [], ◌∷◌, ◌++◌, length, replicate, Option}
 use Rattle.std.specs.Prelude.{Some, Bool, true, false, not, ◌&&◌, if◌then◌else◌, ℤ}
 use Rattle.ud_model.specs.conditions.Table.{Argument}
@@ -19,16 +16,13 @@ use Rattle.ud_model.specs.conditions.Conditions.{Rules, negate}
 use Rattle.ud_model.specs.conditions.Values.{name_value, apply_unary, apply_binary, number_of}
 use Rattle.ud_model.specs.conditions.Residuals.{is_unit, settled, stands_alone, residual}
 use Rattle.ud_model.specs.conditions.ResidualTexts.{keeps}
-use Rattle.ud_model.specs.aids.Parsing.{Meaning, Frame, left, before, paren, ParseState, needs, has}
-use Rattle.ud_model.specs.aids.Parsing.{asks, asks_inside, asks_end, step, finish}
-use Rattle.ud_model.specs.conditions.Tokens.{Token}
+use Rattle.ud_model.specs.aids.Parsing.{Meaning, needs, reads}
 use Rattle.ud_model.specs.declared.cond.Cond.{Cond}
 use Rattle.ud_model.specs.declared.operator.Operator.{Operator}
 use Rattle.ud_model.specs.declared.operator.Operator.TheVariants.{Or, And, Not}
 use Rattle.ud_cond.specs.declared.expressions.values.Value.{Value}
 use Rattle.ud_cond.specs.declared.expressions.parts.Part.{Part}
-use Rattle.ud_cond.specs.declared.expressions.residuals.State.{State}
-use Rattle.ud_cond.specs.declared.expressions.residuals.State.TheVariants as is
+use Rattle.ud_cond.specs.expressions.Keepings.{Keeping}
 use Rattle.ud_cond.specs.expressions.Evaluation.{constant_value_of, name_value_of}
 use Rattle.ud_cond.specs.expressions.Evaluation.{defined_value_of, unary_value_of, binary_value_of}
 use Rattle.ud_cond.specs.expressions.Evaluation.{value_of_tree, cond_of_value}
@@ -151,13 +145,6 @@ module _ (table : List Argument) (rules : Rules) where
     flags = keeps table rules e;
   }
 
--- `flags_in s`: the flags of the tokens that are pending in the frames `s`, from the outermost one
-abbrev pub flags_in : List (Frame Kept) → List Bool
-flags_in [] = []
-flags_in (left o a ∷ s) = flags_in s ++ a.flags ++ true ∷ []
-flags_in (before o ∷ s) = flags_in s ++ true ∷ []
-flags_in (paren ∷ s) = flags_in s ++ true ∷ []
-
 -- `part_of k n`: the part `k`, whose flags begin at `n`
 abbrev pub part_of : Kept → ℕ → Part
 part_of k n = record {
@@ -170,45 +157,12 @@ part_of k n = record {
   first = n;
 }
 
--- `parts_of s`: the frames `s` with such parts
-abbrev pub parts_of : List (Frame Kept) → List (Frame Part)
-parts_of [] = []
-parts_of (left o a ∷ s) = left o (part_of a (length (flags_in s))) ∷ parts_of s
-parts_of (before o ∷ s) = before o ∷ parts_of s
-parts_of (paren ∷ s) = paren ∷ parts_of s
+-- `kept_keeping`: a program keeps such parts, and notes the flags
+abbrev pub kept_keeping : Keeping Kept Part (List Bool)
+kept_keeping = record { part = part_of; flags = λ k. k.flags; notes = λ fs. Some fs }
 
--- `IsAt ps x flags (k, s)`: the program has the part `k` after the frames `s`
-abbrev pub IsAt : List (Frame Part) → Part → List Bool → Kept × List (Frame Kept) → Type 0
-IsAt ps x flags (k, s) = (ps ≡ parts_of s) × (flags ≡ flags_in s ++ k.flags) ×
-    (x ≡ part_of k (length (flags_in s)))
-
--- `Represents st ps flags q`: with the state `st`, the frames `ps` and the flags so far, the
--- program is in the state `q`
-abbrev pub Represents : State → List (Frame Part) → List Bool → ParseState Kept → Type 0
-Represents is.Needs ps flags (needs s) = (ps ≡ parts_of s) × (flags ≡ flags_in s)
-Represents (is.Has x) ps flags (has k s) = IsAt ps x flags (k, s)
-Represents (is.AfterDefined n) ps flags (asks s) = (ps ≡ parts_of s) ×
-    (flags ≡ flags_in s ++ true ∷ []) × (n ≡ length (flags_in s))
-Represents (is.AfterParen n) ps flags (asks_inside s) = (ps ≡ parts_of s) ×
-    (flags ≡ flags_in s ++ true ∷ true ∷ []) × (n ≡ length (flags_in s))
-Represents (is.AfterName n w) ps flags (asks_end v s) = (ps ≡ parts_of s) ×
-    (flags ≡ flags_in s ++ true ∷ true ∷ true ∷ []) × (n ≡ length (flags_in s)) × (w.now ≡ v)
-Represents _ ps flags _ = ⊥
-
--- `state_weight st`: the least number of bytes of the text that the state takes
-abbrev pub state_weight : State → ℕ
-state_weight is.Needs = 0
-state_weight (is.Has x) = 1
-state_weight (is.AfterDefined n) = 1
-state_weight (is.AfterParen n) = 1
-state_weight (is.AfterName n w) = 1
-
--- `step_kept table rules q t`: the state after one token more
-abbrev pub step_kept : List Argument → Rules → ParseState Kept → Token → ParseState Kept
-step_kept table rules = step (kept_meaning table rules)
-
--- `IsResult table rules q c flags`: the expression that ends in the state `q` has a residual with
--- the condition `c` and these flags
-abbrev pub IsResult : List Argument → Rules → ParseState Kept → Cond → List Bool → Type 0
-IsResult table rules q c flags = (k : Kept) × (finish (kept_meaning table rules) q ≡ Some k) ×
-    (k.cond ≡ c) × (flags ≡ k.flags)
+-- `IsResult table rules text c flags`: the text is an expression, and has a residual with the
+-- condition `c` and these flags
+abbrev pub IsResult : List Argument → Rules → List ℕ → Cond → List Bool → Type 0
+IsResult table rules text c flags = (k : Kept) ×
+    (reads (kept_meaning table rules) (needs []) text ≡ Some k) × (k.cond ≡ c) × (flags ≡ k.flags)

@@ -1,14 +1,11 @@
 //! The parts of an expression of which the residual is read.
 
-ghost use Rattle.std.specs.Prelude.{◌≡◌, [], List, Bool, Some};
-ghost use Rattle.ud_model.specs.conditions.Table.{Argument};
+ghost use Rattle.std.specs.Prelude.{◌≡◌, []};
 ghost use Rattle.ud_cond.specs.CondViews.{as_rules};
-ghost use Rattle.ud_cond.specs.expressions.ResidualReading as spec;
-ghost use Rattle.ud_cond.specs.expressions.ResidualReading.{part_of, leaf, kept_meaning};
+ghost use Rattle.ud_cond.specs.expressions.ResidualReading.{part_of, leaf};
 
 use crate::conditions::{Rules, cond_of_value};
-use crate::expressions::values::{NO_VALUE, Scope, Value, constant, defined, named};
-use crate::symbols::Symbols;
+use crate::expressions::values::{NO_VALUE, Value};
 use ud_model::Cond;
 
 /// A part of an expression, whose tokens have flags side by side.
@@ -46,19 +43,6 @@ impl Default for Part {
     }
 }
 
-/// Returns the scope of an expression, with a `u` or without.
-fn scope(symbols: &Symbols, rules: Rules, unsigned: bool) -> Scope<'_>
-    ensures symbols { result.symbols ≡ Some symbols.entry }
-    ensures strict { result.strict ≡ rules.strict }
-    ensures unsigned { result.unsigned ≡ unsigned }
-{
-    Scope {
-        symbols: Some(symbols),
-        strict: rules.strict,
-        unsigned,
-    }
-}
-
 /// Returns an operand of its own.
 pub(crate) fn leaf_part(
     rules: Rules,
@@ -83,42 +67,4 @@ pub(crate) fn leaf_part(
         alone,
         first,
     }
-}
-
-/// Returns the part of a constant.
-pub(crate) fn constant_part(rules: Rules, word: &[u8], first: usize) -> Part
-    ensures { (table : List Argument) →
-        result ≡ part_of ((kept_meaning table (as_rules rules)).constant word.now) first }
-{
-    let mut value = NO_VALUE;
-    constant(word, &mut value);
-    leaf_part(rules, value, value.number, false, first)
-}
-
-/// Returns the part of a name with or without arguments.
-pub(crate) fn named_part(
-    symbols: &Symbols,
-    rules: Rules,
-    name: &[u8],
-    arguments: bool,
-    first: usize,
-) -> Part
-    ensures { result ≡
-        part_of ((kept_meaning symbols.now (as_rules rules)).named name.now arguments) first }
-{
-    let mut value = NO_VALUE;
-    named(&scope(symbols, rules, false), name, arguments, &mut value);
-    let mut other = NO_VALUE;
-    named(&scope(symbols, rules, true), name, arguments, &mut other);
-    leaf_part(rules, value, other.number, false, first)
-}
-
-/// Returns the part of a `defined` and a name.
-pub(crate) fn defined_part(symbols: &Symbols, rules: Rules, name: &[u8], first: usize) -> Part
-    ensures { (p : Bool) → result ≡
-        part_of ((kept_meaning symbols.now (as_rules rules)).is_defined name.now p) first }
-{
-    let mut value = NO_VALUE;
-    defined(&scope(symbols, rules, false), name, &mut value);
-    leaf_part(rules, value, value.number, true, first)
 }

@@ -4,7 +4,7 @@ use Rattle.ud_model.specs.conditions.Residuals.{Residual}
 use Rattle.ud_model.proofs.conditions.ResidualSame.{residual_same, keeps_same}
 use Rattle.ud_cond.specs.CondViews.{as_rules}
 use Rattle.ud_cond.specs.expressions.ResidualReading.{Kept, kept_of_tree}
-use Rattle.ud_cond.proofs.lemmas.expressions.StateLemmas.{if_some, if_none}
+use Rattle.ud_cond.proofs.lemmas.expressions.KeepingLemmas.{if_some, if_none}
 use Rattle.ud_cond.proofs.lemmas.expressions.KeptLemmas.{reads_kept, tree_of, no_tree}
 use Rattle.ud_cond.proofs.expressions.residuals.residual.Goals as goal
 

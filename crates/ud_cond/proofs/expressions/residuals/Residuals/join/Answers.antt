@@ -2,7 +2,7 @@ use Rattle.std.proofs.Common.{◌≡◌, ℕ, ◌+◌, suc, List, [], ◌∷◌,
 use Rattle.ud_cond.specs.declared.expressions.parts.Part.{Part}
 use Rattle.ud_cond.specs.CondViews.{as_rules}
 use Rattle.ud_cond.proofs.lemmas.expressions.ResidualLemmas.{join_right, join_left, flags_right, flags_left, with_operator, to_end}
-use Rattle.ud_cond.proofs.expressions.residuals.join.Goals as goal
+use Rattle.ud_cond.proofs.expressions.residuals.Residuals.join.Goals as goal
 
 pub returns-then-is_unit-clause-kept : goal.returns-then-is_unit-clause-kept
 returns-then-is_unit-clause-kept c = λ k j front e g f.
@@ -10,10 +10,10 @@ returns-then-is_unit-clause-kept c = λ k j front e g f.
     let n : c.args.a.first ≡ length front = ap (λ (p : Part). p.first) e in
     let q : c.args.b.first ≡ length front + (length k.flags + 1) = ap (λ (p : Part). p.first) g in
     let long : length (k.flags ++ true ∷ []) ≡ length k.flags + 1 = length-append k.flags (true ∷ []) in (
-      join_right (as_rules c.args.rules) c.args.operator k j _ _ c.args.a c.args.b _ _ e g c.binary_value.ensures c.apply_binary.ensures h,
+      join_right (as_rules c.args.self.now.rules) c.args.operator k j _ _ c.args.a c.args.b _ _ e g c.binary_value.ensures c.apply_binary.ensures h,
       c.fill.ensures.filled front (k.flags ++ true ∷ []) j.flags (with_operator _ front k.flags j.flags f) n (q ∙ ap (λ (m : ℕ). length front + m) (sym long))
           ∙ ap (λ (m : ℕ). front ++ replicate m false ++ j.flags) long ∙ append_assoc front (replicate (length k.flags + 1) false) j.flags
-          ∙ ap (λ (xs : List Bool). front ++ xs) (flags_right (as_rules c.args.rules) c.args.operator k j _ _ c.args.a c.args.b _ _ e g c.binary_value.ensures c.apply_binary.ensures h),
+          ∙ ap (λ (xs : List Bool). front ++ xs) (flags_right (as_rules c.args.self.now.rules) c.args.operator k j _ _ c.args.a c.args.b _ _ e g c.binary_value.ensures c.apply_binary.ensures h),
     )
 
 pub returns-then-is_unit-2-clause-kept : goal.returns-then-is_unit-2-clause-kept
@@ -25,9 +25,9 @@ returns-then-is_unit-2-clause-kept c = λ k j front e g f.
     let start : c.saturating_sub.result ≡ length (front ++ k.flags) = omega (arith, q, long, c.saturating_sub.ensures) in
     let whole : length c.args.flags.now ≡ length (front ++ k.flags) + length (true ∷ j.flags) =
     ap (λ (xs : List Bool). length xs) f ∙ length-append (front ++ k.flags) (true ∷ j.flags) in (
-      join_left (as_rules c.args.rules) c.args.operator k j _ _ c.args.a c.args.b _ _ e g c.binary_value.ensures c.apply_binary.ensures h i,
+      join_left (as_rules c.args.self.now.rules) c.args.operator k j _ _ c.args.a c.args.b _ _ e g c.binary_value.ensures c.apply_binary.ensures h i,
       c.fill-then-is_unit-2.ensures.filled (front ++ k.flags) (true ∷ j.flags) [] (to_end _ (front ++ k.flags) (true ∷ j.flags) f) start (c.len.ensures ∙ whole)
           ∙ append-nil ((front ++ k.flags) ++ replicate (suc (length j.flags)) false)
           ∙ append_assoc front k.flags (replicate (suc (length j.flags)) false)
-          ∙ ap (λ (xs : List Bool). front ++ xs) (flags_left (as_rules c.args.rules) c.args.operator k j _ _ c.args.a c.args.b _ _ e g c.binary_value.ensures c.apply_binary.ensures h i),
+          ∙ ap (λ (xs : List Bool). front ++ xs) (flags_left (as_rules c.args.self.now.rules) c.args.operator k j _ _ c.args.a c.args.b _ _ e g c.binary_value.ensures c.apply_binary.ensures h i),
     )

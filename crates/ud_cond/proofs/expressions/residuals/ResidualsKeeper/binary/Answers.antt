@@ -5,18 +5,18 @@ use Rattle.ud_cond.specs.CondViews.{as_rules}
 use Rattle.ud_cond.specs.expressions.Evaluation.{binary_value_of}
 use Rattle.ud_cond.specs.expressions.ResidualReading.{Kept, part_of}
 use Rattle.ud_cond.proofs.lemmas.expressions.ResidualLemmas.{other_binary, joining_binary, leaf_same, to_end}
-use Rattle.ud_cond.proofs.expressions.residuals.apply_operator.Goals as goal
+use Rattle.ud_cond.proofs.expressions.residuals.ResidualsKeeper.binary.Goals as goal
 
 pub returns-then-is_joining-clause-kept : goal.returns-then-is_joining-clause-kept
 returns-then-is_joining-clause-kept c = λ k j front e g f.
-    let r = as_rules c.args.rules in
+    let r = as_rules c.args.self.now.rules in
     let h = joining_binary r c.args.operator k j (sym c.is_joining.ensures ∙ c.if-is_joining.true) in
     let w = c.join.ensures.kept k j front e g f in
     (w.0 ∙ ap (λ (x : Kept). part_of x (length front)) (sym h), w.1 ∙ ap (λ (x : Kept). front ++ x.flags) (sym h))
 
 pub returns-clause-kept : goal.returns-clause-kept
 returns-clause-kept c = λ k j front e g f.
-    let r = as_rules c.args.rules in
+    let r = as_rules c.args.self.now.rules in
     let h = other_binary r c.args.operator k j (sym c.is_joining.ensures ∙ c.if-is_joining.false) in
     let n : c.args.a.first ≡ length front = ap (λ (p : Part). p.first) e in
     let grouped : c.args.flags.now ≡ front ++ (k.flags ++ true ∷ j.flags) = f ∙ append_assoc front k.flags (true ∷ j.flags) in

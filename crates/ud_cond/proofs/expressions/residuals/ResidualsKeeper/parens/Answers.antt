@@ -1,7 +1,7 @@
 use Rattle.std.proofs.Common.{◌≡◌, ℕ, ◌+◌, List, [], ◌∷◌, ◌++◌, length, Bool, true, not, ◌&&◌, ◌∙◌, ap, ap₂, append_assoc, arith}
 use Rattle.ud_cond.specs.declared.expressions.parts.Part.{Part}
 use Rattle.ud_cond.proofs.lemmas.expressions.ResidualLemmas.{one_apart}
-use Rattle.ud_cond.proofs.expressions.residuals.enclose.Goals as goal
+use Rattle.ud_cond.proofs.expressions.residuals.ResidualsKeeper.parens.Goals as goal
 
 pub returns-clause-kept : goal.returns-clause-kept
 returns-clause-kept c = λ k front e f.
