@@ -8,7 +8,7 @@
 --   kept_of_tree table rules e   the record `Kept` of a tree
 --   part_of k n                  the program's part for `k`, whose flags begin at `n`
 --   kept_keeping                 how a program keeps such parts
-use Rattle.std.specs.Prelude.{◌≡◌, ℕ, ◌+◌, suc, List, [], ◌∷◌, ◌++◌, length, replicate, Option}
+use Rattle.std.specs.Prelude.{ℕ, ◌+◌, suc, List, [], ◌∷◌, ◌++◌, length, replicate, Option}
 use Rattle.std.specs.Prelude.{Some, Bool, true, false, not, ◌&&◌, if◌then◌else◌, ℤ}
 use Rattle.ud_model.specs.conditions.Table.{Argument}
 use Rattle.ud_model.specs.conditions.Expressions.{Expression}
@@ -16,12 +16,14 @@ use Rattle.ud_model.specs.conditions.Conditions.{Rules, negate}
 use Rattle.ud_model.specs.conditions.Values.{name_value, apply_unary, apply_binary, number_of}
 use Rattle.ud_model.specs.conditions.Residuals.{is_unit, settled, stands_alone, residual}
 use Rattle.ud_model.specs.conditions.ResidualTexts.{keeps}
-use Rattle.ud_model.specs.aids.Parsing.{Meaning, needs, reads}
+use Rattle.ud_model.specs.aids.Parsing.{Meaning}
 use Rattle.ud_model.specs.declared.cond.Cond.{Cond}
 use Rattle.ud_model.specs.declared.operator.Operator.{Operator}
 use Rattle.ud_model.specs.declared.operator.Operator.TheVariants.{Or, And, Not}
 use Rattle.ud_cond.specs.declared.expressions.values.Value.{Value}
 use Rattle.ud_cond.specs.declared.expressions.parts.Part.{Part}
+use Rattle.ud_cond.specs.declared.expressions.residuals.Residuals.{Residuals}
+use Rattle.ud_cond.specs.CondViews.{as_rules}
 use Rattle.ud_cond.specs.expressions.Keepings.{Keeping}
 use Rattle.ud_cond.specs.expressions.Evaluation.{constant_value_of, name_value_of}
 use Rattle.ud_cond.specs.expressions.Evaluation.{defined_value_of, unary_value_of, binary_value_of}
@@ -145,6 +147,10 @@ module _ (table : List Argument) (rules : Rules) where
     flags = keeps table rules e;
   }
 
+-- `kept_meaning_of r`: the record of each part, by the table and the rules of `r`
+abbrev pub kept_meaning_of : Residuals → Meaning Kept
+kept_meaning_of r = kept_meaning r.symbols.now (as_rules r.rules)
+
 -- `part_of k n`: the part `k`, whose flags begin at `n`
 abbrev pub part_of : Kept → ℕ → Part
 part_of k n = record {
@@ -160,9 +166,3 @@ part_of k n = record {
 -- `kept_keeping`: a program keeps such parts, and notes the flags
 abbrev pub kept_keeping : Keeping Kept Part (List Bool)
 kept_keeping = record { part = part_of; flags = λ k. k.flags; notes = λ fs. Some fs }
-
--- `IsResult table rules text c flags`: the text is an expression, and has a residual with the
--- condition `c` and these flags
-abbrev pub IsResult : List Argument → Rules → List ℕ → Cond → List Bool → Type 0
-IsResult table rules text c flags = (k : Kept) ×
-    (reads (kept_meaning table rules) (needs []) text ≡ Some k) × (k.cond ≡ c) × (flags ≡ k.flags)

@@ -9,42 +9,13 @@ ghost use Rattle.ud_cond.specs.expressions.Evaluation.{value_meaning_in};
 use crate::expressions::keeper::Keeper;
 use crate::expressions::packed_value::PackedValue;
 use crate::expressions::reader::read;
-use crate::expressions::stacks::Stacks;
+use crate::expressions::stacks::{
+    LINE_OPERANDS, LONG_TEXT_BYTES, LONG_TEXT_OPERANDS, MEDIUM_TEXT_BYTES, MEDIUM_TEXT_OPERANDS,
+    SHORT_TEXT_BYTES, SHORT_TEXT_OPERANDS, Stacks, TINY_TEXT_BYTES, TINY_TEXT_OPERANDS,
+    VERY_LONG_TEXT_BYTES, VERY_LONG_TEXT_OPERANDS,
+};
 use crate::expressions::values::{NO_VALUE, Scope, Value, binary, constant, defined, named, unary};
 use ud_model::{LINE_BYTES, Operator};
-
-/// The most bytes of a tiny text.
-const TINY_TEXT_BYTES: usize = 32;
-
-/// The most operands that are pending in a tiny text.
-const TINY_TEXT_OPERANDS: usize = TINY_TEXT_BYTES / 2;
-
-/// The most bytes of a short text.
-const SHORT_TEXT_BYTES: usize = 64;
-
-/// The most operands that are pending in a short text.
-const SHORT_TEXT_OPERANDS: usize = SHORT_TEXT_BYTES / 2;
-
-/// The most bytes of a text of medium length.
-const MEDIUM_TEXT_BYTES: usize = 128;
-
-/// The most operands that are pending in a text of medium length.
-const MEDIUM_TEXT_OPERANDS: usize = MEDIUM_TEXT_BYTES / 2;
-
-/// The most bytes of a long text.
-const LONG_TEXT_BYTES: usize = 1024;
-
-/// The most operands that are pending in a long text.
-const LONG_TEXT_OPERANDS: usize = LONG_TEXT_BYTES / 2;
-
-/// The most bytes of a very long text.
-const VERY_LONG_TEXT_BYTES: usize = 8192;
-
-/// The most operands that are pending in a very long text.
-const VERY_LONG_TEXT_OPERANDS: usize = VERY_LONG_TEXT_BYTES / 2;
-
-/// The most operands that are pending in a line.
-const LINE_OPERANDS: usize = LINE_BYTES / 2;
 
 impl Keeper for Scope<'_> {
     ghost use Rattle.ud_cond.specs.declared.expressions.values.Value.{Value};

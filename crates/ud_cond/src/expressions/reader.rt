@@ -3,8 +3,7 @@
 //! No tree is built and no memory is taken. `ud_model.specs.aids.Parsing` defines what a text
 //! means in a state. A state is the stacks, which are what is pending in it, and an operand, if
 //! one has come. The reader knows operands by its keeper alone, and `specs.expressions.Keepings`
-//! defines which state it is in. A stack for the longest line is costly to clear, so a short text
-//! is read with short stacks.
+//! defines which state it is in.
 
 ghost use Rattle.std.specs.Prelude.{◌≡◌, ◌≤◌, ◌<◌, ◌+◌, List, [], length, option_map};
 ghost use Rattle.std.specs.Prelude.{None, IfSome, IfNone};

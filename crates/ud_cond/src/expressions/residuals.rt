@@ -17,43 +17,25 @@ ghost use Rattle.ud_cond.specs.CondViews.{as_rules};
 ghost use Rattle.ud_cond.specs.symbols.SymbolTable.{TableRepresents};
 ghost use Rattle.ud_cond.specs.expressions.Stacks.{Suffice};
 ghost use Rattle.ud_cond.specs.expressions.Evaluation.{binary_value_of};
-ghost use Rattle.ud_cond.specs.expressions.Keepings.{TakesTwo};
+ghost use Rattle.ud_cond.specs.expressions.Keepings.{TakesTwo, IsMeant};
 ghost use Rattle.ud_cond.specs.expressions.ResidualReading as spec;
-ghost use Rattle.ud_cond.specs.expressions.ResidualReading.{kept_meaning, kept_keeping};
-ghost use Rattle.ud_cond.specs.expressions.ResidualReading.{joined_kept, IsResult};
+ghost use Rattle.ud_cond.specs.expressions.ResidualReading.{kept_keeping};
+ghost use Rattle.ud_cond.specs.expressions.ResidualReading.{joined_kept, kept_meaning_of};
 
 use crate::conditions::{Rules, negate};
 use crate::expressions::keeper::Keeper;
 use crate::expressions::parts::{Part, leaf_part};
 use crate::expressions::reader::read;
-use crate::expressions::stacks::Stacks;
+use crate::expressions::stacks::{
+    LINE_OPERANDS, LONG_TEXT_BYTES, LONG_TEXT_OPERANDS, MEDIUM_TEXT_BYTES, MEDIUM_TEXT_OPERANDS,
+    Stacks, VERY_LONG_TEXT_BYTES, VERY_LONG_TEXT_OPERANDS,
+};
 use crate::expressions::values::{
     NO_VALUE, Scope, Value, apply_binary, apply_unary, binary, constant, defined, named, unary,
 };
 use crate::symbols::Symbols;
 use crate::token_flags::TokenFlags;
 use ud_model::{Cond, LINE_BYTES, Operator};
-
-/// The most bytes of a short text.
-const SHORT_TEXT_BYTES: usize = 128;
-
-/// The most operands that are pending in a short text.
-const SHORT_TEXT_OPERANDS: usize = SHORT_TEXT_BYTES / 2;
-
-/// The most bytes of a long text.
-const LONG_TEXT_BYTES: usize = 2048;
-
-/// The most operands that are pending in a long text.
-const LONG_TEXT_OPERANDS: usize = LONG_TEXT_BYTES / 2;
-
-/// The most bytes of a very long text.
-const VERY_LONG_TEXT_BYTES: usize = 8192;
-
-/// The most operands that are pending in a very long text.
-const VERY_LONG_TEXT_OPERANDS: usize = VERY_LONG_TEXT_BYTES / 2;
-
-/// The most operands that are pending in a line.
-const LINE_OPERANDS: usize = LINE_BYTES / 2;
 
 /// Returns whether beside an operand with this condition the other one decides.
 fn is_unit(operator: Operator, cond: Cond) -> bool
@@ -181,8 +163,8 @@ impl Residuals<'_> {
 }
 
 impl Keeper for Residuals<'_> {
-    ghost use Rattle.ud_cond.specs.CondViews.{as_rules};
-    ghost use Rattle.ud_cond.specs.expressions.ResidualReading.{Kept, kept_meaning, kept_keeping};
+    ghost use Rattle.ud_cond.specs.expressions.ResidualReading.{Kept, kept_meaning_of};
+    ghost use Rattle.ud_cond.specs.expressions.ResidualReading.{kept_keeping};
 
     type Part = Part;
 
@@ -190,7 +172,7 @@ impl Keeper for Residuals<'_> {
 
     ghost Meant = { Kept };
 
-    ghost meaning = { λ r. kept_meaning r.symbols.now (as_rules r.rules) };
+    ghost meaning = { kept_meaning_of };
 
     ghost keeping = { kept_keeping };
 
@@ -278,31 +260,30 @@ fn read_with_stacks<const BYTES: usize, const OPERANDS: usize>(
     residuals: &Residuals<'_>,
     text: &[u8],
     flags: &mut TokenFlags,
-) -> Option<Cond>
+) -> Option<Part>
     requires fits { length text.now ≤ BYTES }
     requires stacks { Suffice BYTES OPERANDS }
     requires fresh { flags.old ≡ [] }
-    ensures some { IfSome result (λ r. IsResult residuals.now.symbols.now
-        (as_rules residuals.now.rules) text.now r flags.new) }
-    ensures none { IfNone result (reads (kept_meaning residuals.now.symbols.now
-        (as_rules residuals.now.rules)) (needs []) text.now ≡ None) }
+    ensures some { IfSome result (λ r. IsMeant kept_keeping (reads (kept_meaning_of residuals.now)
+        (needs []) text.now) r flags.new) }
+    ensures none { IfNone result
+        (reads (kept_meaning_of residuals.now) (needs []) text.now ≡ None) }
 {
     let mut stacks = Stacks::<Part, BYTES, OPERANDS>::new();
-    let whole = read(residuals, &mut stacks, flags, text)?;
-    Some(whole.cond)
+    read(residuals, &mut stacks, flags, text)
 }
 
 /// Reads a text of at most `LINE_BYTES`. Returns `None` if the text isn't one expression.
-fn read_text(residuals: &Residuals<'_>, text: &[u8], flags: &mut TokenFlags) -> Option<Cond>
+fn read_text(residuals: &Residuals<'_>, text: &[u8], flags: &mut TokenFlags) -> Option<Part>
     requires fits { length text.now ≤ LINE_BYTES }
     requires fresh { flags.old ≡ [] }
-    ensures some { IfSome result (λ r. IsResult residuals.now.symbols.now
-        (as_rules residuals.now.rules) text.now r flags.new) }
-    ensures none { IfNone result (reads (kept_meaning residuals.now.symbols.now
-        (as_rules residuals.now.rules)) (needs []) text.now ≡ None) }
+    ensures some { IfSome result (λ r. IsMeant kept_keeping (reads (kept_meaning_of residuals.now)
+        (needs []) text.now) r flags.new) }
+    ensures none { IfNone result
+        (reads (kept_meaning_of residuals.now) (needs []) text.now ≡ None) }
 {
     match text.len() {
-        0..=SHORT_TEXT_BYTES => read_with_stacks::<SHORT_TEXT_BYTES, SHORT_TEXT_OPERANDS>(
+        0..=MEDIUM_TEXT_BYTES => read_with_stacks::<MEDIUM_TEXT_BYTES, MEDIUM_TEXT_OPERANDS>(
             residuals, text, flags,
         ),
         0..=LONG_TEXT_BYTES => read_with_stacks::<LONG_TEXT_BYTES, LONG_TEXT_OPERANDS>(
@@ -343,5 +324,6 @@ pub fn residual(
     ensures none { IfNone result (parsing.expression_of text.now ≡ None) }
 {
     flags.clear();
-    read_text(&Residuals { symbols, rules }, text, flags)
+    let whole = read_text(&Residuals { symbols, rules }, text, flags)?;
+    Some(whole.cond)
 }

@@ -2,7 +2,8 @@
 //!
 //! Each pending parenthesis and prefix operator has a byte of the text, and each left operand
 //! with its operator has two. So it suffices to have as many operators as the text has bytes,
-//! and half as many operands.
+//! and half as many operands. Stacks for the longest line are costly to clear, so a short text has
+//! short ones.
 
 ghost use Rattle.std.specs.Prelude.{◌≡◌, ◌≤◌, ◌+◌, ◌∷◌, [], IfSome, IfNone, IsTrue, false};
 ghost use Rattle.ud_model.specs.aids.Parsing.{left, before, paren};
@@ -12,7 +13,40 @@ ghost use Rattle.ud_cond.specs.expressions.Stacks.{weight};
 use crate::expressions::operators::precedence;
 use arrayvec::ArrayVec;
 use std::marker::Model;
-use ud_model::Operator;
+use ud_model::{LINE_BYTES, Operator};
+
+/// The most bytes of a tiny text.
+pub(crate) const TINY_TEXT_BYTES: usize = 32;
+
+/// The most operands that are pending in a tiny text.
+pub(crate) const TINY_TEXT_OPERANDS: usize = TINY_TEXT_BYTES / 2;
+
+/// The most bytes of a short text.
+pub(crate) const SHORT_TEXT_BYTES: usize = 64;
+
+/// The most operands that are pending in a short text.
+pub(crate) const SHORT_TEXT_OPERANDS: usize = SHORT_TEXT_BYTES / 2;
+
+/// The most bytes of a text of medium length.
+pub(crate) const MEDIUM_TEXT_BYTES: usize = 128;
+
+/// The most operands that are pending in a text of medium length.
+pub(crate) const MEDIUM_TEXT_OPERANDS: usize = MEDIUM_TEXT_BYTES / 2;
+
+/// The most bytes of a long text.
+pub(crate) const LONG_TEXT_BYTES: usize = 1024;
+
+/// The most operands that are pending in a long text.
+pub(crate) const LONG_TEXT_OPERANDS: usize = LONG_TEXT_BYTES / 2;
+
+/// The most bytes of a very long text.
+pub(crate) const VERY_LONG_TEXT_BYTES: usize = 8192;
+
+/// The most operands that are pending in a very long text.
+pub(crate) const VERY_LONG_TEXT_OPERANDS: usize = VERY_LONG_TEXT_BYTES / 2;
+
+/// The most operands that are pending in a line.
+pub(crate) const LINE_OPERANDS: usize = LINE_BYTES / 2;
 
 /// An entry of the operator stack.
 #[derive(Clone, Copy)]
