@@ -151,6 +151,11 @@ module _ (table : List Argument) (rules : Rules) where
 abbrev pub kept_meaning_of : Residuals → Meaning Kept
 kept_meaning_of r = kept_meaning r.symbols.now (as_rules r.rules)
 
+-- `are_all_kept fs`: the residual has each of the tokens with the flags `fs`
+abbrev pub are_all_kept : List Bool → Bool
+are_all_kept [] = true
+are_all_kept (f ∷ fs) = f && are_all_kept fs
+
 -- `part_of k n`: the part `k`, whose flags begin at `n`
 abbrev pub part_of : Kept → ℕ → Part
 part_of k n = record {
@@ -160,6 +165,7 @@ part_of k n = record {
   lost = k.lost;
   left_alone = k.left_alone;
   alone = k.alone;
+  whole = are_all_kept k.flags;
   first = n;
 }
 

@@ -23,6 +23,8 @@ pub(crate) struct Part {
     pub(crate) left_alone: bool,
     /// `true` if the part needs no parentheses.
     pub(crate) alone: bool,
+    /// `true` if the residual has each token of the part.
+    pub(crate) whole: bool,
     /// The index of the first flag.
     pub(crate) first: usize,
 }
@@ -38,6 +40,7 @@ impl Default for Part {
             lost: false,
             left_alone: false,
             alone: false,
+            whole: false,
             first: 0,
         }
     }
@@ -65,6 +68,7 @@ pub(crate) fn leaf_part(
         lost: false,
         left_alone: alone,
         alone,
+        whole: true,
         first,
     }
 }

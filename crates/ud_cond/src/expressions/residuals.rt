@@ -1,11 +1,12 @@
 //! The residual of any expression: `reader` reads it, and parts with flags are kept.
 //!
 //! No memory is taken. Each token has a flag: whether the residual has it. The flags of a part lie
-//! side by side, so an operand is removed by one fill. `specs.expressions.ResidualReading` has what
-//! is kept of a part (`Kept`).
+//! side by side, so an operand is removed by one fill. What is kept already isn't filled again, so
+//! the time for a chain of operators other than `&&` and `||` is linear in its length.
+//! `specs.expressions.ResidualReading` has what is kept of a part (`Kept`).
 
 ghost use Rattle.std.specs.Prelude.{◌≡◌, ◌≤◌, ◌<◌, ◌+◌, List, Bool, true, false, ◌&&◌, [], ◌∷◌};
-ghost use Rattle.std.specs.Prelude.{◌++◌, length, Some, None, IfSome, IfNone};
+ghost use Rattle.std.specs.Prelude.{◌++◌, length, replicate, Some, None, IfSome, IfNone};
 ghost use Rattle.ud_model.specs.conditions.Table.{Argument};
 ghost use Rattle.ud_model.specs.conditions.Expressions.{Expression};
 ghost use Rattle.ud_model.specs.conditions.Residuals as residuals;
@@ -21,6 +22,7 @@ ghost use Rattle.ud_cond.specs.expressions.Keepings.{TakesTwo, IsMeant};
 ghost use Rattle.ud_cond.specs.expressions.ResidualReading as spec;
 ghost use Rattle.ud_cond.specs.expressions.ResidualReading.{kept_keeping};
 ghost use Rattle.ud_cond.specs.expressions.ResidualReading.{joined_kept, kept_meaning_of};
+ghost use Rattle.ud_cond.specs.expressions.ResidualReading.{are_all_kept};
 
 use crate::conditions::{Rules, negate};
 use crate::expressions::keeper::Keeper;
@@ -86,11 +88,24 @@ fn settled(strict: bool, operator: Operator, a: Cond, b: Cond) -> Cond
     }
 }
 
-/// Returns whether a part needs no parentheses after an operator of it was removed.
-fn needs_none(a: Part) -> bool
-    ensures { result ≡ (a.lost && a.left_alone) }
+/// Returns whether both hold.
+fn both(a: bool, b: bool) -> bool
+    ensures { result ≡ (a && b) }
 {
-    a.lost && a.left_alone
+    a && b
+}
+
+/// Keeps each token of a part, if not the whole part is kept already.
+fn keep_whole(whole: bool, flags: &mut TokenFlags, start: usize, end: usize)
+    ensures kept { (front middle back : List Bool) → flags.old ≡ front ++ middle ++ back →
+        start ≡ length front → end ≡ length front + length middle →
+        whole ≡ are_all_kept middle →
+        flags.new ≡ front ++ replicate (length middle) true ++ back }
+    ensures long { length flags.new ≡ length flags.old }
+{
+    if !whole {
+        flags.fill(start, end, true);
+    }
 }
 
 /// The keeper of parts with the conditions of their residuals.
@@ -129,13 +144,14 @@ impl Residuals<'_> {
             flags.old result flags.new }
         ensures long { length flags.new ≡ length flags.old }
     {
-        let whole = Part {
+        let joined = Part {
             value: self.binary_value(operator, a.value, b.value),
             number: apply_binary(self.rules.strict, true, operator, a.number, b.number),
             cond: Cond::Unknown,
             lost: true,
             left_alone: false,
             alone: false,
+            whole: false,
             first: a.first,
         };
         if is_unit(operator, a.cond) {
@@ -143,7 +159,7 @@ impl Residuals<'_> {
             return Part {
                 cond: b.cond,
                 left_alone: b.left_alone,
-                ..whole
+                ..joined
             };
         }
         if is_unit(operator, b.cond) {
@@ -151,13 +167,14 @@ impl Residuals<'_> {
             return Part {
                 cond: a.cond,
                 left_alone: a.left_alone,
-                ..whole
+                ..joined
             };
         }
         Part {
             cond: settled(self.rules.strict, operator, a.cond, b.cond),
             lost: false,
-            ..whole
+            whole: both(a.whole, b.whole),
+            ..joined
         }
     }
 }
@@ -223,10 +240,11 @@ impl Keeper for Residuals<'_> {
                 lost: false,
                 left_alone: a.left_alone,
                 alone: a.alone,
+                whole: a.whole,
                 first,
             };
         }
-        flags.fill(first, flags.len(), true);
+        keep_whole(a.whole, flags, first, flags.len());
         leaf_part(self.rules, value, number, a.alone, first)
     }
 
@@ -236,18 +254,20 @@ impl Keeper for Residuals<'_> {
         }
         let value = self.binary_value(operator, a.value, b.value);
         let number = apply_binary(self.rules.strict, true, operator, a.number, b.number);
-        flags.fill(a.first, flags.len(), true);
+        keep_whole(a.whole, flags, a.first, b.first.saturating_sub(1));
+        keep_whole(b.whole, flags, b.first, flags.len());
         leaf_part(self.rules, value, number, false, a.first)
     }
 
     fn parens(&self, a: Part, flags: &mut TokenFlags) -> Part {
         let first = a.first.saturating_sub(1);
-        let stay = !needs_none(a);
+        let stay = !both(a.lost, a.left_alone);
         flags.fill(first, a.first, stay);
         flags.push(stay);
         Part {
             left_alone: true,
             alone: true,
+            whole: both(stay, a.whole),
             first,
             ..a
         }

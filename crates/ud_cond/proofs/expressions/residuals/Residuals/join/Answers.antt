@@ -1,7 +1,7 @@
 use Rattle.std.proofs.Common.{◌≡◌, ℕ, ◌+◌, suc, List, [], ◌∷◌, ◌++◌, length, replicate, Bool, true, false, sym, ◌∙◌, ap, append_assoc, append-nil, length-append, arith}
 use Rattle.ud_cond.specs.declared.expressions.parts.Part.{Part}
 use Rattle.ud_cond.specs.CondViews.{as_rules}
-use Rattle.ud_cond.proofs.lemmas.expressions.ResidualLemmas.{join_right, join_left, flags_right, flags_left, with_operator, to_end}
+use Rattle.ud_cond.proofs.lemmas.expressions.ResidualLemmas.{join_right, join_left, join_both, flags_right, flags_left, flags_both, with_operator, to_end}
 use Rattle.ud_cond.proofs.expressions.residuals.Residuals.join.Goals as goal
 
 pub returns-then-is_unit-clause-kept : goal.returns-then-is_unit-clause-kept
@@ -30,4 +30,13 @@ returns-then-is_unit-2-clause-kept c = λ k j front e g f.
           ∙ append-nil ((front ++ k.flags) ++ replicate (suc (length j.flags)) false)
           ∙ append_assoc front k.flags (replicate (suc (length j.flags)) false)
           ∙ ap (λ (xs : List Bool). front ++ xs) (flags_left (as_rules c.args.self.now.rules) c.args.operator k j _ _ c.args.a c.args.b _ _ e g c.binary_value.ensures c.apply_binary.ensures h i),
+    )
+
+pub returns-clause-kept : goal.returns-clause-kept
+returns-clause-kept c = λ k j front e g f.
+    let h = sym c.is_unit.ensures ∙ c.if-is_unit.false in
+    let i = sym c.is_unit-2.ensures ∙ c.if-is_unit-2.false in (
+      join_both (as_rules c.args.self.now.rules) c.args.operator k j _ _ c.args.a c.args.b _ _ e g c.binary_value.ensures c.apply_binary.ensures _ _ c.settled.ensures c.both.ensures h i,
+      f ∙ append_assoc front k.flags (true ∷ j.flags)
+          ∙ ap (λ (xs : List Bool). front ++ xs) (flags_both (as_rules c.args.self.now.rules) c.args.operator k j _ _ c.args.a c.args.b _ _ e g c.binary_value.ensures c.apply_binary.ensures h i),
     )

@@ -1,15 +1,17 @@
 use Rattle.std.proofs.Common.{◌≡◌, ℕ, ◌+◌, List, [], ◌∷◌, ◌++◌, length, Bool, true, not, ◌&&◌, ◌∙◌, ap, ap₂, append_assoc, arith}
 use Rattle.ud_cond.specs.declared.expressions.parts.Part.{Part}
-use Rattle.ud_cond.proofs.lemmas.expressions.ResidualLemmas.{one_apart}
+use Rattle.ud_cond.specs.expressions.ResidualReading.{parens_kept, are_all_kept}
+use Rattle.ud_cond.proofs.lemmas.expressions.ResidualLemmas.{one_apart, all_kept-parens}
 use Rattle.ud_cond.proofs.expressions.residuals.ResidualsKeeper.parens.Goals as goal
 
 pub returns-clause-kept : goal.returns-clause-kept
 returns-clause-kept c = λ k front e f.
     let n : c.args.a.first ≡ length front + 1 = ap (λ (p : Part). p.first) e in
     let g : c.saturating_sub-first.result ≡ length front = omega (arith, n, c.saturating_sub-first.ensures) in
-    let b : c.needs_none-stay.result ≡ (k.lost && k.left_alone) = c.needs_none-stay.ensures ∙ ap (λ (p : Part). p.lost && p.left_alone) e in (
-      ap₂ (λ (p : Part) (m : ℕ). record p { left_alone = true; alone = true; first = m }) e g,
-      c.push.ensures ∙ ap (λ (xs : List Bool). xs ++ not c.needs_none-stay.result ∷ []) (c.fill.ensures.filled front (true ∷ []) k.flags (one_apart _ front k.flags f) g n ∙ append_assoc front (not c.needs_none-stay.result ∷ []) k.flags)
-          ∙ append_assoc front (not c.needs_none-stay.result ∷ k.flags) (not c.needs_none-stay.result ∷ [])
+    let b : c.both-stay.result ≡ (k.lost && k.left_alone) = c.both-stay.ensures ∙ ap (λ (p : Part). p.lost && p.left_alone) e in (
+      ap (λ (w : Bool). record c.args.a { left_alone = true; alone = true; whole = w; first = c.saturating_sub-first.result }) (c.both.ensures ∙ ap₂ (λ (x y : Bool). not x && y) b (ap (λ (p : Part). p.whole) e) ∙ all_kept-parens (not (k.lost && k.left_alone)) k.flags)
+          ∙ ap₂ (λ (p : Part) (m : ℕ). record p { left_alone = true; alone = true; whole = are_all_kept (parens_kept k).flags; first = m }) e g,
+      c.push.ensures ∙ ap (λ (xs : List Bool). xs ++ not c.both-stay.result ∷ []) (c.fill.ensures.filled front (true ∷ []) k.flags (one_apart _ front k.flags f) g n ∙ append_assoc front (not c.both-stay.result ∷ []) k.flags)
+          ∙ append_assoc front (not c.both-stay.result ∷ k.flags) (not c.both-stay.result ∷ [])
           ∙ ap (λ (x : Bool). front ++ (not x ∷ (k.flags ++ not x ∷ []))) b,
     )
