@@ -3,7 +3,7 @@
 //! No memory is taken. Each token has a flag: whether the residual has it. The flags of a part lie
 //! side by side, so an operand is removed by one fill. What is kept already isn't filled again, so
 //! the time for a chain of operators other than `&&` and `||` is linear in its length.
-//! `specs.expressions.ResidualReading` has what is kept of a part (`Kept`).
+//! `specs.expressions.ResidualReading` defines the record of a part (`Kept`).
 
 ghost use Rattle.std.specs.Prelude.{◌≡◌, ◌≤◌, ◌<◌, ◌+◌, List, Bool, true, false, ◌&&◌, [], ◌∷◌};
 ghost use Rattle.std.specs.Prelude.{◌++◌, length, replicate, Some, None, IfSome, IfNone};
