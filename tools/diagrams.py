@@ -27,7 +27,7 @@ SAYS = {
     "ud_text": "lines and scans are the text's",
     "ud_cond": "a condition's value is the definition's",
     "ud_sections": "verdicts are those of the pruned tree",
-    "ud_prune": "the rest of a text is the definition's",
+    "ud_passes": "names, list and rest are the definitions'",
     "ud_args": "a plan is that of the arguments",
     "ud_io": "streams that note a failure",
     "ud_engine": "a run's output is the definition's",
@@ -38,8 +38,6 @@ SAYS = {
     "ud_diff": "a diff turns a text into the other",
     "ud_tree_args": "options and paths are the words'",
     "ud_pattern": "a match is one by POSIX's rules",
-    "ud_remaining": "a list of conditions is the definition's",
-    "ud_names": "a table of names is the definition's",
     "ud_tree": "a run over a tree asks for no more",
     "unifdef_tree_cli": "main opens the tree",
 }

@@ -1,4 +1,4 @@
-//! Tests of ud_cond, ud_sections and ud_prune: symbols, conditions, directives, machines, printers
+//! Tests of ud_cond, ud_sections and ud_passes: symbols, conditions, directives, machines, printers
 //! and pruned texts.
 #![tactic(auto)]
 

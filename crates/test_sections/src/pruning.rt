@@ -5,7 +5,7 @@ use crate::stepping::{append_repeated, planned};
 use std::alloc::{AllocError, Global};
 use std::process::Abort;
 use std::test::Fail;
-use ud_prune::prune;
+use ud_passes::prune;
 
 /// Symbols of some rows.
 const SOURCES: &str = "-UVMS -UMSWIN -UWIN32 -U_WIN32 -U__alpha__ -DCONFIG_SMP";

@@ -24,7 +24,7 @@ use Rattle.ud_faults.specs.declared.run.RunFault.{RunFault}
 use Rattle.ud_faults.specs.declared.run.RunFault.TheVariants.{Text as TextFault, Section}
 use Rattle.ud_faults.specs.declared.run.RunFault.TheVariants.{Read as ReadFault, Write}
 use Rattle.ud_engine.specs.Finishing.{text_fault_of}
-use Rattle.ud_prune.specs.PrunedTexts.{pruned_text, edited_count}
+use Rattle.ud_passes.specs.pruning.PrunedTexts.{pruned_text, edited_count}
 use Rattle.ud_replace.specs.declared.error.ReplaceError.{ReplaceError}
 use Rattle.ud_replace.specs.declared.error.ReplaceError.TheVariants.{Text, OutOfMemory}
 use Rattle.ud_replace.specs.declared.text_plan.TextPlan.{TextPlan}

@@ -8,7 +8,7 @@ use Rattle.ud_model.specs.sections.Items.{Options, rules_of}
 use Rattle.ud_model.specs.answer.Outcomes.{Outcome, HasOutcome}
 use Rattle.ud_faults.specs.declared.run.RunFault.{RunFault}
 use Rattle.ud_engine.specs.Finishing.{text_fault_of}
-use Rattle.ud_prune.specs.PrunedTexts.{pruned_text, edited_count}
+use Rattle.ud_passes.specs.pruning.PrunedTexts.{pruned_text, edited_count}
 use Rattle.ud_replace.specs.declared.error.ReplaceError.{ReplaceError}
 use Rattle.ud_replace.specs.declared.error.ReplaceError.TheVariants.{Text, OutOfMemory}
 

@@ -13,7 +13,7 @@ use ud_args::Plan;
 use ud_cond::Rules;
 use ud_engine::{RunFault, Watched, run};
 use ud_io::write_all;
-use ud_prune::prune;
+use ud_passes::prune;
 
 /// Appends the output for a text, as the plan asks.
 ///

@@ -5,7 +5,7 @@ use Rattle.std.proofs.lemmas.List.Sums.{sum_by-append}
 use Rattle.std.proofs.lemmas.Grind.{common_steps}
 use Rattle.ud_model.specs.conditions.Table.{Argument}
 use Rattle.ud_model.specs.declared.kind.Mode.{Mode}
-use Rattle.ud_remaining.specs.RemainingLists.{RemainingState, AddsAll}
+use Rattle.ud_passes.specs.remaining.RemainingLists.{RemainingState, AddsAll}
 use Rattle.ud_tree.specs.declared.arguments.Arguments.{Arguments}
 use Rattle.ud_tree.specs.declared.report.Report.{Report}
 use Rattle.ud_tree.specs.Remainders.{Finds, AddsOutputs, FindsAll}

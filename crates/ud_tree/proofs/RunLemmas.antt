@@ -31,9 +31,9 @@ use Rattle.ud_tree.proofs.MessageLemmas.{tells_kept, tells_then, tells_same, out
 use Rattle.ud_tree.specs.Covering.{StandsIn, MissesNone}
 use Rattle.ud_tree.specs.Walks.{IsWalk}
 use Rattle.ud_tree.specs.WalkMessages.{joined, StopsWalk, FindsFiles}
-use Rattle.ud_names.specs.declared.names.Names.{Names as NameLists}
-use Rattle.ud_names.specs.NameTables.{names_in, Tabulates}
-use Rattle.ud_remaining.specs.RemainingLists.{RemainingState}
+use Rattle.ud_passes.specs.declared.names.Names.{Names as NameLists}
+use Rattle.ud_passes.specs.names.NameTables.{names_in, Tabulates}
+use Rattle.ud_passes.specs.remaining.RemainingLists.{RemainingState}
 use Rattle.ud_replace.specs.declared.text_plan.TextPlan.{TextPlan}
 use Rattle.ud_tree.specs.Lists.{Adds, ListsInto}
 use Rattle.ud_tree.specs.Shown.{ListsOne}

@@ -5,7 +5,7 @@
 --
 -- `calls` and `calls'` are the calls before and after, the newest first.
 use Rattle.std.specs.Prelude.{◌≡◌, ℕ, ◌+◌, ◌<◌, ◌^◌, List, ◌++◌, Bool, Result}
-use Rattle.ud_names.specs.declared.names.Names.{Names}
+use Rattle.ud_passes.specs.declared.names.Names.{Names}
 use Rattle.ud_replace.specs.declared.error.Update.{Update}
 use Rattle.ud_replace.specs.declared.error.ReplaceError.{ReplaceError}
 use Rattle.ud_replace.specs.declared.text_plan.TextPlan.{TextPlan}

@@ -18,10 +18,11 @@ use Rattle.ud_model.specs.sections.Items.{mode_by}
 use Rattle.ud_model.specs.declared.kind.Mode.{Mode}
 use Rattle.ud_cond.specs.symbols.SymbolTable.{TableRepresents}
 use Rattle.ud_cond.specs.declared.conditions.Rules.{Rules}
-use Rattle.ud_remaining.specs.declared.listing.Listing.{Listing}
-use Rattle.ud_remaining.specs.declared.listing.Listing.TheVariants.{Counted, Listed, Explained}
-use Rattle.ud_remaining.specs.RemainingLists.{AddsAll, RemainingState}
-use Rattle.ud_remaining.specs.RemainingLists.{remaining_text, remaining_count}
+use Rattle.ud_passes.specs.declared.remaining.listing.Listing.{Listing}
+use Rattle.ud_passes.specs.declared.remaining.listing.Listing.TheVariants.{Counted, Listed}
+use Rattle.ud_passes.specs.declared.remaining.listing.Listing.TheVariants.{Explained}
+use Rattle.ud_passes.specs.remaining.RemainingLists.{AddsAll, RemainingState}
+use Rattle.ud_passes.specs.remaining.RemainingLists.{remaining_text, remaining_count}
 use Rattle.ud_tree.specs.declared.arguments.Arguments.{Arguments}
 use Rattle.ud_tree.specs.declared.report.Report.{Report}
 use Rattle.ud_tree.specs.Runs.{Output}

@@ -27,7 +27,7 @@ use Rattle.ud_replace.specs.declared.text_plan.TextRun.{TextRun}
 use Rattle.ud_replace.specs.Calls.{Call, was_read}
 use Rattle.ud_replace.specs.TextOutcomes.{TextOptions, IsPlanned, TextOutcome, HasTextOutcome}
 use Rattle.ud_replace.specs.TextOutcomes.{RunsOver, FailsOver}
-use Rattle.ud_names.specs.UnlistedConditions.{unlisted_in, unlisted_text}
+use Rattle.ud_passes.specs.names.UnlistedConditions.{unlisted_in, unlisted_text}
 use Rattle.ud_tree.specs.declared.counts.Edits.{Edits}
 use Rattle.ud_tree.specs.Fates.{no_edits, removed_by}
 use Rattle.ud_tree.specs.Runs.{FileResult, ReadsOne, Listed, Output, made}

@@ -30,8 +30,8 @@ use Rattle.ud_tree.specs.declared.job.Job.{Job}
 use Rattle.ud_tree.specs.declared.report.Report.{Report}
 use Rattle.ud_tree.specs.declared.walk.Found.{Found}
 use Rattle.ud_tree.specs.Changes.{ReplacesShowing}
-use Rattle.ud_names.specs.declared.names.Names.{Names as NameLists}
-use Rattle.ud_names.specs.NameTables.{names_in, Tabulates}
+use Rattle.ud_passes.specs.declared.names.Names.{Names as NameLists}
+use Rattle.ud_passes.specs.names.NameTables.{names_in, Tabulates}
 use Rattle.ud_tree.specs.Remainders.{is_searched, listing_of, mode_of, texts_of, count_of}
 use Rattle.ud_tree.specs.Runs.{FileResult, Unshown, EachFile, shown_of, told_of, listed_of}
 use Rattle.ud_tree.specs.Runs.{outputs_of}

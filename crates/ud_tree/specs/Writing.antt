@@ -13,8 +13,8 @@ use Rattle.std.specs.Prelude.{◌≡◌, ℕ, List, [], Option, Result, Bool, tr
 use Rattle.ud_io.specs.Watched.{WatchedState}
 use Rattle.ud_replace.specs.declared.error.Update.{Update}
 use Rattle.ud_replace.specs.declared.error.ReplaceError.{ReplaceError}
-use Rattle.ud_names.specs.declared.names.Names.{Names as NameLists}
-use Rattle.ud_names.specs.NameTables.{names_in, Tabulates}
+use Rattle.ud_passes.specs.declared.names.Names.{Names as NameLists}
+use Rattle.ud_passes.specs.names.NameTables.{names_in, Tabulates}
 use Rattle.ud_replace.specs.Calls.{Call}
 use Rattle.ud_tree.specs.declared.arguments.Arguments.{Arguments}
 use Rattle.ud_tree.specs.declared.arguments.Task.TheVariants.{Names}

@@ -8,7 +8,7 @@ use crate::run_file::run_file;
 use crate::tree::Tree;
 use crate::walk::FileAt;
 use ud_engine::Watched;
-use ud_names::Names;
+use ud_passes::Names;
 use ud_replace::{ReplaceError, Update};
 
 /// Adds the names of a file to `names`, and its conditions whose names can't be listed. If its text

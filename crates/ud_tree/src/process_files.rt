@@ -18,7 +18,7 @@ use crate::tree::Tree;
 use crate::walk::{FileAt, Found};
 use std::io::Write;
 use ud_engine::Watched;
-use ud_names::Names;
+use ud_passes::Names;
 use ud_replace::{ReplaceError, Update};
 
 /// Does with each file in turn what the arguments ask for, and reports its fault. Returns what

@@ -28,7 +28,7 @@ use ud_diagnostics::report_result;
 use ud_faults::RunFault;
 use ud_io::{Watched, send, send_parts};
 use ud_model::Settings;
-use ud_remaining::{Listing, Remaining};
+use ud_passes::{Listing, Remaining};
 use ud_replace::Lookup;
 
 /// The number of files after which the line on the terminal is shown again.

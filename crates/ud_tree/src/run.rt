@@ -3,7 +3,7 @@
 ghost use Rattle.std.specs.Prelude.{◌≡◌, ◌<◌, ◌++◌, [], map, true, false, IfOk, IfSome, IfNone};
 ghost use Rattle.std.specs.Prelude.{OnErr, OnOk};
 ghost use Rattle.ud_model.specs.answer.Answer.{status_by};
-ghost use Rattle.ud_names.specs.NameTables.{names_in, Tabulates};
+ghost use Rattle.ud_passes.specs.names.NameTables.{names_in, Tabulates};
 ghost use Rattle.ud_tree.specs.Messages.{TellsIf, list_message, write_message};
 ghost use Rattle.ud_tree.specs.Statuses.{tree_status};
 ghost use Rattle.ud_tree.specs.Covering.{IsIn, own_path, paths_of};
@@ -34,7 +34,7 @@ use std::io::{Read, Write};
 use ud_engine::Watched;
 use ud_io::send;
 use ud_model::ExitMode;
-use ud_names::Names;
+use ud_passes::Names;
 
 /// The status of a fault, of any kind.
 const EXIT_TROUBLE: u8 = 2;

@@ -7,7 +7,7 @@ use Rattle.std.specs.Prelude.{◌≡◌, ◌⊎◌, ◌==◌, ℕ, ℤ, pos, neg
 use Rattle.std.specs.Prelude.{None, if◌then◌else◌}
 use Rattle.ud_model.specs.answer.CommandLine.{usage_fault, options_of}
 use Rattle.ud_model.specs.sections.Items.{rules_of}
-use Rattle.ud_prune.specs.PrunedTexts.{pruned_text, edited_count}
+use Rattle.ud_passes.specs.pruning.PrunedTexts.{pruned_text, edited_count}
 use Rattle.unifdef_c.specs.Words.{words_of, AreUtf8}
 use Rattle.unifdef_c.specs.TextCalls.{overwritten}
 use Rattle.unifdef_c.specs.StreamCalls.{HasBadWords}

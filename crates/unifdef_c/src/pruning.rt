@@ -5,7 +5,7 @@ ghost use Rattle.ud_model.specs.conditions.Table.{Argument};
 ghost use Rattle.ud_model.specs.sections.Items.{rules_of};
 ghost use Rattle.ud_model.specs.answer.CommandLine.{UsageFault, usage_fault};
 ghost use Rattle.ud_cond.specs.symbols.SymbolTable.{TableRepresents};
-ghost use Rattle.ud_prune.specs.PrunedTexts.{pruned_text, edited_count};
+ghost use Rattle.ud_passes.specs.pruning.PrunedTexts.{pruned_text, edited_count};
 ghost use Rattle.unifdef_c.specs.Words.{words_of, AreUtf8};
 ghost use Rattle.unifdef_c.specs.StreamCalls.{HasBadWords};
 ghost use Rattle.unifdef_c.specs.Prunings.{IsPrunedBy, HandsOutPruned, PruneAnswer};
@@ -15,7 +15,7 @@ use crate::hand_out::overwrite;
 use std::alloc::Global;
 use ud_args::{Plan, Usage, plan};
 use ud_cond::Rules;
-use ud_prune::prune;
+use ud_passes::prune;
 
 /// A text without the operands that the words decide.
 #[derive(Drop)]

@@ -1,6 +1,6 @@
 use Rattle.std.proofs.Common.{ℕ, List, ◌++◌, true, false, refl, subst, ◌∙◌}
 use Rattle.std.proofs.lemmas.Bool.{true≢false}
-use Rattle.ud_names.specs.NameTables.{names_in, Tabulates}
+use Rattle.ud_passes.specs.names.NameTables.{names_in, Tabulates}
 use Rattle.ud_tree.proofs.RunLemmas.{writes_list}
 use Rattle.ud_io.specs.Streams.{stream_of}
 use Rattle.ud_tree.proofs.MessageLemmas.{tells_kept}

@@ -3,7 +3,7 @@ use Rattle.std.proofs.Common.{◌≡◌, Bool, true, false, List, Result, Ok, Er
 use Rattle.ud_model.specs.conditions.Table.{Argument}
 use Rattle.ud_model.specs.declared.kind.Mode.{Mode}
 use Rattle.ud_cond.specs.symbols.SymbolTable.{TableRepresents}
-use Rattle.ud_remaining.specs.RemainingLists.{AddsAll}
+use Rattle.ud_passes.specs.remaining.RemainingLists.{AddsAll}
 use Rattle.ud_tree.proofs.report.Report.search.Goals as goal
 
 on_ok : {T E : Type 0} {P : Type 0} (r : Result T E) → is_err r ≡ false → OnOk r P → P

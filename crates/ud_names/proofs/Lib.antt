@@ -1,2 +1,0 @@
-pub mod UnlistedLemmas
-pub mod TableLemmas

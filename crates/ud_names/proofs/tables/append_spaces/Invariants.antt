@@ -1,6 +1,0 @@
--- The spaces so far were appended.
-use Rattle.std.proofs.Common.{◌≡◌, ◌++◌, replicate}
-use Rattle.ud_names.proofs.tables.append_spaces.Given as goal
-
-abbrev pub invariant-loop : goal.invariant-loop
-invariant-loop l = l.out.items ≡ l.fn.out.items ++ replicate l.counter 32

@@ -1,4 +1,0 @@
-pub mod NameTables
-pub mod UnlistedConditions
-pub mod UnlistedLines
-pub mod RowViews

@@ -1,0 +1,166 @@
+-- Edited lines: the line that is edited, and the line that is read.
+use Rattle.std.proofs.Common.{◌≡◌, ℕ, ◌+◌, ◌-◌, List, [], ◌++◌, length, map, take, drop, Bool, true, false, ◌&&◌, if◌then◌else◌, bytes_eq, refl, sym, ◌∙◌, ap, subst, ◌⊎◌, length-append, arith, take-append-drop}
+use Rattle.std.proofs.lemmas.List.{drop-map, take_at, take_all}
+use Rattle.std.proofs.lemmas.Bool.{and_right}
+use Rattle.std.proofs.lemmas.Slice.Eq.{bytes_eq-Decides}
+use Rattle.ud_model.specs.text.Lines.{Line, NoNewline, IsWhole, text_of, ending_of, line_at, is_ending}
+use Rattle.ud_model.specs.text.Scans.{Scan, Reading}
+use Rattle.ud_model.specs.text.Splicing.{is_empty, is_spliced, content}
+use Rattle.ud_model.specs.text.Lexemes.{Cell, shown}
+use Rattle.ud_model.specs.text.Scanning.{content_cells, scan_after_run}
+use Rattle.ud_model.specs.sections.Directives.{Content, cut_keyword, directive, text, Directive, content_of}
+use Rattle.ud_model.specs.conditions.Table.{Argument}
+use Rattle.ud_model.specs.conditions.Conditions.{Rules}
+use Rattle.ud_model.specs.conditions.Sublists.{IsSublist, nothing, without, with_same}
+use Rattle.ud_model.specs.conditions.ResidualTexts.{simplified_cells}
+use Rattle.ud_model.specs.output.SimplifiedTexts.{keyword_end, condition_cells, same_if, has_condition, keeps_ending, is_lone, left_cells_of, left_line, is_read_alone, line_by, simplified_line}
+use Rattle.ud_model.specs.declared.kind.Kind.{Kind}
+use Rattle.ud_model.proofs.text.ScanBytes.{bytes-content_cells}
+use Rattle.ud_model.proofs.text.LinesLemmas.{no_newline-append, text_of-line_at}
+use Rattle.ud_model.proofs.conditions.ResidualRead.{cells_go}
+use Rattle.ud_model.proofs.output.Formed.{IsEnd, ended}
+use Rattle.ud_model.proofs.output.SimplifiedLines.{after_is}
+use Rattle.ud_model.proofs.output.SimplifiedAgain.{unspliced}
+use Rattle.ud_text.specs.lines.LinesState.{UpToNewline}
+use Rattle.ud_text.proofs.lemmas.lines.NewlineLemmas.{up_to_newline-once}
+use Rattle.ud_text.proofs.lemmas.scan.MaskLemmas.{no_newline-take, no_newline-drop}
+use Rattle.ud_passes.specs.pruning.Cells.{AreCells, byte_of}
+use Rattle.ud_passes.specs.pruning.EditedLines.{c_reading, IsScannedAlone, is_meant, IsCondition, line_if_read, IsEditedTo}
+
+-- 1. Sublists.
+
+fewer : {xs ys : List Cell} → IsSublist xs ys → NoNewline (map byte_of ys) → NoNewline (map byte_of xs)
+fewer nothing h = tt
+fewer (without p) h = fewer p h.1
+fewer (with_same p) h = (h.0, fewer p h.1)
+
+same_line : (a b : Line) → a.body ≡ b.body → a.ending ≡ b.ending → a.number ≡ b.number → a ≡ b
+same_line a b p q r = grind arith
+
+-- 2. Other directives.
+
+not_if : (k j : Kind) → same_if k k ≡ false → same_if k j ≡ false
+not_if k j e = grind arith
+
+no_condition : (k : Kind) (after : List ℕ) (c : Content) → same_if k k ≡ false → has_condition k after c ≡ false
+no_condition k after (directive d) e = ap (λ (b : Bool). b && bytes_eq d.after after) (not_if k d.kind e)
+no_condition k after cut_keyword e = refl
+no_condition k after text e = refl
+
+module _ (table : List Argument) (rules : Rules) (l : Line) where
+  -- A directive of another kind stays.
+  pub other_stays : (scan : Scan) (d : Directive) → same_if d.kind d.kind ≡ false → line_by table rules scan l (directive d) ≡ l
+  other_stays scan d e = grind (arith, and_right, no_condition)
+
+-- 3. A line with a condition.
+
+module _ (table : List Argument) (rules : Rules) (l : Line) (d : Directive) (i : IsCondition l d) where
+  not_spliced : is_spliced l ≡ false
+  not_spliced = unspliced l i.lone
+
+  body_is : content l ≡ l.body
+  body_is = ap (λ (b : Bool). if b then take (length l.body - 1) l.body else l.body) not_spliced
+
+  pub cells_are : AreCells (condition_cells l d) (drop (keyword_end d) l.body) d.after
+  cells_are = record {
+    bytes_are = sym (drop-map byte_of (keyword_end d) (content_cells [] l)) ∙ ap (λ (x : List ℕ). drop (keyword_end d) x) (bytes-content_cells [] l ∙ body_is);
+    shown_are = after_is table rules l (scan_after_run [] l) d refl i.has;
+  }
+
+  same_either : (b : Bool) (k : Line) → text_of k ≡ text_of l → text_of (if b then k else l) ≡ text_of l
+  same_either true k e = e
+  same_either false k e = refl
+
+  -- If all cells are left, the line stays.
+  pub all_left : simplified_cells table rules (condition_cells l d) ≡ condition_cells l d → text_of (line_if_read table rules l d) ≡ text_of l
+  all_left e =
+      let n : ℕ = keyword_end d in
+      let whole : (left_line table rules l d).body ≡ l.body =
+      ap (λ (cells : List Cell). take n l.body ++ map byte_of cells) e ∙ ap (λ (x : List ℕ). take n l.body ++ x) cells_are.bytes_are ∙ take-append-drop n l.body in
+      same_either (is_read_alone table rules l d) (left_line table rules l d) (ap (λ (x : List ℕ). x ++ l.ending) whole)
+
+  abbrev k : Line
+  k = left_line table rules l d
+
+  module _ (no : NoNewline l.body) (end : IsEnd l.ending) (bytes : List ℕ) (bytes_are : bytes ≡ text_of k) where
+    no_newline : NoNewline k.body
+    no_newline =
+        no_newline-append (take (keyword_end d) l.body) (map byte_of (left_cells_of table rules l d)) (no_newline-take (keyword_end d) l.body no)
+        (fewer (cells_go table rules (condition_cells l d)) (subst NoNewline (sym cells_are.bytes_are) (no_newline-drop (keyword_end d) l.body no)))
+
+    whole : IsWhole bytes
+    whole = subst IsWhole (sym bytes_are) (ended k.body l.ending no_newline end)
+
+    up_to_end : UpToNewline bytes (length bytes) true
+    up_to_end = record {
+      within = omega arith;
+      all = λ e. cc;
+      line = λ e. (whole.0, whole.1, take_all (length bytes) bytes (omega arith) ∙ whole.2);
+    }
+
+    -- The line that is read of these bytes.
+    module _ (e : Line) (w : Bool) (to : UpToNewline bytes (length (text_of e)) w) (is : e ≡ line_at l.number (take (length (text_of e)) bytes)) where
+      read_is : e ≡ line_at l.number bytes
+      read_is =
+          let once = up_to_newline-once bytes (length (text_of e)) (length bytes) w true to up_to_end in
+          is ∙ ap (λ (n : ℕ). line_at l.number (take n bytes)) once.1 ∙ ap (λ (x : List ℕ). line_at l.number x) (take_all (length bytes) bytes (omega arith))
+
+      read_text : text_of e ≡ bytes
+      read_text = ap text_of read_is ∙ text_of-line_at l.number bytes
+
+      read_ending : e.ending ≡ ending_of (text_of k)
+      read_ending = ap (λ (x : Line). x.ending) read_is ∙ ap ending_of bytes_are
+
+      -- Another ending.
+      pub other_ending : bytes_eq e.ending l.ending ≡ false → text_of (line_if_read table rules l d) ≡ text_of l
+      other_ending f = grind (arith, read_ending)
+
+      module _ (same : e.ending ≡ l.ending) where
+        keeps : keeps_ending k ≡ true
+        keeps = (bytes_eq-Decides (ending_of (text_of k)) l.ending).1 (sym read_ending ∙ same)
+
+        cut_there : (b c : List ℕ) → take (length (b ++ c) - length c) (b ++ c) ≡ b
+        cut_there b c = take_at b c (length (b ++ c) - length c) (let a : length (b ++ c) ≡ length b + length c = length-append b c in omega (arith, a))
+
+        same_cut : (b a c : List ℕ) → b ++ c ≡ a ++ c → b ≡ a
+        same_cut b a c q = sym (cut_there b c) ∙ ap (λ (x : List ℕ). take (length x - length c) x) q ∙ cut_there a c
+
+        body_same : e.body ≡ k.body
+        body_same = same_cut e.body k.body l.ending (ap (λ (x : List ℕ). e.body ++ x) (sym same) ∙ read_text ∙ bytes_are)
+
+        number_is : e.number ≡ l.number
+        number_is = ap (λ (x : Line). x.number) read_is
+
+        e_is : e ≡ k
+        e_is = same_line e k body_same same number_is
+
+        -- An edited line with the same bytes stays.
+        pub same_bytes : bytes_eq e.body l.body ≡ true → text_of (line_if_read table rules l d) ≡ text_of l
+        same_bytes f = grind (arith, bytes_eq-Decides, same_either, e_is)
+
+        -- Other bytes, if they are read so.
+        pub edited_if : bytes_eq e.body l.body ≡ false → (b : Bool) → b ≡ is_meant d.kind (map shown (left_cells_of table rules l d)) (scan_after_run [] e) → IsEditedTo b (text_of (line_if_read table rules l d)) l bytes
+        edited_if f b m = grind (arith, e_is, keeps, same_cut, read_text, bytes_eq-Decides)
+
+-- 4. A line that joins no other one.
+
+pub is_end : (e : List ℕ) → is_ending e ≡ true → is_empty e ≡ false → IsEnd e
+is_end e h n = grind (arith, IsEnd, bytes_eq-Decides)
+
+module _ (table : List Argument) (rules : Rules) (l : Line) (scan : Scan) where
+  abbrev r : Reading
+  r = c_reading l scan
+
+  -- A line that joins another one, or has no ending, stays.
+  pub joined_stays : is_lone scan l ≡ false → text_of (simplified_line table rules r) ≡ text_of l
+  joined_stays e = grind arith
+
+  pub joins_by : (scan.joins_before ≡ true) ⊎ ((scan.joins_after ≡ true) ⊎ (is_empty l.ending ≡ true)) → is_lone scan l ≡ false
+  joins_by h = grind arith
+
+  module _ (d : Directive) (alone : IsScannedAlone scan l) (before : scan.joins_before ≡ false) (after : scan.joins_after ≡ false) (some : is_empty l.ending ≡ false) (h : content_of scan ≡ directive d) where
+    pub condition_is : IsCondition l d
+    condition_is = grind arith
+
+    pub simplified_is : simplified_line table rules r ≡ line_if_read table rules l d
+    simplified_is = grind arith

@@ -1,0 +1,127 @@
+-- Left cells: when the rest of a condition's text takes its place.
+use Rattle.std.proofs.Common.{◌≡◌, ℕ, List, [], ◌∷◌, length, map, Bool, true, false, not, ◌&&◌, if◌then◌else◌, Some, None, refl, sym, ◌∙◌, ap, arith}
+use Rattle.std.specs.List.{list_any}
+use Rattle.std.proofs.lemmas.Bool.{and_left, and_right}
+use Rattle.std.proofs.lemmas.Grind.{common_steps}
+use Rattle.ud_model.specs.text.Lexemes.{Cell, shown}
+use Rattle.ud_model.specs.conditions.Table.{Argument}
+use Rattle.ud_model.specs.conditions.Expressions.{Expression, spelling}
+use Rattle.ud_model.specs.conditions.Conditions.{Rules, tree_cond, tree_cond_if, expression_cond}
+use Rattle.ud_model.specs.conditions.Residuals.{residual, is_unknown, is_undecided}
+use Rattle.ud_model.specs.conditions.ResidualTexts.{keeps, left_cells, is_literal, may_go, is_read, simplified_tree, simplified_by, simplified_cells}
+use Rattle.ud_model.specs.aids.Parsing.{tokens_of, expression_of}
+use Rattle.ud_model.proofs.conditions.KeptTokens.{SameLength, choose}
+use Rattle.ud_model.proofs.conditions.OneExpression.{expression_is}
+use Rattle.ud_model.proofs.conditions.TokenLemmas.{tokens_of_only}
+use Rattle.ud_model.proofs.conditions.ResidualRead.{written_left}
+use Rattle.ud_passes.specs.pruning.Cells.{AreCells, SameLeft, IsFound}
+
+same_size : {A B : Type 0} (xs : List A) (ys : List B) → SameLength xs ys → length xs ≡ length ys
+same_size [] [] h = refl
+same_size (x ∷ xs) (y ∷ ys) h = let k = same_size xs ys h in omega (arith, k)
+same_size [] (y ∷ ys) h = absurd h
+same_size (x ∷ xs) [] h = absurd h
+
+both : (a b c : Bool) → a ≡ true → b ≡ true → c ≡ true → (a && b && c) ≡ true
+both true true true p q r = refl
+both false b c p q r = cc
+both true false c p q r = cc
+both true true false p q r = cc
+
+module _ (table : List Argument) (rules : Rules) where
+  cond_of : (text : List ℕ) (e : Expression) → expression_of text ≡ Some e → expression_cond text table rules ≡ tree_cond e table rules
+  unfolding expression_cond
+  cond_of text e p = ap (λ o. tree_cond_if o table rules) p
+
+  -- The text is that of a tree, and stays or not.
+  by_tree : (cells : List Cell) (e : Expression) → expression_of (map shown cells) ≡ Some e → simplified_cells table rules cells ≡ simplified_tree table rules e cells
+  unfolding simplified_cells
+  by_tree cells e p = ap (λ o. simplified_by table rules o cells) p
+
+  without_tree : (cells : List Cell) → expression_of (map shown cells) ≡ None → simplified_cells table rules cells ≡ cells
+  unfolding simplified_cells
+  without_tree cells p = ap (λ o. simplified_by table rules o cells) p
+
+  if_false : (b c : Bool) (xs ys : List Cell) → b ≡ false → (if b && c then xs else ys) ≡ ys
+  if_false false c xs ys e = refl
+  if_false true c xs ys e = cc
+
+  if_false₂ : (b c : Bool) (xs ys : List Cell) → c ≡ false → (if b && c then xs else ys) ≡ ys
+  if_false₂ false c xs ys e = refl
+  if_false₂ true false xs ys e = refl
+  if_false₂ true true xs ys e = cc
+
+  if_true : (b c : Bool) (xs ys : List Cell) → b ≡ true → c ≡ true → (if b && c then xs else ys) ≡ xs
+  if_true true true xs ys e f = refl
+  if_true false c xs ys e f = cc
+  if_true true false xs ys e f = cc
+
+  stays : (cells : List Cell) (e : Expression) → expression_of (map shown cells) ≡ Some e → may_go table rules e cells ≡ false → simplified_cells table rules cells ≡ cells
+  stays cells e p q = by_tree cells e p ∙ if_false (may_go table rules e cells) (is_read table rules e (left_cells (keeps table rules e) cells)) (left_cells (keeps table rules e) cells) cells q
+
+  -- A text with or without a tree.
+  by_option : (cells : List Cell) (P : Type 0) → (expression_of (map shown cells) ≡ None → P) → ((e : Expression) → expression_of (map shown cells) ≡ Some e → P) → P
+  by_option cells P f g = grind arith
+
+  -- A condition that is decided stays.
+  pub known_stays : (cells : List Cell) → is_unknown (expression_cond (map shown cells) table rules) ≡ false → simplified_cells table rules cells ≡ cells
+  known_stays cells h = by_option cells (simplified_cells table rules cells ≡ cells) (without_tree cells) (λ e p.
+      stays cells e p (and_left (is_unknown (tree_cond e table rules) && is_undecided table rules (residual table rules e)) (not (list_any is_literal cells)) (and_left (is_unknown (tree_cond e table rules)) (is_undecided table rules (residual table rules e)) (ap is_unknown (sym (cond_of (map shown cells) e p)) ∙ h))))
+
+  -- A condition whose residual is decided stays.
+  pub settled_stays : (cells : List Cell) → ((e : Expression) → expression_of (map shown cells) ≡ Some e → is_unknown (residual table rules e).cond ≡ false) → simplified_cells table rules cells ≡ cells
+  settled_stays cells h = by_option cells (simplified_cells table rules cells ≡ cells) (without_tree cells) (λ e p.
+      stays cells e p (and_left (is_unknown (tree_cond e table rules) && is_undecided table rules (residual table rules e)) (not (list_any is_literal cells))
+      (and_right (is_unknown (tree_cond e table rules)) (is_undecided table rules (residual table rules e)) (and_left (is_unknown (residual table rules e).cond) (is_unknown (tree_cond (residual table rules e).tree table rules)) (h e p)))))
+
+  -- A text with a quote stays.
+  pub quote_stays : (cells : List Cell) → list_any is_literal cells ≡ true → simplified_cells table rules cells ≡ cells
+  quote_stays cells h = by_option cells (simplified_cells table rules cells ≡ cells) (without_tree cells) (λ e p.
+      stays cells e p (and_right (is_unknown (tree_cond e table rules) && is_undecided table rules (residual table rules e)) (not (list_any is_literal cells)) (ap not h)))
+
+  -- The rest takes the text's place exactly if it is read so, and unknown.
+  module _ (cells : List Cell) (e : Expression) (p : expression_of (map shown cells) ≡ Some e) (unknown : is_unknown (expression_cond (map shown cells) table rules) ≡ true)
+      (left_unknown : is_unknown (residual table rules e).cond ≡ true) (no_quote : list_any is_literal cells ≡ false) where
+    abbrev left : List Cell
+    left = left_cells (keeps table rules e) cells
+
+    rest_cond : is_read table rules e left ≡ true → expression_cond (map shown left) table rules ≡ tree_cond (residual table rules e).tree table rules
+    rest_cond q = cond_of (map shown left) (residual table rules e).tree (written_left table rules e cells p left q)
+
+    goes : is_read table rules e left ≡ true → is_unknown (expression_cond (map shown left) table rules) ≡ true → simplified_cells table rules cells ≡ left
+    goes q r =
+        by_tree cells e p ∙ if_true (may_go table rules e cells) (is_read table rules e left) left cells
+        (both (is_unknown (tree_cond e table rules)) (is_undecided table rules (residual table rules e)) (not (list_any is_literal cells))
+        (ap is_unknown (sym (cond_of (map shown cells) e p)) ∙ unknown)
+        (both_of (is_unknown (residual table rules e).cond) (is_unknown (tree_cond (residual table rules e).tree table rules)) left_unknown (ap is_unknown (sym (rest_cond q)) ∙ r))
+        (ap not no_quote)) q
+      where
+        both_of : (a b : Bool) → a ≡ true → b ≡ true → (a && b) ≡ true
+        both_of true true x y = refl
+        both_of false b x y = cc
+        both_of true false x y = cc
+
+    misread : is_read table rules e left ≡ false → simplified_cells table rules cells ≡ cells
+    misread q = by_tree cells e p ∙ if_false₂ (may_go table rules e cells) (is_read table rules e left) left cells q
+
+    decided : is_read table rules e left ≡ true → is_unknown (expression_cond (map shown left) table rules) ≡ false → simplified_cells table rules cells ≡ cells
+    decided q r =
+        stays cells e p (and_left (is_unknown (tree_cond e table rules) && is_undecided table rules (residual table rules e)) (not (list_any is_literal cells))
+        (and_right (is_unknown (tree_cond e table rules)) (is_undecided table rules (residual table rules e))
+        (and_right (is_unknown (residual table rules e).cond) (is_unknown (tree_cond (residual table rules e).tree table rules)) (ap is_unknown (sym (rest_cond q)) ∙ r))))
+
+    -- The bytes of what is left.
+    pub found_or_stays : (b : Bool) (bytes masked : List ℕ) → AreCells left bytes masked → b ≡ (is_read table rules e left && is_unknown (expression_cond (map shown left) table rules)) →
+        IsFound b (simplified_cells table rules cells) cells bytes masked
+    found_or_stays b bytes masked a f = grind (arith, goes, decided, misread)
+
+-- The tokens of a text and their flags.
+pub text_tokens : (text : List ℕ) (e : Expression) → expression_of text ≡ Some e → tokens_of text ≡ Some (spelling e)
+text_tokens text e p = tokens_of_only text (spelling e) (expression_is text e p).1
+
+pub flags_long : (table : List Argument) (rules : Rules) (e : Expression) → length (keeps table rules e) ≡ length (spelling e)
+flags_long table rules e = same_size (keeps table rules e) (spelling e) (choose table rules e).long
+
+-- A text that is left alone.
+pub left_alone : {b s : List ℕ} (xs : List Cell) {c t : List ℕ} → b ≡ [] → s ≡ [] → SameLeft b s xs c t [] → AreCells xs c t
+left_alone xs e f h = grind (arith, common_steps)

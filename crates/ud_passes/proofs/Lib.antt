@@ -1,0 +1,12 @@
+pub mod UnlistedLemmas
+pub mod TableLemmas
+pub mod CellLemmas
+pub mod TokenLists
+pub mod LeftLemmas
+pub mod QuoteLemmas
+pub mod EditLemmas
+pub mod PassLemmas
+pub mod FitLemmas
+pub mod NameLemmas
+pub mod ConditionLemmas
+pub mod SearchLemmas

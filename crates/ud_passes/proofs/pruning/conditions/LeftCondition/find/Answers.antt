@@ -1,0 +1,36 @@
+-- The text stays, or the rest of it was found.
+use Rattle.std.proofs.Common.{◌≡◌, ℕ, List, Bool, ◌&&◌, map, Some, sym, ◌∙◌, ap, subst}
+use Rattle.ud_model.specs.text.Lexemes.{shown}
+use Rattle.ud_model.specs.conditions.Conditions.{Rules, expression_cond}
+use Rattle.ud_model.specs.conditions.Residuals.{is_unknown}
+use Rattle.ud_model.specs.conditions.ResidualTexts.{keeps, left_cells, is_read}
+use Rattle.ud_model.specs.aids.Parsing.{expression_of}
+use Rattle.ud_cond.specs.CondViews.{as_rules}
+use Rattle.ud_passes.specs.pruning.Cells.{AreCells}
+use Rattle.ud_passes.proofs.LeftLemmas.{known_stays, settled_stays, found_or_stays, left_alone}
+use Rattle.ud_passes.proofs.pruning.conditions.LeftCondition.find.Goals as goal
+
+pub returns-then-not-is_unknown-clause-found : goal.returns-then-not-is_unknown-clause-found
+returns-then-not-is_unknown-clause-found c = λ calls h cells a q.
+    known_stays calls (as_rules c.args.rules) cells
+    (ap (λ (l : List ℕ). is_unknown (expression_cond l calls (as_rules c.args.rules))) a.shown_are ∙ sym (c.is_unknown.ensures calls h) ∙ c.if-not-is_unknown.true)
+
+pub returns-then-not-find_residual-clause-found : goal.returns-then-not-find_residual-clause-found
+returns-then-not-find_residual-clause-found c = λ calls h cells a q.
+    settled_stays calls (as_rules c.args.rules) cells (λ e p.
+    c.find_residual.ensures.no (c.if-not-find_residual.true) calls h e (ap expression_of (sym a.shown_are) ∙ p))
+
+pub returns-clause-found : goal.returns-clause-found
+returns-clause-found c = λ calls h cells a q.
+    let rules : Rules = as_rules c.args.rules in
+    let r = c.find_residual.ensures.yes c.if-not-find_residual.false calls h in
+    let p : expression_of (map shown cells) ≡ Some r.tree = ap expression_of a.shown_are ∙ r.is in
+    let flags : c.as_slice.result.now ≡ keeps calls rules r.tree = c.as_slice.ensures ∙ r.kept in
+    let left : AreCells (left_cells (keeps calls rules r.tree) cells) c.append_left.new.left.bytes.items c.append_left.new.left.shown.items =
+    subst (λ (l : List Bool). AreCells (left_cells l cells) c.append_left.new.left.bytes.items c.append_left.new.left.shown.items) flags
+    (left_alone (left_cells c.as_slice.result.now cells) c.clear.ensures.bytes c.clear.ensures.shown (c.in_ok-append_left.ensures.left cells a)) in
+    found_or_stays calls rules cells r.tree p
+    (ap (λ (l : List ℕ). is_unknown (expression_cond l calls rules)) a.shown_are ∙ sym (c.is_unknown.ensures calls h) ∙ c.if-not-is_unknown.false)
+    (ap is_unknown r.unknown) q c.may_stand.result c.append_left.new.left.bytes.items c.append_left.new.left.shown.items left
+    (c.may_stand.ensures calls h r.tree r.is (c.as_slice-flags.ensures ∙ r.kept) (left_cells (keeps calls rules r.tree) cells) (left.shown_are ∙ sym c.as_slice-left.ensures.value)
+    ∙ ap (λ (l : List ℕ). is_read calls rules r.tree (left_cells (keeps calls rules r.tree) cells) && is_unknown (expression_cond l calls rules)) (c.as_slice-left.ensures.value ∙ sym left.shown_are))

@@ -1,0 +1,24 @@
+-- By the first byte and by the tokens.
+use Rattle.std.proofs.Common.{◌≡◌, Bool, true, false, not, ◌&&◌, map, refl, sym, ◌∙◌, arith}
+use Rattle.ud_model.specs.text.Lexemes.{shown}
+use Rattle.ud_model.specs.conditions.Expressions.{spelling}
+use Rattle.ud_model.specs.conditions.Residuals.{residual}
+use Rattle.ud_model.specs.conditions.ResidualTexts.{are_tokens}
+use Rattle.ud_model.specs.aids.Parsing.{tokens_of}
+use Rattle.ud_model.proofs.conditions.KeptTokens.{kept_are}
+use Rattle.ud_passes.proofs.LeftLemmas.{text_tokens, flags_long}
+use Rattle.ud_passes.proofs.pruning.conditions.is_read.Goals as goal
+
+first : (a b : Bool) → a ≡ true → (not a && b) ≡ false
+first true b e = refl
+first false b e = cc
+
+second : (a b : Bool) → a ≡ false → b ≡ (not a && b)
+second false b e = refl
+second true b e = cc
+
+pub returns-then-begins_word : goal.returns-then-begins_word
+returns-then-begins_word c = λ table rules e p k cells q. sym (first _ (are_tokens (tokens_of (map shown cells)) (spelling (residual table rules e).tree)) (sym (c.begins_word.ensures cells q) ∙ c.if-begins_word.true))
+
+pub returns : goal.returns
+returns c = grind (arith, flags_long, text_tokens, kept_are, second)

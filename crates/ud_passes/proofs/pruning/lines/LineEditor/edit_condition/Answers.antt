@@ -1,0 +1,53 @@
+-- The line stays, or its condition is edited.
+use Rattle.std.proofs.Common.{◌≡◌, ℕ, ◌+◌, ◌++◌, List, Bool, take, sym, ◌∙◌, ap, ap₂, refl, subst, arith}
+use Rattle.std.proofs.lemmas.Grind.{common_steps}
+use Rattle.ud_model.specs.text.Lines.{Line, text_of}
+use Rattle.ud_model.specs.text.LineViews.{as_line}
+use Rattle.ud_model.specs.text.Lexemes.{Cell}
+use Rattle.ud_model.specs.sections.Directives.{Directive}
+use Rattle.ud_model.specs.conditions.Conditions.{Rules}
+use Rattle.ud_model.specs.conditions.ResidualTexts.{simplified_cells}
+use Rattle.ud_model.specs.output.SimplifiedTexts.{keyword_end, condition_cells}
+use Rattle.ud_cond.specs.CondViews.{as_rules}
+use Rattle.ud_sections.specs.directives.ParsedDirectives.{as_directive}
+use Rattle.ud_passes.specs.pruning.Cells.{AreCells, IsFound}
+use Rattle.ud_passes.specs.pruning.EditedLines.{IsEditedTo, line_if_read}
+use Rattle.ud_passes.proofs.CellLemmas.{cells_same}
+use Rattle.ud_passes.proofs.EditLemmas.{cells_are, all_left}
+use Rattle.ud_passes.proofs.pruning.lines.LineEditor.edit_condition.Goals as goal
+
+pub returns-then-not-branch : goal.returns-then-not-branch
+returns-then-not-branch c = λ calls h i q.
+    let rules : Rules = as_rules c.args.rules in
+    let l : Line = as_line c.args.line.now in
+    let d : Directive = as_directive c.args.found.now in
+    let cells : List Cell = condition_cells l d in
+    let a : AreCells cells c.split_bytes.result.1.now d.after = cells_same cells (sym c.split_bytes.ensures.back) refl (cells_are calls rules l d i) in
+    all_left calls rules l d i
+    (subst (λ (b : Bool). IsFound b (simplified_cells calls rules cells) cells c.find.new.self.text.bytes.items c.find.new.self.text.shown.items) c.if-not-branch.true (c.in_ok-find.ensures.found calls h cells a q))
+
+-- The bytes of the edited line.
+joined : (c : goal.After-as_slice-3) → c.as_slice-2.result.now ≡ (take (c.args.found.now.keyword.at + c.args.found.now.keyword.len) c.args.line.now.body.now ++ c.find.new.self.text.bytes.items) ++ c.args.line.now.ending.now
+joined c =
+    c.as_slice-2.ensures.value ∙ c.in_ok-extend_from_slice-3.ensures.items ∙ ap (λ (x : List ℕ). x ++ c.args.line.now.ending.now)
+    (c.in_ok-extend_from_slice-2.ensures.items ∙ ap₂ (λ (x y : List ℕ). x ++ y)
+    (c.in_ok-extend_from_slice.ensures.items ∙ ap₂ (λ (x y : List ℕ). x ++ y) c.clear.ensures.items c.split_bytes.ensures.front) c.as_slice.ensures.value)
+
+pub takes_place-requires-clause-fits : goal.takes_place-requires-clause-fits
+takes_place-requires-clause-fits c = grind (arith, common_steps)
+
+pub returns : goal.returns
+returns c = λ calls h i q.
+    let rules : Rules = as_rules c.args.rules in
+    let l : Line = as_line c.args.line.now in
+    let d : Directive = as_directive c.args.found.now in
+    let cells : List Cell = condition_cells l d in
+    let a : AreCells cells c.split_bytes.result.1.now d.after = cells_same cells (sym c.split_bytes.ensures.back) refl (cells_are calls rules l d i) in
+    let left : AreCells (simplified_cells calls rules cells) c.find.new.self.text.bytes.items c.find.new.self.text.shown.items =
+    subst (λ (b : Bool). IsFound b (simplified_cells calls rules cells) cells c.find.new.self.text.bytes.items c.find.new.self.text.shown.items) c.if-not-branch.false (c.in_ok-find.ensures.found calls h cells a q) in
+    let bytes : c.as_slice-2.result.now ≡ (take (keyword_end d) l.body ++ c.find.new.self.text.bytes.items) ++ l.ending =
+    c.as_slice-2.ensures.value ∙ c.in_ok-extend_from_slice-3.ensures.items ∙ ap (λ (x : List ℕ). x ++ l.ending)
+    (c.in_ok-extend_from_slice-2.ensures.items ∙ ap₂ (λ (x y : List ℕ). x ++ y)
+    (c.in_ok-extend_from_slice.ensures.items ∙ ap₂ (λ (x y : List ℕ). x ++ y) c.clear.ensures.items c.split_bytes.ensures.front) c.as_slice.ensures.value) in
+    subst (λ (x : List ℕ). IsEditedTo c.takes_place.result (text_of (line_if_read calls rules l d)) l x) c.as_slice-2.ensures.value
+    (c.takes_place.ensures calls rules d i refl (left.shown_are ∙ sym c.as_slice-3.ensures.value) (bytes ∙ ap (λ (x : List ℕ). (take (keyword_end d) l.body ++ x) ++ l.ending) (sym left.bytes_are)))

@@ -1,0 +1,33 @@
+-- By the line that is read of the bytes.
+use Rattle.std.proofs.Common.{ℕ, List, [], sym, ◌∙◌, ap₂}
+use Rattle.std.proofs.lemmas.Slice.Eq.{bytes_eq-Decides}
+use Rattle.std.proofs.lemmas.Bool.{not-true, not-false}
+use Rattle.ud_model.specs.text.Scanning.{scan_after_run}
+use Rattle.ud_model.specs.declared.kind.Kind.{Kind}
+use Rattle.ud_passes.specs.pruning.EditedLines.{is_meant}
+use Rattle.ud_model.specs.text.Lines.{Line}
+use Rattle.ud_model.specs.text.LineViews.{as_line}
+use Rattle.ud_passes.proofs.EditLemmas.{other_ending, same_bytes, edited_if, is_end}
+use Rattle.ud_passes.proofs.pruning.lines.takes_place.Goals as goal
+
+pub returns-then-ne : goal.returns-then-ne
+returns-then-ne c = λ table rules d i k s b.
+    let l : Line = as_line c.args.line.now in
+    let e : Line = as_line c.line_in-edited.result in
+    let to = c.line_in-edited.ensures.bytes in
+    other_ending table rules l d i c.requires.one_line (is_end l.ending c.args.line.now.ended c.requires.ended) c.args.bytes.now b e to.0 to.1 c.line_in-edited.ensures.value (not-true _ (sym c.ne.ensures ∙ c.if-ne.true))
+
+pub returns-then-eq : goal.returns-then-eq
+returns-then-eq c = λ table rules d i k s b.
+    let l : Line = as_line c.args.line.now in
+    let e : Line = as_line c.line_in-edited.result in
+    let to = c.line_in-edited.ensures.bytes in
+    same_bytes table rules l d i c.requires.one_line (is_end l.ending c.args.line.now.ended c.requires.ended) c.args.bytes.now b e to.0 to.1 c.line_in-edited.ensures.value ((bytes_eq-Decides e.ending l.ending).0 (not-false _ (sym c.ne.ensures ∙ c.if-ne.false))) (sym c.eq.ensures ∙ c.if-eq.true)
+
+pub returns : goal.returns
+returns c = λ table rules d i k s b.
+    let l : Line = as_line c.args.line.now in
+    let e : Line = as_line c.line_in-edited.result in
+    let to = c.line_in-edited.ensures.bytes in
+    edited_if table rules l d i c.requires.one_line (is_end l.ending c.args.line.now.ended c.requires.ended) c.args.bytes.now b e to.0 to.1 c.line_in-edited.ensures.value ((bytes_eq-Decides e.ending l.ending).0 (not-false _ (sym c.ne.ensures ∙ c.if-ne.false))) (sym c.eq.ensures ∙ c.if-eq.false) c.is_meant.result
+    (c.is_meant.ensures ∙ ap₂ (λ (j : Kind) (x : List ℕ). is_meant j x (scan_after_run [] e)) (sym k) (sym s))

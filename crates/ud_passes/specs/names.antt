@@ -1,0 +1,5 @@
+-- The names of conditions as a table, and the conditions that can't be listed.
+pub mod NameTables
+pub mod UnlistedConditions
+pub mod UnlistedLines
+pub mod RowViews

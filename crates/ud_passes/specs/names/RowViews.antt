@@ -1,0 +1,18 @@
+-- RowViews: the rows of the program as the definitions have them.
+--
+--   as_count r                  the row with its number and its name
+--   IsSortedByName names        the names ascend by their bytes
+--   AreCounts names rows        the rows of a table, in any order
+use Rattle.std.specs.Prelude.{◌≡◌, ℕ, List, min}
+use Rattle.std.specs.List.{All}
+use Rattle.ud_passes.specs.declared.names.tables.Row.{Row}
+use Rattle.ud_passes.specs.names.NameTables.{NameCount, count_of, rows_with}
+
+-- `as_count r`: the row with its number and its name.
+abbrev pub as_count : Row → NameCount
+as_count r = record { count = r.count; name = r.name.now }
+
+-- `AreCounts names rows`: each row says how often its name occurs, and there is one for each name.
+pub record AreCounts (names : List (List ℕ)) (rows : List NameCount) : Type 0 where
+  pub counts : All (λ r. r.count ≡ count_of r.name names) rows
+  pub once : (name : List ℕ) → rows_with name rows ≡ min 1 (count_of name names)

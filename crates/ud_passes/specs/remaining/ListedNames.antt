@@ -1,0 +1,27 @@
+-- ListedNames: whether a text has the name of a symbol of the options.
+-- C11 6.4.2.1.
+--
+--   has_listed table in_word text   a word of the text is a name that the table lists
+--   names_listed table c            a word of the condition is such a name
+--
+-- A word is a longest run of word bytes. So `VMS2` isn't the word `VMS`, and neither is `0VMS`.
+--
+-- Example: if the table lists A, ` defined(A)` has its name, and ` AB || x.a` has not.
+use Rattle.std.specs.Prelude.{ℕ, List, [], ◌∷◌, Bool, true, false, ◌&&◌, ◌||◌}
+use Rattle.ud_model.specs.text.Bytes.{is_word_byte, leading_word}
+use Rattle.ud_model.specs.conditions.Table.{Argument}
+use Rattle.ud_model.specs.conditions.Conditions.{is_listed}
+use Rattle.ud_passes.specs.remaining.Conditions.{Condition}
+
+module _ (table : List Argument) where
+  -- `has_listed in_word t`: a word of `t` is a name that the table lists. `in_word`: a word byte
+  -- comes before `t`, so that no word begins there.
+  abbrev pub has_listed : Bool → List ℕ → Bool
+  has_listed in_word [] = false
+  has_listed true (b ∷ bs) = has_listed (is_word_byte b) bs
+  has_listed false (b ∷ bs) = (is_word_byte b && is_listed table (leading_word (b ∷ bs))) ||
+      has_listed (is_word_byte b) bs
+
+  -- `names_listed c`: a word of the condition's text is a name that the table lists.
+  abbrev pub names_listed : Condition → Bool
+  names_listed c = has_listed false c.after

@@ -1,0 +1,73 @@
+-- Reasons: why a condition stays that names a symbol of the options, though operands are removed.
+-- `ud_model.specs.output.LeftOperands` has the law of which these are the cases.
+--
+--   why_stays table rules c   the reason of the condition `c`
+--   phrase reason             the reason in words
+--
+-- The first reason that holds counts. A condition of which no operand can be removed, and which
+-- names no listed symbol as an operand, names one among the arguments of a call.
+--
+-- Example: with A undefined, `#if F(A)` stays for its arguments, `#if A + X` since an operand is
+-- unknown, and `#if!A||X` since its rest would be `#ifX`.
+use Rattle.std.specs.Prelude.{ℕ, List, length, Bool, not, ◌||◌, leb, Option, Some, None, codes}
+use Rattle.std.specs.Prelude.{if◌then◌else◌}
+use Rattle.std.specs.List.{list_any}
+use Rattle.ud_model.specs.conditions.Table.{Argument}
+use Rattle.ud_model.specs.conditions.Expressions.{Expression}
+use Rattle.ud_model.specs.conditions.Names.{names_in}
+use Rattle.ud_model.specs.conditions.Conditions.{Rules, condition_of, is_listed}
+use Rattle.ud_model.specs.conditions.Residuals.{is_unknown}
+use Rattle.ud_model.specs.conditions.ResidualTexts.{keeps}
+use Rattle.ud_model.specs.aids.Parsing.{expression_of}
+use Rattle.ud_model.specs.sections.Directives.{test_of}
+use Rattle.ud_model.specs.declared.kind.Test.{Test}
+use Rattle.ud_model.specs.declared.kind.Test.TheVariants.{Nonzero, Defined, Undefined, Nothing}
+use Rattle.ud_model.specs.declared.limits.TheConstants.{LINE_BYTES}
+use Rattle.ud_passes.specs.remaining.Conditions.{Condition}
+use Rattle.ud_passes.specs.declared.remaining.reasons.Reason.{Reason}
+use Rattle.ud_passes.specs.declared.remaining.reasons.Reason.TheVariants.{SeveralLines, Decided}
+use Rattle.ud_passes.specs.declared.remaining.reasons.Reason.TheVariants.{NotUnderstood, Misread}
+use Rattle.ud_passes.specs.declared.remaining.reasons.Reason.TheVariants.{InArguments}
+use Rattle.ud_passes.specs.declared.remaining.reasons.Reason.TheVariants.{UnknownOperand}
+
+-- `is_split c`: the condition is on several lines, or longer than a line may be.
+abbrev pub is_split : Condition → Bool
+is_split c = c.spanning || not (leb (length c.after) LINE_BYTES)
+
+module _ (table : List Argument) (rules : Rules) where
+  -- `can_shrink e`: the residual of the tree `e` lacks some of its tokens.
+  abbrev pub can_shrink : Expression → Bool
+  can_shrink e = list_any not (keeps table rules e)
+
+  -- `why_tree tree`: the reason of an unknown `#if` or `#elif` with this tree.
+  abbrev pub why_tree : Option Expression → Reason
+  why_tree None = NotUnderstood
+  why_tree (Some e) =
+      if can_shrink e then Misread
+      else if list_any (is_listed table) (names_in e) then UnknownOperand
+      else InArguments
+
+  -- `why_unknown test after`: the reason of an unknown condition, by its test. An `#ifdef` with a
+  -- word that is listed would be decided if it were understood.
+  abbrev pub why_unknown : Test → List ℕ → Reason
+  why_unknown Nonzero after = why_tree (expression_of after)
+  why_unknown Defined after = NotUnderstood
+  why_unknown Undefined after = NotUnderstood
+  why_unknown Nothing after = NotUnderstood
+
+  -- `why_stays c`: why the condition `c` stays, if one of its words is listed.
+  abbrev pub why_stays : Condition → Reason
+  why_stays c =
+      if is_split c then SeveralLines
+      else if is_unknown (condition_of c.kind c.after table rules).cond
+      then why_unknown (test_of c.kind) c.after
+      else Decided
+
+-- `phrase reason`: the reason in words.
+abbrev pub phrase : Reason → List ℕ
+phrase SeveralLines = codes "over several lines"
+phrase Decided = codes "decided as C"
+phrase NotUnderstood = codes "not understood"
+phrase Misread = codes "its rest would be misread"
+phrase InArguments = codes "among arguments of a call"
+phrase UnknownOperand = codes "an operand is unknown"

@@ -1,0 +1,16 @@
+//! Passes over a whole text: names of conditions, conditions that remain, and pruned texts.
+//!
+//! Each pass goes over a text line by line, and many text lines at once.
+//!
+//! - `Names` keeps the lists of the files' names, and the conditions that can't be listed.
+//! - `Remaining` keeps the conditions that still name a symbol of the options.
+//! - `prune` appends a text without the operands of its conditions that the symbols decide.
+#![tactic(auto)]
+
+mod names;
+mod pruning;
+mod remaining;
+
+pub use names::Names;
+pub use pruning::{law_pruned_text, prune};
+pub use remaining::{Listing, Remaining};

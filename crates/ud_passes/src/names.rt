@@ -1,0 +1,147 @@
+//! The names on which the conditions of files depend, and the conditions that can't be listed.
+//!
+//! `Names` keeps the lists of the files' names, and appends a table of how often each name occurs.
+//! `specs/names/NameTables.antt` defines that table, and `UnlistedConditions.antt` which conditions
+//! of a text can't be listed. `RowViews.antt` and `UnlistedLines.antt` have what the code keeps of
+//! the rows, and of a text up to some line.
+
+ghost use Rattle.std.specs.Prelude.{◌≡◌, ◌+◌, ◌<◌, ◌^◌, ◌++◌, [], length, is_ok, OnOk, OnErr};
+ghost use Rattle.std.specs.Prelude.{if◌then◌else◌};
+ghost use Rattle.ud_passes.specs.names.NameTables.{names_in, Tabulates};
+ghost use Rattle.ud_passes.specs.names.UnlistedConditions.{unlisted_in, unlisted_text};
+ghost use Rattle.ud_passes.specs.names.UnlistedLines.{Grows};
+
+use std::alloc::{AllocError, Global};
+use tables::append_table;
+use texts::{append_unlisted, count_unlisted};
+use ud_model::Mode;
+
+mod conditions;
+mod line_numbers;
+mod tables;
+mod texts;
+
+/// The names of some files, and their conditions that can't be listed.
+#[derive(Drop)]
+pub struct Names {
+    alloc: Global,
+    /// The lists of the files' names, each of which is a line.
+    list: Vec<u8>,
+    /// The number of conditions that can't be listed.
+    hidden: usize,
+    /// True if these conditions are listed and not only counted.
+    lists_hidden: bool,
+    /// A line for each of them: the file, the line's number, and the line.
+    hidden_list: Vec<u8>,
+}
+
+impl Names {
+    /// Returns no names. `lists_hidden` says whether the conditions that can't be listed are shown
+    /// in a list of their own. Takes no memory; later calls take theirs from `alloc`.
+    pub fn new(alloc: Global, lists_hidden: bool) -> Names
+        ensures list { result.list.items ≡ [] }
+        ensures hidden { result.hidden ≡ 0 }
+        ensures lists { result.lists_hidden ≡ lists_hidden }
+        ensures hidden_list { result.hidden_list.items ≡ [] }
+    {
+        Names {
+            alloc,
+            list: Vec::new(alloc),
+            hidden: 0,
+            lists_hidden,
+            hidden_list: Vec::new(alloc),
+        }
+    }
+
+    /// Returns the number of conditions that can't be listed.
+    pub fn hidden(&self) -> usize
+        ensures { result ≡ self.now.hidden }
+    {
+        self.hidden
+    }
+
+    /// Returns a line for each of them: the file, the line's number, and the line.
+    pub fn hidden_list(&self) -> &[u8]
+        ensures { result.now ≡ self.now.hidden_list.items }
+    {
+        self.hidden_list.as_slice()
+    }
+
+    /// Adds the list of a file's names, each of which is a line.
+    ///
+    /// # Errors
+    /// Fails if memory runs out. Nothing was added then.
+    pub fn add(&mut self, list: &[u8]) -> Result<(), AllocError>
+        ensures list { self.new.list.items ≡
+            (if is_ok result then self.old.list.items ++ list.now else self.old.list.items) }
+        ensures hidden { self.new.hidden ≡ self.old.hidden }
+        ensures lists { self.new.lists_hidden ≡ self.old.lists_hidden }
+        ensures hidden_list { self.new.hidden_list.items ≡ self.old.hidden_list.items }
+    {
+        self.list.extend_from_slice(list)
+    }
+
+    /// Adds the conditions of a file's text that can't be listed. Its lines are read in this mode.
+    ///
+    /// The text may have any length and any bytes. If there are more conditions than a `usize` can
+    /// count, they are counted up to that.
+    ///
+    /// # Errors
+    /// Fails if memory runs out. Nothing was added then.
+    pub fn add_hidden(&mut self, file: &[u8], text: &[u8], mode: Mode) -> Result<(), AllocError>
+        ensures list { self.new.list.items ≡ self.old.list.items }
+        ensures hidden { OnOk result
+            (self.old.hidden + length (unlisted_in mode text.now) < 2 ^ 64 →
+            self.new.hidden ≡ self.old.hidden + length (unlisted_in mode text.now)) }
+        ensures lists { self.new.lists_hidden ≡ self.old.lists_hidden }
+        ensures hidden_list { OnOk result
+            (self.new.hidden_list.items ≡ self.old.hidden_list.items ++
+            (if self.old.lists_hidden then unlisted_text file.now mode text.now else [])) }
+        ensures unchanged { OnErr result ((self.new.hidden ≡ self.old.hidden) ×
+            (self.new.hidden_list.items ≡ self.old.hidden_list.items)) }
+    {
+        if self.lists_hidden {
+            list_unlisted(self.alloc, file, text, mode, &mut self.hidden_list)?;
+        }
+        let count = count_unlisted(self.alloc, text, mode);
+        self.hidden = self.hidden.saturating_add(count);
+        Ok(())
+    }
+
+    /// Appends a table of the names: a line for each name, most used first, with its number in 7
+    /// columns. Names with the same number ascend by their bytes.
+    ///
+    /// # Errors
+    /// Fails if memory runs out. A part of the table may have been appended.
+    pub fn append_to(&self, out: &mut Vec<u8>) -> Result<(), AllocError>
+        ensures grows { Grows out.old.items out.new.items }
+        ensures table { OnOk result
+            (Tabulates (names_in self.now.list.items) out.old.items out.new.items) }
+    {
+        append_table(self.alloc, self.list.as_slice(), out)
+    }
+}
+
+/// Appends the list of the conditions of a text that can't be listed.
+///
+/// # Errors
+/// Fails if memory runs out. Nothing was appended then.
+fn list_unlisted(
+    alloc: Global,
+    file: &[u8],
+    text: &[u8],
+    mode: Mode,
+    list: &mut Vec<u8>,
+) -> Result<(), AllocError>
+    ensures { list.new.items ≡ (if is_ok result
+        then list.old.items ++ unlisted_text file.now mode text.now else list.old.items) }
+{
+    let before = list.len();
+    match append_unlisted(alloc, file, text, mode, list) {
+        Ok(()) => Ok(()),
+        Err(error) => {
+            list.truncate(before);
+            Err(error)
+        }
+    }
+}

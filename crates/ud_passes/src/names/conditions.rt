@@ -1,0 +1,86 @@
+//! Whether the condition of a line can be listed.
+
+ghost use Rattle.std.specs.Prelude.{◌≡◌, ◌≤◌, [], length, is_some, true, false};
+ghost use Rattle.ud_model.specs.text.LineViews.{as_scan};
+ghost use Rattle.ud_model.specs.sections.Directives.{content_of, test_of};
+ghost use Rattle.ud_model.specs.conditions.Names.{names_of};
+ghost use Rattle.ud_model.specs.aids.Parsing.{expression_of};
+ghost use Rattle.ud_model.specs.declared.limits.TheConstants.{LINE_BYTES};
+ghost use Rattle.ud_sections.specs.directives.ParsedDirectives.{as_directive};
+ghost use Rattle.ud_passes.specs.names.UnlistedConditions.{has_unlisted, is_understood};
+ghost use Rattle.ud_passes.specs.names.UnlistedConditions as spec;
+
+use std::alloc::Global;
+use ud_cond::{Rules, Symbols, TokenFlags, names, residual};
+use ud_model::{Kind, LINE_BYTES, Scan, Test};
+use ud_sections::{Directive, directive};
+
+/// Returns whether the text after a keyword has a name.
+fn has_name(kind: Kind, text: &[u8]) -> bool
+    requires fits { length text.now ≤ LINE_BYTES }
+    ensures some { result ≡ true → ¬ (names_of kind text.now ≡ []) }
+    ensures none { result ≡ false → names_of kind text.now ≡ [] }
+{
+    names(kind, text).next().is_some()
+}
+
+/// Returns whether a text is one expression, by reading it without a symbol.
+#[inline(never)]
+fn reads_as_expression(alloc: Global, text: &[u8]) -> bool
+    requires fits { length text.now ≤ LINE_BYTES }
+    ensures { result ≡ is_some (expression_of text.now) }
+{
+    let symbols = Symbols::new(alloc);
+    let rules = Rules {
+        constants: false,
+        strict: false,
+    };
+    let mut flags = TokenFlags::new();
+    residual(text, &symbols, rules, &mut flags).is_some()
+}
+
+/// Returns whether a text is one expression. Most have a name.
+fn is_expression(alloc: Global, text: &[u8]) -> bool
+    requires fits { length text.now ≤ LINE_BYTES }
+    ensures { result ≡ is_some (expression_of text.now) }
+{
+    if has_name(Kind::If, text) {
+        return true;
+    }
+    reads_as_expression(alloc, text)
+}
+
+/// Returns whether the text after a keyword is understood, by the test that it is for.
+fn is_understood(alloc: Global, kind: Kind, text: &[u8]) -> bool
+    requires fits { length text.now ≤ LINE_BYTES }
+    ensures { result ≡ is_understood (test_of kind) text.now }
+{
+    match kind.test() {
+        Test::Nonzero => is_expression(alloc, text),
+        Test::Defined | Test::Undefined => has_name(kind, text),
+        Test::Nothing => true,
+    }
+}
+
+/// Returns whether a directive has a condition whose names can't be listed.
+fn is_unlisted(alloc: Global, found: &Directive<'_>) -> bool
+    requires fits { length found.now.after.now ≤ LINE_BYTES }
+    ensures { result ≡ spec.is_unlisted (as_directive found.now) }
+{
+    if found.kind.test() == Test::Nothing {
+        return false;
+    }
+    found.broken || !is_understood(alloc, found.kind, found.after)
+}
+
+/// Returns whether a line with this scan has a condition whose names can't be listed.
+pub(crate) fn has_unlisted(alloc: Global, scan: &Scan<'_>) -> bool
+    requires fits { length scan.now.masked.now ≤ LINE_BYTES }
+    ensures { result ≡ has_unlisted (content_of (as_scan scan.now)) }
+{
+    match directive(scan) {
+        Ok(Some(found)) => is_unlisted(alloc, &found),
+        Ok(None) => false,
+        Err(_) => false,
+    }
+}

@@ -1,0 +1,142 @@
+//! The rest of a condition.
+//!
+//! `residual` gives a flag for each token, by which the text that is left is copied. It takes the
+//! place of the text if it has the tokens that are left, and is as undecided as they are.
+
+ghost use Rattle.std.specs.Prelude.{◌≡◌, ◌≤◌, ◌&&◌, List, length, map, true, false, Some, IfOk};
+ghost use Rattle.std.specs.Prelude.{IsTrue};
+ghost use Rattle.std.specs.List.{list_any};
+ghost use Rattle.ud_model.specs.text.Lexemes.{Cell, shown};
+ghost use Rattle.ud_model.specs.conditions.Table.{Argument};
+ghost use Rattle.ud_model.specs.conditions.Expressions.{Expression};
+ghost use Rattle.ud_model.specs.conditions.Conditions.{expression_cond, Rules as SpecRules};
+ghost use Rattle.ud_model.specs.conditions.Residuals as residuals;
+ghost use Rattle.ud_model.specs.conditions.ResidualTexts as spec;
+ghost use Rattle.ud_model.specs.conditions.ResidualTexts.{is_literal, simplified_cells, keeps};
+ghost use Rattle.ud_model.specs.aids.Parsing.{expression_of};
+ghost use Rattle.ud_model.specs.declared.limits.TheConstants.{LINE_BYTES};
+ghost use Rattle.ud_cond.specs.symbols.SymbolTable.{TableRepresents};
+ghost use Rattle.ud_cond.specs.CondViews.{as_rules};
+ghost use Rattle.ud_passes.specs.pruning.Cells.{AreCells, IsUnknownResidual, IsFound};
+
+use crate::pruning::cells::{CellBytes, LeftText};
+use crate::pruning::left_texts::append_left;
+use crate::pruning::tokens::has_tokens;
+use std::alloc::{AllocError, Global};
+use ud_cond::{Rules, Symbols, TokenFlags, condition, residual};
+use ud_model::bytes::is_word_byte;
+use ud_model::{Cond, Kind, LINE_BYTES};
+
+/// The rest of a condition, and the flags of its tokens.
+#[derive(Drop)]
+pub(crate) struct LeftCondition {
+    flags: TokenFlags,
+    /// The text that is left.
+    pub(crate) text: LeftText,
+}
+
+/// Returns whether a text begins with a word byte.
+fn begins_word(text: &[u8]) -> bool
+    ensures { (cells : List Cell) → map shown cells ≡ text.now →
+        result ≡ spec.begins_word cells }
+{
+    match text.first() {
+        Some(byte) => is_word_byte(*byte),
+        None => false,
+    }
+}
+
+/// Returns whether the text of an `#if` or `#elif` is unknown.
+fn is_unknown(text: &[u8], symbols: &Symbols, rules: Rules) -> bool
+    requires fits { length text.now ≤ LINE_BYTES }
+    ensures { (calls : List Argument) → TableRepresents symbols.now calls →
+        result ≡ residuals.is_unknown (expression_cond text.now calls (as_rules rules)) }
+{
+    condition(Kind::If, text, symbols, rules).cond == Cond::Unknown
+}
+
+/// Returns whether the rest of a text is read as the tokens with a true flag.
+fn is_read(text: &[u8], flags: &[bool], left: &[u8]) -> bool
+    ensures { (table : List Argument) (rules : SpecRules) (e : Expression) →
+        expression_of text.now ≡ Some e → flags.now ≡ keeps table rules e → (cells : List Cell) →
+        map shown cells ≡ left.now → result ≡ spec.is_read table rules e cells }
+{
+    if begins_word(left) {
+        return false;
+    }
+    has_tokens(text, flags, left)
+}
+
+/// Returns whether the rest of a text is read so, and is unknown.
+fn may_stand(text: &[u8], flags: &[bool], left: &[u8], symbols: &Symbols, rules: Rules) -> bool
+    requires fits { length left.now ≤ LINE_BYTES }
+    ensures { (calls : List Argument) → TableRepresents symbols.now calls → (e : Expression) →
+        expression_of text.now ≡ Some e → flags.now ≡ keeps calls (as_rules rules) e →
+        (cells : List Cell) → map shown cells ≡ left.now →
+        result ≡ (spec.is_read calls (as_rules rules) e cells &&
+        residuals.is_unknown (expression_cond left.now calls (as_rules rules))) }
+{
+    if !is_read(text, flags, left) {
+        return false;
+    }
+    is_unknown(left, symbols, rules)
+}
+
+impl LeftCondition {
+    /// Returns nothing.
+    pub(crate) fn new(alloc: Global) -> LeftCondition {
+        LeftCondition {
+            flags: TokenFlags::new(),
+            text: LeftText::new(alloc),
+        }
+    }
+
+    /// Finds the residual of a text. Returns whether it is unknown.
+    fn find_residual(&mut self, shown: &[u8], symbols: &Symbols, rules: Rules) -> bool
+        requires fits { length shown.now ≤ LINE_BYTES }
+        ensures yes { IsTrue result → (calls : List Argument) → TableRepresents symbols.now calls →
+            IsUnknownResidual calls (as_rules rules) shown.now self.new.flags }
+        ensures no { result ≡ false → (calls : List Argument) → TableRepresents symbols.now calls →
+            (e : Expression) → expression_of shown.now ≡ Some e →
+            residuals.is_unknown (residuals.residual calls (as_rules rules) e).cond ≡ false }
+    {
+        match residual(shown, symbols, rules, &mut self.flags) {
+            Some(cond) => cond == Cond::Unknown,
+            None => false,
+        }
+    }
+
+    /// Finds the rest of the text of an `#if` or `#elif` without a quote. Returns whether it
+    /// may take the text's place.
+    ///
+    /// # Errors
+    /// Fails if memory runs out.
+    pub(crate) fn find(
+        &mut self,
+        text: CellBytes<'_>,
+        symbols: &Symbols,
+        rules: Rules,
+    ) -> Result<bool, AllocError>
+        requires fits { length text.shown.now ≤ LINE_BYTES }
+        ensures fewer { IfOk result (λ found. found ≡ true →
+            length self.new.text.bytes.items ≤ length text.entry.bytes.now) }
+        ensures found { IfOk result (λ found. (calls : List Argument) →
+            TableRepresents symbols.now calls → (cells : List Cell) →
+            AreCells cells text.entry.bytes.now text.entry.shown.now →
+            list_any is_literal cells ≡ false →
+            IsFound found (simplified_cells calls (as_rules rules) cells) cells
+            self.new.text.bytes.items self.new.text.shown.items) }
+    {
+        if !is_unknown(text.shown, symbols, rules) {
+            return Ok(false);
+        }
+        if !self.find_residual(text.shown, symbols, rules) {
+            return Ok(false);
+        }
+        self.text.clear();
+        append_left(text, self.flags.as_slice(), &mut self.text)?;
+        let left = self.text.shown.as_slice();
+        let flags = self.flags.as_slice();
+        Ok(may_stand(text.shown, flags, left, symbols, rules))
+    }
+}

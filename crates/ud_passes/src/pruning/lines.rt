@@ -1,0 +1,253 @@
+//! The rest of a line.
+//!
+//! The condition of an `#if` or `#elif` that joins no other line is edited. The edited line is then
+//! read by itself. It takes the line's place only if it is the line that is meant.
+
+ghost use Rattle.std.specs.Prelude.{◌≡◌, ◌≤◌, ◌+◌, List, [], false, length, map, IfOk, IfSome};
+ghost use Rattle.std.specs.Prelude.{IfNone};
+ghost use Rattle.std.specs.List.{list_any};
+ghost use Rattle.ud_model.specs.text.Bytes.{is_quote};
+ghost use Rattle.ud_model.specs.text.Lines.{Line as TextLine, NoNewline, text_of};
+ghost use Rattle.ud_model.specs.text.Splicing.{is_empty};
+ghost use Rattle.ud_model.specs.text.Scans.{Scan as LineScan};
+ghost use Rattle.ud_model.specs.text.Scanning.{scan_after_run};
+ghost use Rattle.ud_model.specs.text.LineViews.{as_line, as_scan};
+ghost use Rattle.ud_model.specs.conditions.Table.{Argument};
+ghost use Rattle.ud_model.specs.conditions.Conditions.{Rules as SpecRules};
+ghost use Rattle.ud_model.specs.sections.Directives.{content_of, directive as has_directive};
+ghost use Rattle.ud_model.specs.sections.Directives.{Directive as HasDirective};
+ghost use Rattle.ud_model.specs.output.SimplifiedTexts as spec;
+ghost use Rattle.ud_model.specs.output.SimplifiedTexts.{has_condition, simplified_line, line_by};
+ghost use Rattle.ud_model.specs.output.SimplifiedTexts.{left_line, left_cells_of};
+ghost use Rattle.ud_model.specs.text.Lexemes.{shown};
+ghost use Rattle.ud_model.specs.declared.limits.TheConstants.{LINE_BYTES};
+ghost use Rattle.ud_cond.specs.symbols.SymbolTable.{TableRepresents};
+ghost use Rattle.ud_cond.specs.CondViews.{as_rules};
+ghost use Rattle.ud_text.specs.scan.ScannerState.{ScannerRepresents};
+ghost use Rattle.ud_sections.specs.directives.ParsedDirectives.{as_directive, content_found};
+ghost use Rattle.ud_passes.specs.pruning.EditedLines.{c_reading, IsScannedAlone, IsEditedTo};
+ghost use Rattle.ud_passes.specs.pruning.EditedLines.{is_meant};
+ghost use Rattle.ud_passes.specs.pruning.EditedLines.{IsCondition, HasNoQuote, line_if_read};
+
+use crate::pruning::cells::{CellBytes, split_bytes};
+use crate::pruning::conditions::LeftCondition;
+use std::alloc::{AllocError, Global};
+use ud_cond::{Rules, Symbols};
+use ud_model::{Kind, Line, Mode, Scan};
+use ud_sections::{Cut, Directive, directive};
+use ud_text::{Scanner, ScannerOf, line_in};
+
+/// The most bytes of a short line's body.
+pub(crate) const SHORT_LINE_BYTES: usize = 1024;
+
+/// An editor of lines, with the last line that it edited.
+#[derive(Drop)]
+pub(crate) struct LineEditor {
+    condition: LeftCondition,
+    /// The bytes of the edited line, with its ending.
+    pub(crate) bytes: Vec<u8>,
+}
+
+/// Returns whether a text has a quote.
+fn has_quote(text: &[u8]) -> bool
+    ensures { result ≡ list_any is_quote text.now }
+{
+    text.iter().any(|byte| matches!(*byte, b'"' | b'\''))
+}
+
+/// Returns whether two directives are both `#if`, or both `#elif`.
+fn same_if(kind: Kind, other: Kind) -> bool
+    ensures { result ≡ spec.same_if kind other }
+{
+    match (kind, other) {
+        (Kind::If, Kind::If) => true,
+        (Kind::Elif, Kind::Elif) => true,
+        _ => false,
+    }
+}
+
+/// Returns whether a line has a directive of this kind with this text.
+fn is_condition(found: Result<Option<Directive<'_>>, Cut>, kind: Kind, text: &[u8]) -> bool
+    ensures { result ≡ has_condition kind text.now (content_found found.entry) }
+{
+    match found {
+        Ok(Some(found)) => {
+            if same_if(kind, found.kind) {
+                found.after == text
+            } else {
+                false
+            }
+        }
+        Ok(None) => false,
+        Err(_) => false,
+    }
+}
+
+/// Returns whether a directive is an `#if` or an `#elif`.
+fn is_if(kind: Kind) -> bool
+    ensures { result ≡ spec.same_if kind kind }
+{
+    matches!(kind, Kind::If | Kind::Elif)
+}
+
+/// Returns the `#if` or `#elif` of a line, if it has one.
+fn condition_on<'a>(scan: &Scan<'a>) -> Option<Directive<'a>>
+    ensures some { IfSome result (λ d. (content_of (as_scan scan.now) ≡
+        has_directive (as_directive d)) ×
+        (d.keyword.at + d.keyword.len + length d.after.now ≡ length scan.now.masked.now)) }
+    ensures none { IfNone result ((table : List Argument) (rules : SpecRules) (l : TextLine) →
+        line_by table rules (as_scan scan.now) l (content_of (as_scan scan.now)) ≡ l) }
+{
+    match directive(scan) {
+        Ok(Some(found)) => { if is_if(found.kind) { Some(found) } else { None } }
+        Ok(None) => None,
+        Err(_) => None,
+    }
+}
+
+/// Reads a line as the first one of a text. Returns whether it joins no other line, and has a
+/// directive of this kind with this text.
+fn reads_as<const N: usize>(
+    scanner: &mut ScannerOf<N>,
+    line: &Line<'_>,
+    kind: Kind,
+    text: &[u8],
+) -> bool
+    requires fits { length line.now.body.now ≤ N }
+    requires one_line { NoNewline line.now.body.now }
+    requires new { ScannerRepresents scanner.old [] }
+    ensures { result ≡ is_meant kind text.now (scan_after_run [] (as_line line.now)) }
+{
+    let scan = scanner.read(Mode::C, line);
+    if scan.joins_after {
+        return false;
+    }
+    is_condition(directive(&scan), kind, text)
+}
+
+/// Returns whether a line, read by itself, joins no other line, and has a directive of this kind
+/// with this text.
+fn is_meant(line: &Line<'_>, kind: Kind, text: &[u8]) -> bool
+    requires fits { length line.now.body.now ≤ LINE_BYTES }
+    requires one_line { NoNewline line.now.body.now }
+    ensures { result ≡ is_meant kind text.now (scan_after_run [] (as_line line.now)) }
+{
+    if line.body.len() <= SHORT_LINE_BYTES {
+        let mut scanner = ScannerOf::<SHORT_LINE_BYTES>::new();
+        return reads_as(&mut scanner, line, kind, text);
+    }
+    let mut scanner = Scanner::new();
+    reads_as(&mut scanner, line, kind, text)
+}
+
+/// Returns whether the bytes of an edited line take the place of the line: they are other ones, and
+/// are read as the directive of this kind with this text.
+fn takes_place(bytes: &[u8], line: &Line<'_>, kind: Kind, text: &[u8]) -> bool
+    requires fits { length bytes.now ≤ LINE_BYTES }
+    requires one_line { NoNewline line.now.body.now }
+    requires ended { is_empty line.now.ending.now ≡ false }
+    ensures { (table : List Argument) (rules : SpecRules) (d : HasDirective) →
+        IsCondition (as_line line.now) d → d.kind ≡ kind →
+        map shown (left_cells_of table rules (as_line line.now) d) ≡ text.now →
+        bytes.now ≡ text_of (left_line table rules (as_line line.now) d) →
+        IsEditedTo result (text_of (line_if_read table rules (as_line line.now) d))
+        (as_line line.now) bytes.now }
+{
+    let edited = line_in(bytes, line.number);
+    if edited.ending != line.ending {
+        return false;
+    }
+    if edited.body == line.body {
+        return false;
+    }
+    is_meant(&edited, kind, text)
+}
+
+impl LineEditor {
+    /// Returns an editor.
+    pub(crate) fn new(alloc: Global) -> LineEditor {
+        LineEditor {
+            condition: LeftCondition::new(alloc),
+            bytes: Vec::new(alloc),
+        }
+    }
+
+    /// Edits a line with this scan. Returns whether `bytes` has then other bytes, which take the
+    /// line's place.
+    ///
+    /// # Errors
+    /// Fails if memory runs out.
+    pub(crate) fn edit(
+        &mut self,
+        line: &Line<'_>,
+        scan: &Scan<'_>,
+        symbols: &Symbols,
+        rules: Rules,
+    ) -> Result<bool, AllocError>
+        requires fits { length (text_of (as_line line.now)) ≤ LINE_BYTES }
+        requires masked { length scan.now.masked.now ≤ LINE_BYTES }
+        requires one_line { NoNewline line.now.body.now }
+        ensures { IfOk result (λ edited. (calls : List Argument) →
+            TableRepresents symbols.now calls →
+            IsScannedAlone (as_scan scan.now) (as_line line.now) →
+            IsEditedTo edited (text_of (simplified_line calls (as_rules rules)
+            (c_reading (as_line line.now) (as_scan scan.now)))) (as_line line.now)
+            self.new.bytes.items) }
+    {
+        if scan.joins_before || scan.joins_after || line.ending.is_empty() {
+            return Ok(false);
+        }
+        let Some(found) = condition_on(scan) else {
+            return Ok(false);
+        };
+        if has_quote(found.after) {
+            return Ok(false);
+        }
+        self.edit_condition(line, &found, symbols, rules)
+    }
+
+    /// Edits a line with this `#if` or `#elif`. Returns whether `bytes` has then other bytes, which
+    /// take the line's place.
+    ///
+    /// # Errors
+    /// Fails if memory runs out.
+    fn edit_condition(
+        &mut self,
+        line: &Line<'_>,
+        found: &Directive<'_>,
+        symbols: &Symbols,
+        rules: Rules,
+    ) -> Result<bool, AllocError>
+        requires fits { length (text_of (as_line line.now)) ≤ LINE_BYTES }
+        requires masked { found.now.keyword.at + found.now.keyword.len +
+            length found.now.after.now ≤ LINE_BYTES }
+        requires one_line { NoNewline line.now.body.now }
+        requires ended { is_empty line.now.ending.now ≡ false }
+        ensures { IfOk result (λ edited. (calls : List Argument) →
+            TableRepresents symbols.now calls →
+            IsCondition (as_line line.now) (as_directive found.now) →
+            HasNoQuote (as_line line.now) (as_directive found.now) →
+            IsEditedTo edited (text_of (line_if_read calls (as_rules rules) (as_line line.now)
+            (as_directive found.now))) (as_line line.now) self.new.bytes.items) }
+    {
+        let (front, bytes) = split_bytes(line.body, found.keyword.at + found.keyword.len);
+        let text = CellBytes {
+            bytes,
+            shown: found.after,
+        };
+        if !self.condition.find(text, symbols, rules)? {
+            return Ok(false);
+        }
+        let left = &self.condition.text;
+        self.bytes.clear();
+        self.bytes.extend_from_slice(front)?;
+        self.bytes.extend_from_slice(left.bytes.as_slice())?;
+        self.bytes.extend_from_slice(line.ending)?;
+        Ok(takes_place(
+            self.bytes.as_slice(),
+            line,
+            found.kind,
+            left.shown.as_slice(),
+        ))
+    }
+}

@@ -1,0 +1,56 @@
+//! The names of a text that symbols have.
+
+ghost use Rattle.std.specs.Prelude.{◌≡◌, ◌≤◌, List, ℕ, false, length};
+ghost use Rattle.std.specs.List.{list_any};
+ghost use Rattle.ud_model.specs.conditions.Conditions.{is_listed};
+ghost use Rattle.ud_model.specs.conditions.Names.{names_of};
+ghost use Rattle.ud_model.specs.conditions.Table.{Argument};
+ghost use Rattle.ud_model.specs.declared.limits.TheConstants.{LINE_BYTES};
+ghost use Rattle.ud_cond.specs.symbols.SymbolTable.{TableRepresents};
+ghost use Rattle.ud_passes.specs.remaining.ListedNames.{has_listed};
+
+use ud_cond::{Symbols, names};
+use ud_model::Kind;
+use ud_model::bytes::{is_word_byte, word_len};
+
+/// Returns whether a symbol has this name.
+fn is_listed(symbols: &Symbols, name: &[u8]) -> bool
+    ensures { (calls : List Argument) → TableRepresents symbols.now calls →
+        result ≡ is_listed calls name.now }
+{
+    symbols.find(name).is_some()
+}
+
+/// Returns whether a word of a text is a symbol's name.
+pub(crate) fn has_listed(symbols: &Symbols, text: &[u8]) -> bool
+    ensures { (calls : List Argument) → TableRepresents symbols.now calls →
+        result ≡ has_listed calls false text.now }
+{
+    let mut rest = text;
+    while let Some((first, others)) = rest.split_first() {
+        if is_word_byte(*first) {
+            let (word, after) = rest.split_at(word_len(rest));
+            if is_listed(symbols, word) {
+                return true;
+            }
+            rest = after;
+        } else {
+            rest = others;
+        }
+    }
+    false
+}
+
+/// Returns whether an operand of an `#if` or `#elif` is a symbol's name.
+pub(crate) fn has_listed_operand(symbols: &Symbols, kind: Kind, text: &[u8]) -> bool
+    requires fits { length text.now ≤ LINE_BYTES }
+    ensures { (calls : List Argument) → TableRepresents symbols.now calls →
+        result ≡ list_any (is_listed calls) (names_of kind text.now) }
+{
+    for name in names(kind, text) {
+        if is_listed(symbols, name) {
+            return true;
+        }
+    }
+    false
+}

@@ -1,0 +1,117 @@
+//! Why a condition stays.
+
+ghost use Rattle.std.specs.Prelude.{◌≡◌, ◌≤◌, List, length, not};
+ghost use Rattle.std.specs.List.{list_any};
+ghost use Rattle.ud_model.specs.conditions.Conditions.{condition_of};
+ghost use Rattle.ud_model.specs.conditions.Residuals.{is_unknown};
+ghost use Rattle.ud_model.specs.conditions.Table.{Argument};
+ghost use Rattle.ud_model.specs.aids.Parsing.{expression_of};
+ghost use Rattle.ud_model.specs.sections.Directives.{test_of};
+ghost use Rattle.ud_model.specs.declared.limits.TheConstants.{LINE_BYTES};
+ghost use Rattle.ud_cond.specs.CondViews.{as_rules};
+ghost use Rattle.ud_cond.specs.symbols.SymbolTable.{TableRepresents};
+ghost use Rattle.ud_passes.specs.remaining.Reasons as spec;
+ghost use Rattle.ud_passes.specs.remaining.Searches.{as_condition};
+
+use crate::remaining::conditions::Begun;
+use crate::remaining::names::has_listed_operand;
+use ud_cond::{Rules, Symbols, TokenFlags, condition, residual};
+use ud_model::{Cond, Kind, LINE_BYTES, Test};
+
+/// Why a condition stays that names a symbol, though operands that are decided are removed.
+#[derive(Clone, Copy)]
+pub(crate) enum Reason {
+    /// It is on several lines.
+    SeveralLines,
+    /// Unifdef decides it when it is read as C, but didn't read it so.
+    Decided,
+    /// It isn't understood.
+    NotUnderstood,
+    /// The rest of it would be read as something else.
+    Misread,
+    /// It names symbols among the arguments of calls alone.
+    InArguments,
+    /// It has an operand that is unknown.
+    UnknownOperand,
+}
+
+impl Reason {
+    /// Returns the reason in words.
+    pub(crate) fn phrase(self) -> &'static [u8]
+        ensures { result.now ≡ spec.phrase self }
+    {
+        match self {
+            Reason::SeveralLines => b"over several lines",
+            Reason::Decided => b"decided as C",
+            Reason::NotUnderstood => b"not understood",
+            Reason::Misread => b"its rest would be misread",
+            Reason::InArguments => b"among arguments of a call",
+            Reason::UnknownOperand => b"an operand is unknown",
+        }
+    }
+}
+
+/// Returns whether a condition is unknown.
+fn is_unknown(kind: Kind, text: &[u8], symbols: &Symbols, rules: Rules) -> bool
+    requires fits { length text.now ≤ LINE_BYTES }
+    ensures { (calls : List Argument) → TableRepresents symbols.now calls →
+        result ≡ is_unknown (condition_of kind text.now calls (as_rules rules)).cond }
+{
+    condition(kind, text, symbols, rules).cond == Cond::Unknown
+}
+
+/// Returns whether a flag is false.
+fn has_false(flags: &[bool]) -> bool
+    ensures { result ≡ list_any not flags.now }
+{
+    flags.iter().any(|flag| !*flag)
+}
+
+/// Returns why an unknown `#if` or `#elif` stays. The flags are a local of this function, so that
+/// no other one clears their memory.
+#[inline(never)]
+fn why_expression(text: &[u8], symbols: &Symbols, rules: Rules) -> Reason
+    requires fits { length text.now ≤ LINE_BYTES }
+    ensures { (calls : List Argument) → TableRepresents symbols.now calls →
+        result ≡ spec.why_tree calls (as_rules rules) (expression_of text.now) }
+{
+    let mut flags = TokenFlags::new();
+    if residual(text, symbols, rules, &mut flags).is_none() {
+        return Reason::NotUnderstood;
+    }
+    if has_false(flags.as_slice()) {
+        return Reason::Misread;
+    }
+    if has_listed_operand(symbols, Kind::If, text) {
+        Reason::UnknownOperand
+    } else {
+        Reason::InArguments
+    }
+}
+
+/// Returns why an unknown condition stays.
+fn why_unknown(kind: Kind, text: &[u8], symbols: &Symbols, rules: Rules) -> Reason
+    requires fits { length text.now ≤ LINE_BYTES }
+    ensures { (calls : List Argument) → TableRepresents symbols.now calls →
+        result ≡ spec.why_unknown calls (as_rules rules) (test_of kind) text.now }
+{
+    match kind.test() {
+        Test::Nonzero => why_expression(text, symbols, rules),
+        Test::Defined | Test::Undefined | Test::Nothing => Reason::NotUnderstood,
+    }
+}
+
+/// Returns why a condition stays that names a symbol.
+pub(crate) fn why_stays(begun: &Begun<'_>, after: &[u8], symbols: &Symbols, rules: Rules) -> Reason
+    ensures { (calls : List Argument) → TableRepresents symbols.now calls →
+        result ≡ spec.why_stays calls (as_rules rules) (as_condition begun.now after.now) }
+{
+    if begun.is_spanning || after.len() > LINE_BYTES {
+        return Reason::SeveralLines;
+    }
+    if is_unknown(begun.kind, after, symbols, rules) {
+        why_unknown(begun.kind, after, symbols, rules)
+    } else {
+        Reason::Decided
+    }
+}

@@ -1,4 +1,0 @@
-pub mod PrunedTexts
-pub mod Cells
-pub mod EditedLines
-pub mod Passing
