@@ -1,9 +1,10 @@
 -- Conditions: a line more, and the end of a condition.
-use Rattle.std.proofs.Common.{◌≡◌, List, [], ◌∷◌, ◌++◌, Bool, true, false, ◌&&◌, Option, None, sym, ap, arith}
+use Rattle.std.proofs.Common.{◌≡◌, List, [], ◌∷◌, ◌++◌, Bool, true, false, ◌&&◌, Option, Some, None, sym, ap, arith}
 use Rattle.std.proofs.lemmas.Grind.{common_steps}
 use Rattle.ud_model.specs.text.Scans.{Reading}
 use Rattle.ud_model.specs.sections.Directives.{text, content_of}
-use Rattle.ud_passes.specs.remaining.Conditions.{Condition, fits, joins_next, conditions_in}
+use Rattle.ud_passes.specs.Passes.{fits}
+use Rattle.ud_passes.specs.remaining.Conditions.{Condition, joins_next, conditions_in}
 use Rattle.ud_passes.specs.remaining.Searches.{extended, taken, rest_from, ended}
 
 -- A line that fits is taken as it is.
@@ -12,6 +13,14 @@ taken_fitting p r e = grind arith
 
 pub joins_fitting : (r : Reading) → fits r.line ≡ true → r.scan.joins_after ≡ joins_next r
 joins_fitting r e = sym (ap (λ (b : Bool). b && r.scan.joins_after) e)
+
+-- A line that doesn't fit adds nothing.
+pub taken_long : (p : Option Condition) (r : Reading) → fits r.line ≡ false → taken p r ≡ p
+taken_long None r e = grind arith
+taken_long (Some c) r e = grind (arith, common_steps)
+
+pub joins_long : (r : Reading) → fits r.line ≡ false → joins_next r ≡ false
+joins_long r e = ap (λ (b : Bool). b && r.scan.joins_after) e
 
 -- A line more.
 pub one_line : (p : Option Condition) (r : Reading) (rs : List Reading) → rest_from p true (r ∷ rs) ≡ rest_from (taken p r) (joins_next r) rs

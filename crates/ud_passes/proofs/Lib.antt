@@ -1,3 +1,4 @@
+pub mod WalkLemmas
 pub mod UnlistedLemmas
 pub mod TableLemmas
 pub mod CellLemmas

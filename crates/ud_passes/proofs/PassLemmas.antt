@@ -1,28 +1,25 @@
 -- The pass: the rest of one line more, and of many text lines more.
-use Rattle.std.proofs.Common.{◌≡◌, ℕ, ◌+◌, ◌≤◌, List, [], ◌∷◌, ◌++◌, map, Bool, true, false, not, ◌&&◌, if◌then◌else◌, bytes_eq, refl, sym, ◌∙◌, ap, ap₂, subst, append_assoc, append-nil, arith}
+use Rattle.std.proofs.Common.{◌≡◌, ℕ, ◌+◌, List, [], ◌∷◌, ◌++◌, length, map, suc, Bool, true, false, not, ◌&&◌, if◌then◌else◌, bytes_eq, refl, sym, ◌∙◌, ap, ap₂, subst, append_assoc, append-nil, arith}
 use Rattle.std.specs.List.{concat}
 use Rattle.std.proofs.lemmas.List.{map-append}
 use Rattle.std.proofs.lemmas.Slice.Eq.{bytes_eq-Decides}
-use Rattle.std.proofs.lemmas.Grind.{common_steps}
-use Rattle.ud_model.specs.text.Lines.{Line, text_of, line_at, numbered_from, texts_of, whole_lines}
+use Rattle.ud_model.specs.text.Lines.{Line, text_of}
 use Rattle.ud_model.specs.text.Scans.{Scan, Reading}
-use Rattle.ud_model.specs.text.Scanning.{scan_after_run, scan_after, next_reading, readings_after}
+use Rattle.ud_model.specs.text.Scanning.{scan_after_run, scan_after, next_reading}
 use Rattle.ud_model.specs.sections.Directives.{Content, cut_keyword, directive, text, content_of}
 use Rattle.ud_model.specs.conditions.Table.{Argument}
 use Rattle.ud_model.specs.conditions.Conditions.{Rules}
-use Rattle.ud_model.specs.output.InsertedLines.{read_as, in_mode}
 use Rattle.ud_model.specs.output.SimplifiedTexts.{is_lone, keeps_ending, left_line, is_read_back, line_by, simplified_line}
 use Rattle.ud_model.specs.declared.kind.Mode.TheVariants.{C}
-use Rattle.ud_model.proofs.text.LinesLemmas.{text_of-line_at, map-numbered_from}
 use Rattle.ud_model.proofs.text.ScanBytes.{scan_after-same}
 use Rattle.ud_model.proofs.output.Each.{Pairs, pair}
 use Rattle.ud_model.proofs.output.SimplifiedReadings.{ReadingSimplified, reading_stays, reading_edited, readings_simplified}
-use Rattle.ud_text.specs.bulk.BulkScanning.{HaveNoDirective, AreWholeLines}
-use Rattle.ud_text.proofs.lemmas.bulk.QuietLineLemmas.{ended_lines}
-use Rattle.ud_text.proofs.lemmas.scan.LongerTextLemmas.{after, here, reading, read_texts, read_line, k_scan}
-use Rattle.ud_passes.specs.pruning.PrunedTexts.{fits, pruned_line, pruned_bytes, pruned_text, is_edited, edited_among, edited_count}
+use Rattle.ud_passes.specs.Passes.{fits}
+use Rattle.ud_passes.specs.Walks.{read_after, AreTexts, HaveBytes, Walked}
+use Rattle.ud_passes.specs.pruning.PrunedTexts.{pruned_line, pruned_bytes, is_edited, edited_among}
 use Rattle.ud_passes.specs.pruning.EditedLines.{IsEditedTo, IsScannedAlone}
-use Rattle.ud_passes.specs.pruning.Passing.{PrunesMore}
+use Rattle.ud_passes.specs.pruning.Passing.{IsPrunedNext, Pruned}
+use Rattle.ud_passes.specs.declared.walk.Walk.{Walk}
 
 concat-append : (xs ys : List (List ℕ)) → concat (xs ++ ys) ≡ concat xs ++ concat ys
 concat-append [] ys = refl
@@ -58,12 +55,9 @@ module _ (table : List Argument) (rules : Rules) where
 
   -- 2. The number of a line never counts.
 
-  module _ (b e : List ℕ) (n m : ℕ) where
-    abbrev l : Line
-    l = record { body = b; ending = e; number = n }
-
+  module _ (l : Line) (m : ℕ) where
     abbrev k : Line
-    k = record { body = b; ending = e; number = m }
+    k = record l { number = m }
 
     by_content : (scan : Scan) (c : Content) → text_of (line_by table rules scan l c) ≡ text_of (line_by table rules scan k c)
     by_content scan cut_keyword = refl
@@ -77,98 +71,74 @@ module _ (table : List Argument) (rules : Rules) where
         by true = refl
         by false = refl
 
-    scans_same : (before : List Reading) → scan_after before C l ≡ scan_after before C k
-    scans_same before = scan_after-same before before C l k refl refl refl
-
-    renumbered : (before : List Reading) → pruned_bytes table rules (next_reading before C l) ≡ pruned_bytes table rules (next_reading before C k)
+    renumbered : (scan : Scan) → pruned_bytes table rules (record { line = l; mode = C; scan = scan }) ≡ pruned_bytes table rules (record { line = k; mode = C; scan = scan })
     unfolding pruned_line
-    renumbered before = grind (arith, by_content, scans_same)
+    renumbered scan = grind (arith, by_content)
 
-  -- 3. The lines of a longer text.
+  -- 3. More lines.
 
   abbrev pieces : List Reading → List ℕ
-  pieces rs = concat (map (λ r. pruned_bytes table rules r) rs)
+  pieces rs = concat (map (pruned_bytes table rules) rs)
 
-  one_more : (before : List Reading) (r : Reading) → pieces (before ++ r ∷ []) ≡ pieces before ++ pruned_bytes table rules r
-  one_more before r = grind (arith, common_steps, map-append, concat-append)
+  pieces-append : (before rs : List Reading) → pieces (before ++ rs) ≡ pieces before ++ pieces rs
+  pieces-append before rs = ap concat (map-append (pruned_bytes table rules) before rs) ∙ concat-append (map (pruned_bytes table rules) before) (map (pruned_bytes table rules) rs)
 
-  count_more : (before : List Reading) (r : Reading) → edited_among table rules (before ++ r ∷ []) ≡ edited_among table rules before + (if is_edited table rules r then 1 else 0)
-  count_more [] r = grind arith
-  count_more (q ∷ before) r = grind (arith, count_more before r)
+  count-append : (before rs : List Reading) → edited_among table rules (before ++ rs) ≡ edited_among table rules before + edited_among table rules rs
+  count-append [] rs = omega arith
+  count-append (q ∷ before) rs = grind (arith, count-append before rs)
 
-  texts_more : (before : List Reading) (ls : List Line) → HaveNoDirective C before ls →
-      (pieces (readings_after before (map (in_mode C) ls)) ≡ pieces before ++ concat (map text_of ls)) ×
-      (edited_among table rules (readings_after before (map (in_mode C) ls)) ≡ edited_among table rules before)
-  texts_more before [] h = (sym (append-nil (pieces before)), refl)
-  texts_more before (l ∷ ls) h =
-      let r : Reading = next_reading before C l in
-      let i = texts_more (before ++ r ∷ []) ls h.1 in
-      let p : pruned_bytes table rules r ≡ text_of l = text_bytes r h.0 in (
-        i.0 ∙ ap (λ (x : List ℕ). x ++ concat (map text_of ls)) (one_more before r ∙ ap (λ (x : List ℕ). pieces before ++ x) p) ∙ append_assoc (pieces before) (text_of l) (concat (map text_of ls)),
-        i.1 ∙ count_more before r ∙ ap (λ (b : Bool). edited_among table rules before + (if b then 1 else 0)) (not_edited r p) ∙ omega arith,
-      )
+  texts_stay : (rs : List Reading) → AreTexts rs → (pieces rs ≡ concat (map (λ (r : Reading). text_of r.line) rs)) × (edited_among table rules rs ≡ 0)
+  texts_stay [] h = (refl, refl)
+  texts_stay (r ∷ rs) h =
+      let i = texts_stay rs h.1 in
+      let p : pruned_bytes table rules r ≡ text_of r.line = text_bytes r h.0 in
+      (ap₂ (λ (x y : List ℕ). x ++ y) p i.0, ap (λ (b : Bool). if b then suc (edited_among table rules rs) else edited_among table rules rs) (not_edited r p) ∙ i.1)
 
-module _ (done p : List ℕ) (ends : AreWholeLines done) where
-  -- Many text lines.
-  module _ (whole : AreWholeLines p) where
-    pub texts_skipped : (table : List Argument) (rules : Rules) → HaveNoDirective C (read_as C done) (numbered_from (after C done p ends) (whole_lines p)) → (old new : List ℕ) → new ≡ old ++ p → PrunesMore table rules done p false old new
-    texts_skipped table rules h old new e =
-        let i = texts_more table rules (read_as C done) (numbered_from (after C done p ends) (whole_lines p)) h in
-        let all : concat (map text_of (numbered_from (after C done p ends) (whole_lines p))) ≡ p = ap concat (map-numbered_from (after C done p ends) (whole_lines p)) ∙ sym (ended_lines p whole) in
-        record {
-          piece = p;
-          appended = e;
-          text = ap (λ (rs : List Reading). pieces table rules rs) (read_texts C done p ends whole) ∙ i.0 ∙ ap (λ (x : List ℕ). pruned_text table rules done ++ x) all;
-          count = ap (λ (rs : List Reading). edited_among table rules rs) (read_texts C done p ends whole) ∙ i.1 ∙ omega arith;
-        }
+  last_pair : {P : Reading → Reading → Type 0} (xs : List Reading) (x : Reading) (ys : List Reading) → Pairs P (xs ++ x ∷ []) ys → (y : Reading) × P x y
+  last_pair [] x _ (pair {y = y} h q) = (y, h)
+  last_pair (w ∷ xs) x _ (pair h q) = last_pair xs x _ q
 
-  -- One line.
-  module _ (one : texts_of p ≡ p ∷ []) where
-    abbrev line : Line
-    line = here C done p ends one
+  -- The place of a walk after more lines.
+  module _ (text start : List ℕ) (count : ℕ) (walk : Walk) (out : List ℕ) (l : Pruned table rules text start count walk out) (next : Walk) (more : List ℕ) where
+    lines_more : (rs : List Reading) (n : ℕ) → n ≡ count + edited_among table rules rs → more ≡ out ++ pieces rs → Walked C text (l.read ++ rs) next.rest.now next.scanner → Pruned table rules text start n next more
+    lines_more rs n c e w = record {
+      read = l.read ++ rs;
+      walked = w;
+      count_is = c ∙ ap (λ (x : ℕ). x + edited_among table rules rs) l.count_is ∙ sym (count-append l.read rs);
+      list_is = e ∙ ap (λ (x : List ℕ). x ++ pieces rs) l.list_is ∙ append_assoc start (pieces l.read) (pieces rs) ∙ ap (λ (x : List ℕ). start ++ x) (sym (pieces-append l.read rs));
+    }
 
-    abbrev r : Reading
-    r = reading C done p ends one
+    pub texts_more : (bytes : List ℕ) (rs : List Reading) → AreTexts rs → HaveBytes bytes rs → more ≡ out ++ bytes → Walked C text (l.read ++ rs) next.rest.now next.scanner → Pruned table rules text start count next more
+    texts_more bytes rs h b e w =
+        let i = texts_stay rs h in let z = i.1 in
+        lines_more rs count (omega (arith, z)) (e ∙ ap (λ (x : List ℕ). out ++ x) (sym b.bytes_are ∙ sym i.0)) w
 
-    module _ (table : List Argument) (rules : Rules) where
-      last_pair : {P : Reading → Reading → Type 0} (xs : List Reading) (x : Reading) (ys : List Reading) → Pairs P (xs ++ x ∷ []) ys → (y : Reading) × P x y
-      last_pair [] x _ (pair {y = y} h q) = (y, h)
-      last_pair (w ∷ xs) x _ (pair h q) = last_pair xs x _ q
+    module _ (k : Line) (w : Walked C text (l.read ++ read_after C l.read k ∷ []) next.rest.now next.scanner) where
+      abbrev r : Reading
+      r = read_after C l.read k
 
-      alone : IsScannedAlone r.scan line
+      line_more : (n : ℕ) (edited : Bool) → n ≡ count + (if edited then 1 else 0) → edited ≡ is_edited table rules r → more ≡ out ++ pruned_bytes table rules r → Pruned table rules text start n next more
+      line_more n edited c s e = lines_more (r ∷ []) n (c ∙ ap (λ (b : Bool). count + (if b then 1 else 0)) s) (e ∙ ap (λ (x : List ℕ). out ++ x) (sym (append-nil (pruned_bytes table rules r)))) w
+
+      pub long_more : fits k ≡ false → more ≡ out ++ text_of k → Pruned table rules text start count next more
+      long_more f e = let h = next_long r out more f e in line_more count false (omega arith) h.1 h.0
+
+      -- The line is scanned as the first of a text, unless the line before joins it.
+      alone : IsScannedAlone (scan_after l.read C k) k
       alone =
-          let q = subst (λ (rs : List Reading). (ss : List Reading) × Pairs (ReadingSimplified table rules) rs ss) (read_line C done p ends one) (_, readings_simplified table rules (done ++ p)) in
-          let s = last_pair (read_as C done) r q.0 q.1 in
-          by s.0 s.1
+          let q = subst (λ (rs : List Reading). (ss : List Reading) × Pairs (ReadingSimplified table rules) rs ss) (sym w.read_is) (_, readings_simplified table rules w.done) in
+          let s = last_pair l.read r q.0 q.1 in
+          λ j. by s.0 s.1 j ∙ scan_after-same [] [] C r.line k refl refl refl
         where
-          by : (s : Reading) → ReadingSimplified table rules r s → IsScannedAlone r.scan line
+          by : (s : Reading) → ReadingSimplified table rules r s → IsScannedAlone r.scan r.line
           by s (reading_stays e q h) = h
           by s (reading_edited d i) = λ _. i.before
 
-      -- The line as the program reads it, with another number.
-      module _ (k : Line) (is : k ≡ line_at 1 p) where
-        first_scan : scan_after [] C line ≡ scan_after [] C k
-        first_scan = scans_same table rules line.body line.ending (after C done p ends) 1 [] ∙ ap (λ (x : Line). scan_after [] C x) (sym is)
+      pub line_pruned : (n : ℕ) (edited : Bool) → n ≡ count + (if edited then 1 else 0) → IsPrunedNext table rules l.read k edited out more → Pruned table rules text start n next more
+      line_pruned n edited c h =
+          let i = h alone in
+          let b : pruned_bytes table rules (next_reading l.read C k) ≡ pruned_bytes table rules r = renumbered k (1 + length l.read) (scan_after l.read C k) in
+          line_more n edited c (i.1 ∙ ap (λ (x : List ℕ). not (bytes_eq x (text_of k))) b) (i.0 ∙ ap (λ (x : List ℕ). out ++ x) b)
 
-        pub k_alone : IsScannedAlone (scan_after (read_as C done) C k) k
-        k_alone = λ j. sym (k_scan C done p ends one k is) ∙ alone (ap (λ (s : Scan). s.joins_before) (k_scan C done p ends one k is) ∙ j) ∙ first_scan
-
-        k_bytes : pruned_bytes table rules r ≡ pruned_bytes table rules (next_reading (read_as C done) C k)
-        k_bytes = renumbered table rules line.body line.ending (after C done p ends) 1 (read_as C done) ∙ ap (λ (x : Line). pruned_bytes table rules (next_reading (read_as C done) C x)) (sym is)
-
-        k_edited : is_edited table rules r ≡ is_edited table rules (next_reading (read_as C done) C k)
-        k_edited = ap₂ (λ (x y : List ℕ). not (bytes_eq x y)) k_bytes (text_of-line_at (after C done p ends) p ∙ sym (text_of-line_at 1 p) ∙ ap text_of (sym is))
-
-        pub line_pruned : (edited : Bool) (old new : List ℕ) →
-            (new ≡ old ++ pruned_bytes table rules (next_reading (read_as C done) C k)) × (edited ≡ is_edited table rules (next_reading (read_as C done) C k)) → PrunesMore table rules done p edited old new
-        line_pruned edited old new h = record {
-          piece = pruned_bytes table rules (next_reading (read_as C done) C k);
-          appended = h.0;
-          text = ap (λ (rs : List Reading). pieces table rules rs) (read_line C done p ends one) ∙ one_more table rules (read_as C done) r ∙ ap (λ (x : List ℕ). pruned_text table rules done ++ x) k_bytes;
-          count = ap (λ (rs : List Reading). edited_among table rules rs) (read_line C done p ends one) ∙ count_more table rules (read_as C done) r
-              ∙ ap (λ (b : Bool). edited_count table rules done + (if b then 1 else 0)) (k_edited ∙ sym h.1);
-        }
-
-pub one_at_most : (b : Bool) → (if b then 1 else 0) ≤ 1
-one_at_most true = omega arith
-one_at_most false = omega arith
+  pub first_place : (all start : List ℕ) (walk : Walk) → Walked C all [] walk.rest.now walk.scanner → Pruned table rules all start 0 walk start
+  first_place all start walk w = record { read = []; walked = w; count_is = refl; list_is = sym (append-nil start) }

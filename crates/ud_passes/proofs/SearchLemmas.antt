@@ -1,27 +1,25 @@
--- Searches: text lines are skipped, a line is taken, and a condition ends.
-use Rattle.std.proofs.Common.{◌≡◌, ℕ, ◌+◌, ◌-◌, ◌<◌, ◌==◌, List, [], ◌∷◌, ◌++◌, length, Bool, true, false, Option, None, is_some, map, take, drop, sym, ◌∙◌, ap, ap₂, subst, append_assoc, append-nil, length-drop, take-append-drop, arith}
-use Rattle.std.specs.List.{count_by}
-use Rattle.std.proofs.lemmas.Grind.{flat_map-append}
+-- Searches: text lines are passed, a line is taken, and a condition ends.
+use Rattle.std.proofs.Common.{◌≡◌, ℕ, ◌+◌, List, [], ◌∷◌, ◌++◌, length, length-append, Bool, true, false, Option, None, is_some, refl, sym, ◌∙◌, ap, subst, append_assoc, append-nil, arith}
+use Rattle.std.proofs.lemmas.Grind.{common_steps, flat_map-append}
 use Rattle.std.proofs.lemmas.List.Elements.{filter-append}
-use Rattle.std.proofs.lemmas.Grind.{common_steps}
-use Rattle.ud_model.specs.text.Lines.{Line, text_of, texts_of, line_at, numbered_from, whole_lines, split_lines}
+use Rattle.ud_model.specs.text.Lines.{Line, whole_lines}
 use Rattle.ud_model.specs.text.Scans.{Reading}
-use Rattle.ud_model.specs.text.Scanning.{scan_after, next_reading, readings_after}
+use Rattle.ud_model.specs.text.Scanning.{scan_after}
 use Rattle.ud_model.specs.conditions.Table.{Argument}
-use Rattle.ud_model.specs.output.InsertedLines.{read_as, in_mode}
+use Rattle.ud_model.specs.output.InsertedLines.{read_as}
 use Rattle.ud_model.specs.declared.kind.Mode.{Mode}
-use Rattle.ud_text.specs.scan.ScannerState.{ScannerState, ScannerRepresents}
-use Rattle.ud_text.specs.bulk.BulkScanning.{HaveNoDirective, AreWholeLines, SkipsText, lines_in_mode}
-use Rattle.ud_text.specs.lines.LinesState.{UpToNewline}
-use Rattle.ud_text.proofs.lemmas.scan.LongerTextLemmas.{after, still_whole, read_texts, number_after_texts, here, reading, read_line, number_after_line, k_scan, represents_renumbered, one_text, whole_if_more, nothing_ends}
+use Rattle.ud_passes.specs.Passes.{fits}
+use Rattle.ud_passes.specs.Walks.{reading_at, read_after, AreTexts, HaveBytes, Walked}
 use Rattle.ud_passes.specs.remaining.Conditions.{Condition, conditions_in, conditions_of, joins_next}
 use Rattle.ud_passes.specs.remaining.RemainingLists.{lines_for, named_count}
-use Rattle.ud_passes.specs.remaining.Searches.{taken, rest_from, ended, Appends, Searched, IsTaken, begun_as, reading_at}
+use Rattle.ud_passes.specs.remaining.Searches.{taken, rest_from, ended, Appends, EndsLine, Searched, IsTaken, begun_as}
 use Rattle.ud_passes.specs.declared.remaining.conditions.Begun.{Begun}
 use Rattle.ud_passes.specs.declared.remaining.listing.Listing.{Listing}
 use Rattle.ud_passes.specs.declared.remaining.search.Search.{Search}
 use Rattle.ud_passes.specs.declared.remaining.search.Place.{Place}
-use Rattle.ud_passes.proofs.ConditionLemmas.{one_line, end_here, end_of_text, text_line}
+use Rattle.ud_passes.specs.declared.walk.Walk.{Walk}
+use Rattle.ud_passes.proofs.ConditionLemmas.{one_line, end_here, end_of_text, text_line, taken_long, joins_long}
+use Rattle.ud_passes.proofs.WalkLemmas.{walk_ends}
 
 -- 1. The conditions of more lines.
 
@@ -35,13 +33,12 @@ goes_by_line before found p r h = grind (arith, common_steps, one_line)
 pub goes_by_end : (before : List Reading) (found : List Condition) (p : Option Condition) → Goes before found p false → Goes before (found ++ ended p) None true
 goes_by_end before found p h = grind (arith, common_steps, end_here)
 
-pub goes_by_texts : (mode : Mode) (before : List Reading) (found : List Condition) (ls : List Line) → HaveNoDirective mode before ls → Goes before found None true →
-    Goes (readings_after before (map (in_mode mode) ls)) found None true
-goes_by_texts mode before found [] h g = g
-goes_by_texts mode before found (l ∷ ls) h g =
-    let r : Reading = next_reading before mode l in
-    goes_by_texts mode (before ++ r ∷ []) found ls h.1 (λ rs.
-    ap (λ (x : List Reading). conditions_in false x) (append_assoc before (r ∷ []) rs) ∙ g (r ∷ rs) ∙ ap (λ (x : List Condition). found ++ x) (text_line r rs h.0))
+pub goes_by_texts : (before : List Reading) (found : List Condition) (rs : List Reading) → AreTexts rs → Goes before found None true → Goes (before ++ rs) found None true
+goes_by_texts before found rs h g = λ more. ap (λ (x : List Reading). conditions_in false x) (append_assoc before rs more) ∙ g (rs ++ more) ∙ ap (λ (x : List Condition). found ++ x) (none rs h more)
+  where
+    none : (rs : List Reading) → AreTexts rs → (more : List Reading) → conditions_in false (rs ++ more) ≡ conditions_in false more
+    none [] h more = refl
+    none (r ∷ rs) h more = text_line r (rs ++ more) h.0 ∙ none rs h.1 more
 
 -- 2. What is appended.
 
@@ -68,137 +65,90 @@ module _ (table : List Argument) (name : List ℕ) where
 pub none_begun : (b : Option Begun) (bytes : List ℕ) → is_some b ≡ false → begun_as b bytes ≡ None
 none_begun b bytes e = grind arith
 
--- The line as the program reads it, with its number.
-reading_is : (mode : Mode) (done p : List ℕ) (ends : AreWholeLines done)
-    (one : texts_of p ≡ p ∷ []) (k : Line) → k ≡ line_at 1 p →
-    (number : ℕ) → number ≡ after mode done p ends →
-    reading_at mode k (scan_after (read_as mode done) mode k) number ≡ reading mode done p ends one
-reading_is mode done p ends one k is number n = grind (arith, k_scan)
+pub none_if : (b : Option Begun) → (is_some b ≡ true → false ≡ true) → is_some b ≡ false
+none_if b h = by (is_some b) h
+  where
+    by : (x : Bool) → (x ≡ true → false ≡ true) → x ≡ false
+    by true g = sym (g refl)
+    by false g = refl
 
-module _ (table : List Argument) (mode : Mode) (name text : List ℕ) (start old : Search) (place : Place) (s : Searched table mode name text start old place) (some : 0 < length place.rest.now) where
-  ends : AreWholeLines s.done
-  ends = s.ends some
-
-  -- The next lines are `p`, and the text after them `rest`.
-  text_is : (p rest : List ℕ) → p ++ rest ≡ place.rest.now → (s.done ++ p) ++ rest ≡ text
-  text_is p rest e = append_assoc s.done p rest ∙ ap (λ (x : List ℕ). s.done ++ x) e ∙ s.is
-
-  -- Text lines were skipped.
-  pub texts_searched : (p : List ℕ) (new : Search) (next : Place) → AreWholeLines p → SkipsText mode old.scanner new.scanner p → is_some place.begun ≡ false → is_some next.begun ≡ false →
-      p ++ next.rest.now ≡ place.rest.now → (count : ℕ) → count ≡ count_by (λ (b : ℕ). b == 10) p → next.number ≡ place.number + count →
-      new.list.items ≡ old.list.items → new.count ≡ old.count → new.listing ≡ old.listing → Searched table mode name text start new next
-  texts_searched p new next whole skips b c e count n m l k g =
-      let before : List Reading = read_as mode s.done in
-      let read : read_as mode (s.done ++ p) ≡ readings_after before (lines_in_mode mode (after mode s.done p ends) (whole_lines p)) = read_texts mode s.done p ends whole in
-      let parts : Goes before s.found None true = λ rs. s.parts rs ∙ ap (λ (x : Option Condition). s.found ++ rest_from x true rs) (none_begun place.begun old.after.items b) in
-      let goes : Goes (read_as mode (s.done ++ p)) s.found None true =
-      subst (λ (x : List Reading). Goes x s.found None true) (sym read)
-      (goes_by_texts mode before s.found (numbered_from (after mode s.done p ends) (whole_lines p)) (skips.texts (after mode s.done p ends) before s.represents) parts) in
+module _ (table : List Argument) (mode : Mode) (name text : List ℕ) (start old : Search) (place : Place) (walk : Walk) (s : Searched table mode name text start old place walk)
+    (new : Search) (next : Place) (on : Walk) where
+  -- Text lines were passed.
+  pub texts_searched : (bytes : List ℕ) (rs : List Reading) → AreTexts rs → HaveBytes bytes rs → Walked mode text (s.read ++ rs) on.rest.now on.scanner →
+      is_some place.begun ≡ false → is_some next.begun ≡ false → (count : ℕ) → count ≡ length (whole_lines bytes) → next.number ≡ place.number + count →
+      new.list.items ≡ old.list.items → new.count ≡ old.count → new.listing ≡ old.listing → Searched table mode name text start new next on
+  texts_searched bytes rs h b w none none_then count c m l k g =
+      let parts : Goes s.read s.found None true = λ rs. s.parts rs ∙ ap (λ (x : Option Condition). s.found ++ rest_from x true rs) (none_begun place.begun old.after.items none) in
+      let i = s.number_is in let n = b.count_is in let o = length-append s.read rs in
       record {
-        done = s.done ++ p;
-        is = text_is p next.rest.now e;
-        ends = λ more. still_whole mode s.done p ends whole;
-        represents = subst (λ (x : List Reading). ScannerRepresents new.scanner x) (sym read) (skips.represents (after mode s.done p ends) before s.represents);
-        number_is = m ∙ number_after_texts mode s.done p ends whole place.number count s.number_is n;
+        read = s.read ++ rs;
+        walked = w;
+        number_is = omega (arith, i, n, o, c, m);
         found = s.found;
-        parts = λ rs. goes rs ∙ ap (λ (x : Option Condition). s.found ++ rest_from x true rs) (sym (none_begun next.begun new.after.items c));
+        parts = λ more. goes_by_texts s.read s.found rs h parts more ∙ ap (λ (x : Option Condition). s.found ++ rest_from x true more) (sym (none_begun next.begun new.after.items none_then));
         appends = appends_kept table name s.found start old new s.appends l k g;
       }
 
   -- A line was taken.
-  module _ (k : Line) (w : Bool) (to : UpToNewline place.rest.now (length (text_of k)) w) (is : k ≡ line_at 1 (take (length (text_of k)) place.rest.now))
-      (mid : Search) (q : Option Condition) (goes_on : Bool)
-      (reads : (before : List Reading) → ScannerRepresents old.scanner before → ScannerRepresents mid.scanner (before ++ next_reading before mode k ∷ []))
-      (takes : (before : List Reading) → ScannerRepresents old.scanner before →
-      IsTaken (begun_as place.begun old.after.items) (reading_at mode k (scan_after before mode k) place.number) q goes_on) where
-    abbrev p : List ℕ
-    p = take (length (text_of k)) place.rest.now
-
-    one : texts_of p ≡ p ∷ []
-    one = one_text place.rest.now (length (text_of k)) w to some
-
-    abbrev before : List Reading
-    before = read_as mode s.done
-
+  module _ (k : Line) (w : Walked mode text (s.read ++ read_after mode s.read k ∷ []) on.rest.now on.scanner) (m : next.number ≡ place.number + 1)
+      (mid : Search) (same_list : mid.list.items ≡ old.list.items) (same_count : mid.count ≡ old.count) (same_listing : mid.listing ≡ old.listing) where
     abbrev r : Reading
-    r = reading mode s.done p ends one
-
-    read : read_as mode (s.done ++ p) ≡ before ++ r ∷ []
-    read = read_line mode s.done p ends one
-
-    represents : ScannerRepresents mid.scanner (read_as mode (s.done ++ p))
-    represents =
-        subst (λ (x : List Reading). ScannerRepresents mid.scanner x) (sym read)
-        (represents_renumbered mid.scanner mode before k (here mode s.done p ends one) (ap (λ (x : Line). x.body) is) (ap (λ (x : Line). x.ending) is) (reads before s.represents))
-
-    same : reading_at mode k (scan_after before mode k) place.number ≡ r
-    same = reading_is mode s.done p ends one k is place.number s.number_is
+    r = read_after mode s.read k
 
     abbrev begun_before : Option Condition
     begun_before = begun_as place.begun old.after.items
 
-    q_is : taken begun_before r ≡ q
-    q_is = sym ((takes before s.represents).0 ∙ ap (λ (x : Reading). taken begun_before x) same)
-
-    goes_on_is : joins_next r ≡ goes_on
-    goes_on_is = sym ((takes before s.represents).1 ∙ ap (λ (x : Reading). joins_next x) same)
-
-    goes : Goes (read_as mode (s.done ++ p)) s.found q goes_on
-    goes = grind (arith, read, goes_on_is, q_is, goes_by_line)
-
-    whole : (next : Place) → next.rest.now ≡ drop (length (text_of k)) place.rest.now → 0 < length next.rest.now → AreWholeLines (s.done ++ p)
-    whole next d more =
-        let n : length next.rest.now ≡ length place.rest.now - length (text_of k) = ap (λ (x : List ℕ). length x) d ∙ length-drop (length (text_of k)) place.rest.now in
-        still_whole mode s.done p ends (whole_if_more place.rest.now (length (text_of k)) w to some (omega (arith, n, more)))
-
-    rest_is : (next : Place) → next.rest.now ≡ drop (length (text_of k)) place.rest.now → p ++ next.rest.now ≡ place.rest.now
-    rest_is next d = ap (λ (x : List ℕ). p ++ x) d ∙ take-append-drop (length (text_of k)) place.rest.now
-
-    -- A line that goes on.
-    pub line_goes_on : (next : Place) → next.rest.now ≡ drop (length (text_of k)) place.rest.now → next.number ≡ place.number + 1 → goes_on ≡ true →
-        begun_as next.begun mid.after.items ≡ q → mid.list.items ≡ old.list.items → mid.count ≡ old.count → mid.listing ≡ old.listing → Searched table mode name text start mid next
-    line_goes_on next d m j b l c g = record {
-      done = s.done ++ p;
-      is = text_is p next.rest.now (rest_is next d);
-      ends = whole next d;
-      represents = represents;
-      number_is = m ∙ number_after_line mode s.done p ends one place.number s.number_is;
-      found = s.found;
-      parts = λ rs. goes rs ∙ ap₂ (λ (x : Option Condition) (y : Bool). s.found ++ rest_from x y rs) (sym b) j;
-      appends = appends_kept table name s.found start old mid s.appends l c g;
+    line_taken : (q : Option Condition) (goes_on : Bool) → q ≡ taken begun_before r → goes_on ≡ joins_next r →
+        EndsLine table name q goes_on mid new (begun_as next.begun new.after.items) → Searched table mode name text start new next on
+    line_taken q goes_on t j e = record {
+      read = s.read ++ r ∷ [];
+      walked = w;
+      number_is = let i = s.number_is in let o = length-append s.read (r ∷ []) in omega (arith, i, o, m);
+      found = after.0;
+      parts = after.1;
+      appends = after.2;
     }
+      where
+        kept : Appends table name s.found start mid
+        kept = appends_kept table name s.found start old mid s.appends same_list same_count same_listing
 
-    -- A line that ends a logical line.
-    pub line_ends : (new : Search) (next : Place) → next.rest.now ≡ drop (length (text_of k)) place.rest.now → next.number ≡ place.number + 1 → goes_on ≡ false →
-        is_some next.begun ≡ false → mid.list.items ≡ old.list.items → mid.count ≡ old.count → mid.listing ≡ old.listing →
-        new.scanner ≡ mid.scanner → Appends table name (ended q) mid new → Searched table mode name text start new next
-    line_ends new next d m j b l c g same_scanner a =
-        let last : Goes (read_as mode (s.done ++ p)) s.found q false = subst (λ (x : Bool). Goes (read_as mode (s.done ++ p)) s.found q x) j goes in
-        let closed : Goes (read_as mode (s.done ++ p)) (s.found ++ ended q) None true = goes_by_end (read_as mode (s.done ++ p)) s.found q last in
-        record {
-          done = s.done ++ p;
-          is = text_is p next.rest.now (rest_is next d);
-          ends = whole next d;
-          represents = subst (λ (x : ScannerState). ScannerRepresents x (read_as mode (s.done ++ p))) (sym same_scanner) represents;
-          number_is = m ∙ number_after_line mode s.done p ends one place.number s.number_is;
-          found = s.found ++ ended q;
-          parts = λ rs. closed rs ∙ ap (λ (x : Option Condition). (s.found ++ ended q) ++ rest_from x true rs) (sym (none_begun next.begun new.after.items b));
-          appends = appends_more table name s.found (ended q) start mid new (appends_kept table name s.found start old mid s.appends l c g) a;
-        }
+        goes : Goes (s.read ++ r ∷ []) s.found q goes_on
+        goes = subst (λ (x : Option Condition). Goes (s.read ++ r ∷ []) s.found x goes_on) (sym t)
+            (subst (λ (b : Bool). Goes (s.read ++ r ∷ []) s.found (taken begun_before r) b) (sym j) (goes_by_line s.read s.found begun_before r s.parts))
+
+        by : (b : Bool) → Goes (s.read ++ r ∷ []) s.found q b → EndsLine table name q b mid new (begun_as next.begun new.after.items) →
+            (found : List Condition) × Goes (s.read ++ r ∷ []) found (begun_as next.begun new.after.items) true × Appends table name found start new
+        by true g a = (s.found, subst (λ (x : Option Condition). Goes (s.read ++ r ∷ []) s.found x true) (sym a.1) g, subst (λ (cs : List Condition). Appends table name cs start new) (append-nil s.found) (appends_more table name s.found [] start mid new kept a.0))
+        by false g a = (
+          s.found ++ ended q,
+          subst (λ (x : Option Condition). Goes (s.read ++ r ∷ []) (s.found ++ ended q) x true) (sym a.1) (goes_by_end (s.read ++ r ∷ []) s.found q g),
+          appends_more table name s.found (ended q) start mid new kept a.0,
+        )
+
+        after : (found : List Condition) × Goes (s.read ++ r ∷ []) found (begun_as next.begun new.after.items) true × Appends table name found start new
+        after = by goes_on goes e
+
+    pub line_searched : (q : Option Condition) (goes_on : Bool) → IsTaken begun_before (reading_at mode k (scan_after s.read mode k) place.number) q goes_on →
+        EndsLine table name q goes_on mid new (begun_as next.begun new.after.items) → Searched table mode name text start new next on
+    line_searched q goes_on i e =
+        let same : reading_at mode k (scan_after s.read mode k) place.number ≡ r = ap (λ (n : ℕ). reading_at mode k (scan_after s.read mode k) n) s.number_is in
+        line_taken q goes_on (i.0 ∙ ap (λ (x : Reading). taken begun_before x) same) (i.1 ∙ ap (λ (x : Reading). joins_next x) same) e
+
+    pub long_searched : fits k ≡ false → EndsLine table name begun_before false mid new (begun_as next.begun new.after.items) → Searched table mode name text start new next on
+    long_searched f e = line_taken begun_before false (sym (taken_long begun_before r f)) (sym (joins_long r f)) e
 
 -- 4. The whole text.
 
-pub first_place : (table : List Argument) (mode : Mode) (name : List ℕ) (start now : Search) (place : Place) → ScannerRepresents now.scanner [] → place.number ≡ 1 → is_some place.begun ≡ false →
-    now.list.items ≡ start.list.items → now.count ≡ start.count → now.listing ≡ start.listing → Searched table mode name place.rest.now start now place
-unfolding split_lines
-first_place table mode name start now place r n b l c g =
-    grind (arith, common_steps, ends, nothing_ends, represents, none_begun, appends_none)
+pub first_place : (table : List Argument) (mode : Mode) (name all : List ℕ) (now : Search) (walk : Walk) → Walked mode all [] walk.rest.now walk.scanner →
+    Searched table mode name all now now (record { number = 1; begun = None }) walk
+first_place table mode name all now walk w = record { read = []; walked = w; number_is = refl; found = []; parts = λ rs. refl; appends = appends_none table name now now refl refl refl }
 
-pub all_searched : (table : List Argument) (mode : Mode) (name text : List ℕ) (start now new : Search) (place : Place) → Searched table mode name text start now place → place.rest.now ≡ [] →
+pub all_searched : (table : List Argument) (mode : Mode) (name text : List ℕ) (start now new : Search) (place : Place) (walk : Walk) → Searched table mode name text start now place walk → walk.rest.now ≡ [] →
     Appends table name (ended (begun_as place.begun now.after.items)) now new → Appends table name (conditions_of mode text) start new
-all_searched table mode name text start now new place s e a =
+all_searched table mode name text start now new place walk s e a =
     let b : Option Condition = begun_as place.begun now.after.items in
-    let all : s.done ≡ text = sym (append-nil s.done) ∙ ap (λ (x : List ℕ). s.done ++ x) (sym e) ∙ s.is in
+    let all : s.read ≡ read_as mode text = walk_ends mode text s.read walk.rest.now walk.scanner s.walked e in
     let cs : s.found ++ ended b ≡ conditions_of mode text =
-    ap (λ (x : List Condition). s.found ++ x) (sym (end_of_text b)) ∙ sym (s.parts []) ∙ ap (λ (x : List Reading). conditions_in false x) (append-nil (read_as mode s.done)) ∙ ap (λ (x : List ℕ). conditions_of mode x) all in
+    ap (λ (x : List Condition). s.found ++ x) (sym (end_of_text b)) ∙ sym (s.parts []) ∙ ap (λ (x : List Reading). conditions_in false x) (append-nil s.read ∙ all) in
     subst (λ (x : List Condition). Appends table name x start new) cs (appends_more table name s.found (ended b) start now new s.appends a)

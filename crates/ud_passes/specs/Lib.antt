@@ -1,3 +1,5 @@
+pub mod Passes
+pub mod Walks
 pub mod names
 pub mod pruning
 pub mod remaining

@@ -10,6 +10,7 @@
 mod names;
 mod pruning;
 mod remaining;
+mod walk;
 
 pub use names::Names;
 pub use pruning::{law_pruned_text, prune};

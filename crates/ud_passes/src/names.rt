@@ -5,19 +5,18 @@
 //! of a text can't be listed. `RowViews.antt` and `UnlistedLines.antt` have what the code keeps of
 //! the rows, and of a text up to some line.
 
-ghost use Rattle.std.specs.Prelude.{◌≡◌, ◌+◌, ◌<◌, ◌^◌, ◌++◌, [], length, is_ok, OnOk, OnErr};
+ghost use Rattle.std.specs.Prelude.{◌≡◌, ◌+◌, ◌<◌, ◌^◌, ◌++◌, [], length, is_ok, IfOk, OnOk, OnErr};
 ghost use Rattle.std.specs.Prelude.{if◌then◌else◌};
 ghost use Rattle.ud_passes.specs.names.NameTables.{names_in, Tabulates};
 ghost use Rattle.ud_passes.specs.names.UnlistedConditions.{unlisted_in, unlisted_text};
-ghost use Rattle.ud_passes.specs.names.UnlistedLines.{Grows};
+ghost use Rattle.ud_passes.specs.Passes.{Grows};
 
 use std::alloc::{AllocError, Global};
 use tables::append_table;
-use texts::{append_unlisted, count_unlisted};
+use texts::File;
 use ud_model::Mode;
 
 mod conditions;
-mod line_numbers;
 mod tables;
 mod texts;
 
@@ -100,10 +99,12 @@ impl Names {
         ensures unchanged { OnErr result ((self.new.hidden ≡ self.old.hidden) ×
             (self.new.hidden_list.items ≡ self.old.hidden_list.items)) }
     {
-        if self.lists_hidden {
-            list_unlisted(self.alloc, file, text, mode, &mut self.hidden_list)?;
-        }
-        let count = count_unlisted(self.alloc, text, mode);
+        let file = File {
+            name: file,
+            mode,
+            lists: self.lists_hidden,
+        };
+        let count = list_unlisted(self.alloc, file, text, &mut self.hidden_list)?;
         self.hidden = self.hidden.saturating_add(count);
         Ok(())
     }
@@ -122,26 +123,27 @@ impl Names {
     }
 }
 
-/// Appends the list of the conditions of a text that can't be listed.
+/// Counts the conditions of a text that can't be listed. Appends a line for each, if they are
+/// listed.
 ///
 /// # Errors
 /// Fails if memory runs out. Nothing was appended then.
 fn list_unlisted(
     alloc: Global,
-    file: &[u8],
+    file: File<'_>,
     text: &[u8],
-    mode: Mode,
     list: &mut Vec<u8>,
-) -> Result<(), AllocError>
-    ensures { list.new.items ≡ (if is_ok result
-        then list.old.items ++ unlisted_text file.now mode text.now else list.old.items) }
+) -> Result<usize, AllocError>
+    ensures count { IfOk result (λ n. n ≡ length (unlisted_in file.entry.mode text.now)) }
+    ensures list { list.new.items ≡ (if is_ok result then list.old.items ++
+        (if file.entry.lists then unlisted_text file.entry.name.now file.entry.mode text.now
+        else [])
+        else list.old.items) }
 {
     let before = list.len();
-    match append_unlisted(alloc, file, text, mode, list) {
-        Ok(()) => Ok(()),
-        Err(error) => {
-            list.truncate(before);
-            Err(error)
-        }
+    let result = file.append_unlisted(alloc, text, list);
+    if result.is_err() {
+        list.truncate(before);
     }
+    result
 }

@@ -14,9 +14,8 @@
 -- Example: of `#if A`, `#elif B \` and `#endif` in the file `f.c`, the list is the line
 -- `f.c:2: #elif B \`.
 use Rattle.std.specs.Prelude.{ℕ, List, ◌++◌, Bool, true, false, not, ◌&&◌, ◌||◌, is_some}
-use Rattle.std.specs.Prelude.{codes, decimal, length, leb}
+use Rattle.std.specs.Prelude.{codes, decimal}
 use Rattle.std.specs.List.{filter, flat_map}
-use Rattle.ud_model.specs.text.Lines.{Line, text_of}
 use Rattle.ud_model.specs.text.Scans.{Reading}
 use Rattle.ud_model.specs.sections.Directives.{Directive, Content, cut_keyword, directive, text}
 use Rattle.ud_model.specs.sections.Directives.{content_of, test_of}
@@ -26,7 +25,7 @@ use Rattle.ud_model.specs.output.InsertedLines.{read_as}
 use Rattle.ud_model.specs.declared.kind.Mode.{Mode}
 use Rattle.ud_model.specs.declared.kind.Test.{Test}
 use Rattle.ud_model.specs.declared.kind.Test.TheVariants.{Nonzero, Defined, Undefined, Nothing}
-use Rattle.ud_model.specs.declared.limits.TheConstants.{LINE_BYTES}
+use Rattle.ud_passes.specs.Passes.{fits}
 
 -- `has_condition test`: a directive with this test has a condition.
 abbrev pub has_condition : Test → Bool
@@ -54,10 +53,6 @@ abbrev pub has_unlisted : Content → Bool
 has_unlisted cut_keyword = false
 has_unlisted (directive d) = is_unlisted d
 has_unlisted text = false
-
--- `fits l`: the line `l` has no more bytes with its ending than a line may have.
-abbrev pub fits : Line → Bool
-fits l = leb (length (text_of l)) LINE_BYTES
 
 -- `is_unlisted_line r`: the line `r` is within the limit, and has such a condition.
 abbrev pub is_unlisted_line : Reading → Bool

@@ -7,8 +7,8 @@
 -- A line over the limit stays. So the pruned text of a text whose lines fit is the simplified text.
 --
 -- Example: with A undefined, `#if A || X` becomes `#if X`, which is one edited line.
-use Rattle.std.specs.Prelude.{ℕ, suc, List, [], ◌∷◌, length, map, Bool, not, if◌then◌else◌}
-use Rattle.std.specs.Prelude.{bytes_eq, leb}
+use Rattle.std.specs.Prelude.{ℕ, suc, List, [], ◌∷◌, map, Bool, not, if◌then◌else◌}
+use Rattle.std.specs.Prelude.{bytes_eq}
 use Rattle.std.specs.List.{concat}
 use Rattle.ud_model.specs.text.Lines.{Line, text_of}
 use Rattle.ud_model.specs.text.Scans.{Reading}
@@ -17,11 +17,7 @@ use Rattle.ud_model.specs.conditions.Conditions.{Rules}
 use Rattle.ud_model.specs.output.InsertedLines.{read_as}
 use Rattle.ud_model.specs.output.SimplifiedTexts.{simplified_line}
 use Rattle.ud_model.specs.declared.kind.Mode.TheVariants.{C}
-use Rattle.ud_model.specs.declared.limits.TheConstants.{LINE_BYTES}
-
--- `fits l`: the line `l` has no more bytes with its ending than a line may have.
-abbrev pub fits : Line → Bool
-fits l = leb (length (text_of l)) LINE_BYTES
+use Rattle.ud_passes.specs.Passes.{fits}
 
 module _ (table : List Argument) (rules : Rules) where
   -- `pruned_line r`: the line `r` without the operands that the table decides, if the line fits.

@@ -10,20 +10,19 @@
 --   conditions_of mode bytes    the conditions of a text
 --
 -- A comment is shown as spaces. A condition whose comment never closes ends with the text. A line
--- whose body is over the limit has no condition, adds nothing to one, and joins no other line.
+-- over the limit has no condition, adds nothing to one, and joins no other line.
 --
 -- Example: `#if A \` and `|| B /* c */` are one condition with the text ` A || B        `, which
 -- has the number and the body of its first line.
-use Rattle.std.specs.Prelude.{ℕ, List, [], ◌∷◌, ◌++◌, length, Bool, true, false, ◌&&◌, leb}
+use Rattle.std.specs.Prelude.{ℕ, List, [], ◌∷◌, ◌++◌, Bool, true, false, ◌&&◌}
 use Rattle.std.specs.Prelude.{Option, Some, None, if◌then◌else◌}
-use Rattle.ud_model.specs.text.Lines.{Line}
 use Rattle.ud_model.specs.text.Scans.{Reading, is_spanning}
 use Rattle.ud_model.specs.sections.Directives.{Content, cut_keyword, directive, text, content_of}
 use Rattle.ud_model.specs.output.InsertedLines.{read_as}
 use Rattle.ud_model.specs.declared.kind.Kind.{Kind}
 use Rattle.ud_model.specs.declared.kind.Kind.TheVariants.{Else, Endif}
 use Rattle.ud_model.specs.declared.kind.Mode.{Mode}
-use Rattle.ud_model.specs.declared.limits.TheConstants.{LINE_BYTES}
+use Rattle.ud_passes.specs.Passes.{fits}
 
 -- A directive that begins or continues a section.
 pub record Condition : Type 0 where
@@ -41,10 +40,6 @@ abbrev pub has_condition : Kind → Bool
 has_condition Else = false
 has_condition Endif = false
 has_condition _ = true
-
--- `fits l`: the body of the line `l` has no more bytes than a line may have.
-abbrev pub fits : Line → Bool
-fits l = leb (length l.body) LINE_BYTES
 
 -- `joins_next r`: the line `r` fits, and joins the next one.
 abbrev pub joins_next : Reading → Bool

@@ -2,26 +2,22 @@
 --
 --   as_condition b after       the condition that has begun, with the text `after`
 --   begun_as b after           the same, if one has begun
---   reading_at mode l scan n   the line with this scan and the number `n`
 --   taken p r                  the condition `p` with the text of the line `r`, or else the one
 --                              that begins there
 --   rest_from p goes_on rs     the condition `p`, which may go on, and those of the lines `rs`
 --   ended p                    the condition `p`, which ended
 --   IsTaken p r q goes_on      `q` is the condition after the line `r`
---   Grows old new              bytes were appended to `old`, or none
 --   Appends table .. cs        those of the conditions `cs` that name a listed symbol were counted
 --                              and appended
+--   EndsLine table ..          a line was taken, and its condition goes on or was appended
 --   Searched table ..          the text before a place was searched
 use Rattle.std.specs.Prelude.{◌≡◌, ℕ, ◌+◌, ◌<◌, ◌^◌, List, [], ◌∷◌, ◌++◌, length, Bool, true, false}
 use Rattle.std.specs.Prelude.{Option, Some, None}
-use Rattle.ud_model.specs.text.Lines.{Line, texts_of}
-use Rattle.ud_model.specs.text.Scans.{Scan, Reading}
+use Rattle.ud_model.specs.text.Scans.{Reading}
 use Rattle.ud_model.specs.sections.Directives.{content_of}
 use Rattle.ud_model.specs.conditions.Table.{Argument}
-use Rattle.ud_model.specs.output.InsertedLines.{read_as}
 use Rattle.ud_model.specs.declared.kind.Mode.{Mode}
-use Rattle.ud_text.specs.scan.ScannerState.{ScannerRepresents}
-use Rattle.ud_text.specs.bulk.BulkScanning.{AreWholeLines}
+use Rattle.ud_passes.specs.Walks.{Walked}
 use Rattle.ud_passes.specs.remaining.Conditions.{Condition, condition_by, condition_on, with_text}
 use Rattle.ud_passes.specs.remaining.Conditions.{masked_of, joins_next, joined_text}
 use Rattle.ud_passes.specs.remaining.Conditions.{conditions_in}
@@ -29,6 +25,7 @@ use Rattle.ud_passes.specs.remaining.RemainingLists.{lines_for, named_count}
 use Rattle.ud_passes.specs.declared.remaining.conditions.Begun.{Begun}
 use Rattle.ud_passes.specs.declared.remaining.search.Place.{Place}
 use Rattle.ud_passes.specs.declared.remaining.search.Search.{Search}
+use Rattle.ud_passes.specs.declared.walk.Walk.{Walk}
 
 -- `as_condition b after`: the condition that has begun, with the text `after`.
 abbrev pub as_condition : Begun → List ℕ → Condition
@@ -44,10 +41,6 @@ as_condition b after = record {
 abbrev pub begun_as : Option Begun → List ℕ → Option Condition
 begun_as None after = None
 begun_as (Some b) after = Some (as_condition b after)
-
--- `reading_at mode l scan n`: the line `l` with this scan, and with the number `n`.
-abbrev pub reading_at : Mode → Line → Scan → ℕ → Reading
-reading_at mode l scan n = record { line = record l { number = n }; mode = mode; scan = scan }
 
 -- `extended p r`: the condition `p` with the text of the line `r`, which fits, or else the
 -- condition that begins on it.
@@ -76,10 +69,6 @@ ended (Some c) = c ∷ []
 abbrev pub IsTaken : Option Condition → Reading → Option Condition → Bool → Type 0
 IsTaken p r q goes_on = (q ≡ taken p r) × (goes_on ≡ joins_next r)
 
--- `Grows old new`: the bytes `new` are `old` and perhaps more.
-abbrev pub Grows : List ℕ → List ℕ → Type 0
-Grows old new = (more : List ℕ) × (new ≡ old ++ more)
-
 -- `Appends table name cs old new`: those of the conditions `cs` of the file `name` that name a
 -- listed symbol were counted, unless the count is at its limit, and their lines were appended.
 pub record Appends (table : List Argument) (name : List ℕ) (cs : List Condition)
@@ -89,16 +78,21 @@ pub record Appends (table : List Argument) (name : List ℕ) (cs : List Conditio
       new.count ≡ old.count + named_count table cs
   pub listing_is : new.listing ≡ old.listing
 
--- `Searched table mode name text start now place`: the text before the place was searched. `start`
--- is what was there before.
+-- `EndsLine table name p goes_on old new q`: a line with the condition `p` was taken, which goes on
+-- or not. If it goes on, `q` is this condition. Else the condition was appended, and `q` is none.
+abbrev pub EndsLine : List Argument → List ℕ → Option Condition → Bool → Search → Search →
+    Option Condition → Type 0
+EndsLine table name p true old new q = Appends table name [] old new × (q ≡ p)
+EndsLine table name p false old new q = Appends table name (ended p) old new × (q ≡ None)
+
+-- `Searched table mode name text start now place walk`: the text before the place of the walk was
+-- searched. `start` is what was there before.
 pub record Searched (table : List Argument) (mode : Mode) (name text : List ℕ)
-    (start now : Search) (place : Place) : Type 0 where
-  pub done : List ℕ
-  pub is : done ++ place.rest.now ≡ text
-  pub ends : 0 < length place.rest.now → AreWholeLines done
-  pub represents : ScannerRepresents now.scanner (read_as mode done)
-  pub number_is : place.number ≡ 1 + length (texts_of done)
+    (start now : Search) (place : Place) (walk : Walk) : Type 0 where
+  pub read : List Reading
+  pub walked : Walked mode text read walk.rest.now walk.scanner
+  pub number_is : place.number ≡ 1 + length read
   pub found : List Condition
-  pub parts : (rs : List Reading) → conditions_in false (read_as mode done ++ rs) ≡
+  pub parts : (rs : List Reading) → conditions_in false (read ++ rs) ≡
       found ++ rest_from (begun_as place.begun now.after.items) true rs
   pub appends : Appends table name found start now

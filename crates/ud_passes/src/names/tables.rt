@@ -10,7 +10,7 @@ ghost use Rattle.std.specs.Ordering.{nat_cmp};
 ghost use Rattle.ud_passes.specs.names.NameTables.{names_in, row_cmp, row_line, table_text};
 ghost use Rattle.ud_passes.specs.names.NameTables.{Tabulates};
 ghost use Rattle.ud_passes.specs.names.RowViews.{as_count, AreCounts};
-ghost use Rattle.ud_passes.specs.names.UnlistedLines.{Grows};
+ghost use Rattle.ud_passes.specs.Passes.{Grows};
 
 use itoa::Buffer;
 use std::alloc::{AllocError, Global};

@@ -38,7 +38,7 @@ use ud_sections::{Cut, Directive, directive};
 use ud_text::{Scanner, ScannerOf, line_in};
 
 /// The most bytes of a short line's body.
-pub(crate) const SHORT_LINE_BYTES: usize = 1024;
+const SHORT_LINE_BYTES: usize = 1024;
 
 /// An editor of lines, with the last line that it edited.
 #[derive(Drop)]

@@ -1,44 +1,27 @@
 //! The rest of a text, line by line.
 
-ghost use Rattle.std.specs.Prelude.{◌≡◌, ◌≤◌, ◌<◌, ◌∷◌, ◌++◌, ℕ, List, [], length, take, IfOk};
+ghost use Rattle.std.specs.Prelude.{◌≡◌, ◌+◌, ◌≤◌, ◌<◌, ◌^◌, ◌∷◌, ◌++◌, ℕ, List, [], length, IfOk};
 ghost use Rattle.std.specs.Prelude.{OnOk, OnErr, if◌then◌else◌};
 ghost use Rattle.ud_model.specs.text.Lines.{NoNewline, text_of};
 ghost use Rattle.ud_model.specs.text.Scans.{Reading};
-ghost use Rattle.ud_model.specs.text.Scanning.{scan_after, next_reading};
+ghost use Rattle.ud_model.specs.text.Scanning.{next_reading};
 ghost use Rattle.ud_model.specs.text.LineViews.{as_line};
 ghost use Rattle.ud_model.specs.conditions.Table.{Argument};
-ghost use Rattle.ud_model.specs.output.InsertedLines.{read_as};
 ghost use Rattle.ud_model.specs.declared.kind.Mode.{Mode};
 ghost use Rattle.ud_model.specs.declared.limits.TheConstants.{LINE_BYTES};
 ghost use Rattle.ud_text.specs.scan.ScannerState.{ScannerRepresents};
-ghost use Rattle.ud_text.specs.bulk.BulkScanning.{AreWholeLines};
 ghost use Rattle.ud_cond.specs.symbols.SymbolTable.{TableRepresents};
 ghost use Rattle.ud_cond.specs.CondViews.{as_rules};
-ghost use Rattle.ud_passes.specs.pruning.EditedLines.{IsScannedAlone};
 ghost use Rattle.ud_passes.specs.pruning.PrunedTexts.{pruned_text, edited_count};
-ghost use Rattle.ud_passes.specs.pruning.Passing.{Grows, IsPrunedNext, PrunesMore};
+ghost use Rattle.ud_passes.specs.Passes.{Grows};
+ghost use Rattle.ud_passes.specs.pruning.Passing.{IsPrunedNext, Pruned};
 
-use crate::pruning::lines::{LineEditor, SHORT_LINE_BYTES};
-use std::alloc::{AllocError, Global};
+use crate::pruning::lines::LineEditor;
+use crate::walk::{Stretch, Walk};
+use std::alloc::AllocError;
 use ud_cond::{Rules, Symbols};
-use ud_model::{LINE_BYTES, Line, Mode};
-use ud_text::{Scanner, ScannerOf, line_in};
-
-/// A pass over a text: the scanner of its lines, and their editor.
-#[derive(Drop)]
-struct Pass {
-    scanner: ScannerOf<SHORT_LINE_BYTES>,
-    editor: LineEditor,
-}
-
-/// Lines of a text that were read.
-#[derive(Clone, Copy)]
-struct Step {
-    /// The number of their bytes.
-    used: usize,
-    /// It is one line, which was edited.
-    edited: bool,
-}
+use ud_model::{Line, Mode};
+use ud_text::Scanner;
 
 /// Appends the bytes of an edited line, or those of the line if it stays.
 ///
@@ -61,20 +44,18 @@ fn append_either(
     out.extend_from_slice(line.ending)
 }
 
-/// Reads a line that the scanner takes, and appends the rest of it. Returns whether it was
-/// edited.
+/// Reads a line, and appends the rest of it. Returns whether it was edited.
 ///
 /// # Errors
 /// Fails if memory runs out.
-fn append_line<const N: usize>(
-    scanner: &mut ScannerOf<N>,
+fn append_line(
+    scanner: &mut Scanner,
     editor: &mut LineEditor,
     line: &Line<'_>,
     symbols: &Symbols,
     rules: Rules,
     out: &mut Vec<u8>,
 ) -> Result<bool, AllocError>
-    requires room { length line.now.body.now ≤ N }
     requires fits { length (text_of (as_line line.now)) ≤ LINE_BYTES }
     requires one_line { NoNewline line.now.body.now }
     ensures grows { Grows out.old.items out.new.items }
@@ -92,128 +73,51 @@ fn append_line<const N: usize>(
     Ok(edited)
 }
 
-impl Pass {
-    /// Returns a pass before the first line.
-    fn new(alloc: Global) -> Pass
-        ensures { ScannerRepresents result.scanner [] }
-    {
-        Pass {
-            scanner: ScannerOf::new(),
-            editor: LineEditor::new(alloc),
-        }
-    }
-
-    /// Reads a line, and appends the rest of it. Returns whether it was edited.
-    ///
-    /// # Errors
-    /// Fails if memory runs out.
-    fn read_line(
-        &mut self,
-        line: &Line<'_>,
-        symbols: &Symbols,
-        rules: Rules,
-        out: &mut Vec<u8>,
-    ) -> Result<bool, AllocError>
-        requires one_line { NoNewline line.now.body.now }
-        ensures grows { Grows out.old.items out.new.items }
-        ensures represents { OnOk result ((before : List Reading) →
-            ScannerRepresents self.old.scanner before → ScannerRepresents self.new.scanner
-            (before ++ next_reading before Mode.C (as_line line.now) ∷ [])) }
-        ensures pruned { IfOk result (λ edited. (calls : List Argument) →
-            TableRepresents symbols.now calls → (before : List Reading) →
-            ScannerRepresents self.old.scanner before → IsPrunedNext calls (as_rules rules) before
-            (as_line line.now) edited out.old.items out.new.items) }
-    {
-        if line.body.len() > LINE_BYTES || line.body.len() + line.ending.len() > LINE_BYTES {
-            self.scanner.pass(Mode::C, line);
-            append_either(false, &[], line, out)?;
-            return Ok(false);
-        }
-        if line.body.len() > SHORT_LINE_BYTES {
-            return self.read_long_line(line, symbols, rules, out);
-        }
-        let editor = &mut self.editor;
-        append_line(&mut self.scanner, editor, line, symbols, rules, out)
-    }
-
-    /// Reads a line that is longer than `SHORT_LINE_BYTES`, as `read_line`. The scanner for it is a
-    /// local of this function, so that shorter lines don't clear its memory.
-    ///
-    /// # Errors
-    /// Fails if memory runs out.
-    #[inline(never)]
-    fn read_long_line(
-        &mut self,
-        line: &Line<'_>,
-        symbols: &Symbols,
-        rules: Rules,
-        out: &mut Vec<u8>,
-    ) -> Result<bool, AllocError>
-        requires fits { length (text_of (as_line line.now)) ≤ LINE_BYTES }
-        requires one_line { NoNewline line.now.body.now }
-        ensures grows { Grows out.old.items out.new.items }
-        ensures represents { OnOk result ((before : List Reading) →
-            ScannerRepresents self.old.scanner before → ScannerRepresents self.new.scanner
-            (before ++ next_reading before Mode.C (as_line line.now) ∷ [])) }
-        ensures pruned { IfOk result (λ edited. (calls : List Argument) →
-            TableRepresents symbols.now calls → (before : List Reading) →
-            ScannerRepresents self.old.scanner before → IsPrunedNext calls (as_rules rules) before
-            (as_line line.now) edited out.old.items out.new.items) }
-    {
-        let mut scanner = Scanner::new();
-        scanner.copy_state_of(&self.scanner);
-        let editor = &mut self.editor;
-        let edited = append_line(&mut scanner, editor, line, symbols, rules, out);
-        self.scanner.copy_state_of(&scanner);
-        edited
-    }
-
-    /// Reads text lines, or one line, and appends the rest of them.
-    ///
-    /// # Errors
-    /// Fails if memory runs out.
-    fn step(
-        &mut self,
-        rest: &[u8],
-        symbols: &Symbols,
-        rules: Rules,
-        out: &mut Vec<u8>,
-    ) -> Result<Step, AllocError>
-        requires some { 0 < length rest.now }
-        ensures grows { Grows out.old.items out.new.items }
-        ensures used { IfOk result (λ s. (0 < s.used) × (s.used ≤ length rest.now)) }
-        ensures pruned { IfOk result (λ s. (calls : List Argument) →
-            TableRepresents symbols.now calls → (done : List ℕ) → AreWholeLines done →
-            ScannerRepresents self.old.scanner (read_as Mode.C done) →
-            PrunesMore calls (as_rules rules) done (take s.used rest.now) s.edited out.old.items
-            out.new.items) }
-        ensures represents { IfOk result (λ s. (done : List ℕ) → AreWholeLines done →
-            ScannerRepresents self.old.scanner (read_as Mode.C done) →
-            (s.used < length rest.now → AreWholeLines (done ++ take s.used rest.now)) ×
-            ScannerRepresents self.new.scanner (read_as Mode.C (done ++ take s.used rest.now))) }
-    {
-        let skipped = self.scanner.skip_text(Mode::C, rest);
-        if skipped > 0 {
-            out.extend_from_slice(&rest[..skipped])?;
-            return Ok(Step {
-                used: skipped,
-                edited: false,
-            });
-        }
-        let line = line_in(rest, 1);
-        let edited = self.read_line(&line, symbols, rules, out)?;
-        Ok(Step {
-            used: line.body.len() + line.ending.len(),
-            edited,
-        })
-    }
-}
-
 /// Returns 1 if a line was edited, else 0.
 fn one_if(edited: bool) -> usize
     ensures { result ≡ (if edited then 1 else 0) }
 {
     if edited { 1 } else { 0 }
+}
+
+/// Takes the next lines, and appends the rest of them. Returns how many lines were edited, of which
+/// `count` are before these.
+///
+/// # Errors
+/// Fails if memory runs out.
+fn step(
+    walk: &mut Walk<'_>,
+    editor: &mut LineEditor,
+    symbols: &Symbols,
+    rules: Rules,
+    count: usize,
+    out: &mut Vec<u8>,
+) -> Result<usize, AllocError>
+    requires some { 0 < length walk.old.rest.now }
+    requires room { count + length walk.old.rest.now < 2 ^ 64 }
+    ensures grows { Grows out.old.items out.new.items }
+    ensures shorter { length walk.new.rest.now < length walk.old.rest.now }
+    ensures room { IfOk result (λ n.
+        n + length walk.new.rest.now ≤ count + length walk.old.rest.now) }
+    ensures pruned { IfOk result (λ n. (calls : List Argument) → TableRepresents symbols.now calls →
+        (text start : List ℕ) →
+        Pruned calls (as_rules rules) text start count walk.old out.old.items →
+        Pruned calls (as_rules rules) text start n walk.new out.new.items) }
+{
+    match walk.next(Mode::C) {
+        Stretch::Texts(bytes) => {
+            out.extend_from_slice(bytes)?;
+            Ok(count)
+        }
+        Stretch::TooLong(line) => {
+            append_either(false, &[], &line, out)?;
+            Ok(count)
+        }
+        Stretch::Fitting(line) => {
+            let edited = append_line(&mut walk.scanner, editor, &line, symbols, rules, out)?;
+            Ok(count + one_if(edited))
+        }
+    }
 }
 
 /// Appends the pruned text.
@@ -232,13 +136,11 @@ fn append_pruned(
         (out.new.items ≡ out.old.items ++ pruned_text calls (as_rules rules) text.now) ×
         (count ≡ edited_count calls (as_rules rules) text.now)) }
 {
-    let mut pass = Pass::new(*out.allocator());
-    let mut rest = text;
+    let mut walk = Walk::new(text);
+    let mut editor = LineEditor::new(*out.allocator());
     let mut count = 0;
-    while !rest.is_empty() {
-        let step = pass.step(rest, symbols, rules, out)?;
-        rest = rest.split_at(step.used).1;
-        count += one_if(step.edited);
+    while !walk.is_at_end() {
+        count = step(&mut walk, &mut editor, symbols, rules, count, out)?;
     }
     Ok(count)
 }

@@ -8,7 +8,8 @@ ghost use Rattle.ud_model.specs.declared.kind.Mode.{Mode};
 ghost use Rattle.ud_sections.specs.directives.ParsedDirectives.{as_directive};
 ghost use Rattle.ud_passes.specs.remaining.Conditions as spec;
 ghost use Rattle.ud_passes.specs.remaining.Conditions.{condition_by};
-ghost use Rattle.ud_passes.specs.remaining.Searches.{begun_as, reading_at, extended};
+ghost use Rattle.ud_passes.specs.Walks.{reading_at};
+ghost use Rattle.ud_passes.specs.remaining.Searches.{begun_as, extended};
 
 use std::alloc::AllocError;
 use ud_model::{Kind, Line, Scan};

@@ -2,7 +2,7 @@
 
 ghost use Rattle.std.specs.Prelude.{◌≡◌, ◌∷◌, [], ◌++◌, OnOk, codes, decimal};
 ghost use Rattle.ud_passes.specs.remaining.Reasons.{phrase};
-ghost use Rattle.ud_passes.specs.remaining.Searches.{Grows};
+ghost use Rattle.ud_passes.specs.Passes.{Grows};
 
 use crate::remaining::reasons::Reason;
 use itoa::Buffer;

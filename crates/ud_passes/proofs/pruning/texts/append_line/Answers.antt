@@ -14,7 +14,7 @@ use Rattle.ud_passes.proofs.PassLemmas.{next_edited}
 use Rattle.ud_passes.proofs.pruning.texts.append_line.Goals as goal
 
 pub returns-clause-pruned : goal.returns-clause-pruned
-returns-clause-pruned g c = λ calls h before r alone.
+returns-clause-pruned c = λ calls h before r alone.
     let rules = as_rules c.args.rules in
     let l : Line = as_line c.args.line.now in
     let scan : as_scan c.read.result ≡ scan_after before C l = c.read.ensures.value before r in

@@ -1,42 +1,42 @@
--- A step more.
-use Rattle.std.proofs.Common.{◌<◌, ◌≤◌, ◌+◌, ℕ, List, ◌++◌, length, take, take-append-drop, append_assoc, sym, ◌∙◌, ap, ap₂, subst, arith}
-use Rattle.std.proofs.lemmas.Grind.{common_steps}
-use Rattle.ud_model.specs.text.Lines.{split_lines}
+-- From the first line to the last.
+use Rattle.std.proofs.Common.{◌≡◌, ℕ, List, [], ◌++◌, length, map, append-nil, append_assoc, sym, ◌∙◌, ap, arith}
+use Rattle.std.specs.List.{concat}
+use Rattle.ud_model.specs.text.Scans.{Reading}
+use Rattle.ud_model.specs.output.InsertedLines.{read_as}
+use Rattle.ud_text.proofs.lemmas.scan.PassLemmas.{nothing_left}
+use Rattle.ud_passes.specs.pruning.PrunedTexts.{pruned_bytes, edited_among}
+use Rattle.ud_passes.proofs.WalkLemmas.{walk_ends}
+use Rattle.ud_model.specs.declared.kind.Mode.TheVariants.{C}
 use Rattle.ud_cond.specs.CondViews.{as_rules}
-use Rattle.ud_passes.specs.pruning.PrunedTexts.{pruned_text}
-use Rattle.ud_text.proofs.lemmas.scan.LongerTextLemmas.{some_left}
-use Rattle.ud_passes.proofs.PassLemmas.{one_at_most}
+use Rattle.ud_passes.proofs.PassLemmas.{first_place}
 use Rattle.ud_passes.proofs.pruning.texts.append_pruned.Goals as goal
 
-pub loop-rest-init : goal.loop-rest-init
-unfolding split_lines
-loop-rest-init c = grind (arith, common_steps)
+pub loop-walk-init : goal.loop-walk-init
+loop-walk-init c = record {
+  grows = ([], sym (append-nil c.args.out.now.items));
+  room = let e = ap (λ (x : List ℕ). length x) c.new-walk.ensures.rest in omega (arith, e);
+  pruned = λ calls h. first_place calls (as_rules c.args.rules) c.args.text.now c.args.out.now.items c.new-walk.result (c.new-walk.ensures.walked C);
+}
 
-pub loop-rest-preserved : goal.loop-rest-preserved
-loop-rest-preserved c =
-    let rest : List ℕ = c.loop-rest.rest.now in
-    let i = c.loop-rest.invariant.done in
-    let some : 0 < length rest = some_left rest (sym c.is_empty.ensures ∙ c.loop-rest-test.true) in
-    let ends = i.2 some in
-    let p : List ℕ = take c.in_ok-step.step.used rest in
-    let r = c.in_ok-step.ensures.represents i.0 ends i.3 in
-    let n = c.split_at.ensures.back_len in
+pub loop-walk-preserved : goal.loop-walk-preserved
+loop-walk-preserved c =
+    let i = c.loop-walk.invariant in
+    let s = c.in_ok-count.ensures in
+    let a = i.room in let b = s.room in
     record {
       grows = (
-        c.loop-rest.invariant.grows.0 ++ c.in_ok-step.ensures.grows.0,
-        c.in_ok-step.ensures.grows.1 ∙ ap (λ (x : List ℕ). x ++ c.in_ok-step.ensures.grows.0) c.loop-rest.invariant.grows.1 ∙ append_assoc c.args.out.now.items c.loop-rest.invariant.grows.0 c.in_ok-step.ensures.grows.0,
+        i.grows.0 ++ s.grows.0,
+        s.grows.1 ∙ ap (λ (x : List ℕ). x ++ s.grows.0) i.grows.1 ∙ append_assoc c.args.out.now.items i.grows.0 s.grows.0,
       );
-      few = let m = c.in_ok-step.ensures.used.0 in let o : c.one_if-count.result ≤ 1 = subst (λ (x : ℕ). x ≤ 1) (sym c.one_if-count.ensures) (one_at_most c.in_ok-step.step.edited) in omega (arith, c.loop-rest.invariant.few);
-      done = (
-        i.0 ++ p,
-        append_assoc i.0 p c.split_at.result.1.now ∙ ap (λ (x : List ℕ). i.0 ++ x) (ap (λ (x : List ℕ). p ++ x) c.split_at.ensures.back ∙ take-append-drop c.in_ok-step.step.used rest) ∙ i.1,
-        λ more. r.0 (omega (arith, n, more)),
-        r.1,
-        λ calls h.
-            let m = c.in_ok-step.ensures.pruned calls h i.0 ends i.3 in
-            let o = i.4 calls h in (
-              m.appended ∙ ap (λ (x : List ℕ). x ++ m.piece) o.0 ∙ append_assoc c.args.out.now.items (pruned_text calls (as_rules c.args.rules) i.0) m.piece ∙ ap (λ (x : List ℕ). c.args.out.now.items ++ x) (sym m.text),
-              ap₂ (λ (x y : ℕ). x + y) o.1 c.one_if-count.ensures ∙ sym m.count,
-            ),
-      );
+      room = omega (arith, a, b);
+      pruned = λ calls h. s.pruned calls h c.args.text.now c.args.out.now.items (i.pruned calls h);
     }
+
+pub returns-clause-pruned : goal.returns-clause-pruned
+returns-clause-pruned c = λ calls h.
+    let p = c.loop-walk.invariant.pruned calls h in
+    let all : p.read ≡ read_as C c.args.text.now = walk_ends C c.args.text.now p.read c.loop-walk.walk.rest.now c.loop-walk.walk.scanner p.walked
+    (nothing_left c.loop-walk.walk.rest.now (sym c.is_at_end.ensures ∙ c.loop-walk-test.false)) in (
+      p.list_is ∙ ap (λ (rs : List Reading). c.args.out.now.items ++ concat (map (pruned_bytes calls (as_rules c.args.rules)) rs)) all,
+      p.count_is ∙ ap (λ (rs : List Reading). edited_among calls (as_rules c.args.rules) rs) all,
+    )

@@ -1,24 +1,18 @@
 -- The rest of the lines so far was appended.
-use Rattle.std.proofs.Common.{◌≡◌, ◌<◌, ◌≤◌, ◌+◌, ℕ, List, ◌++◌, length}
+use Rattle.std.proofs.Common.{◌≤◌, ◌+◌, List, length}
 use Rattle.ud_model.specs.conditions.Table.{Argument}
-use Rattle.ud_model.specs.output.InsertedLines.{read_as}
-use Rattle.ud_model.specs.declared.kind.Mode.TheVariants.{C}
-use Rattle.ud_text.specs.scan.ScannerState.{ScannerRepresents}
-use Rattle.ud_text.specs.bulk.BulkScanning.{AreWholeLines}
 use Rattle.ud_cond.specs.symbols.SymbolTable.{TableRepresents}
 use Rattle.ud_cond.specs.CondViews.{as_rules}
-use Rattle.ud_passes.specs.pruning.PrunedTexts.{pruned_text, edited_count}
-use Rattle.ud_passes.specs.pruning.Passing.{Grows}
+use Rattle.ud_passes.specs.Passes.{Grows}
+use Rattle.ud_passes.specs.pruning.Passing.{Pruned}
 use Rattle.ud_passes.proofs.pruning.texts.append_pruned.Given as goal
 
-abbrev pub invariant-loop-rest : goal.invariant-loop-rest
-invariant-loop-rest l = record {
+abbrev pub invariant-loop-walk : goal.invariant-loop-walk
+invariant-loop-walk l = record {
   grows : Grows l.fn.out.items l.out.items;
-  few : l.count + length l.rest ≤ length l.text;
-  done : (done : List ℕ) × (done ++ l.rest ≡ l.text) × (0 < length l.rest → AreWholeLines done) × ScannerRepresents l.pass.scanner (read_as C done) ×
-      ((calls : List Argument) → TableRepresents l.symbols calls →
-      (l.out.items ≡ l.fn.out.items ++ pruned_text calls (as_rules l.rules) done) × (l.count ≡ edited_count calls (as_rules l.rules) done));
+  room : l.count + length l.walk.rest.now ≤ length l.text;
+  pruned : (calls : List Argument) → TableRepresents l.symbols calls → Pruned calls (as_rules l.rules) l.text l.fn.out.items l.count l.walk l.out.items;
 }
 
-abbrev pub decreases-loop-rest : goal.decreases-loop-rest
-decreases-loop-rest l = length l.rest
+abbrev pub decreases-loop-walk : goal.decreases-loop-walk
+decreases-loop-walk l = length l.walk.rest.now

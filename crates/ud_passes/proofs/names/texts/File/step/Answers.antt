@@ -1,0 +1,28 @@
+-- Text lines, or one line.
+use Rattle.std.proofs.Common.{sym, ◌∙◌}
+use Rattle.ud_model.specs.text.LineViews.{as_line}
+use Rattle.ud_passes.specs.Walks.{read_after}
+use Rattle.ud_passes.proofs.UnlistedLemmas.{texts_more, line_more, line_found, long_line}
+use Rattle.ud_passes.proofs.names.texts.File.step.Goals as goal
+
+pub returns-in-Texts-clause-listed : goal.returns-in-Texts-clause-listed
+returns-in-Texts-clause-listed c = λ text start l.
+    let n = c.in-Texts.ensures.next text l.read l.walked in
+    texts_more c.args.self text start c.args.found c.args.walk.now c.args.out.now.items l c.next.new.self c.in-Texts.bytes.now n.0 c.lines_in.result n.1 n.2 c.lines_in.ensures.count n.3
+
+pub returns-in-TooLong-clause-listed : goal.returns-in-TooLong-clause-listed
+returns-in-TooLong-clause-listed c = λ text start l.
+    let n = c.in-TooLong.ensures.next text l.read l.walked in
+    line_more c.args.self text start c.args.found c.args.walk.now c.args.out.now.items l c.next.new.self (as_line c.in-TooLong.field-0) n.1 (long_line (read_after c.args.self.mode l.read (as_line c.in-TooLong.field-0)) n.0)
+
+pub returns-else-read_line-clause-listed : goal.returns-else-read_line-clause-listed
+returns-else-read_line-clause-listed c = λ text start l.
+    let n = c.in-Fitting.ensures.next text l.read l.walked in
+    line_more c.args.self text start c.args.found c.args.walk.now c.args.out.now.items l _ (as_line c.in-Fitting.line) (n.1 c.read_line.new.scanner (c.read_line.ensures.represents l.read n.0))
+    (sym (c.read_line.ensures.unlisted l.read n.0) ∙ c.if-read_line.false)
+
+pub returns-then-read_line-clause-listed : goal.returns-then-read_line-clause-listed
+returns-then-read_line-clause-listed c = λ text start l.
+    let n = c.in-Fitting.ensures.next text l.read l.walked in
+    line_found c.args.self text start c.args.found c.args.walk.now c.args.out.now.items l _ (as_line c.in-Fitting.line) (n.1 c.read_line.new.scanner (c.read_line.ensures.represents l.read n.0))
+    (sym (c.read_line.ensures.unlisted l.read n.0) ∙ c.if-read_line.true) _ _ c.in_ok-add-in-Fitting.ensures.count c.in_ok-add-in-Fitting.ensures.number _ c.in_ok-add-in-Fitting.ensures.line

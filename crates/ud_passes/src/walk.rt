@@ -1,0 +1,104 @@
+//! A walk over the lines of a text, as each pass makes it.
+//!
+//! Text lines are passed many at once. Another line that fits is left to the pass, which reads it
+//! by the walk's scanner: so the scan needs no place of its own.
+//!
+//! What comes next is a `Stretch`. A further kind of stretch needs a case in `IsNext`.
+
+ghost use Rattle.std.specs.Prelude.{◌≡◌, ◌+◌, ◌<◌, ◌≤◌, ◌==◌, List, [], ℕ, length, true};
+ghost use Rattle.ud_model.specs.text.Lines.{whole_lines};
+ghost use Rattle.ud_model.specs.text.Scans.{Reading};
+ghost use Rattle.ud_model.specs.declared.kind.Mode.{Mode};
+ghost use Rattle.ud_passes.specs.Walks.{Walked, len_of, is_one_line, CanBeRead, IsNext};
+
+use ud_model::{LINE_BYTES, Line, Mode};
+use ud_text::{Scanner, count_lines, line_in};
+
+/// The next lines of a text.
+#[derive(Clone, Copy)]
+pub(crate) enum Stretch<'t> {
+    /// Text lines, which were read.
+    Texts(&'t [u8]),
+    /// A line that fits, which is to be read.
+    Fitting(Line<'t>),
+    /// A line over the limit, which was passed.
+    TooLong(Line<'t>),
+}
+
+/// A place in a text, at the beginning of a line.
+#[derive(Drop)]
+pub(crate) struct Walk<'t> {
+    /// The text from here on.
+    rest: &'t [u8],
+    /// The scanner of the lines before.
+    pub(crate) scanner: Scanner,
+}
+
+/// Returns how many lines text lines are.
+pub(crate) fn lines_in(bytes: &[u8]) -> usize
+    ensures count { result ≡ length (whole_lines bytes.now) }
+    ensures few { result ≤ length bytes.now }
+{
+    count_lines(bytes)
+}
+
+impl<'t> Walk<'t> {
+    /// Returns the beginning of a text.
+    pub(crate) fn new(text: &'t [u8]) -> Walk<'t>
+        ensures rest { result.rest.now ≡ text.now }
+        ensures walked { (mode : Mode) →
+            Walked mode text.now [] result.rest.now result.scanner }
+    {
+        Walk {
+            rest: text,
+            scanner: Scanner::new(),
+        }
+    }
+
+    /// Returns whether the text has ended.
+    pub(crate) fn is_at_end(&self) -> bool
+        ensures { result ≡ (length self.now.rest.now == 0) }
+    {
+        self.rest.is_empty()
+    }
+
+    /// Takes the next lines: text lines, or one line.
+    pub(crate) fn next(&mut self, mode: Mode) -> Stretch<'t>
+        requires some { 0 < length self.old.rest.now }
+        ensures some { 0 < len_of result }
+        ensures bytes { len_of result + length self.new.rest.now ≡ length self.old.rest.now }
+        ensures readable { CanBeRead result }
+        ensures next { (text : List ℕ) (read : List Reading) →
+            Walked mode text read self.old.rest.now self.old.scanner →
+            IsNext mode text read result self.new.rest.now self.new.scanner }
+    {
+        let skipped = self.scanner.skip_text(mode, self.rest);
+        if skipped == 0 {
+            return self.next_line(mode);
+        }
+        let (bytes, rest) = self.rest.split_at(skipped);
+        self.rest = rest;
+        Stretch::Texts(bytes)
+    }
+
+    /// Takes the next line, also if it is a text line.
+    pub(crate) fn next_line(&mut self, mode: Mode) -> Stretch<'t>
+        requires some { 0 < length self.old.rest.now }
+        ensures one { is_one_line result ≡ true }
+        ensures some { 0 < len_of result }
+        ensures bytes { len_of result + length self.new.rest.now ≡ length self.old.rest.now }
+        ensures readable { CanBeRead result }
+        ensures next { (text : List ℕ) (read : List Reading) →
+            Walked mode text read self.old.rest.now self.old.scanner →
+            IsNext mode text read result self.new.rest.now self.new.scanner }
+    {
+        let line = line_in(self.rest, 1);
+        let used = line.body.len() + line.ending.len();
+        self.rest = self.rest.split_at(used).1;
+        if used > LINE_BYTES {
+            self.scanner.pass(mode, &line);
+            return Stretch::TooLong(line);
+        }
+        Stretch::Fitting(line)
+    }
+}
