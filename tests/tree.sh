@@ -337,7 +337,8 @@ lists() {
   tree -s src
   check '-s: status' same "$status" 2
   check '-s: names' same "$(tr -s ' ' < "$work/out")" $' 3 A\n 1 B\n 1 C'
-  check '-s: what is not listed' has_line "$work/err" 'unifdef-tree: 2 files listed, 1 faulty; 3 conditions could not be listed'
+  check '-s: what is not listed' has_line "$work/err" \
+    'unifdef-tree: 2 files listed, 1 faulty; 3 conditions could not be listed; -r lists them'
   tree -s -r src
   # shellcheck disable=SC1003 # The backslash belongs to the line.
   check '-s -r: what is not listed, and the names' same "$(tr -s ' ' < "$work/out")" 'src/b.h:1: #if A && \
@@ -363,7 +364,8 @@ src/crlf.h:6: #elifdef A B \'
   rm src/*.h
   put src/b.h '#ifdef X Y\n#endif\n'
   tree -s src
-  check '-s: of one file' has_line "$work/err" 'unifdef-tree: 1 file listed, 0 faulty; 1 condition could not be listed'
+  check '-s: of one file' has_line "$work/err" \
+    'unifdef-tree: 1 file listed, 0 faulty; 1 condition could not be listed; -r lists it'
   check '-s: status 0' same "$status" 0
   fresh_tree
   put src/full.h "#if FULL$(printf '%65527s' '')\\n#endif\\n"

@@ -31,9 +31,9 @@ listed_parts : (a b c d e f : List ℕ) → a ++ (b ++ (c ++ (d ++ (e ++ (f ++ [
 listed_parts a b c d e f = simp (append_assoc, append-nil)
 
 -- The summary of a run that lists names.
-pub listed_joined : (changed unchanged faults hidden : ℕ) (u f h v w : List ℕ) → u ≡ decimal unchanged → f ≡ decimal faults → h ≡ decimal hidden → v ≡ files_text unchanged → w ≡ hidden_text hidden →
-    line_of (u ++ (v ++ (f ++ (codes " faulty; " ++ (h ++ (w ++ [])))))) ≡ summary Names changed unchanged faults hidden
-listed_joined changed unchanged faults hidden u f h v w p q r m n =
+pub listed_joined : (listed : Bool) (changed unchanged faults hidden : ℕ) (u f h v w : List ℕ) → u ≡ decimal unchanged → f ≡ decimal faults → h ≡ decimal hidden → v ≡ files_text unchanged → w ≡ hidden_text listed hidden →
+    line_of (u ++ (v ++ (f ++ (codes " faulty; " ++ (h ++ (w ++ [])))))) ≡ summary Names listed changed unchanged faults hidden
+listed_joined listed changed unchanged faults hidden u f h v w p q r m n =
     grind (arith, common_steps, listed_parts)
 
 and_false : (b : Bool) → (b && false) ≡ false
@@ -74,7 +74,7 @@ said_unshown {err' = err'} {bytes = bytes} h hidden = subst (λ (s : Stream). Se
 pub ends_quiet : (args : Arguments) (counts : Counts) (faults hidden : ℕ) (old : Report) (err : Stream) → args.quiet ≡ true → TellsEnd args counts faults hidden old err err
 ends_quiet args counts faults hidden old err quiet =
     let none : Sends err err (last_lines args counts.changed counts.unchanged faults hidden counts.edits old.remaining.count) =
-    sends_same (sym (ap (λ (b : Bool). cond b [] (summary args.task counts.changed counts.unchanged faults hidden ++ removed_line counts.edits.lines ++ edited_line args.plan.prunes counts.edits.conditions ++ remaining_line args.list_remaining old.remaining.count)) quiet)) (sends_none err) in
+    sends_same (sym (ap (λ (b : Bool). cond b [] (summary args.task args.list_hidden counts.changed counts.unchanged faults hidden ++ removed_line counts.edits.lines ++ edited_line args.plan.prunes counts.edits.conditions ++ remaining_line args.list_remaining old.remaining.count)) quiet)) (sends_none err) in
     record { remaining = old.remaining.count; remaining_is = refl; told = (err, none); alone = λ e. none }
 
 -- No line was removed.
@@ -97,14 +97,14 @@ edited_told prunes count number text on p q = grind arith
 
 -- Other runs end with the four lines.
 pub ends_told : (args : Arguments) (counts : Counts) (faults hidden remaining : ℕ) {old new : Report} (later next : Report) {err mid more other err' : Stream} → args.quiet ≡ false → remaining ≡ old.remaining.count →
-    Says old new err mid (summary args.task counts.changed counts.unchanged faults hidden) → (new.is_shown ≡ false → Sends mid more (removed_line counts.edits.lines)) → (new.is_shown ≡ false → later.is_shown ≡ false) →
+    Says old new err mid (summary args.task args.list_hidden counts.changed counts.unchanged faults hidden) → (new.is_shown ≡ false → Sends mid more (removed_line counts.edits.lines)) → (new.is_shown ≡ false → later.is_shown ≡ false) →
     (later.is_shown ≡ false → Sends more other (edited_line args.plan.prunes counts.edits.conditions)) →
     (later.is_shown ≡ false → next.is_shown ≡ false) → (next.is_shown ≡ false → Sends other err' (remaining_line args.list_remaining remaining)) →
     TellsEnd args counts faults hidden old err err'
 ends_told args counts faults hidden remaining later next {err = err} {err' = err'} loud same h i j k l m =
-    let is : summary args.task counts.changed counts.unchanged faults hidden ++ removed_line counts.edits.lines ++ edited_line args.plan.prunes counts.edits.conditions ++ remaining_line args.list_remaining remaining ≡
+    let is : summary args.task args.list_hidden counts.changed counts.unchanged faults hidden ++ removed_line counts.edits.lines ++ edited_line args.plan.prunes counts.edits.conditions ++ remaining_line args.list_remaining remaining ≡
     last_lines args counts.changed counts.unchanged faults hidden counts.edits remaining =
-    sym (ap (λ (b : Bool). cond b [] (summary args.task counts.changed counts.unchanged faults hidden ++ removed_line counts.edits.lines ++ edited_line args.plan.prunes counts.edits.conditions ++ remaining_line args.list_remaining remaining)) loud) in
+    sym (ap (λ (b : Bool). cond b [] (summary args.task args.list_hidden counts.changed counts.unchanged faults hidden ++ removed_line counts.edits.lines ++ edited_line args.plan.prunes counts.edits.conditions ++ remaining_line args.list_remaining remaining)) loud) in
     record {
       remaining = remaining;
       remaining_is = same;

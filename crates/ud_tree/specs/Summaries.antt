@@ -2,9 +2,9 @@
 --
 --   line_of text              a line of the program with this text
 --   files_text count          what follows the number of files whose names were listed
---   hidden_text count         what follows the number of conditions that could not be listed
+--   hidden_text listed count  what follows the number of conditions that could not be listed
 --   changes_line word changed unchanged faults   how many files changed, or would
---   summary task changed unchanged faults hidden   how many files there were of each kind
+--   summary task listed changed unchanged faults hidden   how many files there were of each kind
 --   remaining_line listed count   how many conditions still name a symbol
 --   removed_line count        how many lines were removed
 --   edited_line prunes count   how many conditions were edited
@@ -12,7 +12,7 @@
 --   TellsEnd args counts faults hidden old err err'   they were written last
 --   EndsWith s bytes          the last bytes that were written to `s`
 --   Says old new err err' bytes   `bytes` were written, after the number of files was removed
-use Rattle.std.specs.Prelude.{◌≡◌, ℕ, List, [], ◌++◌, Bool, false, not, ◌&&◌, ◌==◌}
+use Rattle.std.specs.Prelude.{◌≡◌, ℕ, List, [], ◌++◌, Bool, false, not, ◌&&◌, ◌||◌, ◌==◌}
 use Rattle.std.specs.Prelude.{if◌then◌else◌, codes, decimal}
 use Rattle.ud_tree.specs.declared.arguments.Task.{Task}
 use Rattle.ud_tree.specs.declared.arguments.Task.TheVariants.{Replace, Diff, Names}
@@ -37,22 +37,26 @@ changes_line word changed unchanged faults = line_of (decimal changed ++ word ++
 abbrev pub files_text : ℕ → List ℕ
 files_text count = if count == 1 then codes " file listed, " else codes " files listed, "
 
--- `hidden_text count`: what follows the number of conditions that could not be listed.
-abbrev pub hidden_text : ℕ → List ℕ
-hidden_text count = if count == 1 then codes " condition could not be listed"
-    else codes " conditions could not be listed"
+-- `hidden_text listed count`: what follows the number of conditions whose names could not be
+-- listed. It names the option that lists them, unless there are none or they are `listed`.
+abbrev pub hidden_text : Bool → ℕ → List ℕ
+hidden_text listed count =
+    if count == 0 || listed then (if count == 1 then codes " condition could not be listed"
+    else codes " conditions could not be listed")
+    else if count == 1 then codes " condition could not be listed; -r lists it"
+    else codes " conditions could not be listed; -r lists them"
 
--- `summary task changed unchanged faults hidden`: the line with the numbers of files that changed,
--- or would, of those that didn't, and of faults. If names are listed: of files without a fault, of
--- faults, and of conditions that couldn't be listed.
-abbrev pub summary : Task → ℕ → ℕ → ℕ → ℕ → List ℕ
-summary Replace changed unchanged faults hidden =
+-- `summary task listed changed unchanged faults hidden`: the line with the numbers of files that
+-- changed, or would, of those that didn't, and of faults. If names are listed: of files without a
+-- fault, of faults, and of conditions that couldn't be listed; `listed` says if these are.
+abbrev pub summary : Task → Bool → ℕ → ℕ → ℕ → ℕ → List ℕ
+summary Replace listed changed unchanged faults hidden =
     changes_line (codes " changed, ") changed unchanged faults
-summary Diff changed unchanged faults hidden =
+summary Diff listed changed unchanged faults hidden =
     changes_line (codes " would change, ") changed unchanged faults
-summary Names changed unchanged faults hidden = line_of (decimal unchanged ++
+summary Names listed changed unchanged faults hidden = line_of (decimal unchanged ++
     files_text unchanged ++ decimal faults ++ codes " faulty; " ++ decimal hidden ++
-    hidden_text hidden)
+    hidden_text listed hidden)
 
 -- `remaining_text count`: what follows the number of conditions.
 abbrev pub remaining_text : ℕ → List ℕ
@@ -92,7 +96,7 @@ EndsWith s bytes = (mid : Stream) × Sends mid s bytes
 -- nothing if the run is quiet.
 abbrev pub last_lines : Arguments → ℕ → ℕ → ℕ → ℕ → Edits → ℕ → List ℕ
 last_lines args changed unchanged faults hidden edits remaining = if args.quiet then []
-    else summary args.task changed unchanged faults hidden ++ removed_line edits.lines ++
+    else summary args.task args.list_hidden changed unchanged faults hidden ++ removed_line edits.lines ++
     edited_line args.plan.prunes edits.conditions ++ remaining_line args.list_remaining remaining
 
 -- `TellsEnd args counts faults hidden old err err'`: the last lines were written, with these

@@ -364,7 +364,7 @@ fn report_end<E: Write>(
     if job.arguments.quiet {
         return;
     }
-    report_counts(job.arguments.task, report, err, hidden, counts, faults);
+    report_counts(job.arguments, report, err, hidden, counts, faults);
     report_removed(report, err, counts.edits.lines);
     report_edited(
         job.arguments.plan.prunes,
@@ -377,7 +377,7 @@ fn report_end<E: Write>(
 
 /// Writes the counts.
 fn report_counts<E: Write>(
-    task: Task,
+    arguments: &Arguments,
     report: &mut Report,
     err: &mut Watched<E>,
     hidden: usize,
@@ -386,13 +386,16 @@ fn report_counts<E: Write>(
 )
     ensures says { Says report.old report.new (stream_of E.contents err.old)
         (stream_of E.contents err.new)
-        (summary task counts.changed counts.unchanged faults hidden) }
+        (summary arguments.now.task arguments.now.list_hidden counts.changed counts.unchanged
+        faults hidden) }
     ensures remaining { report.new.remaining ≡ report.old.remaining }
 {
-    match task {
+    match arguments.task {
         Task::Replace => report_changes(report, err, b" changed, ", counts, faults),
         Task::Diff => report_changes(report, err, b" would change, ", counts, faults),
-        Task::Names => report_listed(report, err, hidden, counts, faults),
+        Task::Names => {
+            report_listed(arguments.list_hidden, report, err, hidden, counts, faults);
+        }
     }
 }
 
@@ -428,6 +431,7 @@ fn report_changes<E: Write>(
 
 /// Writes how many files were listed, and how many conditions couldn't be.
 fn report_listed<E: Write>(
+    lists_hidden: bool,
     report: &mut Report,
     err: &mut Watched<E>,
     hidden: usize,
@@ -436,7 +440,7 @@ fn report_listed<E: Write>(
 )
     ensures says { Says report.old report.new (stream_of E.contents err.old)
         (stream_of E.contents err.new)
-        (summary Task.Names counts.changed counts.unchanged faults hidden) }
+        (summary Task.Names lists_hidden counts.changed counts.unchanged faults hidden) }
     ensures remaining { report.new.remaining ≡ report.old.remaining }
 {
     let (mut first, mut second, mut third) = (Buffer::new(), Buffer::new(), Buffer::new());
@@ -451,7 +455,7 @@ fn report_listed<E: Write>(
             faulty,
             b" faulty; ",
             unlisted,
-            hidden_text(hidden),
+            hidden_text(lists_hidden, hidden),
         ],
     );
 }
@@ -467,14 +471,21 @@ fn files_text(count: usize) -> &'static [u8]
     }
 }
 
-/// Returns what follows the number of conditions that couldn't be listed.
-fn hidden_text(count: usize) -> &'static [u8]
-    ensures { result.now ≡ hidden_text count }
+/// Returns what follows the number of conditions that couldn't be listed. Unless they are `listed`,
+/// it names the option that does.
+fn hidden_text(listed: bool, count: usize) -> &'static [u8]
+    ensures { result.now ≡ hidden_text listed count }
 {
-    if count == 1 {
-        b" condition could not be listed"
+    if count == 0 || listed {
+        if count == 1 {
+            b" condition could not be listed"
+        } else {
+            b" conditions could not be listed"
+        }
+    } else if count == 1 {
+        b" condition could not be listed; -r lists it"
     } else {
-        b" conditions could not be listed"
+        b" conditions could not be listed; -r lists them"
     }
 }
 
