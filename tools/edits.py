@@ -301,8 +301,9 @@ def is_unproved(status, said):
 
 
 def first_of(goals):
-    """Returns the failed goal that says most: the first one for which no name is missing."""
-    return next((it for it in goals if not NAME.search(it)), goals[0])
+    """Returns the failed goal that says most: the first one for which no name is missing, and one
+    outside answers before the others."""
+    return min(goals, key=lambda it: (bool(NAME.search(it)), bool(IN_ANSWER.match(it))))
 
 
 def verdict_of(status, said):
