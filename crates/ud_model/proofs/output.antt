@@ -91,3 +91,6 @@ pub mod JoinedPieces
 pub mod LogicalPieces
 pub mod LogicalTexts
 pub mod SimplifiedLogical
+pub mod PartTrees
+pub mod PartReads
+pub mod PartOutcomes

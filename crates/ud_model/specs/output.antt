@@ -19,3 +19,4 @@ pub mod SeveralLines
 pub mod Processing
 pub mod ProcessedFiles
 pub mod FoldedTexts
+pub mod TextsInParts

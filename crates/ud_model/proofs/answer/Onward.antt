@@ -116,7 +116,7 @@ judged_all (x ∷ xs) [] e = absurd (omega arith)
 judged_all (x ∷ xs) (m ∷ ms) e = ap (λ (ls : List Line). line_of x ∷ ls) (judged_all xs ms (omega arith))
 
 -- Lines and further ones, with their levels.
-listed_more : (d : Bool) (xs ys : List (Item Reading)) (ns ks : List ℕ) → length xs ≡ length ns →
+pub listed_more : (d : Bool) (xs ys : List (Item Reading)) (ns ks : List ℕ) → length xs ≡ length ns →
     listed d (xs ++ ys) (ns ++ ks) ≡ listed d xs ns ++ listed d ys ks
 listed_more d [] ys [] ks e = refl
 listed_more d (x ∷ xs) ys (n ∷ ns) ks e =

@@ -315,7 +315,7 @@ again_law o p input {r} d e f ns t =
     let s : HasNoFault o (lines_of r.output) z.is_tree.items (closed z.tree) × (end_fault z.is_tree.items (closed z.tree) ≡ None) = output_sound o p input ns z f in
     runs_again o p r.output z.is_tree.items z.tree s.0 (output_undecided z.tree ns z.same) s.1
 
-input_nodes : (t : Tree Reading) → innermost t ≡ None → (ns : Nodes Reading) × (t ≡ closed ns)
+pub input_nodes : (t : Tree Reading) → innermost t ≡ None → (ns : Nodes Reading) × (t ≡ closed ns)
 input_nodes (closed ns) e = (ns, refl)
 input_nodes (open_section ns h t) e = absurd (no_innermost ns t h e)
 

@@ -94,7 +94,7 @@ starts_anew run last alone some =
     ended v (ap is_block (sym (kind_at_place read)) ∙ parts.1) in
     LexesTo-same (sym (joined_last run last)) end.0 (end.1 white) read
 
-last_is_spliced-append : (run : List Line) (l : Line) (more : List Line) → last_is_spliced (run ++ l ∷ more) ≡ last_is_spliced (l ∷ more)
+pub last_is_spliced-append : (run : List Line) (l : Line) (more : List Line) → last_is_spliced (run ++ l ∷ more) ≡ last_is_spliced (l ∷ more)
 last_is_spliced-append (k ∷ m ∷ run) l more = last_is_spliced-append (m ∷ run) l more
 last_is_spliced-append _ _ _ = refl
 

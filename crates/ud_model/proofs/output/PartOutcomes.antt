@@ -1,0 +1,375 @@
+-- The outcome of a text in parts is that of its first part, and then that of its second one.
+use Rattle.std.proofs.Common.{◌≡◌, ◌≢◌, ℕ, suc, ◌+◌, ◌≤◌, List, [], ◌∷◌, ◌++◌, length, map, Bool, true, false, not, ◌&&◌, ◌||◌, if◌then◌else◌, bytes_eq, Option, Some, None, refl, sym, ◌∙◌, ap, ap₂, subst, append_assoc, append-nil, ◌⊎◌, inl, inr, arith}
+use Rattle.std.specs.List.{concat}
+use Rattle.std.proofs.lemmas.List.{map-append}
+use Rattle.std.proofs.lemmas.List.Folds.{concat-append}
+use Rattle.ud_model.specs.text.Lines.{Line, text_of, lines_of, line_at, numbered_from, ending_of, partial_line, whole_lines, last_line, AreWhole}
+use Rattle.ud_model.specs.text.Splicing.{is_spliced, last_is_spliced, spliced_text, spliced_part, c_run_of}
+use Rattle.ud_model.specs.text.Lexemes.{LexemeKind, kind_at_end}
+use Rattle.ud_model.specs.text.Scans.{Reading}
+use Rattle.ud_model.specs.text.Scanning.{EndsLogicalLine, ends_with, is_block, comment_at, scan_after, scan_after_run}
+use Rattle.ud_model.specs.sections.Directives.{Span, content_of}
+use Rattle.ud_model.specs.sections.Tree.{Item, Opener, Nodes, Tree, closed, nothing, lines, lines_of_nodes, innermost, is_ignoring}
+use Rattle.ud_model.specs.sections.Pruning.{Mark, marks, marks_of_nodes, is_removed}
+use Rattle.ud_model.specs.sections.Items.{Options, reading_of, line_of, mode_by, mode_after, read_after, next_item}
+use Rattle.ud_model.specs.sections.Faults.{Fault, AreFaultless, no_lines, one_more, last_number, ends_in_comment, is_in_block, end_by, end_fault}
+use Rattle.ud_model.specs.answer.Printing.{Judged, piece_by, piece_alone, uncomplemented_piece, piece_after, style_of, last_removed, number_line, pieces_by, some_other, judged_line, judged_lines, keyword_in, complemented}
+use Rattle.ud_model.specs.answer.Listing.{levels, levels_of_nodes, listed, listed_names, depth_prefix, names_in_content}
+use Rattle.ud_model.specs.answer.Outcomes.{Outcome, outcome_of, output_by, differs_by, HasNoFault, ReadsAs, HasOutcome, ran_as}
+use Rattle.ud_model.specs.answer.Outcomes.ReadsAs.{stops, ends}
+use Rattle.ud_model.specs.answer.CommandLine.{options_of}
+use Rattle.ud_model.specs.answer.Answer.{Answer, IsAnswer, refused, ran, Succeeds, status_of}
+use Rattle.ud_model.specs.output.TextsInParts.{fault_later, fault_if_later, in_parts, MayBeParts, AnswersBoth}
+use Rattle.ud_model.specs.declared.kind.Mode.{Mode}
+use Rattle.ud_model.specs.declared.kind.Mode.TheVariants.{C, Plain}
+use Rattle.ud_model.specs.declared.settings.Settings.{Settings}
+use Rattle.ud_model.specs.declared.settings.Listing.{Listing}
+use Rattle.ud_model.specs.declared.settings.Listing.TheVariants.{Off, Names, Depths}
+use Rattle.ud_model.specs.declared.verdict.Verdict.{Verdict}
+use Rattle.ud_model.specs.declared.limits.TheConstants.{TEXT_LINES}
+use Rattle.ud_model.proofs.text.Pushes.{push_not_nil}
+use Rattle.ud_model.proofs.text.LinesLemmas.{are_whole}
+use Rattle.ud_model.proofs.text.ScanLemmas.{joins_last}
+use Rattle.ud_model.proofs.text.ScanLaws.{last_is_spliced-append}
+use Rattle.ud_model.proofs.output.AnswerLaws.{faultless}
+use Rattle.ud_model.proofs.output.Formed.{whole_ending, end_is_some}
+use Rattle.ud_model.proofs.sections.Unique.{unique}
+use Rattle.ud_model.proofs.sections.Stays.{length_marks}
+use Rattle.ud_model.proofs.sections.Soundness.{sound_lines, one_run, lines_with_next, reading_of-item_of}
+use Rattle.ud_model.proofs.answer.Onward.{judged_more, listed_more, pieces_by-append}
+use Rattle.ud_model.proofs.answer.LevelLemmas.{length_levels}
+use Rattle.ud_model.proofs.output.RereadLaws.{input_nodes}
+use Rattle.ud_model.proofs.output.PartTrees.{tree_with, opener_if_with, innermost_then, innermost_with, tree_levels_then, tree_levels_with}
+use Rattle.ud_model.proofs.output.PartReads.{line_later, reading_later, later, reading_of-later, line_of-later, lines_later, both, grown, marks_grown, lines_of_both, numbers_fit, sound_both, fault_there}
+
+-- 1. The fault of the end.
+
+comment_more : (xs : List (Item Reading)) (y : Item Reading) (ys : List (Item Reading)) → ends_in_comment (xs ++ y ∷ ys) ≡ ends_in_comment (y ∷ ys)
+comment_more (x ∷ z ∷ xs) y ys = comment_more (z ∷ xs) y ys
+comment_more _ _ _ = refl
+
+number_more : (xs : List (Item Reading)) (y : Item Reading) (ys : List (Item Reading)) → last_number (xs ++ y ∷ ys) ≡ last_number (y ∷ ys)
+number_more (x ∷ z ∷ xs) y ys = number_more (z ∷ xs) y ys
+number_more _ _ _ = refl
+
+comment_later : (n : ℕ) (ys : List (Item Reading)) → ends_in_comment (map (later n) ys) ≡ ends_in_comment ys
+comment_later n [] = refl
+comment_later n (y ∷ []) = ap (λ (r : Reading). is_in_block r.scan.comment) (reading_of-later n y)
+comment_later n (y ∷ z ∷ ys) = comment_later n (z ∷ ys)
+
+number_later : (n : ℕ) (y : Item Reading) (ys : List (Item Reading)) → last_number (map (later n) (y ∷ ys)) ≡ n + last_number (y ∷ ys)
+number_later n y [] = ap (λ (l : Line). l.number) (line_of-later n y)
+number_later n y (z ∷ ys) = number_later n z ys
+
+end_later : (n : ℕ) (b : Bool) (k : ℕ) (i : Option (Opener Reading)) → end_by b (n + k) (opener_if_with (reading_later n) i) ≡ fault_if_later n (end_by b k i)
+end_later n true k i = refl
+end_later n false k None = refl
+end_later n false k (Some o) = grind arith
+
+end_none : (b : Bool) (k : ℕ) (i : Option (Opener Reading)) → end_by b k i ≡ None → i ≡ None
+end_none true k i e = cc
+end_none false k None e = refl
+end_none false k (Some o) e = cc
+
+module _ (n : ℕ) (xs : List (Item Reading)) (ns : Nodes Reading) (none : end_fault xs (closed ns) ≡ None) where
+  innermost_grown : (t : Tree Reading) → innermost (grown n xs ns t) ≡ opener_if_with (reading_later n) (innermost t)
+  innermost_grown t = innermost_then ns (tree_with (reading_later n) t) ∙ innermost_with (reading_later n) t
+
+  end_both : (ys : List (Item Reading)) (t : Tree Reading) → lines t ≡ ys → end_fault (both n xs ns ys) (grown n xs ns t) ≡ fault_if_later n (end_fault ys t)
+  end_both [] t e =
+      let z : t ≡ closed nothing = unique t (closed nothing) e in
+      ap (λ (u : Tree Reading). end_fault (xs ++ []) (grown n xs ns u)) z ∙ ap (λ (zs : List (Item Reading)). end_fault zs (closed ns)) (append-nil xs)
+      ∙ none ∙ ap (λ (u : Tree Reading). fault_if_later n (end_fault [] u)) (sym z)
+  end_both (y ∷ ys) t e =
+      ap₂ (λ (b : Bool) (k : ℕ). end_by b k (innermost (grown n xs ns t)))
+      (comment_more xs (later n y) (map (later n) ys) ∙ comment_later n (y ∷ ys)) (number_more xs (later n y) (map (later n) ys) ∙ number_later n y ys)
+      ∙ ap (λ (i : Option (Opener Reading)). end_by (ends_in_comment (y ∷ ys)) (n + last_number (y ∷ ys)) i) (innermost_grown t)
+      ∙ end_later n (ends_in_comment (y ∷ ys)) (last_number (y ∷ ys)) (innermost t)
+
+-- 2. What is printed.
+
+module _ (n : ℕ) where
+  abbrev judged_later : Judged → Judged
+  judged_later j = record { line = line_later n j.line; verdict = j.verdict; keyword = j.keyword }
+
+  line_judged_later : (x : Item Reading) (m : Mark) → judged_line (later n x) m ≡ judged_later (judged_line x m)
+  line_judged_later x m =
+      ap (λ (r : Reading). let j : Judged = record { line = r.line; verdict = m.verdict; keyword = keyword_in (content_of r.scan) } in j) (reading_of-later n x)
+
+  lines_judged_later : (ys : List (Item Reading)) (ms : List Mark) → judged_lines (map (later n) ys) ms ≡ map judged_later (judged_lines ys ms)
+  lines_judged_later [] ms = refl
+  lines_judged_later (y ∷ ys) [] = refl
+  lines_judged_later (y ∷ ys) (m ∷ ms) = ap₂ (λ (j : Judged) (js : List Judged). j ∷ js) (line_judged_later y m) (lines_judged_later ys ms)
+
+  piece_later : (v : Verdict) (k : Span) (l : Line) → piece_by v k (line_later n l) ≡ piece_by v k l
+  piece_later v k l = grind arith
+
+  alone_later : (b : Bool) (j : Judged) → piece_alone b (judged_later j) ≡ piece_alone b j
+  alone_later b j = ap (λ (p : List ℕ). if b && is_removed j.verdict then j.line.ending else p) (piece_later j.verdict j.keyword j.line)
+
+  others_later : (ps : List (List ℕ)) (js : List Judged) → some_other ps (map judged_later js) ≡ some_other ps js
+  others_later [] js = refl
+  others_later (p ∷ ps) [] = refl
+  others_later (p ∷ ps) (j ∷ js) = ap (λ (b : Bool). not (bytes_eq p (text_of j.line)) || b) (others_later ps js)
+
+  listed_later : (d : Bool) (ys : List (Item Reading)) (ks : List ℕ) → listed d (map (later n) ys) ks ≡ listed d ys ks
+  listed_later d [] ks = refl
+  listed_later d (y ∷ ys) [] = refl
+  listed_later d (y ∷ ys) (k ∷ ks) =
+      ap₂ (λ (r : Reading) (l : List ℕ). listed_names (depth_prefix d k) (names_in_content (content_of r.scan)) ++ l) (reading_of-later n y) (listed_later d ys ks)
+
+others_both : (piece : List Judged → Judged → List ℕ) (before js ks : List Judged) → some_other (pieces_by piece before (js ++ ks)) (js ++ ks)
+    ≡ (some_other (pieces_by piece before js) js || some_other (pieces_by piece (before ++ js) ks) ks)
+others_both piece before [] ks = ap (λ (bs : List Judged). some_other (pieces_by piece bs ks) ks) (sym (append-nil before))
+others_both piece before (j ∷ js) ks = grind (arith, append_assoc, others_both piece (before ++ j ∷ []) js ks)
+
+module _ (s : Settings) (u : s.renumber ≡ false) (n : ℕ) where
+  unnumbered_piece : (before : List Judged) (j : Judged) → uncomplemented_piece (style_of s) before j ≡ piece_alone s.blank j
+  unnumbered_piece before j =
+      ap (λ (r : Bool). (if r && not s.blank && last_removed before && not (is_removed j.verdict) then number_line j.line else []) ++ piece_alone s.blank j) u
+
+  uncomplemented_later : (before after : List Judged) (j : Judged) → uncomplemented_piece (style_of s) before (judged_later n j) ≡ uncomplemented_piece (style_of s) after j
+  uncomplemented_later before after j = unnumbered_piece before (judged_later n j) ∙ alone_later n s.blank j ∙ sym (unnumbered_piece after j)
+
+  piece_after-later : (before after : List Judged) (j : Judged) → piece_after (style_of s) before (judged_later n j) ≡ piece_after (style_of s) after j
+  piece_after-later before after j =
+      ap₂ (λ (p q : List ℕ). if s.complement then p else q) (uncomplemented_later (map complemented before) (map complemented after) (complemented j))
+      (uncomplemented_later before after j)
+
+  pieces_later : (before after js : List Judged) → pieces_by (piece_after (style_of s)) before (map (judged_later n) js) ≡ pieces_by (piece_after (style_of s)) after js
+  pieces_later before after [] = refl
+  pieces_later before after (j ∷ js) =
+      ap₂ (λ (p : List ℕ) (ps : List (List ℕ)). p ∷ ps) (piece_after-later before after j) (pieces_later (before ++ judged_later n j ∷ []) (after ++ j ∷ []) js)
+
+  module _ (xs : List (Item Reading)) (ns : Nodes Reading) (a : lines_of_nodes ns ≡ xs) (ys : List (Item Reading)) (t : Tree Reading) where
+    as_many_marks : length xs ≡ length (marks_of_nodes true ns)
+    as_many_marks = ap (λ (zs : List (Item Reading)). length zs) (sym a) ∙ sym (length_marks true (closed ns))
+
+    as_many_levels : length xs ≡ length (levels_of_nodes 0 ns)
+    as_many_levels = ap (λ (zs : List (Item Reading)). length zs) (sym a) ∙ sym (length_levels (closed ns))
+
+    abbrev first_judged : List Judged
+    first_judged = judged_lines xs (marks (closed ns))
+
+    abbrev more_judged : List Judged
+    more_judged = judged_lines ys (marks t)
+
+    judged_both : judged_lines (both n xs ns ys) (marks (grown n xs ns t)) ≡ first_judged ++ map (judged_later n) more_judged
+    judged_both =
+        ap (λ (ms : List Mark). judged_lines (both n xs ns ys) ms) (marks_grown n xs ns t)
+        ∙ judged_more xs (map (later n) ys) (marks_of_nodes true ns) (marks t) as_many_marks
+        ∙ ap (λ (js : List Judged). first_judged ++ js) (lines_judged_later n ys (marks t))
+
+    abbrev pieces : List Judged → List (List ℕ)
+    pieces js = pieces_by (piece_after (style_of s)) [] js
+
+    pieces_both : pieces (first_judged ++ map (judged_later n) more_judged) ≡ pieces first_judged ++ pieces more_judged
+    pieces_both =
+        pieces_by-append (piece_after (style_of s)) [] first_judged (map (judged_later n) more_judged)
+        ∙ ap (λ (ps : List (List ℕ)). pieces first_judged ++ ps) (pieces_later first_judged [] more_judged)
+
+    levels_both : levels (grown n xs ns t) ≡ levels_of_nodes 0 ns ++ levels t
+    levels_both =
+        tree_levels_then ns 0 (tree_with (reading_later n) t) ∙ ap (λ (ks : List ℕ). levels_of_nodes 0 ns ++ ks) (tree_levels_with (reading_later n) 0 t)
+
+    listed_both : (d : Bool) → listed d (both n xs ns ys) (levels (grown n xs ns t)) ≡ listed d xs (levels (closed ns)) ++ listed d ys (levels t)
+    listed_both d =
+        ap (λ (ks : List ℕ). listed d (both n xs ns ys) ks) levels_both ∙ listed_more d xs (map (later n) ys) (levels_of_nodes 0 ns) (levels t) as_many_levels
+        ∙ ap (λ (l : List ℕ). listed d xs (levels (closed ns)) ++ l) (listed_later n d ys (levels t))
+
+    output_both : (q : Listing) → output_by q s (both n xs ns ys) (grown n xs ns t) ≡ output_by q s xs (closed ns) ++ output_by q s ys t
+    output_both Off =
+        ap (λ (js : List Judged). concat (pieces js)) judged_both ∙ ap (λ (ps : List (List ℕ)). concat ps) pieces_both
+        ∙ concat-append (pieces first_judged) (pieces more_judged)
+    output_both Names = listed_both false
+    output_both Depths = listed_both true
+
+    differs_both : (q : Listing) → differs_by q s (both n xs ns ys) (grown n xs ns t) ≡ (differs_by q s xs (closed ns) || differs_by q s ys t)
+    differs_both Off =
+        ap (λ (js : List Judged). some_other (pieces js) js) judged_both
+        ∙ others_both (piece_after (style_of s)) [] first_judged (map (judged_later n) more_judged)
+        ∙ ap (λ (b : Bool). some_other (pieces first_judged) first_judged || b)
+        (others_later n (pieces_by (piece_after (style_of s)) first_judged (map (judged_later n) more_judged)) more_judged
+        ∙ ap (λ (ps : List (List ℕ)). some_other ps more_judged) (pieces_later first_judged [] more_judged))
+    differs_both Names = refl
+    differs_both Depths = refl
+
+    outcome_both : (f : Option Fault) →
+        outcome_of s (both n xs ns ys) (grown n xs ns t) (fault_if_later n f) ≡ in_parts n (outcome_of s xs (closed ns) None) (outcome_of s ys t f)
+    outcome_both f =
+        ap₂ (λ (p : List ℕ) (b : Bool). let r : Outcome = record { output = p; fault = fault_if_later n f; differs = b } in r) (output_both s.listing)
+        (differs_both s.listing)
+
+-- 3. Reading both parts.
+
+reads_none : {o : Options} {text : List ℕ} {xs : List (Item Reading)} {t : Tree Reading} {f : Option Fault} → ReadsAs o text xs t f → f ≡ None →
+    HasNoFault o (lines_of text) xs t × (end_fault xs t ≡ None)
+reads_none (stops xs t f h) e = cc
+reads_none (ends xs t h) e = (h, e)
+
+module _ (o : Options) (text more : List ℕ) (xs : List (Item Reading)) (ns : Nodes Reading) (a : HasNoFault o (lines_of text) xs (closed ns))
+    (none : end_fault xs (closed ns) ≡ None) (whole : partial_line text ≡ []) (last : (map reading_of xs ≡ []) ⊎ EndsLogicalLine (map reading_of xs))
+    (fits : length (lines_of (text ++ more)) ≤ TEXT_LINES) where
+  abbrev count : ℕ
+  count = length (lines_of text)
+
+  still_sound : {ys : List (Item Reading)} {t : Tree Reading} → AreFaultless o ys t → (rest : List Line) → lines_of more ≡ map line_of ys ++ rest →
+      AreFaultless o (both count xs ns ys) (grown count xs ns t)
+  still_sound s rest e = sound_both o count xs ns last a.sound (lines_of more) (numbers_fit text more whole fits) s rest e
+
+  lines_both_are : (ys : List (Item Reading)) (rest : List Line) → lines_of more ≡ map line_of ys ++ rest →
+      lines_of (text ++ more) ≡ map line_of (both count xs ns ys) ++ map (line_later count) rest
+  lines_both_are ys rest e =
+      lines_of_both text more whole
+      ∙ ap₂ (λ (ls ks : List Line). ls ++ map (line_later count) ks) a.are e
+      ∙ ap (λ (ks : List Line). map line_of xs ++ ks) (map-append (line_later count) (map line_of ys) rest)
+      ∙ sym (append_assoc (map line_of xs) (map (line_later count) (map line_of ys)) (map (line_later count) rest))
+      ∙ ap (λ (ks : List Line). (map line_of xs ++ ks) ++ map (line_later count) rest) (sym (lines_later count ys))
+      ∙ ap (λ (ks : List Line). ks ++ map (line_later count) rest) (sym (map-append line_of xs (map (later count) ys)))
+
+  reads_both : {ys : List (Item Reading)} {t : Tree Reading} {f : Option Fault} → ReadsAs o more ys t f →
+      ReadsAs o (text ++ more) (both count xs ns ys) (grown count xs ns t) (fault_if_later count f)
+  reads_both (stops ys t f h) =
+      stops (both count xs ns ys) (grown count xs ns t) (fault_later count f)
+      (record {
+        sound = still_sound h.sound (h.faulty ∷ h.later) h.are;
+        faulty = line_later count h.faulty;
+        later = map (line_later count) h.later;
+        are = lines_both_are ys (h.faulty ∷ h.later) h.are;
+        fault = fault_there o count xs ns last a.sound (lines_of more) (numbers_fit text more whole fits) ys t h.faulty h.later f h.sound h.are h.fault;
+      })
+  reads_both (ends ys t h) =
+      let e : lines_of more ≡ map line_of ys ++ [] = h.are ∙ sym (append-nil (map line_of ys)) in
+      subst (λ (f : Option Fault). ReadsAs o (text ++ more) (both count xs ns ys) (grown count xs ns t) f)
+      (end_both count xs ns none ys t (sound_lines h.sound))
+      (ends (both count xs ns ys) (grown count xs ns t)
+      (record {
+        sound = still_sound h.sound [] e;
+        are = lines_both_are ys [] e ∙ append-nil (map line_of (both count xs ns ys));
+      }))
+
+  has_both : o.settings.renumber ≡ false → {s : Outcome} → HasOutcome o more s →
+      HasOutcome o (text ++ more) (in_parts count (outcome_of o.settings xs (closed ns) None) s)
+  has_both u (ran_as {xs = ys} {t = t} {f = f} h) =
+      subst (λ (r : Outcome). HasOutcome o (text ++ more) r) (outcome_both o.settings u count xs ns (sound_lines a.sound) ys t f) (ran_as (reads_both h))
+
+-- 4. The end of the first part.
+
+last_ended : (k : ℕ) (ws : List (List ℕ)) → AreWhole ws → (front : List Line) (l : Line) → numbered_from k ws ≡ front ++ l ∷ [] → l.ending ≢ []
+last_ended k [] h front l e = absurd (push_not_nil front l (sym e))
+last_ended k (w ∷ ws) h [] l e =
+    let same : line_at k w ≡ l = cc in
+    subst (λ (m : Line). m.ending ≢ []) same (end_is_some (ending_of w) (whole_ending w h.0))
+last_ended k (w ∷ ws) h (m ∷ front) l e =
+    let rest : numbered_from (suc k) ws ≡ front ++ l ∷ [] = cc in last_ended (suc k) ws h.1 front l rest
+
+-- The last line of a text that ends in a newline has an ending.
+text_ended : (text : List ℕ) → partial_line text ≡ [] → (front : List Line) (l : Line) → lines_of text ≡ front ++ l ∷ [] → l.ending ≢ []
+text_ended text e front l g =
+    last_ended 1 (whole_lines text) (are_whole text) front l
+    (ap (numbered_from 1) (sym (append-nil (whole_lines text)) ∙ ap (λ (r : List ℕ). whole_lines text ++ last_line r) (sym e)) ∙ g)
+
+no_block : (k : LexemeKind) → is_in_block (comment_at false k) ≡ false → is_block k ≡ false
+no_block k e = grind arith
+
+-- A line that isn't spliced and has no open comment joins no line.
+code_alone : (run : List Line) (l : Line) → is_spliced l ≡ false → is_in_block (scan_after_run run l).comment ≡ false → (scan_after_run run l).joins_after ≡ false
+unfolding scan_after_run
+code_alone run l e h =
+    let k : LexemeKind = kind_at_end (spliced_text run ++ spliced_part l) in
+    joins_last run l ∙ ap₂ (λ (s b : Bool). s || b) e (no_block k (ap (λ (s : Bool). is_in_block (comment_at s k)) (sym e) ∙ h))
+
+line_alone : (before : List Reading) (m : Mode) (l : Line) → (m ≡ Plain) ⊎ (is_spliced l ≡ false) → is_in_block (scan_after before m l).comment ≡ false →
+    (scan_after before m l).joins_after ≡ false
+line_alone before Plain l e h = refl
+line_alone before C l (inl e) h = cc
+line_alone before C l (inr e) h = code_alone (c_run_of before) l e h
+
+no_comment : (b : Bool) (k : ℕ) (i : Option (Opener Reading)) → end_by b k i ≡ None → b ≡ false
+no_comment true k i e = cc
+no_comment false k i e = refl
+
+comment_last : (xs : List (Item Reading)) (x : Item Reading) → ends_in_comment (xs ++ x ∷ []) ≡ is_in_block (reading_of x).scan.comment
+comment_last xs x = comment_more xs x []
+
+-- A text without a fault that ends so leaves the lines after it alone.
+module _ (o : Options) (text : List ℕ) (whole : partial_line text ≡ []) (unspliced : (o.settings.plain ≡ true) ⊎ (last_is_spliced (lines_of text) ≡ false)) where
+  alone_by : (ys : List (Item Reading)) (t : Tree Reading) (l : Line) → (m : Mode) → mode_after o t ≡ m →
+      lines_of text ≡ map line_of (ys ++ next_item o ys t l ∷ []) → ends_in_comment (ys ++ next_item o ys t l ∷ []) ≡ false →
+      EndsLogicalLine (map reading_of (ys ++ next_item o ys t l ∷ []))
+  alone_by ys t l m p are h =
+      let lines : lines_of text ≡ map line_of ys ++ l ∷ [] = are ∙ lines_with_next o ys t l in
+      let read : reading_of (next_item o ys t l) ≡ read_after ys (mode_after o t) l = reading_of-item_of o (read_after ys (mode_after o t) l) in
+      let closed_here : is_in_block (scan_after (map reading_of ys) (mode_after o t) l).comment ≡ false =
+      ap (λ (r : Reading). is_in_block r.scan.comment) (sym read) ∙ sym (comment_last ys (next_item o ys t l)) ∙ h in
+      subst EndsLogicalLine
+      (ap (λ (r : Reading). map reading_of ys ++ r ∷ []) (sym read) ∙ sym (map-append reading_of ys (next_item o ys t l ∷ [])))
+      (ends_with (map reading_of ys) (mode_after o t) l
+      (line_alone (map reading_of ys) (mode_after o t) l (joins_by unspliced lines) closed_here)
+      (text_ended text whole (map line_of ys) l lines))
+    where
+      joins_by : (o.settings.plain ≡ true) ⊎ (last_is_spliced (lines_of text) ≡ false) → lines_of text ≡ map line_of ys ++ l ∷ [] →
+          (mode_after o t ≡ Plain) ⊎ (is_spliced l ≡ false)
+      joins_by (inl e) g = inl (ap (λ (b : Bool). mode_by (b || is_ignoring t)) e)
+      joins_by (inr e) g = inr (sym (last_is_spliced-append (map line_of ys) l []) ∙ ap last_is_spliced (sym g) ∙ e)
+
+  ends_alone : {xs : List (Item Reading)} {t : Tree Reading} → AreFaultless o xs t → lines_of text ≡ map line_of xs → ends_in_comment xs ≡ false →
+      (map reading_of xs ≡ []) ⊎ EndsLogicalLine (map reading_of xs)
+  ends_alone no_lines are h = inl refl
+  ends_alone (one_more ys t s l u e none) are h = inr (alone_by ys t l (mode_after o t) refl are h)
+
+-- 5. The law.
+
+module _ (o : Options) (text more : List ℕ) (p : MayBeParts o text more) where
+  by_reading : {xs : List (Item Reading)} {t : Tree Reading} {s : Outcome} → HasNoFault o (lines_of text) xs t → end_fault xs t ≡ None → HasOutcome o more s →
+      HasOutcome o (text ++ more) (in_parts (length (lines_of text)) (outcome_of o.settings xs t None) s)
+  by_reading {xs = xs} {t = t} {s = s} h e b =
+      by_nodes (input_nodes t (end_none (ends_in_comment xs) (last_number xs) (innermost t) e))
+    where
+      by_nodes : (ns : Nodes Reading) × (t ≡ closed ns) → HasOutcome o (text ++ more) (in_parts (length (lines_of text)) (outcome_of o.settings xs t None) s)
+      by_nodes (ns, g) =
+          subst (λ (u : Tree Reading). HasOutcome o (text ++ more) (in_parts (length (lines_of text)) (outcome_of o.settings xs u None) s)) (sym g)
+          (has_both o text more xs ns (subst (λ (u : Tree Reading). HasNoFault o (lines_of text) xs u) g h)
+          (ap (λ (u : Tree Reading). end_fault xs u) (sym g) ∙ e) p.whole
+          (ends_alone o text p.whole p.unspliced h.sound h.are (no_comment (ends_in_comment xs) (last_number xs) (innermost t) e)) p.fits p.unnumbered b)
+
+-- The outcome of both parts.
+pub outcome_in_parts : (o : Options) (text more : List ℕ) (r s : Outcome) → MayBeParts o text more → HasOutcome o text r → r.fault ≡ None →
+    HasOutcome o more s → HasOutcome o (text ++ more) (in_parts (length (lines_of text)) r s)
+outcome_in_parts o text more _ s p (ran_as {xs = xs} {t = t} {f = f} a) e b =
+    let h = reads_none a e in
+    subst (λ (g : Option Fault). HasOutcome o (text ++ more) (in_parts (length (lines_of text)) (outcome_of o.settings xs t g) s)) (sym e)
+    (by_reading o text more p h.0 h.1 b)
+
+-- The status of a fault is that of the later fault.
+status_failed : (s : Settings) (n : ℕ) (d e : Bool) (f : Option Fault) → status_of s e f ≡ 2 → status_of s d (fault_if_later n f) ≡ 2
+status_failed s n d e None h = grind arith
+status_failed s n d e (Some f) h = refl
+
+-- Two parts with one status have this status together.
+status_same : (s : Settings) (n : ℕ) (d e : Bool) (f : Option Fault) → status_of s d None ≡ status_of s e f → status_of s (d || e) (fault_if_later n f) ≡ status_of s d None
+status_same s n d e None h = grind arith
+status_same s n d e (Some f) h = sym h
+
+-- The answer to both parts.
+pub answer_in_parts : (args : List (List ℕ)) (text more : List ℕ) (a b : Answer) → MayBeParts (options_of args) text more → Succeeds args text a →
+    IsAnswer args more b → (c : Answer) → IsAnswer args (text ++ more) c → AnswersBoth a b c
+answer_in_parts args text more a b p s q c k = by_answers s.answer s.no_fault q k
+  where
+    by_answers : {a b c : Answer} → IsAnswer args text a → a.status ≢ 2 → IsAnswer args more b → IsAnswer args (text ++ more) c → AnswersBoth a b c
+    by_answers (refused f e) n q k = absurd (n refl)
+    by_answers (ran r u d) n (refused f e) k = cc
+    by_answers (ran r u d) n (ran z v h) (refused f e) = cc
+    by_answers (ran r u d) n (ran z v h) (ran w y k) =
+        let f : r.fault ≡ None = faultless (options_of args).settings r.differs r.fault n in
+        let is : in_parts (length (lines_of text)) r z ≡ w = one_run (outcome_in_parts (options_of args) text more r z p d f h) k in
+        let settings : Settings = (options_of args).settings in
+        let status : status_of settings (r.differs || z.differs) (fault_if_later (length (lines_of text)) z.fault) ≡ status_of settings w.differs w.fault =
+        ap (λ (m : Outcome). status_of settings m.differs m.fault) is in
+        record {
+          output = ap (λ (m : Outcome). m.output) (sym is);
+          fails = λ g. sym status ∙ status_failed settings (length (lines_of text)) (r.differs || z.differs) z.differs z.fault g;
+          same = λ g.
+              let first : status_of settings r.differs r.fault ≡ status_of settings r.differs None = ap (λ (q : Option Fault). status_of settings r.differs q) f in
+              sym status ∙ status_same settings (length (lines_of text)) r.differs z.differs z.fault (sym first ∙ g) ∙ sym first;
+        }
