@@ -5,3 +5,4 @@ pub mod ProcessingExamples
 pub mod PresumedExamples
 pub mod ResidualExamples
 pub mod FoldedExamples
+pub mod PartsExamples
