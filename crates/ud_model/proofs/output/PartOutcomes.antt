@@ -1,5 +1,5 @@
 -- The outcome of a text in parts is that of its first part, and then that of its second one.
-use Rattle.std.proofs.Common.{◌≡◌, ◌≢◌, ℕ, suc, ◌+◌, ◌≤◌, List, [], ◌∷◌, ◌++◌, length, map, Bool, true, false, not, ◌&&◌, ◌||◌, if◌then◌else◌, bytes_eq, Option, Some, None, refl, sym, ◌∙◌, ap, ap₂, subst, append_assoc, append-nil, ◌⊎◌, inl, inr, arith}
+use Rattle.std.proofs.Common.{◌≡◌, ◌≢◌, ℕ, suc, ◌+◌, ◌≤◌, List, [], ◌∷◌, ◌++◌, length, map, Bool, true, false, not, ◌||◌, bytes_eq, Option, Some, None, refl, sym, ◌∙◌, ap, ap₂, subst, append_assoc, append-nil, ◌⊎◌, inl, inr, arith}
 use Rattle.std.specs.List.{concat}
 use Rattle.std.proofs.lemmas.List.{map-append}
 use Rattle.std.proofs.lemmas.List.Folds.{concat-append}
@@ -8,12 +8,12 @@ use Rattle.ud_model.specs.text.Splicing.{is_spliced, last_is_spliced, spliced_te
 use Rattle.ud_model.specs.text.Lexemes.{LexemeKind, kind_at_end}
 use Rattle.ud_model.specs.text.Scans.{Reading}
 use Rattle.ud_model.specs.text.Scanning.{EndsLogicalLine, ends_with, is_block, comment_at, scan_after, scan_after_run}
-use Rattle.ud_model.specs.sections.Directives.{Span, content_of}
+use Rattle.ud_model.specs.sections.Directives.{content_of}
 use Rattle.ud_model.specs.sections.Tree.{Item, Opener, Nodes, Tree, closed, nothing, lines, lines_of_nodes, innermost, is_ignoring}
-use Rattle.ud_model.specs.sections.Pruning.{Mark, marks, marks_of_nodes, is_removed}
+use Rattle.ud_model.specs.sections.Pruning.{Mark, marks, marks_of_nodes}
 use Rattle.ud_model.specs.sections.Items.{Options, reading_of, line_of, mode_by, mode_after, read_after, next_item}
 use Rattle.ud_model.specs.sections.Faults.{Fault, AreFaultless, no_lines, one_more, last_number, ends_in_comment, is_in_block, end_by, end_fault}
-use Rattle.ud_model.specs.answer.Printing.{Judged, piece_by, piece_alone, uncomplemented_piece, piece_after, style_of, last_removed, number_line, pieces_by, some_other, judged_line, judged_lines, keyword_in, complemented}
+use Rattle.ud_model.specs.answer.Printing.{Judged, piece_after, style_of, pieces_by, some_other, judged_line, judged_lines, keyword_in}
 use Rattle.ud_model.specs.answer.Listing.{levels, levels_of_nodes, listed, listed_names, depth_prefix, names_in_content}
 use Rattle.ud_model.specs.answer.Outcomes.{Outcome, outcome_of, output_by, differs_by, HasNoFault, ReadsAs, HasOutcome, ran_as}
 use Rattle.ud_model.specs.answer.Outcomes.ReadsAs.{stops, ends}
@@ -25,18 +25,18 @@ use Rattle.ud_model.specs.declared.kind.Mode.TheVariants.{C, Plain}
 use Rattle.ud_model.specs.declared.settings.Settings.{Settings}
 use Rattle.ud_model.specs.declared.settings.Listing.{Listing}
 use Rattle.ud_model.specs.declared.settings.Listing.TheVariants.{Off, Names, Depths}
-use Rattle.ud_model.specs.declared.verdict.Verdict.{Verdict}
 use Rattle.ud_model.specs.declared.limits.TheConstants.{TEXT_LINES}
 use Rattle.ud_model.proofs.text.Pushes.{push_not_nil}
 use Rattle.ud_model.proofs.text.LinesLemmas.{are_whole}
 use Rattle.ud_model.proofs.text.ScanLemmas.{joins_last}
 use Rattle.ud_model.proofs.text.ScanLaws.{last_is_spliced-append}
 use Rattle.ud_model.proofs.output.AnswerLaws.{faultless}
+use Rattle.ud_model.proofs.output.Changed.{lone, pieces_lone}
 use Rattle.ud_model.proofs.output.Formed.{whole_ending, end_is_some}
 use Rattle.ud_model.proofs.sections.Unique.{unique}
 use Rattle.ud_model.proofs.sections.Stays.{length_marks}
 use Rattle.ud_model.proofs.sections.Soundness.{sound_lines, one_run, lines_with_next, reading_of-item_of}
-use Rattle.ud_model.proofs.answer.Onward.{judged_more, listed_more, pieces_by-append}
+use Rattle.ud_model.proofs.answer.Onward.{judged_more, listed_more}
 use Rattle.ud_model.proofs.answer.LevelLemmas.{length_levels}
 use Rattle.ud_model.proofs.output.RereadLaws.{input_nodes}
 use Rattle.ud_model.proofs.output.PartTrees.{tree_with, opener_if_with, innermost_then, innermost_with, tree_levels_then, tree_levels_with}
@@ -66,9 +66,10 @@ end_later n true k i = refl
 end_later n false k None = refl
 end_later n false k (Some o) = grind arith
 
-end_none : (b : Bool) (k : ℕ) (i : Option (Opener Reading)) → end_by b k i ≡ None → i ≡ None
+-- A text that ends without a fault has no open comment and no open section.
+end_none : (b : Bool) (k : ℕ) (i : Option (Opener Reading)) → end_by b k i ≡ None → (b ≡ false) × (i ≡ None)
 end_none true k i e = cc
-end_none false k None e = refl
+end_none false k None e = (refl, refl)
 end_none false k (Some o) e = cc
 
 module _ (n : ℕ) (xs : List (Item Reading)) (ns : Nodes Reading) (none : end_fault xs (closed ns) ≡ None) where
@@ -101,11 +102,12 @@ module _ (n : ℕ) where
   lines_judged_later (y ∷ ys) [] = refl
   lines_judged_later (y ∷ ys) (m ∷ ms) = ap₂ (λ (j : Judged) (js : List Judged). j ∷ js) (line_judged_later y m) (lines_judged_later ys ms)
 
-  piece_later : (v : Verdict) (k : Span) (l : Line) → piece_by v k (line_later n l) ≡ piece_by v k l
-  piece_later v k l = grind arith
+  lone_later : (b c : Bool) (j : Judged) → lone b c (judged_later j) ≡ lone b c j
+  lone_later b c j = grind arith
 
-  alone_later : (b : Bool) (j : Judged) → piece_alone b (judged_later j) ≡ piece_alone b j
-  alone_later b j = ap (λ (p : List ℕ). if b && is_removed j.verdict then j.line.ending else p) (piece_later j.verdict j.keyword j.line)
+  pieces_later : (b c : Bool) (js : List Judged) → map (lone b c) (map judged_later js) ≡ map (lone b c) js
+  pieces_later b c [] = refl
+  pieces_later b c (j ∷ js) = ap₂ (λ (p : List ℕ) (ps : List (List ℕ)). p ∷ ps) (lone_later b c j) (pieces_later b c js)
 
   others_later : (ps : List (List ℕ)) (js : List Judged) → some_other ps (map judged_later js) ≡ some_other ps js
   others_later [] js = refl
@@ -118,28 +120,23 @@ module _ (n : ℕ) where
   listed_later d (y ∷ ys) (k ∷ ks) =
       ap₂ (λ (r : Reading) (l : List ℕ). listed_names (depth_prefix d k) (names_in_content (content_of r.scan)) ++ l) (reading_of-later n y) (listed_later d ys ks)
 
-others_both : (piece : List Judged → Judged → List ℕ) (before js ks : List Judged) → some_other (pieces_by piece before (js ++ ks)) (js ++ ks)
-    ≡ (some_other (pieces_by piece before js) js || some_other (pieces_by piece (before ++ js) ks) ks)
-others_both piece before [] ks = ap (λ (bs : List Judged). some_other (pieces_by piece bs ks) ks) (sym (append-nil before))
-others_both piece before (j ∷ js) ks = grind (arith, append_assoc, others_both piece (before ++ j ∷ []) js ks)
+others_both : (f : Judged → List ℕ) (js ks : List Judged) → some_other (map f (js ++ ks)) (js ++ ks) ≡ (some_other (map f js) js || some_other (map f ks) ks)
+others_both f [] ks = refl
+others_both f (j ∷ js) ks = grind (arith, others_both f js ks)
 
 module _ (s : Settings) (u : s.renumber ≡ false) (n : ℕ) where
-  unnumbered_piece : (before : List Judged) (j : Judged) → uncomplemented_piece (style_of s) before j ≡ piece_alone s.blank j
-  unnumbered_piece before j =
-      ap (λ (r : Bool). (if r && not s.blank && last_removed before && not (is_removed j.verdict) then number_line j.line else []) ++ piece_alone s.blank j) u
+  -- The piece of a line, whatever comes before it.
+  abbrev printed : Judged → List ℕ
+  printed j = lone s.blank s.complement j
 
-  uncomplemented_later : (before after : List Judged) (j : Judged) → uncomplemented_piece (style_of s) before (judged_later n j) ≡ uncomplemented_piece (style_of s) after j
-  uncomplemented_later before after j = unnumbered_piece before (judged_later n j) ∙ alone_later n s.blank j ∙ sym (unnumbered_piece after j)
+  abbrev pieces : List Judged → List (List ℕ)
+  pieces js = pieces_by (piece_after (style_of s)) [] js
 
-  piece_after-later : (before after : List Judged) (j : Judged) → piece_after (style_of s) before (judged_later n j) ≡ piece_after (style_of s) after j
-  piece_after-later before after j =
-      ap₂ (λ (p q : List ℕ). if s.complement then p else q) (uncomplemented_later (map complemented before) (map complemented after) (complemented j))
-      (uncomplemented_later before after j)
+  pieces_are : (js : List Judged) → pieces js ≡ map printed js
+  pieces_are js = pieces_lone s.blank s.complement s.renumber [] js u
 
-  pieces_later : (before after js : List Judged) → pieces_by (piece_after (style_of s)) before (map (judged_later n) js) ≡ pieces_by (piece_after (style_of s)) after js
-  pieces_later before after [] = refl
-  pieces_later before after (j ∷ js) =
-      ap₂ (λ (p : List ℕ) (ps : List (List ℕ)). p ∷ ps) (piece_after-later before after j) (pieces_later (before ++ judged_later n j ∷ []) (after ++ j ∷ []) js)
+  later_pieces : (js : List Judged) → map printed (map (judged_later n) js) ≡ pieces js
+  later_pieces js = pieces_later n s.blank s.complement js ∙ sym (pieces_are js)
 
   module _ (xs : List (Item Reading)) (ns : Nodes Reading) (a : lines_of_nodes ns ≡ xs) (ys : List (Item Reading)) (t : Tree Reading) where
     as_many_marks : length xs ≡ length (marks_of_nodes true ns)
@@ -160,14 +157,6 @@ module _ (s : Settings) (u : s.renumber ≡ false) (n : ℕ) where
         ∙ judged_more xs (map (later n) ys) (marks_of_nodes true ns) (marks t) as_many_marks
         ∙ ap (λ (js : List Judged). first_judged ++ js) (lines_judged_later n ys (marks t))
 
-    abbrev pieces : List Judged → List (List ℕ)
-    pieces js = pieces_by (piece_after (style_of s)) [] js
-
-    pieces_both : pieces (first_judged ++ map (judged_later n) more_judged) ≡ pieces first_judged ++ pieces more_judged
-    pieces_both =
-        pieces_by-append (piece_after (style_of s)) [] first_judged (map (judged_later n) more_judged)
-        ∙ ap (λ (ps : List (List ℕ)). pieces first_judged ++ ps) (pieces_later first_judged [] more_judged)
-
     levels_both : levels (grown n xs ns t) ≡ levels_of_nodes 0 ns ++ levels t
     levels_both =
         tree_levels_then ns 0 (tree_with (reading_later n) t) ∙ ap (λ (ks : List ℕ). levels_of_nodes 0 ns ++ ks) (tree_levels_with (reading_later n) 0 t)
@@ -179,7 +168,10 @@ module _ (s : Settings) (u : s.renumber ≡ false) (n : ℕ) where
 
     output_both : (q : Listing) → output_by q s (both n xs ns ys) (grown n xs ns t) ≡ output_by q s xs (closed ns) ++ output_by q s ys t
     output_both Off =
-        ap (λ (js : List Judged). concat (pieces js)) judged_both ∙ ap (λ (ps : List (List ℕ)). concat ps) pieces_both
+        ap (λ (js : List Judged). concat (pieces js)) judged_both
+        ∙ ap (λ (ps : List (List ℕ)). concat ps)
+        (pieces_are (first_judged ++ map (judged_later n) more_judged) ∙ map-append printed first_judged (map (judged_later n) more_judged)
+        ∙ ap₂ (λ (ps qs : List (List ℕ)). ps ++ qs) (sym (pieces_are first_judged)) (later_pieces more_judged))
         ∙ concat-append (pieces first_judged) (pieces more_judged)
     output_both Names = listed_both false
     output_both Depths = listed_both true
@@ -187,10 +179,12 @@ module _ (s : Settings) (u : s.renumber ≡ false) (n : ℕ) where
     differs_both : (q : Listing) → differs_by q s (both n xs ns ys) (grown n xs ns t) ≡ (differs_by q s xs (closed ns) || differs_by q s ys t)
     differs_both Off =
         ap (λ (js : List Judged). some_other (pieces js) js) judged_both
-        ∙ others_both (piece_after (style_of s)) [] first_judged (map (judged_later n) more_judged)
-        ∙ ap (λ (b : Bool). some_other (pieces first_judged) first_judged || b)
-        (others_later n (pieces_by (piece_after (style_of s)) first_judged (map (judged_later n) more_judged)) more_judged
-        ∙ ap (λ (ps : List (List ℕ)). some_other ps more_judged) (pieces_later first_judged [] more_judged))
+        ∙ ap (λ (ps : List (List ℕ)). some_other ps (first_judged ++ map (judged_later n) more_judged))
+        (pieces_are (first_judged ++ map (judged_later n) more_judged))
+        ∙ others_both printed first_judged (map (judged_later n) more_judged)
+        ∙ ap₂ (λ (b c : Bool). b || c) (ap (λ (ps : List (List ℕ)). some_other ps first_judged) (sym (pieces_are first_judged)))
+        (others_later n (map printed (map (judged_later n) more_judged)) more_judged
+        ∙ ap (λ (ps : List (List ℕ)). some_other ps more_judged) (later_pieces more_judged))
     differs_both Names = refl
     differs_both Depths = refl
 
@@ -285,10 +279,6 @@ line_alone before Plain l e h = refl
 line_alone before C l (inl e) h = cc
 line_alone before C l (inr e) h = code_alone (c_run_of before) l e h
 
-no_comment : (b : Bool) (k : ℕ) (i : Option (Opener Reading)) → end_by b k i ≡ None → b ≡ false
-no_comment true k i e = cc
-no_comment false k i e = refl
-
 comment_last : (xs : List (Item Reading)) (x : Item Reading) → ends_in_comment (xs ++ x ∷ []) ≡ is_in_block (reading_of x).scan.comment
 comment_last xs x = comment_more xs x []
 
@@ -324,14 +314,14 @@ module _ (o : Options) (text more : List ℕ) (p : MayBeParts o text more) where
   by_reading : {xs : List (Item Reading)} {t : Tree Reading} {s : Outcome} → HasNoFault o (lines_of text) xs t → end_fault xs t ≡ None → HasOutcome o more s →
       HasOutcome o (text ++ more) (in_parts (length (lines_of text)) (outcome_of o.settings xs t None) s)
   by_reading {xs = xs} {t = t} {s = s} h e b =
-      by_nodes (input_nodes t (end_none (ends_in_comment xs) (last_number xs) (innermost t) e))
+      by_nodes (input_nodes t (end_none (ends_in_comment xs) (last_number xs) (innermost t) e).1)
     where
       by_nodes : (ns : Nodes Reading) × (t ≡ closed ns) → HasOutcome o (text ++ more) (in_parts (length (lines_of text)) (outcome_of o.settings xs t None) s)
       by_nodes (ns, g) =
           subst (λ (u : Tree Reading). HasOutcome o (text ++ more) (in_parts (length (lines_of text)) (outcome_of o.settings xs u None) s)) (sym g)
           (has_both o text more xs ns (subst (λ (u : Tree Reading). HasNoFault o (lines_of text) xs u) g h)
           (ap (λ (u : Tree Reading). end_fault xs u) (sym g) ∙ e) p.whole
-          (ends_alone o text p.whole p.unspliced h.sound h.are (no_comment (ends_in_comment xs) (last_number xs) (innermost t) e)) p.fits p.unnumbered b)
+          (ends_alone o text p.whole p.unspliced h.sound h.are (end_none (ends_in_comment xs) (last_number xs) (innermost t) e).0) p.fits p.unnumbered b)
 
 -- The outcome of both parts.
 pub outcome_in_parts : (o : Options) (text more : List ℕ) (r s : Outcome) → MayBeParts o text more → HasOutcome o text r → r.fault ≡ None →

@@ -1,6 +1,6 @@
 -- A text in parts is read as its first part, and then as its second one, with later numbers.
 use Rattle.std.proofs.Common.{◌≡◌, ℕ, suc, ◌+◌, ◌<◌, ◌≤◌, List, [], ◌∷◌, ◌++◌, length, map, Bool, true, false, IsTrue, ◌||◌, Some, refl, sym, ◌∙◌, ap, ap₂, subst, append_assoc, append-nil, length-append, ◌⊎◌, inl, inr, arith}
-use Rattle.std.proofs.lemmas.List.{same_from_push, map-append, length-map}
+use Rattle.std.proofs.lemmas.List.{nil_from_length, same_from_push, map-append, length-map}
 use Rattle.ud_model.specs.text.Lines.{Line, text_of, lines_of, line_at, texts_of, numbered_from, partial_line, whole_lines, last_line, SplitLines}
 use Rattle.ud_model.specs.text.Scans.{Scan, Reading}
 use Rattle.ud_model.specs.text.Lexemes.{kind_at_end, lex, lex_from, lexeme_at}
@@ -95,10 +95,6 @@ first_joins : (m : Mode) (l : Line) → (scan_after [] m l).joins_before ≡ fal
 first_joins C l = joins_before-code [] l ∙ joins_none
 first_joins Plain l = refl
 
-no_more : {A : Type 0} (xs : List A) → length xs ≡ 0 → xs ≡ []
-no_more [] e = refl
-no_more (x ∷ xs) e = absurd (omega arith)
-
 -- 2. A line of the second part.
 
 module _ (n : ℕ) (xs : List (Item Reading)) (ns : Nodes Reading) where
@@ -147,7 +143,7 @@ module _ (n : ℕ) (xs : List (Item Reading)) (ns : Nodes Reading) where
     spoiled_both : (m : Mark) → is_obfuscated (marks_of_nodes true ns ++ marks t) (later n x) m ≡ is_obfuscated (marks t) x m
     spoiled_both m =
         spoiled_by (marks t) m
-        (λ none. first (no_more ys (ap (λ (zs : List (Item Reading)). length zs) (sym e) ∙ sym (length_marks true t) ∙ ap (λ (ms : List Mark). length ms) none)))
+        (λ none. first (nil_from_length ys (ap (λ (zs : List (Item Reading)). length zs) (sym e) ∙ sym (length_marks true t) ∙ ap (λ (ms : List Mark). length ms) none)))
 
     spoils : (before : List Mark) (m : Mark) (u : Tree Reading) → Adds t x u → marks u ≡ before ++ m ∷ [] → IsTrue (is_obfuscated before x m) →
         Holds (both ys) (later n x) obfuscated_case

@@ -40,18 +40,13 @@ module _ {L M : Type 0} (f : L → M) where
   conds_with (elif es o ns) = ap (λ (cs : List Cond). cs ++ o.cond ∷ []) (conds_with es)
 
   group_conds_with : (gs : Groups L) → conds_of_groups (groups_with_lines f gs) ≡ conds_of_groups gs
-  group_conds_with (conditional es) = conds_with es
-  group_conds_with (otherwise es l ns) = grind (arith, conds_with es)
+  group_conds_with gs = grind (arith, conds_with)
 
   head_conds_with : (h : Head L) → conds_of_head (head_with h) ≡ conds_of_head h
-  head_conds_with (if_head o) = refl
-  head_conds_with (elif_head es o) = grind (arith, conds_with es)
-  head_conds_with (else_head es l) = grind (arith, conds_with es)
+  head_conds_with h = grind (arith, conds_with)
 
   inside_with : (h : Head L) → is_inside_kept (head_with h) ≡ is_inside_kept h
-  inside_with (if_head o) = refl
-  inside_with (elif_head es o) = rw (conds_with es)
-  inside_with (else_head es l) = rw (conds_with es)
+  inside_with h = grind (arith, conds_with)
 
   mutual
     marks_with : (kept : Bool) (ns : Nodes L) → marks_of_nodes kept (with_lines f ns) ≡ marks_of_nodes kept ns
@@ -68,9 +63,7 @@ module _ {L M : Type 0} (f : L → M) where
     elif_marks_with kept all (elif es o ns) = rw (elif_marks_with kept all es, conds_with es, marks_with (kept && is_kept (conds_of_elifs es) o.cond) ns)
 
   head_marks_with : (kept : Bool) (all : List Cond) (h : Head L) → marks_of_head kept all (head_with h) ≡ marks_of_head kept all h
-  head_marks_with kept all (if_head o) = refl
-  head_marks_with kept all (elif_head es o) = rw (elif_marks_with kept all es, conds_with es)
-  head_marks_with kept all (else_head es l) = rw (elif_marks_with kept all es, conds_with es)
+  head_marks_with kept all h = grind (arith, elif_marks_with, conds_with)
 
   pub tree_marks_with : (kept : Bool) (t : Tree L) → marks_in kept (tree_with t) ≡ marks_in kept t
   tree_marks_with kept (closed ns) = marks_with kept ns
@@ -92,9 +85,7 @@ module _ {L M : Type 0} (f : L → M) where
     elif_levels_with n (elif es o ns) = rw (elif_levels_with n es, levels_with (suc n) ns)
 
   head_levels_with : (n : ℕ) (h : Head L) → levels_of_head n (head_with h) ≡ levels_of_head n h
-  head_levels_with n (if_head o) = refl
-  head_levels_with n (elif_head es o) = rw (elif_levels_with n es)
-  head_levels_with n (else_head es l) = rw (elif_levels_with n es)
+  head_levels_with n h = grind (arith, elif_levels_with)
 
   pub tree_levels_with : (n : ℕ) (t : Tree L) → levels_from n (tree_with t) ≡ levels_from n t
   tree_levels_with n (closed ns) = levels_with n ns
@@ -109,9 +100,7 @@ module _ {L M : Type 0} (f : L → M) where
   opener_with (elif es o ns) = opener_with es
 
   head_opener_with : (h : Head L) → opener_of_head (head_with h) ≡ opener_with_line f (opener_of_head h)
-  head_opener_with (if_head o) = refl
-  head_opener_with (elif_head es o) = opener_with es
-  head_opener_with (else_head es l) = opener_with es
+  head_opener_with h = grind (arith, opener_with)
 
   pub ignoring_with : (t : Tree L) → is_ignoring (tree_with t) ≡ is_ignoring t
   ignoring_with (closed ns) = refl
@@ -168,12 +157,10 @@ module _ {L : Type 0} (ns : Nodes L) where
   tree_levels_then n (open_section ms h t) = rw (levels_then n ms) simp append_assoc
 
   pub depth_then : (t : Tree L) → depth (tree_then t) ≡ depth t
-  depth_then (closed ms) = refl
-  depth_then (open_section ms h t) = refl
+  depth_then t = grind arith
 
   pub ignoring_then : (t : Tree L) → is_ignoring (tree_then t) ≡ is_ignoring t
-  ignoring_then (closed ms) = refl
-  ignoring_then (open_section ms h t) = refl
+  ignoring_then t = grind arith
 
   pub innermost_then : (t : Tree L) → innermost (tree_then t) ≡ innermost t
   innermost_then (closed ms) = refl
