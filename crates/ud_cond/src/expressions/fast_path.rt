@@ -17,6 +17,7 @@ ghost use Rattle.ud_cond.specs.expressions.Evaluation.{value_meaning_in, reduce_
 
 use crate::expressions::operators::precedence;
 use crate::expressions::pending_slot::{EMPTY_SLOT, PendingSlot};
+use crate::expressions::reader::asked_name;
 use crate::expressions::tokens::{NextToken, Token, leading_token, next_token, starts_with_byte};
 use crate::expressions::values::{
     NO_VALUE, Scope, Value, apply_binary, apply_unary, constant, defined, named,
@@ -177,57 +178,15 @@ fn after_not(text: &[u8]) -> Option<&[u8]>
     }
 }
 
-/// Skips white space and a `(`. Returns whether there was a `(`, and the rest of the text.
-#[inline(always)]
-#[tactic(auto, unfolding(ud_model::specs::conditions::Tokens::next_token))]
-fn skip_open_paren(text: &[u8]) -> (bool, &[u8])
-    ensures yes { IsTrue result.0 → token_of text.now ≡ tokens.found tokens.opening result.1.now }
-    ensures no { result.0 ≡ false → result.1.now ≡ skip_white text.now }
-{
-    let start = skip_white(text);
-    match start {
-        [b'(', rest @ ..] => (true, rest),
-        _ => (false, start),
-    }
-}
-
-/// Skips white space and a `)`. Returns `None` if there is no `)`.
-#[inline(always)]
-#[tactic(auto, unfolding(ud_model::specs::conditions::Tokens::next_token))]
-fn skip_close_paren(text: &[u8]) -> Option<&[u8]>
-    ensures { IfSome result (λ rest. token_of text.now ≡ tokens.found tokens.closing rest.now) }
-{
-    match skip_white(text) {
-        [b')', rest @ ..] => Some(rest),
-        _ => None,
-    }
-}
-
-/// Parses a leading name without arguments. Returns the name and what follows it.
-#[inline(always)]
-fn leading_name(text: &[u8]) -> Option<(&[u8], &[u8])>
-    ensures { IfSome result (λ r. token_of text.now ≡
-        tokens.found (tokens.name r.0.now false) r.1.now) }
-{
-    match next_token(text) {
-        NextToken::Found(Token::Name(name, false), rest) => Some((name, rest)),
-        _ => None,
-    }
-}
-
 /// Evaluates a `defined` by the name after it, in parentheses or not. Returns what follows.
 #[inline(always)]
 fn defined_operand<'a>(scope: &Scope<'_>, text: &'a [u8], value: &mut Value) -> Option<&'a [u8]>
     ensures { IfSome result (λ rest. Asked (value_meaning_in scope.now) spec.asks text.now value.new
         rest.now) }
 {
-    let (enclosed, inside) = skip_open_paren(text);
-    let (name, end) = leading_name(inside)?;
+    let (name, _, rest) = asked_name(text)?;
     defined(scope, name, value);
-    if !enclosed {
-        return Some(end);
-    }
-    skip_close_paren(end)
+    Some(rest)
 }
 
 /// Evaluates the leading operand if no operator and no white space stands before it. Returns what

@@ -25,6 +25,7 @@ use ud_model::LINE_BYTES;
 
 /// Parses a leading name without arguments. Returns the name and what follows it.
 #[tactic(auto, using(ud_model::proofs::conditions::TokenLemmas::shorter))]
+#[inline(always)]
 fn plain_name(text: &[u8]) -> Option<(&[u8], &[u8])>
     ensures name { option_map (λ r. (r.0.now, r.1.now)) result ≡
         asking.plain_name (token_of text.now) }
@@ -38,6 +39,7 @@ fn plain_name(text: &[u8]) -> Option<(&[u8], &[u8])>
 
 /// Returns what follows a leading `)`.
 #[tactic(auto, using(ud_model::proofs::conditions::TokenLemmas::shorter))]
+#[inline(always)]
 fn after_paren(text: &[u8]) -> Option<&[u8]>
     ensures rest { option_map (λ r. r.now) result ≡ asking.after_paren (token_of text.now) }
     ensures shorter { IfSome result (λ r. length r.now < length text.now) }
@@ -50,6 +52,7 @@ fn after_paren(text: &[u8]) -> Option<&[u8]>
 
 /// Parses the name and the `)` after `defined (`. Returns the name, that it is in parentheses, and
 /// what follows.
+#[inline(always)]
 fn enclosed_name(inside: &[u8]) -> Option<(&[u8], bool, &[u8])>
     ensures name { option_map (λ r. (r.0.now, r.1, r.2.now)) result ≡
         asking.enclosed_name (asking.plain_name (token_of inside.now)) }
@@ -64,7 +67,8 @@ fn enclosed_name(inside: &[u8]) -> Option<(&[u8], bool, &[u8])>
 /// Parses the name after `defined`. Returns the name, whether it is in parentheses, and what
 /// follows.
 #[tactic(auto, using(ud_model::proofs::conditions::TokenLemmas::shorter))]
-fn asked_name(text: &[u8]) -> Option<(&[u8], bool, &[u8])>
+#[inline(always)]
+pub(crate) fn asked_name(text: &[u8]) -> Option<(&[u8], bool, &[u8])>
     ensures name { option_map (λ r. (r.0.now, r.1, r.2.now)) result ≡
         asking.asked_name (token_of text.now) }
     ensures shorter { IfSome result

@@ -1,23 +1,10 @@
 -- The text after `defined`, case by case: what it means in a state that asks for a name.
-use Rattle.std.proofs.Common.{◌≡◌, ℕ, List, Bool, true, false, Option, option_map, Some, None, refl, ◌∙◌, ap, arith}
+use Rattle.std.proofs.Common.{◌≡◌, ℕ, ◌≤◌, ◌+◌, List, length, Bool, true, false, Option, option_map, Some, None, refl, ◌∙◌, ap, arith}
 use Rattle.ud_model.specs.conditions.Tokens.{number, name, defined, operator, opening, closing, NextToken, at_end, unreadable, found, next_token}
 use Rattle.ud_model.specs.aids.Parsing.{Meaning, Frame, reads, has, asks, asks_inside, asks_end}
 use Rattle.ud_cond.specs.expressions.DefinedOperands.{plain_name, after_paren, enclosed_name, asked_name, Asked}
-use Rattle.ud_model.proofs.conditions.TokenLemmas.{shorter}
-use Rattle.ud_cond.proofs.lemmas.expressions.ReadingLemmas.{reads_on, reads-on, reads-stuck, reads-found}
-
-module _ {A : Type 0} (m : Meaning A) where
-  -- a `defined` and a name
-  pub asks-plain : (text n rest : List ℕ) → next_token text ≡ found (name n false) rest → Asked m asks text (m.is_defined n false) rest
-  asks-plain text n rest e = record { same = λ s. reads-found m (asks s) text (name n false) rest e; shorter = shorter text rest (name n false) e }
-
-  -- a `defined` and a name in parentheses
-  pub asks-parens : (text inside n end rest : List ℕ) → next_token text ≡ found opening inside → next_token inside ≡ found (name n false) end → next_token end ≡ found closing rest →
-      Asked m asks text (m.is_defined n true) rest
-  asks-parens text inside n end rest e f g = record {
-    same = λ s. reads-found m (asks s) text opening inside e ∙ reads-found m (asks_inside s) inside (name n false) end f ∙ reads-found m (asks_end n s) end closing rest g;
-    shorter = omega (arith, shorter text inside opening e, shorter inside end (name n false) f, shorter end rest closing g);
-  }
+use Rattle.ud_cond.specs.expressions.Keepings.{tokens_asked}
+use Rattle.ud_cond.proofs.lemmas.expressions.ReadingLemmas.{reads_on, reads-on, reads-stuck}
 
 module _ {A : Type 0} (m : Meaning A) (s : List (Frame A)) where
   -- what a text means after a name that a `defined` asks for
@@ -64,3 +51,12 @@ module _ {A : Type 0} (m : Meaning A) (s : List (Frame A)) where
   -- no name
   pub asked_none : (text : List ℕ) → asked_name (next_token text) ≡ None → reads m (asks s) text ≡ None
   asked_none text e = reads-on m (asks s) text ∙ asked_by (next_token text) ∙ ap reads_asked e
+
+tokens : (p : Bool) → 2 ≤ tokens_asked p
+tokens false = omega arith
+tokens true = omega arith
+
+-- a `defined` and its name are an operand
+pub asks-name : {A : Type 0} (m : Meaning A) (text n : List ℕ) (p : Bool) (rest : List ℕ) → asked_name (next_token text) ≡ Some (n, p, rest) → length rest + tokens_asked p ≤ length text + 1 →
+    Asked m asks text (m.is_defined n p) rest
+asks-name m text n p rest e l = record { same = λ s. asked m s text n p rest e; shorter = omega (arith, tokens p, l) }

@@ -1,28 +1,13 @@
 -- Operands on the fast path, case by case: an operand means the same in every state that needs one.
-use Rattle.std.proofs.Common.{◌≡◌, ℕ, ◌≤◌, List, [], Bool, length, true, false, ◌∷◌, Option, Some, None, IfSome, refl, sym, ◌∙◌, ap, arith}
-use Rattle.ud_model.specs.text.Bytes.{is_white, skip_white}
-use Rattle.ud_model.proofs.text.ByteLemmas.{length-skip_white}
+use Rattle.std.proofs.Common.{◌≡◌, ℕ, List, ◌∷◌, Option, Some, None, IfSome, refl, sym, ◌∙◌, ap, arith}
+use Rattle.ud_model.specs.text.Bytes.{skip_white}
 use Rattle.ud_model.specs.conditions.Tokens.{number, name, defined, operator, opening, closing, Token, NextToken, at_end, unreadable, found, leading_token, next_token}
-use Rattle.ud_model.specs.aids.Parsing.{Meaning, Frame, ParseState, before, step, reads, needs, has, asks}
+use Rattle.ud_model.specs.aids.Parsing.{Meaning, Frame, before, step, reads, needs, has, asks}
 use Rattle.ud_model.specs.declared.operator.Operator.{Operator}
 use Rattle.ud_model.specs.declared.operator.Operator.TheVariants.{Not}
 use Rattle.ud_cond.specs.expressions.DefinedOperands.{Asked}
 use Rattle.ud_model.proofs.conditions.TokenLemmas.{shorter}
-use Rattle.ud_cond.proofs.lemmas.expressions.DefinedLemmas.{asks-plain, asks-parens}
 use Rattle.ud_cond.proofs.lemmas.expressions.ReadingLemmas.{reads_on, reads-on, reads-found}
-
-skip_white-one : (w : Bool) (b : ℕ) (bs : List ℕ) → is_white b ≡ w → skip_white (skip_white bs) ≡ skip_white bs → skip_white (skip_white (b ∷ bs)) ≡ skip_white (b ∷ bs)
-skip_white-one true b bs e h = rw e h
-skip_white-one false b bs e h = rw e (rw e refl)
-
-skip_white-skip_white : (text : List ℕ) → skip_white (skip_white text) ≡ skip_white text
-skip_white-skip_white [] = refl
-skip_white-skip_white (b ∷ bs) = skip_white-one (is_white b) b bs refl (skip_white-skip_white bs)
-
--- a text has the same token without leading white space
-next_token-skip_white : (text : List ℕ) → next_token (skip_white text) ≡ next_token text
-unfolding next_token
-next_token-skip_white text = ap leading_token (skip_white-skip_white text)
 
 -- the leading token of a text without leading white space
 pub token_of-trimmed : (whole text : List ℕ) → skip_white whole ≡ text →
@@ -45,22 +30,6 @@ module _ {A : Type 0} (m : Meaning A) where
   pub needs-definition : {B : Type 0} (f : B → List ℕ) (text rest : List ℕ) (v : A) (r : Option B) → found defined rest ≡ next_token text → IfSome r (λ b. Asked m asks rest v (f b)) → IfSome r (λ b. Asked m needs text v (f b))
   needs-definition f text rest v None e h = tt
   needs-definition f text rest v (Some b) e h = needs-defined text rest v (f b) e h
-
-  -- a text means the same without leading white space
-  pub trimmed : (start : List (Frame A) → ParseState A) (text inside : List ℕ) (v : A) (rest : List ℕ) → inside ≡ skip_white text → Asked m start inside v rest → Asked m start text v rest
-  trimmed start text inside v rest e h = record {
-    same = λ s. reads-on m (start s) text ∙ ap (reads_on m (start s)) (sym (ap next_token e ∙ next_token-skip_white text)) ∙ sym (reads-on m (start s) inside) ∙ h.same s;
-    shorter = let less : length inside ≤ length text = rw e (length-skip_white text) in omega (arith, h.shorter);
-  }
-
-  -- a `defined` and a name, in parentheses or not
-  pub asks-name : (text inside n end : List ℕ) → inside ≡ skip_white text → next_token inside ≡ found (name n false) end → Asked m asks text (m.is_defined n false) end
-  asks-name text inside n end same f = trimmed asks text inside (m.is_defined n false) end same (asks-plain m inside n end f)
-
-  pub asks-enclosed : {B : Type 0} (f : B → List ℕ) (text inside n end : List ℕ) (r : Option B) → next_token text ≡ found opening inside → next_token inside ≡ found (name n false) end →
-      IfSome r (λ b. next_token end ≡ found closing (f b)) → IfSome r (λ b. Asked m asks text (m.is_defined n true) (f b))
-  asks-enclosed f text inside n end None e h g = tt
-  asks-enclosed f text inside n end (Some b) e h g = asks-parens m text inside n end (f b) e h g
 
   before_on : (s : List (Frame A)) (o : Operator) (v : A) (x : NextToken) → reads_on m (has v (before o ∷ s)) x ≡ reads_on m (has (m.unary o v) s) x
   before_on s o v at_end = refl
