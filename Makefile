@@ -325,9 +325,11 @@ trees: unifdef
 pruned: unifdef-tree
 	bench/pruned.sh
 
-## compares what a C compiler selects before and after
-selects: unifdef
+## compares what a C compiler selects before and after, of
+## real files, and of small programs with headers
+selects: unifdef unifdef-tree
 	bench/selects.py $(SELECTS)
+	bench/programs.py $(PROGRAMS)
 
 ## compares the line numbers that a C compiler gives before
 ## and after -n and -b

@@ -1,0 +1,144 @@
+#!/usr/bin/env python3
+"""Compares what a compiler selects of small programs before and after ./unifdef-tree.
+
+    bench/programs.py [--cc CC] [--tree PROGRAM] [--seed N] [--count N]
+
+Each program is made from the seed: a file and some headers, which define and undefine names and
+include each other in sections. Two names are those of the options, and the source leaves them
+alone. The output of `cc -E -P` for the program is compared with that for the outputs of
+`unifdef-tree`, without -p and with it. A second run must change nothing. If no condition names a
+symbol of the options any more, the compiler must select the same without it, and with any other
+value. The status is 1 if a program is selected in another way.
+"""
+
+import argparse
+import multiprocessing
+import os
+import random
+import re
+import subprocess
+import sys
+import tempfile
+
+DECIDED, OTHERS = ("A", "B"), ("C", "D", "E", "F")
+FORMS = ("defined({})", "!defined({})", "defined {}", "{}", "!{}", "{} > 1", "({} == 2)")
+CONDITION = re.compile(r"^\s*#\s*(?:if|ifdef|ifndef|elif)\b(.*)$", re.MULTILINE)
+
+
+def operand(rng):
+    return rng.choice(FORMS).format(rng.choice(DECIDED + OTHERS))
+
+
+def expression(rng):
+    text = operand(rng)
+    for _ in range(rng.randrange(3)):
+        text += rng.choice([" && ", " || "]) + operand(rng)
+    return text
+
+
+def opener(rng):
+    if rng.randrange(3) == 0:
+        return f"#{rng.choice(['ifdef', 'ifndef'])} {rng.choice(DECIDED + OTHERS)}"
+    return "#if " + expression(rng)
+
+
+def lines(rng, name, later, depth=0):
+    """Yields the lines of a file: text, definitions, inclusions of later files, and sections."""
+    for _ in range(rng.randrange(2, 5)):
+        what = rng.randrange(8)
+        if what == 0:
+            yield f"#define {rng.choice(OTHERS)} {rng.randrange(4)}"
+        elif what == 1:
+            yield f"#undef {rng.choice(OTHERS)}"
+        elif what == 2 and later:
+            yield f'#include "{rng.choice(later)}"'
+        elif what < 5 and depth < 3:
+            yield opener(rng)
+            yield from lines(rng, name, later, depth + 1)
+            for _ in range(rng.randrange(3)):
+                yield "#elif " + expression(rng)
+                yield from lines(rng, name, later, depth + 1)
+            if rng.randrange(2):
+                yield "#else"
+                yield from lines(rng, name, later, depth + 1)
+            yield "#endif"
+        else:
+            yield f"{name[0]}_{rng.randrange(10**6)} C D E F;"
+
+
+def settings(rng):
+    """Returns options, and arguments for the compiler that agree with them."""
+    options = [rng.choice([f"-U{n}", f"-D{n}={rng.randrange(4)}"]) for n in DECIDED]
+    return options, [f"-D{n}={rng.randrange(4)}" for n in OTHERS if rng.randrange(2)]
+
+
+def selected(cc, arguments, folder):
+    command = [cc, "-E", "-P", "-undef", "-nostdinc", "-w", *arguments, f"{folder}/main.c"]
+    run = subprocess.run(command, capture_output=True)
+    return run.stdout.split() if run.returncode == 0 else None
+
+
+def texts(folder):
+    for name in sorted(os.listdir(folder)):
+        with open(os.path.join(folder, name), encoding="ascii") as file:
+            yield file.read()
+
+
+def run(tree, arguments, folder):
+    return subprocess.run([tree, "-q", *arguments, "--", folder], capture_output=True).returncode
+
+
+def compare(job):
+    """Returns what is wrong with a program, or None; and how many symbols were gone from it."""
+    seed, cc, tree = job
+    rng = random.Random(seed)
+    names = ["main.c", "h1.h", "h2.h", "h3.h"]
+    files = {n: "\n".join(lines(rng, n, names[i + 1 :])) + "\n" for i, n in enumerate(names)}
+    options, others = settings(rng)
+    gone = 0
+    for prune in ([], ["-p"]):
+        with tempfile.TemporaryDirectory() as folder:
+            for name, text in files.items():
+                with open(os.path.join(folder, name), "w", encoding="ascii") as file:
+                    file.write(text)
+            before = selected(cc, options + others, folder)
+            if run(tree, prune + options, folder) == 2:
+                return f"seed {seed}: {prune} {options}: a fault", gone
+            if selected(cc, options + others, folder) != before:
+                return f"seed {seed}: {prune} {options}: selected in another way", gone
+            if run(tree, prune + options, folder) != 0:
+                return f"seed {seed}: {prune} {options}: changed by a second run", gone
+            named = " ".join(c for text in texts(folder) for c in CONDITION.findall(text))
+            for i, name in enumerate(DECIDED):
+                if re.search(rf"\b{name}\b", named):
+                    continue
+                gone += 1
+                rest = options[:i] + options[i + 1 :] + others
+                for other in ([], [f"-D{name}=0"], [f"-D{name}=3"]):
+                    if selected(cc, rest + other, folder) != before:
+                        return f"seed {seed}: {prune} {options}: {name} isn't gone", gone
+    return None, gone
+
+
+def main():
+    parser = argparse.ArgumentParser(description="Compares what a compiler selects of programs.")
+    parser.add_argument("--cc", default=os.environ.get("CC", "cc"))
+    parser.add_argument("--tree", default="./unifdef-tree")
+    parser.add_argument("--seed", type=int, default=1)
+    parser.add_argument("--count", type=int, default=300)
+    args = parser.parse_args()
+    tree = os.path.realpath(args.tree)
+    jobs = [(args.seed * 10**6 + i, args.cc, tree) for i in range(args.count)]
+    wrong = gone = 0
+    with multiprocessing.Pool() as pool:
+        for told, found in pool.imap_unordered(compare, jobs, chunksize=8):
+            gone += found
+            if told:
+                wrong += 1
+                print(told, flush=True)
+    print(f"{len(jobs)} programs: {wrong} wrong; {gone} times a symbol was gone")
+    sys.exit(1 if wrong else 0)
+
+
+if __name__ == "__main__":
+    main()
