@@ -1,5 +1,5 @@
 -- Searches: text lines are passed, a line is taken, and a condition ends.
-use Rattle.std.proofs.Common.{◌≡◌, ℕ, ◌+◌, List, [], ◌∷◌, ◌++◌, length, length-append, Bool, true, false, Option, None, is_some, refl, sym, ◌∙◌, ap, subst, append_assoc, append-nil, arith}
+use Rattle.std.proofs.Common.{◌≡◌, ℕ, ◌+◌, List, [], ◌∷◌, ◌++◌, length, length-append, Bool, true, false, not, Option, None, is_some, refl, sym, ◌∙◌, ap, subst, append_assoc, append-nil, arith}
 use Rattle.std.proofs.lemmas.Grind.{common_steps, flat_map-append}
 use Rattle.std.proofs.lemmas.List.Elements.{filter-append}
 use Rattle.ud_model.specs.text.Lines.{Line, whole_lines}
@@ -65,12 +65,9 @@ module _ (table : List Argument) (name : List ℕ) where
 pub none_begun : (b : Option Begun) (bytes : List ℕ) → is_some b ≡ false → begun_as b bytes ≡ None
 none_begun b bytes e = grind arith
 
-pub none_if : (b : Option Begun) → (is_some b ≡ true → false ≡ true) → is_some b ≡ false
-none_if b h = by (is_some b) h
-  where
-    by : (x : Bool) → (x ≡ true → false ≡ true) → x ≡ false
-    by true g = sym (g refl)
-    by false g = refl
+pub none_if : (b : Option Begun) (none : Bool) → is_some b ≡ not none → (none ≡ false → false ≡ true) → is_some b ≡ false
+none_if b true e h = e
+none_if b false e h = e ∙ sym (h refl)
 
 module _ (table : List Argument) (mode : Mode) (name text : List ℕ) (start old : Search) (place : Place) (walk : Walk) (s : Searched table mode name text start old place walk)
     (new : Search) (next : Place) (on : Walk) where

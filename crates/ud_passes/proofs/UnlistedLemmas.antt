@@ -7,12 +7,12 @@ use Rattle.std.proofs.lemmas.Grind.{common_steps, flat_map-append}
 use Rattle.ud_model.specs.text.Lines.{Line, whole_lines}
 use Rattle.ud_model.specs.text.Scans.{Reading}
 use Rattle.ud_model.specs.sections.Directives.{Content, text, content_of}
-use Rattle.ud_passes.specs.Passes.{fits}
+use Rattle.ud_passes.specs.Passes.{fits, numbered_line}
 use Rattle.ud_passes.specs.Walks.{read_after, AreTexts, HaveBytes, Walked}
 use Rattle.ud_passes.specs.declared.names.texts.File.{File}
 use Rattle.ud_passes.specs.declared.names.texts.Found.{Found}
 use Rattle.ud_passes.specs.declared.walk.Walk.{Walk}
-use Rattle.ud_passes.specs.names.UnlistedConditions.{has_unlisted, is_unlisted_line, numbered_line, unlisted_line}
+use Rattle.ud_passes.specs.names.UnlistedConditions.{has_unlisted, is_unlisted_line, unlisted_line}
 use Rattle.ud_passes.specs.names.UnlistedLines.{listed_text, Listed}
 
 text_listed : (r : Reading) → content_of r.scan ≡ text → is_unlisted_line r ≡ false

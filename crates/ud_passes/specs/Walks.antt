@@ -12,7 +12,8 @@
 --
 -- Example: a walk over `x;` newline `#if A` newline reads a text line at first. The next line is
 -- read by the pass: only a pass needs the scan of it.
-use Rattle.std.specs.Prelude.{◌≡◌, ℕ, ◌+◌, ◌<◌, ◌≤◌, List, [], ◌∷◌, ◌++◌, length, map, Bool, true, false}
+use Rattle.std.specs.Prelude.{◌≡◌, ℕ, ◌+◌, ◌<◌, ◌≤◌, List, [], ◌∷◌, ◌++◌, length, map}
+use Rattle.std.specs.Prelude.{Bool, true, false}
 use Rattle.std.specs.List.{concat}
 use Rattle.ud_model.specs.text.Lines.{Line, NoNewline, text_of, texts_of, whole_lines}
 use Rattle.ud_model.specs.text.Scans.{Scan, Reading}

@@ -1,12 +1,15 @@
 //! Passes over a whole text: names of conditions, conditions that remain, and pruned texts.
 //!
-//! Each pass goes over a text line by line, and many text lines at once.
+//! Each pass goes over a text by the same walk (`walk.rt`): line by line, and many text lines at
+//! once. `specs/Walks.antt` has how far the walk has come, and `specs/Passes.antt` what all passes
+//! say.
 //!
 //! - `Names` keeps the lists of the files' names, and the conditions that can't be listed.
 //! - `Remaining` keeps the conditions that still name a symbol of the options.
 //! - `prune` appends a text without the operands of its conditions that the symbols decide.
 #![tactic(auto)]
 
+mod lines;
 mod names;
 mod pruning;
 mod remaining;

@@ -5,7 +5,7 @@
 //!
 //! What comes next is a `Stretch`. A further kind of stretch needs a case in `IsNext`.
 
-ghost use Rattle.std.specs.Prelude.{◌≡◌, ◌+◌, ◌<◌, ◌≤◌, ◌==◌, List, [], ℕ, length, true};
+ghost use Rattle.std.specs.Prelude.{◌≡◌, ◌+◌, ◌<◌, ◌≤◌, ◌==◌, List, [], ℕ, length, true, false};
 ghost use Rattle.ud_model.specs.text.Lines.{whole_lines};
 ghost use Rattle.ud_model.specs.text.Scans.{Reading};
 ghost use Rattle.ud_model.specs.declared.kind.Mode.{Mode};
@@ -62,9 +62,10 @@ impl<'t> Walk<'t> {
         self.rest.is_empty()
     }
 
-    /// Takes the next lines: text lines, or one line.
-    pub(crate) fn next(&mut self, mode: Mode) -> Stretch<'t>
+    /// Takes the next lines: text lines, if `many` is true and some come next, or else one line.
+    pub(crate) fn next(&mut self, mode: Mode, many: bool) -> Stretch<'t>
         requires some { 0 < length self.old.rest.now }
+        ensures one { many ≡ false → is_one_line result ≡ true }
         ensures some { 0 < len_of result }
         ensures bytes { len_of result + length self.new.rest.now ≡ length self.old.rest.now }
         ensures readable { CanBeRead result }
@@ -72,6 +73,9 @@ impl<'t> Walk<'t> {
             Walked mode text read self.old.rest.now self.old.scanner →
             IsNext mode text read result self.new.rest.now self.new.scanner }
     {
+        if !many {
+            return self.next_line(mode);
+        }
         let skipped = self.scanner.skip_text(mode, self.rest);
         if skipped == 0 {
             return self.next_line(mode);
@@ -82,7 +86,7 @@ impl<'t> Walk<'t> {
     }
 
     /// Takes the next line, also if it is a text line.
-    pub(crate) fn next_line(&mut self, mode: Mode) -> Stretch<'t>
+    fn next_line(&mut self, mode: Mode) -> Stretch<'t>
         requires some { 0 < length self.old.rest.now }
         ensures one { is_one_line result ≡ true }
         ensures some { 0 < len_of result }

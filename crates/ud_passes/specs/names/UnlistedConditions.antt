@@ -13,8 +13,7 @@
 --
 -- Example: of `#if A`, `#elif B \` and `#endif` in the file `f.c`, the list is the line
 -- `f.c:2: #elif B \`.
-use Rattle.std.specs.Prelude.{ℕ, List, ◌++◌, Bool, true, false, not, ◌&&◌, ◌||◌, is_some}
-use Rattle.std.specs.Prelude.{codes, decimal}
+use Rattle.std.specs.Prelude.{ℕ, List, Bool, true, false, not, ◌&&◌, ◌||◌, is_some}
 use Rattle.std.specs.List.{filter, flat_map}
 use Rattle.ud_model.specs.text.Scans.{Reading}
 use Rattle.ud_model.specs.sections.Directives.{Directive, Content, cut_keyword, directive, text}
@@ -25,7 +24,7 @@ use Rattle.ud_model.specs.output.InsertedLines.{read_as}
 use Rattle.ud_model.specs.declared.kind.Mode.{Mode}
 use Rattle.ud_model.specs.declared.kind.Test.{Test}
 use Rattle.ud_model.specs.declared.kind.Test.TheVariants.{Nonzero, Defined, Undefined, Nothing}
-use Rattle.ud_passes.specs.Passes.{fits}
+use Rattle.ud_passes.specs.Passes.{fits, numbered_line}
 
 -- `has_condition test`: a directive with this test has a condition.
 abbrev pub has_condition : Test → Bool
@@ -61,12 +60,6 @@ is_unlisted_line r = fits r.line && has_unlisted (content_of r.scan)
 -- `unlisted_in mode bytes`: the lines of a text with such a condition, each read in this mode.
 abbrev pub unlisted_in : Mode → List ℕ → List Reading
 unlisted_in mode bytes = filter is_unlisted_line (read_as mode bytes)
-
--- `numbered_line file number body`: a line of the list: the file, the number of the line in it, and
--- the line without its ending.
-abbrev pub numbered_line : List ℕ → ℕ → List ℕ → List ℕ
-numbered_line file number body =
-    file ++ codes ":" ++ decimal number ++ codes ": " ++ body ++ codes "\n"
 
 -- `unlisted_line file r`: the line `r` of this file as it is listed.
 abbrev pub unlisted_line : List ℕ → Reading → List ℕ

@@ -7,13 +7,14 @@
 --
 -- Example: if the table lists A, the list of `x.c` with the lines `int x;` and `#if A + X` is
 -- `x.c:2: #if A + X`, or with reasons `x.c:2: an operand is unknown: #if A + X`.
-use Rattle.std.specs.Prelude.{◌≡◌, ℕ, ◌+◌, ◌<◌, ◌^◌, List, [], ◌∷◌, ◌++◌, length, codes, decimal}
+use Rattle.std.specs.Prelude.{◌≡◌, ℕ, ◌+◌, ◌<◌, ◌^◌, List, [], ◌∷◌, ◌++◌, length, codes}
 use Rattle.std.specs.Prelude.{filter}
 use Rattle.std.specs.List.{flat_map}
 use Rattle.ud_model.specs.text.Bytes.{newline}
 use Rattle.ud_model.specs.conditions.Table.{Argument}
 use Rattle.ud_model.specs.declared.kind.Mode.{Mode}
 use Rattle.ud_cond.specs.CondViews.{as_rules}
+use Rattle.ud_passes.specs.Passes.{place_at, numbered_line}
 use Rattle.ud_passes.specs.remaining.Conditions.{Condition, conditions_of}
 use Rattle.ud_passes.specs.remaining.ListedNames.{names_listed}
 use Rattle.ud_passes.specs.remaining.Reasons.{why_stays, phrase}
@@ -21,18 +22,14 @@ use Rattle.ud_passes.specs.declared.remaining.listing.Listing.{Listing}
 use Rattle.ud_passes.specs.declared.remaining.listing.Listing.TheVariants.{Counted, Listed}
 use Rattle.ud_passes.specs.declared.remaining.listing.Listing.TheVariants.{Explained}
 
--- `place_of name c`: where the condition `c` of the file `name` is.
-abbrev pub place_of : List ℕ → Condition → List ℕ
-place_of name c = name ++ codes ":" ++ decimal c.number ++ codes ": "
-
 module _ (table : List Argument) where
   -- `line_of listing name c`: the line for the condition `c` of the file `name`, if it is listed.
   abbrev pub line_of : Listing → List ℕ → Condition → List ℕ
   line_of Counted name c = []
-  line_of Listed name c = place_of name c ++ c.body ++ newline ∷ []
+  line_of Listed name c = numbered_line name c.number c.body
   line_of (Explained rules) name c =
-      place_of name c ++ phrase (why_stays table (as_rules rules) c) ++ codes ": " ++ c.body ++
-      newline ∷ []
+      place_at name c.number ++ phrase (why_stays table (as_rules rules) c) ++ codes ": " ++
+      c.body ++ newline ∷ []
 
   -- `lines_for listing name cs`: the lines for those of the conditions that name a listed symbol.
   abbrev pub lines_for : Listing → List ℕ → List Condition → List ℕ

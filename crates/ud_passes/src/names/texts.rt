@@ -9,14 +9,13 @@ ghost use Rattle.ud_model.specs.text.LineViews.{as_line};
 ghost use Rattle.ud_model.specs.declared.limits.TheConstants.{LINE_BYTES};
 ghost use Rattle.ud_model.specs.output.InsertedLines.{read_as};
 ghost use Rattle.ud_text.specs.scan.ScannerState.{ScannerRepresents};
-ghost use Rattle.ud_passes.specs.Passes.{Grows};
+ghost use Rattle.ud_passes.specs.Passes.{Grows, numbered_line};
 ghost use Rattle.ud_passes.specs.names.UnlistedConditions.{is_unlisted_line, unlisted_in};
-ghost use Rattle.ud_passes.specs.names.UnlistedConditions.{numbered_line};
 ghost use Rattle.ud_passes.specs.names.UnlistedLines.{listed_text, Listed};
 
+use crate::lines::append_line;
 use crate::names::conditions::has_unlisted;
 use crate::walk::{Stretch, Walk, lines_in};
-use itoa::Buffer;
 use std::alloc::{AllocError, Global};
 use ud_model::{Line, Mode};
 use ud_text::Scanner;
@@ -34,7 +33,7 @@ pub(crate) struct File<'a> {
 /// The conditions that were found so far.
 #[derive(Clone, Copy)]
 struct Found {
-    /// How many they are.
+    /// The number of them.
     count: usize,
     /// The number of the next line, if the conditions are listed.
     number: usize,
@@ -52,25 +51,6 @@ fn read_line(alloc: Global, scanner: &mut Scanner, mode: Mode, line: &Line<'_>) 
 {
     let scan = scanner.read(mode, line);
     has_unlisted(alloc, &scan)
-}
-
-/// Appends a line of the list.
-///
-/// # Errors
-/// Fails if memory runs out.
-fn append_line(file: &[u8], number: usize, body: &[u8], out: &mut Vec<u8>) -> Result<(), AllocError>
-    ensures grows { Grows out.old.items out.new.items }
-    ensures line { OnOk result
-        (out.new.items ≡ out.old.items ++ numbered_line file.now number body.now) }
-{
-    let mut buffer = Buffer::new();
-    out.extend_from_slice(file)?;
-    out.extend_from_slice(b":")?;
-    out.extend_from_slice(buffer.format(number).as_bytes())?;
-    out.extend_from_slice(b": ")?;
-    out.extend_from_slice(body)?;
-    out.extend_from_slice(b"\n")?;
-    Ok(())
 }
 
 impl<'a> File<'a> {
@@ -100,7 +80,7 @@ impl<'a> File<'a> {
             number: found.number + 1,
         };
         if self.lists {
-            append_line(self.name, found.number, body, out)?;
+            append_line(out, self.name, found.number, body)?;
         }
         Ok(next)
     }
@@ -128,7 +108,7 @@ impl<'a> File<'a> {
             Listed self.entry text start found walk.old out.old.items →
             Listed self.entry text start f walk.new out.new.items) }
     {
-        match walk.next(self.mode) {
+        match walk.next(self.mode, true) {
             Stretch::Texts(bytes) => Ok(Found {
                 number: found.number + self.lines_in(bytes),
                 ..found

@@ -1,7 +1,7 @@
 //! The search of a text, line by line.
 
 ghost use Rattle.std.specs.Prelude.{◌≡◌, ℕ, ◌+◌, ◌<◌, ◌≤◌, ◌^◌, List, [], ◌∷◌, ◌++◌, length};
-ghost use Rattle.std.specs.Prelude.{IfOk, OnOk, is_some, true};
+ghost use Rattle.std.specs.Prelude.{IfOk, OnOk};
 ghost use Rattle.ud_model.specs.text.Lines.{NoNewline, text_of};
 ghost use Rattle.ud_model.specs.text.Scans.{Reading};
 ghost use Rattle.ud_model.specs.text.Scanning.{next_reading, scan_after};
@@ -11,14 +11,15 @@ ghost use Rattle.ud_model.specs.conditions.Table.{Argument};
 ghost use Rattle.ud_text.specs.scan.ScannerState.{ScannerRepresents};
 ghost use Rattle.ud_cond.specs.symbols.SymbolTable.{TableRepresents};
 ghost use Rattle.ud_passes.specs.Passes.{Grows};
-ghost use Rattle.ud_passes.specs.Walks.{Walked, len_of, is_one_line, CanBeRead, IsNext, reading_at};
+ghost use Rattle.ud_passes.specs.Walks.{reading_at};
 ghost use Rattle.ud_passes.specs.remaining.RemainingLists.{line_of};
 ghost use Rattle.ud_passes.specs.remaining.Searches.{as_condition, begun_as, IsTaken, ended};
 ghost use Rattle.ud_passes.specs.remaining.Searches.{Appends, EndsLine, Searched};
 ghost use Rattle.ud_passes.specs.remaining.Conditions.{conditions_of};
 
+use crate::lines::append_line;
 use crate::remaining::conditions::{Begun, take_line};
-use crate::remaining::lines::{append_line, append_reason};
+use crate::remaining::lines::append_reason;
 use crate::remaining::listing::Listing;
 use crate::remaining::names::has_listed;
 use crate::remaining::reasons::why_stays;
@@ -40,7 +41,7 @@ pub(crate) struct Search {
     after: Vec<u8>,
 }
 
-/// What a search knows at the beginning of a line.
+/// A place of a search, at the beginning of a line.
 #[derive(Clone, Copy)]
 struct Place<'t> {
     /// The number of the next line.
@@ -56,23 +57,6 @@ struct Taken<'t> {
     begun: Option<Begun<'t>>,
     /// The line joins the next one.
     goes_on: bool,
-}
-
-/// Takes the next lines. They are one line if a condition goes on.
-fn next<'t>(walk: &mut Walk<'t>, mode: Mode, begun: Option<Begun<'_>>) -> Stretch<'t>
-    requires some { 0 < length walk.old.rest.now }
-    ensures some { 0 < len_of result }
-    ensures bytes { len_of result + length walk.new.rest.now ≡ length walk.old.rest.now }
-    ensures one { is_some begun.entry ≡ true → is_one_line result ≡ true }
-    ensures readable { CanBeRead result }
-    ensures next { (text : List ℕ) (read : List Reading) →
-        Walked mode text read walk.old.rest.now walk.old.scanner →
-        IsNext mode text read result walk.new.rest.now walk.new.scanner }
-{
-    if begun.is_some() {
-        return walk.next_line(mode);
-    }
-    walk.next(mode)
 }
 
 /// Reads a line, and takes its text if it is of a condition. `after` is the text of that
@@ -232,7 +216,7 @@ impl Search {
             Searched calls mode name.now text start self.new p walk.new) }
     {
         let number = place.number;
-        match next(walk, mode, place.begun) {
+        match walk.next(mode, place.begun.is_none()) {
             Stretch::Texts(bytes) => Ok(Place {
                 number: number + lines_in(bytes),
                 begun: None,

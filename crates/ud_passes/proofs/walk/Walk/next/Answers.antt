@@ -8,7 +8,7 @@ use Rattle.ud_passes.proofs.walk.Walk.next.Goals as goal
 
 pub returns-then-skipped-eq0-clause-next : goal.returns-then-skipped-eq0-clause-next
 returns-then-skipped-eq0-clause-next c = λ text read w.
-    c.next_line.ensures.next text read (record {
+    c.next_line-then-skipped-eq0.ensures.next text read (record {
       done = w.done;
       is = w.is;
       ends = w.ends;

@@ -7,14 +7,14 @@ use Rattle.ud_passes.proofs.remaining.search.Search.search_lines.Goals as goal
 pub returns-in-Texts-clause-searched : goal.returns-in-Texts-clause-searched
 returns-in-Texts-clause-searched c = λ calls h text start s.
     let n = c.in-Texts.ensures.next text s.read s.walked in
-    texts_searched calls c.args.mode c.args.name.now text start c.args.self.now c.args.place c.args.walk.now s c.args.self.now _ c.next.new.walk c.in-Texts.bytes.now n.0 n.1 n.2 n.3
-    (none_if c.args.place.begun c.in-Texts.ensures.one) refl c.lines_in.result c.lines_in.ensures.count refl refl refl refl
+    texts_searched calls c.args.mode c.args.name.now text start c.args.self.now c.args.place c.args.walk.now s c.args.self.now _ c.next.new.self c.in-Texts.bytes.now n.0 n.1 n.2 n.3
+    (none_if c.args.place.begun c.is_none.result c.is_none.ensures c.in-Texts.ensures.one) refl c.lines_in.result c.lines_in.ensures.count refl refl refl refl
 
 pub returns-in_ok-end_line-in-TooLong-clause-searched : goal.returns-in_ok-end_line-in-TooLong-clause-searched
 returns-in_ok-end_line-in-TooLong-clause-searched c = λ calls h text start s.
     let n = c.in-TooLong.ensures.next text s.read s.walked in
     let e = c.in_ok-end_line-in-TooLong.ensures in
-    long_searched calls c.args.mode c.args.name.now text start c.args.self.now c.args.place c.args.walk.now s c.end_line.new.self c.in_ok-end_line-in-TooLong.field-0 c.next.new.walk
+    long_searched calls c.args.mode c.args.name.now text start c.args.self.now c.args.place c.args.walk.now s c.end_line.new.self c.in_ok-end_line-in-TooLong.field-0 c.next.new.self
     (as_line c.in-TooLong.field-0) n.1 e.number c.args.self.now refl refl refl n.0 (e.ended calls h)
 
 pub returns-in_ok-end_line-in-Fitting-clause-searched : goal.returns-in_ok-end_line-in-Fitting-clause-searched
