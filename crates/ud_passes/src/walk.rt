@@ -12,7 +12,14 @@ ghost use Rattle.ud_model.specs.declared.kind.Mode.{Mode};
 ghost use Rattle.ud_passes.specs.Walks.{Walked, len_of, is_one_line, CanBeRead, IsNext};
 
 use ud_model::{LINE_BYTES, Line, Mode};
-use ud_text::{Scanner, count_lines, line_in};
+use ud_text::{ScannerOf, count_lines, line_in};
+
+/// The most bytes of a short line's body.
+pub(crate) const SHORT_LINE_BYTES: usize = 1024;
+
+/// A scanner of short lines. A longer line is read by a `Scanner` that is a local of a function of
+/// its own, so that no other line and no text clears its memory.
+pub(crate) type ShortScanner = ScannerOf<SHORT_LINE_BYTES>;
 
 /// The next lines of a text.
 #[derive(Clone, Copy)]
@@ -31,7 +38,7 @@ pub(crate) struct Walk<'t> {
     /// The text from here on.
     rest: &'t [u8],
     /// The scanner of the lines before.
-    pub(crate) scanner: Scanner,
+    pub(crate) scanner: ShortScanner,
 }
 
 /// Returns how many lines text lines are.
@@ -51,7 +58,7 @@ impl<'t> Walk<'t> {
     {
         Walk {
             rest: text,
-            scanner: Scanner::new(),
+            scanner: ScannerOf::new(),
         }
     }
 

@@ -31,14 +31,12 @@ ghost use Rattle.ud_passes.specs.pruning.EditedLines.{IsCondition, HasNoQuote, l
 
 use crate::pruning::cells::{CellBytes, split_bytes};
 use crate::pruning::conditions::LeftCondition;
+use crate::walk::SHORT_LINE_BYTES;
 use std::alloc::{AllocError, Global};
 use ud_cond::{Rules, Symbols};
 use ud_model::{Kind, Line, Mode, Scan};
 use ud_sections::{Cut, Directive, directive};
 use ud_text::{Scanner, ScannerOf, line_in};
-
-/// The most bytes of a short line's body.
-const SHORT_LINE_BYTES: usize = 1024;
 
 /// An editor of lines, with the last line that it edited.
 #[derive(Drop)]

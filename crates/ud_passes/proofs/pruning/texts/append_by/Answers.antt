@@ -11,10 +11,10 @@ use Rattle.ud_model.specs.declared.limits.TheConstants.{LINE_BYTES}
 use Rattle.ud_cond.specs.CondViews.{as_rules}
 use Rattle.ud_passes.specs.pruning.EditedLines.{c_reading, IsScannedAlone, IsEditedTo}
 use Rattle.ud_passes.proofs.PassLemmas.{next_edited}
-use Rattle.ud_passes.proofs.pruning.texts.append_line.Goals as goal
+use Rattle.ud_passes.proofs.pruning.texts.append_by.Goals as goal
 
 pub returns-clause-pruned : goal.returns-clause-pruned
-returns-clause-pruned c = λ calls h before r alone.
+returns-clause-pruned g c = λ calls h before r alone.
     let rules = as_rules c.args.rules in
     let l : Line = as_line c.args.line.now in
     let scan : as_scan c.read.result ≡ scan_after before C l = c.read.ensures.value before r in
