@@ -96,8 +96,9 @@ EndsWith s bytes = (mid : Stream) × Sends mid s bytes
 -- nothing if the run is quiet.
 abbrev pub last_lines : Arguments → ℕ → ℕ → ℕ → ℕ → Edits → ℕ → List ℕ
 last_lines args changed unchanged faults hidden edits remaining = if args.quiet then []
-    else summary args.task args.list_hidden changed unchanged faults hidden ++ removed_line edits.lines ++
-    edited_line args.plan.prunes edits.conditions ++ remaining_line args.list_remaining remaining
+    else summary args.task args.list_hidden changed unchanged faults hidden ++
+    removed_line edits.lines ++ edited_line args.plan.prunes edits.conditions ++
+    remaining_line args.list_remaining remaining
 
 -- `TellsEnd args counts faults hidden old err err'`: the last lines were written, with these
 -- numbers and that of the conditions that still name a symbol, which the report has. Nothing else
