@@ -39,7 +39,7 @@ SOURCES := crates.txt HANDLES \
 .DELETE_ON_ERROR:
 .PHONY: all help build native kit try try-tree case test test-all check edits edits-test cases examples manual-examples differences
 .PHONY: faults fail-alloc tree-test
-.PHONY: install uninstall dist deb packages-test manuals around bench bench-text
+.PHONY: install uninstall dist deb release packages-test manuals around bench bench-text
 .PHONY: lib lib-test install-lib uninstall-lib deb-lib
 .PHONY: bench-library bench-conditions bench-folders pictures trees pruned selects lines lines-test hostile fronts clean
 
@@ -264,6 +264,11 @@ deb: unifdef unifdef-tree
 ## python3-unifdef
 deb-lib: lib
 	@MAKE="$(MAKE_COMMAND)" packaging/deb-lib.sh
+
+## makes the folder release with the programs, the library,
+## packages, source, checksums and what changed
+release: unifdef unifdef-tree lib
+	@MAKE="$(MAKE_COMMAND)" packaging/release.sh
 
 ## tries installing, all packages, completions and hooks
 packages-test: unifdef unifdef-tree
