@@ -270,12 +270,14 @@ deb-lib: lib
 release: unifdef unifdef-tree lib
 	@MAKE="$(MAKE_COMMAND)" packaging/release.sh
 
-## tries installing, all packages, completions and hooks
+## tries installing, all packages, completions, hooks and
+## a release
 packages-test: unifdef unifdef-tree
 	@MAKE="$(MAKE_COMMAND)" tests/packages.sh
 	@MAKE="$(MAKE_COMMAND)" tests/packages-lib.sh
 	@tests/completions.sh
 	@tests/hooks.sh
+	@MAKE="$(MAKE_COMMAND)" tests/release.sh
 
 ## checks version, manuals, scripts, the language of
 ## comments and pages, the names that pages cite, and that
