@@ -51,6 +51,10 @@ WORDS = [
 ]
 WORDS = [(re.compile(pattern, re.IGNORECASE), better) for pattern, better in WORDS]
 
+# Forms that a native reader stops at, and how many of them 1,000 words of the pages may have.
+FORMS = re.compile(r"\b(that|those)\s+of\b|\b(of|to|by|from|for|in|on|with|at)\s+which\b")
+FORMS_AT_MOST = 1.5
+
 # How no item's comment begins.
 OPENING = re.compile(r"^\s*(///|--) (Whether|What|How many|How far|Where|The same|As) ")
 
@@ -160,6 +164,23 @@ def long_sentences(lines):
             yield number, f"a sentence of {words} words, {WORDS_AT_MOST} at most"
 
 
+def forms_of(text):
+    """Returns how many forms of `FORMS` a page has outside its code, and how many words."""
+    prose = re.sub(r"`[^`]*`", "code", re.sub(r"```.*?```", "", text, flags=re.DOTALL))
+    return len(FORMS.findall(prose)), len(prose.split())
+
+
+def many_forms(pages):
+    """Yields a finding if all pages together have too many forms, with the pages of most."""
+    counts = {path: forms_of(text) for path, text in pages.items()}
+    forms, words = (sum(column) for column in zip((0, 0), *counts.values()))
+    if forms * 1000 > FORMS_AT_MOST * words:
+        most = sorted(counts, key=lambda path: -counts[path][0])[:5]
+        named = ", ".join(f"{path} {counts[path][0]}" for path in most)
+        told = f"{forms} of 'that of', 'of which' in {words} words"
+        yield f"{told}, {FORMS_AT_MOST} in 1,000 at most: {named}"
+
+
 def bare_items(path, lines):
     """Yields each public item without a line that says what it is."""
     if "/src/" in path and path.endswith(".rt"):
@@ -186,13 +207,20 @@ def main():
     if not paths:
         paths = tracked()
     count = 0
+    pages = {}
     for path in paths:
         if kind_of(path) is None or path.endswith("style.py"):
             continue
         with open(path, encoding="utf-8") as file:
             text = file.read()
+        if kind_of(path) == "page":
+            pages[path] = text
         for number, reason in findings(path, text):
             print(f"{path}:{number}: {reason}")
+            count += 1
+    if len(sys.argv) == 1:
+        for reason in many_forms(pages):
+            print(f"pages: {reason}")
             count += 1
     if count:
         print(f"style: {count} findings", file=sys.stderr)
