@@ -226,6 +226,7 @@ def hints() -> None:
     """The types of a function can be read."""
     found = typing.get_type_hints(unifdef.run)
     check("the types of run", found["return"] is unifdef.Answer and "text" in found)
+    check("what is public", set(dir(unifdef)) == {*unifdef.__all__, "__version__", "__doc__"})
 
 
 def as_program() -> None:

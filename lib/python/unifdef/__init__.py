@@ -53,6 +53,12 @@ __all__ = [
 ]
 __version__ = "1.0"
 
+
+def __dir__() -> list[str]:
+    """Returns what is public, without the modules that are used here."""
+    return [*__all__, "__version__", "__doc__"]
+
+
 Word = Union[str, bytes, "os.PathLike[str]", "os.PathLike[bytes]"]
 
 # The bytes that are fed or taken at once, and the shortest text that is fed so.
