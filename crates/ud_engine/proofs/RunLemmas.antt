@@ -1,5 +1,5 @@
 -- Running: the state of a run, read by read.
-use Rattle.std.proofs.Common.{◌≡◌, ℕ, ◌+◌, ◌-◌, ◌<◌, ◌≤◌, Bool, true, false, List, ◌∷◌, ◌++◌, length, take, drop, Option, Some, None, Result, Ok, Err, IfSome, refl, sym, ◌∙◌, ap, subst, append_assoc, append-nil, take-append-drop, arith, length-append}
+use Rattle.std.proofs.Common.{◌≡◌, ℕ, ◌+◌, ◌-◌, ◌<◌, ◌≤◌, Bool, false, List, ◌∷◌, ◌++◌, length, take, drop, Option, Some, None, Result, Ok, Err, IfSome, refl, sym, ◌∙◌, ap, subst, append_assoc, append-nil, take-append-drop, arith, length-append}
 use Rattle.std.specs.Io.KnownBytes.{Appends, Consumes, IsAtEnd}
 use Rattle.std.proofs.lemmas.List.{take-append-le}
 use Rattle.std.proofs.KnownBytes.{Appends-trans}
@@ -23,7 +23,7 @@ use Rattle.ud_faults.specs.declared.run.RunFault.{RunFault}
 use Rattle.ud_faults.specs.declared.run.RunFault.TheVariants.{Text, Section, Read, Write}
 use Rattle.ud_engine.specs.declared.pump.TheConstants.{CHUNK_BYTES}
 use Rattle.ud_engine.specs.Finishing.{FinishFault, FinishOk, FinishErr, Finishes, RunAnswers, ResultIs, text_fault_of}
-use Rattle.ud_engine.specs.Feeding.{EngineState, EngineRepresentsBuffered, Session, FeedFails, FaultsAfter, WriterMatches}
+use Rattle.ud_engine.specs.Feeding.{EngineState, EngineRepresentsBuffered, Session, FeedFails, FaultsAfter}
 use Rattle.ud_faults.specs.Faults.{limit_of}
 use Rattle.ud_engine.specs.ProcessedLines.{text_by, differs_in}
 use Rattle.ud_engine.specs.Runs.{LagsOneRead, all_but_last_chunk, bytes_to_limit}

@@ -23,8 +23,8 @@ ghost use Rattle.ud_text.specs.bulk.BulkScanning.{AreWholeLines};
 
 use crate::searching::simd::find_in_lanes;
 use memchr::memchr;
-use newlines::whole_lines_len;
 pub use newlines::count_lines;
+use newlines::whole_lines_len;
 use std::marker::Model;
 use ud_faults::TextFault;
 use ud_model::{LINE_BYTES, Line, TEXT_LINES};
