@@ -613,6 +613,21 @@ undoes() {
   rm -rf "$work/was"
 }
 
+# Tests that the diffs of -d for an absolute path, and for one that begins with ../, undo the run too.
+undoes_elsewhere() {
+  has patch || return 0
+  small_tree
+  tree -d -DA "$work/run/src"
+  cp "$work/out" "$work/absolute"
+  check '-d: an absolute path: the file' holds src/a.c 'yes\n'
+  patch -s -R -d / -p1 -i "$work/absolute"
+  check '-d: an absolute path: patch -R -d / -p1' holds src/a.c "$text"
+  (cd src && "$TREE" -d -DA ../src > "$work/above" 2> /dev/null)
+  check '-d: a path above: the file' holds src/folder/b.c 'yes\n'
+  (cd src && patch -s -R -d .. -p1 -i "$work/above")
+  check '-d: a path above: patch -R -d .. -p1' holds src/folder/b.c "$text"
+}
+
 safety() {
   locks
   inputs
@@ -620,6 +635,7 @@ safety() {
   little_memory
   lost_for_memory
   undoes
+  undoes_elsewhere
   promises
   overlay
   late_errors
