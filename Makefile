@@ -363,4 +363,4 @@ fronts: unifdef
 ## removes what was built
 clean:
 	rm -f unifdef unifdef-tree unifdef-native unifdef-*.tar.gz *.deb lib/libunifdef.* gate.log
-	rm -rf crates/*/out .prove-* .gate-* .edits-* lib/python/build lib/python/unifdef.egg-info
+	rm -rf crates/*/out .prove-* .gate-* .edits-* release lib/python/build lib/python/unifdef.egg-info
