@@ -10,7 +10,8 @@
 # folder to which the one before it went.
 #
 # The rest of a block is left out if it begins with a header of the machine that is another one
-# here. It is also left out if it needs git or a C compiler and there is none.
+# here. It is also left out if a tool that it needs isn't there: git, a C compiler, make or a build
+# system.
 set -eu -o pipefail
 export LC_ALL=C
 unset MAKEFLAGS MAKELEVEL
@@ -26,9 +27,11 @@ right=0 wrong=0 left_out=0
 
 # Runs one command in the block's folder, and compares its output with $work/wanted.
 run_command() {
-  local command=$1 printed="$work/printed" needed
-  for needed in git cc; do
-    if [[ " $command" == *" $needed "* ]] && ! command -v "$needed" > /dev/null; then
+  local command=$1 printed="$work/printed" needed tools
+  # A tool whose name is in the command, and the tools that it calls.
+  for needed in git cc make 'cmake make cc' 'meson ninja cc' ninja; do
+    read -ra tools <<< "$needed"
+    if [[ " $command" == *" ${tools[0]} "* ]] && ! type "${tools[@]}" > /dev/null 2>&1; then
       echo "examples: left out, since $needed isn't there: $command"
       left_out=$((left_out + 1))
       return 1
