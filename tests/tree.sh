@@ -778,7 +778,7 @@ counts() {
   check 'counter: on a terminal' same "$(grep -o 'unifdef-tree: [0-9]* of .* files' "$work/out" |
     tr '\r' '\n' | tr -d '\n')" 'unifdef-tree: 0 of 100 files unifdef-tree: 64 of 100 files'
   check 'counter: goes away' grep -q $'\r\x1b\\[Kunifdef-tree: 100 changed, 0 unchanged, 0 faulty' "$work/out"
-  for i in -q -n -r -s; do
+  for i in -q -r -s; do
     script -qec "'$TREE' $i -DB src" /dev/null < /dev/null > "$work/out"
     check "counter: none under $i" same "$(grep -c -e 'of 100 files' -e $'\x1b' "$work/out")" 0
   done
@@ -786,6 +786,27 @@ counts() {
   check 'counter: nowhere else' same "$(cat "$work/err")" 'unifdef-tree: 0 changed, 100 unchanged, 0 faulty'
   tree -q -DA src
   check '-q: no counts' same "$(cat "$work/err")" ''
+}
+
+# Tests the colours of -n on a terminal.
+colours() {
+  has script || return 0
+  fresh_tree
+  put src/a.c "$text"
+  local esc=$'\x1b' plain
+  tree -n -q -UA src
+  plain=$(cat "$work/out")
+  script -qec "'$TREE' -n -q -UA src" /dev/null < /dev/null | tr -d '\r' > "$work/shown"
+  check 'colours: removed lines are red, added ones green, and the head is cyan' same \
+    "$(sed -n '3,5p;7,8p' "$work/shown")" \
+    "$esc[36m@@ -1,5 +1 @@$esc[m"$'\n'"$esc[31m-#ifdef A$esc[m"$'\n'"$esc[31m-yes$esc[m"$'\n'" no"$'\n'"$esc[31m-#endif$esc[m"
+  check 'colours: the bytes are the same without' same \
+    "$(sed "s/$esc\\[[0-9]*m//g" "$work/shown")" "$plain"
+  NO_COLOR=1 script -qec "'$TREE' -n -q -UA src" /dev/null < /dev/null | tr -d '\r' > "$work/shown"
+  check 'colours: none with NO_COLOR' same "$(cat "$work/shown")" "$plain"
+  NO_COLOR='' script -qec "'$TREE' -n -q -UA src" /dev/null < /dev/null > "$work/shown"
+  check 'colours: an empty NO_COLOR counts as unset' grep -q "$esc" "$work/shown"
+  check 'colours: none in a pipe' same "$(grep -c "$esc" "$work/out")" 0
 }
 
 # deep KIND N: prints an operand A in N bytes of parentheses or operators, which is A again.
@@ -974,6 +995,7 @@ in_folder() {
   full_disk
   paths_from_input
   counts
+  colours
   safety
   small_stack
   if can_trace; then

@@ -4,8 +4,12 @@
 //! system and the standard streams.
 #![tactic(auto)]
 
+mod painter;
+
+use crate::painter::Painter;
 use std::alloc::AllocError;
-use std::io::IsTerminal;
+use std::env::VarError;
+use std::io::{IsTerminal, Write};
 use std::process::ExitCode;
 use std::{env, io};
 use ud_io::Watched;
@@ -51,8 +55,18 @@ fn main(rt: HostRuntime) -> ExitCode {
     }
 }
 
-/// Runs over the files of the system.
+/// Runs over the files of the system. On a terminal, what would change is shown in colours.
 fn run(rt: &HostRuntime, arguments: &Arguments) -> ExitCode {
+    let stdout = rt.stdout();
+    if stdout.is_terminal() && allows_colours(rt, arguments) {
+        run_to(rt, arguments, Painter::new(stdout))
+    } else {
+        run_to(rt, arguments, stdout)
+    }
+}
+
+/// Runs over the files of the system, with this writer as the output.
+fn run_to<W: Write + Drop>(rt: &HostRuntime, arguments: &Arguments, stdout: W) -> ExitCode {
     let stderr = rt.stderr();
     let job = Job {
         alloc: rt.alloc(),
@@ -61,7 +75,7 @@ fn run(rt: &HostRuntime, arguments: &Arguments) -> ExitCode {
     };
     let mut disk = Disk::new(rt, rt.alloc());
     let mut input = Watched::new(rt.stdin());
-    let mut out = Watched::new(rt.stdout());
+    let mut out = Watched::new(stdout);
     let mut err = Watched::new(stderr);
     let status = run_tree(&job, &mut disk, &mut input, &mut out, &mut err);
     if disk.lacks_proc() && !arguments.quiet {
@@ -78,6 +92,18 @@ fn allows_counter(arguments: &Arguments) -> bool {
         Task::Diff | Task::Names => false,
     };
     replaces && !arguments.quiet && !arguments.list_remaining && !arguments.show_changes
+}
+
+/// Returns whether a terminal may show colours: what would change is shown, and `NO_COLOR` is unset
+/// or empty.
+fn allows_colours(rt: &HostRuntime, arguments: &Arguments) -> bool {
+    match arguments.task {
+        Task::Diff => match env::var(rt, "NO_COLOR") {
+            Ok(value) => value.is_empty(),
+            Err(error) => matches!(error, VarError::NotPresent),
+        },
+        Task::Replace | Task::Names => false,
+    }
 }
 
 /// Returns the arguments after the program's name.
