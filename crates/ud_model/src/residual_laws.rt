@@ -5,7 +5,7 @@ ghost use Rattle.std.specs.Prelude.{Some, Bool, true, false};
 ghost use Rattle.ud_model.specs.text.Lines.{Line, lines_of};
 ghost use Rattle.ud_model.specs.text.Scans.{Reading};
 ghost use Rattle.ud_model.specs.text.Lexemes.{Cell, shown};
-ghost use Rattle.ud_model.specs.text.Scanning.{scan_after};
+ghost use Rattle.ud_model.specs.text.Scanning.{scan_after, scan_after_run};
 ghost use Rattle.ud_model.specs.text.OtherLines.{AreReadAlike, StandsAlone};
 ghost use Rattle.ud_model.specs.aids.Parsing.{expression_of};
 ghost use Rattle.ud_model.specs.conditions.Table.{Argument};
@@ -32,7 +32,7 @@ ghost use Rattle.ud_model.specs.output.SimplifiedTexts.{simplified_line, simplif
 ghost use Rattle.ud_model.specs.output.LeftOperands.{IsReduced, MayStay};
 ghost use Rattle.ud_model.specs.output.SeveralLines.{joined_text, simplified_over_lines};
 ghost use Rattle.ud_model.specs.output.FoldedTexts.{folded_text, folded_line, is_foldable};
-ghost use Rattle.ud_model.specs.output.FoldedTexts.{read_text};
+ghost use Rattle.ud_model.specs.output.FoldedTexts.{shown_lines};
 ghost use Rattle.ud_model.specs.answer.CommandLine.{options_of};
 ghost use Rattle.ud_model.specs.answer.Answer.{Answer, IsAnswer, Succeeds, copy_answer};
 ghost use Rattle.ud_model.specs.declared.cond.Cond.{Cond};
@@ -220,11 +220,11 @@ pub fn law_answer_simplified()
 
 /// A line that is folded is read as the lines that form it.
 ///
-/// It has their bytes after phase 3 of translation, but for the vertical tabs, which are white
-/// space beside white space (C11 5.1.1.2).
+/// Its masked bytes are theirs, with white space in place of each newline that continues the
+/// directive (C11 5.1.1.2).
 pub fn law_folded_lines()
-    ensures { (ls : List Line) → is_foldable ls ≡ true →
-        read_text (folded_line ls ∷ []) ≡ read_text ls }
+    ensures { (rs : List Reading) → is_foldable rs ≡ true →
+        (scan_after_run [] (folded_line rs)).masked ≡ shown_lines rs }
 {}
 
 /// C selects the same lines of a text that is simplified while it is folded.

@@ -1,8 +1,10 @@
 -- Folded texts: a text in which each conditional directive is on one line.
 -- C11 5.1.1.2, phases 2 and 3, and 6.10p5.
 --
---   folded_line ls        the one line that the lines of a directive form
---   is_foldable ls        C reads this line as it reads the lines `ls`
+--   continued rs          the first of the lines `rs` that continue the logical line before them
+--   folded_line rs        the one line that the lines of a directive form
+--   shown_lines rs        the masked text of this line, by the scans of the lines
+--   is_foldable rs        this line is masked so, and is the directive on the first of the lines
 --   folded_text bytes     the text with this line in place of each such directive
 --   restored_text bytes   the way back: the newlines in place of the vertical tabs
 --
@@ -12,20 +14,20 @@
 --
 -- Example: `#if A || \`, `  B` becomes one line, with a vertical tab after `|| `. So does
 -- `#else /* a`, `b */`, with one in the comment.
-use Rattle.std.specs.Prelude.{ℕ, ◌==◌, nat_le, List, [], ◌∷◌, ◌++◌, length, map, drop}
+use Rattle.std.specs.Prelude.{ℕ, ◌==◌, nat_le, List, [], ◌∷◌, ◌++◌, length}
 use Rattle.std.specs.Prelude.{Bool, true, false, not, ◌&&◌, ◌||◌, if◌then◌else◌, bytes_eq}
-use Rattle.std.specs.List.{concat, flat_map, list_all, list_any}
-use Rattle.ud_model.specs.text.Bytes.{backslash, space, is_white}
+use Rattle.std.specs.List.{flat_map, list_all, list_any}
+use Rattle.ud_model.specs.text.Bytes.{backslash, space, is_white, is_quote}
 use Rattle.ud_model.specs.text.Lines.{Line, text_of, lines_of}
-use Rattle.ud_model.specs.text.Splicing.{is_empty, content, spliced_text}
-use Rattle.ud_model.specs.text.Lexemes.{LexemeKind, block_comment, line_comment, literal, single}
-use Rattle.ud_model.specs.text.Lexemes.{Cell, lex, shown}
-use Rattle.ud_model.specs.text.Scanning.{content_cells, scan_after_run}
+use Rattle.ud_model.specs.text.Splicing.{is_empty, content}
+use Rattle.ud_model.specs.text.Scans.{Scan, Reading}
+use Rattle.ud_model.specs.text.Scanning.{scan_after_run}
 use Rattle.ud_model.specs.sections.Directives.{Content, cut_keyword, directive, text, content_of}
+use Rattle.ud_model.specs.sections.Directives.{is_outside}
+use Rattle.ud_model.specs.output.InsertedLines.{read_as}
 use Rattle.ud_model.specs.output.SimplifiedTexts.{keeps_ending}
-use Rattle.ud_model.specs.output.SeveralLines.{logical_texts, last_ending}
-use Rattle.ud_model.specs.declared.kind.CommentAt.{CommentAt}
-use Rattle.ud_model.specs.declared.kind.CommentAt.TheVariants.{Outside, InLine, InBlock}
+use Rattle.ud_model.specs.declared.kind.Mode.TheVariants.{C}
+use Rattle.ud_model.specs.declared.limits.TheConstants.{LINE_BYTES}
 
 -- The vertical tab, which stands for a newline that continues a directive.
 abbrev pub vertical_tab : ℕ
@@ -37,81 +39,69 @@ has_tab bytes = list_any (λ (b : ℕ). b == vertical_tab) bytes
 
 -- 1. The line that lines form.
 
--- `continued_part comment l`: the bytes of the line `l`, which is continued, with a vertical tab in
--- place of its newline, which lies in this comment.
-abbrev pub continued_part : CommentAt → Line → List ℕ
-continued_part Outside l = content l ++ vertical_tab ∷ []
-continued_part InLine l = l.body ++ vertical_tab ∷ []
-continued_part InBlock l = l.body ++ vertical_tab ∷ []
+-- `continued rs`: the first of the lines `rs`, as far as the line before joins each of them.
+abbrev pub continued : List Reading → List Reading
+continued [] = []
+continued (r ∷ rs) = if r.scan.joins_before then r ∷ continued rs else []
 
--- `folded_after run ls`: the body of the line that the lines `ls` form, after the lines `run`.
-abbrev pub folded_after : List Line → List Line → List ℕ
-folded_after run [] = []
-folded_after run (l ∷ []) = l.body
-folded_after run (l ∷ m ∷ ls) = continued_part (scan_after_run run l).comment l ++
-    folded_after (run ++ l ∷ []) (m ∷ ls)
+-- `continued_part r`: the bytes of the line `r`, which joins the next one, with a vertical tab in
+-- place of its newline.
+abbrev pub continued_part : Reading → List ℕ
+continued_part r =
+    (if is_outside r.scan.comment then content r.line else r.line.body) ++ vertical_tab ∷ []
 
--- `folded_line ls`: the one line that the lines `ls` form.
-abbrev pub folded_line : List Line → Line
-folded_line ls = record { body = folded_after [] ls; ending = last_ending ls; number = 1 }
+-- `folded_body rs`: the body of the line that the lines `rs` form.
+abbrev pub folded_body : List Reading → List ℕ
+folded_body [] = []
+folded_body (r ∷ []) = r.line.body
+folded_body (r ∷ s ∷ rs) = continued_part r ++ folded_body (s ∷ rs)
 
--- 2. Whether C reads it as the lines.
+-- `last_ending rs`: the ending of the last line.
+abbrev pub last_ending : List Reading → List ℕ
+last_ending [] = []
+last_ending (r ∷ []) = r.line.ending
+last_ending (r ∷ s ∷ rs) = last_ending (s ∷ rs)
 
--- `is_comment kind`: the lexeme is a comment.
-abbrev pub is_comment : LexemeKind → Bool
-is_comment block_comment = true
-is_comment line_comment = true
-is_comment literal = false
-is_comment single = false
+-- `folded_line rs`: the one line that the lines `rs` form.
+abbrev pub folded_line : List Reading → Line
+folded_line rs = record { body = folded_body rs; ending = last_ending rs; number = 1 }
 
--- `is_literal kind`: the lexeme is a string literal or a character constant.
-abbrev pub is_literal : LexemeKind → Bool
-is_literal block_comment = false
-is_literal line_comment = false
-is_literal literal = true
-is_literal single = false
+-- 2. Whether it is read as the lines.
 
--- `space_unless again`: a space, or nothing if one stands for a comment just before.
-abbrev pub space_unless : Bool → List ℕ
-space_unless again = if again then [] else space ∷ []
+-- `shown_break scan`: how this vertical tab is masked, with a splice's backslash that stays in a
+-- comment.
+abbrev pub shown_break : Scan → List ℕ
+shown_break scan =
+    if is_outside scan.comment then vertical_tab ∷ []
+    else if scan.spliced then space ∷ space ∷ []
+    else space ∷ []
 
--- `read_bytes again cells`: the cells as C reads them after phase 3: a space for comments side by
--- side, and without the vertical tabs.
-abbrev pub read_bytes : Bool → List Cell → List ℕ
-read_bytes again [] = []
-read_bytes again (c ∷ cells) =
-    if is_comment c.kind then space_unless again ++ read_bytes true cells
-    else if c.byte == vertical_tab then read_bytes again cells
-    else c.byte ∷ read_bytes false cells
+-- `shown_lines rs`: the masked lines `rs`, with such bytes between them.
+abbrev pub shown_lines : List Reading → List ℕ
+shown_lines [] = []
+shown_lines (r ∷ []) = r.scan.masked
+shown_lines (r ∷ s ∷ rs) = r.scan.masked ++ shown_break r.scan ++ shown_lines (s ∷ rs)
 
--- `read_text ls`: the text of the lines as C reads it.
-abbrev pub read_text : List Line → List ℕ
-read_text ls = read_bytes false (lex (spliced_text ls))
+-- `is_blank b`: white space other than a vertical tab.
+abbrev pub is_blank : ℕ → Bool
+is_blank b = is_white b && not (b == vertical_tab)
 
--- `is_tab c`: a vertical tab outside comments.
-abbrev pub is_tab : Cell → Bool
-is_tab c = shown c == vertical_tab
-
--- `is_blank_cell c`: white space other than such a vertical tab, or a byte of a comment.
-abbrev pub is_blank_cell : Cell → Bool
-is_blank_cell c = is_white (shown c) && not (is_tab c)
-
--- `blank_follows cells`: after vertical tabs there is such a cell, or the end.
-abbrev pub blank_follows : List Cell → Bool
+-- `blank_follows bytes`: after vertical tabs there is such a byte, or the end.
+abbrev pub blank_follows : List ℕ → Bool
 blank_follows [] = true
-blank_follows (c ∷ cells) = if is_tab c then blank_follows cells else is_blank_cell c
+blank_follows (b ∷ bytes) = if b == vertical_tab then blank_follows bytes else is_blank b
 
--- `tabs_are_beside blank cells`: white space is beside each vertical tab, or the line's end. It is
--- before the cells if `blank`.
-abbrev pub tabs_are_beside : Bool → List Cell → Bool
+-- `tabs_are_beside blank bytes`: other white space, or the end, is beside each vertical tab. Such
+-- white space is before the bytes if `blank`.
+abbrev pub tabs_are_beside : Bool → List ℕ → Bool
 tabs_are_beside blank [] = true
-tabs_are_beside blank (c ∷ cells) =
-    if is_tab c then (blank || blank_follows cells) && tabs_are_beside blank cells
-    else tabs_are_beside (is_blank_cell c) cells
+tabs_are_beside blank (b ∷ bytes) =
+    if b == vertical_tab then (blank || blank_follows bytes) && tabs_are_beside blank bytes
+    else tabs_are_beside (is_blank b) bytes
 
--- `has_no_literal cells`: no cell lies in a literal.
-abbrev pub has_no_literal : List Cell → Bool
-has_no_literal cells = not (list_any (λ (c : Cell). is_literal c.kind) cells)
+-- `has_no_quote bytes`: no literal begins among the masked bytes.
+abbrev pub has_no_quote : List ℕ → Bool
+has_no_quote bytes = not (list_any is_quote bytes)
 
 -- `is_directive content`: the content is a directive.
 abbrev pub is_directive : Content → Bool
@@ -119,58 +109,71 @@ is_directive (directive d) = true
 is_directive cut_keyword = false
 is_directive text = false
 
--- `are_alike ls ending`: each of the lines has this ending.
-abbrev pub are_alike : List Line → List ℕ → Bool
-are_alike ls ending = list_all (λ (l : Line). bytes_eq l.ending ending) ls
+-- `begins_directive rs`: the first of the lines has the keyword of a directive.
+abbrev pub begins_directive : List Reading → Bool
+begins_directive [] = false
+begins_directive (r ∷ rs) = is_directive (content_of r.scan)
+
+-- `are_alike rs ending`: each of the lines has this ending.
+abbrev pub are_alike : List Reading → List ℕ → Bool
+are_alike rs ending = list_all (λ (r : Reading). bytes_eq r.line.ending ending) rs
 
 -- `fits k`: the line `k` isn't over the limit.
 abbrev pub fits : Line → Bool
-fits k = nat_le (length (text_of k)) 65536
+fits k = nat_le (length (text_of k)) LINE_BYTES
 
--- `is_read_as k ls`: C reads the line `k` as a directive that the lines `ls` form.
-abbrev pub is_read_as : Line → List Line → Bool
-is_read_as k ls = is_directive (content_of (scan_after_run [] k)) &&
-    not (scan_after_run [] k).joins_after && has_no_literal (content_cells [] k) &&
-    tabs_are_beside true (content_cells [] k) &&
-    bytes_eq (read_text (k ∷ [])) (read_text ls)
+-- `is_shown_as scan bytes`: a line with this scan is a directive by itself, with these masked
+-- bytes. They have no quote, and white space is beside each vertical tab.
+abbrev pub is_shown_as : Scan → List ℕ → Bool
+is_shown_as scan bytes = is_directive (content_of scan) && not scan.joins_after &&
+    bytes_eq scan.masked bytes && has_no_quote bytes && tabs_are_beside true bytes
 
--- `begins_directive ls`: the first of the lines has the keyword of a directive.
-abbrev pub begins_directive : List Line → Bool
-begins_directive [] = false
-begins_directive (l ∷ ls) = is_directive (content_of (scan_after_run [] l))
-
--- `is_foldable ls`: the lines `ls` have the same ending, and form such a line.
-abbrev pub is_foldable : List Line → Bool
-is_foldable ls = begins_directive ls && not (is_empty (last_ending ls)) &&
-    are_alike ls (last_ending ls) && fits (folded_line ls) && keeps_ending (folded_line ls) &&
-    is_read_as (folded_line ls) ls
+-- `is_foldable rs`: the lines `rs` have the same ending, and form such a line.
+abbrev pub is_foldable : List Reading → Bool
+is_foldable rs = begins_directive rs && not (is_empty (last_ending rs)) &&
+    are_alike rs (last_ending rs) && fits (folded_line rs) && keeps_ending (folded_line rs) &&
+    is_shown_as (scan_after_run [] (folded_line rs)) (shown_lines rs)
 
 -- 3. Texts.
 
--- `folded_logical x`: the logical line `x` as one line, if it is foldable.
-abbrev pub folded_logical : List ℕ → List ℕ
-folded_logical x = if is_foldable (lines_of x) then text_of (folded_line (lines_of x)) else x
+-- `folded_bytes rs`: the bytes of a logical line with the lines `rs`, as one line if they are
+-- foldable.
+abbrev pub folded_bytes : List Reading → List ℕ
+folded_bytes rs =
+    if is_foldable rs then text_of (folded_line rs)
+    else flat_map (λ (r : Reading). text_of r.line) rs
+
+-- `folded_lines rs`: the bytes of the lines `rs`, each of which begins a logical line, or is joined
+-- to the one before.
+abbrev pub folded_lines : List Reading → List ℕ
+folded_lines [] = []
+folded_lines (r ∷ rs) =
+    if r.scan.joins_before then folded_lines rs
+    else folded_bytes (r ∷ continued rs) ++ folded_lines rs
 
 -- `folded_text bytes`: the text with one line in place of each such directive.
 abbrev pub folded_text : List ℕ → List ℕ
-folded_text bytes =
-    if has_tab bytes then bytes else concat (map folded_logical (logical_texts bytes))
+folded_text bytes = if has_tab bytes then bytes else folded_lines (read_as C bytes)
 
--- `restored_tab kind ending`: the bytes in whose place a vertical tab in such a lexeme stands.
-abbrev pub restored_tab : LexemeKind → List ℕ → List ℕ
-restored_tab kind ending = if is_comment kind then ending else backslash ∷ ending
+-- `restored_byte ending b m`: the bytes that the byte `b` stands for, which is masked as `m`.
+abbrev pub restored_byte : List ℕ → ℕ → ℕ → List ℕ
+restored_byte ending b m =
+    if b == vertical_tab then (if m == vertical_tab then backslash ∷ ending else ending)
+    else b ∷ []
 
--- `restored_cell ending c`: the cell `c`, or those bytes if it is a vertical tab.
-abbrev pub restored_cell : List ℕ → Cell → List ℕ
-restored_cell ending c =
-    if c.byte == vertical_tab then restored_tab c.kind ending else c.byte ∷ []
+-- `restored_body ending bytes masked`: the bytes of a body that is masked so. Those after the
+-- masked ones stay.
+abbrev pub restored_body : List ℕ → List ℕ → List ℕ → List ℕ
+restored_body ending [] masked = []
+restored_body ending (b ∷ bytes) [] = b ∷ bytes
+restored_body ending (b ∷ bytes) (m ∷ masked) =
+    restored_byte ending b m ++ restored_body ending bytes masked
 
--- `restored_line l`: the lines that the line `l` stands for.
+-- `restored_line l`: the lines that the line `l` stands for, by its scan as the first line of a
+-- text.
 abbrev pub restored_line : Line → List ℕ
 restored_line l =
-    if has_tab l.body
-    then flat_map (restored_cell l.ending) (content_cells [] l) ++
-    drop (length (content l)) l.body ++ l.ending
+    if fits l then restored_body l.ending l.body (scan_after_run [] l).masked ++ l.ending
     else text_of l
 
 -- `restored_text bytes`: the text with newlines in place of the vertical tabs.
