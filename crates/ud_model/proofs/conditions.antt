@@ -13,6 +13,7 @@ pub mod ParsingSound
 pub mod TokenLemmas
 pub mod OneExpression
 pub mod DecidedConditions
+pub mod SpreadTexts
 pub mod SpacesInFront
 pub mod ChoiceValues
 pub mod ResidualTruth

@@ -59,6 +59,7 @@ pub mod BlankedLineLemmas
 pub mod SharedLineLemmas
 pub mod StrictTrees
 pub mod StrictRuns
+pub mod FoldedLines
 pub mod LoneLines
 pub mod Inserting
 pub mod CountedLines

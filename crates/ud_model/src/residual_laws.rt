@@ -32,7 +32,7 @@ ghost use Rattle.ud_model.specs.output.SimplifiedTexts.{simplified_line, simplif
 ghost use Rattle.ud_model.specs.output.LeftOperands.{IsReduced, MayStay};
 ghost use Rattle.ud_model.specs.output.SeveralLines.{joined_text, simplified_over_lines};
 ghost use Rattle.ud_model.specs.output.FoldedTexts.{folded_text, folded_line, is_foldable};
-ghost use Rattle.ud_model.specs.output.FoldedTexts.{shown_lines};
+ghost use Rattle.ud_model.specs.output.FoldedTexts.{continued, shown_lines, IsReadAs};
 ghost use Rattle.ud_model.specs.answer.CommandLine.{options_of};
 ghost use Rattle.ud_model.specs.answer.Answer.{Answer, IsAnswer, Succeeds, copy_answer};
 ghost use Rattle.ud_model.specs.declared.cond.Cond.{Cond};
@@ -218,13 +218,19 @@ pub fn law_answer_simplified()
         a.output in IsAnswer args text (copy_answer args text) }
 {}
 
-/// A line that is folded is read as the lines that form it.
+/// A folded line has the directive that its lines form.
 ///
 /// Its masked bytes are theirs, with white space in place of each newline that continues the
-/// directive (C11 5.1.1.2).
+/// directive. It has the kind and the keyword that are on the first of the lines. After that come
+/// the tokens of the logical line, which the newlines don't part (C11 5.1.1.2, phases 2 and 3).
 pub fn law_folded_lines()
-    ensures { (rs : List Reading) → is_foldable rs ≡ true →
+    ensures masked { (rs : List Reading) → is_foldable rs ≡ true →
         (scan_after_run [] (folded_line rs)).masked ≡ shown_lines rs }
+    ensures directive { (bytes : List ℕ) (before after : List Reading) (r : Reading)
+        (d : Directive) → read_as Mode.C bytes ≡ before ++ r ∷ after →
+        content_of r.scan ≡ directive d → is_foldable (r ∷ continued after) ≡ true →
+        (e : Directive) × (content_of (scan_after_run [] (folded_line (r ∷ continued after))) ≡
+        directive e) × IsReadAs e d (continued after) }
 {}
 
 /// C selects the same lines of a text that is simplified while it is folded.

@@ -42,7 +42,7 @@ unfolding EndsIn
 does_end b (c, e) = (ends_is Decides-eqb b (backslash ∷ []) (ends_with nat_eq b (backslash ∷ [])) refl).1 c e
 
 -- A spliced line's body is its content and a backslash.
-spliced_body : (l : Line) → is_spliced l ≡ true → l.body ≡ content l ++ backslash ∷ []
+pub spliced_body : (l : Line) → is_spliced l ≡ true → l.body ≡ content l ++ backslash ∷ []
 spliced_body l s =
     (ends_is Decides-eqb l.body (backslash ∷ []) (ends_with nat_eq l.body (backslash ∷ [])) refl).0 (and_parts (ends_with nat_eq l.body (backslash ∷ [])) (not (is_empty l.ending)) s).0
     ∙ sym (ap (λ (t : Bool). (if t then take (length l.body - 1) l.body else l.body) ++ backslash ∷ []) s)

@@ -4,7 +4,8 @@
 --   continued rs          the first of the lines `rs` that continue the logical line before them
 --   folded_line rs        the one line that the lines of a directive form
 --   shown_lines rs        the masked text of this line, by the scans of the lines
---   is_foldable rs        this line is masked so, and is the directive on the first of the lines
+--   is_foldable rs        this line is masked so, and is a directive as the first of the lines is
+--   IsReadAs e d rs       `e` is the directive `d` with the tokens of its line and the lines `rs`
 --   folded_text bytes     the text with this line in place of each such directive
 --   restored_text bytes   the way back: the newlines in place of the vertical tabs
 --
@@ -14,7 +15,7 @@
 --
 -- Example: `#if A || \`, `  B` becomes one line, with a vertical tab after `|| `. So does
 -- `#else /* a`, `b */`, with one in the comment.
-use Rattle.std.specs.Prelude.{ℕ, ◌==◌, nat_le, List, [], ◌∷◌, ◌++◌, length}
+use Rattle.std.specs.Prelude.{◌≡◌, ℕ, ◌==◌, nat_le, List, [], ◌∷◌, ◌++◌, length}
 use Rattle.std.specs.Prelude.{Bool, true, false, not, ◌&&◌, ◌||◌, if◌then◌else◌, bytes_eq}
 use Rattle.std.specs.List.{flat_map, list_all, list_any}
 use Rattle.ud_model.specs.text.Bytes.{backslash, space, is_white, is_quote}
@@ -23,7 +24,8 @@ use Rattle.ud_model.specs.text.Splicing.{is_empty, content}
 use Rattle.ud_model.specs.text.Scans.{Scan, Reading}
 use Rattle.ud_model.specs.text.Scanning.{scan_after_run}
 use Rattle.ud_model.specs.sections.Directives.{Content, cut_keyword, directive, text, content_of}
-use Rattle.ud_model.specs.sections.Directives.{is_outside}
+use Rattle.ud_model.specs.sections.Directives.{Directive, is_outside}
+use Rattle.ud_model.specs.aids.Parsing.{tokens_of}
 use Rattle.ud_model.specs.output.InsertedLines.{read_as}
 use Rattle.ud_model.specs.output.SimplifiedTexts.{keeps_ending}
 use Rattle.ud_model.specs.declared.kind.Mode.TheVariants.{C}
@@ -134,7 +136,21 @@ is_foldable rs = begins_directive rs && not (is_empty (last_ending rs)) &&
     are_alike rs (last_ending rs) && fits (folded_line rs) && keeps_ending (folded_line rs) &&
     is_shown_as (scan_after_run [] (folded_line rs)) (shown_lines rs)
 
--- 3. Texts.
+-- 3. The directive of this line.
+
+-- `joined_after d rs`: the masked bytes after the keyword of the directive `d`, and those of the
+-- lines `rs`, which continue it.
+abbrev pub joined_after : Directive → List Reading → List ℕ
+joined_after d rs = d.after ++ flat_map (λ (r : Reading). r.scan.masked) rs
+
+-- `IsReadAs e d rs`: the directive `e` has the kind and the keyword of `d`, which the lines `rs`
+-- continue, and the same tokens after the keyword.
+pub record IsReadAs (e d : Directive) (rs : List Reading) : Type 0 where
+  pub kind : e.kind ≡ d.kind
+  pub keyword : e.keyword ≡ d.keyword
+  pub tokens : tokens_of e.after ≡ tokens_of (joined_after d rs)
+
+-- 4. Texts.
 
 -- `folded_bytes rs`: the bytes of a logical line with the lines `rs`, as one line if they are
 -- foldable.

@@ -1,0 +1,380 @@
+-- Folded lines: the directive of a folded line is the one of its lines, with the same tokens.
+use Rattle.std.proofs.Common.{◌≡◌, ◌≢◌, ℕ, zero, suc, ◌==◌, ◌<◌, ◌-◌, List, [], ◌∷◌, ◌++◌, length, take, drop, map, Bool, true, false, not, ◌&&◌, ◌||◌, if◌then◌else◌, ◌⊎◌, inl, inr, refl, sym, ◌∙◌, ap, subst, append-nil, append_assoc, length-append, length-drop, length-take-le, bytes_eq, ◌+◌, arith, Some}
+use Rattle.std.specs.List.{flat_map}
+use Rattle.std.proofs.lemmas.Bool.{and_parts, or_cases}
+use Rattle.std.proofs.lemmas.List.{take-map, take-append-drop}
+use Rattle.ud_model.proofs.text.ScanBytes.{content-prefix, length-masked}
+use Rattle.ud_model.specs.text.Bytes.{slash, space, backslash, number_sign, is_white, is_word_byte}
+use Rattle.ud_model.specs.text.Lines.{Line, lines_of}
+use Rattle.ud_model.specs.text.Lexemes.{LexemeKind, block_comment, line_comment, literal, single, lexeme_at, lex_from, lex, shown_as, shown}
+use Rattle.ud_model.specs.text.Splicing.{is_spliced, content, newline_of, spliced_part}
+use Rattle.ud_model.specs.text.Scans.{Scan, Reading}
+use Rattle.ud_model.specs.text.Scanning.{scan_after_run, next_reading, readings_after}
+use Rattle.ud_model.specs.sections.Directives.{Directive, directive, content_of, kind_of, is_outside, is_continued_outside_comment}
+use Rattle.ud_model.specs.sections.DirectiveParts.{first_is, HasDirective}
+use Rattle.ud_model.specs.declared.kind.Kind.{Kind}
+use Rattle.ud_model.proofs.sections.SplitLines.{directive_is}
+use Rattle.ud_model.proofs.output.SimplifiedAgain.{unspliced}
+use Rattle.std.proofs.lemmas.Option.{none-some}
+use Rattle.std.proofs.lemmas.Slice.Eq.{bytes_eq-Decides}
+use Rattle.ud_model.specs.aids.Parsing.{tokens_of}
+use Rattle.ud_model.specs.output.InsertedLines.{in_mode, read_as}
+use Rattle.ud_model.specs.declared.kind.Mode.TheVariants.{C}
+use Rattle.ud_model.specs.output.FoldedTexts.{is_foldable, is_directive, is_shown_as, IsReadAs, has_no_quote, vertical_tab, continued, folded_body, folded_line, shown_break, shown_lines, is_blank, blank_follows, tabs_are_beside}
+use Rattle.ud_model.proofs.conditions.SpreadTexts.{white_word, begins_white, IsSpread, nothing, kept, behind, in_front, Spread, spread_tokens}
+use Rattle.ud_model.proofs.output.Each.{Each, each_parts, each_both}
+use Rattle.ud_model.proofs.output.LeftLines.{spliced_body}
+
+-- 1. A comment has a space before each of its bytes, but for its first one, a slash.
+
+-- `HaveSpaces before bytes masked`: so the bytes are masked. A space is before them if `before`.
+abbrev pub HaveSpaces : Bool → List ℕ → List ℕ → Type 0
+HaveSpaces before [] masked = Unit {0}
+HaveSpaces before (b ∷ bytes) [] = Unit {0}
+HaveSpaces before (b ∷ bytes) (m ∷ masked) = (b ≢ slash → m ≢ b → before ≡ true) × HaveSpaces (m == space) bytes masked
+
+comment_shown : (k : LexemeKind) (a b : ℕ) → shown_as k b ≢ b → (shown_as k a == space) ≡ true
+comment_shown block_comment a b n = refl
+comment_shown line_comment a b n = refl
+comment_shown literal a b n = absurd (n refl)
+comment_shown single a b n = absurd (n refl)
+
+begins_slash : (a : ℕ) (u : List ℕ) → a ≢ slash → shown_as (lexeme_at a u).kind a ≡ a
+unfolding lexeme_at
+begins_slash a u n = grind arith
+
+spaces_from : (k : LexemeKind) (n : ℕ) (before : Bool) (u : List ℕ) → (0 < n → (b : ℕ) → shown_as k b ≢ b → before ≡ true) → HaveSpaces before u (map shown (lex_from k n u))
+unfolding lex_from
+spaces_from k n before [] h = tt
+spaces_from k zero before (a ∷ u) h =
+    let piece = lexeme_at a u in
+    (λ s d. absurd (d (begins_slash a u s)), spaces_from piece.kind piece.more (shown_as piece.kind a == space) u (λ l b d. comment_shown piece.kind a b d))
+spaces_from k (suc n) before (a ∷ u) h =
+    (λ s d. h (omega arith) a d, spaces_from k n (shown_as k a == space) u (λ l b d. comment_shown k a b d))
+
+fewer : (n : ℕ) (before : Bool) (u ms : List ℕ) → HaveSpaces before u ms → HaveSpaces before u (take n ms)
+fewer n before [] ms h = tt
+fewer zero before (b ∷ u) ms h = tt
+fewer (suc n) before (b ∷ u) [] h = tt
+fewer (suc n) before (b ∷ u) (m ∷ ms) h = (h.0, fewer n (m == space) u ms h.1)
+
+front_bytes : (before : Bool) (u v ms : List ℕ) → HaveSpaces before (u ++ v) ms → HaveSpaces before u ms
+front_bytes before [] v ms h = tt
+front_bytes before (b ∷ u) v [] h = tt
+front_bytes before (b ∷ u) v (m ∷ ms) h = (h.0, front_bytes (m == space) u v ms h.1)
+
+-- A line by itself is masked so.
+alone_spaces : (k : Line) → HaveSpaces true (content k) (scan_after_run [] k).masked
+unfolding scan_after_run lex
+alone_spaces k =
+    front_bytes true (content k) (newline_of k) _ (subst (λ (ms : List ℕ). HaveSpaces true (spliced_part k) ms)
+    (take-map shown (length (content k)) (lex (spliced_part k))) (fewer (length (content k)) true (spliced_part k) _ (spaces_from single 0 true (spliced_part k) (λ l b d. refl))))
+
+-- 2. The masked lines with their breaks are the masked lines with white space inserted.
+
+-- A scan that has the size of its line.
+pub record IsMeasured (r : Reading) : Type 0 where
+  pub size : length r.scan.masked ≡ length (content r.line)
+  pub spliced : r.scan.spliced ≡ is_spliced r.line
+
+-- The bytes and the masked bytes go on so after a place. White space or the start is before it if
+-- `white`.
+record IsPlace (white : Bool) (bytes masked : List ℕ) : Type 0 where
+  pub before : Bool
+  pub spaces : HaveSpaces before bytes masked
+  pub space_white : before ≡ true → white ≡ true
+  pub blank : Bool
+  pub tabs : tabs_are_beside blank masked ≡ true
+  pub blank_white : blank ≡ true → white ≡ true
+
+abbrev all_masked : List Reading → List ℕ
+all_masked rs = flat_map (λ (r : Reading). r.scan.masked) rs
+
+-- The bytes of a break, which lies outside comments if `outside`, and behind a splice if `spliced`,
+-- and how they are masked.
+abbrev break_bytes : Bool → Bool → List ℕ
+break_bytes outside spliced = if outside then vertical_tab ∷ [] else if spliced then backslash ∷ vertical_tab ∷ [] else vertical_tab ∷ []
+
+abbrev break_shown : Bool → Bool → List ℕ
+break_shown outside spliced = if outside then vertical_tab ∷ [] else if spliced then space ∷ space ∷ [] else space ∷ []
+
+-- What follows the content of a line in the folded line, with such a break, and how it is masked.
+abbrev bytes_after : Bool → Bool → List Reading → List ℕ
+bytes_after outside spliced [] = []
+bytes_after outside spliced (r ∷ rs) = break_bytes outside spliced ++ folded_body (r ∷ rs)
+
+abbrev shown_after : Bool → Bool → List Reading → List ℕ
+shown_after outside spliced [] = []
+shown_after outside spliced (r ∷ rs) = break_shown outside spliced ++ shown_lines (r ∷ rs)
+
+abbrev bytes_behind : Reading → List Reading → List ℕ
+bytes_behind r rs = bytes_after (is_outside r.scan.comment) r.scan.spliced rs
+
+abbrev shown_behind : Reading → List Reading → List ℕ
+shown_behind r rs = shown_after (is_outside r.scan.comment) r.scan.spliced rs
+
+shown_parts : (r : Reading) (rs : List Reading) → shown_lines (r ∷ rs) ≡ r.scan.masked ++ shown_behind r rs
+shown_parts r [] = sym (append-nil r.scan.masked)
+shown_parts r (s ∷ rs) = append_assoc r.scan.masked (shown_break r.scan) (shown_lines (s ∷ rs))
+
+space_is_white : (b : ℕ) → (b == space) ≡ true → is_white b ≡ true
+space_is_white b e = ap (λ (w : Bool). w || (b == 9) || (b == 11) || (b == 12) || (b == 13)) e
+
+tab_is_white : (b : ℕ) → (b == vertical_tab) ≡ true → is_white b ≡ true
+tab_is_white b e = grind arith
+
+blank_is_white : (b : ℕ) → is_blank b ≡ true → is_white b ≡ true
+blank_is_white b e = (and_parts (is_white b) (not (b == vertical_tab)) e).0
+
+next_place : {white : Bool} {b m : ℕ} {bytes masked : List ℕ} → IsPlace white (b ∷ bytes) (m ∷ masked) → IsPlace (is_white m) bytes masked
+next_place {b = b} {m = m} {bytes = bytes} {masked = masked} p = by (m == vertical_tab) refl
+  where
+    by : (t : Bool) → (m == vertical_tab) ≡ t → IsPlace (is_white m) bytes masked
+    by true e = record {
+      before = m == space;
+      spaces = p.spaces.1;
+      space_white = space_is_white m;
+      blank = p.blank;
+      tabs = (and_parts (p.blank || blank_follows masked) (tabs_are_beside p.blank masked) (ap (λ (t : Bool). if t then (p.blank || blank_follows masked) && tabs_are_beside p.blank masked else tabs_are_beside (is_blank m) masked) (sym e) ∙ p.tabs)).1;
+      blank_white = λ h. tab_is_white m e;
+    }
+    by false e = record {
+      before = m == space;
+      spaces = p.spaces.1;
+      space_white = space_is_white m;
+      blank = is_blank m;
+      tabs = ap (λ (t : Bool). if t then (p.blank || blank_follows masked) && tabs_are_beside p.blank masked else tabs_are_beside (is_blank m) masked) (sym e) ∙ p.tabs;
+      blank_white = blank_is_white m;
+    }
+
+-- The place behind bytes and as many masked ones.
+place_behind : (p m : List ℕ) {white : Bool} {bytes masked : List ℕ} → length m ≡ length p → IsPlace white (p ++ bytes) (m ++ masked) → (now : Bool) × IsPlace now bytes masked
+place_behind [] [] {white = white} l i = (white, i)
+place_behind (b ∷ p) (c ∷ m) l i = place_behind p m (omega arith) (next_place i)
+place_behind [] (c ∷ m) l i = absurd (omega arith)
+place_behind (b ∷ p) [] l i = absurd (omega arith)
+
+-- Such bytes stay.
+kept_all : (p m : List ℕ) {white : Bool} {bytes masked t : List ℕ} → length m ≡ length p → IsPlace white (p ++ bytes) (m ++ masked) →
+    ((now : Bool) → IsPlace now bytes masked → IsSpread now masked t) → IsSpread white (m ++ masked) (m ++ t)
+kept_all [] [] {white = white} l i f = f white i
+kept_all (b ∷ p) (c ∷ m) l i f = kept c (kept_all p m (omega arith) (next_place i) f)
+kept_all [] (c ∷ m) l i f = absurd (omega arith)
+kept_all (b ∷ p) [] l i f = absurd (omega arith)
+
+-- What follows a line is empty or begins with white space, as it is masked.
+shown_white : (outside spliced : Bool) (rs : List Reading) → begins_white (shown_after outside spliced rs) ≡ true
+shown_white outside spliced [] = refl
+shown_white true spliced (r ∷ rs) = refl
+shown_white false true (r ∷ rs) = refl
+shown_white false false (r ∷ rs) = refl
+
+part_by : (l : Line) (outside spliced : Bool) → is_spliced l ≡ spliced → (if outside then content l else l.body) ++ vertical_tab ∷ [] ≡ content l ++ break_bytes outside spliced
+part_by l true spliced e = refl
+part_by l false true e = ap (λ (x : List ℕ). x ++ vertical_tab ∷ []) (spliced_body l e) ∙ append_assoc (content l) (backslash ∷ []) (vertical_tab ∷ [])
+part_by l false false e = ap (λ (b : Bool). (if b then take (length l.body - 1) l.body else l.body) ++ vertical_tab ∷ []) (sym e)
+
+body_parts : (before : Bool) (r : Reading) (rs : List Reading) (masked : List ℕ) → IsMeasured r → HaveSpaces before (folded_body (r ∷ rs)) masked →
+    HaveSpaces before (content r.line ++ bytes_behind r rs) masked
+body_parts before r [] masked i h =
+    let p = content-prefix r.line in
+    subst (λ (u : List ℕ). HaveSpaces before u masked) (sym (append-nil (content r.line))) (front_bytes before (content r.line) p.0 masked (subst (λ (u : List ℕ). HaveSpaces before u masked) p.1 h))
+body_parts before r (s ∷ rs) masked i h =
+    subst (λ (u : List ℕ). HaveSpaces before u masked)
+    (ap (λ (x : List ℕ). x ++ folded_body (s ∷ rs)) (part_by r.line (is_outside r.scan.comment) r.scan.spliced (sym i.spliced))
+    ∙ append_assoc (content r.line) (break_bytes (is_outside r.scan.comment) r.scan.spliced) (folded_body (s ∷ rs))) h
+
+-- So are the masked bytes of a line and of those after it.
+parts_spaces : (before : Bool) (r : Reading) (rs : List Reading) → IsMeasured r → HaveSpaces before (folded_body (r ∷ rs)) (shown_lines (r ∷ rs)) →
+    HaveSpaces before (content r.line ++ bytes_behind r rs) (r.scan.masked ++ shown_behind r rs)
+parts_spaces before r rs i h = subst (λ (ms : List ℕ). HaveSpaces before (content r.line ++ bytes_behind r rs) ms) (shown_parts r rs) (body_parts before r rs (shown_lines (r ∷ rs)) i h)
+
+parts_place : {white : Bool} (r : Reading) (rs : List Reading) → IsMeasured r → IsPlace white (folded_body (r ∷ rs)) (shown_lines (r ∷ rs)) →
+    IsPlace white (content r.line ++ bytes_behind r rs) (r.scan.masked ++ shown_behind r rs)
+parts_place r rs i p = record {
+  before = p.before;
+  spaces = parts_spaces p.before r rs i p.spaces;
+  space_white = p.space_white;
+  blank = p.blank;
+  tabs = ap (λ (ms : List ℕ). tabs_are_beside p.blank ms) (sym (shown_parts r rs)) ∙ p.tabs;
+  blank_white = p.blank_white;
+}
+
+-- A space is before a break that lies in a comment.
+space_before : (before spliced : Bool) (u masked : List ℕ) → HaveSpaces before (break_bytes false spliced ++ u) (break_shown false spliced ++ masked) → before ≡ true
+space_before before true u masked h = h.0 (λ q. omega arith) (λ q. omega arith)
+space_before before false u masked h = h.0 (λ q. omega arith) (λ q. omega arith)
+
+first_white : (b : ℕ) (masked : List ℕ) → blank_follows (b ∷ masked) ≡ true → is_white b ≡ true
+first_white b masked e = grind (arith, tab_is_white, blank_is_white)
+
+-- If white space follows the vertical tabs, the joined lines begin with white space.
+white_by : (p m : List ℕ) (outside spliced : Bool) (rs : List Reading) → Each IsMeasured rs → length m ≡ length p → HaveSpaces false (p ++ bytes_after outside spliced rs) (m ++ shown_after outside spliced rs) →
+    blank_follows (m ++ shown_after outside spliced rs) ≡ true → begins_white (m ++ all_masked rs) ≡ true
+white_by [] [] outside spliced [] i l h e = refl
+white_by [] [] true spliced (r ∷ rs) i l h e =
+    white_by (content r.line) r.scan.masked (is_outside r.scan.comment) r.scan.spliced rs i.1 i.0.size (parts_spaces false r rs i.0 h.1) (ap blank_follows (sym (shown_parts r rs)) ∙ e)
+white_by [] [] false spliced (r ∷ rs) i l h e = let n : false ≡ true = space_before false spliced (folded_body (r ∷ rs)) (shown_lines (r ∷ rs)) h in cc
+white_by (c ∷ p) (b ∷ m) outside spliced rs i l h e = first_white b (m ++ shown_after outside spliced rs) e
+white_by [] (b ∷ m) outside spliced rs i l h e = absurd (omega arith)
+white_by (c ∷ p) [] outside spliced rs i l h e = absurd (omega arith)
+
+lines_white : (r : Reading) (rs : List Reading) → Each IsMeasured (r ∷ rs) → HaveSpaces false (folded_body (r ∷ rs)) (shown_lines (r ∷ rs)) → blank_follows (shown_lines (r ∷ rs)) ≡ true → begins_white (all_masked (r ∷ rs)) ≡ true
+lines_white r rs i h e =
+    white_by (content r.line) r.scan.masked (is_outside r.scan.comment) r.scan.spliced rs i.1 i.0.size (parts_spaces false r rs i.0 h) (ap blank_follows (sym (shown_parts r rs)) ∙ e)
+
+break_by : {white : Bool} (outside spliced : Bool) (r : Reading) (rs : List Reading) → Each IsMeasured (r ∷ rs) →
+    IsPlace white (bytes_after outside spliced (r ∷ rs)) (shown_after outside spliced (r ∷ rs)) →
+    (IsPlace true (folded_body (r ∷ rs)) (shown_lines (r ∷ rs)) → IsSpread true (shown_lines (r ∷ rs)) (all_masked (r ∷ rs))) →
+    IsSpread white (shown_after outside spliced (r ∷ rs)) (all_masked (r ∷ rs))
+break_by {white = white} true spliced r rs i p f = by (or_cases p.blank (blank_follows (shown_lines (r ∷ rs))) (and_parts (p.blank || blank_follows (shown_lines (r ∷ rs))) (tabs_are_beside p.blank (shown_lines (r ∷ rs))) p.tabs).0)
+  where
+    by : (p.blank ≡ true) ⊎ (blank_follows (shown_lines (r ∷ rs)) ≡ true) → IsSpread white (vertical_tab ∷ shown_lines (r ∷ rs)) (all_masked (r ∷ rs))
+    by (inl b) = subst (λ (w : Bool). IsSpread w (vertical_tab ∷ shown_lines (r ∷ rs)) (all_masked (r ∷ rs))) (sym (p.blank_white b)) (behind vertical_tab refl (f (next_place p)))
+    by (inr b) = in_front vertical_tab refl (lines_white r rs i p.spaces.1 b) (f (next_place p))
+break_by {white = white} false spliced r rs i p f =
+    subst (λ (w : Bool). IsSpread w (shown_after false spliced (r ∷ rs)) (all_masked (r ∷ rs))) (sym (p.space_white (space_before p.before spliced (folded_body (r ∷ rs)) (shown_lines (r ∷ rs)) p.spaces))) (by spliced p)
+  where
+    by : (spliced : Bool) → IsPlace white (bytes_after false spliced (r ∷ rs)) (shown_after false spliced (r ∷ rs)) → IsSpread true (shown_after false spliced (r ∷ rs)) (all_masked (r ∷ rs))
+    by true q = behind space refl (behind space refl (f (next_place (next_place q))))
+    by false q = behind space refl (f (next_place q))
+
+spread_by : {white : Bool} (p m : List ℕ) (outside spliced : Bool) (rs : List Reading) → Each IsMeasured rs → length m ≡ length p → IsPlace white (p ++ bytes_after outside spliced rs) (m ++ shown_after outside spliced rs) →
+    IsSpread white (m ++ shown_after outside spliced rs) (m ++ all_masked rs)
+spread_by p m outside spliced [] i l q = kept_all p m l q (λ now j. nothing)
+spread_by p m outside spliced (r ∷ rs) i l q =
+    kept_all p m l q (λ now j. break_by outside spliced r rs i j (λ k.
+    subst (λ (ms : List ℕ). IsSpread true ms (all_masked (r ∷ rs))) (sym (shown_parts r rs)) (spread_by (content r.line) r.scan.masked (is_outside r.scan.comment) r.scan.spliced rs i.1 i.0.size (parts_place r rs i.0 k))))
+
+-- 3. The directive of the folded line.
+
+alone_fresh : (k : Line) → (scan_after_run [] k).fresh ≡ true
+unfolding scan_after_run
+alone_fresh k = refl
+
+-- A line with this scan joins no other, and is masked as these bytes.
+pub record IsShown (scan : Scan) (bytes : List ℕ) : Type 0 where
+  pub ends : scan.joins_after ≡ false
+  pub masked : scan.masked ≡ bytes
+  pub tabs : tabs_are_beside true bytes ≡ true
+
+shown_so : (scan : Scan) (bytes : List ℕ) → is_shown_as scan bytes ≡ true → IsShown scan bytes
+shown_so scan bytes e =
+    let tabs = and_parts (is_directive (content_of scan) && not scan.joins_after && bytes_eq scan.masked bytes && has_no_quote bytes) (tabs_are_beside true bytes) e in
+    let quotes = and_parts (is_directive (content_of scan) && not scan.joins_after && bytes_eq scan.masked bytes) (has_no_quote bytes) tabs.0 in
+    let masked = and_parts (is_directive (content_of scan) && not scan.joins_after) (bytes_eq scan.masked bytes) quotes.0 in
+    let ends : not scan.joins_after ≡ true = (and_parts (is_directive (content_of scan)) (not scan.joins_after) masked.0).1 in
+    record { ends = grind arith; masked = (bytes_eq-Decides scan.masked bytes).0 masked.1; tabs = tabs.1 }
+
+pub folded_shown : (rs : List Reading) → is_foldable rs ≡ true → IsShown (scan_after_run [] (folded_line rs)) (shown_lines rs)
+folded_shown rs e = shown_so (scan_after_run [] (folded_line rs)) (shown_lines rs) (and_parts _ (is_shown_as (scan_after_run [] (folded_line rs)) (shown_lines rs)) e).1
+
+whole_body : (k : Line) (bytes : List ℕ) → IsShown (scan_after_run [] k) bytes → content k ≡ k.body
+whole_body k bytes s = ap (λ (b : Bool). if b then take (length k.body - 1) k.body else k.body) (unspliced k s.ends)
+
+folded_place : (r : Reading) (rs : List Reading) → IsMeasured r → IsShown (scan_after_run [] (folded_line (r ∷ rs))) (shown_lines (r ∷ rs)) → IsPlace true (content r.line ++ bytes_behind r rs) (r.scan.masked ++ shown_behind r rs)
+folded_place r rs i s = parts_place r rs i (record {
+  before = true;
+  spaces = subst (λ (u : List ℕ). HaveSpaces true u (shown_lines (r ∷ rs))) (whole_body (folded_line (r ∷ rs)) (shown_lines (r ∷ rs)) s)
+      (subst (λ (ms : List ℕ). HaveSpaces true (content (folded_line (r ∷ rs))) ms) s.masked (alone_spaces (folded_line (r ∷ rs))));
+  space_white = λ e. refl;
+  blank = true;
+  tabs = s.tabs;
+  blank_white = λ e. refl;
+})
+
+word_stays : (rest more : List ℕ) → first_is is_word_byte rest ≡ false → begins_white more ≡ true → first_is is_word_byte (rest ++ more) ≡ false
+word_stays [] [] e w = refl
+word_stays [] (b ∷ more) e w = white_word b w
+word_stays (b ∷ rest) more e w = e
+
+gap_stays : (word rest more : List ℕ) (k : Kind) → kind_of word ≡ Some k → first_is is_white (word ++ rest) ≡ false → first_is is_white (word ++ (rest ++ more)) ≡ false
+gap_stays [] rest more k q e = absurd (none-some k q)
+gap_stays (b ∷ word) rest more k q e = e
+
+module _ (r : Reading) (rs : List Reading) (d : Directive) (i : Each IsMeasured (r ∷ rs)) (s : IsShown (scan_after_run [] (folded_line (r ∷ rs))) (shown_lines (r ∷ rs))) (h : HasDirective r.scan d) where
+  abbrev rest : List ℕ
+  rest = h.parts.rest
+
+  abbrev front : List ℕ
+  front = h.parts.white ++ number_sign ∷ (h.parts.gap ++ h.parts.word)
+
+  abbrev now : Scan
+  now = scan_after_run [] (folded_line (r ∷ rs))
+
+  abbrev longer : Directive
+  longer = record { kind = d.kind; keyword = d.keyword; after = rest ++ shown_behind r rs; broken = is_continued_outside_comment now }
+
+  has_longer : HasDirective now longer
+  has_longer = record {
+    parts = record { white = h.parts.white; gap = h.parts.gap; word = h.parts.word; rest = rest ++ shown_behind r rs };
+    are = record {
+      joined = s.masked ∙ shown_parts r rs ∙ ap (λ (m : List ℕ). m ++ shown_behind r rs) h.are.joined ∙ simp append_assoc;
+      white = h.are.white;
+      gap = h.are.gap;
+      word = h.are.word;
+      gap_ends = gap_stays h.parts.word rest (shown_behind r rs) d.kind h.kind h.are.gap_ends;
+      word_ends = word_stays rest (shown_behind r rs) h.are.word_ends (shown_white (is_outside r.scan.comment) r.scan.spliced rs);
+    };
+    fresh = alone_fresh (folded_line (r ∷ rs));
+    whole = λ k. let q : true ≡ false = sym k.joins ∙ s.ends in cc;
+    kind = h.kind;
+    at = h.at;
+    len = h.len;
+    after = refl;
+    broken = refl;
+  }
+
+  masked_so : r.scan.masked ≡ front ++ rest
+  masked_so = h.are.joined ∙ simp append_assoc
+
+  size : length front + length rest ≡ length (content r.line)
+  size = sym (length-append front rest) ∙ ap (λ (m : List ℕ). length m) (sym masked_so) ∙ i.0.size
+
+  cut_size : length front ≡ length (take (length front) (content r.line))
+  cut_size = sym (length-take-le (length front) (content r.line) (omega (arith, size)))
+
+  cut_place : IsPlace true (take (length front) (content r.line) ++ (drop (length front) (content r.line) ++ bytes_behind r rs)) (front ++ (rest ++ shown_behind r rs))
+  cut_place =
+      subst (λ (ms : List ℕ). IsPlace true (take (length front) (content r.line) ++ (drop (length front) (content r.line) ++ bytes_behind r rs)) ms)
+      (ap (λ (m : List ℕ). m ++ shown_behind r rs) masked_so ∙ append_assoc front rest (shown_behind r rs))
+      (subst (λ (u : List ℕ). IsPlace true u (r.scan.masked ++ shown_behind r rs))
+      (ap (λ (u : List ℕ). u ++ bytes_behind r rs) (sym (take-append-drop (length front) (content r.line))) ∙ append_assoc (take (length front) (content r.line)) (drop (length front) (content r.line)) (bytes_behind r rs))
+      (folded_place r rs i.0 s))
+
+  rest_place : (white : Bool) × IsPlace white (drop (length front) (content r.line) ++ bytes_behind r rs) (rest ++ shown_behind r rs)
+  rest_place = place_behind (take (length front) (content r.line)) front cut_size cut_place
+
+  rest_size : length rest ≡ length (drop (length front) (content r.line))
+  rest_size = rw length-drop (omega (arith, size))
+
+  spread : Spread (rest ++ shown_behind r rs) (rest ++ all_masked rs)
+  spread = (rest_place.0, spread_by (drop (length front) (content r.line)) rest (is_outside r.scan.comment) r.scan.spliced rs i.1 rest_size rest_place.1)
+
+  folded_has : (e : Directive) × (content_of now ≡ directive e) × IsReadAs e d rs
+  folded_has = (longer, (directive_is now longer).1 has_longer, record { kind = refl; keyword = refl; tokens = spread_tokens (rest ++ shown_behind r rs) (rest ++ all_masked rs) spread ∙ ap (λ (u : List ℕ). tokens_of (u ++ all_masked rs)) (sym h.after) })
+
+-- 4. The lines of a text.
+
+next_measured : (before : List Reading) (l : Line) → IsMeasured (next_reading before C l)
+unfolding scan_after_run
+next_measured before l = record { size = length-masked before l; spliced = refl }
+
+measured : (before : List Reading) (ls : List Line) → Each IsMeasured before → Each IsMeasured (readings_after before (map (in_mode C) ls))
+measured before [] i = i
+measured before (l ∷ ls) i = measured (before ++ next_reading before C l ∷ []) ls (each_both IsMeasured before (next_reading before C l ∷ []) i (next_measured before l, tt))
+
+each_continued : (rs : List Reading) → Each IsMeasured rs → Each IsMeasured (continued rs)
+each_continued [] i = tt
+each_continued (r ∷ rs) i = by r.scan.joins_before (each_continued rs i.1)
+  where
+    by : (b : Bool) → Each IsMeasured (continued rs) → Each IsMeasured (if b then r ∷ continued rs else [])
+    by true j = (i.0, j)
+    by false j = tt
+
+-- The folded line has the directive of its lines.
+pub folded_read : (bytes : List ℕ) (before after : List Reading) (r : Reading) (d : Directive) → read_as C bytes ≡ before ++ r ∷ after → content_of r.scan ≡ directive d →
+    is_foldable (r ∷ continued after) ≡ true → (e : Directive) × (content_of (scan_after_run [] (folded_line (r ∷ continued after))) ≡ directive e) × IsReadAs e d (continued after)
+folded_read bytes before after r d q e f =
+    let i : Each IsMeasured (r ∷ after) = (each_parts IsMeasured before (r ∷ after) (subst (λ (rs : List Reading). Each IsMeasured rs) q (measured [] (lines_of bytes) tt))).1 in
+    folded_has r (continued after) d (i.0, each_continued after i.1) (folded_shown (r ∷ continued after) f) ((directive_is r.scan d).0 e)
