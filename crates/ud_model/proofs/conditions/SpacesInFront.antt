@@ -1,38 +1,21 @@
 -- Leading white space of a condition means nothing.
-use Rattle.std.proofs.Common.{◌≡◌, ℕ, List, [], ◌∷◌, Option, Some, None, Bool, true, if◌then◌else◌, refl, sym, ◌∙◌, ap, arith}
+use Rattle.std.proofs.Common.{◌≡◌, ℕ, List, [], ◌∷◌, Option, Bool, true, if◌then◌else◌, ap, arith}
 use Rattle.ud_model.specs.text.Bytes.{is_white, skip_white}
 use Rattle.ud_model.specs.conditions.Table.{Argument}
 use Rattle.ud_model.specs.conditions.Expressions.{Expression}
-use Rattle.ud_model.specs.conditions.Tokens.{Token, next_token, leading_token, AreTokens}
+use Rattle.ud_model.specs.conditions.Tokens.{Token}
 use Rattle.ud_model.specs.aids.Parsing.{tokens_of, reads, parse_all_tokens, itself, needs, expression_of}
 use Rattle.ud_model.specs.conditions.Conditions.{Rules, expression_cond, tree_cond_if, decision_by_test}
 use Rattle.ud_model.specs.output.CSelection.{condition_by_test}
 use Rattle.ud_model.specs.declared.kind.Test.{Test}
-use Rattle.ud_model.proofs.conditions.TokenLemmas.{tokens_of_only, tokens_of_are}
+use Rattle.ud_model.proofs.conditions.SpreadTexts.{behind, unspread, spread_tokens}
 
 past_one : (b : ℕ) (t : List ℕ) → is_white b ≡ true → skip_white (b ∷ t) ≡ skip_white t
 past_one b t e = ap (λ (w : Bool). if w then skip_white t else b ∷ t) e
 
-token_past : (b : ℕ) (t : List ℕ) → is_white b ≡ true → next_token (b ∷ t) ≡ next_token t
-unfolding next_token
-token_past b t e = ap leading_token (past_one b t e)
-
-tokens_past : (b : ℕ) (t : List ℕ) (ts : List Token) → is_white b ≡ true → AreTokens (b ∷ t) ts → AreTokens t ts
-tokens_past b t [] e h = sym (token_past b t e) ∙ h
-tokens_past b t (k ∷ ts) e h = (h.0, sym (token_past b t e) ∙ h.1, h.2)
-
-tokens_before : (b : ℕ) (t : List ℕ) (ts : List Token) → is_white b ≡ true → AreTokens t ts → AreTokens (b ∷ t) ts
-tokens_before b t [] e h = token_past b t e ∙ h
-tokens_before b t (k ∷ ts) e h = (h.0, token_past b t e ∙ h.1, h.2)
-
 -- The tokens of a text are those with leading white space.
 tokens_same : (b : ℕ) (t : List ℕ) → is_white b ≡ true → tokens_of (b ∷ t) ≡ tokens_of t
-tokens_same b t e = go (tokens_of (b ∷ t)) (tokens_of t) refl refl
-  where
-    go : (p q : Option (List Token)) → tokens_of (b ∷ t) ≡ p → tokens_of t ≡ q → p ≡ q
-    go None None c d = refl
-    go (Some ts) q c d = sym (tokens_of_only t ts (tokens_past b t ts e (tokens_of_are (b ∷ t) ts c))) ∙ d
-    go None (Some ts) c d = sym c ∙ tokens_of_only (b ∷ t) ts (tokens_before b t ts e (tokens_of_are t ts d))
+tokens_same b t e = spread_tokens (b ∷ t) t (true, behind b e (unspread true t))
 
 -- The expression of a text is the one with leading white space.
 expression_past : (b : ℕ) (t : List ℕ) → is_white b ≡ true → expression_of (b ∷ t) ≡ expression_of t

@@ -22,7 +22,12 @@ pub data IsSpread : Bool → List ℕ → List ℕ → Type 0 where
   behind : {u t : List ℕ} (b : ℕ) → is_white b ≡ true → IsSpread true u t → IsSpread true (b ∷ u) t
   in_front : {white : Bool} {u t : List ℕ} (b : ℕ) → is_white b ≡ true → begins_white t ≡ true → IsSpread true u t → IsSpread white (b ∷ u) t
 
--- Whether white space is before both doesn't count.
+-- Each text is itself, with nothing inserted.
+pub unspread : (white : Bool) (t : List ℕ) → IsSpread white t t
+unspread white [] = nothing
+unspread white (b ∷ t) = kept b (unspread (is_white b) t)
+
+-- Texts that are spread so, whatever is before them.
 abbrev pub Spread : List ℕ → List ℕ → Type 0
 Spread u t = (white : Bool) × IsSpread white u t
 

@@ -98,7 +98,8 @@ break_bytes outside spliced = if outside then vertical_tab ∷ [] else if splice
 abbrev break_shown : Bool → Bool → List ℕ
 break_shown outside spliced = if outside then vertical_tab ∷ [] else if spliced then space ∷ space ∷ [] else space ∷ []
 
--- What follows the content of a line in the folded line, with such a break, and how it is masked.
+-- The bytes after the content of a line in the folded line, with such a break, and how they are
+-- masked.
 abbrev bytes_after : Bool → Bool → List Reading → List ℕ
 bytes_after outside spliced [] = []
 bytes_after outside spliced (r ∷ rs) = break_bytes outside spliced ++ folded_body (r ∷ rs)
@@ -162,7 +163,7 @@ kept_all (b ∷ p) (c ∷ m) l i f = kept c (kept_all p m (omega arith) (next_pl
 kept_all [] (c ∷ m) l i f = absurd (omega arith)
 kept_all (b ∷ p) [] l i f = absurd (omega arith)
 
--- What follows a line is empty or begins with white space, as it is masked.
+-- The masked bytes after a line are empty or begin with white space.
 shown_white : (outside spliced : Bool) (rs : List Reading) → begins_white (shown_after outside spliced rs) ≡ true
 shown_white outside spliced [] = refl
 shown_white true spliced (r ∷ rs) = refl
