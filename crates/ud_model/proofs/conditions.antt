@@ -26,4 +26,3 @@ pub mod ResidualSame
 pub mod ReducedTrees
 pub mod StayedChoices
 pub mod OneValue
-pub mod SplicedPieces

@@ -88,10 +88,6 @@ pub mod OperandsLeft
 pub mod SimplifiedAnswers
 pub mod ChosenWorlds
 pub mod SimplifiedRuns
-pub mod JoinedPieces
-pub mod LogicalPieces
-pub mod LogicalTexts
-pub mod SimplifiedLogical
 pub mod PartTrees
 pub mod PartReads
 pub mod PartOutcomes

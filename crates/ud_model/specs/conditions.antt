@@ -11,5 +11,4 @@ pub mod CValues
 pub mod Residuals
 pub mod Sublists
 pub mod ResidualTexts
-pub mod SplicedTexts
 pub mod Choices

@@ -15,7 +15,6 @@ pub mod PresumedLines
 pub mod SimplifiedTrees
 pub mod SimplifiedTexts
 pub mod LeftOperands
-pub mod SeveralLines
 pub mod Processing
 pub mod ProcessedFiles
 pub mod FoldedTexts

@@ -14,9 +14,6 @@ ghost use Rattle.ud_model.specs.conditions.Conditions.{Rules, tree_cond};
 ghost use Rattle.ud_model.specs.conditions.CValues.{Number, IsZero};
 ghost use Rattle.ud_model.specs.conditions.Residuals.{residual, simplified, operands, AreUndecided};
 ghost use Rattle.ud_model.specs.conditions.ResidualTexts.{chosen, keeps, simplified_cells};
-ghost use Rattle.ud_model.specs.conditions.ResidualTexts.{left_cells};
-ghost use Rattle.ud_model.specs.conditions.SplicedTexts.{Piece, cells_among, bytes_among};
-ghost use Rattle.ud_model.specs.conditions.SplicedTexts.{left_pieces};
 ghost use Rattle.ud_model.specs.conditions.Sublists.{IsSublist};
 ghost use Rattle.ud_model.specs.conditions.Choices.{Choice, IsAllowed, HasValue, stay};
 ghost use Rattle.ud_model.specs.sections.Directives.{Directive, directive, content_of, test_of};
@@ -30,7 +27,6 @@ ghost use Rattle.ud_model.specs.output.InsertedLines.{read_as};
 ghost use Rattle.ud_model.specs.output.SimplifiedTrees.{NodesSimplified, IsChosenWorld};
 ghost use Rattle.ud_model.specs.output.SimplifiedTexts.{simplified_line, simplified_text};
 ghost use Rattle.ud_model.specs.output.LeftOperands.{IsReduced, MayStay};
-ghost use Rattle.ud_model.specs.output.SeveralLines.{joined_text, simplified_over_lines};
 ghost use Rattle.ud_model.specs.output.FoldedTexts.{folded_text, folded_line, is_foldable};
 ghost use Rattle.ud_model.specs.output.FoldedTexts.{continued, shown_lines, IsReadAs};
 ghost use Rattle.ud_model.specs.answer.CommandLine.{options_of};
@@ -94,18 +90,6 @@ pub fn law_residual_text()
         simplified_cells table rules cells }
 {}
 
-/// A text with splices keeps the cells that it keeps without them.
-///
-/// Pieces are only removed, and none moves (C11 5.1.1.2, phase 2).
-pub fn law_spliced_text()
-    ensures cells { (flags : List Bool) (pieces : List Piece) →
-        cells_among (left_pieces flags pieces) ≡ left_cells flags (cells_among pieces) }
-    ensures pieces { (flags : List Bool) (pieces : List Piece) →
-        IsSublist (left_pieces flags pieces) pieces }
-    ensures bytes { (flags : List Bool) (pieces : List Piece) →
-        IsSublist (bytes_among (left_pieces flags pieces)) (bytes_among pieces) }
-{}
-
 /// C selects the same lines of a tree and of the tree with simplified conditions.
 ///
 /// Each use of an open name may have any number. By these numbers, each condition that C evaluates
@@ -166,27 +150,6 @@ pub fn law_simplified_tree()
     ensures tree { (o : Options) (bytes : List ℕ) (ns : Nodes Reading) → NoneIgnores o.table →
         o.settings.plain ≡ false → IsTreeOf o bytes (closed ns) → (us : Nodes Reading) ×
         IsTreeOf o (simplified_text o.table (rules_of o.settings) bytes) (closed us) ×
-        ((w v : World Reading) → map v (openers us) ≡ map w (openers ns) →
-        NodesSimplified o.table (rules_of o.settings) w v ns us) }
-{}
-
-/// Without its splices, a text that is simplified over lines is the simplified text.
-///
-/// C deletes splices before it reads directives (C11 5.1.1.2, phase 2). It then reads the text with
-/// simplified openers. Bytes are only removed, and a second time nothing is (C11 6.10.1).
-pub fn law_simplified_over_lines()
-    ensures joined { (table : List Argument) (rules : Rules) (bytes : List ℕ) →
-        joined_text (simplified_over_lines table rules bytes) ≡
-        simplified_text table rules (joined_text bytes) }
-    ensures bytes { (table : List Argument) (rules : Rules) (bytes : List ℕ) →
-        IsSublist (simplified_over_lines table rules bytes) bytes }
-    ensures again { (table : List Argument) (rules : Rules) (bytes : List ℕ) →
-        simplified_over_lines table rules (simplified_over_lines table rules bytes) ≡
-        simplified_over_lines table rules bytes }
-    ensures tree { (o : Options) (bytes : List ℕ) (ns : Nodes Reading) → NoneIgnores o.table →
-        o.settings.plain ≡ false → IsTreeOf o (joined_text bytes) (closed ns) →
-        (us : Nodes Reading) × IsTreeOf o (joined_text
-        (simplified_over_lines o.table (rules_of o.settings) bytes)) (closed us) ×
         ((w v : World Reading) → map v (openers us) ≡ map w (openers ns) →
         NodesSimplified o.table (rules_of o.settings) w v ns us) }
 {}

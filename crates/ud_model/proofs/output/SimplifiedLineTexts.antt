@@ -1,7 +1,7 @@
 -- The lines of a simplified text are the simplified lines.
-use Rattle.std.proofs.Common.{◌≡◌, ℕ, suc, ◌-◌, List, [], ◌∷◌, ◌++◌, length, map, take, Bool, refl, sym, ◌∙◌, ap, ap₂, subst, ◌⊎◌, inl, inr, if◌then◌else◌, nat_eq, arith}
+use Rattle.std.proofs.Common.{◌≡◌, ℕ, suc, ◌-◌, List, [], ◌∷◌, ◌++◌, length, map, take, Bool, refl, sym, ◌∙◌, ap, ap₂, subst, ◌⊎◌, inl, inr, if◌then◌else◌, nat_eq, length-append, arith}
 use Rattle.std.specs.List.{ends_with}
-use Rattle.std.proofs.lemmas.List.{map-append, drop-map}
+use Rattle.std.proofs.lemmas.List.{map-append, drop-map, take_at}
 use Rattle.ud_model.specs.text.Lines.{Line, NoNewline, IsWhole, IsUnterminated, AreFormed, text_of, ending_of, line_at, numbered_from, lines_of, texts_of}
 use Rattle.ud_model.specs.text.Scans.{Scan, Reading}
 use Rattle.ud_model.specs.text.Splicing.{content}
@@ -21,8 +21,10 @@ use Rattle.ud_model.proofs.output.InsertedText.{read_more}
 use Rattle.ud_model.proofs.output.Formed.{IsEnd, whole_ending, ended, whole_body, no_feed_parts, no_feed_cut}
 use Rattle.ud_model.proofs.output.OutputPieces.{output_lines}
 use Rattle.ud_model.proofs.output.SimplifiedLines.{byte_of, Becomes, it_stays, it_changes, becomes}
-use Rattle.ud_model.proofs.output.JoinedPieces.{cut_there}
 use Rattle.ud_model.proofs.conditions.ResidualRead.{cells_go}
+
+cut_there : (b e : List ℕ) → take (length (b ++ e) - length e) (b ++ e) ≡ b
+cut_there b e = take_at b e (length (b ++ e) - length e) (omega (arith, length-append b e))
 
 -- Cells that are left have no newline.
 fewer : {xs ys : List Cell} → IsSublist xs ys → NoNewline (map byte_of ys) → NoNewline (map byte_of xs)
