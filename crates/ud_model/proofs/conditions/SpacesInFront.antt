@@ -1,6 +1,6 @@
 -- Leading white space of a condition means nothing.
-use Rattle.std.proofs.Common.{◌≡◌, ℕ, List, [], ◌∷◌, Option, Bool, true, if◌then◌else◌, ap, arith}
-use Rattle.ud_model.specs.text.Bytes.{is_white, skip_white}
+use Rattle.std.proofs.Common.{◌≡◌, ℕ, List, [], ◌∷◌, Option, true, ap, arith}
+use Rattle.ud_model.specs.text.Bytes.{is_white}
 use Rattle.ud_model.specs.conditions.Table.{Argument}
 use Rattle.ud_model.specs.conditions.Expressions.{Expression}
 use Rattle.ud_model.specs.conditions.Tokens.{Token}
@@ -9,9 +9,6 @@ use Rattle.ud_model.specs.conditions.Conditions.{Rules, expression_cond, tree_co
 use Rattle.ud_model.specs.output.CSelection.{condition_by_test}
 use Rattle.ud_model.specs.declared.kind.Test.{Test}
 use Rattle.ud_model.proofs.conditions.SpreadTexts.{behind, unspread, spread_tokens}
-
-past_one : (b : ℕ) (t : List ℕ) → is_white b ≡ true → skip_white (b ∷ t) ≡ skip_white t
-past_one b t e = ap (λ (w : Bool). if w then skip_white t else b ∷ t) e
 
 -- The tokens of a text are those with leading white space.
 tokens_same : (b : ℕ) (t : List ℕ) → is_white b ≡ true → tokens_of (b ∷ t) ≡ tokens_of t

@@ -7,7 +7,6 @@ use Rattle.std.proofs.lemmas.Bool.Decides.{Decides-eqb}
 use Rattle.std.proofs.lemmas.Slice.Eq.{ends_is}
 use Rattle.std.proofs.lemmas.List.{take-append-drop, take_at, same_from_push}
 use Rattle.ud_model.specs.text.Lines.{NoNewline, IsWhole, IsUnterminated, AreFormed, ending_of, Line, line_at}
-use Rattle.ud_model.specs.text.Splicing.{is_empty}
 use Rattle.ud_model.specs.sections.Directives.{Span}
 use Rattle.ud_model.specs.answer.Printing.{opener_keyword, piece_by}
 use Rattle.ud_model.specs.declared.verdict.Verdict.{Verdict}
@@ -26,9 +25,6 @@ no_feed_cut n t h = no_feed_parts (take n t) (drop n t) (subst NoNewline (sym (t
 -- The ending of a whole line.
 abbrev pub IsEnd : List ℕ → Type 0
 IsEnd e = (e ≡ 13 ∷ 10 ∷ []) ⊎ (e ≡ 10 ∷ [])
-
-pub end_some : (e : List ℕ) → IsEnd e → is_empty e ≡ false
-end_some e h = grind arith
 
 pub end_is_some : (e : List ℕ) → IsEnd e → e ≢ []
 end_is_some e h = grind arith
