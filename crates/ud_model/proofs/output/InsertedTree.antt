@@ -84,63 +84,6 @@ strewn_counted o (starts_anew {rs = rs} {ss = ss} c j d q r s k) =
 
 -- 2. Nodes.
 
--- The first items, one item, and the others.
-record SplitAt (A : List (Item Reading)) (y : Item Reading) (B zs : List (Item Reading)) : Type 0 where
-  pub before : List (Item Reading)
-  pub here : Item Reading
-  pub later : List (Item Reading)
-  pub are : zs ≡ before ++ here ∷ later
-  pub first_part : Strewn A before
-  pub alike : ItemAlike y here
-  pub second_part : Strewn B later
-
-split_more : (A : List (Item Reading)) (y : Item Reading) (B zs : List (Item Reading)) (d : Reading) → IsInserted d → SplitAt A y B zs → SplitAt A y B (text_line d ∷ zs)
-split_more A y B zs d k s = record {
-  before = text_line d ∷ s.before;
-  here = s.here;
-  later = s.later;
-  are = ap (λ (ws : List (Item Reading)). text_line d ∷ ws) s.are;
-  first_part = put k s.first_part;
-  alike = s.alike;
-  second_part = s.second_part;
-}
-
-split_same : (a z : Item Reading) (A : List (Item Reading)) (y : Item Reading) (B zs : List (Item Reading)) → ItemAlike a z → SplitAt A y B zs → SplitAt (a ∷ A) y B (z ∷ zs)
-split_same a z A y B zs k s = record {
-  before = z ∷ s.before;
-  here = s.here;
-  later = s.later;
-  are = ap (λ (ws : List (Item Reading)). z ∷ ws) s.are;
-  first_part = same k s.first_part;
-  alike = s.alike;
-  second_part = s.second_part;
-}
-
-split_by : (A : List (Item Reading)) (y : Item Reading) (B ws zs : List (Item Reading)) → ws ≡ A ++ y ∷ B → Strewn ws zs → SplitAt A y B zs
-split_by [] y B _ _ e none = cc
-split_by (a ∷ A) y B _ _ e none = cc
-split_by [] y B _ _ e (same {y = x} {z = z} {ys = ys} {zs = zs} k s) =
-    let p : x ≡ y = cc in
-    let q : ys ≡ B = cc in
-    record {
-      before = [];
-      here = z;
-      later = zs;
-      are = refl;
-      first_part = none;
-      alike = subst (λ (v : Item Reading). ItemAlike v z) p k;
-      second_part = subst (λ (vs : List (Item Reading)). Strewn vs zs) q s;
-    }
-split_by (a ∷ A) y B _ _ e (same {y = x} {z = z} {ys = ys} {zs = zs} k s) =
-    let p : x ≡ a = cc in
-    let q : ys ≡ A ++ y ∷ B = cc in
-    split_same a z A y B zs (subst (λ (v : Item Reading). ItemAlike v z) p k) (split_by A y B ys zs q s)
-split_by [] y B _ _ e (put {d = d} {ys = ys} {zs = zs} k s) = split_more [] y B zs d k (split_by [] y B ys zs e s)
-split_by (a ∷ A) y B _ _ e (put {d = d} {ys = ys} {zs = zs} k s) = split_more (a ∷ A) y B zs d k (split_by (a ∷ A) y B ys zs e s)
-
-split_at : (A : List (Item Reading)) (y : Item Reading) (B zs : List (Item Reading)) → Strewn (A ++ y ∷ B) zs → SplitAt A y B zs
-split_at A y B zs s = split_by A y B (A ++ y ∷ B) zs refl s
-
 -- The items of both parts.
 record SplitBoth (A B zs : List (Item Reading)) : Type 0 where
   pub before : List (Item Reading)
@@ -175,6 +118,29 @@ both_by (a ∷ A) B _ _ e (put {d = d} {ys = ys} {zs = zs} k s) =
 
 split_both : (A B zs : List (Item Reading)) → Strewn (A ++ B) zs → SplitBoth A B zs
 split_both A B zs s = both_by A B (A ++ B) zs refl s
+
+-- The first items, one item, and the others.
+record SplitAt (A : List (Item Reading)) (y : Item Reading) (B zs : List (Item Reading)) : Type 0 where
+  pub before : List (Item Reading)
+  pub here : Item Reading
+  pub later : List (Item Reading)
+  pub are : zs ≡ before ++ here ∷ later
+  pub first_part : Strewn A before
+  pub alike : ItemAlike y here
+  pub second_part : Strewn B later
+
+-- Text lines that are inserted before the one item belong to the first items.
+split_first : (A : List (Item Reading)) (y : Item Reading) (B before zs : List (Item Reading)) → Strewn A before → Strewn (y ∷ B) zs → SplitAt A y B (before ++ zs)
+split_first A y B before _ a (same {z = z} {zs = zs} k s) = record { before = before; here = z; later = zs; are = refl; first_part = a; alike = k; second_part = s }
+split_first A y B before _ a (put {d = d} {zs = zs} k s) =
+    let more : Strewn A (before ++ text_line d ∷ []) =
+    subst (λ (ys : List (Item Reading)). Strewn ys (before ++ text_line d ∷ [])) (append-nil A) (strewn_both a (put k none)) in
+    subst (SplitAt A y B) (append_assoc before (text_line d ∷ []) zs) (split_first A y B (before ++ text_line d ∷ []) zs more s)
+
+split_at : (A : List (Item Reading)) (y : Item Reading) (B zs : List (Item Reading)) → Strewn (A ++ y ∷ B) zs → SplitAt A y B zs
+split_at A y B zs s =
+    let r : SplitBoth A (y ∷ B) zs = split_both A (y ∷ B) zs s in
+    subst (SplitAt A y B) (sym r.are) (split_first A y B r.before r.later r.first_part r.second_part)
 
 -- Nodes with further text lines.
 record More (ns : Nodes Reading) (ms : Nodes Reading) (zs : List (Item Reading)) : Type 0 where
