@@ -29,6 +29,8 @@ pub mod ProcessedAlike
 pub mod ProcessedAnswers
 pub mod ProcessedOnce
 pub mod Each
+pub mod EachLines
+pub mod PrunedLines
 pub mod ByLength
 pub mod Changed
 pub mod KeywordSizes

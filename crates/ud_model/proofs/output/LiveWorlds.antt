@@ -5,12 +5,13 @@ use Rattle.ud_model.specs.declared.cond.Cond.{Cond}
 use Rattle.ud_model.specs.declared.cond.Cond.TheVariants.{Yes, No, Unknown}
 use Rattle.ud_model.specs.declared.verdict.Verdict.{Verdict}
 use Rattle.ud_model.specs.declared.verdict.Verdict.TheVariants.{Remove, ToElse, ToEndif}
-use Rattle.ud_model.specs.sections.Tree.{Item, Opener, Nodes, Groups, Elifs, text_line, if_line, elif_line, else_line, endif_line, nothing, text, section, conditional, otherwise, first, elif, lines_of_nodes, lines_of_groups, lines_of_elifs}
+use Rattle.ud_model.specs.sections.Tree.{Item, Opener, Nodes, Groups, Elifs, text_line, if_line, elif_line, nothing, text, section, conditional, otherwise, first, elif, lines_of_nodes}
 use Rattle.ud_model.specs.sections.Pruning.{Mark}
 use Rattle.ud_model.specs.output.Worlds.{World, AgreesWith, EachReached, GroupsReached, ElifsReached, openers_in}
-use Rattle.ud_model.specs.output.Pruned.{Edited, kept_line, printed, IsUndecided, GroupsUndecided, ElifsUndecided}
+use Rattle.ud_model.specs.output.Pruned.{Edited, kept_line, printed, IsUndecided, IsUnknown, Any, EachLine, GroupLines, ElifLines}
+use Rattle.ud_model.proofs.output.EachLines.{IsOf, to_items, from_items}
 use Rattle.ud_model.specs.output.LiveLines.{text_line_of, text_lines_in}
-use Rattle.ud_model.proofs.output.Each.{Each, each_parts, each_both}
+use Rattle.ud_model.proofs.output.Each.{Each}
 use Rattle.ud_model.proofs.output.SelectedPruned.{out_world, Fits}
 use Rattle.ud_model.proofs.output.SelectedSomewhere.{Truths, weaker, any_truths, one_truth, both_truths, text_lines_append}
 
@@ -41,61 +42,40 @@ module _ {L : Type 0} where
   head_lines (x ∷ xs) = head_lines xs
 
   module _ (P : Opener L → Type 0) where
-    abbrev EachHead : List (Item L) → Type 0
-    EachHead xs = Each P (heads_in xs)
+    to_heads : (xs : List (Item L)) → Each (IsOf Any P) xs → Each P (heads_in xs)
+    to_heads [] h = tt
+    to_heads (if_line o ∷ xs) h = (h.0, to_heads xs h.1)
+    to_heads (elif_line o ∷ xs) h = (h.0, to_heads xs h.1)
+    to_heads (x ∷ xs) h = to_heads xs h.1
 
-    heads_apart : (xs ys : List (Item L)) → EachHead (xs ++ ys) → EachHead xs × EachHead ys
-    heads_apart xs ys h = each_parts P (heads_in xs) (heads_in ys) (subst (Each P) (heads_append xs ys) h)
-
-    heads_both : (xs ys : List (Item L)) → EachHead xs → EachHead ys → EachHead (xs ++ ys)
-    heads_both xs ys a b = subst (Each P) (sym (heads_append xs ys)) (each_both P (heads_in xs) (heads_in ys) a b)
+    from_heads : (xs : List (Item L)) → Each P (heads_in xs) → Each (IsOf Any P) xs
+    from_heads [] h = tt
+    from_heads (if_line o ∷ xs) h = (h.0, from_heads xs h.1)
+    from_heads (elif_line o ∷ xs) h = (h.0, from_heads xs h.1)
+    from_heads (x ∷ xs) h = (tt, from_heads xs h)
 
     -- A property of each opener is one of each that is reached.
     module _ (w : World L) where
       mutual
-        pub each_reached : (ns : Nodes L) → EachHead (lines_of_nodes ns) → EachReached w P ns
-        each_reached nothing h = tt
-        each_reached (text ns l) h = each_reached ns (heads_apart (lines_of_nodes ns) (text_line l ∷ []) h).0
-        each_reached (section ns gs e) h =
-            let r = heads_apart (lines_of_nodes ns) (lines_of_groups gs) (heads_apart (lines_of_nodes ns ++ lines_of_groups gs) (endif_line e ∷ []) h).0 in
-            (each_reached ns r.0, groups_reached gs r.1)
+        nodes_reached : (ns : Nodes L) → EachLine Any P ns → EachReached w P ns
+        nodes_reached nothing h = tt
+        nodes_reached (text ns l) h = nodes_reached ns h.0
+        nodes_reached (section ns gs e) h = (nodes_reached ns h.0, groups_reached gs h.1)
 
-        groups_reached : (gs : Groups L) → EachHead (lines_of_groups gs) → GroupsReached w P gs
+        groups_reached : (gs : Groups L) → GroupLines Any P gs → GroupsReached w P gs
         groups_reached (conditional es) h = elifs_reached es h
-        groups_reached (otherwise es l ns) h =
-            let r = heads_apart (lines_of_elifs es ++ else_line l ∷ []) (lines_of_nodes ns) h in
-            (elifs_reached es (heads_apart (lines_of_elifs es) (else_line l ∷ []) r.0).0, λ e. each_reached ns r.1)
+        groups_reached (otherwise es l ns) h = (elifs_reached es h.0, λ e. nodes_reached ns h.1)
 
-        elifs_reached : (es : Elifs L) → EachHead (lines_of_elifs es) → ElifsReached w P es
-        elifs_reached (first o ns) h = (h.0, λ e. each_reached ns h.1)
-        elifs_reached (elif es o ns) h =
-            let r = heads_apart (lines_of_elifs es ++ elif_line o ∷ []) (lines_of_nodes ns) h in
-            let q = heads_apart (lines_of_elifs es) (elif_line o ∷ []) r.0 in
-            (elifs_reached es q.0, λ e. (q.1.0, λ t. each_reached ns r.1))
+        elifs_reached : (es : Elifs L) → ElifLines Any P es → ElifsReached w P es
+        elifs_reached (first o ns) h = (h.0, λ e. nodes_reached ns h.1)
+        elifs_reached (elif es o ns) h = (elifs_reached es h.0, λ e. (h.1, λ t. nodes_reached ns h.2))
 
-  abbrev pub IsUnknown : Opener L → Type 0
-  IsUnknown o = o.cond ≡ Unknown
+      pub each_reached : (ns : Nodes L) → Each P (heads_in (lines_of_nodes ns)) → EachReached w P ns
+      each_reached ns h = nodes_reached ns (from_items Any P ns (from_heads (lines_of_nodes ns) h))
 
-  mutual
-    -- If nothing is decided, each opener is unknown.
-    pub each_unknown : (ns : Nodes L) → IsUndecided ns → EachHead IsUnknown (lines_of_nodes ns)
-    each_unknown nothing h = tt
-    each_unknown (text ns l) h = heads_both IsUnknown (lines_of_nodes ns) (text_line l ∷ []) (each_unknown ns h) tt
-    each_unknown (section ns gs e) h =
-        heads_both IsUnknown (lines_of_nodes ns ++ lines_of_groups gs) (endif_line e ∷ [])
-        (heads_both IsUnknown (lines_of_nodes ns) (lines_of_groups gs) (each_unknown ns h.0) (groups_unknown gs h.1)) tt
-
-    groups_unknown : (gs : Groups L) → GroupsUndecided gs → EachHead IsUnknown (lines_of_groups gs)
-    groups_unknown (conditional es) h = elifs_unknown es h
-    groups_unknown (otherwise es l ns) h =
-        heads_both IsUnknown (lines_of_elifs es ++ else_line l ∷ []) (lines_of_nodes ns)
-        (heads_both IsUnknown (lines_of_elifs es) (else_line l ∷ []) (elifs_unknown es h.0) tt) (each_unknown ns h.1)
-
-    elifs_unknown : (es : Elifs L) → ElifsUndecided es → EachHead IsUnknown (lines_of_elifs es)
-    elifs_unknown (first o ns) h = (h.0, each_unknown ns h.1)
-    elifs_unknown (elif es o ns) h =
-        heads_both IsUnknown (lines_of_elifs es ++ elif_line o ∷ []) (lines_of_nodes ns)
-        (heads_both IsUnknown (lines_of_elifs es) (elif_line o ∷ []) (elifs_unknown es h.0) (h.1, tt)) (each_unknown ns h.2)
+  -- If nothing is decided, each opener is unknown.
+  pub each_unknown : (ns : Nodes L) → IsUndecided ns → Each IsUnknown (heads_in (lines_of_nodes ns))
+  each_unknown ns h = to_heads IsUnknown (lines_of_nodes ns) (to_items Any IsUnknown ns h)
 
 -- 2. The lines that are left of lines.
 

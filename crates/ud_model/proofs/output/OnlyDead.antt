@@ -12,7 +12,7 @@ use Rattle.ud_model.specs.sections.Tree.{Item, Opener, Nodes, Groups, Elifs, tex
 use Rattle.ud_model.specs.sections.Pruning.{marks}
 use Rattle.ud_model.specs.sections.Items.{reading_of, line_of}
 use Rattle.ud_model.specs.output.Worlds.{World, or_else, lines_or, where_true, selected, selected_groups, selected_elifs, openers, Agrees}
-use Rattle.ud_model.specs.output.Pruned.{Edited, edited, pruned_lines}
+use Rattle.ud_model.specs.output.Pruned.{Edited, edited, pruned_lines, IsUnknown}
 use Rattle.std.specs.Prelude.{slice_index}
 use Rattle.std.specs.List.Sorted.{IsStrictlyIncreasing}
 use Rattle.ud_model.specs.output.LiveLines.{text_lines_in, AreThose, none_is, this_is, this_is_not, AreNumbered, IsLive, AreLive}
@@ -22,7 +22,7 @@ use Rattle.ud_model.proofs.output.PrunedTree.{openers_lines}
 use Rattle.ud_model.proofs.output.SelectedPruned.{out_world, Fits, selected-pruned}
 use Rattle.ud_model.proofs.output.Undecided.{pruned_undecided}
 use Rattle.ud_model.proofs.output.SelectedSomewhere.{Truths, text_lines_append, selected_somewhere}
-use Rattle.ud_model.proofs.output.LiveWorlds.{heads_in, lines_of_heads, head_lines, each_reached, each_unknown, IsUnknown, Left, none, gone, stays, heads_left, IsOfLine, texts_left, Gives, given}
+use Rattle.ud_model.proofs.output.LiveWorlds.{heads_in, lines_of_heads, head_lines, each_reached, each_unknown, Left, none, gone, stays, heads_left, IsOfLine, texts_left, Gives, given}
 use Rattle.ud_model.proofs.output.WorldsExist.{Rise, rise_from, world_by}
 
 -- 1. Lists.

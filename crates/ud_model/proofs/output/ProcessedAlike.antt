@@ -1,107 +1,50 @@
 -- The output of a file is processed as the nodes that are left of the file: its text lines have the
 -- same bytes and the same scan, and its openers have the same conditions.
-use Rattle.std.proofs.Common.{◌≡◌, ℕ, List, Bool, true, false, Some, refl, sym, ◌∙◌, ap, subst, arith}
+use Rattle.std.proofs.Common.{◌≡◌, ℕ, List, Bool, true, false, Some, sym, ◌∙◌, ap, subst, arith}
 use Rattle.ud_model.specs.text.Scans.{Scan, Reading}
-use Rattle.ud_model.specs.declared.cond.Cond.{Cond}
 use Rattle.ud_model.specs.declared.verdict.Verdict.{Verdict}
 use Rattle.ud_model.specs.declared.verdict.Verdict.TheVariants.{Keep}
 use Rattle.ud_model.specs.sections.Tree.{Opener, Nodes, Groups, Elifs, nothing, text, section, conditional, otherwise, first, elif, opener_with_line, with_lines, groups_with_lines, elifs_with_lines}
-use Rattle.ud_model.specs.sections.Pruning.{Part, an_if, an_elif}
-use Rattle.ud_model.specs.output.Pruned.{Edited, edited, then_nodes}
+use Rattle.ud_model.specs.output.Pruned.{Edited, edited, EachLine, GroupLines, ElifLines}
 use Rattle.ud_model.specs.output.Rereading.{line_bytes, edited_bytes}
 use Rattle.ud_model.specs.output.Processing.{Condition, condition_on, Preprocessor, over_readings, of_origin, Processes, no_nodes, takes_line, includes_file, selects_group, ProcessesOne, no_group, true_group, true_before_else, else_group, ProcessesTrue, first_true, true_before, elif_true, NoneTrue, first_false, elif_false}
-use Rattle.ud_model.proofs.output.Folded.{KeptGroups, none_kept, replaced, kept_groups, ended, with_group, with_else, then_kept, folded, kept_groups_of, kept_elifs_of}
-use Rattle.ud_model.proofs.output.PrunedOpeners.{KeepsCondition}
+use Rattle.ud_model.proofs.output.Folded.{folded}
+use Rattle.ud_model.proofs.output.PrunedOpeners.{KeepsCondition, first_keeps}
+use Rattle.ud_model.proofs.output.EachLines.{AnyOpener, other_lines}
+use Rattle.ud_model.proofs.output.PrunedLines.{pruned_each}
 use Rattle.ud_model.proofs.output.SeenLines.{Seen, scanned, left_seen, left_written, left_text, text_scan}
 
--- 1. A property of each text line of nodes, and one of each line of an opener.
-
-module _ {L : Type 0} (T K : L → Type 0) where
-  abbrev mutual
-    -- Each text line has the first property, and each opener's line the second one.
-    pub EachLine : Nodes L → Type 0
-    EachLine nothing = Unit {0}
-    EachLine (text ns l) = EachLine ns × T l
-    EachLine (section ns gs e) = EachLine ns × GroupLines gs
-
-    pub GroupLines : Groups L → Type 0
-    GroupLines (conditional es) = ElifLines es
-    GroupLines (otherwise es l ns) = ElifLines es × EachLine ns
-
-    pub ElifLines : Elifs L → Type 0
-    ElifLines (first o ns) = K o.line × EachLine ns
-    ElifLines (elif es o ns) = ElifLines es × K o.line × EachLine ns
+-- 1. The lines of pruned nodes, and of nodes that are left as they are.
 
 -- A line that is read as text.
 abbrev pub IsText : Reading → Type 0
 IsText r = text_scan r ≡ Some r.scan
 
-abbrev Any : Reading → Type 0
-Any r = Unit {0}
-
 -- A text line that stays.
+abbrev IsKeptText : Verdict → Reading → Type 0
+IsKeptText Keep l = IsText l
+IsKeptText _ l = ⊥
+
 abbrev TextStays : Edited Reading → Type 0
-TextStays e = (e.verdict ≡ Keep) × IsText e.line
+TextStays e = IsKeptText e.verdict e.line
 
 -- An opener that has its condition.
-abbrev OpenerStays : Edited Reading → Type 0
-OpenerStays e = KeepsCondition e.verdict
+abbrev OpenerStays : Opener (Edited Reading) → Type 0
+OpenerStays o = KeepsCondition o.line.verdict
 
 abbrev pub LinesText : Nodes Reading → Type 0
-LinesText ns = EachLine IsText Any ns
+LinesText ns = EachLine IsText AnyOpener ns
 
 abbrev Stay : Nodes (Edited Reading) → Type 0
 Stay ms = EachLine TextStays OpenerStays ms
 
-abbrev LeftStay : KeptGroups Reading → Type 0
-LeftStay none_kept = Unit {0}
-LeftStay (replaced ms) = Stay ms
-LeftStay (kept_groups es) = ElifLines TextStays OpenerStays es
-LeftStay (ended es l ms k) = ElifLines TextStays OpenerStays es × Stay ms
+-- The lines of pruned nodes stay so.
+pub pruned_stay : (ns : Nodes Reading) → LinesText ns → Stay (folded ns)
+pruned_stay ns h = pruned_each IsText AnyOpener TextStays OpenerStays (λ l t. t) (λ part o u h. first_keeps part) ns h
 
-group_stays : (left : KeptGroups Reading) (part : Part) (o : Opener Reading) (c : Cond) (ps : Nodes (Edited Reading)) → LeftStay left → Stay ps → LeftStay (with_group left part o c ps)
-group_stays left part o c ps h n = grind arith
-
-else_stays : (left : KeptGroups Reading) (l : Reading) (ps : Nodes (Edited Reading)) → LeftStay left → Stay ps → LeftStay (with_else left l ps)
-else_stays left l ps h n = grind arith
-
-then_stay : (ms ns : Nodes (Edited Reading)) → Stay ms → Stay ns → Stay (then_nodes ms ns)
-then_stay ms nothing a b = a
-then_stay ms (text ns l) a b = (then_stay ms ns a b.0, b.1)
-then_stay ms (section ns gs e) a b = (then_stay ms ns a b.0, b.1)
-
-section_stays : (ps : Nodes (Edited Reading)) (left : KeptGroups Reading) (e : Reading) → Stay ps → LeftStay left → Stay (then_kept ps left e)
-section_stays ps left e a h = grind (arith, then_stay)
-
-mutual
-  -- The lines of pruned nodes stay so.
-  pub pruned_stay : (ns : Nodes Reading) → LinesText ns → Stay (folded ns)
-  pruned_stay nothing h = tt
-  pruned_stay (text ns l) h = (pruned_stay ns h.0, (refl, h.1))
-  pruned_stay (section ns gs e) h = section_stays (folded ns) (kept_groups_of gs) e (pruned_stay ns h.0) (groups_stay gs h.1)
-
-  groups_stay : (gs : Groups Reading) → GroupLines IsText Any gs → LeftStay (kept_groups_of gs)
-  groups_stay (conditional es) h = elifs_stay es h
-  groups_stay (otherwise es l ns) h = else_stays (kept_elifs_of es) l (folded ns) (elifs_stay es h.0) (pruned_stay ns h.1)
-
-  elifs_stay : (es : Elifs Reading) → ElifLines IsText Any es → LeftStay (kept_elifs_of es)
-  elifs_stay (first o ns) h = group_stays none_kept an_if o o.cond (folded ns) tt (pruned_stay ns h.1)
-  elifs_stay (elif es o ns) h = group_stays (kept_elifs_of es) an_elif o o.cond (folded ns) (elifs_stay es h.0) (pruned_stay ns h.2)
-
-mutual
-  -- So do those of nodes that are left as they are.
-  pub whole_stay : (ns : Nodes Reading) → LinesText ns → Stay (with_lines (edited Keep) ns)
-  whole_stay nothing h = tt
-  whole_stay (text ns l) h = (whole_stay ns h.0, (refl, h.1))
-  whole_stay (section ns gs e) h = (whole_stay ns h.0, whole_groups gs h.1)
-
-  whole_groups : (gs : Groups Reading) → GroupLines IsText Any gs → GroupLines TextStays OpenerStays (groups_with_lines (edited Keep) gs)
-  whole_groups (conditional es) h = whole_elifs es h
-  whole_groups (otherwise es l ns) h = (whole_elifs es h.0, whole_stay ns h.1)
-
-  whole_elifs : (es : Elifs Reading) → ElifLines IsText Any es → ElifLines TextStays OpenerStays (elifs_with_lines (edited Keep) es)
-  whole_elifs (first o ns) h = (tt, whole_stay ns h.1)
-  whole_elifs (elif es o ns) h = (whole_elifs es h.0, tt, whole_stay ns h.2)
+-- So do those of nodes that are left as they are.
+pub whole_stay : (ns : Nodes Reading) → LinesText ns → Stay (with_lines (edited Keep) ns)
+whole_stay ns h = subst (λ (X : Type 0). X) (sym (other_lines (edited Keep) TextStays OpenerStays ns)) h
 
 -- 2. Nodes whose text lines and conditions are those of others.
 
@@ -134,7 +77,7 @@ mutual
 written_stays : (v : Verdict) (r : Reading) → KeepsCondition v → left_written v r ≡ condition_on r
 written_stays v r h = grind arith
 
-opener_by : (e : Edited Reading) (l : Reading) → left_seen e ≡ scanned l → OpenerStays e → OpenerAlike e l
+opener_by : (e : Edited Reading) (l : Reading) → left_seen e ≡ scanned l → KeepsCondition e.verdict → OpenerAlike e l
 opener_by e l q h = sym (written_stays e.verdict e.line h) ∙ ap (λ (s : Seen). s.written) q
 
 scan_of : (a : Scan) (l : Reading) → Some a ≡ text_scan l → a ≡ l.scan
@@ -146,10 +89,13 @@ bytes_stay v r e = ap (λ (w : Verdict). edited_bytes (edited w r)) e
 text_stays : (v : Verdict) (r : Reading) → v ≡ Keep → left_text v r ≡ text_scan r
 text_stays v r e = ap (λ (w : Verdict). left_text w r) e
 
+text_is : (v : Verdict) (l : Reading) → IsKeptText v l → (v ≡ Keep) × IsText l
+text_is v l h = grind arith
+
 text_by : (e : Edited Reading) (l : Reading) → left_seen e ≡ scanned l → TextStays e → TextAlike e l
 text_by e l q h = record {
-  bytes = sym (bytes_stay e.verdict e.line h.0) ∙ ap (λ (s : Seen). s.bytes) q;
-  scan = scan_of e.line.scan l (sym h.1 ∙ sym (text_stays e.verdict e.line h.0) ∙ ap (λ (s : Seen). s.text) q);
+  bytes = sym (bytes_stay e.verdict e.line (text_is e.verdict e.line h).0) ∙ ap (λ (s : Seen). s.bytes) q;
+  scan = scan_of e.line.scan l (sym (text_is e.verdict e.line h).1 ∙ sym (text_stays e.verdict e.line (text_is e.verdict e.line h).0) ∙ ap (λ (s : Seen). s.text) q);
 }
 
 mutual

@@ -1,8 +1,8 @@
 -- The outputs of files are processed as the files.
-use Rattle.std.proofs.Common.{◌≡◌, ◌≢◌, ℕ, List, [], ◌∷◌, ◌++◌, Bool, true, Some, None, refl, sym, ◌∙◌, ap, subst, arith}
+use Rattle.std.proofs.Common.{◌≡◌, ◌≢◌, ℕ, List, [], ◌∷◌, Bool, true, Some, None, refl, sym, ◌∙◌, ap, subst, arith}
 use Rattle.ud_model.specs.text.Scans.{Scan, Reading}
 use Rattle.ud_model.specs.sections.Directives.{Content, content_of}
-use Rattle.ud_model.specs.sections.Tree.{Item, Nodes, Groups, Elifs, Tree, text_line, elif_line, else_line, endif_line, nothing, text, section, conditional, otherwise, first, elif, closed, lines_of_nodes, lines_of_groups, lines_of_elifs, with_lines}
+use Rattle.ud_model.specs.sections.Tree.{Item, Nodes, Tree, text_line, if_line, elif_line, else_line, endif_line, closed, lines_of_nodes, with_lines}
 use Rattle.ud_model.specs.sections.Pruning.{Mark}
 use Rattle.ud_model.specs.sections.Items.{Options, reading_of, item_by, item_of, mode_after, read_after, next_item}
 use Rattle.ud_model.specs.answer.CommandLine.{options_of}
@@ -17,11 +17,12 @@ use Rattle.ud_model.proofs.sections.Stays.{marks_so_far_same}
 use Rattle.ud_model.proofs.output.AnswerLaws.{faultless}
 use Rattle.ud_model.proofs.output.CProcessed.{nodes_right}
 use Rattle.ud_model.proofs.output.CSelected.{Clear}
-use Rattle.ud_model.proofs.output.Each.{Each, each_parts, each_both, Pairwise}
+use Rattle.ud_model.proofs.output.Each.{Each, each_both, Pairwise}
 use Rattle.ud_model.proofs.output.Folded.{folded}
-use Rattle.ud_model.proofs.output.ProcessedAlike.{GroupLines, ElifLines, IsText, LinesText, pruned_stay, whole_stay, NodesAlike, nodes_alike, processed_alike}
+use Rattle.ud_model.proofs.output.ProcessedAlike.{IsText, LinesText, pruned_stay, whole_stay, NodesAlike, nodes_alike, processed_alike}
 use Rattle.ud_model.proofs.output.ProcessedPruned.{HasOutput, is_pruned, is_kept, processed}
 use Rattle.ud_model.proofs.output.RereadLaws.{clear_run, seen_alike}
+use Rattle.ud_model.proofs.output.EachLines.{IsOf, from_items, AnyOpener}
 use Rattle.ud_model.proofs.output.SeenLines.{scanned, left_seen, text_scan_by, with_lines-twice}
 
 -- 1. The text lines of a text are read as text.
@@ -29,40 +30,24 @@ use Rattle.ud_model.proofs.output.SeenLines.{scanned, left_seen, text_scan_by, w
 abbrev Own : Options → Item Reading → Type 0
 Own o x = x ≡ item_of o (reading_of x)
 
-own_items : (o : Options) (xs : List (Item Reading)) (t : Tree Reading) → AreRead o xs t → Each (Own o) xs
-own_items o _ _ no_items = tt
-own_items o _ _ (one_item xs t r l u e) =
-    each_both (Own o) xs (next_item o xs t l ∷ []) (own_items o xs t r) (ap (item_of o) (sym (reading_of-item_of o (read_after xs (mode_after o t) l))), tt)
-
 text_own : (o : Options) (r : Reading) (c : Content) → text_line r ≡ item_by o r c → text_scan_by r.scan c ≡ Some r.scan
 text_own o r c e = grind arith
 
-module _ (o : Options) where
-  mutual
-    texts_own : (ns : Nodes Reading) → Each (Own o) (lines_of_nodes ns) → LinesText ns
-    texts_own nothing h = tt
-    texts_own (text ns l) h =
-        let q : Each (Own o) (lines_of_nodes ns) × Each (Own o) (text_line l ∷ []) = each_parts (Own o) (lines_of_nodes ns) (text_line l ∷ []) h in
-        (texts_own ns q.0, text_own o l (content_of l.scan) q.1.0)
-    texts_own (section ns gs e) h =
-        let q : Each (Own o) (lines_of_nodes ns ++ lines_of_groups gs) × Each (Own o) (endif_line e ∷ []) = each_parts (Own o) (lines_of_nodes ns ++ lines_of_groups gs) (endif_line e ∷ []) h in
-        let r : Each (Own o) (lines_of_nodes ns) × Each (Own o) (lines_of_groups gs) = each_parts (Own o) (lines_of_nodes ns) (lines_of_groups gs) q.0 in
-        (texts_own ns r.0, groups_own gs r.1)
+item_own : (o : Options) (x : Item Reading) → Own o x → IsOf IsText AnyOpener x
+item_own o (text_line l) e = text_own o l (content_of l.scan) e
+item_own o (if_line p) e = tt
+item_own o (elif_line p) e = tt
+item_own o (else_line l) e = tt
+item_own o (endif_line l) e = tt
 
-    groups_own : (gs : Groups Reading) → Each (Own o) (lines_of_groups gs) → GroupLines IsText (λ (r : Reading). Unit {0}) gs
-    groups_own (conditional es) h = elifs_own es h
-    groups_own (otherwise es l ns) h =
-        let q : Each (Own o) (lines_of_elifs es ++ else_line l ∷ []) × Each (Own o) (lines_of_nodes ns) = each_parts (Own o) (lines_of_elifs es ++ else_line l ∷ []) (lines_of_nodes ns) h in
-        (elifs_own es (each_parts (Own o) (lines_of_elifs es) (else_line l ∷ []) q.0).0, texts_own ns q.1)
+own_items : (o : Options) (xs : List (Item Reading)) (t : Tree Reading) → AreRead o xs t → Each (IsOf IsText AnyOpener) xs
+own_items o _ _ no_items = tt
+own_items o _ _ (one_item xs t r l u e) =
+    each_both (IsOf IsText AnyOpener) xs (next_item o xs t l ∷ []) (own_items o xs t r)
+    (item_own o (next_item o xs t l) (ap (item_of o) (sym (reading_of-item_of o (read_after xs (mode_after o t) l)))), tt)
 
-    elifs_own : (es : Elifs Reading) → Each (Own o) (lines_of_elifs es) → ElifLines IsText (λ (r : Reading). Unit {0}) es
-    elifs_own (first q ns) h = (tt, texts_own ns h.1)
-    elifs_own (elif es q ns) h =
-        let r : Each (Own o) (lines_of_elifs es ++ elif_line q ∷ []) × Each (Own o) (lines_of_nodes ns) = each_parts (Own o) (lines_of_elifs es ++ elif_line q ∷ []) (lines_of_nodes ns) h in
-        (elifs_own es (each_parts (Own o) (lines_of_elifs es) (elif_line q ∷ []) r.0).0, tt, texts_own ns r.1)
-
-  lines_text : (input : List ℕ) (ns : Nodes Reading) → IsTreeOf o input (closed ns) → LinesText ns
-  lines_text input ns i = texts_own ns (subst (λ (xs : List (Item Reading)). Each (Own o) xs) (sym (read_lines i.read)) (own_items o i.items (closed ns) i.read))
+lines_text : (o : Options) (input : List ℕ) (ns : Nodes Reading) → IsTreeOf o input (closed ns) → LinesText ns
+lines_text o input ns i = from_items IsText AnyOpener ns (subst (λ (xs : List (Item Reading)). Each (IsOf IsText AnyOpener) xs) (sym (read_lines i.read)) (own_items o i.items (closed ns) i.read))
 
 -- 2. The nodes that pruning leaves of each file.
 

@@ -4,7 +4,7 @@ use Rattle.std.specs.List.{concat}
 use Rattle.std.proofs.lemmas.List.{length-map}
 use Rattle.ud_model.specs.text.Lines.{Line, text_of, texts_of, lines_of, numbered_from, AreFormed}
 use Rattle.ud_model.specs.text.Scans.{Reading}
-use Rattle.ud_model.specs.sections.Tree.{Item, Nodes, Groups, Elifs, Tree, text, section, conditional, otherwise, first, elif, closed, open_section, nothing, lines, lines_of_nodes, innermost, item_with, with_lines, groups_with_lines, elifs_with_lines}
+use Rattle.ud_model.specs.sections.Tree.{Item, Nodes, Tree, closed, open_section, lines, lines_of_nodes, innermost, item_with, with_lines}
 use Rattle.ud_model.specs.sections.Pruning.{Mark, marks, Part, first_kept_verdict}
 use Rattle.ud_model.specs.sections.Items.{Options, reading_of, line_of}
 use Rattle.ud_model.specs.sections.Faults.{Fault, end_fault, ends_in_comment, last_number}
@@ -12,7 +12,7 @@ use Rattle.ud_model.specs.answer.Printing.{Judged, judged_lines, piece_after, pi
 use Rattle.ud_model.specs.answer.Outcomes.{Outcome, HasOutcome, ran_as, HasNoFault, output_by, differs_by}
 use Rattle.ud_model.specs.answer.Outcomes.ReadsAs.{stops, ends}
 use Rattle.ud_model.specs.output.Worlds.{World, selected, EachReached, Agrees, openers, openers_in}
-use Rattle.ud_model.specs.output.Pruned.{Edited, edited, IsPruned, pruned_lines, printed, IsUndecided, GroupsUndecided, ElifsUndecided}
+use Rattle.ud_model.specs.output.Pruned.{Edited, edited, IsPruned, pruned_lines, printed, IsUndecided, IsUnknown, Any}
 use Rattle.ud_model.proofs.output.Folded.{folded}
 use Rattle.ud_model.specs.output.Rereading.{IsPlain, IsTreeOf, CleanRun, KeepsTruths, LinesFit, line_bytes, edited_bytes}
 use Rattle.ud_model.specs.conditions.Expressions.{Expression}
@@ -30,6 +30,7 @@ use Rattle.ud_model.proofs.output.SeenLines.{Seen, scanned, left_condition, left
 use Rattle.ud_model.proofs.output.ReachedPruned.{pruned_reached}
 use Rattle.ud_model.proofs.output.ReachedAlike.{reached_alike}
 use Rattle.ud_model.proofs.output.WorldsExist.{world_of}
+use Rattle.ud_model.proofs.output.EachLines.{other_lines}
 use Rattle.ud_model.proofs.output.PrunedOpeners.{KeepsCondition, Keeps, pruned_keeps}
 use Rattle.ud_model.proofs.output.TreeAlong.{AlongNodes, nodes_along}
 use Rattle.ud_model.proofs.output.Undecided.{Stays, pruned_undecided, undecided_stay}
@@ -231,38 +232,10 @@ module _ (k : CleanRun) (w : World Reading) (g : IsCWorld k.options.table w k.be
   pub c_selected_again : (v : World Reading) → KeepsTruths w k.before v k.after → map line_bytes (selected v k.after) ≡ map line_bytes (selected w k.before)
   c_selected_again v t = selected_again k w v c_world_agrees t
 
-module _ {L M : Type 0} (f : L → M) where
-  mutual
-    pub undecided_with : (ns : Nodes L) → IsUndecided ns → IsUndecided (with_lines f ns)
-    undecided_with nothing h = tt
-    undecided_with (text ns l) h = undecided_with ns h
-    undecided_with (section ns gs e) h = (undecided_with ns h.0, groups_with gs h.1)
-
-    groups_with : (gs : Groups L) → GroupsUndecided gs → GroupsUndecided (groups_with_lines f gs)
-    groups_with (conditional es) h = elifs_with es h
-    groups_with (otherwise es l ns) h = (elifs_with es h.0, undecided_with ns h.1)
-
-    elifs_with : (es : Elifs L) → ElifsUndecided es → ElifsUndecided (elifs_with_lines f es)
-    elifs_with (first o ns) h = (h.0, undecided_with ns h.1)
-    elifs_with (elif es o ns) h = (elifs_with es h.0, h.1, undecided_with ns h.2)
-
-  mutual
-    pub undecided_back : (ns : Nodes L) → IsUndecided (with_lines f ns) → IsUndecided ns
-    undecided_back nothing h = tt
-    undecided_back (text ns l) h = undecided_back ns h
-    undecided_back (section ns gs e) h = (undecided_back ns h.0, groups_back gs h.1)
-
-    groups_back : (gs : Groups L) → GroupsUndecided (groups_with_lines f gs) → GroupsUndecided gs
-    groups_back (conditional es) h = elifs_back es h
-    groups_back (otherwise es l ns) h = (elifs_back es h.0, undecided_back ns h.1)
-
-    elifs_back : (es : Elifs L) → ElifsUndecided (elifs_with_lines f es) → ElifsUndecided es
-    elifs_back (first o ns) h = (h.0, undecided_back ns h.1)
-    elifs_back (elif es o ns) h = (elifs_back es h.0, h.1, undecided_back ns h.2)
-
 -- Nothing is decided of the output.
 pub output_undecided : (us ns : Nodes Reading) → with_lines line_bytes us ≡ with_lines edited_bytes (folded ns) → IsUndecided us
-output_undecided us ns e = grind (arith, undecided_back, undecided_with, pruned_undecided)
+output_undecided us ns e =
+    subst (λ (X : Type 0). X) (sym (other_lines edited_bytes Any IsUnknown (folded ns)) ∙ ap IsUndecided (sym e) ∙ other_lines line_bytes Any IsUnknown us) (pruned_undecided ns)
 
 -- Nothing is decided of the output of a clean run.
 pub after_undecided : (k : CleanRun) → IsUndecided k.after

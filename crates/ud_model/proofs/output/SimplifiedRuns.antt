@@ -1,5 +1,5 @@
 -- Simplified runs: a run over the simplified output copies it.
-use Rattle.std.proofs.Common.{◌≡◌, ◌≢◌, ℕ, suc, ◌≤◌, max, List, [], ◌∷◌, ◌++◌, length, map, Bool, false, not, ◌&&◌, None, if◌then◌else◌, refl, sym, ◌∙◌, ap, ap₂, subst, arith}
+use Rattle.std.proofs.Common.{◌≡◌, ◌≢◌, ℕ, suc, ◌≤◌, max, List, [], ◌++◌, length, map, Bool, false, not, ◌&&◌, None, if◌then◌else◌, refl, sym, ◌∙◌, ap, ap₂, subst, arith}
 use Rattle.std.proofs.lemmas.Bool.{or_parts}
 use Rattle.ud_model.specs.text.Lines.{Line, text_of, lines_of}
 use Rattle.ud_model.specs.text.Scans.{Scan, Reading}
@@ -10,10 +10,11 @@ use Rattle.ud_model.specs.sections.Directives.{Directive, content_of, is_outside
 use Rattle.ud_model.specs.sections.DirectiveParts.{HasDirective}
 use Rattle.ud_model.specs.conditions.Table.{Argument}
 use Rattle.ud_model.specs.conditions.Conditions.{Rules, Decision, undecided, decision_on, condition_of, expression_cond}
-use Rattle.ud_model.specs.sections.Tree.{Tree, Item, Nodes, Groups, Elifs, nothing, text, section, conditional, otherwise, first, elif, closed, text_line, if_line, elif_line, else_line, endif_line, lines_of_nodes, lines_of_groups, lines_of_elifs}
+use Rattle.ud_model.specs.sections.Tree.{Tree, Item, Nodes, Groups, Elifs, closed}
 use Rattle.ud_model.specs.sections.Items.{Options, reading_of, item_of, rules_of}
 use Rattle.ud_model.specs.sections.Faults.{is_cut, is_in_block, ends_in_comment, end_by, last_number}
-use Rattle.ud_model.specs.output.Pruned.{IsUndecided, GroupsUndecided, ElifsUndecided}
+use Rattle.ud_model.specs.output.Pruned.{IsUndecided, IsUnknown, Any}
+use Rattle.ud_model.proofs.output.EachLines.{IsOf, to_items, from_items}
 use Rattle.ud_model.specs.aids.Height.{height_of_nodes, height_of_groups, height_of_elifs}
 use Rattle.ud_model.specs.answer.CommandLine.{options_of}
 use Rattle.ud_model.specs.answer.Outcomes.{Outcome, HasOutcome}
@@ -31,7 +32,7 @@ use Rattle.ud_model.proofs.text.ScanLemmas.{joins_last}
 use Rattle.ud_model.proofs.sections.Soundness.{reading_of-item_of, read_lines}
 use Rattle.ud_model.proofs.sections.SplitLines.{directive_is}
 use Rattle.ud_model.proofs.conditions.ResidualUnknown.{left_unknown}
-use Rattle.ud_model.proofs.output.Each.{Each, each_parts, each_both, Pairs, no_pair, pair}
+use Rattle.ud_model.proofs.output.Each.{Each, Pairs, no_pair, pair}
 use Rattle.ud_model.proofs.output.Rereads.{IsUncut}
 use Rattle.ud_model.proofs.output.SoundBounds.{IsFew, IsShort, fit_short}
 use Rattle.ud_model.proofs.output.SoundAgain.{sound_again}
@@ -51,50 +52,7 @@ use Rattle.ud_model.proofs.output.OperandsLeft.{sub_fewer}
 -- 1. Items with an unknown condition.
 
 abbrev pub IsOpen : Item Reading → Type 0
-IsOpen (if_line p) = p.cond ≡ Unknown
-IsOpen (elif_line p) = p.cond ≡ Unknown
-IsOpen x = Unit {0}
-
-mutual
-  -- The items of undecided nodes are open.
-  pub open_lines : (ns : Nodes Reading) → IsUndecided ns → Each IsOpen (lines_of_nodes ns)
-  open_lines nothing h = tt
-  open_lines (text ns l) h = each_both IsOpen (lines_of_nodes ns) (text_line l ∷ []) (open_lines ns h) (tt, tt)
-  open_lines (section ns gs e) h =
-      each_both IsOpen (lines_of_nodes ns ++ lines_of_groups gs) (endif_line e ∷ []) (each_both IsOpen (lines_of_nodes ns) (lines_of_groups gs) (open_lines ns h.0) (open_groups gs h.1)) (tt, tt)
-
-  open_groups : (gs : Groups Reading) → GroupsUndecided gs → Each IsOpen (lines_of_groups gs)
-  open_groups (conditional es) h = open_elifs es h
-  open_groups (otherwise es l ns) h =
-      each_both IsOpen (lines_of_elifs es ++ else_line l ∷ []) (lines_of_nodes ns) (each_both IsOpen (lines_of_elifs es) (else_line l ∷ []) (open_elifs es h.0) (tt, tt)) (open_lines ns h.1)
-
-  open_elifs : (es : Elifs Reading) → ElifsUndecided es → Each IsOpen (lines_of_elifs es)
-  open_elifs (first o ns) h = each_both IsOpen (if_line o ∷ []) (lines_of_nodes ns) (h.0, tt) (open_lines ns h.1)
-  open_elifs (elif es o ns) h =
-      each_both IsOpen (lines_of_elifs es ++ elif_line o ∷ []) (lines_of_nodes ns) (each_both IsOpen (lines_of_elifs es) (elif_line o ∷ []) (open_elifs es h.0) (h.1, tt)) (open_lines ns h.2)
-
-mutual
-  -- Nodes whose items are open are undecided.
-  pub undecided_of : (ns : Nodes Reading) → Each IsOpen (lines_of_nodes ns) → IsUndecided ns
-  undecided_of nothing h = tt
-  undecided_of (text ns l) h = undecided_of ns (each_parts IsOpen (lines_of_nodes ns) (text_line l ∷ []) h).0
-  undecided_of (section ns gs e) h =
-      let p : Each IsOpen (lines_of_nodes ns ++ lines_of_groups gs) × Each IsOpen (endif_line e ∷ []) = each_parts IsOpen (lines_of_nodes ns ++ lines_of_groups gs) (endif_line e ∷ []) h in
-      let q : Each IsOpen (lines_of_nodes ns) × Each IsOpen (lines_of_groups gs) = each_parts IsOpen (lines_of_nodes ns) (lines_of_groups gs) p.0 in
-      (undecided_of ns q.0, undecided_groups gs q.1)
-
-  undecided_groups : (gs : Groups Reading) → Each IsOpen (lines_of_groups gs) → GroupsUndecided gs
-  undecided_groups (conditional es) h = undecided_elifs es h
-  undecided_groups (otherwise es l ns) h =
-      let p : Each IsOpen (lines_of_elifs es ++ else_line l ∷ []) × Each IsOpen (lines_of_nodes ns) = each_parts IsOpen (lines_of_elifs es ++ else_line l ∷ []) (lines_of_nodes ns) h in
-      (undecided_elifs es (each_parts IsOpen (lines_of_elifs es) (else_line l ∷ []) p.0).0, undecided_of ns p.1)
-
-  undecided_elifs : (es : Elifs Reading) → Each IsOpen (lines_of_elifs es) → ElifsUndecided es
-  undecided_elifs (first o ns) h = let p : Each IsOpen (if_line o ∷ []) × Each IsOpen (lines_of_nodes ns) = each_parts IsOpen (if_line o ∷ []) (lines_of_nodes ns) h in (p.0.0, undecided_of ns p.1)
-  undecided_elifs (elif es o ns) h =
-      let p : Each IsOpen (lines_of_elifs es ++ elif_line o ∷ []) × Each IsOpen (lines_of_nodes ns) = each_parts IsOpen (lines_of_elifs es ++ elif_line o ∷ []) (lines_of_nodes ns) h in
-      let q : Each IsOpen (lines_of_elifs es) × Each IsOpen (elif_line o ∷ []) = each_parts IsOpen (lines_of_elifs es) (elif_line o ∷ []) p.0 in
-      (undecided_elifs es q.0, q.1.0, undecided_of ns p.1)
+IsOpen x = IsOf Any IsUnknown x
 
 -- 2. A line of the simplified text.
 
@@ -253,7 +211,7 @@ module _ (o : Options) (p : IsPlainC o) (input : List ℕ) {r : Outcome} (d : Ha
 
     undecided_now : IsUndecided us → IsUndecided ss
     undecided_now h =
-        undecided_of ss (subst (Each IsOpen) (sym (read_lines j.read)) (subst (Each IsOpen) zs (all_open o both_read (subst (Each IsOpen) ys (subst (Each IsOpen) (read_lines i.read) (open_lines us h))))))
+        from_items Any IsUnknown ss (subst (Each IsOpen) (sym (read_lines j.read)) (subst (Each IsOpen) zs (all_open o both_read (subst (Each IsOpen) ys (subst (Each IsOpen) (read_lines i.read) (to_items Any IsUnknown us h))))))
 
     copies_by : Each IsUncut i.items → Each IsFew i.items → height_of_nodes us ≤ OPEN_SECTIONS → ends_in_comment i.items ≡ false → IsUndecided us →
         HasOutcome o left_text (record { output = left_text; fault = None; differs = false })

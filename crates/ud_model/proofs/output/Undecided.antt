@@ -4,11 +4,13 @@ use Rattle.ud_model.specs.declared.cond.Cond.{Cond}
 use Rattle.ud_model.specs.declared.cond.Cond.TheVariants.{Yes}
 use Rattle.ud_model.specs.declared.verdict.Verdict.{Verdict}
 use Rattle.ud_model.specs.declared.verdict.Verdict.TheVariants.{Keep}
-use Rattle.ud_model.specs.sections.Tree.{Opener, Nodes, Groups, Elifs, nothing, text, section, conditional, otherwise, first, elif, closed}
-use Rattle.ud_model.specs.sections.Pruning.{Part, an_if, an_elif, an_else, Mark, marked, is_kept, conds_of_elifs, conds_of_groups, endif_verdict, marks}
+use Rattle.ud_model.specs.sections.Tree.{Nodes, Groups, Elifs, nothing, text, section, conditional, otherwise, first, elif, closed}
+use Rattle.ud_model.specs.sections.Pruning.{an_if, an_elif, an_else, Mark, marked, is_kept, conds_of_elifs, conds_of_groups, endif_verdict, marks}
 use Rattle.ud_model.specs.aids.SoFar.{verdict_so_far, nodes_so_far, groups_so_far, elifs_so_far}
-use Rattle.ud_model.specs.output.Pruned.{Edited, IsUndecided, GroupsUndecided, ElifsUndecided, then_nodes}
-use Rattle.ud_model.proofs.output.Folded.{KeptGroups, none_kept, replaced, kept_groups, ended, with_group, with_else, then_kept, folded, kept_groups_of, kept_elifs_of}
+use Rattle.ud_model.specs.output.Pruned.{IsUndecided, IsUnknown, Any, GroupLines, ElifLines}
+use Rattle.ud_model.proofs.output.Folded.{folded}
+use Rattle.ud_model.proofs.output.EachLines.{AnyOpener, any_lines}
+use Rattle.ud_model.proofs.output.PrunedLines.{pruned_each}
 use Rattle.ud_model.proofs.output.Each.{Each, each_both}
 use Rattle.ud_model.proofs.sections.Stays.{marks_so_far_same}
 use Rattle.ud_model.proofs.sections.Stages.{Stage, going, at_true, stage, next_stage, verdict_at, kept_at, verdict_by_stage, kept_by_stage, stage_next, endif_by_stage}
@@ -24,62 +26,31 @@ else_conds : (cs : List Cond) → stage cs ≡ going → (stage (cs ++ Yes ∷ [
 else_conds cs e = stage_next cs Yes ∙ ap (λ (s : Stage). next_stage s Yes) e
 
 module _ {L : Type 0} where
-  abbrev LeftUndecided : KeptGroups L → Type 0
-  LeftUndecided none_kept = Unit {0}
-  LeftUndecided (replaced ms) = IsUndecided ms
-  LeftUndecided (kept_groups es) = ElifsUndecided es
-  LeftUndecided (ended es l ms k) = ElifsUndecided es × IsUndecided ms
-
-  with_undecided : (left : KeptGroups L) (part : Part) (o : Opener L) (c : Cond) (ps : Nodes (Edited L)) → o.cond ≡ c → LeftUndecided left → IsUndecided ps → LeftUndecided (with_group left part o c ps)
-  with_undecided left part o c ps e h n = grind arith
-
-  else_undecided : (left : KeptGroups L) (l : L) (ps : Nodes (Edited L)) → LeftUndecided left → IsUndecided ps → LeftUndecided (with_else left l ps)
-  else_undecided left l ps h n = grind arith
-
-  then_undecided : (ms ns : Nodes (Edited L)) → IsUndecided ms → IsUndecided ns → IsUndecided (then_nodes ms ns)
-  then_undecided ms nothing a b = a
-  then_undecided ms (text ns l) a b = then_undecided ms ns a b
-  then_undecided ms (section ns gs e) a b = (then_undecided ms ns a b.0, b.1)
-
-  left_undecided : (ps : Nodes (Edited L)) (left : KeptGroups L) (e : L) → IsUndecided ps → LeftUndecided left → IsUndecided (then_kept ps left e)
-  left_undecided ps left e a h = grind (arith, then_undecided)
-
-  mutual
-    -- In pruned nodes each condition but that of an `#else` is unknown.
-    pub pruned_undecided : (ns : Nodes L) → IsUndecided (folded ns)
-    pruned_undecided nothing = tt
-    pruned_undecided (text ns l) = pruned_undecided ns
-    pruned_undecided (section ns gs e) = left_undecided (folded ns) (kept_groups_of gs) e (pruned_undecided ns) (groups_undecided gs)
-
-    groups_undecided : (gs : Groups L) → LeftUndecided (kept_groups_of gs)
-    groups_undecided (conditional es) = elifs_undecided es
-    groups_undecided (otherwise es l ns) = else_undecided (kept_elifs_of es) l (folded ns) (elifs_undecided es) (pruned_undecided ns)
-
-    elifs_undecided : (es : Elifs L) → LeftUndecided (kept_elifs_of es)
-    elifs_undecided (first o ns) = with_undecided none_kept an_if o o.cond (folded ns) refl tt (pruned_undecided ns)
-    elifs_undecided (elif es o ns) = with_undecided (kept_elifs_of es) an_elif o o.cond (folded ns) refl (elifs_undecided es) (pruned_undecided ns)
+  -- In pruned nodes each condition but that of an `#else` is unknown.
+  pub pruned_undecided : (ns : Nodes L) → IsUndecided (folded ns)
+  pruned_undecided ns = pruned_each Any AnyOpener Any IsUnknown (λ l h. tt) (λ part o u h. u) ns (any_lines ns)
 
   -- The stage of groups none of which is decided.
-  going_on : (es : Elifs L) → ElifsUndecided es → stage (conds_of_elifs es) ≡ going
+  going_on : (es : Elifs L) → ElifLines Any IsUnknown es → stage (conds_of_elifs es) ≡ going
   going_on (first o ns) h = ap (λ (c : Cond). stage (c ∷ [])) h.0
   going_on (elif es o ns) h = stage_next (conds_of_elifs es) o.cond ∙ ap₂ (λ (s : Stage) (c : Cond). next_stage s c) (going_on es h.0) h.1
 
   place_stays : (b : Bool) (ns : Nodes L) → b ≡ true → Each Stays (nodes_so_far true ns) → Each Stays (nodes_so_far b ns)
   place_stays b ns e h = subst (λ (k : Bool). Each Stays (nodes_so_far k ns)) (sym e) h
 
-  endif_stays : (gs : Groups L) → GroupsUndecided gs → endif_verdict (conds_of_groups gs) ≡ Keep
+  endif_stays : (gs : Groups L) → GroupLines Any IsUnknown gs → endif_verdict (conds_of_groups gs) ≡ Keep
   endif_stays gs h = grind (arith, endif_by_stage, going_on, else_conds)
 
   mutual
     nodes_stay : (ns : Nodes L) → IsUndecided ns → Each Stays (nodes_so_far true ns)
     nodes_stay nothing h = tt
-    nodes_stay (text ns l) h = each_both Stays (nodes_so_far true ns) (marked true Keep ∷ []) (nodes_stay ns h) (refl, tt)
+    nodes_stay (text ns l) h = each_both Stays (nodes_so_far true ns) (marked true Keep ∷ []) (nodes_stay ns h.0) (refl, tt)
     nodes_stay (section ns gs e) h =
         each_both Stays (nodes_so_far true ns ++ groups_so_far true gs) (marked true (endif_verdict (conds_of_groups gs)) ∷ [])
         (each_both Stays (nodes_so_far true ns) (groups_so_far true gs) (nodes_stay ns h.0) (groups_stay gs h.1))
         (stays_if (endif_verdict (conds_of_groups gs)) (endif_stays gs h.1), tt)
 
-    groups_stay : (gs : Groups L) → GroupsUndecided gs → Each Stays (groups_so_far true gs)
+    groups_stay : (gs : Groups L) → GroupLines Any IsUnknown gs → Each Stays (groups_so_far true gs)
     groups_stay (conditional es) h = elifs_stay es h
     groups_stay (otherwise es l ns) h =
         let s : stage (conds_of_elifs es) ≡ going = going_on es h.0 in
@@ -88,7 +59,7 @@ module _ {L : Type 0} where
         (stays_if (verdict_so_far (conds_of_elifs es) an_else Yes) (verdict_by_stage (conds_of_elifs es) an_else Yes ∙ ap (λ (t : Stage). verdict_at t an_else Yes) s), tt))
         (place_stays (is_kept (conds_of_elifs es) Yes) ns (kept_by_stage (conds_of_elifs es) Yes ∙ ap (λ (t : Stage). kept_at t Yes) s) (nodes_stay ns h.1))
 
-    elifs_stay : (es : Elifs L) → ElifsUndecided es → Each Stays (elifs_so_far true es)
+    elifs_stay : (es : Elifs L) → ElifLines Any IsUnknown es → Each Stays (elifs_so_far true es)
     elifs_stay (first o ns) h =
         each_both Stays (marked true (verdict_so_far [] an_if o.cond) ∷ []) (nodes_so_far (is_kept [] o.cond) ns)
         (stays_if (verdict_so_far [] an_if o.cond) (ap (λ (c : Cond). verdict_so_far [] an_if c) h.0), tt)

@@ -7,6 +7,7 @@
 --   pruned_lines ns   the output for the nodes, line by line
 --   IsPruned ns ps    `ps` are the pruned nodes: the tree of these lines
 --   ArePruned ns ps   the same, said of sections and groups in place of lines
+--   EachLine T P ns   each text line satisfies `T`, and each opener but an `#else` satisfies `P`
 --   IsUndecided ns    each condition but that of an `#else` is unknown
 --
 -- All else follows from the table (Pruning). A section that gives way leaves the nodes of its first
@@ -156,20 +157,34 @@ mutual
         {hs : List (Group (Edited L))} → is_kept_group g ≡ true → left_of all g ≡ h.opener ∷ [] →
         ArePruned g.nodes h.nodes → AreKept all gs hs → AreKept all (g ∷ gs) (h ∷ hs)
 
-module _ {L : Type 0} where
+module _ {L : Type 0} (T : L → Type 0) (P : Opener L → Type 0) where
   abbrev mutual
-    -- `IsUndecided ns`: each condition in the nodes but that of an `#else` is unknown.
-    pub IsUndecided : Nodes L → Type 0
-    IsUndecided nothing = Unit {0}
-    IsUndecided (text ns l) = IsUndecided ns
-    IsUndecided (section ns gs e) = IsUndecided ns × GroupsUndecided gs
+    -- `EachLine T P ns`: each text line in the nodes satisfies `T`, and each opener but an `#else`
+    -- satisfies `P`.
+    pub EachLine : Nodes L → Type 0
+    EachLine nothing = Unit {0}
+    EachLine (text ns l) = EachLine ns × T l
+    EachLine (section ns gs e) = EachLine ns × GroupLines gs
 
-    -- `GroupsUndecided gs`: each condition in the groups but that of an `#else` is unknown.
-    pub GroupsUndecided : Groups L → Type 0
-    GroupsUndecided (conditional es) = ElifsUndecided es
-    GroupsUndecided (otherwise es l ns) = ElifsUndecided es × IsUndecided ns
+    -- `GroupLines T P gs`: the same of the lines in the groups.
+    pub GroupLines : Groups L → Type 0
+    GroupLines (conditional es) = ElifLines es
+    GroupLines (otherwise es l ns) = ElifLines es × EachLine ns
 
-    -- `ElifsUndecided es`: each condition of these groups, and inside them, is unknown.
-    pub ElifsUndecided : Elifs L → Type 0
-    ElifsUndecided (first o ns) = (o.cond ≡ Unknown) × IsUndecided ns
-    ElifsUndecided (elif es o ns) = ElifsUndecided es × (o.cond ≡ Unknown) × IsUndecided ns
+    -- `ElifLines T P es`: the same of these groups, with their openers.
+    pub ElifLines : Elifs L → Type 0
+    ElifLines (first o ns) = P o × EachLine ns
+    ElifLines (elif es o ns) = ElifLines es × P o × EachLine ns
+
+module _ {L : Type 0} where
+  -- `Any l`: there is the line `l`.
+  abbrev pub Any : L → Type 0
+  Any l = Unit {0}
+
+  -- `IsUnknown o`: the condition of the opener `o` is unknown.
+  abbrev pub IsUnknown : Opener L → Type 0
+  IsUnknown o = o.cond ≡ Unknown
+
+  -- `IsUndecided ns`: each condition in the nodes but that of an `#else` is unknown.
+  abbrev pub IsUndecided : Nodes L → Type 0
+  IsUndecided ns = EachLine Any IsUnknown ns
