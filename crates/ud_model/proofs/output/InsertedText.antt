@@ -4,30 +4,26 @@ use Rattle.std.proofs.Common.{◌≡◌, ℕ, List, [], ◌∷◌, ◌++◌, map
 use Rattle.std.proofs.lemmas.List.{map-append}
 use Rattle.ud_model.specs.text.Lines.{Line, lines_of}
 use Rattle.ud_model.specs.text.Scans.{Reading}
-use Rattle.ud_model.specs.text.Scanning.{next_reading, readings_of}
 use Rattle.ud_model.specs.sections.Tree.{Item, Nodes, Tree, closed, lines_of_nodes}
 use Rattle.ud_model.specs.sections.Items.{Options, reading_of, line_of, item_of, mode_after, read_after, next_item}
 use Rattle.ud_model.specs.answer.Outcomes.{Outcome, HasOutcome}
 use Rattle.ud_model.specs.output.Rereading.{NoneIgnores, IsPlain, IsTreeOf, AreRead, no_items, one_item}
-use Rattle.ud_model.specs.output.InsertedLines.{with_blank_renumber, in_mode, read_in, read_as}
+use Rattle.ud_model.specs.output.InsertedLines.{with_blank_renumber, read_in, read_as}
 use Rattle.ud_model.specs.output.InsertedNodes.{NodesWithInserted}
 use Rattle.ud_model.specs.declared.kind.Mode.{Mode}
 use Rattle.ud_model.proofs.text.Pushes.{ByPush, none, push, by_push}
-use Rattle.ud_model.proofs.text.ScanLaws.{readings_after-append}
 use Rattle.ud_model.proofs.sections.Exists.{reading_exists}
 use Rattle.ud_model.proofs.sections.Soundness.{reading_of-item_of, read_lines, lines_with_next}
 use Rattle.ud_model.proofs.output.Each.{Each, each_both}
 use Rattle.ud_model.proofs.output.Heeding.{ReadIn, none_read, one_read, the_mode, Heeds, item_heeds, one_mode, are_read}
 use Rattle.ud_model.proofs.output.CountedText.{counted_text}
+use Rattle.ud_model.proofs.output.ListComplete.{read_more}
 use Rattle.ud_model.proofs.output.InsertedTree.{items, Strewn, strewn_counted, Nodesof, weave_nodes}
 
 -- The readings of items are those from which they come.
 pub readings_back : (o : Options) (rs : List Reading) → map reading_of (items o rs) ≡ rs
 readings_back o [] = refl
 readings_back o (r ∷ rs) = ap₂ (λ (q : Reading) (qs : List Reading). q ∷ qs) (reading_of-item_of o r) (readings_back o rs)
-
-pub read_more : (m : Mode) (ls : List Line) (l : Line) → read_in m (ls ++ l ∷ []) ≡ read_in m ls ++ next_reading (read_in m ls) m l ∷ []
-read_more m ls l = ap (λ (ks : List (Mode × Line)). readings_of ks) (map-append (in_mode m) ls (l ∷ [])) ∙ readings_after-append [] (map (in_mode m) ls) (in_mode m l ∷ [])
 
 items_more : (o : Options) (m : Mode) (ls : List Line) (l : Line) →
     items o (read_in m (ls ++ l ∷ [])) ≡ items o (read_in m ls) ++ item_of o (read_after (items o (read_in m ls)) m l) ∷ []

@@ -132,7 +132,8 @@ in_mode m l = (m, l)
 abbrev read_in : Mode → List Line → List Reading
 read_in m ls = readings_of (map (in_mode m) ls)
 
-read_more : (m : Mode) (ls : List Line) (l : Line) → read_in m (ls ++ l ∷ []) ≡ read_in m ls ++ next_reading (read_in m ls) m l ∷ []
+-- The readings of lines with one more.
+pub read_more : (m : Mode) (ls : List Line) (l : Line) → read_in m (ls ++ l ∷ []) ≡ read_in m ls ++ next_reading (read_in m ls) m l ∷ []
 read_more m ls l = ap (λ (ks : List (Mode × Line)). readings_of ks) (map-append (in_mode m) ls (l ∷ [])) ∙ readings_after-append [] (map (in_mode m) ls) (in_mode m l ∷ [])
 
 -- The readings of longer lists of lines begin so.

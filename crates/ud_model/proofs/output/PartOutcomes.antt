@@ -30,8 +30,9 @@ use Rattle.ud_model.proofs.text.Pushes.{push_not_nil}
 use Rattle.ud_model.proofs.text.LinesLemmas.{are_whole}
 use Rattle.ud_model.proofs.text.ScanLemmas.{joins_last}
 use Rattle.ud_model.proofs.text.ScanLaws.{last_is_spliced-append}
+use Rattle.ud_model.proofs.output.RereadMore.{last_comment}
 use Rattle.ud_model.proofs.output.AnswerLaws.{faultless}
-use Rattle.ud_model.proofs.output.Changed.{lone, pieces_lone}
+use Rattle.ud_model.proofs.output.Changed.{lone, pieces_lone, end_parts}
 use Rattle.ud_model.proofs.output.Formed.{whole_ending, end_is_some}
 use Rattle.ud_model.proofs.sections.Unique.{unique}
 use Rattle.ud_model.proofs.sections.Stays.{length_marks}
@@ -65,12 +66,6 @@ end_later : (n : ℕ) (b : Bool) (k : ℕ) (i : Option (Opener Reading)) → end
 end_later n true k i = refl
 end_later n false k None = refl
 end_later n false k (Some o) = grind arith
-
--- A text that ends without a fault has no open comment and no open section.
-end_none : (b : Bool) (k : ℕ) (i : Option (Opener Reading)) → end_by b k i ≡ None → (b ≡ false) × (i ≡ None)
-end_none true k i e = cc
-end_none false k None e = (refl, refl)
-end_none false k (Some o) e = cc
 
 module _ (n : ℕ) (xs : List (Item Reading)) (ns : Nodes Reading) (none : end_fault xs (closed ns) ≡ None) where
   innermost_grown : (t : Tree Reading) → innermost (grown n xs ns t) ≡ opener_if_with (reading_later n) (innermost t)
@@ -279,9 +274,6 @@ line_alone before Plain l e h = refl
 line_alone before C l (inl e) h = cc
 line_alone before C l (inr e) h = code_alone (c_run_of before) l e h
 
-comment_last : (xs : List (Item Reading)) (x : Item Reading) → ends_in_comment (xs ++ x ∷ []) ≡ is_in_block (reading_of x).scan.comment
-comment_last xs x = comment_more xs x []
-
 -- A text without a fault that ends so leaves the lines after it alone.
 module _ (o : Options) (text : List ℕ) (whole : partial_line text ≡ []) (unspliced : (o.settings.plain ≡ true) ⊎ (last_is_spliced (lines_of text) ≡ false)) where
   alone_by : (ys : List (Item Reading)) (t : Tree Reading) (l : Line) → (m : Mode) → mode_after o t ≡ m →
@@ -291,7 +283,7 @@ module _ (o : Options) (text : List ℕ) (whole : partial_line text ≡ []) (uns
       let lines : lines_of text ≡ map line_of ys ++ l ∷ [] = are ∙ lines_with_next o ys t l in
       let read : reading_of (next_item o ys t l) ≡ read_after ys (mode_after o t) l = reading_of-item_of o (read_after ys (mode_after o t) l) in
       let closed_here : is_in_block (scan_after (map reading_of ys) (mode_after o t) l).comment ≡ false =
-      ap (λ (r : Reading). is_in_block r.scan.comment) (sym read) ∙ sym (comment_last ys (next_item o ys t l)) ∙ h in
+      ap (λ (r : Reading). is_in_block r.scan.comment) (sym read) ∙ sym (last_comment ys (next_item o ys t l)) ∙ h in
       subst EndsLogicalLine
       (ap (λ (r : Reading). map reading_of ys ++ r ∷ []) (sym read) ∙ sym (map-append reading_of ys (next_item o ys t l ∷ [])))
       (ends_with (map reading_of ys) (mode_after o t) l
@@ -314,14 +306,14 @@ module _ (o : Options) (text more : List ℕ) (p : MayBeParts o text more) where
   by_reading : {xs : List (Item Reading)} {t : Tree Reading} {s : Outcome} → HasNoFault o (lines_of text) xs t → end_fault xs t ≡ None → HasOutcome o more s →
       HasOutcome o (text ++ more) (in_parts (length (lines_of text)) (outcome_of o.settings xs t None) s)
   by_reading {xs = xs} {t = t} {s = s} h e b =
-      by_nodes (input_nodes t (end_none (ends_in_comment xs) (last_number xs) (innermost t) e).1)
+      by_nodes (input_nodes t (end_parts (ends_in_comment xs) (last_number xs) (innermost t) e).1)
     where
       by_nodes : (ns : Nodes Reading) × (t ≡ closed ns) → HasOutcome o (text ++ more) (in_parts (length (lines_of text)) (outcome_of o.settings xs t None) s)
       by_nodes (ns, g) =
           subst (λ (u : Tree Reading). HasOutcome o (text ++ more) (in_parts (length (lines_of text)) (outcome_of o.settings xs u None) s)) (sym g)
           (has_both o text more xs ns (subst (λ (u : Tree Reading). HasNoFault o (lines_of text) xs u) g h)
           (ap (λ (u : Tree Reading). end_fault xs u) (sym g) ∙ e) p.whole
-          (ends_alone o text p.whole p.unspliced h.sound h.are (end_none (ends_in_comment xs) (last_number xs) (innermost t) e).0) p.fits p.unnumbered b)
+          (ends_alone o text p.whole p.unspliced h.sound h.are (end_parts (ends_in_comment xs) (last_number xs) (innermost t) e).0) p.fits p.unnumbered b)
 
 -- The outcome of both parts.
 pub outcome_in_parts : (o : Options) (text more : List ℕ) (r s : Outcome) → MayBeParts o text more → HasOutcome o text r → r.fault ≡ None →

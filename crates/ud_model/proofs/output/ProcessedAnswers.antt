@@ -23,6 +23,7 @@ use Rattle.ud_model.proofs.output.ProcessedAlike.{IsText, LinesText, pruned_stay
 use Rattle.ud_model.proofs.output.ProcessedPruned.{HasOutput, is_pruned, is_kept, processed}
 use Rattle.ud_model.proofs.output.RereadLaws.{clear_run, seen_alike}
 use Rattle.ud_model.proofs.output.EachLines.{IsOf, from_items, AnyOpener}
+use Rattle.ud_model.proofs.output.PrunedTree.{closed_same}
 use Rattle.ud_model.proofs.output.SeenLines.{scanned, left_seen, text_scan_by, with_lines-twice}
 
 -- 1. The text lines of a text are read as text.
@@ -50,9 +51,6 @@ lines_text : (o : Options) (input : List ℕ) (ns : Nodes Reading) → IsTreeOf 
 lines_text o input ns i = from_items IsText AnyOpener ns (subst (λ (xs : List (Item Reading)). Each (IsOf IsText AnyOpener) xs) (sym (read_lines i.read)) (own_items o i.items (closed ns) i.read))
 
 -- 2. The nodes that pruning leaves of each file.
-
-same_nodes : (ns ms : Nodes Reading) → ◌≡◌ {A = Tree Reading} (closed ns) (closed ms) → ns ≡ ms
-same_nodes ns ms e = cc
 
 kept_seen : (ns : Nodes Reading) → with_lines left_seen (with_lines (edited Keep) ns) ≡ with_lines scanned ns
 kept_seen ns = with_lines-twice (edited Keep) left_seen ns
@@ -95,7 +93,7 @@ module _ (args : List (List ℕ)) (plain : IsPlain (options_of args)) {S F : Typ
       IsTreeOf (options_of args) output (closed us) → Left ns us
   left input _ (answered a s) ns us b c = left_answer s.answer s.no_fault ns us b c
   left input _ unedited ns us b c =
-      let q : ns ≡ us = same_nodes ns us (one_tree_of (options_of args) input (closed ns) (closed us) b c) in
+      let q : ns ≡ us = closed_same ns us (one_tree_of (options_of args) input (closed ns) (closed us) b c) in
       record {
         nodes = with_lines (edited Keep) ns;
         output = is_kept;

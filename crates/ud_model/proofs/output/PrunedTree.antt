@@ -8,7 +8,7 @@ use Rattle.ud_model.proofs.output.Folded.{folded}
 use Rattle.ud_model.proofs.output.PrintedPruned.{printed-pruned}
 
 module _ {L : Type 0} where
-  closed_same : (ns ms : Nodes L) → ◌≡◌ {A = Tree L} (closed ns) (closed ms) → ns ≡ ms
+  pub closed_same : (ns ms : Nodes L) → ◌≡◌ {A = Tree L} (closed ns) (closed ms) → ns ≡ ms
   closed_same ns ms e = cc
 
   -- Nodes with the same lines are the same.

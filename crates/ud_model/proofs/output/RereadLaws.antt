@@ -23,7 +23,7 @@ use Rattle.ud_model.specs.declared.verdict.Verdict.TheVariants.{Keep}
 use Rattle.ud_model.proofs.sections.Soundness.{sound_read, one_tree_of, sound_lines, read_lines}
 use Rattle.ud_model.proofs.output.Changed.{whole_lines_are, lines_join, lone, pieces_lone, no_innermost, end_parts}
 use Rattle.ud_model.proofs.output.PrintedPruned.{printed-pruned}
-use Rattle.ud_model.proofs.output.PrunedTree.{is_folded, pruned_openers}
+use Rattle.ud_model.proofs.output.PrunedTree.{closed_same, is_folded, pruned_openers}
 use Rattle.ud_model.proofs.output.SelectedPruned.{selected-pruned}
 use Rattle.ud_model.proofs.output.SameShape.{same_selected, openers-with}
 use Rattle.ud_model.proofs.output.SeenLines.{Seen, scanned, left_condition, left_seen, with_lines-twice, map-twice}
@@ -138,9 +138,6 @@ module _ (o : Options) (p : IsPlain o) (input : List ℕ) where
         calm = z.1.ends (end_parts (ends_in_comment xs) (last_number xs) (innermost t) e).0;
       }
 
-same_nodes : (ns ms : Nodes Reading) → ◌≡◌ {A = Tree Reading} (closed ns) (closed ms) → ns ≡ ms
-same_nodes ns ms e = cc
-
 kept_condition : (v : Verdict) (l : Reading) → KeepsCondition v → left_condition v l ≡ condition_in l
 kept_condition v l h = grind arith
 
@@ -160,7 +157,7 @@ module _ (k : CleanRun) where
 
   -- The tree of the output is the one that it has.
   same_tree : k.after ≡ result.tree
-  same_tree = same_nodes k.after result.tree (one_tree_of k.options k.outcome.output (closed k.after) (closed result.tree) k.of_output result.is_tree)
+  same_tree = closed_same k.after result.tree (one_tree_of k.options k.outcome.output (closed k.after) (closed result.tree) k.of_output result.is_tree)
 
   -- Each of its lines has the parts that stay of the line from which it comes.
   pub seen_alike : with_lines scanned k.after ≡ with_lines left_seen (folded k.before)

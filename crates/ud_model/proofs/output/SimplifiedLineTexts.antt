@@ -17,7 +17,7 @@ use Rattle.ud_model.specs.declared.kind.Mode.TheVariants.{C}
 use Rattle.ud_model.proofs.text.ScanBytes.{bytes-content_cells, content-prefix}
 use Rattle.ud_model.proofs.text.LinesLemmas.{no_newline-append, text_of-line_at, lines_exist, body-ending}
 use Rattle.ud_model.proofs.text.Pushes.{ByPush, none as nothing_pushed, push, by_push}
-use Rattle.ud_model.proofs.output.InsertedText.{read_more}
+use Rattle.ud_model.proofs.output.ListComplete.{read_more}
 use Rattle.ud_model.proofs.output.Formed.{IsEnd, whole_ending, ended, whole_body, no_feed_parts, no_feed_cut}
 use Rattle.ud_model.proofs.output.OutputPieces.{output_lines}
 use Rattle.ud_model.proofs.output.SimplifiedLines.{byte_of, Becomes, it_stays, it_changes, becomes}
