@@ -23,6 +23,7 @@ use Rattle.ud_model.proofs.text.ScanLaws.{readings_after-append, readings_after-
 use Rattle.ud_model.proofs.conditions.NamedAlike.{Alike, item_alike}
 use Rattle.ud_model.proofs.sections.Soundness.{reading_of-item_of, sound_lines, lines_with_next, one_run}
 use Rattle.ud_model.proofs.answer.LevelLemmas.{length_levels}
+use Rattle.ud_model.specs.output.InsertedLines.{in_mode, read_in}
 use Rattle.ud_model.proofs.output.Each.{Each, each_parts}
 use Rattle.ud_model.proofs.output.Heeding.{the_mode, one_mode, sound_heed}
 
@@ -124,13 +125,6 @@ each_map f Q (x ∷ xs) h = (h.0, each_map f Q xs h.1)
 pub each_unmap : {A B : Type 0} (f : A → B) (Q : B → Type 0) (xs : List A) → Each Q (map f xs) → Each (λ x. Q (f x)) xs
 each_unmap f Q [] h = tt
 each_unmap f Q (x ∷ xs) h = (h.0, each_unmap f Q xs h.1)
-
--- A line in this mode.
-abbrev in_mode : Mode → Line → Mode × Line
-in_mode m l = (m, l)
-
-abbrev read_in : Mode → List Line → List Reading
-read_in m ls = readings_of (map (in_mode m) ls)
 
 -- The readings of lines with one more.
 pub read_more : (m : Mode) (ls : List Line) (l : Line) → read_in m (ls ++ l ∷ []) ≡ read_in m ls ++ next_reading (read_in m ls) m l ∷ []
