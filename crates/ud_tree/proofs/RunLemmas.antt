@@ -1,5 +1,5 @@
 -- One file more of a run.
-use Rattle.std.proofs.Common.{◌≡◌, ℕ, ◌+◌, ◌<◌, ◌≤◌, List, [], ◌∷◌, ◌++◌, length, get_or, take, cond, refl, sym, ap, ◌∙◌, subst, append-nil, Bool, true, false, Result, min, ◌-◌, ◌^◌, arith}
+use Rattle.std.proofs.Common.{◌≡◌, ℕ, ◌+◌, ◌<◌, ◌≤◌, List, [], ◌∷◌, ◌++◌, length, get_or, take, cond, inl, inr, refl, sym, ap, ◌∙◌, subst, append-nil, Bool, true, false, Result, min, ◌-◌, ◌^◌, arith}
 use mir.Val.{bool_byte}
 use Rattle.std.proofs.lemmas.List.{take_more, take_all, map-append}
 use Rattle.std.proofs.lemmas.List.Sums.{sum_by_push}
@@ -21,7 +21,7 @@ use Rattle.ud_tree.specs.Runs.{FileResult, Unshown, EachFile, no_file, then_file
 use Rattle.ud_tree.specs.Remainders.{FindsAll, listing_of, mode_of, texts_of, count_of}
 use Rattle.ud_tree.proofs.RemainderLemmas.{finds_none, finds_then, finds_same}
 use Rattle.ud_tree.specs.Statuses.{tree_status}
-use Rattle.ud_tree.specs.Streams.{StreamEnds, Source}
+use Rattle.ud_tree.specs.Streams.{Source, ends_of}
 use Rattle.ud_io.specs.Streams.{Stream, Sends}
 use Rattle.ud_tree.specs.declared.job.Job.{Job}
 use Rattle.ud_tree.specs.declared.report.Report.{Report}
@@ -38,7 +38,7 @@ use Rattle.ud_replace.specs.declared.text_plan.TextPlan.{TextPlan}
 use Rattle.ud_tree.specs.Lists.{Adds, ListsInto}
 use Rattle.ud_tree.specs.Shown.{ListsOne}
 use Rattle.ud_tree.specs.Writing.{Moment, WritesOne, ProcessesOne, WritesAll, WritesList}
-use Rattle.ud_tree.specs.TreeRuns.{DoesBy, DoesOne, DoesFiles, Ends, EndsWriting, no_run, ran, RunsTree}
+use Rattle.ud_tree.specs.TreeRuns.{Ending, DoesBy, DoesOne, DoesFiles, Ends, EndsWriting, RunsTree}
 use Rattle.ud_tree.proofs.DoneLemmas.{still_failed, done_later}
 use Rattle.ud_io.proofs.StreamLemmas.{sends_none, sends_then, sends_same}
 
@@ -214,51 +214,60 @@ ends job files {old = old} {new = new} {counts = counts} lost unwritten in_walk 
     let all_names : lists.list.items ≡ (listed_of h.results).names = w.adds.names ∙ ap (λ (x : List ℕ). x ++ (listed_of h.results).names) no_name in
     let all_hidden : lists.hidden_list.items ≡ (listed_of h.results).hidden_list = w.adds.hidden_list ∙ ap (λ (x : List ℕ). x ++ (listed_of h.results).hidden_list) no_condition in
     record {
-      done = d.done;
-      is_done = done_later (λ is. still_failed f (still_failed l.sent is)) d.is_done;
-      shown = w.shown ++ l.listed;
-      told = (w.told ++ of_output) ++ last;
-      last = last;
+      ending = record { streams = ends_of new.out new.err; shown = w.shown ++ l.listed; told = (w.told ++ of_output) ++ last; last = last; status = status };
       ends = record {
-        results = h.results;
-        each = subst (λ (calls : List Call). EachFile (DoesOne args) old.calls (names_of d.done) calls h.results) (sym same) h.each;
-        listed = l.listed;
-        is_wanted = l.is_wanted;
+        does = record {
+          done = d.done;
+          is_done = done_later (λ is. still_failed f (still_failed l.sent is)) d.is_done;
+          results = h.results;
+          each = subst (λ (calls : List Call). EachFile (DoesOne args) old.calls (names_of d.done) calls h.results) (sym same) h.each;
+        };
         is_lost = lost;
-        table = λ is off whole.
-            subst (λ (x : List ℕ). Tabulates (names_in x) (listed_of h.results).hidden_list l.listed) all_names
-            (subst (λ (x : List ℕ). Tabulates (names_in lists.list.items) x l.listed) all_hidden (l.table is off whole));
-        remains = λ other on whole wanted calls represents.
-            l.remains other on ∙ (w.finds.added (whole_report whole) wanted calls represents).list_is
-            ∙ ap (λ (s : RemainingState). s.list ++ texts_of calls s.listing (mode_of args) (outputs_of h.results)) no_remainder;
-        unsearched = λ other off. by_list args.list_remaining refl (l.is_wanted other)
-            (λ on. l.remains other on ∙ ap (λ (s : RemainingState). s.list) (w.finds.same off ∙ no_remainder));
-        shown_is = ap (λ (x : List ℕ). x ++ l.listed) h.shown_is;
-        faults = faults;
-        reported = rw (← h.counts_are.faulty) few;
-        flushed = flushed;
-        status_is = is ∙ ap (tree_status args.task args.plan.run.settings.exit_mode unheard faults) h.counts_are.changed
-            ∙ ap (λ (b : Bool). tree_status args.task args.plan.run.settings.exit_mode b faults (changed_in h.results)) heard;
-        hidden = hidden;
-        hidden_is = λ small. let sum = w.adds.hidden (omega (arith, none, small)) in omega (arith, hidden_now, none, sum);
-        edits = counts.edits;
-        edited_is = h.counts_are.edited;
-        removed_is = h.counts_are.removed;
-        remaining = e.remaining;
-        remaining_is = λ whole wanted calls represents small.
-            e.remaining_is ∙ ap (λ (s : RemainingState). s.count) same_remainder
-            ∙ counted_from (count_of calls (mode_of args) (outputs_of h.results)) (ap (λ (s : RemainingState). s.count) no_remainder)
-            (w.finds.added (whole_report whole) wanted calls represents).count_is small;
-        none_remains = λ off. e.remaining_is ∙ ap (λ (s : RemainingState). s.count) (same_remainder ∙ w.finds.same off ∙ no_remainder);
-        last_is = ap (λ (x : ℕ). last_lines args x counts.unchanged faults hidden counts.edits e.remaining) h.counts_are.changed
-            ∙ ap (λ (x : ℕ). last_lines args (changed_in h.results) x faults hidden counts.edits e.remaining) h.counts_are.unchanged;
-        told_is = ap (λ (x : List ℕ). (x ++ of_output) ++ last) h.told_is ∙ ap (λ (b : Bool). (told_of h.results ++ joined (output_messages lost b)) ++ last) failed;
-        faults_are = subst (λ (b : Bool). in_walk + length (output_messages lost b) + faulty_in h.results < 2 ^ 64 → faults ≡ in_walk + length (output_messages lost b) + faulty_in h.results) failed
-            (rw (output_count lost unwritten, ← h.counts_are.faulty) all);
+        tally = record { faults = faults; hidden = hidden; edits = counts.edits; remaining = e.remaining };
+        shows = record {
+          listed = l.listed;
+          shown_is = ap (λ (x : List ℕ). x ++ l.listed) h.shown_is;
+          is_wanted = l.is_wanted;
+          table = λ is off whole.
+              subst (λ (x : List ℕ). Tabulates (names_in x) (listed_of h.results).hidden_list l.listed) all_names
+              (subst (λ (x : List ℕ). Tabulates (names_in lists.list.items) x l.listed) all_hidden (l.table is off whole));
+          remains = λ other on whole wanted calls represents.
+              l.remains other on ∙ (w.finds.added (whole_report whole) wanted calls represents).list_is
+              ∙ ap (λ (s : RemainingState). s.list ++ texts_of calls s.listing (mode_of args) (outputs_of h.results)) no_remainder;
+          unsearched = λ other off. by_list args.list_remaining refl (l.is_wanted other)
+              (λ on. l.remains other on ∙ ap (λ (s : RemainingState). s.list) (w.finds.same off ∙ no_remainder));
+        };
+        totals = record {
+          hidden = λ small. let sum = w.adds.hidden (omega (arith, none, small)) in omega (arith, hidden_now, none, sum);
+          edited = h.counts_are.edited;
+          removed = h.counts_are.removed;
+          remaining = λ whole wanted calls represents small.
+              e.remaining_is ∙ ap (λ (s : RemainingState). s.count) same_remainder
+              ∙ counted_from (count_of calls (mode_of args) (outputs_of h.results)) (ap (λ (s : RemainingState). s.count) no_remainder)
+              (w.finds.added (whole_report whole) wanted calls represents).count_is small;
+          none_remains = λ off. e.remaining_is ∙ ap (λ (s : RemainingState). s.count) (same_remainder ∙ w.finds.same off ∙ no_remainder);
+        };
+        has_status = record {
+          faults_are = subst (λ (b : Bool). in_walk + length (output_messages lost b) + faulty_in h.results < 2 ^ 64 → faults ≡ in_walk + length (output_messages lost b) + faulty_in h.results) failed
+              (rw (output_count lost unwritten, ← h.counts_are.faulty) all);
+          reported = rw (← h.counts_are.faulty) few;
+          status_is = is ∙ ap (tree_status args.task args.plan.run.settings.exit_mode unheard faults) h.counts_are.changed
+              ∙ ap (λ (b : Bool). tree_status args.task args.plan.run.settings.exit_mode b faults (changed_in h.results)) heard;
+          flushed = flushed;
+        };
+        tells = record {
+          told_is = ap (λ (x : List ℕ). (x ++ of_output) ++ last) h.told_is ∙ ap (λ (b : Bool). (told_of h.results ++ joined (output_messages lost b)) ++ last) failed;
+          last_is = ap (λ (x : ℕ). last_lines args x counts.unchanged faults hidden counts.edits e.remaining) h.counts_are.changed
+              ∙ ap (λ (x : ℕ). last_lines args (changed_in h.results) x faults hidden counts.edits e.remaining) h.counts_are.unchanged;
+        };
       };
-      sent = sends_same (append-nil (w.shown ++ l.listed)) (sends_then (sends_then w.sent l.sent) f);
-      ended = e.told;
-      tells = λ p. let told = tells_then w.tells both in let is_plain = plain p in sends_then (told.sent is_plain) (e.alone (told.plain is_plain).unshown);
+      written = record {
+        status_is = refl;
+        streams_are = refl;
+        sent = sends_same (append-nil (w.shown ++ l.listed)) (sends_then (sends_then w.sent l.sent) f);
+        ended = e.told;
+        tells = λ p. let told = tells_then w.tells both in let is_plain = plain p in sends_then (told.sent is_plain) (e.alone (told.plain is_plain).unshown);
+      };
     }
 
 -- The run made only calls of a walk, and a message says why.
@@ -266,19 +275,37 @@ pub no_files : (job : Job) (given : Source) {left : Source} {old new : Moment} {
     StopsWalk job.arguments.now.from_input left old.calls new.calls r r' old.err new.err → new.out ≡ old.out → RunsTree job given left old new 2
 no_files job given {old = old} {new = new} plain h same = record {
   messages = h.messages;
-  shown = [];
-  told = h.told;
-  last = [];
-  is_run = no_run h.walk h.stops;
-  sent = subst (λ (s : Stream). Sends old.out s []) (sym same) (sends_none old.out);
-  ended = (new.err, sends_none new.err);
-  tells = λ p. h.tells.sent (plain p);
+  ending = record { streams = ends_of new.out new.err; shown = []; told = h.told; last = []; status = 2 };
+  is_run = inl (record { walk = h.walk; stops = h.stops; unshown = refl; no_last = refl; status_is = refl });
+  written = record {
+    status_is = refl;
+    streams_are = refl;
+    sent = subst (λ (s : Stream). Sends old.out s []) (sym same) (sends_none old.out);
+    ended = (new.err, sends_none new.err);
+    tells = λ p. h.tells.sent (plain p);
+  };
 }
 
 -- The faults of the walk have another number, which is the same unless it is too large.
-ends_counted : {args : Arguments} {streams : StreamEnds} {old new : List Call} {names : List (List ℕ)} {shown told last : List ℕ} {status : ℕ} (n m : ℕ) → (m < 2 ^ 64 → n ≡ m) →
-    Ends args n streams old names new shown told last status → Ends args m streams old names new shown told last status
-ends_counted n m same h = grind arith
+ends_counted : {args : Arguments} {old new : List Call} {files : List Found} {ending : Ending} (n m : ℕ) → (m < 2 ^ 64 → n ≡ m) →
+    Ends args n old files new ending → Ends args m old files new ending
+ends_counted n m same h = record {
+  does = h.does;
+  is_lost = h.is_lost;
+  tally = h.tally;
+  shows = h.shows;
+  totals = h.totals;
+  has_status = record {
+    faults_are = same_sum n m _ _ _ same h.has_status.faults_are;
+    reported = h.has_status.reported;
+    status_is = h.has_status.status_is;
+    flushed = h.has_status.flushed;
+  };
+  tells = h.tells;
+}
+  where
+    same_sum : (n m k l faults : ℕ) → (m < 2 ^ 64 → n ≡ m) → (n + k + l < 2 ^ 64 → faults ≡ n + k + l) → m + k + l < 2 ^ 64 → faults ≡ m + k + l
+    same_sum n m k l faults same h small = let is : n ≡ m = same (omega arith) in let sum : faults ≡ n + k + l = h (omega arith) in omega arith
 
 -- The run processed the files that the walk found.
 pub ran_from : (job : Job) {given left : Source} {old mid new : Moment} {r r' : Report} {found files : List Found} {status : ℕ} (in_walk : ℕ) → files ≡ found → (job.is_terminal ≡ false → IsPlain r) → r.faulty ≡ 0 →
@@ -286,15 +313,25 @@ pub ran_from : (job : Job) {given left : Source} {old mid new : Moment} {r r' : 
     EndsWriting job in_walk mid files new status → RunsTree job given left old new status
 ran_from job {old = old} {mid = mid} {new = new} {r = r} {r' = r'} {files = files} in_walk is plain none number w same h = record {
   messages = w.reports.messages;
-  shown = h.shown;
-  told = h.told;
-  last = h.last;
-  is_run = ran w.paths.text mid.calls files w.paths.takes (subst (λ (fs : List Found). MissesNone job.arguments.now w.paths.text old.calls mid.calls (StandsIn fs) (0 < length w.reports.messages)) (sym is) w.paths.misses) (subst (λ (fs : List Found). IsWalk old.calls mid.calls fs) (sym is) w.is_walk) w.reports.walk
-      (subst (λ (fs : List Found). job.arguments.now.from_input ≡ false → 0 < length fs) (sym is) w.some) h.done h.is_done
-      (ends_counted in_walk (length w.reports.messages) (walk_counted r.faulty r'.faulty in_walk (length w.reports.messages) none number w.reports.counted) h.ends);
-  sent = subst (λ (s : Stream). Sends s new.out h.shown) same h.sent;
-  ended = h.ended;
-  tells = λ p. sends_then (w.reports.tells.sent (plain p)) (h.tells p);
+  ending = h.ending;
+  is_run = inr (record {
+    text = w.paths.text;
+    mid = mid.calls;
+    files = files;
+    takes = w.paths.takes;
+    misses = subst (λ (fs : List Found). MissesNone job.arguments.now w.paths.text old.calls mid.calls (StandsIn fs) (0 < length w.reports.messages)) (sym is) w.paths.misses;
+    is_walk = subst (λ (fs : List Found). IsWalk old.calls mid.calls fs) (sym is) w.is_walk;
+    walk = w.reports.walk;
+    some = subst (λ (fs : List Found). job.arguments.now.from_input ≡ false → 0 < length fs) (sym is) w.some;
+    ends = ends_counted in_walk (length w.reports.messages) (walk_counted r.faulty r'.faulty in_walk (length w.reports.messages) none number w.reports.counted) h.ends;
+  });
+  written = record {
+    status_is = h.written.status_is;
+    streams_are = h.written.streams_are;
+    sent = subst (λ (s : Stream). Sends s new.out h.ending.shown) same h.written.sent;
+    ended = h.written.ended;
+    tells = λ p. sends_then (w.reports.tells.sent (plain p)) (h.written.tells p);
+  };
 }
   where
     walk_counted : (a b in_walk n : ℕ) → a ≡ 0 → in_walk ≡ b → (a + n < 2 ^ 64 → b ≡ a + n) → n < 2 ^ 64 → in_walk ≡ n

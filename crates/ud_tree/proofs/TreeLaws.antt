@@ -20,9 +20,8 @@ use Rattle.ud_tree.specs.declared.walk.Found.{Found}
 use Rattle.ud_tree.specs.Changes.{ReplacesShowing}
 use Rattle.ud_tree.specs.Runs.{ReadsOne, reads, FileResult, Unshown, ReplacesOne, replaces, no_name, EachFile, no_file, then_file, names_of}
 use Rattle.ud_tree.specs.Shown.{ShowsOne, ListsOne}
-use Rattle.ud_tree.specs.TreeRuns.{DoesBy, DoesOne, IsRun, no_run, ran, Run}
+use Rattle.ud_tree.specs.TreeRuns.{DoesBy, DoesOne, IsRun, Run}
 use Rattle.ud_tree.specs.TreeDiffs.{ShowsAs, ShowsDiffs, no_diff, diffs}
-use Rattle.ud_tree.specs.Streams.{StreamEnds, Source}
 use Rattle.ud_tree.specs.Walks.{IsBefore}
 use Rattle.ud_tree.proofs.DoneLemmas.{all_shown, done_before}
 use Rattle.ud_tree.specs.TreeMoments.{TouchesNothing, TouchesFreshOrNone, OldOrOutput}
@@ -67,9 +66,11 @@ reads_by : (args : Arguments) (t : Task) → args.task ≡ t → ¬ (t ≡ Repla
     EachFile (DoesBy t args) old names new results → EachCall TouchesNothing old new
 reads_by args t is other h = grind (arith, shows_touch, lists_touch)
 
-pub run_reads : (args : Arguments) (given left : Source) (old new : List Call) (messages : List (List ℕ)) (streams : StreamEnds) (shown told last : List ℕ) (status : ℕ) → ¬ (args.task ≡ Replace) → IsRun args given left old new messages streams shown told last status → EachCall TouchesNothing old new
-run_reads args given left old new messages streams _ _ _ _ other (no_run h stops) = each_at h.are (walk_touches h.calls old)
-run_reads args given left old new messages streams shown told last status other (ran text mid files takes misses w t some done is_done h) = each_then (each_at w.are (walk_touches w.calls old)) (reads_by args args.task refl other h.each)
+pub run_reads : (run : Run) → ¬ (run.args.task ≡ Replace) → IsRun run →
+    EachCall TouchesNothing run.old run.new
+run_reads run other (inl h) = each_at h.walk.are (walk_touches h.walk.calls run.old)
+run_reads run other (inr h) = each_then (each_at h.is_walk.are (walk_touches h.is_walk.calls run.old))
+    (reads_by run.args run.args.task refl other h.ends.does.each)
 
 -- Replacing a file touches no file but the new one, up to the rename.
 replace_touches : {o : TextOptions} {plan : TextPlan} {name : List ℕ} {old new : List Call} {update : Result Update ReplaceError} → IsPlanned plan o →
@@ -92,11 +93,13 @@ replaces_by : {o : TextOptions} (args : Arguments) (t : Task) → IsPlanned args
 replaces_by args t p into h =
     grind (arith, replaces_touch, nothing_touched, shows_touch, lists_touch)
 
-pub run_renames : (o : TextOptions) (args : Arguments) (given left : Source) (old new : List Call) (messages : List (List ℕ)) (streams : StreamEnds) (shown told last : List ℕ) (status : ℕ) → IsPlanned args.plan o → args.write_into ≡ false →
-    IsRun args given left old new messages streams shown told last status → EachCall (TouchesFreshOrNone o) old new
-run_renames o args given left old new messages streams _ _ _ _ p into (no_run h stops) = nothing_touched (each_at h.are (walk_touches h.calls old))
-run_renames o args given left old new messages streams shown told last status p into (ran text mid files takes misses w m some done is_done h) =
-    each_then (nothing_touched (each_at w.are (walk_touches w.calls old))) (replaces_by args args.task p into h.each)
+pub run_renames : (o : TextOptions) (run : Run) → IsPlanned run.args.plan o →
+    run.args.write_into ≡ false → IsRun run → EachCall (TouchesFreshOrNone o) run.old run.new
+run_renames o run p into (inl h) =
+    nothing_touched (each_at h.walk.are (walk_touches h.walk.calls run.old))
+run_renames o run p into (inr h) =
+    each_then (nothing_touched (each_at h.is_walk.are (walk_touches h.is_walk.calls run.old)))
+    (replaces_by run.args run.args.task p into h.ends.does.each)
 
 -- Calls that touch nothing leave each file as it is.
 same_after : (c : Call) (f : Files) (n : List ℕ) → ¬ (touches c n ≡ true) → after c f n ≡ f n
@@ -229,13 +232,19 @@ moments_by args Replace p into {start = start} {names = names} {new = new} {resu
 moments_by args Diff p into apart t m h = (moments_still m (shows_touch h)).each
 moments_by args Names p into apart t m h = (moments_still m (lists_touch h)).each
 
-pub run_old_or_new : (o : TextOptions) (args : Arguments) (first : Files) (given left : Source) (old new : List Call) (messages : List (List ℕ)) (streams : StreamEnds) (shown told last : List ℕ) (status : ℕ) → IsPlanned args.plan o → args.write_into ≡ false →
-    IsRun args given left old new messages streams shown told last status → AreTrue first new → EachCall (λ (c : Call) (earlier : List Call). OldOrOutput o first old (c ∷ earlier)) old new
-run_old_or_new o args first given left old new messages streams _ _ _ _ p into (no_run h stops) t =
-    (moments_still (moments_none o first old) (each_at h.are (walk_touches h.calls old))).each
-run_old_or_new o args first given left old new messages streams shown told last status p into (ran text mid files takes misses w m some done is_done h) t =
-    moments_by args args.task p into (apart_names done (done_before is_done w.ascend)) t
-    (moments_still (moments_none o first old) (each_at w.are (walk_touches w.calls old))) h.each
+pub run_old_or_new : (o : TextOptions) (first : Files) (run : Run) → IsPlanned run.args.plan o →
+    run.args.write_into ≡ false → IsRun run → AreTrue first run.new →
+    EachCall (λ (c : Call) (earlier : List Call). OldOrOutput o first run.old (c ∷ earlier))
+    run.old run.new
+run_old_or_new o first run p into (inl h) t =
+    (moments_still (moments_none o first run.old)
+    (each_at h.walk.are (walk_touches h.walk.calls run.old))).each
+run_old_or_new o first run p into (inr h) t =
+    let all = h.ends.does in
+    moments_by run.args run.args.task p into
+    (apart_names all.done (done_before all.is_done h.is_walk.ascend)) t
+    (moments_still (moments_none o first run.old)
+    (each_at h.is_walk.are (walk_touches h.is_walk.calls run.old))) all.each
 
 -- The diffs of the files of a run, for one choice of options.
 each_shows : {o : TextOptions} {plan : TextPlan} {into : Bool} {old : List Call} {names : List (List ℕ)} {new : List Call} {results : List FileResult} → IsPlanned plan o →
@@ -244,11 +253,13 @@ each_shows p no_file = no_file
 each_shows {o = o} p (then_file h k t) = then_file (each_shows p h) (k.shows o p) t
 
 -- A run that only shows what would change shows the diffs.
-pub run_shows : (o : TextOptions) (run : Run) → IsPlanned run.args.plan o → run.args.task ≡ Diff → (shown told last : List ℕ) (status : ℕ) → run.shown ≡ shown →
-    IsRun run.args run.given run.left run.old run.new run.messages run.streams shown told last status → ShowsDiffs o run
-run_shows o run p diff _ _ _ _ e (no_run h stops) = no_diff (record { calls = h.calls; are = h.are }) e
-run_shows o run p diff shown told last status e (ran text mid files takes misses w m some done is_done h) =
-    let each = subst (λ (fs : List Found). EachFile (DoesOne run.args) mid (names_of fs) run.new h.results) (all_shown is_done diff) h.each in
-    diffs mid files h.results h.listed w
-    (each_shows p (subst (λ (t : Task). EachFile (DoesBy t run.args) mid (names_of files) run.new h.results) diff each))
-    (e ∙ h.shown_is) (h.is_wanted (λ names. absurd cc))
+pub run_shows : (o : TextOptions) (run : Run) → IsPlanned run.args.plan o →
+    run.args.task ≡ Diff → IsRun run → ShowsDiffs o run
+run_shows o run p diff (inl h) = no_diff (record { calls = h.walk.calls; are = h.walk.are }) h.unshown
+run_shows o run p diff (inr h) =
+    let all = h.ends.does in
+    let shows = h.ends.shows in
+    let each = subst (λ (fs : List Found). EachFile (DoesOne run.args) h.mid (names_of fs) run.new all.results) (all_shown all.is_done diff) all.each in
+    diffs h.mid h.files all.results shows.listed h.is_walk
+    (each_shows p (subst (λ (t : Task). EachFile (DoesBy t run.args) h.mid (names_of h.files) run.new all.results) diff each))
+    shows.shown_is (shows.is_wanted (λ names. absurd cc))

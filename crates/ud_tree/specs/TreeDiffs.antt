@@ -20,9 +20,9 @@ ShowsAs o into name old new result =
 -- `ShowsDiffs o run`: no file was read, and nothing is shown. Or a walk found some files, each was
 -- read once, and their diffs are shown in the same order. A list follows, if one is wanted.
 pub data ShowsDiffs (o : TextOptions) (run : Run) : Type 0 where
-  no_diff : WalksOnly run.old run.new → run.shown ≡ [] → ShowsDiffs o run
+  no_diff : WalksOnly run.old run.new → run.ending.shown ≡ [] → ShowsDiffs o run
   diffs : (mid : List Call) (files : List Found) (results : List FileResult) (listed : List ℕ) →
       IsWalk run.old mid files →
       EachFile (ShowsAs o run.args.write_into) mid (names_of files) run.new results →
-      run.shown ≡ shown_of results ++ listed →
+      run.ending.shown ≡ shown_of results ++ listed →
       (run.args.list_remaining ≡ false → listed ≡ []) → ShowsDiffs o run

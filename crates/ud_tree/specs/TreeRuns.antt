@@ -2,21 +2,29 @@
 --
 --   DoesBy task args name old new result   what a task does with a file
 --   DoesOne args name old new result       what the arguments ask for is done with a file
---   Ends args in_walk streams old names new shown told last status   the files are processed
 --   DoesJob job files before report after report' counts lists lists'   the same for each file
---   IsDone args failed files done          which files are processed before a run ends
+--   IsDone args failed files done           which files are processed before a run ends
 --   DoesFiles job files before report after report' counts lists lists'   the same for those
---   EndsWriting job in_walk before files after status   the same, and all was written
---   IsRun args given left old new messages streams shown told last status   a whole run
---   Run, IsRunOf run                           its arguments, calls, output and status
---   IsClean run                                a run in which nothing failed
+--   Ending, Tally                           how a run ends, and the numbers of its last lines
+--   DoesAll args failed old files new       what is done with each file: the results
+--   ShowsAll args results is_lost shown     what is shown of the files, and what is listed
+--   Totals args results is_lost tally       the numbers are those of all files
+--   HasStatus args in_walk results is_lost faults ending   which faults there are, and which status
+--   TellsAll args results is_lost tally ending   which messages there are, and which last lines
+--   Ends args in_walk old files new ending  all of that: the files are processed
+--   HasEnding is_terminal before after messages ending status   a run ends so at a moment
+--   EndsWriting job in_walk before files after status   the same, and all of that was written
+--   Run                                     the arguments of a run, its calls, and its ending
+--   StopsEarly run                          no file follows the walk
+--   ProcessesFiles run                      the files that the walk found are processed
+--   IsRun run                               one of the two: a whole run
+--   IsClean run                             a run in which nothing failed
 --   RunsTree job given left before after status   a whole run, and all of that was written
 --
 -- `old` and `new` are the calls before and after, the newest first. `given` and `left` are what the
 -- input has before and after. `messages` are those of the walk, and `in_walk` is their number.
--- `shown` is what is to be written to the output, and `streams` says what became of both streams.
--- `told` is to be written to the error stream after the walk, and `last` last.
-use Rattle.std.specs.Prelude.{◌≡◌, ℕ, ◌+◌, ◌≤◌, ◌<◌, ◌^◌, List, [], ◌++◌, length}
+-- `is_lost` says that memory ran out for a part of what was to be shown or listed.
+use Rattle.std.specs.Prelude.{◌≡◌, ◌⊎◌, ℕ, ◌+◌, ◌≤◌, ◌<◌, ◌^◌, List, [], ◌++◌, length}
 use Rattle.std.specs.Prelude.{Bool, true, false, take}
 use Rattle.ud_model.specs.conditions.Table.{Argument}
 use Rattle.ud_cond.specs.symbols.SymbolTable.{TableRepresents}
@@ -83,26 +91,41 @@ pub record DoesFiles (job : Job) (files : List Found) (before : Moment) (report 
   pub is_done : IsDone job.arguments.now after.out.failed files done
   pub does : DoesJob job done before report after report' counts lists lists'
 
--- `Ends args in_walk streams old names new shown told last status`: it is done with each file in
--- turn. What is shown of them comes first, and then a list, if one is wanted. If names are listed,
--- that is the table of the names of all files, after their conditions whose names can't be listed,
--- unless some was lost for want of memory, of which there is a message. If they aren't, but the
--- conditions that still name a symbol are, that is the list of those of all outputs, unless some
--- was lost. There is no line if no option names a symbol. The output has failed or is flushed. The
--- status is that of some number of faults, at least one for each faulty file, and of the number of
--- changed files. It is 2 if the error stream has failed. The last lines have the same numbers, that
--- of the conditions whose names can't be listed, those of removed lines and edited conditions, and
--- that of the conditions of all outputs that still name a symbol. The messages of the faulty files
--- come first, then those about the output, which has one if it has failed, and then the last lines.
--- There is one fault for each message, and for each of the walk.
-pub record Ends (args : Arguments) (in_walk : ℕ) (streams : StreamEnds)
-    (old : List Call) (names : List (List ℕ)) (new : List Call) (shown told last : List ℕ)
-    (status : ℕ) : Type 0 where
+-- `Ending`: how a run ends after its walk: what became of both streams, what is to be written to
+-- the output, to the error stream, and last to that, and the status.
+pub record Ending : Type 0 where
+  pub streams : StreamEnds
+  pub shown : List ℕ
+  pub told : List ℕ
+  pub last : List ℕ
+  pub status : ℕ
+
+-- `Tally`: the numbers of faults, of conditions whose names can't be listed, of edits, and of
+-- conditions that still name a symbol.
+pub record Tally : Type 0 where
+  pub faults : ℕ
+  pub hidden : ℕ
+  pub edits : Edits
+  pub remaining : ℕ
+
+-- `DoesAll args failed old files new`: what the arguments ask for is done with each file in turn,
+-- and nothing else. If the output has `failed`, these may be the first files (`IsDone`).
+pub record DoesAll (args : Arguments) (failed : Bool) (old : List Call) (files : List Found)
+    (new : List Call) : Type 0 where
+  pub done : List Found
+  pub is_done : IsDone args failed files done
   pub results : List FileResult
-  pub each : EachFile (DoesOne args) old names new results
+  pub each : EachFile (DoesOne args) old (names_of done) new results
+
+-- `ShowsAll args results is_lost shown`: what is shown of each file comes first, and then a list.
+-- If names are listed, it is the table of the names of all files, after their conditions whose
+-- names can't be listed. If they aren't, but the conditions that still name a symbol are, it is the
+-- list of those of all outputs. There is no line if no option names a symbol.
+pub record ShowsAll (args : Arguments) (results : List FileResult) (is_lost : Bool)
+    (shown : List ℕ) : Type 0 where
   pub listed : List ℕ
+  pub shown_is : shown ≡ shown_of results ++ listed
   pub is_wanted : ¬ (args.task ≡ Names) → args.list_remaining ≡ false → listed ≡ []
-  pub is_lost : Bool
   pub table : args.task ≡ Names → args.list_remaining ≡ false → is_lost ≡ false →
       Tabulates (names_in (listed_of results).names) (listed_of results).hidden_list listed
   pub remains : ¬ (args.task ≡ Names) → args.list_remaining ≡ true → is_lost ≡ false →
@@ -110,69 +133,80 @@ pub record Ends (args : Arguments) (in_walk : ℕ) (streams : StreamEnds)
       TableRepresents args.plan.run.symbols calls →
       listed ≡ texts_of calls (listing_of args) (mode_of args) (outputs_of results)
   pub unsearched : ¬ (args.task ≡ Names) → is_searched args ≡ false → listed ≡ []
-  pub shown_is : shown ≡ shown_of results ++ listed
-  pub faults : ℕ
-  pub reported : faulty_in results ≤ faults
-  pub flushed : streams.failed ≡ false → streams.unflushed ≡ false
-  pub status_is : status ≡ tree_status args.task args.plan.run.settings.exit_mode
-      streams.unheard faults (changed_in results)
-  pub hidden : ℕ
-  pub hidden_is : (listed_of results).hidden < 2 ^ 64 → hidden ≡ (listed_of results).hidden
-  pub edits : Edits
-  pub edited_is : edited_in results < 2 ^ 64 → edits.conditions ≡ edited_in results
-  pub removed_is : removed_in results < 2 ^ 64 → edits.lines ≡ removed_in results
-  pub remaining : ℕ
-  pub remaining_is : is_lost ≡ false → is_searched args ≡ true → (calls : List Argument) →
+
+-- `Totals args results is_lost tally`: the tally has the numbers of all files, if a machine can
+-- count these: of the conditions whose names can't be listed, of edited conditions, of removed
+-- lines, and of the conditions of all outputs that still name a symbol, unless some was lost.
+pub record Totals (args : Arguments) (results : List FileResult) (is_lost : Bool)
+    (tally : Tally) : Type 0 where
+  pub hidden : (listed_of results).hidden < 2 ^ 64 → tally.hidden ≡ (listed_of results).hidden
+  pub edited : edited_in results < 2 ^ 64 → tally.edits.conditions ≡ edited_in results
+  pub removed : removed_in results < 2 ^ 64 → tally.edits.lines ≡ removed_in results
+  pub remaining : is_lost ≡ false → is_searched args ≡ true → (calls : List Argument) →
       TableRepresents args.plan.run.symbols calls →
       count_of calls (mode_of args) (outputs_of results) < 2 ^ 64 →
-      remaining ≡ count_of calls (mode_of args) (outputs_of results)
-  pub none_remains : is_searched args ≡ false → remaining ≡ 0
-  pub last_is : last ≡ last_lines args (changed_in results) (same_in results) faults hidden
-      edits remaining
-  pub told_is : told ≡ told_of results ++ joined (output_messages is_lost streams.failed) ++ last
-  pub faults_are :
-      in_walk + length (output_messages is_lost streams.failed) + faulty_in results < 2 ^ 64 →
-      faults ≡ in_walk + length (output_messages is_lost streams.failed) + faulty_in results
+      tally.remaining ≡ count_of calls (mode_of args) (outputs_of results)
+  pub none_remains : is_searched args ≡ false → tally.remaining ≡ 0
 
--- `EndsWriting job in_walk before files after status`: the files are processed, what is shown was
--- written, and the last lines were. If the error stream is no terminal, all of `told` was written.
+-- `HasStatus args in_walk results is_lost faults ending`: there is one fault for each of the walk,
+-- for each message about the output and for each faulty file, if a machine can count these, and at
+-- least one for each faulty file. The status is that of this number, and of the number of changed
+-- files. It is 2 if the error stream has failed. The output has failed or is flushed.
+pub record HasStatus (args : Arguments) (in_walk : ℕ) (results : List FileResult)
+    (is_lost : Bool) (faults : ℕ) (ending : Ending) : Type 0 where
+  pub faults_are :
+      in_walk + length (output_messages is_lost ending.streams.failed) + faulty_in results
+      < 2 ^ 64 → faults ≡
+      in_walk + length (output_messages is_lost ending.streams.failed) + faulty_in results
+  pub reported : faulty_in results ≤ faults
+  pub status_is : ending.status ≡ tree_status args.task args.plan.run.settings.exit_mode
+      ending.streams.unheard faults (changed_in results)
+  pub flushed : ending.streams.failed ≡ false → ending.streams.unflushed ≡ false
+
+-- `TellsAll args results is_lost tally ending`: the messages of the faulty files come first, then
+-- those about the output, which has one if it has failed. Then come the last lines, which have the
+-- numbers of changed and unchanged files, and those of the tally.
+pub record TellsAll (args : Arguments) (results : List FileResult) (is_lost : Bool)
+    (tally : Tally) (ending : Ending) : Type 0 where
+  pub told_is : ending.told ≡
+      told_of results ++ joined (output_messages is_lost ending.streams.failed) ++ ending.last
+  pub last_is : ending.last ≡ last_lines args (changed_in results) (same_in results)
+      tally.faults tally.hidden tally.edits tally.remaining
+
+-- `Ends args in_walk old files new ending`: the files are processed. The output, the last lines,
+-- the status and the messages are those of their results.
+pub record Ends (args : Arguments) (in_walk : ℕ) (old : List Call) (files : List Found)
+    (new : List Call) (ending : Ending) : Type 0 where
+  pub does : DoesAll args ending.streams.failed old files new
+  pub is_lost : Bool
+  pub tally : Tally
+  pub shows : ShowsAll args does.results is_lost ending.shown
+  pub totals : Totals args does.results is_lost tally
+  pub has_status : HasStatus args in_walk does.results is_lost tally.faults ending
+  pub tells : TellsAll args does.results is_lost tally ending
+
+-- `HasEnding is_terminal before after messages ending status`: a run that ends so has this status.
+-- What is shown was written to the output, and the last lines were to the error stream. If that is
+-- no terminal, the messages and all of `told` were written, and nothing else.
+pub record HasEnding (is_terminal : Bool) (before after : Moment) (messages : List (List ℕ))
+    (ending : Ending) (status : ℕ) : Type 0 where
+  pub status_is : status ≡ ending.status
+  pub streams_are : ending.streams ≡ ends_of after.out after.err
+  pub sent : Sends before.out after.out ending.shown
+  pub ended : EndsWith after.err ending.last
+  pub tells : is_terminal ≡ false →
+      Sends before.err after.err (joined messages ++ ending.told)
+
+-- `EndsWriting job in_walk before files after status`: the files are processed, and what is to be
+-- written of them was.
 pub record EndsWriting (job : Job) (in_walk : ℕ) (before : Moment) (files : List Found)
     (after : Moment) (status : ℕ) : Type 0 where
-  pub done : List Found
-  pub is_done : IsDone job.arguments.now after.out.failed files done
-  pub shown : List ℕ
-  pub told : List ℕ
-  pub last : List ℕ
-  pub ends : Ends job.arguments.now in_walk (ends_of after.out after.err) before.calls
-      (names_of done) after.calls shown told last status
-  pub sent : Sends before.out after.out shown
-  pub ended : EndsWith after.err last
-  pub tells : job.is_terminal ≡ false → Sends before.err after.err told
+  pub ending : Ending
+  pub ends : Ends job.arguments.now in_walk before.calls files after.calls ending
+  pub written : HasEnding job.is_terminal before after [] ending status
 
--- `IsRun args given left old new messages streams shown told last status`: only calls of a walk
--- were made, which have these messages. There is a reason why no file follows, nothing is shown,
--- and the status is 2. Or the input was read whole, if paths come from it. The walk missed none of
--- the paths, and of the names below them. It found some files, at least one if paths are those of
--- the command line, and the run ends after them. It ends after the first ones of them if changes
--- are to be shown, and the output has failed.
-pub data IsRun (args : Arguments) (given left : Source) (old new : List Call)
-    (messages : List (List ℕ)) (streams : StreamEnds) :
-    List ℕ → List ℕ → List ℕ → ℕ → Type 0 where
-  no_run : {told : List ℕ} → WalkTells old new messages →
-      Stops args.from_input left messages told →
-      IsRun args given left old new messages streams [] told [] 2
-  ran : {shown told last : List ℕ} {status : ℕ} (text : List ℕ) (mid : List Call)
-      (files : List Found) → TakesInput args.from_input given left text →
-      MissesNone args text old mid (StandsIn files) (0 < length messages) →
-      IsWalk old mid files → WalkTells old mid messages →
-      (args.from_input ≡ false → 0 < length files) →
-      (done : List Found) → IsDone args streams.failed files done →
-      Ends args (length messages) streams mid (names_of done) new shown told last status →
-      IsRun args given left old new messages streams shown told last status
-
--- `Run`: the arguments of a run, what the input has before and after it, the calls before and
--- after it, the messages of the walk, what became of both streams, what is to be written to the
--- output, to the error stream after the walk, and last, and the status.
+-- `Run`: the arguments of a run, what the input has before and after it, the calls before and after
+-- it, the messages of the walk, and how it ends.
 pub record Run : Type 0 where
   pub args : Arguments
   pub given : Source
@@ -180,16 +214,34 @@ pub record Run : Type 0 where
   pub old : List Call
   pub new : List Call
   pub messages : List (List ℕ)
-  pub streams : StreamEnds
-  pub shown : List ℕ
-  pub told : List ℕ
-  pub last : List ℕ
-  pub status : ℕ
+  pub ending : Ending
 
--- `IsRunOf run`: `run` is a whole run.
-abbrev pub IsRunOf : Run → Type 0
-IsRunOf run = IsRun run.args run.given run.left run.old run.new run.messages run.streams
-    run.shown run.told run.last run.status
+-- `StopsEarly run`: only calls of a walk were made, which have these messages. There is a reason
+-- why no file follows, nothing is shown, and the status is 2.
+pub record StopsEarly (run : Run) : Type 0 where
+  pub walk : WalkTells run.old run.new run.messages
+  pub stops : Stops run.args.from_input run.left run.messages run.ending.told
+  pub unshown : run.ending.shown ≡ []
+  pub no_last : run.ending.last ≡ []
+  pub status_is : run.ending.status ≡ 2
+
+-- `ProcessesFiles run`: the input was read whole, if paths come from it. The walk missed none of
+-- the paths, and of the names below them. It found some files, at least one if paths are those of
+-- the command line, and the run ends after them.
+pub record ProcessesFiles (run : Run) : Type 0 where
+  pub text : List ℕ
+  pub mid : List Call
+  pub files : List Found
+  pub takes : TakesInput run.args.from_input run.given run.left text
+  pub misses : MissesNone run.args text run.old mid (StandsIn files) (0 < length run.messages)
+  pub is_walk : IsWalk run.old mid files
+  pub walk : WalkTells run.old mid run.messages
+  pub some : run.args.from_input ≡ false → 0 < length files
+  pub ends : Ends run.args (length run.messages) mid files run.new run.ending
+
+-- `IsRun run`: `run` is a whole run, with files or without.
+abbrev pub IsRun : Run → Type 0
+IsRun run = StopsEarly run ⊎ ProcessesFiles run
 
 -- `IsClean run`: if paths come from the input, it was read whole. A whole walk missed none of the
 -- paths and has no message, and none of its files has an error. The output hasn't failed and is
@@ -207,21 +259,22 @@ pub record IsClean (run : Run) : Type 0 where
   pub faultless : faulty_in results ≡ 0
   pub whole : run.args.from_input ≡ true →
       (text : List ℕ) × ReadsWhole run.given run.left text
-  pub unfailed : run.streams.failed ≡ false
-  pub flushed : run.streams.unflushed ≡ false
-  pub heard : run.streams.unheard ≡ false
+  pub unfailed : run.ending.streams.failed ≡ false
+  pub flushed : run.ending.streams.unflushed ≡ false
+  pub heard : run.ending.streams.unheard ≡ false
 
--- `RunsTree job given left before after status`: a whole run. What is shown was written to the
--- output, and the last lines were to the error stream. If that is no terminal, the messages of the
--- walk and all of `told` were written, and nothing else.
+-- `RunsTree job given left before after status`: a whole run, and what is to be written of it was.
 pub record RunsTree (job : Job) (given left : Source) (before after : Moment) (status : ℕ) :
     Type 0 where
   pub messages : List (List ℕ)
-  pub shown : List ℕ
-  pub told : List ℕ
-  pub last : List ℕ
-  pub is_run : IsRun job.arguments.now given left before.calls after.calls messages
-      (ends_of after.out after.err) shown told last status
-  pub sent : Sends before.out after.out shown
-  pub ended : EndsWith after.err last
-  pub tells : job.is_terminal ≡ false → Sends before.err after.err (joined messages ++ told)
+  pub ending : Ending
+  pub is_run : IsRun (record {
+    args = job.arguments.now;
+    given = given;
+    left = left;
+    old = before.calls;
+    new = after.calls;
+    messages = messages;
+    ending = ending;
+  })
+  pub written : HasEnding job.is_terminal before after messages ending status

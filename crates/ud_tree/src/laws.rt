@@ -5,7 +5,7 @@ ghost use Rattle.ud_replace.specs.Moments.{Files, AreTrue, EachCall};
 ghost use Rattle.ud_replace.specs.TextOutcomes.{TextOptions, IsPlanned};
 ghost use Rattle.ud_tree.specs.declared.arguments.Task.TheVariants.{Replace, Diff};
 ghost use Rattle.ud_tree.specs.TreeDiffs.{ShowsDiffs};
-ghost use Rattle.ud_tree.specs.TreeRuns.{Run, IsRunOf, IsClean};
+ghost use Rattle.ud_tree.specs.TreeRuns.{Run, IsRun, IsClean};
 ghost use Rattle.ud_tree.specs.TreeMoments.{TouchesNothing, TouchesFreshOrNone};
 ghost use Rattle.ud_tree.specs.TreeMoments.{LeavesOldOrOutput};
 
@@ -13,13 +13,13 @@ ghost use Rattle.ud_tree.specs.TreeMoments.{LeavesOldOrOutput};
 /// has an error. The output hasn't failed and is flushed, and the error stream hasn't failed. The
 /// number of messages is taken to be one that a machine can count.
 pub fn law_run_status()
-    ensures { (run : Run) → IsRunOf run → ¬ (run.status ≡ 2) →
+    ensures { (run : Run) → IsRun run → ¬ (run.ending.status ≡ 2) →
         length run.messages + 2 < 2 ^ 64 → IsClean run }
 {}
 
 /// If nothing is to be replaced, no call of a run touches a file, whatever the answers are.
 pub fn law_run_reads()
-    ensures { (run : Run) → IsRunOf run → ¬ (run.args.task ≡ Replace) →
+    ensures { (run : Run) → IsRun run → ¬ (run.args.task ≡ Replace) →
         EachCall TouchesNothing run.old run.new }
 {}
 
@@ -27,7 +27,7 @@ pub fn law_run_reads()
 /// of the files. Each diff turns the bytes that were read into the whole output for them, and back.
 /// Then come the conditions that still name a symbol, if they are to be listed.
 pub fn law_run_shows()
-    ensures { (o : TextOptions) (run : Run) → IsRunOf run → IsPlanned run.args.plan o →
+    ensures { (o : TextOptions) (run : Run) → IsRun run → IsPlanned run.args.plan o →
         run.args.task ≡ Diff → ShowsDiffs o run }
 {}
 
@@ -35,7 +35,7 @@ pub fn law_run_shows()
 /// of the file in hand. Each rename comes after that one took the whole output. Writing into files
 /// isn't allowed here.
 pub fn law_run_renames()
-    ensures { (o : TextOptions) (run : Run) → IsRunOf run → IsPlanned run.args.plan o →
+    ensures { (o : TextOptions) (run : Run) → IsRun run → IsPlanned run.args.plan o →
         run.args.write_into ≡ false → EachCall (TouchesFreshOrNone o) run.old run.new }
 {}
 
@@ -43,7 +43,7 @@ pub fn law_run_renames()
 /// call of a run. A process that is killed between two calls leaves such a state. Writing into
 /// files isn't allowed here.
 pub fn law_run_old_or_new()
-    ensures { (o : TextOptions) (first : Files) (run : Run) → IsRunOf run →
+    ensures { (o : TextOptions) (first : Files) (run : Run) → IsRun run →
         IsPlanned run.args.plan o → run.args.write_into ≡ false → AreTrue first run.new →
         EachCall (LeavesOldOrOutput o first run.old) run.old run.new }
 {}

@@ -2,4 +2,4 @@ use Rattle.ud_tree.proofs.TreeLaws.{run_renames}
 use Rattle.ud_tree.proofs.laws.law_run_renames.Goals as goal
 
 pub returns : goal.returns
-returns c = λ o run h p into. run_renames o run.args run.given run.left run.old run.new run.messages run.streams run.shown run.told run.last run.status p into h
+returns c = λ o run h p into. run_renames o run p into h

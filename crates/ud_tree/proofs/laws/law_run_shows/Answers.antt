@@ -1,6 +1,5 @@
-use Rattle.std.proofs.Common.{refl}
 use Rattle.ud_tree.proofs.TreeLaws.{run_shows}
 use Rattle.ud_tree.proofs.laws.law_run_shows.Goals as goal
 
 pub returns : goal.returns
-returns c = λ o run h p diff. run_shows o run p diff run.shown run.told run.last run.status refl h
+returns c = λ o run h p diff. run_shows o run p diff h
