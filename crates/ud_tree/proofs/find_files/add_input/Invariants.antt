@@ -3,7 +3,7 @@ use Rattle.ud_tree.specs.WalkMessages.{ReportsWalk}
 use Rattle.ud_tree.specs.Walks.{Finds}
 use Rattle.std.proofs.Common.{◌<◌, map, take}
 use Rattle.ud_tree.specs.Covering.{CoversInput, IsIn}
-use Rattle.ud_tree.proofs.run.add_input.Given as goal
+use Rattle.ud_tree.proofs.find_files.add_input.Given as goal
 
 abbrev pub invariant-loop-name : goal.invariant-loop-name
 invariant-loop-name g l =

@@ -1,7 +1,7 @@
 -- By the parts of the line.
 use Rattle.std.proofs.Common.{◌∙◌}
 use Rattle.ud_tree.proofs.SummaryLemmas.{says_same, listed_joined}
-use Rattle.ud_tree.proofs.run.report_listed.Goals as goal
+use Rattle.ud_tree.proofs.last_lines.report_listed.Goals as goal
 
 pub returns-clause-says : goal.returns-clause-says
 returns-clause-says g c =

@@ -4,7 +4,7 @@ use Rattle.std.proofs.Common.{refl, ◌<◌}
 use Rattle.ud_tree.proofs.CoverLemmas.{takes_none, takes_at}
 use Rattle.ud_tree.specs.WalkMessages.{no_input}
 use Rattle.ud_tree.proofs.WalkTellLemmas.{walk_none, walk_remark, walk_then, reported, stops_unread}
-use Rattle.ud_tree.proofs.run.add_input.Goals as goal
+use Rattle.ud_tree.proofs.find_files.add_input.Goals as goal
 
 pub returns-in_err-all-clause-finds : goal.returns-in_err-all-clause-finds
 returns-in_err-all-clause-finds g c = finds_none (g.T.Folder.history c.args.tree.now) c.args.walk.now.found.items

@@ -4,7 +4,7 @@ use Rattle.ud_io.specs.Streams.{stream_of}
 use Rattle.ud_tree.specs.Summaries.{remaining_text}
 use Rattle.ud_io.proofs.StreamLemmas.{sends_none, sends_same}
 use Rattle.ud_tree.proofs.SummaryLemmas.{said_unshown, remaining_none, remaining_listed, remaining_told}
-use Rattle.ud_tree.proofs.run.report_remaining.Goals as goal
+use Rattle.ud_tree.proofs.last_lines.report_remaining.Goals as goal
 
 pub returns-then-arguments : goal.returns-then-arguments
 returns-then-arguments g c = λ hidden.

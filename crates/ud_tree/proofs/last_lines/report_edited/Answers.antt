@@ -3,7 +3,7 @@ use Rattle.std.proofs.Common.{sym, ◌∙◌}
 use Rattle.ud_io.specs.Streams.{stream_of}
 use Rattle.ud_io.proofs.StreamLemmas.{sends_none, sends_same}
 use Rattle.ud_tree.proofs.SummaryLemmas.{said_unshown, edited_none, edited_told}
-use Rattle.ud_tree.proofs.run.report_edited.Goals as goal
+use Rattle.ud_tree.proofs.last_lines.report_edited.Goals as goal
 
 pub returns-then-not-prunes-clause-line : goal.returns-then-not-prunes-clause-line
 returns-then-not-prunes-clause-line g c = λ hidden. sends_same (sym (edited_none c.args.prunes c.args.count c.if-not-prunes.true)) (sends_none (stream_of g.E.Write.contents c.args.err.now))

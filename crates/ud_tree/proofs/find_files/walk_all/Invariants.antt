@@ -5,7 +5,7 @@ use Rattle.ud_tree.specs.Catching.{Catches}
 use Rattle.std.proofs.Common.{map, take}
 use Rattle.std.specs.Prelude.{string_bytes}
 use Rattle.ud_tree.proofs.CoverLemmas.{StartsSome}
-use Rattle.ud_tree.proofs.run.walk_all.Given as goal
+use Rattle.ud_tree.proofs.find_files.walk_all.Given as goal
 
 abbrev pub invariant-loop-path : goal.invariant-loop-path
 invariant-loop-path g l =

@@ -7,7 +7,7 @@ use Rattle.std.proofs.lemmas.Result.{IfOk-weaker}
 use Rattle.ud_io.specs.Streams.{stream_of}
 use Rattle.ud_tree.proofs.WalkLemmas.{finds_none, finds_then}
 use Rattle.ud_tree.proofs.WalkTellLemmas.{walk_none, walk_then, stops_bad, stops_by}
-use Rattle.ud_tree.proofs.run.walk_all.Goals as goal
+use Rattle.ud_tree.proofs.find_files.walk_all.Goals as goal
 
 pub returns-then-job-clause-takes : goal.returns-then-job-clause-takes
 returns-then-job-clause-takes g c = IfOk-weaker c.add_input.result _ _ (λ all takes is. paths_given c.args.job.now.arguments.now c.if-job.true (takes is)) c.add_input.ensures.takes

@@ -2,8 +2,8 @@ use Rattle.std.proofs.Common.{refl, sym, ◌<◌, length}
 use Rattle.ud_tree.proofs.WalkLemmas.{walk_found}
 use Rattle.ud_tree.proofs.CoverLemmas.{paths_kept}
 use Rattle.ud_tree.proofs.WalkTellLemmas.{stops_unmatched, some_files, some_unless, some_told}
-use Rattle.ud_tree.proofs.run.find_files.Goals.{else-is_empty-via-then-is_empty+else-not-job, else-is_empty-via-else-is_empty}
-use Rattle.ud_tree.proofs.run.find_files.Goals as goal
+use Rattle.ud_tree.proofs.find_files.find_files.Goals.{else-is_empty-via-then-is_empty+else-not-job, else-is_empty-via-else-is_empty}
+use Rattle.ud_tree.proofs.find_files.find_files.Goals as goal
 
 pub returns-then-not-all-clause-stops : goal.returns-then-not-all-clause-stops
 returns-then-not-all-clause-stops g c = λ none. c.in_ok-all.ensures.stops c.if-not-all.true none

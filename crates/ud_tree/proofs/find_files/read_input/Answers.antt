@@ -2,7 +2,7 @@ use Rattle.std.proofs.Common.{ℕ, List, sym, ◌∙◌, subst, arith}
 use Rattle.std.specs.Io.KnownBytes.{Consumes}
 use Rattle.std.proofs.KnownBytes.{Consumes-nil}
 use Rattle.ud_tree.proofs.StreamLemmas.{reads_more, reads_end, read_some}
-use Rattle.ud_tree.proofs.run.read_input.Goals as goal
+use Rattle.ud_tree.proofs.find_files.read_input.Goals as goal
 
 pub loop-read-init : goal.loop-read-init
 loop-read-init g c = record {

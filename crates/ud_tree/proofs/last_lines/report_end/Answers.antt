@@ -1,7 +1,7 @@
 use Rattle.std.proofs.Common.{ap, ◌∙◌}
 use Rattle.ud_io.specs.Streams.{stream_of}
 use Rattle.ud_tree.proofs.SummaryLemmas.{ends_quiet, ends_told}
-use Rattle.ud_tree.proofs.run.report_end.Goals as goal
+use Rattle.ud_tree.proofs.last_lines.report_end.Goals as goal
 
 pub returns-then-job : goal.returns-then-job
 returns-then-job g c =

@@ -3,7 +3,7 @@ use Rattle.std.proofs.Common.{sym, ap}
 use Rattle.ud_tree.specs.declared.arguments.Task.{Task}
 use Rattle.ud_tree.specs.Summaries.{summary}
 use Rattle.ud_tree.proofs.SummaryLemmas.{says_same}
-use Rattle.ud_tree.proofs.run.report_counts.Goals as goal
+use Rattle.ud_tree.proofs.last_lines.report_counts.Goals as goal
 
 pub returns-in-Replace-clause-says : goal.returns-in-Replace-clause-says
 returns-in-Replace-clause-says g c =

@@ -1,0 +1,187 @@
+//! Finding the files of a run: below the paths of the command line, or those of the input.
+
+ghost use Rattle.std.specs.Prelude.{◌≡◌, ◌<◌, ◌++◌, [], map, true, false, IfOk, IfSome, IfNone};
+ghost use Rattle.std.specs.Prelude.{OnErr, OnOk};
+ghost use Rattle.ud_tree.specs.Covering.{IsIn, own_path, paths_of};
+ghost use Rattle.ud_tree.specs.Streams.{source_of, ReadsWhole};
+ghost use Rattle.ud_io.specs.Streams.{stream_of};
+ghost use Rattle.ud_tree.specs.WalkMessages.{FindsFiles, ReportsWalk, StopsWalk};
+ghost use Rattle.ud_tree.specs.WalkMessages.{TakesEach, TakesPaths};
+ghost use Rattle.ud_tree.specs.Walks.{Finds};
+
+use crate::job::Job;
+use crate::report::Report;
+use crate::tree::Tree;
+use crate::walk::{Found, Walk};
+use std::alloc::{AllocError, Global};
+use std::io::{Read, Write};
+use ud_engine::Watched;
+
+/// The most bytes of one read of the input.
+const INPUT_BYTES: usize = 8_192;
+
+/// Returns the files of the run; `None` if the input can't be read, if a path of the command line
+/// has a fault, or if no file matches.
+pub(crate) fn find_files<T: Tree, R: Read, E: Write>(
+    job: &Job<'_>,
+    tree: &mut T,
+    input: &mut Watched<R>,
+    report: &mut Report,
+    err: &mut Watched<E>,
+) -> Result<Option<Vec<Found>>, AllocError>
+    ensures files { report.old.faulty ≡ 0 → IfOk result (λ r. IfSome r (λ files.
+        FindsFiles job.now.arguments.now
+        (source_of R.remaining input.old) (source_of R.remaining input.new)
+        (T.history tree.old) (T.history tree.new)
+        files.items report.old report.new (stream_of E.contents err.old)
+        (stream_of E.contents err.new))) }
+    ensures stops { report.old.faulty ≡ 0 → IfOk result (λ r. IfNone r
+        (StopsWalk job.now.arguments.now.from_input (source_of R.remaining input.new)
+        (T.history tree.old) (T.history tree.new)
+        report.old report.new (stream_of E.contents err.old)
+        (stream_of E.contents err.new))) }
+    ensures no_memory { OnErr result (ReportsWalk (T.history tree.old) (T.history tree.new)
+        report.old report.new (stream_of E.contents err.old) (stream_of E.contents err.new)) }
+{
+    let mut walk = Walk::new(job.alloc, job.arguments.patterns.as_slice());
+    let all = walk_all(job, &mut walk, tree, input, report, err)?;
+    if !all {
+        return Ok(None);
+    }
+    let files = walk.finish()?;
+    if files.is_empty() && !job.arguments.from_input {
+        report.line(err, &[b"No file matches"]);
+        return Ok(None);
+    }
+    Ok(Some(files))
+}
+
+/// Walks over all paths that the arguments name. Returns false if the input can't be read, or if a
+/// path of the command line has a fault. Nothing below the paths was looked at then.
+fn walk_all<T: Tree, R: Read, E: Write>(
+    job: &Job<'_>,
+    walk: &mut Walk<'_>,
+    tree: &mut T,
+    input: &mut Watched<R>,
+    report: &mut Report,
+    err: &mut Watched<E>,
+) -> Result<bool, AllocError>
+    requires { walk.old.patterns.now ≡ job.now.arguments.now.patterns.items }
+    ensures finds { Finds (T.history tree.old) (T.history tree.new) walk.old.found.items
+        walk.new.found.items }
+    ensures told { ReportsWalk (T.history tree.old) (T.history tree.new) report.old report.new
+        (stream_of E.contents err.old) (stream_of E.contents err.new) }
+    ensures takes { IfOk result (λ all. all ≡ true → TakesPaths job.now.arguments.now
+        (source_of R.remaining input.old) (source_of R.remaining input.new)
+        (T.history tree.old) (T.history tree.new) (IsIn walk.new.found.items)
+        (0 < report.new.faulty)) }
+    ensures stops { IfOk result (λ all. all ≡ false → report.old.faulty ≡ 0 →
+        StopsWalk job.now.arguments.now.from_input (source_of R.remaining input.new)
+        (T.history tree.old) (T.history tree.new) report.old report.new
+        (stream_of E.contents err.old) (stream_of E.contents err.new)) }
+{
+    if job.arguments.from_input {
+        return add_input(job.alloc, walk, tree, input, report, err);
+    }
+    for path in job.arguments.paths.as_slice() {
+        walk.start(tree, report, err, path.as_str())?;
+    }
+    if report.faulty() > 0 {
+        return Ok(false);
+    }
+    walk.go(tree, report, err)?;
+    Ok(true)
+}
+
+/// Adds the files whose paths are on the input, each ended by a NUL. Returns false after a failed
+/// read, which was reported. No path was looked at then, since the last one may be cut.
+fn add_input<T: Tree, R: Read, E: Write>(
+    alloc: Global,
+    walk: &mut Walk<'_>,
+    tree: &mut T,
+    input: &mut Watched<R>,
+    report: &mut Report,
+    err: &mut Watched<E>,
+) -> Result<bool, AllocError>
+    ensures finds { Finds (T.history tree.old) (T.history tree.new) walk.old.found.items
+        walk.new.found.items }
+    ensures told { ReportsWalk (T.history tree.old) (T.history tree.new) report.old report.new
+        (stream_of E.contents err.old) (stream_of E.contents err.new) }
+    ensures takes { IfOk result (λ all. all ≡ true → TakesEach
+        (source_of R.remaining input.old) (source_of R.remaining input.new)
+        (T.history tree.old) (T.history tree.new) (IsIn walk.new.found.items)
+        (0 < report.new.faulty)) }
+    ensures stops { IfOk result (λ all. all ≡ false →
+        StopsWalk true (source_of R.remaining input.new) (T.history tree.old)
+        (T.history tree.new) report.old report.new
+        (stream_of E.contents err.old) (stream_of E.contents err.new)) }
+{
+    let mut text = Vec::new(alloc);
+    let all = read_input(input, &mut text)?;
+    if !all {
+        report.fault(err, b"stdin", b"Cannot be read");
+        return Ok(false);
+    }
+    let paths = split_paths(alloc, text.as_slice())?;
+    for name in paths.as_slice() {
+        walk.add(tree, report, err, name.as_slice())?;
+    }
+    Ok(true)
+}
+
+/// Appends the bytes of the input up to its end. Returns false if a read fails.
+///
+/// # Errors
+/// Fails if memory runs out.
+fn read_input<R: Read>(input: &mut Watched<R>, text: &mut Vec<u8>) -> Result<bool, AllocError>
+    requires empty { text.old.items ≡ [] }
+    ensures all { IfOk result (λ all. all ≡ true →
+        ReadsWhole (source_of R.remaining input.old) (source_of R.remaining input.new)
+        text.new.items) }
+    ensures cut { IfOk result (λ all. all ≡ false → input.new.failed ≡ true) }
+{
+    if input.failed() {
+        return Ok(false);
+    }
+    let mut buffer = [0u8; INPUT_BYTES];
+    for _read in 0..u64::MAX {
+        let Some(count) = input.read(&mut buffer) else {
+            return Ok(false);
+        };
+        if count == 0 {
+            return Ok(true);
+        }
+        text.extend_from_slice(&buffer[..count])?;
+    }
+    unreachable!()
+}
+
+/// Returns the paths of a text, each of which ends in a NUL. The last one may end the text.
+fn split_paths(alloc: Global, text: &[u8]) -> Result<Vec<Vec<u8>>, AllocError>
+    ensures { IfOk result (λ paths. map (λ p. p.items) paths.items ≡ paths_of text.now) }
+{
+    let mut paths = Vec::new(alloc);
+    let mut path = Vec::new(alloc);
+    for byte in text {
+        if *byte == 0 {
+            add_path(&mut paths, path)?;
+            path = Vec::new(alloc);
+        } else {
+            path.push(*byte)?;
+        }
+    }
+    add_path(&mut paths, path)?;
+    Ok(paths)
+}
+
+/// Adds a path, unless it is empty.
+fn add_path(paths: &mut Vec<Vec<u8>>, path: Vec<u8>) -> Result<(), AllocError>
+    ensures { OnOk result (map (λ p. p.items) paths.new.items ≡
+        map (λ p. p.items) paths.old.items ++ own_path path.items) }
+{
+    if path.is_empty() {
+        return Ok(());
+    }
+    paths.push(path)?;
+    Ok(())
+}

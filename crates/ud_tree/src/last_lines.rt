@@ -1,0 +1,241 @@
+//! The last lines of a run: how many files there were of each kind, how many lines were removed, how
+//! many conditions were edited, and how many still name a symbol.
+
+ghost use Rattle.std.specs.Prelude.{◌≡◌, false};
+ghost use Rattle.ud_tree.specs.Summaries.{Says, TellsEnd, changes_line, summary};
+ghost use Rattle.ud_tree.specs.Summaries.{files_text, hidden_text};
+ghost use Rattle.ud_tree.specs.Summaries.{remaining_line, remaining_text};
+ghost use Rattle.ud_tree.specs.Summaries.{edited_line, edited_text};
+ghost use Rattle.ud_tree.specs.Summaries.{removed_line, removed_text};
+ghost use Rattle.ud_io.specs.Streams.{Sends, stream_of};
+
+use crate::arguments::{Arguments, Task};
+use crate::counts::Counts;
+use crate::job::Job;
+use crate::report::Report;
+use itoa::Buffer;
+use std::io::Write;
+use ud_engine::Watched;
+
+/// Writes the last lines, unless the run is quiet: the counts, how many lines were removed, how
+/// many conditions were edited, and how many still name a symbol.
+pub(crate) fn report_end<E: Write>(
+    job: &Job<'_>,
+    report: &mut Report,
+    err: &mut Watched<E>,
+    hidden: usize,
+    counts: Counts,
+    faults: usize,
+)
+    ensures { TellsEnd job.now.arguments.now counts faults hidden report.old
+        (stream_of E.contents err.old) (stream_of E.contents err.new) }
+{
+    if job.arguments.quiet {
+        return;
+    }
+    report_counts(job.arguments, report, err, hidden, counts, faults);
+    report_removed(report, err, counts.edits.lines);
+    report_edited(
+        job.arguments.plan.prunes,
+        report,
+        err,
+        counts.edits.conditions,
+    );
+    report_remaining(job.arguments, report, err);
+}
+
+/// Writes the counts.
+fn report_counts<E: Write>(
+    arguments: &Arguments,
+    report: &mut Report,
+    err: &mut Watched<E>,
+    hidden: usize,
+    counts: Counts,
+    faults: usize,
+)
+    ensures says { Says report.old report.new (stream_of E.contents err.old)
+        (stream_of E.contents err.new)
+        (summary arguments.now.task arguments.now.list_hidden counts.changed counts.unchanged
+        faults hidden) }
+    ensures remaining { report.new.remaining ≡ report.old.remaining }
+{
+    match arguments.task {
+        Task::Replace => report_changes(report, err, b" changed, ", counts, faults),
+        Task::Diff => report_changes(report, err, b" would change, ", counts, faults),
+        Task::Names => {
+            report_listed(arguments.list_hidden, report, err, hidden, counts, faults);
+        }
+    }
+}
+
+/// Writes how many files changed, or would, by the word that says which of the two.
+fn report_changes<E: Write>(
+    report: &mut Report,
+    err: &mut Watched<E>,
+    word: &[u8],
+    counts: Counts,
+    faults: usize,
+)
+    ensures says { Says report.old report.new (stream_of E.contents err.old)
+        (stream_of E.contents err.new)
+        (changes_line word.now counts.changed counts.unchanged faults) }
+    ensures remaining { report.new.remaining ≡ report.old.remaining }
+{
+    let (mut first, mut second, mut third) = (Buffer::new(), Buffer::new(), Buffer::new());
+    let changed = first.format(counts.changed).as_bytes();
+    let unchanged = second.format(counts.unchanged).as_bytes();
+    let faulty = third.format(faults).as_bytes();
+    report.line(
+        err,
+        &[
+            changed,
+            word,
+            unchanged,
+            b" unchanged, ",
+            faulty,
+            b" faulty",
+        ],
+    );
+}
+
+/// Writes how many files were listed, and how many conditions couldn't be.
+fn report_listed<E: Write>(
+    lists_hidden: bool,
+    report: &mut Report,
+    err: &mut Watched<E>,
+    hidden: usize,
+    counts: Counts,
+    faults: usize,
+)
+    ensures says { Says report.old report.new (stream_of E.contents err.old)
+        (stream_of E.contents err.new)
+        (summary Task.Names lists_hidden counts.changed counts.unchanged faults hidden) }
+    ensures remaining { report.new.remaining ≡ report.old.remaining }
+{
+    let (mut first, mut second, mut third) = (Buffer::new(), Buffer::new(), Buffer::new());
+    let listed = first.format(counts.unchanged).as_bytes();
+    let faulty = second.format(faults).as_bytes();
+    let unlisted = third.format(hidden).as_bytes();
+    report.line(
+        err,
+        &[
+            listed,
+            files_text(counts.unchanged),
+            faulty,
+            b" faulty; ",
+            unlisted,
+            hidden_text(lists_hidden, hidden),
+        ],
+    );
+}
+
+/// Returns what follows the number of files whose names were listed.
+fn files_text(count: usize) -> &'static [u8]
+    ensures { result.now ≡ files_text count }
+{
+    if count == 1 {
+        b" file listed, "
+    } else {
+        b" files listed, "
+    }
+}
+
+/// Returns what follows the number of conditions that couldn't be listed. Unless they are `listed`,
+/// it names the option that does.
+fn hidden_text(listed: bool, count: usize) -> &'static [u8]
+    ensures { result.now ≡ hidden_text listed count }
+{
+    if count == 0 || listed {
+        if count == 1 {
+            b" condition could not be listed"
+        } else {
+            b" conditions could not be listed"
+        }
+    } else if count == 1 {
+        b" condition could not be listed; -r lists it"
+    } else {
+        b" conditions could not be listed; -r lists them"
+    }
+}
+
+/// Writes how many lines were removed, if there are some.
+fn report_removed<E: Write>(report: &mut Report, err: &mut Watched<E>, count: usize)
+    ensures line { report.old.is_shown ≡ false → Sends (stream_of E.contents err.old)
+        (stream_of E.contents err.new) (removed_line count) }
+    ensures hidden { report.old.is_shown ≡ false → report.new.is_shown ≡ false }
+    ensures remaining { report.new.remaining ≡ report.old.remaining }
+{
+    if count == 0 {
+        return;
+    }
+    let mut digits = Buffer::new();
+    let number = digits.format(count).as_bytes();
+    report.line(err, &[number, removed_text(count)]);
+}
+
+/// Returns what follows the number of removed lines.
+fn removed_text(count: usize) -> &'static [u8]
+    ensures { result.now ≡ removed_text count }
+{
+    if count == 1 {
+        b" line removed"
+    } else {
+        b" lines removed"
+    }
+}
+
+/// Writes how many conditions were edited, if conditions are pruned.
+fn report_edited<E: Write>(prunes: bool, report: &mut Report, err: &mut Watched<E>, count: usize)
+    ensures line { report.old.is_shown ≡ false → Sends (stream_of E.contents err.old)
+        (stream_of E.contents err.new) (edited_line prunes count) }
+    ensures hidden { report.old.is_shown ≡ false → report.new.is_shown ≡ false }
+    ensures remaining { report.new.remaining ≡ report.old.remaining }
+{
+    if !prunes {
+        return;
+    }
+    let mut digits = Buffer::new();
+    let number = digits.format(count).as_bytes();
+    report.line(err, &[number, edited_text(count)]);
+}
+
+/// Returns what follows the number of edited conditions.
+fn edited_text(count: usize) -> &'static [u8]
+    ensures { result.now ≡ edited_text count }
+{
+    if count == 1 {
+        b" condition edited"
+    } else {
+        b" conditions edited"
+    }
+}
+
+/// Writes how many conditions still name a symbol, if they were listed or if there are some.
+fn report_remaining<E: Write>(arguments: &Arguments, report: &mut Report, err: &mut Watched<E>)
+    ensures { report.old.is_shown ≡ false → Sends (stream_of E.contents err.old)
+        (stream_of E.contents err.new)
+        (remaining_line arguments.now.list_remaining report.old.remaining.count) }
+{
+    let count = report.remaining();
+    let mut digits = Buffer::new();
+    let number = digits.format(count).as_bytes();
+    if arguments.list_remaining {
+        report.line(err, &[number, remaining_text(count)]);
+        return;
+    }
+    if count == 0 {
+        return;
+    }
+    report.line(err, &[number, remaining_text(count), b"; -r lists them"]);
+}
+
+/// Returns what follows the number of conditions that still name a symbol.
+fn remaining_text(count: usize) -> &'static [u8]
+    ensures { result.now ≡ remaining_text count }
+{
+    if count == 1 {
+        b" condition still names a symbol"
+    } else {
+        b" conditions still name a symbol"
+    }
+}
