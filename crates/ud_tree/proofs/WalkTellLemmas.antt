@@ -1,5 +1,5 @@
 -- The messages of parts of a walk, one after another.
-use Rattle.std.proofs.Common.{String, Global, ◌≡◌, ◌==◌, true≢false, ℕ, suc, ◌+◌, ◌<◌, ◌-◌, ◌^◌, min, List, [], ◌∷◌, ◌++◌, length, take, map, get_or, Bool, true, false, refl, sym, ap, ◌∙◌, subst, arith, append_assoc, append-nil, codes, length-append}
+use Rattle.std.proofs.Common.{String, Global, ◌≡◌, ◌==◌, true≢false, ℕ, suc, ◌+◌, ◌<◌, ◌-◌, ◌^◌, min, List, [], ◌∷◌, ◌++◌, length, take, map, get_or, Bool, true, false, refl, sym, ap, ◌∙◌, subst, arith, append_assoc, append-nil, codes, length-append, Option}
 use Rattle.std.proofs.lemmas.List.{map-append, get_or-map, length-map}
 use Rattle.std.proofs.lemmas.Grind.{flat_map-append}
 use Rattle.std.proofs.lemmas.List.Elements.{Contains-append_left, Contains-append_right, Contains-get_or}
@@ -12,17 +12,20 @@ use Rattle.ud_replace.specs.declared.node.FileId.{FileId}
 use Rattle.ud_replace.specs.declared.node.Node.{Node}
 use Rattle.ud_replace.specs.Calls.{Call, walked, WalkCall, met, followed, listed}
 use Rattle.ud_tree.specs.declared.report.Report.{Report}
+use Rattle.ud_tree.specs.declared.walk.Walk.{Walk}
 use Rattle.ud_tree.specs.Paths.{folder_len, fresh_end, fresh_name}
 use Rattle.ud_tree.specs.Messages.{locked_line, fault_line, IsFailureOf, no_reason, with_reason, Tells, ReportsOne, ReportsFailure}
 use Rattle.ud_tree.specs.Streams.{Source, takes_all, takes_none}
-use Rattle.ud_io.specs.Streams.{Stream}
+use Rattle.ud_io.specs.Streams.{Stream, stream_of}
+use Rattle.ud_io.specs.Watched.{WatchedState}
 use Rattle.std.specs.Prelude.{string_bytes}
 use Rattle.std.proofs.lemmas.Grind.{common_steps}
 use Rattle.ud_tree.specs.declared.arguments.Arguments.{Arguments}
 use Rattle.ud_tree.specs.Covering.{CoversPaths, misses_no_path, misses_no_input}
 use Rattle.ud_tree.specs.Summaries.{line_of}
-use Rattle.ud_tree.specs.WalkMessages.{is_refused, is_missing, is_unknown, is_unread, IsRemark, is_link, is_other, is_no_text, no_input, AreTold, none_told, then_answered, then_refused, then_vanished, then_remark, joined, WasListed, ReportsRefusal, ReportsWalk, ReportsNames, VisitTells, is_gone, is_told, TellsGiven, is_quiet, is_irregular, input_message, no_memory, bad_input, no_match, StopsWalk, TakesEach, TakesPaths}
+use Rattle.ud_tree.specs.WalkMessages.{is_refused, is_missing, is_unknown, is_unread, IsRemark, is_link, is_other, is_no_text, no_input, AreTold, none_told, then_answered, then_refused, then_vanished, then_remark, joined, WasListed, ReportsRefusal, ReportsWalk, GoesOn, ReportsNames, VisitTells, is_gone, is_told, TellsGiven, is_quiet, is_irregular, input_message, no_memory, bad_input, no_match, StopsWalk, TakesEach, TakesPaths}
 use Rattle.ud_tree.proofs.MessageLemmas.{tells_kept, tells_then}
+use Rattle.ud_tree.proofs.WalkLemmas.{finds_none, finds_same, finds_then}
 
 -- One fault more is counted, unless the number is too large.
 pub one_more : (a b c : ℕ) → b ≡ min (a + 1) (2 ^ 64 - 1) → c ≡ b → a + 1 < 2 ^ 64 → c ≡ a + 1
@@ -377,3 +380,14 @@ paths_covered args {calls = calls} {calls' = calls'} {has = has} {told = told} n
       takes = takes_none none refl;
       misses = misses_no_path none (subst (λ ps. CoversPaths (map (λ p. string_bytes p) ps) (map (λ p. string_bytes p) args.patterns.items) calls calls' has told) are h);
     }
+
+-- Nothing was asked yet.
+pub goes_none : {T E : Type 0} (history : T → List Call) (contents : E → Option (List ℕ)) (tree : T) (w : Walk) (r : Report) (err : WatchedState E) →
+    GoesOn history contents tree tree w w r r err err
+goes_none history contents tree w r err =
+    record { finds = finds_none (history tree) w.found.items; told = walk_none (history tree) r (stream_of contents err) }
+
+-- One part of a walk after another, which begins with the same files.
+pub goes_then : {T E : Type 0} {history : T → List Call} {contents : E → Option (List ℕ)} {x y z : T} {u v w t : Walk} {a b c : Report} {e f g : WatchedState E} →
+    GoesOn history contents x y u v a b e f → GoesOn history contents y z w t b c f g → w.found.items ≡ v.found.items → GoesOn history contents x z u t a c e g
+goes_then h k same = record { finds = finds_then (finds_same same h.finds) k.finds; told = walk_then h.told k.told }

@@ -1,5 +1,6 @@
 -- CoverParts: parts of a walk, which miss no name.
 --
+--   waiting w                        the folders that wait to be listed
 --   Explores c c' d d' old new       a part of a walk that misses no name of a folder
 --   Starts path c c' d d' f' old new   a path of the command line was looked at
 --   VisitsOne folder name c c' d d' old new   a name in a folder was visited
@@ -13,14 +14,20 @@
 -- `d'` the folders that wait to be listed (`folders` and `folders'`). `f` and `f'` are the files
 -- that were found, and `old` and `new` the report before and after.
 use Rattle.std.specs.Prelude.{◌≡◌, ◌⊎◌, ℕ, ◌+◌, ◌<◌, ◌^◌, List, [], ◌∷◌, ◌++◌, map, length}
+use Rattle.std.specs.Prelude.{string_bytes}
 use Rattle.std.specs.List.{All, Contains}
 use Rattle.ud_replace.specs.declared.node.NodeKind.TheVariants.{Folder}
 use Rattle.ud_replace.specs.declared.node.Node.{Node}
 use Rattle.ud_replace.specs.Calls.{Call, WalkCall, walked}
 use Rattle.ud_tree.specs.declared.report.Report.{Report}
 use Rattle.ud_tree.specs.declared.walk.Found.{Found}
+use Rattle.ud_tree.specs.declared.walk.Walk.{Walk}
 use Rattle.ud_tree.specs.Covering.{IsFolderPath, WasEntered, IsDue, IsVersioned, Begins, Visits}
 use Rattle.ud_tree.specs.Covering.{VisitsAll, IsIn, Gives}
+
+-- `waiting w`: the paths of the folders that wait to be listed.
+abbrev pub waiting : Walk → List (List ℕ)
+waiting w = map (λ d. string_bytes d) w.folders.items
 
 -- `Explores calls calls' folders folders' old new`: since `calls`, only calls of a walk were made.
 -- Each folder that waited was listed or still waits. Each name of each folder that was listed was

@@ -9,6 +9,7 @@
 --   joined messages              all messages, one after another
 --   ReportsRefusal w old new err err'   the message of a call that failed was written and counted
 --   ReportsWalk calls calls' old new err err'   so were all messages of a part of a walk
+--   GoesOn history contents tree tree' w w' old new err err'   a part of a walk: files and messages
 --   ReportsNames folder names calls calls' old new err err'   a folder was listed first
 --   VisitTells path calls calls' old new err err'   a name of a folder was visited
 --   TellsGiven path node old new err err'   a node of the input was added or left out
@@ -22,7 +23,7 @@
 -- `old` and `new` are the report before and after, or the calls, the newest first. `err` and `err'`
 -- are the error stream, and `given` and `left` are what the input has before and after.
 use Rattle.std.specs.Prelude.{◌≡◌, ℕ, ◌+◌, ◌<◌, ◌^◌, List, [], ◌∷◌, ◌++◌, length, map, Bool, true}
-use Rattle.std.specs.Prelude.{false, not, codes}
+use Rattle.std.specs.Prelude.{false, not, codes, Option}
 use Rattle.std.specs.List.{flat_map, Contains}
 use Rattle.ud_replace.specs.declared.node.Lookup.TheVariants.{Present, Absent, Unknown}
 use Rattle.ud_replace.specs.declared.node.Node.{Node}
@@ -30,14 +31,16 @@ use Rattle.ud_replace.specs.declared.node.NodeKind.TheVariants.{File, Link, Othe
 use Rattle.ud_replace.specs.Calls.{Call, walked, WalkCall, met, followed, listed}
 use Rattle.ud_tree.specs.declared.report.Report.{Report}
 use Rattle.ud_tree.specs.declared.walk.Found.{Found}
+use Rattle.ud_tree.specs.declared.walk.Walk.{Walk}
 use Rattle.ud_tree.specs.Messages.{fault_line, IsFailureOf, Tells, ReportsOne}
 use Rattle.ud_tree.specs.Streams.{Source, TakesInput, ReadsWhole}
-use Rattle.ud_io.specs.Streams.{Stream}
+use Rattle.ud_io.specs.Streams.{Stream, stream_of}
+use Rattle.ud_io.specs.Watched.{WatchedState}
 use Rattle.ud_tree.specs.declared.arguments.Arguments.{Arguments}
 use Rattle.ud_replace.specs.declared.node.FileId.{FileId}
 use Rattle.ud_tree.specs.Covering.{CoversInput, paths_of, StandsIn, MissesNone}
 use Rattle.ud_tree.specs.Summaries.{line_of}
-use Rattle.ud_tree.specs.Walks.{IsWalk}
+use Rattle.ud_tree.specs.Walks.{Finds, IsWalk}
 
 -- `is_refused w`: nothing has the path that was looked at, or a call failed.
 abbrev pub is_refused : WalkCall → Bool
@@ -127,6 +130,14 @@ pub record ReportsWalk (calls calls' : List Call) (old new : Report) (err err' :
   pub tells : Tells old new err err' (joined messages)
   pub counted : old.faulty + length messages < 2 ^ 64 →
       new.faulty ≡ old.faulty + length messages
+
+-- `GoesOn history contents tree tree' w w' old new err err'`: a part of a walk, from `w` to `w'`.
+-- Each file that it found was met (`Finds`), and its messages were written and counted.
+pub record GoesOn {T E : Type 0} (history : T → List Call) (contents : E → Option (List ℕ))
+    (tree tree' : T) (w w' : Walk) (old new : Report) (err err' : WatchedState E) : Type 0 where
+  pub finds : Finds (history tree) (history tree') w.found.items w'.found.items
+  pub told : ReportsWalk (history tree) (history tree') old new (stream_of contents err)
+      (stream_of contents err')
 
 -- `ReportsNames folder names calls calls' old new err err'`: the same, and one of these calls
 -- listed `names` in `folder`.

@@ -5,9 +5,8 @@ ghost use Rattle.std.specs.Prelude.{OnErr, OnOk};
 ghost use Rattle.ud_tree.specs.Covering.{IsIn, own_path, paths_of};
 ghost use Rattle.ud_tree.specs.Streams.{source_of, ReadsWhole};
 ghost use Rattle.ud_io.specs.Streams.{stream_of};
-ghost use Rattle.ud_tree.specs.WalkMessages.{FindsFiles, ReportsWalk, StopsWalk};
+ghost use Rattle.ud_tree.specs.WalkMessages.{FindsFiles, GoesOn, ReportsWalk, StopsWalk};
 ghost use Rattle.ud_tree.specs.WalkMessages.{TakesEach, TakesPaths};
-ghost use Rattle.ud_tree.specs.Walks.{Finds};
 
 use crate::job::Job;
 use crate::report::Report;
@@ -67,10 +66,8 @@ fn walk_all<T: Tree, R: Read, E: Write>(
     err: &mut Watched<E>,
 ) -> Result<bool, AllocError>
     requires { walk.old.patterns.now ≡ job.now.arguments.now.patterns.items }
-    ensures finds { Finds (T.history tree.old) (T.history tree.new) walk.old.found.items
-        walk.new.found.items }
-    ensures told { ReportsWalk (T.history tree.old) (T.history tree.new) report.old report.new
-        (stream_of E.contents err.old) (stream_of E.contents err.new) }
+    ensures goes_on { GoesOn T.history E.contents tree.old tree.new walk.old walk.new
+        report.old report.new err.old err.new }
     ensures takes { IfOk result (λ all. all ≡ true → TakesPaths job.now.arguments.now
         (source_of R.remaining input.old) (source_of R.remaining input.new)
         (T.history tree.old) (T.history tree.new) (IsIn walk.new.found.items)
@@ -103,10 +100,8 @@ fn add_input<T: Tree, R: Read, E: Write>(
     report: &mut Report,
     err: &mut Watched<E>,
 ) -> Result<bool, AllocError>
-    ensures finds { Finds (T.history tree.old) (T.history tree.new) walk.old.found.items
-        walk.new.found.items }
-    ensures told { ReportsWalk (T.history tree.old) (T.history tree.new) report.old report.new
-        (stream_of E.contents err.old) (stream_of E.contents err.new) }
+    ensures goes_on { GoesOn T.history E.contents tree.old tree.new walk.old walk.new
+        report.old report.new err.old err.new }
     ensures takes { IfOk result (λ all. all ≡ true → TakesEach
         (source_of R.remaining input.old) (source_of R.remaining input.new)
         (T.history tree.old) (T.history tree.new) (IsIn walk.new.found.items)

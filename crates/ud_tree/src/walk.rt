@@ -1,15 +1,15 @@
 //! The walk over a tree: the files below some paths, each once, in the order of the paths' bytes.
 
 ghost use Rattle.std.specs.Prelude.{◌≡◌, ◌⊎◌, ◌<◌, ◌++◌, ◌∷◌, [], IfOk, OnOk, Bool, map};
-ghost use Rattle.std.specs.Prelude.{string_bytes, true, false};
+ghost use Rattle.std.specs.Prelude.{true, false};
 ghost use Rattle.ud_replace.specs.Calls.{walked, listed};
 ghost use Rattle.std.specs.List.{All, AllPairs, Contains};
 ghost use Rattle.ud_tree.specs.Catching.{Catches, Grows, IsTaken};
 ghost use Rattle.ud_tree.specs.Covering.{IsIn};
 ghost use Rattle.ud_tree.specs.CoverParts.{AddsFolder, Enters, Exhausts, Starts, TakesOne};
-ghost use Rattle.ud_tree.specs.CoverParts.{VisitsOne, Waits};
+ghost use Rattle.ud_tree.specs.CoverParts.{VisitsOne, Waits, waiting};
 ghost use Rattle.ud_io.specs.Streams.{stream_of};
-ghost use Rattle.ud_tree.specs.WalkMessages.{ReportsNames, ReportsWalk, TellsGiven, VisitTells};
+ghost use Rattle.ud_tree.specs.WalkMessages.{GoesOn, ReportsNames, TellsGiven, VisitTells};
 ghost use Rattle.ud_tree.specs.Walks.{Adds, AddsNode, ArePicked, Finds, IsBefore, IsFileList};
 ghost use Rattle.ud_tree.specs.Walks.{IsKept};
 
@@ -81,14 +81,10 @@ impl<'w> Walk<'w> {
         err: &mut Watched<E>,
         path: &str,
     ) -> Result<(), AllocError>
-        ensures finds { Finds (T.history tree.old) (T.history tree.new) self.old.found.items
-            self.new.found.items }
-        ensures told { ReportsWalk (T.history tree.old) (T.history tree.new) report.old report.new
-            (stream_of E.contents err.old) (stream_of E.contents err.new) }
+        ensures goes_on { GoesOn T.history E.contents tree.old tree.new self.old self.new
+            report.old report.new err.old err.new }
         ensures starts { OnOk result (Starts path.now (T.history tree.old) (T.history tree.new)
-            (map (λ d. string_bytes d) self.old.folders.items)
-            (map (λ d. string_bytes d) self.new.folders.items) self.new.found.items
-            report.old report.new) }
+            (waiting self.old) (waiting self.new) self.new.found.items report.old report.new) }
         ensures catches { OnOk result
             (Catches (T.history tree.old) (T.history tree.new) self.old self.new) }
     {
@@ -129,10 +125,8 @@ impl<'w> Walk<'w> {
         err: &mut Watched<E>,
         name: &[u8],
     ) -> Result<(), AllocError>
-        ensures finds { Finds (T.history tree.old) (T.history tree.new) self.old.found.items
-            self.new.found.items }
-        ensures told { ReportsWalk (T.history tree.old) (T.history tree.new) report.old report.new
-            (stream_of E.contents err.old) (stream_of E.contents err.new) }
+        ensures goes_on { GoesOn T.history E.contents tree.old tree.new self.old self.new
+            report.old report.new err.old err.new }
         ensures takes { OnOk result (TakesOne name.now (T.history tree.old) (T.history tree.new)
             self.old.found.items self.new.found.items report.old report.new) }
     {
@@ -182,9 +176,7 @@ impl<'w> Walk<'w> {
     /// Adds a folder.
     fn add_folder(&mut self, path: &str) -> Result<(), AllocError>
         ensures found { self.new.found.items ≡ self.old.found.items }
-        ensures waits { OnOk result (Waits path.now
-            (map (λ d. string_bytes d) self.old.folders.items)
-            (map (λ d. string_bytes d) self.new.folders.items)) }
+        ensures waits { OnOk result (Waits path.now (waiting self.old) (waiting self.new)) }
         ensures grows { OnOk result (Grows self.old self.new) }
     {
         let folder = folder_path(self.alloc, path)?;
@@ -232,10 +224,8 @@ impl<'w> Walk<'w> {
             self.new.found.items }
         ensures told { VisitTells (folder.now ++ name.now) (T.history tree.old) (T.history tree.new)
             report.old report.new (stream_of E.contents err.old) (stream_of E.contents err.new) }
-        ensures visits { OnOk result (VisitsOne folder.now name.now
-            (T.history tree.old) (T.history tree.new)
-            (map (λ d. string_bytes d) self.old.folders.items)
-            (map (λ d. string_bytes d) self.new.folders.items) report.old report.new) }
+        ensures visits { OnOk result (VisitsOne folder.now name.now (T.history tree.old)
+            (T.history tree.new) (waiting self.old) (waiting self.new) report.old report.new) }
         ensures catches { OnOk result
             (Catches (T.history tree.old) (T.history tree.new) self.old self.new) }
     {
@@ -260,9 +250,8 @@ impl<'w> Walk<'w> {
     /// Adds a file or a folder. Others are left out.
     fn add_node(&mut self, path: &str, name: &[u8], node: Node) -> Result<(), AllocError>
         ensures adds { AddsNode self.old.found.items path.now node self.new.found.items }
-        ensures waits { OnOk result (AddsFolder path.now name.now node
-            (map (λ d. string_bytes d) self.old.folders.items)
-            (map (λ d. string_bytes d) self.new.folders.items)) }
+        ensures waits { OnOk result (AddsFolder path.now name.now node (waiting self.old)
+            (waiting self.new)) }
         ensures grows { OnOk result (Grows self.old self.new) }
         ensures taken { OnOk result (node.kind ≡ NodeKind.File →
             IsTaken self.new path.now node.id) }
@@ -282,13 +271,10 @@ impl<'w> Walk<'w> {
         err: &mut Watched<E>,
         folder: &str,
     ) -> Result<(), AllocError>
-        ensures finds { Finds (T.history tree.old) (T.history tree.new) self.old.found.items
-            self.new.found.items }
-        ensures told { ReportsWalk (T.history tree.old) (T.history tree.new) report.old report.new
-            (stream_of E.contents err.old) (stream_of E.contents err.new) }
+        ensures goes_on { GoesOn T.history E.contents tree.old tree.new self.old self.new
+            report.old report.new err.old err.new }
         ensures enters { OnOk result (Enters folder.now (T.history tree.old) (T.history tree.new)
-            (map (λ d. string_bytes d) self.old.folders.items)
-            (map (λ d. string_bytes d) self.new.folders.items) report.old report.new) }
+            (waiting self.old) (waiting self.new) report.old report.new) }
         ensures catches { OnOk result
             (Catches (T.history tree.old) (T.history tree.new) self.old self.new) }
     {
@@ -307,8 +293,6 @@ impl<'w> Walk<'w> {
         err: &mut Watched<E>,
         folder: &str,
     ) -> Vec<Vec<u8>>
-        ensures finds { Finds (T.history tree.old) (T.history tree.new) self.now.found.items
-            self.now.found.items }
         ensures told { ReportsNames folder.now (map (λ n. n.items) result.items)
             (T.history tree.old) (T.history tree.new) report.old report.new
             (stream_of E.contents err.old) (stream_of E.contents err.new) }
@@ -336,13 +320,10 @@ impl<'w> Walk<'w> {
         report: &mut Report,
         err: &mut Watched<E>,
     ) -> Result<(), AllocError>
-        ensures finds { Finds (T.history tree.old) (T.history tree.new) self.old.found.items
-            self.new.found.items }
-        ensures told { ReportsWalk (T.history tree.old) (T.history tree.new) report.old report.new
-            (stream_of E.contents err.old) (stream_of E.contents err.new) }
+        ensures goes_on { GoesOn T.history E.contents tree.old tree.new self.old self.new
+            report.old report.new err.old err.new }
         ensures exhausts { OnOk result (Exhausts (T.history tree.old) (T.history tree.new)
-            (map (λ d. string_bytes d) self.old.folders.items)
-            (map (λ d. string_bytes d) self.new.folders.items) report.old report.new) }
+            (waiting self.old) (waiting self.new) report.old report.new) }
         ensures catches { OnOk result
             (Catches (T.history tree.old) (T.history tree.new) self.old self.new) }
     {

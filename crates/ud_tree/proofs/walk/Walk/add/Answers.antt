@@ -8,35 +8,35 @@ use Rattle.std.proofs.lemmas.Result.{on_ok_weaker}
 use Rattle.ud_tree.proofs.CoverLemmas.{takes_node, takes_unmet, takes_other, on_ok_both}
 use Rattle.ud_tree.proofs.walk.Walk.add.Goals as goal
 
-pub returns-in_err-escaped-clause-finds : goal.returns-in_err-escaped-clause-finds
-returns-in_err-escaped-clause-finds g c = finds_none (g.T.Folder.history c.args.tree.now) c.args.self.now.found.items
+pub returns-in_err-escaped-clause-goes_on : goal.returns-in_err-escaped-clause-goes_on
+returns-in_err-escaped-clause-goes_on g c = record {
+  finds = finds_none (g.T.Folder.history c.args.tree.now) c.args.self.now.found.items;
+  told = walk_none (g.T.Folder.history c.args.tree.now) c.args.report.now (stream_of g.E.Write.contents c.args.err.now);
+}
 
-pub returns-in_default-clause-finds : goal.returns-in_default-clause-finds
-returns-in_default-clause-finds g c = finds_none (g.T.Folder.history c.args.tree.now) c.args.self.now.found.items
+pub returns-in_default-clause-goes_on : goal.returns-in_default-clause-goes_on
+returns-in_default-clause-goes_on g c = record {
+  finds = finds_none (g.T.Folder.history c.args.tree.now) c.args.self.now.found.items;
+  told = walk_remark _ (g.T.Folder.history c.args.tree.now) (is_no_text _ refl) (reported c.fault.ensures.says c.fault.ensures.counted c.fault.ensures.some);
+}
 
-pub returns-in-Present-clause-finds : goal.returns-in-Present-clause-finds
-returns-in-Present-clause-finds g c = finds_node _ c.in-Present.node c.in-Present.ensures c.add_given.ensures.adds
+pub returns-in-Present-clause-goes_on : goal.returns-in-Present-clause-goes_on
+returns-in-Present-clause-goes_on g c = record {
+  finds = finds_node _ c.in-Present.node c.in-Present.ensures c.add_given.ensures.adds;
+  told = walk_given _ c.in-Present.node c.in-Present.ensures c.add_given.ensures.told;
+}
 
-pub returns-in-Absent-clause-finds : goal.returns-in-Absent-clause-finds
-returns-in-Absent-clause-finds g c = finds_call _ c.args.self.now.found.items c.node.ensures
+pub returns-in-Absent-clause-goes_on : goal.returns-in-Absent-clause-goes_on
+returns-in-Absent-clause-goes_on g c = record {
+  finds = finds_call _ c.args.self.now.found.items c.node.ensures;
+  told = walk_unmet Absent _ c.args.name.now (sym c.in-Ok.ensures.cases.0) c.in-Absent.ensures c.missing.ensures;
+}
 
-pub returns-in-Unknown-clause-finds : goal.returns-in-Unknown-clause-finds
-returns-in-Unknown-clause-finds g c = finds_call _ c.args.self.now.found.items c.node.ensures
-
-pub returns-in_err-escaped-clause-told : goal.returns-in_err-escaped-clause-told
-returns-in_err-escaped-clause-told g c = walk_none (g.T.Folder.history c.args.tree.now) c.args.report.now (stream_of g.E.Write.contents c.args.err.now)
-
-pub returns-in_default-clause-told : goal.returns-in_default-clause-told
-returns-in_default-clause-told g c = walk_remark _ (g.T.Folder.history c.args.tree.now) (is_no_text _ refl) (reported c.fault.ensures.says c.fault.ensures.counted c.fault.ensures.some)
-
-pub returns-in-Present-clause-told : goal.returns-in-Present-clause-told
-returns-in-Present-clause-told g c = walk_given _ c.in-Present.node c.in-Present.ensures c.add_given.ensures.told
-
-pub returns-in-Absent-clause-told : goal.returns-in-Absent-clause-told
-returns-in-Absent-clause-told g c = walk_unmet Absent _ c.args.name.now (sym c.in-Ok.ensures.cases.0) c.in-Absent.ensures c.missing.ensures
-
-pub returns-in-Unknown-clause-told : goal.returns-in-Unknown-clause-told
-returns-in-Unknown-clause-told g c = walk_unmet Unknown _ c.args.name.now (sym c.in-Ok.ensures.cases.0) c.in-Unknown.ensures c.unknown.ensures
+pub returns-in-Unknown-clause-goes_on : goal.returns-in-Unknown-clause-goes_on
+returns-in-Unknown-clause-goes_on g c = record {
+  finds = finds_call _ c.args.self.now.found.items c.node.ensures;
+  told = walk_unmet Unknown _ c.args.name.now (sym c.in-Ok.ensures.cases.0) c.in-Unknown.ensures c.unknown.ensures;
+}
 
 pub returns-in_default-clause-takes : goal.returns-in_default-clause-takes
 returns-in_default-clause-takes g c = takes_other c.args.name.now (g.T.Folder.history c.args.tree.now) c.args.self.now.found.items c.args.report.now _ c.in_default.ensures.cases.0 c.fault.ensures.some

@@ -1,13 +1,13 @@
 use Rattle.std.proofs.Common.{arith, refl}
 use Rattle.ud_tree.proofs.CatchLemmas.{grows_same, catches_listed, catches_then}
 use Rattle.ud_tree.proofs.CoverLemmas.{enters_begun, enters_name, enters_all}
-use Rattle.ud_tree.proofs.WalkLemmas.{finds_then}
+use Rattle.ud_tree.proofs.WalkLemmas.{finds_call, finds_then}
 use Rattle.ud_tree.proofs.WalkTellLemmas.{name_listed, names_same, walk_visited}
 use Rattle.ud_tree.proofs.walk.Walk.enter.Goals as goal
 
 pub loop-name-init : goal.loop-name-init
 loop-name-init g c = (
-  c.list_folder-names.ensures.finds,
+  finds_call _ c.args.self.now.found.items c.list_folder-names.ensures.lists.1,
   enters_begun (λ n. n.items) _ _ c.args.folder.now _ _ _ c.list_folder-names.ensures.counted c.as_slice-name-items.ensures.value c.list_folder-names.ensures.lists,
   names_same (λ n. n.items) _ _ c.as_slice-name-items.ensures.value c.list_folder-names.ensures.told,
   catches_listed c.args.folder.now _ c.list_folder-names.ensures.lists.0 c.args.self.now c.args.self.now c.list_folder-names.ensures.lists.1 (grows_same _ _ refl refl),
@@ -24,20 +24,19 @@ loop-name-preserved g c = (
   catches_then c.loop-name.invariant.3 c.in_ok-visit.ensures.catches,
 )
 
-pub returns-in_err-visit-clause-finds : goal.returns-in_err-visit-clause-finds
-returns-in_err-visit-clause-finds g c = finds_then c.loop-name.invariant.0 c.visit.ensures.finds
-
-pub returns-in_err-visit-clause-told : goal.returns-in_err-visit-clause-told
-returns-in_err-visit-clause-told g c =
-    (walk_visited c.loop-name.invariant.2
+pub returns-in_err-visit-clause-goes_on : goal.returns-in_err-visit-clause-goes_on
+returns-in_err-visit-clause-goes_on g c = record {
+  finds = finds_then c.loop-name.invariant.0 c.visit.ensures.finds;
+  told = (walk_visited c.loop-name.invariant.2
     (name_listed (λ n. n.items) c.as_slice-name-items.result.now c.loop-name.name-index c.name-item.result c.as_slice.result.now c.loop-name-test.true c.name-item.is c.as_slice.ensures.value)
-    c.visit.ensures.told).reports
+    c.visit.ensures.told).reports;
+}
 
-pub returns-clause-finds : goal.returns-clause-finds
-returns-clause-finds g c = c.loop-name.invariant.0
-
-pub returns-clause-told : goal.returns-clause-told
-returns-clause-told g c = c.loop-name.invariant.2.reports
+pub returns-clause-goes_on : goal.returns-clause-goes_on
+returns-clause-goes_on g c = record {
+  finds = c.loop-name.invariant.0;
+  told = c.loop-name.invariant.2.reports;
+}
 
 pub returns-clause-enters : goal.returns-clause-enters
 returns-clause-enters g c = enters_all (λ n. n.items) c.as_slice-name-items.result.now c.loop-name.name-index (omega arith) c.loop-name.invariant.1

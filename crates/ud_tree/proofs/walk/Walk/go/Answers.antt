@@ -1,33 +1,26 @@
-use Rattle.ud_io.specs.Streams.{stream_of}
 use Rattle.std.proofs.Common.{map, arith, refl}
 use Rattle.ud_tree.proofs.CatchLemmas.{grows_same, catches_none, catches_then}
 use Rattle.std.specs.Prelude.{string_bytes}
 use Rattle.ud_tree.proofs.CoverLemmas.{enters_none, enters_more, popped, exhausts_count}
-use Rattle.ud_tree.proofs.WalkLemmas.{finds_none, finds_then}
-use Rattle.ud_tree.proofs.WalkTellLemmas.{walk_none, walk_then}
+use Rattle.ud_tree.proofs.WalkTellLemmas.{goes_none, goes_then}
 use Rattle.ud_tree.proofs.walk.Walk.go.Goals as goal
 
 pub folders-init : goal.folders-init
 folders-init g c = (
-  finds_none (g.T.Folder.history c.args.tree.now) c.args.self.now.found.items,
-  walk_none (g.T.Folder.history c.args.tree.now) c.args.report.now (stream_of g.E.Write.contents c.args.err.now),
+  goes_none g.T.Folder.history g.E.Write.contents c.args.tree.now c.args.self.now c.args.report.now c.args.err.now,
   enters_none (g.T.Folder.history c.args.tree.now) (map (λ d. string_bytes d) c.args.self.now.folders.items) c.args.report.now,
   catches_none (g.T.Folder.history c.args.tree.now) c.args.self.now c.args.self.now (grows_same _ _ refl refl),
 )
 
 pub folders-preserved : goal.folders-preserved
 folders-preserved g c = (
-  finds_then c.folders.invariant.0 c.enter.ensures.finds,
-  walk_then c.folders.invariant.1 c.enter.ensures.told,
-  enters_more c.folders._entered _ _ (popped (λ d. string_bytes d) _ _ _ _ _ c.pop.ensures.items c.in-Some.is c.as_str.ensures.value) c.folders.invariant.2 c.in_ok-enter.ensures.enters,
-  catches_then (catches_then c.folders.invariant.3 (catches_none _ c.folders.self _ (grows_same _ _ refl refl))) c.in_ok-enter.ensures.catches,
+  goes_then c.folders.invariant.0 c.enter.ensures.goes_on refl,
+  enters_more c.folders._entered _ _ (popped (λ d. string_bytes d) _ _ _ _ _ c.pop.ensures.items c.in-Some.is c.as_str.ensures.value) c.folders.invariant.1 c.in_ok-enter.ensures.enters,
+  catches_then (catches_then c.folders.invariant.2 (catches_none _ c.folders.self _ (grows_same _ _ refl refl))) c.in_ok-enter.ensures.catches,
 )
 
-pub returns-in_err-enter-clause-finds : goal.returns-in_err-enter-clause-finds
-returns-in_err-enter-clause-finds g c = finds_then c.folders.invariant.0 c.enter.ensures.finds
-
-pub returns-in_err-enter-clause-told : goal.returns-in_err-enter-clause-told
-returns-in_err-enter-clause-told g c = walk_then c.folders.invariant.1 c.enter.ensures.told
+pub returns-in_err-enter-clause-goes_on : goal.returns-in_err-enter-clause-goes_on
+returns-in_err-enter-clause-goes_on g c = goes_then c.folders.invariant.0 c.enter.ensures.goes_on refl
 
 pub returns-after-folders-clause-exhausts : goal.returns-after-folders-clause-exhausts
-returns-after-folders-clause-exhausts g c = exhausts_count (omega (arith, c.folders-test.false)) c.folders.invariant.2
+returns-after-folders-clause-exhausts g c = exhausts_count (omega (arith, c.folders-test.false)) c.folders.invariant.1

@@ -1,14 +1,7 @@
 use Rattle.std.proofs.Common.{true, false}
 use Rattle.ud_io.specs.Streams.{stream_of}
-use Rattle.ud_tree.proofs.WalkLemmas.{finds_call}
 use Rattle.ud_tree.proofs.WalkTellLemmas.{walk_listed, walk_unread}
 use Rattle.ud_tree.proofs.walk.Walk.list_folder.Goals as goal
-
-pub returns-then-listed-clause-finds : goal.returns-then-listed-clause-finds
-returns-then-listed-clause-finds g c = finds_call _ c.args.self.now.found.items c.list-listed.ensures.noted
-
-pub returns-clause-finds : goal.returns-clause-finds
-returns-clause-finds g c = finds_call _ c.args.self.now.found.items c.list-listed.ensures.noted
 
 pub returns-then-listed-clause-told : goal.returns-then-listed-clause-told
 returns-then-listed-clause-told g c = walk_listed _ _ c.args.report.now (stream_of g.E.Write.contents c.args.err.now) c.if-listed.ensures.noted
