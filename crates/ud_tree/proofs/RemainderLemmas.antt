@@ -8,6 +8,7 @@ use Rattle.ud_model.specs.declared.kind.Mode.{Mode}
 use Rattle.ud_passes.specs.remaining.RemainingLists.{RemainingState, AddsAll}
 use Rattle.ud_tree.specs.declared.arguments.Arguments.{Arguments}
 use Rattle.ud_tree.specs.declared.report.Report.{Report}
+use Rattle.ud_tree.specs.Messages.{KeepsFinds}
 use Rattle.ud_tree.specs.Remainders.{Finds, AddsOutputs, FindsAll}
 use Rattle.ud_tree.specs.Runs.{Output, made}
 
@@ -17,6 +18,10 @@ adds_same s = record { list_is = sym (append-nil s.list); count_is = λ small. o
 -- The report has the same conditions as before.
 pub finds_none : {args : Arguments} {old new : Report} → new.remaining ≡ old.remaining → (old.has_lost ≡ true → new.has_lost ≡ true) → FindsAll args [] old new
 finds_none same kept = grind (arith, common_steps, adds_same)
+
+-- The same, if whether some was lost stays too.
+pub finds_kept : {args : Arguments} {old new : Report} → KeepsFinds old new → FindsAll args [] old new
+finds_kept h = finds_none h.remaining (λ lost. h.lost ∙ lost)
 
 adds_output : {table : List Argument} {mode : Mode} {name bytes : List ℕ} {s t : RemainingState} → AddsAll table mode name bytes s t → AddsOutputs table mode (made name bytes) s t
 adds_output h = grind (arith, common_steps)

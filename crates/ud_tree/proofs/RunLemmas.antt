@@ -25,7 +25,7 @@ use Rattle.ud_tree.specs.Streams.{Source, ends_of}
 use Rattle.ud_io.specs.Streams.{Stream, Sends}
 use Rattle.ud_tree.specs.declared.job.Job.{Job}
 use Rattle.ud_tree.specs.declared.report.Report.{Report}
-use Rattle.ud_tree.specs.Messages.{IsTold, IsPlain, Tells, TellsResult, TellsIf, list_message, write_message, output_messages}
+use Rattle.ud_tree.specs.Messages.{IsTold, IsPlain, KeepsScreen, Tells, TellsResult, TellsIf, list_message, write_message, output_messages}
 use Rattle.ud_tree.specs.Summaries.{last_lines, TellsEnd}
 use Rattle.ud_tree.proofs.MessageLemmas.{tells_kept, tells_then, tells_same, output_told, output_count}
 use Rattle.ud_tree.specs.Covering.{StandsIn, MissesNone}
@@ -125,7 +125,7 @@ pub writes_push : {args : Arguments} {P : List ℕ → List Call → List Call �
     {lists mid_lists new_lists : NameLists}
     (files : List Found) (i : ℕ) (f : Found) (name : List ℕ) (update : Result Update ReplaceError) (edits : Edits) (fate : Fate) (after : Counts) → i < length files → f ≡ get_or files i f →
     name ≡ string_bytes f.path → WritesAll args P old (names_of (take i files)) r mid mid_report before lists mid_lists →
-    FindsAll args [] mid_report next_report → FindsAll args [] file_report after_report → Tells mid_report next_report mid.err next [] → file_report.is_terminal ≡ next_report.is_terminal → file_report.is_shown ≡ next_report.is_shown →
+    FindsAll args [] mid_report next_report → FindsAll args [] file_report after_report → Tells mid_report next_report mid.err next [] → KeepsScreen next_report file_report →
     ProcessesOne args P name mid.calls new.calls mid.out new.out update edits mid_lists new_lists next_report file_report → TellsResult name update file_report after_report next new.err → fate ≡ fate_of update →
     after.changed ≡ before.changed + cond (is_changed fate) 1 0 →
     after.unchanged ≡ before.unchanged + cond (is_same fate) 1 0 →
@@ -134,8 +134,8 @@ pub writes_push : {args : Arguments} {P : List ℕ → List Call → List Call �
     (before.edits.lines + edits.lines < 2 ^ 64 → after.edits.lines ≡ before.edits.lines + edits.lines) →
     WritesAll args P old (names_of (take (i + 1) files)) r new after_report after lists new_lists
 unfolding counted_push
-writes_push {next = next} files i f name update edits fate after within is named h before_it after_it progress terminal shown p t e a b c d l =
-    let quiet = tells_then progress (tells_kept next terminal shown) in
+writes_push {next = next} files i f name update edits fate after within is named h before_it after_it progress screen p t e a b c d l =
+    let quiet = tells_then progress (tells_kept next screen.terminal screen.shown) in
     let w = p.writes in
     let result : FileResult = record { update = update; shown = w.shown; told = t.told; edits = edits; listed = p.listed; outputs = w.outputs } in
     record {

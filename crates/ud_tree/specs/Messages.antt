@@ -9,6 +9,8 @@
 --   list_message, write_message      the messages of the faults of the output
 --   output_messages is_lost is_unwritten   those of them that a run has
 --   IsPlain r                        the error stream is no terminal
+--   KeepsScreen old new              a terminal shows what it did
+--   KeepsFinds old new               the conditions that still name a symbol stay
 --   Tells old new err err' bytes     `bytes` were written to such a stream
 --   ReportsOne message old new err err'   a message was written, and is counted
 --   ReportsFailure name text old new err err'   so was the message of a failed call
@@ -101,6 +103,17 @@ output_messages is_lost is_unwritten = (if is_lost then list_message ∷ [] else
 pub record IsPlain (r : Report) : Type 0 where
   pub no_terminal : r.is_terminal ≡ false
   pub unshown : r.is_shown ≡ false
+
+-- `KeepsScreen old new`: a terminal shows the number of files if it did.
+pub record KeepsScreen (old new : Report) : Type 0 where
+  pub terminal : new.is_terminal ≡ old.is_terminal
+  pub shown : new.is_shown ≡ old.is_shown
+
+-- `KeepsFinds old new`: the conditions that still name a symbol stay, and so does whether memory
+-- ran out for some.
+pub record KeepsFinds (old new : Report) : Type 0 where
+  pub remaining : new.remaining ≡ old.remaining
+  pub lost : new.has_lost ≡ old.has_lost
 
 -- `Tells old new err err' bytes`: if the error stream is no terminal, `bytes` were written to it.
 pub record Tells (old new : Report) (err err' : Stream) (bytes : List ℕ) : Type 0 where

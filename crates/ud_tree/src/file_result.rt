@@ -1,7 +1,7 @@
 //! What became of a file, and its message.
 
 ghost use Rattle.std.specs.Prelude.{◌≡◌};
-ghost use Rattle.ud_tree.specs.Messages.{TellsError, TellsResult};
+ghost use Rattle.ud_tree.specs.Messages.{KeepsFinds, TellsError, TellsResult};
 ghost use Rattle.ud_tree.specs.Fates.{fate_of};
 ghost use Rattle.ud_io.specs.Streams.{stream_of};
 
@@ -36,8 +36,7 @@ impl Report {
     )
         ensures tells { TellsResult path.now update self.old self.new (stream_of E.contents err.old)
             (stream_of E.contents err.new) }
-        ensures remaining { self.new.remaining ≡ self.old.remaining }
-        ensures lost { self.new.has_lost ≡ self.old.has_lost }
+        ensures keeps { KeepsFinds self.old self.new }
     {
         if let Err(error) = update {
             self.file_error(err, job, tree, path, error);
@@ -55,8 +54,7 @@ impl Report {
     )
         ensures tells { TellsError path.now error self.old self.new (stream_of E.contents err.old)
             (stream_of E.contents err.new) }
-        ensures remaining { self.new.remaining ≡ self.old.remaining }
-        ensures lost { self.new.has_lost ≡ self.old.has_lost }
+        ensures keeps { KeepsFinds self.old self.new }
     {
         match error {
             ReplaceError::Text(fault) => {

@@ -2,6 +2,7 @@
 //! many conditions were edited, and how many still name a symbol.
 
 ghost use Rattle.std.specs.Prelude.{◌≡◌, false};
+ghost use Rattle.ud_tree.specs.Messages.{KeepsFinds};
 ghost use Rattle.ud_tree.specs.Summaries.{Says, TellsEnd, changes_line, summary};
 ghost use Rattle.ud_tree.specs.Summaries.{files_text, hidden_text};
 ghost use Rattle.ud_tree.specs.Summaries.{remaining_line, remaining_text};
@@ -57,7 +58,7 @@ fn report_counts<E: Write>(
         (stream_of E.contents err.new)
         (summary arguments.now.task arguments.now.list_hidden counts.changed counts.unchanged
         faults hidden) }
-    ensures remaining { report.new.remaining ≡ report.old.remaining }
+    ensures keeps { KeepsFinds report.old report.new }
 {
     match arguments.task {
         Task::Replace => report_changes(report, err, b" changed, ", counts, faults),
@@ -79,7 +80,7 @@ fn report_changes<E: Write>(
     ensures says { Says report.old report.new (stream_of E.contents err.old)
         (stream_of E.contents err.new)
         (changes_line word.now counts.changed counts.unchanged faults) }
-    ensures remaining { report.new.remaining ≡ report.old.remaining }
+    ensures keeps { KeepsFinds report.old report.new }
 {
     let (mut first, mut second, mut third) = (Buffer::new(), Buffer::new(), Buffer::new());
     let changed = first.format(counts.changed).as_bytes();
@@ -110,7 +111,7 @@ fn report_listed<E: Write>(
     ensures says { Says report.old report.new (stream_of E.contents err.old)
         (stream_of E.contents err.new)
         (summary Task.Names lists_hidden counts.changed counts.unchanged faults hidden) }
-    ensures remaining { report.new.remaining ≡ report.old.remaining }
+    ensures keeps { KeepsFinds report.old report.new }
 {
     let (mut first, mut second, mut third) = (Buffer::new(), Buffer::new(), Buffer::new());
     let listed = first.format(counts.unchanged).as_bytes();
@@ -163,7 +164,7 @@ fn report_removed<E: Write>(report: &mut Report, err: &mut Watched<E>, count: us
     ensures line { report.old.is_shown ≡ false → Sends (stream_of E.contents err.old)
         (stream_of E.contents err.new) (removed_line count) }
     ensures hidden { report.old.is_shown ≡ false → report.new.is_shown ≡ false }
-    ensures remaining { report.new.remaining ≡ report.old.remaining }
+    ensures keeps { KeepsFinds report.old report.new }
 {
     if count == 0 {
         return;
@@ -189,7 +190,7 @@ fn report_edited<E: Write>(prunes: bool, report: &mut Report, err: &mut Watched<
     ensures line { report.old.is_shown ≡ false → Sends (stream_of E.contents err.old)
         (stream_of E.contents err.new) (edited_line prunes count) }
     ensures hidden { report.old.is_shown ≡ false → report.new.is_shown ≡ false }
-    ensures remaining { report.new.remaining ≡ report.old.remaining }
+    ensures keeps { KeepsFinds report.old report.new }
 {
     if !prunes {
         return;

@@ -2,6 +2,7 @@
 
 ghost use Rattle.std.specs.Prelude.{◌≡◌, true, false};
 ghost use Rattle.ud_io.specs.Streams.{stream_of};
+ghost use Rattle.ud_tree.specs.Messages.{KeepsScreen};
 ghost use Rattle.ud_tree.specs.Fates.{no_edits};
 ghost use Rattle.ud_tree.specs.TreeRuns.{DoesFiles, DoesOne};
 ghost use Rattle.ud_tree.specs.Writing.{ProcessesOne, moment};
@@ -92,8 +93,7 @@ fn process_file<T: Tree, W: Write>(
         file.entry.name.now (T.history tree.old) (T.history tree.new) (stream_of W.contents out.old)
         (stream_of W.contents out.new) result edits.new names.old names.new
         report.old report.new }
-    ensures terminal { report.new.is_terminal ≡ report.old.is_terminal }
-    ensures shown { report.new.is_shown ≡ report.old.is_shown }
+    ensures screen { KeepsScreen report.old report.new }
 {
     match job.arguments.task {
         Task::Replace => replace_file(job, tree, file, out, report, edits),

@@ -2,6 +2,7 @@
 
 ghost use Rattle.std.specs.Prelude.{◌≡◌, [], true, false, Ok, is_ok};
 ghost use Rattle.ud_replace.specs.TextOutcomes.{TextOptions, IsPlanned};
+ghost use Rattle.ud_tree.specs.Messages.{KeepsScreen};
 ghost use Rattle.ud_tree.specs.Changes.{KeepsOne, ReplacesShowing, ShowsChange};
 ghost use Rattle.ud_tree.specs.Fates.{fate_of, is_changed, no_edits, removed_by};
 ghost use Rattle.ud_tree.specs.Runs.{ReplacesOne, nothing_listed};
@@ -43,8 +44,7 @@ pub(crate) fn replace_file<T: Tree, W: Write>(
         job.now.arguments.now.show_changes) file.entry.name.now (T.history tree.old)
         (T.history tree.new) (stream_of W.contents out.old) (stream_of W.contents out.new) result
         edits.new nothing_listed report.old report.new }
-    ensures terminal { report.new.is_terminal ≡ report.old.is_terminal }
-    ensures shown { report.new.is_shown ≡ report.old.is_shown }
+    ensures screen { KeepsScreen report.old report.new }
 {
     let mut text = Vec::new(job.alloc);
     let mut output = Watched::new(Vec::<u8>::new(job.alloc));
@@ -84,8 +84,7 @@ fn change_of(
         output.now result.items }
     ensures remaining { report.new.remaining ≡ report.old.remaining }
     ensures lost { report.old.has_lost ≡ true → report.new.has_lost ≡ true }
-    ensures terminal { report.new.is_terminal ≡ report.old.is_terminal }
-    ensures shown { report.new.is_shown ≡ report.old.is_shown }
+    ensures screen { KeepsScreen report.old report.new }
 {
     let nothing = Vec::new(job.alloc);
     if !job.arguments.show_changes {

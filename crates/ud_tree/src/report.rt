@@ -9,6 +9,7 @@ ghost use Rattle.std.specs.Prelude.{if◌then◌else◌};
 ghost use Rattle.std.specs.List.{flat_map};
 ghost use Rattle.ud_diagnostics.specs.RunMessages.{fault_message};
 ghost use Rattle.ud_replace.specs.Calls.{met};
+ghost use Rattle.ud_tree.specs.Messages.{KeepsFinds, KeepsScreen};
 ghost use Rattle.ud_tree.specs.Messages.{IsPlain, Tells, TellsText, fault_line, locked_line};
 ghost use Rattle.ud_tree.specs.Messages.{ReportsFailure, ReportsOne};
 ghost use Rattle.ud_tree.specs.Remainders.{listing_of, Finds};
@@ -180,8 +181,7 @@ impl Report {
 
     /// Adds the conditions of a file's output that still name a symbol, if they are wanted.
     pub(crate) fn search(&mut self, job: &Job<'_>, name: &[u8], output: &[u8])
-        ensures terminal { self.new.is_terminal ≡ self.old.is_terminal }
-        ensures shown { self.new.is_shown ≡ self.old.is_shown }
+        ensures screen { KeepsScreen self.old self.new }
         ensures finds { Finds job.now.arguments.now name.now output.now self.old self.new }
     {
         if !job.arguments.search_remaining() {
@@ -199,8 +199,7 @@ impl Report {
 
     /// Records that memory ran out for some of what was to be printed.
     pub(crate) fn lose(&mut self)
-        ensures terminal { self.new.is_terminal ≡ self.old.is_terminal }
-        ensures shown { self.new.is_shown ≡ self.old.is_shown }
+        ensures screen { KeepsScreen self.old self.new }
         ensures remaining { self.new.remaining ≡ self.old.remaining }
         ensures lost { self.new.has_lost ≡ true }
     {
@@ -213,8 +212,7 @@ impl Report {
         ensures hidden { self.new.is_shown ≡ false }
         ensures unshown { self.old.is_shown ≡ false → err.new ≡ err.old }
         ensures faults { self.new.faulty ≡ self.old.faulty }
-        ensures remaining { self.new.remaining ≡ self.old.remaining }
-        ensures lost { self.new.has_lost ≡ self.old.has_lost }
+        ensures keeps { KeepsFinds self.old self.new }
     {
         if !self.is_shown {
             return;
@@ -227,8 +225,7 @@ impl Report {
     pub(crate) fn progress<E: Write>(&mut self, err: &mut Watched<E>, done: usize, all: usize)
         ensures tells { Tells self.old self.new (stream_of E.contents err.old)
             (stream_of E.contents err.new) [] }
-        ensures remaining { self.new.remaining ≡ self.old.remaining }
-        ensures lost { self.new.has_lost ≡ self.old.has_lost }
+        ensures keeps { KeepsFinds self.old self.new }
     {
         if !self.is_terminal {
             return;
@@ -249,8 +246,7 @@ impl Report {
         ensures tells { Tells self.old self.new (stream_of E.contents err.old)
             (stream_of E.contents err.new) (line_of (flat_map (λ p. p.now) parts.now)) }
         ensures faults { self.new.faulty ≡ self.old.faulty }
-        ensures remaining { self.new.remaining ≡ self.old.remaining }
-        ensures lost { self.new.has_lost ≡ self.old.has_lost }
+        ensures keeps { KeepsFinds self.old self.new }
     {
         self.clear(err);
         report_line(self.alloc, err, parts);
@@ -263,8 +259,7 @@ impl Report {
         ensures counted { self.old.faulty + 1 < 2 ^ 64 →
             self.new.faulty ≡ self.old.faulty + 1 }
         ensures some { 0 < self.new.faulty }
-        ensures remaining { self.new.remaining ≡ self.old.remaining }
-        ensures lost { self.new.has_lost ≡ self.old.has_lost }
+        ensures keeps { KeepsFinds self.old self.new }
     {
         self.faulty = self.faulty.saturating_add(1);
         self.line(err, &[path, b": ", text]);
@@ -289,8 +284,7 @@ impl Report {
     pub(crate) fn locked<E: Write>(&mut self, err: &mut Watched<E>, path: &[u8])
         ensures tells { Tells self.old self.new (stream_of E.contents err.old)
             (stream_of E.contents err.new) (locked_line path.now) }
-        ensures remaining { self.new.remaining ≡ self.old.remaining }
-        ensures lost { self.new.has_lost ≡ self.old.has_lost }
+        ensures keeps { KeepsFinds self.old self.new }
     {
         self.faulty = self.faulty.saturating_add(1);
         self.line(
@@ -309,8 +303,7 @@ impl Report {
     )
         ensures tells { ReportsFailure path.now text.now self.old self.new
             (stream_of E.contents err.old) (stream_of E.contents err.new) }
-        ensures remaining { self.new.remaining ≡ self.old.remaining }
-        ensures lost { self.new.has_lost ≡ self.old.has_lost }
+        ensures keeps { KeepsFinds self.old self.new }
     {
         match reason {
             None => self.fault(err, path, text),
@@ -357,8 +350,7 @@ impl Report {
     )
         ensures tells { TellsText path.now fault self.old self.new (stream_of E.contents err.old)
             (stream_of E.contents err.new) }
-        ensures remaining { self.new.remaining ≡ self.old.remaining }
-        ensures lost { self.new.has_lost ≡ self.old.has_lost }
+        ensures keeps { KeepsFinds self.old self.new }
     {
         self.faulty = self.faulty.saturating_add(1);
         self.clear(err);

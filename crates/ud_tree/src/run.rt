@@ -3,7 +3,7 @@
 ghost use Rattle.std.specs.Prelude.{◌≡◌, ◌++◌, [], true, false, OnOk};
 ghost use Rattle.ud_model.specs.answer.Answer.{status_by};
 ghost use Rattle.ud_passes.specs.names.NameTables.{names_in, Tabulates};
-ghost use Rattle.ud_tree.specs.Messages.{TellsIf, list_message, write_message};
+ghost use Rattle.ud_tree.specs.Messages.{KeepsFinds, TellsIf, list_message, write_message};
 ghost use Rattle.ud_tree.specs.Statuses.{tree_status};
 ghost use Rattle.ud_tree.specs.Streams.{source_of};
 ghost use Rattle.ud_io.specs.Streams.{Sends, stream_of};
@@ -109,7 +109,7 @@ fn write_lists<W: Write, E: Write>(
     ensures told { TellsIf list_message result report.old report.new
         (stream_of E.contents err.old) (stream_of E.contents err.new) }
     ensures whole { result ≡ false → report.old.has_lost ≡ false }
-    ensures remaining { report.new.remaining ≡ report.old.remaining }
+    ensures keeps { KeepsFinds report.old report.new }
 {
     let mut list = Vec::new(job.alloc);
     let listed = append_names(job, names, &mut list);
@@ -158,7 +158,7 @@ fn finish_output<W: Write, E: Write>(
     ensures sent { Sends (stream_of W.contents out.old) (stream_of W.contents out.new) [] }
     ensures failed { result ≡ out.new.failed }
     ensures flushed { out.new.failed ≡ false → out.new.unflushed ≡ false }
-    ensures remaining { report.new.remaining ≡ report.old.remaining }
+    ensures keeps { KeepsFinds report.old report.new }
     ensures told { TellsIf write_message result report.old report.new
         (stream_of E.contents err.old) (stream_of E.contents err.new) }
 {

@@ -1,6 +1,7 @@
 //! Showing what would change of one file.
 
 ghost use Rattle.std.specs.Prelude.{◌≡◌, ◌⊎◌, ◌<◌, ◌≤◌, true, false};
+ghost use Rattle.ud_tree.specs.Messages.{KeepsScreen};
 ghost use Rattle.ud_tree.specs.Fates.{no_edits};
 ghost use Rattle.ud_tree.specs.Runs.{nothing_listed};
 ghost use Rattle.ud_tree.specs.Shown.{ShowsOne};
@@ -43,8 +44,7 @@ pub(crate) fn show_file<T: Tree, W: Write>(
         file.entry.name.now (T.history tree.old) (T.history tree.new)
         (stream_of W.contents out.old) (stream_of W.contents out.new) result edits.new
         nothing_listed report.old report.new }
-    ensures terminal { report.new.is_terminal ≡ report.old.is_terminal }
-    ensures shown { report.new.is_shown ≡ report.old.is_shown }
+    ensures screen { KeepsScreen report.old report.new }
 {
     let mut output = Watched::new(Vec::<u8>::new(job.alloc));
     let ran = match run_file(job, tree, file, &mut output) {

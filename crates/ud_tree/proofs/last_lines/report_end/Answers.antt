@@ -10,4 +10,4 @@ returns-then-job g c =
 pub returns : goal.returns
 returns g c =
     ends_told c.args.job.now.arguments.now c.args.counts c.args.faults c.args.hidden _ c.report_removed.new.report c.report_edited.new.report c.if-job.false
-    (ap (λ s. s.count) (c.report_edited.ensures.remaining ∙ c.report_removed.ensures.remaining ∙ c.report_counts.ensures.remaining)) c.report_counts.ensures.says c.report_removed.ensures.line c.report_removed.ensures.hidden c.report_edited.ensures.line c.report_edited.ensures.hidden c.report_remaining.ensures
+    (ap (λ s. s.count) (c.report_edited.ensures.keeps.remaining ∙ c.report_removed.ensures.keeps.remaining ∙ c.report_counts.ensures.keeps.remaining)) c.report_counts.ensures.says c.report_removed.ensures.line c.report_removed.ensures.hidden c.report_edited.ensures.line c.report_edited.ensures.hidden c.report_remaining.ensures

@@ -7,7 +7,7 @@ pub returns : goal.returns
 returns g c =
     ends c.args.job.now c.args.files.now c.write_lists-list_fault.result c.finish_output-out_fault.result c.args.walk_faults c.saturating_add-faults.result _ c.status.result
     c.new-names.result c.process_files-counts.new.names c.new-names.ensures.list c.new-names.ensures.hidden c.new-names.ensures.hidden_list c.hidden.ensures c.new-report.ensures.remaining c.write_lists-list_fault.ensures.whole
-    (c.finish_output-out_fault.ensures.remaining ∙ c.write_lists-list_fault.ensures.remaining)
+    (c.finish_output-out_fault.ensures.keeps.remaining ∙ c.write_lists-list_fault.ensures.keeps.remaining)
     c.process_files-counts.ensures c.write_lists-list_fault.ensures.writes
     c.write_lists-list_fault.ensures.told c.finish_output-out_fault.ensures.sent c.finish_output-out_fault.ensures.failed c.finish_output-out_fault.ensures.flushed
     (stream_of g.E.Write.contents c.finish_output-out_fault.new.err)
