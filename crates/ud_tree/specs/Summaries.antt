@@ -1,6 +1,7 @@
 -- Summaries: the lines that end a run.
 --
 --   line_of text              a line of the program with this text
+--   plural count one many     what follows a number
 --   files_text count          what follows the number of files whose names were listed
 --   hidden_text listed count  what follows the number of conditions that could not be listed
 --   changes_line word changed unchanged faults   how many files changed, or would
@@ -33,18 +34,22 @@ abbrev pub changes_line : List ℕ → ℕ → ℕ → ℕ → List ℕ
 changes_line word changed unchanged faults = line_of (decimal changed ++ word ++
     decimal unchanged ++ codes " unchanged, " ++ decimal faults ++ codes " faulty")
 
+-- `plural count one many`: what follows a number: `one` if it is 1, else `many`.
+abbrev pub plural : ℕ → List ℕ → List ℕ → List ℕ
+plural count one many = if count == 1 then one else many
+
 -- `files_text count`: what follows the number of files whose names were listed.
 abbrev pub files_text : ℕ → List ℕ
-files_text count = if count == 1 then codes " file listed, " else codes " files listed, "
+files_text count = plural count (codes " file listed, ") (codes " files listed, ")
 
 -- `hidden_text listed count`: what follows the number of conditions whose names could not be
 -- listed. It names the option that lists them, unless there are none or they are `listed`.
 abbrev pub hidden_text : Bool → ℕ → List ℕ
 hidden_text listed count =
-    if count == 0 || listed then (if count == 1 then codes " condition could not be listed"
-    else codes " conditions could not be listed")
-    else if count == 1 then codes " condition could not be listed; -r lists it"
-    else codes " conditions could not be listed; -r lists them"
+    if count == 0 || listed then plural count (codes " condition could not be listed")
+    (codes " conditions could not be listed")
+    else plural count (codes " condition could not be listed; -r lists it")
+    (codes " conditions could not be listed; -r lists them")
 
 -- `summary task listed changed unchanged faults hidden`: the line with the numbers of files that
 -- changed, or would, of those that didn't, and of faults. If names are listed: of files without a
@@ -60,8 +65,8 @@ summary Names listed changed unchanged faults hidden = line_of (decimal unchange
 
 -- `remaining_text count`: what follows the number of conditions.
 abbrev pub remaining_text : ℕ → List ℕ
-remaining_text count = if count == 1 then codes " condition still names a symbol"
-    else codes " conditions still name a symbol"
+remaining_text count =
+    plural count (codes " condition still names a symbol") (codes " conditions still name a symbol")
 
 -- `remaining_line listed count`: the line with the number of conditions that still name a symbol,
 -- which is left out if there is none and they aren't `listed`.
@@ -71,7 +76,7 @@ remaining_line listed count = if count == 0 && not listed then [] else line_of (
 
 -- `removed_text count`: what follows the number of removed lines.
 abbrev pub removed_text : ℕ → List ℕ
-removed_text count = if count == 1 then codes " line removed" else codes " lines removed"
+removed_text count = plural count (codes " line removed") (codes " lines removed")
 
 -- `removed_line count`: the line with the number of removed lines, which is left out if there is
 -- none.
@@ -80,7 +85,7 @@ removed_line count = if count == 0 then [] else line_of (decimal count ++ remove
 
 -- `edited_text count`: what follows the number of edited conditions.
 abbrev pub edited_text : ℕ → List ℕ
-edited_text count = if count == 1 then codes " condition edited" else codes " conditions edited"
+edited_text count = plural count (codes " condition edited") (codes " conditions edited")
 
 -- `edited_line prunes count`: the line with the number of edited conditions, which is left out if
 -- none is to be.

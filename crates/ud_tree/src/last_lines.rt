@@ -4,10 +4,8 @@
 ghost use Rattle.std.specs.Prelude.{◌≡◌, false};
 ghost use Rattle.ud_tree.specs.Messages.{KeepsFinds};
 ghost use Rattle.ud_tree.specs.Summaries.{Says, TellsEnd, changes_line, summary};
-ghost use Rattle.ud_tree.specs.Summaries.{files_text, hidden_text};
-ghost use Rattle.ud_tree.specs.Summaries.{remaining_line, remaining_text};
-ghost use Rattle.ud_tree.specs.Summaries.{edited_line, edited_text};
-ghost use Rattle.ud_tree.specs.Summaries.{removed_line, removed_text};
+ghost use Rattle.ud_tree.specs.Summaries.{edited_line, hidden_text, plural, remaining_line};
+ghost use Rattle.ud_tree.specs.Summaries.{removed_line};
 ghost use Rattle.ud_io.specs.Streams.{Sends, stream_of};
 
 use crate::arguments::{Arguments, Task};
@@ -121,7 +119,7 @@ fn report_listed<E: Write>(
         err,
         &[
             listed,
-            files_text(counts.unchanged),
+            plural(counts.unchanged, b" file listed, ", b" files listed, "),
             faulty,
             b" faulty; ",
             unlisted,
@@ -130,15 +128,11 @@ fn report_listed<E: Write>(
     );
 }
 
-/// Returns what follows the number of files whose names were listed.
-fn files_text(count: usize) -> &'static [u8]
-    ensures { result.now ≡ files_text count }
+/// Returns what follows a number: `one` if it is 1, else `many`.
+fn plural<'a>(count: usize, one: &'a [u8], many: &'a [u8]) -> &'a [u8]
+    ensures { result.now ≡ plural count one.now many.now }
 {
-    if count == 1 {
-        b" file listed, "
-    } else {
-        b" files listed, "
-    }
+    if count == 1 { one } else { many }
 }
 
 /// Returns what follows the number of conditions that couldn't be listed. Unless they are `listed`,
@@ -147,15 +141,17 @@ fn hidden_text(listed: bool, count: usize) -> &'static [u8]
     ensures { result.now ≡ hidden_text listed count }
 {
     if count == 0 || listed {
-        if count == 1 {
-            b" condition could not be listed"
-        } else {
-            b" conditions could not be listed"
-        }
-    } else if count == 1 {
-        b" condition could not be listed; -r lists it"
+        plural(
+            count,
+            b" condition could not be listed",
+            b" conditions could not be listed",
+        )
     } else {
-        b" conditions could not be listed; -r lists them"
+        plural(
+            count,
+            b" condition could not be listed; -r lists it",
+            b" conditions could not be listed; -r lists them",
+        )
     }
 }
 
@@ -171,18 +167,8 @@ fn report_removed<E: Write>(report: &mut Report, err: &mut Watched<E>, count: us
     }
     let mut digits = Buffer::new();
     let number = digits.format(count).as_bytes();
-    report.line(err, &[number, removed_text(count)]);
-}
-
-/// Returns what follows the number of removed lines.
-fn removed_text(count: usize) -> &'static [u8]
-    ensures { result.now ≡ removed_text count }
-{
-    if count == 1 {
-        b" line removed"
-    } else {
-        b" lines removed"
-    }
+    let text = plural(count, b" line removed", b" lines removed");
+    report.line(err, &[number, text]);
 }
 
 /// Writes how many conditions were edited, if conditions are pruned.
@@ -197,18 +183,8 @@ fn report_edited<E: Write>(prunes: bool, report: &mut Report, err: &mut Watched<
     }
     let mut digits = Buffer::new();
     let number = digits.format(count).as_bytes();
-    report.line(err, &[number, edited_text(count)]);
-}
-
-/// Returns what follows the number of edited conditions.
-fn edited_text(count: usize) -> &'static [u8]
-    ensures { result.now ≡ edited_text count }
-{
-    if count == 1 {
-        b" condition edited"
-    } else {
-        b" conditions edited"
-    }
+    let text = plural(count, b" condition edited", b" conditions edited");
+    report.line(err, &[number, text]);
 }
 
 /// Writes how many conditions still name a symbol, if they were listed or if there are some.
@@ -220,23 +196,18 @@ fn report_remaining<E: Write>(arguments: &Arguments, report: &mut Report, err: &
     let count = report.remaining();
     let mut digits = Buffer::new();
     let number = digits.format(count).as_bytes();
+    let text = plural(
+        count,
+        b" condition still names a symbol",
+        b" conditions still name a symbol",
+    );
     if arguments.list_remaining {
-        report.line(err, &[number, remaining_text(count)]);
+        report.line(err, &[number, text]);
         return;
     }
     if count == 0 {
         return;
     }
-    report.line(err, &[number, remaining_text(count), b"; -r lists them"]);
+    report.line(err, &[number, text, b"; -r lists them"]);
 }
 
-/// Returns what follows the number of conditions that still name a symbol.
-fn remaining_text(count: usize) -> &'static [u8]
-    ensures { result.now ≡ remaining_text count }
-{
-    if count == 1 {
-        b" condition still names a symbol"
-    } else {
-        b" conditions still name a symbol"
-    }
-}

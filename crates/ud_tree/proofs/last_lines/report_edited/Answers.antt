@@ -10,5 +10,5 @@ returns-then-not-prunes-clause-line g c = λ hidden. sends_same (sym (edited_non
 
 pub returns-clause-line : goal.returns-clause-line
 returns-clause-line g c = λ hidden.
-    sends_same (edited_told c.args.prunes c.args.count _ _ c.if-not-prunes.false (c.as_bytes-number.ensures.value ∙ c.format.ensures.text) c.edited_text.ensures)
+    sends_same (edited_told c.args.prunes c.args.count _ _ c.if-not-prunes.false (c.as_bytes-number.ensures.value ∙ c.format.ensures.text) c.plural-text.ensures)
     (said_unshown c.line.ensures.says hidden)

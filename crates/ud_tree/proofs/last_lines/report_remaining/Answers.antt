@@ -10,7 +10,7 @@ pub returns-then-arguments : goal.returns-then-arguments
 returns-then-arguments g c = λ hidden.
     sends_same
     (remaining_listed c.args.arguments.now.list_remaining c.args.report.now.remaining.count _ _ c.if-arguments.true
-    (c.as_bytes-number.ensures.value ∙ c.format.ensures.text ∙ ap decimal c.remaining-count.ensures) (c.remaining_text.ensures ∙ ap remaining_text c.remaining-count.ensures))
+    (c.as_bytes-number.ensures.value ∙ c.format.ensures.text ∙ ap decimal c.remaining-count.ensures) (c.plural-text.ensures ∙ ap remaining_text c.remaining-count.ensures))
     (said_unshown c.line.ensures.says hidden)
 
 pub returns-then-count-eq0 : goal.returns-then-count-eq0
@@ -22,5 +22,5 @@ pub returns : goal.returns
 returns g c = λ hidden.
     sends_same
     (remaining_told c.args.arguments.now.list_remaining c.args.report.now.remaining.count _ _ c.if-arguments.false (λ e. c.if-count-eq0.false (c.remaining-count.ensures ∙ e))
-    (c.as_bytes-number.ensures.value ∙ c.format.ensures.text ∙ ap decimal c.remaining-count.ensures) (c.remaining_text-2.ensures ∙ ap remaining_text c.remaining-count.ensures))
+    (c.as_bytes-number.ensures.value ∙ c.format.ensures.text ∙ ap decimal c.remaining-count.ensures) (c.plural-text.ensures ∙ ap remaining_text c.remaining-count.ensures))
     (said_unshown c.line-2.ensures.says hidden)

@@ -10,5 +10,5 @@ returns-then-count-eq0-clause-line g c = λ hidden. sends_same (sym (removed_non
 
 pub returns-clause-line : goal.returns-clause-line
 returns-clause-line g c = λ hidden.
-    sends_same (removed_told c.args.count _ _ c.if-count-eq0.false (c.as_bytes-number.ensures.value ∙ c.format.ensures.text) c.removed_text.ensures)
+    sends_same (removed_told c.args.count _ _ c.if-count-eq0.false (c.as_bytes-number.ensures.value ∙ c.format.ensures.text) c.plural-text.ensures)
     (said_unshown c.line.ensures.says hidden)
