@@ -1,5 +1,5 @@
 -- The messages of parts of a walk, one after another.
-use Rattle.std.proofs.Common.{String, Global, ◌≡◌, ◌==◌, true≢false, ℕ, suc, ◌+◌, ◌<◌, ◌-◌, ◌^◌, min, List, [], ◌∷◌, ◌++◌, length, take, map, get_or, Bool, true, false, refl, sym, ap, ◌∙◌, subst, arith, append_assoc, append-nil, codes, length-append, Option}
+use Rattle.std.proofs.Common.{String, Global, ◌≡◌, ◌==◌, true≢false, ℕ, suc, ◌+◌, ◌<◌, ◌-◌, ◌^◌, min, List, [], ◌∷◌, ◌++◌, length, take, map, get_or, Bool, true, false, refl, sym, ap, ◌∙◌, subst, arith, append_assoc, append-nil, codes, length-append, Option, Result, Ok, Err, IfOk}
 use Rattle.std.proofs.lemmas.List.{map-append, get_or-map, length-map}
 use Rattle.std.proofs.lemmas.Grind.{flat_map-append}
 use Rattle.std.proofs.lemmas.List.Elements.{Contains-append_left, Contains-append_right, Contains-get_or}
@@ -391,3 +391,8 @@ goes_none history contents tree w r err =
 pub goes_then : {T E : Type 0} {history : T → List Call} {contents : E → Option (List ℕ)} {x y z : T} {u v w t : Walk} {a b c : Report} {e f g : WatchedState E} →
     GoesOn history contents x y u v a b e f → GoesOn history contents y z w t b c f g → w.found.items ≡ v.found.items → GoesOn history contents x z u t a c e g
 goes_then h k same = record { finds = finds_then (finds_same same h.finds) k.finds; told = walk_then h.told k.told }
+
+-- What two facts of a result give.
+pub if_ok_both : {T E : Type 0} {P Q R : T → Type 0} (r : Result T E) → ((x : T) → P x → Q x → R x) → IfOk r P → IfOk r Q → IfOk r R
+if_ok_both (Ok x) f p q = f x p q
+if_ok_both (Err e) f p q = tt

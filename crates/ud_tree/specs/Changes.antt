@@ -1,6 +1,7 @@
 -- Changes: what is shown of a file that is replaced.
 --
 --   KeepsOne o into name old new r text output edited   a file was replaced, with this output
+--   KeepsAs plan into name old new r text output edited   the same for all options of a plan
 --   ShowsChange shows name update text output shown   the diff of a file that was changed
 --   ShowsUpdate plan into shows name old new r shown edits outputs   the same, by the result
 --   ReplacesShowing plan into shows name old new result   both: it was replaced, and is shown
@@ -28,6 +29,12 @@ abbrev pub KeepsOne : TextOptions → Bool → List ℕ → List Call → List C
 KeepsOne o into name old new r text output edited =
     (id : FileId) × Keeps o into id name (fresh_name name) old new r text output edited
 
+-- `KeepsAs plan into name old new r text output edited`: the same for all options of the plan.
+abbrev pub KeepsAs : TextPlan → Bool → List ℕ → List Call → List Call →
+    Result Update ReplaceError → List ℕ → List ℕ → ℕ → Type 0
+KeepsAs plan into name old new r text output edited =
+    (o : TextOptions) → IsPlanned plan o → KeepsOne o into name old new r text output edited
+
 -- `ShowsChange shows name update text output shown`: nothing is shown of the file `name`. Or its
 -- diff is, which turns `text` into `output`; it is wanted, and the file was changed.
 pub data ShowsChange (shows : Bool) (name : List ℕ) (update : Update) (text output : List ℕ) :
@@ -43,8 +50,7 @@ pub data ShowsUpdate (plan : TextPlan) (into shows : Bool) (name : List ℕ) (ol
     Result Update ReplaceError → List ℕ → Edits → List Output → Type 0 where
   after_error : {e : ReplaceError} → ShowsUpdate plan into shows name old new (Err e) [] no_edits []
   after_update : {update : Update} {shown : List ℕ} (text output : List ℕ) (edits : Edits) →
-      ((o : TextOptions) → IsPlanned plan o →
-      KeepsOne o into name old new (Ok update) text output edits.conditions) →
+      KeepsAs plan into name old new (Ok update) text output edits.conditions →
       edits.lines ≡ removed_by update text output →
       ShowsChange shows name update text output shown →
       ShowsUpdate plan into shows name old new (Ok update) shown edits (made name output)

@@ -2,6 +2,7 @@
 --
 --   WasRead name text stat old new   a file was read, and `text` are its bytes
 --   Fails o name calls calls' e      a file couldn't be read, or the run over its text failed
+--   RunsFile plan name calls calls' output output' result   a run over the text of a file
 --   HasDiff o name text diff edited  the diff of a text and its output
 --   ShowsFile o into name calls calls' update shown edits outputs   a file was read, and its diff
 --                                    shown
@@ -12,7 +13,8 @@
 --
 -- `calls` and `calls'` are the calls before and after, the newest first.
 use Rattle.std.specs.Prelude.{◌≡◌, ◌⊎◌, ℕ, ◌<◌, ◌≤◌, List, [], ◌∷◌, Bool, true, false}
-use Rattle.std.specs.Prelude.{Some, None, Result, Ok, Err, length, if◌then◌else◌}
+use Rattle.std.specs.Prelude.{Some, None, Result, Ok, Err, MatchResult, length}
+use Rattle.std.specs.Prelude.{if◌then◌else◌}
 use Rattle.ud_model.specs.sections.Items.{mode_by}
 use Rattle.ud_model.specs.declared.kind.Mode.{Mode}
 use Rattle.ud_diff.specs.Patching.{IsDiff}
@@ -29,6 +31,7 @@ use Rattle.ud_replace.specs.TextOutcomes.{TextOptions, IsPlanned, TextOutcome, H
 use Rattle.ud_replace.specs.TextOutcomes.{RunsOver, FailsOver}
 use Rattle.ud_passes.specs.names.UnlistedConditions.{unlisted_in, unlisted_text}
 use Rattle.ud_tree.specs.declared.counts.Edits.{Edits}
+use Rattle.ud_tree.specs.declared.run_file.Ran.{Ran}
 use Rattle.ud_tree.specs.Fates.{no_edits, removed_by}
 use Rattle.ud_tree.specs.Runs.{FileResult, ReadsOne, Listed, Output, made}
 
@@ -47,6 +50,14 @@ pub data Fails (o : TextOptions) (name : List ℕ) (calls calls' : List Call) :
       Fails o name calls calls' ChangedMeanwhile
   fails_over : {e : ReplaceError} (text : List ℕ) (stat : FileStat) →
       WasRead name text stat calls calls' → FailsOver o text e → Fails o name calls calls' e
+
+-- `RunsFile plan name calls calls' output output' result`: the file `name` was read, and the run
+-- over its text turned `output` into `output'`. Or `Fails` is true of the error.
+abbrev pub RunsFile : TextPlan → List ℕ → List Call → List Call → List ℕ → List ℕ →
+    Result Ran ReplaceError → Type 0
+RunsFile plan name calls calls' output output' result = (o : TextOptions) → IsPlanned plan o →
+    MatchResult result (λ ran. RunsOver o ran.text.items output output' ran.run)
+    (Fails o name calls calls')
 
 -- `HasDiff o name text diff edited`: `text` has no fault, and its output differs, of which `edited`
 -- conditions are edited. `diff` turns the text into the output, and back.

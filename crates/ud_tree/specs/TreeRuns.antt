@@ -2,6 +2,8 @@
 --
 --   DoesBy task args name old new result   what a task does with a file
 --   DoesOne args name old new result       what the arguments ask for is done with a file
+--   WritesBy task args name history contents tree tree' ..   a file was processed by the task
+--   Processes args name history contents tree tree' ..       a file was processed
 --   DoesJob job files before report after report' counts lists lists'   the same for each file
 --   IsDone args failed files done           which files are processed before a run ends
 --   DoesFiles job files before report after report' counts lists lists'   the same for those
@@ -25,10 +27,12 @@
 -- input has before and after. `messages` are those of the walk, and `in_walk` is their number.
 -- `is_lost` says that memory ran out for a part of what was to be shown or listed.
 use Rattle.std.specs.Prelude.{◌≡◌, ◌⊎◌, ℕ, ◌+◌, ◌≤◌, ◌<◌, ◌^◌, List, [], ◌++◌, length}
-use Rattle.std.specs.Prelude.{Bool, true, false, take}
+use Rattle.std.specs.Prelude.{Bool, true, false, take, Option, Result}
 use Rattle.ud_model.specs.conditions.Table.{Argument}
 use Rattle.ud_cond.specs.symbols.SymbolTable.{TableRepresents}
 use Rattle.ud_replace.specs.Calls.{Call}
+use Rattle.ud_replace.specs.declared.error.Update.{Update}
+use Rattle.ud_replace.specs.declared.error.ReplaceError.{ReplaceError}
 use Rattle.ud_tree.specs.declared.arguments.Task.{Task}
 use Rattle.ud_tree.specs.declared.arguments.Task.TheVariants.{Replace, Diff, Names}
 use Rattle.ud_tree.specs.declared.arguments.Arguments.{Arguments}
@@ -42,14 +46,15 @@ use Rattle.ud_passes.specs.declared.names.Names.{Names as NameLists}
 use Rattle.ud_passes.specs.names.NameTables.{names_in, Tabulates}
 use Rattle.ud_tree.specs.Remainders.{is_searched, listing_of, mode_of, texts_of, count_of}
 use Rattle.ud_tree.specs.Runs.{FileResult, Unshown, EachFile, shown_of, told_of, listed_of}
-use Rattle.ud_tree.specs.Runs.{outputs_of}
+use Rattle.ud_tree.specs.Runs.{outputs_of, nothing_listed}
 use Rattle.ud_tree.specs.Runs.{changed_in, same_in, faulty_in, edited_in, removed_in, names_of}
 use Rattle.ud_tree.specs.Shown.{ShowsOne, ListsOne}
 use Rattle.ud_tree.specs.Messages.{output_messages}
 use Rattle.ud_tree.specs.Streams.{StreamEnds, ends_of, Source, TakesInput, ReadsWhole}
-use Rattle.ud_io.specs.Streams.{Sends}
+use Rattle.ud_io.specs.Streams.{Sends, stream_of}
+use Rattle.ud_io.specs.Watched.{WatchedState}
 use Rattle.ud_tree.specs.Summaries.{last_lines, EndsWith}
-use Rattle.ud_tree.specs.Writing.{Moment, WritesAll}
+use Rattle.ud_tree.specs.Writing.{Moment, WritesOne, ProcessesOne, WritesAll}
 use Rattle.ud_tree.specs.Covering.{StandsIn, MissesNone}
 use Rattle.ud_tree.specs.Walks.{IsWalk}
 use Rattle.ud_tree.specs.WalkMessages.{WalkTells, joined, Stops}
@@ -65,6 +70,24 @@ DoesBy Names args = Unshown (ListsOne args.plan args.list_hidden)
 -- `DoesOne args name old new result`: what the arguments ask for is done with the file `name`.
 abbrev pub DoesOne : Arguments → List ℕ → List Call → List Call → FileResult → Type 0
 DoesOne args = DoesBy args.task args
+
+-- `WritesBy task args name history contents tree tree' out out' update edits report report'`: the
+-- file `name` is replaced or shown, by the task (`WritesOne`). Nothing is listed of it.
+abbrev pub WritesBy : {T W : Type 0} → Task → Arguments → List ℕ → (T → List Call) →
+    (W → Option (List ℕ)) → T → T → WatchedState W → WatchedState W →
+    Result Update ReplaceError → Edits → Report → Report → Type 0
+WritesBy task args name history contents tree tree' out out' update edits report report' =
+    WritesOne args (DoesBy task args) name (history tree) (history tree')
+    (stream_of contents out) (stream_of contents out') update edits nothing_listed report report'
+
+-- `Processes args name history contents tree tree' out out' update edits lists lists' report
+-- report'`: what the arguments ask for is done with the file `name` (`ProcessesOne`).
+abbrev pub Processes : {T W : Type 0} → Arguments → List ℕ → (T → List Call) →
+    (W → Option (List ℕ)) → T → T → WatchedState W → WatchedState W →
+    Result Update ReplaceError → Edits → NameLists → NameLists → Report → Report → Type 0
+Processes args name history contents tree tree' out out' update edits lists lists' report report' =
+    ProcessesOne args (DoesOne args) name (history tree) (history tree')
+    (stream_of contents out) (stream_of contents out') update edits lists lists' report report'
 
 -- `DoesJob job files before report after report' counts lists lists'`: what the arguments ask for
 -- is done with each file in turn, what is shown and told of them was written, and what is listed

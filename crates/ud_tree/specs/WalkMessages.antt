@@ -18,12 +18,15 @@
 --   StopsWalk from_input left calls calls' old new err err'   a walk that no file follows
 --   TakesEach given left calls calls' has told   the input was read, and each path was given
 --   TakesPaths args given left calls calls' has told   all paths are taken
+--   WalksAll history contents args given left tree tree' found ..   a walk over all paths, or not
 --   FindsFiles args given left calls calls' files old new err err'   a walk that found files
+--   EndsWalk history contents args given left tree tree' ..   a walk that found files, or none
 --
 -- `old` and `new` are the report before and after, or the calls, the newest first. `err` and `err'`
 -- are the error stream, and `given` and `left` are what the input has before and after.
 use Rattle.std.specs.Prelude.{◌≡◌, ℕ, ◌+◌, ◌<◌, ◌^◌, List, [], ◌∷◌, ◌++◌, length, map, Bool, true}
-use Rattle.std.specs.Prelude.{false, not, codes, Option}
+use Rattle.std.specs.Prelude.{false, not, codes, Option, IfSome, IfNone, Vec}
+use Rattle.std.specs.declared.alloc.Global.{Global}
 use Rattle.std.specs.List.{flat_map, Contains}
 use Rattle.ud_replace.specs.declared.node.Lookup.TheVariants.{Present, Absent, Unknown}
 use Rattle.ud_replace.specs.declared.node.Node.{Node}
@@ -38,7 +41,7 @@ use Rattle.ud_io.specs.Streams.{Stream, stream_of}
 use Rattle.ud_io.specs.Watched.{WatchedState}
 use Rattle.ud_tree.specs.declared.arguments.Arguments.{Arguments}
 use Rattle.ud_replace.specs.declared.node.FileId.{FileId}
-use Rattle.ud_tree.specs.Covering.{CoversInput, paths_of, StandsIn, MissesNone}
+use Rattle.ud_tree.specs.Covering.{CoversInput, paths_of, IsIn, StandsIn, MissesNone}
 use Rattle.ud_tree.specs.Summaries.{line_of}
 use Rattle.ud_tree.specs.Walks.{Finds, IsWalk}
 
@@ -207,6 +210,16 @@ pub record TakesPaths (args : Arguments) (given left : Source) (calls calls' : L
   pub takes : TakesInput args.from_input given left text
   pub misses : MissesNone args text calls calls' has told
 
+-- `WalksAll history contents args given left tree tree' found old new err err' all`: if `all`, the
+-- paths are taken, and the walk has found `found`. Else no file follows it.
+pub record WalksAll {T E : Type 0} (history : T → List Call) (contents : E → Option (List ℕ))
+    (args : Arguments) (given left : Source) (tree tree' : T) (found : List Found)
+    (old new : Report) (err err' : WatchedState E) (all : Bool) : Type 0 where
+  pub takes : all ≡ true → TakesPaths args given left (history tree) (history tree') (IsIn found)
+      (0 < new.faulty)
+  pub stops : all ≡ false → old.faulty ≡ 0 → StopsWalk args.from_input left (history tree)
+      (history tree') old new (stream_of contents err) (stream_of contents err')
+
 -- `FindsFiles args given left calls calls' files old new err err'`: the paths are taken. Since
 -- `calls`, a whole walk found `files`, at least one if the paths are those of the command line. Its
 -- messages were written and counted.
@@ -217,3 +230,13 @@ pub record FindsFiles (args : Arguments) (given left : Source) (calls calls' : L
   pub reports : ReportsWalk calls calls' old new err err'
   pub paths : TakesPaths args given left calls calls' (StandsIn files)
       (0 < length reports.messages)
+
+-- `EndsWalk history contents args given left tree tree' old new err err' found`: the walk found these
+-- files, or no file follows it.
+pub record EndsWalk {T E : Type 0} (history : T → List Call) (contents : E → Option (List ℕ))
+    (args : Arguments) (given left : Source) (tree tree' : T) (old new : Report)
+    (err err' : WatchedState E) (found : Option (Vec Found Global)) : Type 0 where
+  pub files : IfSome found (λ files. FindsFiles args given left (history tree) (history tree')
+      files.items old new (stream_of contents err) (stream_of contents err'))
+  pub stops : IfNone found (StopsWalk args.from_input left (history tree) (history tree') old new
+      (stream_of contents err) (stream_of contents err'))

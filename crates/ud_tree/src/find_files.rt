@@ -1,12 +1,12 @@
 //! Finding the files of a run: below the paths of the command line, or those of the input.
 
-ghost use Rattle.std.specs.Prelude.{◌≡◌, ◌<◌, ◌++◌, [], map, true, false, IfOk, IfSome, IfNone};
+ghost use Rattle.std.specs.Prelude.{◌≡◌, ◌<◌, ◌++◌, [], map, true, false, IfOk};
 ghost use Rattle.std.specs.Prelude.{OnErr, OnOk};
 ghost use Rattle.ud_tree.specs.Covering.{IsIn, own_path, paths_of};
 ghost use Rattle.ud_tree.specs.Streams.{source_of, ReadsWhole};
 ghost use Rattle.ud_io.specs.Streams.{stream_of};
-ghost use Rattle.ud_tree.specs.WalkMessages.{FindsFiles, GoesOn, ReportsWalk, StopsWalk};
-ghost use Rattle.ud_tree.specs.WalkMessages.{TakesEach, TakesPaths};
+ghost use Rattle.ud_tree.specs.WalkMessages.{EndsWalk, GoesOn, ReportsWalk, StopsWalk};
+ghost use Rattle.ud_tree.specs.WalkMessages.{TakesEach, WalksAll};
 
 use crate::job::Job;
 use crate::report::Report;
@@ -28,17 +28,9 @@ pub(crate) fn find_files<T: Tree, R: Read, E: Write>(
     report: &mut Report,
     err: &mut Watched<E>,
 ) -> Result<Option<Vec<Found>>, AllocError>
-    ensures files { report.old.faulty ≡ 0 → IfOk result (λ r. IfSome r (λ files.
-        FindsFiles job.now.arguments.now
-        (source_of R.remaining input.old) (source_of R.remaining input.new)
-        (T.history tree.old) (T.history tree.new)
-        files.items report.old report.new (stream_of E.contents err.old)
-        (stream_of E.contents err.new))) }
-    ensures stops { report.old.faulty ≡ 0 → IfOk result (λ r. IfNone r
-        (StopsWalk job.now.arguments.now.from_input (source_of R.remaining input.new)
-        (T.history tree.old) (T.history tree.new)
-        report.old report.new (stream_of E.contents err.old)
-        (stream_of E.contents err.new))) }
+    ensures ends { report.old.faulty ≡ 0 → IfOk result (EndsWalk T.history E.contents
+        job.now.arguments.now (source_of R.remaining input.old) (source_of R.remaining input.new)
+        tree.old tree.new report.old report.new err.old err.new) }
     ensures no_memory { OnErr result (ReportsWalk (T.history tree.old) (T.history tree.new)
         report.old report.new (stream_of E.contents err.old) (stream_of E.contents err.new)) }
 {
@@ -68,14 +60,9 @@ fn walk_all<T: Tree, R: Read, E: Write>(
     requires { walk.old.patterns.now ≡ job.now.arguments.now.patterns.items }
     ensures goes_on { GoesOn T.history E.contents tree.old tree.new walk.old walk.new
         report.old report.new err.old err.new }
-    ensures takes { IfOk result (λ all. all ≡ true → TakesPaths job.now.arguments.now
-        (source_of R.remaining input.old) (source_of R.remaining input.new)
-        (T.history tree.old) (T.history tree.new) (IsIn walk.new.found.items)
-        (0 < report.new.faulty)) }
-    ensures stops { IfOk result (λ all. all ≡ false → report.old.faulty ≡ 0 →
-        StopsWalk job.now.arguments.now.from_input (source_of R.remaining input.new)
-        (T.history tree.old) (T.history tree.new) report.old report.new
-        (stream_of E.contents err.old) (stream_of E.contents err.new)) }
+    ensures walks { IfOk result (WalksAll T.history E.contents job.now.arguments.now
+        (source_of R.remaining input.old) (source_of R.remaining input.new) tree.old tree.new
+        walk.new.found.items report.old report.new err.old err.new) }
 {
     if job.arguments.from_input {
         return add_input(job.alloc, walk, tree, input, report, err);

@@ -1,11 +1,10 @@
 //! Processing all files of a run.
 
 ghost use Rattle.std.specs.Prelude.{◌≡◌, true, false};
-ghost use Rattle.ud_io.specs.Streams.{stream_of};
 ghost use Rattle.ud_tree.specs.Messages.{KeepsScreen};
 ghost use Rattle.ud_tree.specs.Fates.{no_edits};
-ghost use Rattle.ud_tree.specs.TreeRuns.{DoesFiles, DoesOne};
-ghost use Rattle.ud_tree.specs.Writing.{ProcessesOne, moment};
+ghost use Rattle.ud_tree.specs.TreeRuns.{DoesFiles, Processes};
+ghost use Rattle.ud_tree.specs.Writing.{moment};
 
 use crate::arguments::{Arguments, Task};
 use crate::counts::{Counts, Edits};
@@ -89,10 +88,9 @@ fn process_file<T: Tree, W: Write>(
     requires recorded { job.now.arguments.now.task ≡ Task.Replace →
         job.now.arguments.now.show_changes ≡ true → out.old.failed ≡ false }
     requires lists { names.old.lists_hidden ≡ job.now.arguments.now.list_hidden }
-    ensures writes { ProcessesOne job.now.arguments.now (DoesOne job.now.arguments.now)
-        file.entry.name.now (T.history tree.old) (T.history tree.new) (stream_of W.contents out.old)
-        (stream_of W.contents out.new) result edits.new names.old names.new
-        report.old report.new }
+    ensures writes { Processes job.now.arguments.now file.entry.name.now
+        T.history W.contents tree.old tree.new out.old out.new result edits.new
+        names.old names.new report.old report.new }
     ensures screen { KeepsScreen report.old report.new }
 {
     match job.arguments.task {

@@ -1,14 +1,13 @@
 //! Replacing one file.
 
 ghost use Rattle.std.specs.Prelude.{◌≡◌, [], true, false, Ok, is_ok};
-ghost use Rattle.ud_replace.specs.TextOutcomes.{TextOptions, IsPlanned};
 ghost use Rattle.ud_tree.specs.Messages.{KeepsScreen};
-ghost use Rattle.ud_tree.specs.Changes.{KeepsOne, ReplacesShowing, ShowsChange};
+ghost use Rattle.ud_tree.specs.Changes.{KeepsAs, ShowsChange};
 ghost use Rattle.ud_tree.specs.Fates.{fate_of, is_changed, no_edits, removed_by};
-ghost use Rattle.ud_tree.specs.Runs.{ReplacesOne, nothing_listed};
-ghost use Rattle.ud_io.specs.Streams.{stream_of};
-ghost use Rattle.ud_tree.specs.Writing.{WritesOne};
+ghost use Rattle.ud_tree.specs.Runs.{ReplacesOne};
+ghost use Rattle.ud_tree.specs.TreeRuns.{WritesBy};
 
+use crate::arguments::Task;
 use crate::counts::Edits;
 use crate::file_diff::diff_of;
 use crate::job::Job;
@@ -39,11 +38,9 @@ pub(crate) fn replace_file<T: Tree, W: Write>(
 ) -> Result<Update, ReplaceError>
     requires none { edits.old ≡ no_edits }
     requires recorded { job.now.arguments.now.show_changes ≡ true → out.old.failed ≡ false }
-    ensures writes { WritesOne job.now.arguments.now
-        (ReplacesShowing job.now.arguments.now.plan job.now.arguments.now.write_into
-        job.now.arguments.now.show_changes) file.entry.name.now (T.history tree.old)
-        (T.history tree.new) (stream_of W.contents out.old) (stream_of W.contents out.new) result
-        edits.new nothing_listed report.old report.new }
+    ensures writes { WritesBy Task.Replace job.now.arguments.now file.entry.name.now
+        T.history W.contents tree.old tree.new out.old out.new result edits.new
+        report.old report.new }
     ensures screen { KeepsScreen report.old report.new }
 {
     let mut text = Vec::new(job.alloc);
@@ -138,10 +135,9 @@ fn replace_named<T: Tree>(
     requires not_failed { output.old.failed ≡ false }
     ensures replaces { ReplacesOne job.now.arguments.now.plan job.now.arguments.now.write_into
         file.entry.name.now (T.history tree.old) (T.history tree.new) result }
-    ensures keeps { (o : TextOptions) → IsPlanned job.now.arguments.now.plan o →
-        is_ok result ≡ true → KeepsOne o job.now.arguments.now.write_into file.entry.name.now
-        (T.history tree.old) (T.history tree.new) result text.new.items output.new.inner.items
-        edited.new }
+    ensures keeps { is_ok result ≡ true → KeepsAs job.now.arguments.now.plan
+        job.now.arguments.now.write_into file.entry.name.now (T.history tree.old)
+        (T.history tree.new) result text.new.items output.new.inner.items edited.new }
 {
     let name = file.name;
     match fresh_name(job.alloc, name) {

@@ -1,9 +1,8 @@
 //! Reading a file, and running over its text.
 
-ghost use Rattle.std.specs.Prelude.{◌≡◌, false, IfOk, MatchResult};
-ghost use Rattle.ud_replace.specs.TextOutcomes.{TextOptions, IsPlanned, RunsOver};
+ghost use Rattle.std.specs.Prelude.{◌≡◌, false, IfOk};
 ghost use Rattle.ud_tree.specs.Runs.{ReadsOne};
-ghost use Rattle.ud_tree.specs.Shown.{WasRead, Fails};
+ghost use Rattle.ud_tree.specs.Shown.{RunsFile, WasRead};
 
 use crate::job::Job;
 use crate::tree::Tree;
@@ -42,9 +41,9 @@ pub(crate) fn run_file<T: Tree>(
         (T.history tree.new) }
     ensures text { IfOk result (λ ran. WasRead file.entry.name.now ran.text.items ran.stat
         (T.history tree.old) (T.history tree.new)) }
-    ensures ran { (o : TextOptions) → IsPlanned job.now.arguments.now.plan o → MatchResult result
-        (λ ran. RunsOver o ran.text.items output.old.inner.items output.new.inner.items ran.run)
-        (λ e. Fails o file.entry.name.now (T.history tree.old) (T.history tree.new) e) }
+    ensures ran { RunsFile job.now.arguments.now.plan file.entry.name.now
+        (T.history tree.old) (T.history tree.new)
+        output.old.inner.items output.new.inner.items result }
 {
     let mut text = Vec::new(job.alloc);
     match tree.read(file.name, &mut text) {

@@ -3,11 +3,9 @@
 ghost use Rattle.std.specs.Prelude.{◌≡◌, ◌⊎◌, ◌<◌, ◌≤◌, true, false};
 ghost use Rattle.ud_tree.specs.Messages.{KeepsScreen};
 ghost use Rattle.ud_tree.specs.Fates.{no_edits};
-ghost use Rattle.ud_tree.specs.Runs.{nothing_listed};
-ghost use Rattle.ud_tree.specs.Shown.{ShowsOne};
-ghost use Rattle.ud_io.specs.Streams.{stream_of};
-ghost use Rattle.ud_tree.specs.Writing.{WritesOne};
+ghost use Rattle.ud_tree.specs.TreeRuns.{WritesBy};
 
+use crate::arguments::Task;
 use crate::counts::Edits;
 use crate::file_diff::diff_of;
 use crate::job::Job;
@@ -39,11 +37,9 @@ pub(crate) fn show_file<T: Tree, W: Write>(
     edits: &mut Edits,
 ) -> Result<Update, ReplaceError>
     requires none { edits.old ≡ no_edits }
-    ensures writes { WritesOne job.now.arguments.now
-        (ShowsOne job.now.arguments.now.plan job.now.arguments.now.write_into)
-        file.entry.name.now (T.history tree.old) (T.history tree.new)
-        (stream_of W.contents out.old) (stream_of W.contents out.new) result edits.new
-        nothing_listed report.old report.new }
+    ensures writes { WritesBy Task.Diff job.now.arguments.now file.entry.name.now
+        T.history W.contents tree.old tree.new out.old out.new result edits.new
+        report.old report.new }
     ensures screen { KeepsScreen report.old report.new }
 {
     let mut output = Watched::new(Vec::<u8>::new(job.alloc));

@@ -5,21 +5,24 @@ use Rattle.ud_tree.proofs.WalkTellLemmas.{stops_unmatched, some_files, some_unle
 use Rattle.ud_tree.proofs.find_files.find_files.Goals.{else-is_empty-via-then-is_empty+else-not-job, else-is_empty-via-else-is_empty}
 use Rattle.ud_tree.proofs.find_files.find_files.Goals as goal
 
-pub returns-then-not-all-clause-stops : goal.returns-then-not-all-clause-stops
-returns-then-not-all-clause-stops g c = λ none. c.in_ok-all.ensures.stops c.if-not-all.true none
+pub returns-then-not-all-clause-ends : goal.returns-then-not-all-clause-ends
+returns-then-not-all-clause-ends g c = λ none. record { files = tt; stops = c.in_ok-all.ensures.walks.stops c.if-not-all.true none }
 
-pub returns-then-not-job-clause-stops : goal.returns-then-not-job-clause-stops
-returns-then-not-job-clause-stops g c = λ none. stops_unmatched _ c.if-not-job.true refl c.walk_all.ensures.goes_on.told c.line.ensures.tells
+pub returns-then-not-job-clause-ends : goal.returns-then-not-job-clause-ends
+returns-then-not-job-clause-ends g c = λ none. record { files = tt; stops = stops_unmatched _ c.if-not-job.true refl c.walk_all.ensures.goes_on.told c.line.ensures.tells }
 
-pub returns-clause-files : goal.returns-clause-files
-returns-clause-files g c = λ none. record {
-  is_walk = walk_found c.in_ok-files.files.items c.new-walk.ensures.found c.walk_all.ensures.goes_on.finds c.in_ok-files.ensures;
-  some = elim c.else-is_empty.branch [
-    | else-is_empty-via-then-is_empty+else-not-job w ↦ some_unless _ _ w.if-not-job.false
-    | else-is_empty-via-else-is_empty w ↦ some_files _ _ _ _ (sym c.in_ok-files.files.ok.0) c.is_empty.ensures w.if-is_empty.false
-  ];
-  reports = c.walk_all.ensures.goes_on.told;
-  paths = paths_kept c.walk_all.new.walk.found.items c.in_ok-files.files.items (0 < c.walk_all.new.report.faulty) (0 < length c.walk_all.ensures.goes_on.told.messages)
-      (λ some. some_told c.args.report.now.faulty c.walk_all.new.report.faulty (length c.walk_all.ensures.goes_on.told.messages) none c.walk_all.ensures.goes_on.told.counted some) c.in_ok-files.ensures.kept
-      (c.in_ok-all.ensures.takes c.if-not-all.false);
+pub returns-clause-ends : goal.returns-clause-ends
+returns-clause-ends g c = λ none. record {
+  files = record {
+    is_walk = walk_found c.in_ok-files.files.items c.new-walk.ensures.found c.walk_all.ensures.goes_on.finds c.in_ok-files.ensures;
+    some = elim c.else-is_empty.branch [
+      | else-is_empty-via-then-is_empty+else-not-job w ↦ some_unless _ _ w.if-not-job.false
+      | else-is_empty-via-else-is_empty w ↦ some_files _ _ _ _ (sym c.in_ok-files.files.ok.0) c.is_empty.ensures w.if-is_empty.false
+    ];
+    reports = c.walk_all.ensures.goes_on.told;
+    paths = paths_kept c.walk_all.new.walk.found.items c.in_ok-files.files.items (0 < c.walk_all.new.report.faulty) (0 < length c.walk_all.ensures.goes_on.told.messages)
+        (λ some. some_told c.args.report.now.faulty c.walk_all.new.report.faulty (length c.walk_all.ensures.goes_on.told.messages) none c.walk_all.ensures.goes_on.told.counted some) c.in_ok-files.ensures.kept
+        (c.in_ok-all.ensures.walks.takes c.if-not-all.false);
+  };
+  stops = tt;
 }

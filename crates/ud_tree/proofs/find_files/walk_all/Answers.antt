@@ -2,16 +2,17 @@ use Rattle.std.proofs.Common.{ℕ, ◌<◌, map, refl, ap, subst, arith}
 use Rattle.ud_tree.proofs.CatchLemmas.{grows_same, catches_none, catches_then}
 use Rattle.std.specs.Prelude.{string_bytes}
 use Rattle.ud_tree.proofs.CoverLemmas.{starts_none, starts_at, covers_paths}
-use Rattle.ud_tree.proofs.WalkTellLemmas.{paths_given, paths_covered}
-use Rattle.std.proofs.lemmas.Result.{IfOk-weaker}
+use Rattle.ud_tree.proofs.WalkTellLemmas.{paths_given, paths_covered, if_ok_both}
 use Rattle.ud_tree.proofs.WalkTellLemmas.{goes_none, goes_then, stops_bad, stops_by}
 use Rattle.ud_tree.proofs.find_files.walk_all.Goals as goal
 
-pub returns-then-job-clause-takes : goal.returns-then-job-clause-takes
-returns-then-job-clause-takes g c = IfOk-weaker c.add_input.result _ _ (λ all takes is. paths_given c.args.job.now.arguments.now c.if-job.true (takes is)) c.add_input.ensures.takes
-
-pub returns-then-job-clause-stops : goal.returns-then-job-clause-stops
-returns-then-job-clause-stops g c = IfOk-weaker c.add_input.result _ _ (λ all stops cut none. stops_by c.if-job.true (stops cut)) c.add_input.ensures.stops
+pub returns-then-job-clause-walks : goal.returns-then-job-clause-walks
+returns-then-job-clause-walks g c =
+    if_ok_both c.add_input.result
+    (λ all takes stops. record {
+      takes = λ is. paths_given c.args.job.now.arguments.now c.if-job.true (takes is);
+      stops = λ cut none. stops_by c.if-job.true (stops cut);
+    }) c.add_input.ensures.takes c.add_input.ensures.stops
 
 pub loop-path-init : goal.loop-path-init
 loop-path-init g c = (
@@ -30,8 +31,11 @@ loop-path-preserved g c = (
 pub returns-in_err-start-clause-goes_on : goal.returns-in_err-start-clause-goes_on
 returns-in_err-start-clause-goes_on g c = goes_then c.loop-path.invariant.0 c.start.ensures.goes_on refl
 
-pub returns-then-faulty-gt0-clause-stops : goal.returns-then-faulty-gt0-clause-stops
-returns-then-faulty-gt0-clause-stops g c = λ cut none. stops_bad _ none c.if-job.false (subst (λ (n : ℕ). 0 < n) c.faulty.ensures c.if-faulty-gt0.true) c.loop-path.invariant.0.told
+pub returns-then-faulty-gt0-clause-walks : goal.returns-then-faulty-gt0-clause-walks
+returns-then-faulty-gt0-clause-walks g c = record {
+  takes = λ is. cc;
+  stops = λ cut none. stops_bad _ none c.if-job.false (subst (λ (n : ℕ). 0 < n) c.faulty.ensures c.if-faulty-gt0.true) c.loop-path.invariant.0.told;
+}
 
 pub returns-in_err-go-clause-goes_on : goal.returns-in_err-go-clause-goes_on
 returns-in_err-go-clause-goes_on g c = goes_then c.loop-path.invariant.0 c.go.ensures.goes_on refl
@@ -39,9 +43,12 @@ returns-in_err-go-clause-goes_on g c = goes_then c.loop-path.invariant.0 c.go.en
 pub returns-clause-goes_on : goal.returns-clause-goes_on
 returns-clause-goes_on g c = goes_then c.loop-path.invariant.0 c.go.ensures.goes_on refl
 
-pub returns-clause-takes : goal.returns-clause-takes
-returns-clause-takes g c = λ all.
+pub returns-clause-walks : goal.returns-clause-walks
+returns-clause-walks g c = record {
+  takes = λ all.
     paths_covered c.args.job.now.arguments.now c.if-job.false
     (covers_paths (λ p. string_bytes p) c.as_slice-path-items.result.now c.loop-path.path-index (omega arith) (λ some. omega (arith, some, c.faulty.ensures, c.if-faulty-gt0.false)) c.loop-path.invariant.1 c.in_ok-go.ensures.exhausts
     c.in_ok-go.ensures.catches.grows.stay (catches_then c.loop-path.invariant.2 c.in_ok-go.ensures.catches) _ (ap (map string_bytes) c.requires))
-    c.as_slice-path-items.ensures.value
+    c.as_slice-path-items.ensures.value;
+  stops = λ is. cc;
+}
