@@ -8,6 +8,7 @@ use crate::raw_box::RawBox;
 use crate::stream::Stream;
 use std::alloc::Global;
 use std::marker::Model;
+use std::mem;
 use std::ptr::null_mut;
 
 /// A stream, or none if it is closed. In C this is a struct with one pointer, which is null then.
@@ -35,7 +36,26 @@ impl Handle {
     }
 
     /// Returns the handle of a stream.
-    pub(crate) fn of(raw: RawBox<Stream, Global>) -> Handle
+    pub(crate) fn of(owner: Box<Stream>) -> Handle
+        ensures { result.stream ≡ Some owner.value }
+    {
+        Handle::from_raw(RawBox::of(owner))
+    }
+
+    /// Returns the stream, if the handle is open, and closes it.
+    pub(crate) fn take(&mut self, alloc: Global) -> Option<Box<Stream>>
+        ensures taken { MatchOption result (self.old.stream ≡ None)
+            (λ owner. self.old.stream ≡ Some owner.value) }
+        ensures closed { self.new.stream ≡ None }
+    {
+        match mem::replace(self, Handle::closed(alloc)).into_raw() {
+            None => None,
+            Some(raw) => Some(raw.into_box()),
+        }
+    }
+
+    /// Returns the handle of a stream.
+    fn from_raw(raw: RawBox<Stream, Global>) -> Handle
         ensures { result.stream ≡ Some raw.value }
     {
         let RawBox { ptr, alloc } = raw;
@@ -46,7 +66,7 @@ impl Handle {
     }
 
     /// Returns the stream, if it is open.
-    pub(crate) fn into_raw(self) -> Option<RawBox<Stream, Global>>
+    fn into_raw(self) -> Option<RawBox<Stream, Global>>
         ensures { MatchOption result (self.stream ≡ None) (λ p. self.stream ≡ Some p.value) }
     {
         let Handle { at, alloc } = self;

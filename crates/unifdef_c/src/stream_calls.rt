@@ -9,10 +9,8 @@ ghost use Rattle.unifdef_c.specs.StreamCalls.{TellsEnd, Tells, OpensStream, HasB
 use crate::args::{ArgsFault, parse_words};
 use crate::hand_out::{TOO_SMALL, overwrite};
 use crate::handle::Handle;
-use crate::raw_box::RawBox;
 use crate::stream::{BeginFault, Fed, Stream};
 use std::alloc::Global;
-use std::mem;
 use ud_diagnostics::report_result;
 use ud_engine::RunFault;
 use ud_io::Watched;
@@ -33,7 +31,7 @@ pub extern "C" fn unifdef_open(alloc: Global, handle: &mut Handle, words: &[u8])
 {
     match open(alloc, words) {
         Ok(owner) => {
-            *handle = Handle::of(RawBox::of(owner));
+            *handle = Handle::of(owner);
             0
         }
         Err(fault) => {
@@ -60,20 +58,16 @@ pub extern "C" fn unifdef_open(alloc: Global, handle: &mut Handle, words: &[u8])
 pub extern "C" fn unifdef_feed(alloc: Global, handle: &mut Handle, text: &[u8]) -> i32
     ensures { FeedsHandle text.now handle.old.stream handle.new.stream result }
 {
-    let held = mem::replace(handle, Handle::closed(alloc));
-    match held.into_raw() {
-        None => -4,
-        Some(raw) => {
-            let mut owner = raw.into_box();
-            let fed = owner.feed(text);
-            *handle = Handle::of(RawBox::of(owner));
-            match fed {
-                Fed::Accepted => 0,
-                Fed::Faulty => 2,
-                Fed::OutOfMemory => -2,
-                Fed::Ended => -4,
-            }
-        }
+    let Some(mut owner) = handle.take(alloc) else {
+        return -4;
+    };
+    let fed = owner.feed(text);
+    *handle = Handle::of(owner);
+    match fed {
+        Fed::Accepted => 0,
+        Fed::Faulty => 2,
+        Fed::OutOfMemory => -2,
+        Fed::Ended => -4,
     }
 }
 
@@ -90,20 +84,14 @@ pub extern "C" fn unifdef_take(
     ensures { TakesHandle output.old output.new pending.new result handle.old.stream
         handle.new.stream }
 {
-    let held = mem::replace(handle, Handle::closed(alloc));
-    match held.into_raw() {
-        None => {
-            *pending = 0;
-            0
-        }
-        Some(raw) => {
-            let mut owner = raw.into_box();
-            let count = owner.take(alloc, output);
-            *pending = owner.pending().len();
-            *handle = Handle::of(RawBox::of(owner));
-            count
-        }
-    }
+    let Some(mut owner) = handle.take(alloc) else {
+        *pending = 0;
+        return 0;
+    };
+    let count = owner.take(alloc, output);
+    *pending = owner.pending().len();
+    *handle = Handle::of(owner);
+    count
 }
 
 /// Ends the text. The rest of the output can then be taken.
@@ -125,24 +113,20 @@ pub extern "C" fn unifdef_finish(
     ensures { EndsHandle message.old message.new size.old size.new handle.old.stream
         handle.new.stream result }
 {
-    let held = mem::replace(handle, Handle::closed(alloc));
-    match held.into_raw() {
-        None => -4,
-        Some(raw) => {
-            let mut owner = raw.into_box();
-            let ended = owner.end();
-            let status = tell_end(
-                alloc,
-                owner.name.as_slice(),
-                owner.settings,
-                ended,
-                message,
-                size,
-            );
-            *handle = Handle::of(RawBox::of(owner));
-            status as i32
-        }
-    }
+    let Some(mut owner) = handle.take(alloc) else {
+        return -4;
+    };
+    let ended = owner.end();
+    let status = tell_end(
+        alloc,
+        owner.name.as_slice(),
+        owner.settings,
+        ended,
+        message,
+        size,
+    );
+    *handle = Handle::of(owner);
+    status as i32
 }
 
 /// Closes a stream, and frees its memory. Does nothing if it is closed.
@@ -150,7 +134,7 @@ pub extern "C" fn unifdef_finish(
 pub extern "C" fn unifdef_close(alloc: Global, handle: &mut Handle)
     ensures { handle.new.stream ≡ None }
 {
-    drop(mem::replace(handle, Handle::closed(alloc)));
+    drop(handle.take(alloc));
 }
 
 /// Returns a stream before the first byte, by the words of a block.

@@ -1,11 +1,11 @@
--- `of` moves two fields, and what they own goes with them.
+-- `from_raw` moves two fields, and what they own goes with them.
 use Rattle.unifdef_c.proofs.WalkWords.{refl, sym, subst, Some, List, [], ◌∷◌, ◌++◌, Ura, Val, SProp, ent, emp, id⊢, ftrue, fsep, Memory, Routine, WpFn, Tables, Logic, Fun, WpFn-mono, Item, ‵, raw, ◌⊛◌, ◌$◌, ◌∵◌, !, qed, by, move, drop, use1, join, split, fsplit, fjoin, suffices, done, whole, sub, agg, stop, fld, no_more, and_then, of_opd, returns, enter, alloc_all, pass_all, free_all, look_at, get, get_in, sets, yes, type_at, nothing, triple_of, entered, says, Stays, stay_dropped, walk_of, ends_at, Goes-dropped, walk_Meets, D, B, word, box_typed, box_out, box_in}
 use contract.Running.{tables, tables_of}
 use Rattle.unifdef_c.proofs.HandleBox.{E, FromRaw as From}
-use Rattle.unifdef_c.specs.contracts.handle.Handle.of as F
-use Rattle.unifdef_c.specs.contracts.handle.Handle.of.Key.{name as #self}
-use Rattle.unifdef_c.proofs.handle.Handle.of.Statement as stated
-use Rattle.unifdef_c.proofs.handle.Handle.of.Code as code
+use Rattle.unifdef_c.specs.contracts.handle.Handle.from_raw as F
+use Rattle.unifdef_c.specs.contracts.handle.Handle.from_raw.Key.{name as #self}
+use Rattle.unifdef_c.proofs.handle.Handle.from_raw.Statement as stated
+use Rattle.unifdef_c.proofs.handle.Handle.from_raw.Code as code
 
 abbrev stayed : Stays (F.ended).signature.params (F.ended).kept
 stayed = (stay_dropped From yes, tt)
@@ -31,9 +31,9 @@ module _ {M : Type 1} {𝓤 : Ura M} (𝓛 : Logic 𝓤) (at_mem : Memory → SP
       suffices ! _ (ends_at 𝓛 F.ended stayed (F.clauses 𝓛 at_mem run) z w made (tt, tt) (tt, tt)) $ says ! refl $
       nothing ! $ nothing ! $ fjoin ! $ join ! $ nothing ! $ join ! $ done !))))
 
-pub of_spec : {M : Type 1} → stated.statement M
+pub from_raw_spec : {M : Type 1} → stated.statement M
 unfolding tables_of
-of_spec 𝓤 𝓛 𝓜 𝓡 wired =
+from_raw_spec 𝓤 𝓛 𝓜 𝓡 wired =
     let 𝓣 : Tables 𝓤 𝓛.H = tables_of 𝓤 𝓛.H 𝓜 (tables 𝓤 𝓛.H 𝓜 𝓡 𝓡.env) in
     entered 𝓤 𝓛.H (triple_of 𝓛 F.signature (F.spec 𝓛 𝓜.mem 𝓡.returns)) 𝓣.C 𝓣.Λ #self code.function (code.unfolded 𝓤 𝓛.H 𝓜 𝓡 wired)
     (walk_Meets 𝓛 F.ended stayed (Goes-dropped 𝓛 0 From yes (λ κs x f. refl), tt) (F.clauses 𝓛 𝓜.mem 𝓡.returns) (WpFn 𝓤 𝓛.H 𝓣.C 𝓣.Λ code.function) (WpFn-mono 𝓤 𝓛.H 𝓛.laws 𝓣 code.function)
