@@ -1,11 +1,14 @@
 -- Prunings: what a call from C gives for a text without the operands that words decide.
 --
+--   IsPruned table rules text p   `p` is what a table leaves of the text
 --   IsPrunedBy args text p     `p` is what the arguments leave of the text
 --   HandsOutPruned text ..     what fits of it was written
 --   PruneAnswer block text ..  this, or nothing, since the words are bad or memory was refused
 use Rattle.std.specs.Prelude.{◌≡◌, ◌⊎◌, ◌==◌, ℕ, ℤ, pos, negsuc, List, length, Bool, not, nat_le}
 use Rattle.std.specs.Prelude.{None, if◌then◌else◌}
 use Rattle.ud_model.specs.answer.CommandLine.{usage_fault, options_of}
+use Rattle.ud_model.specs.conditions.Conditions.{Rules}
+use Rattle.ud_model.specs.conditions.Table.{Argument}
 use Rattle.ud_model.specs.sections.Items.{rules_of}
 use Rattle.ud_passes.specs.pruning.PrunedTexts.{pruned_text, edited_count}
 use Rattle.unifdef_c.specs.Words.{words_of, AreUtf8}
@@ -22,6 +25,11 @@ text_left args text =
 abbrev pub some_edited : List (List ℕ) → List ℕ → Bool
 some_edited args text =
     not (edited_count (options_of args).table (rules_of (options_of args).settings) text == 0)
+
+-- `IsPruned table rules text p`: `p` is what the table of symbols leaves of the text.
+abbrev pub IsPruned : List Argument → Rules → List ℕ → Pruned → Type 0
+IsPruned table rules text p = (p.text.items ≡ pruned_text table rules text) ×
+    (p.edited ≡ not (edited_count table rules text == 0))
 
 -- `IsPrunedBy args text p`: the arguments have no fault, and `p` is what they leave of the text.
 pub record IsPrunedBy (args : List (List ℕ)) (text : List ℕ) (p : Pruned) : Type 0 where

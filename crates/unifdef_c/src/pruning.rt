@@ -1,14 +1,13 @@
 //! Texts without the operands of their conditions that words decide.
 
-ghost use Rattle.std.specs.Prelude.{◌≡◌, ℕ, List, map, string_bytes, Some, not, ◌==◌, IfOk, IfErr};
+ghost use Rattle.std.specs.Prelude.{◌≡◌, ℕ, List, map, string_bytes, Some, IfOk, IfErr};
 ghost use Rattle.ud_model.specs.conditions.Table.{Argument};
 ghost use Rattle.ud_model.specs.sections.Items.{rules_of};
 ghost use Rattle.ud_model.specs.answer.CommandLine.{UsageFault, usage_fault};
 ghost use Rattle.ud_cond.specs.symbols.SymbolTable.{TableRepresents};
-ghost use Rattle.ud_passes.specs.pruning.PrunedTexts.{pruned_text, edited_count};
 ghost use Rattle.unifdef_c.specs.Words.{words_of, AreUtf8};
 ghost use Rattle.unifdef_c.specs.StreamCalls.{HasBadWords};
-ghost use Rattle.unifdef_c.specs.Prunings.{IsPrunedBy, HandsOutPruned, PruneAnswer};
+ghost use Rattle.unifdef_c.specs.Prunings.{HandsOutPruned, IsPruned, IsPrunedBy, PruneAnswer};
 
 use crate::args::{ArgsFault, parse_words};
 use crate::hand_out::overwrite;
@@ -112,8 +111,7 @@ fn prune_by_args(alloc: Global, args: &[String], text: &[u8]) -> Result<Pruned, 
 fn prune_by_plan(alloc: Global, plan: &Plan, text: &[u8]) -> Result<Pruned, PruneFault>
     ensures ok { IfOk result (λ p. (calls : List Argument) →
         TableRepresents plan.now.symbols calls →
-        (p.text.items ≡ pruned_text calls (rules_of plan.now.settings) text.now) ×
-        (p.edited ≡ not (edited_count calls (rules_of plan.now.settings) text.now == 0))) }
+        IsPruned calls (rules_of plan.now.settings) text.now p) }
     ensures err { IfErr result (λ e. e ≡ PruneFault.OutOfMemory) }
 {
     let settings = plan.settings();
