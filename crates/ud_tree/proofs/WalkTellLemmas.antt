@@ -392,7 +392,7 @@ pub goes_then : {T E : Type 0} {history : T → List Call} {contents : E → Opt
     GoesOn history contents x y u v a b e f → GoesOn history contents y z w t b c f g → w.found.items ≡ v.found.items → GoesOn history contents x z u t a c e g
 goes_then h k same = record { finds = finds_then (finds_same same h.finds) k.finds; told = walk_then h.told k.told }
 
--- What two facts of a result give.
+-- Two facts of a result give a third.
 pub if_ok_both : {T E : Type 0} {P Q R : T → Type 0} (r : Result T E) → ((x : T) → P x → Q x → R x) → IfOk r P → IfOk r Q → IfOk r R
 if_ok_both (Ok x) f p q = f x p q
 if_ok_both (Err e) f p q = tt

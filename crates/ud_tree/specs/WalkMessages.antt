@@ -231,8 +231,8 @@ pub record FindsFiles (args : Arguments) (given left : Source) (calls calls' : L
   pub paths : TakesPaths args given left calls calls' (StandsIn files)
       (0 < length reports.messages)
 
--- `EndsWalk history contents args given left tree tree' old new err err' found`: the walk found these
--- files, or no file follows it.
+-- `EndsWalk history contents args given left tree tree' old new err err' found`: the walk found
+-- these files, or no file follows it.
 pub record EndsWalk {T E : Type 0} (history : T → List Call) (contents : E → Option (List ℕ))
     (args : Arguments) (given left : Source) (tree tree' : T) (old new : Report)
     (err err' : WatchedState E) (found : Option (Vec Found Global)) : Type 0 where

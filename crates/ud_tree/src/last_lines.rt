@@ -1,5 +1,5 @@
-//! The last lines of a run: how many files there were of each kind, how many lines were removed, how
-//! many conditions were edited, and how many still name a symbol.
+//! The last lines of a run: how many files there were of each kind, how many lines were removed,
+//! how many conditions were edited, and how many still name a symbol.
 
 ghost use Rattle.std.specs.Prelude.{◌≡◌, false};
 ghost use Rattle.ud_tree.specs.Messages.{KeepsFinds};
