@@ -57,8 +57,9 @@ fn status_under(settings: Settings, differs: bool) -> u8
     }
 }
 
-/// Returns the status of a text that is printed.
-fn status_by(mode: ExitMode, differs: bool) -> u8
+/// Returns the status by the exit mode, if there is no fault. `differs` says whether the output for
+/// the text differs from it, or for some text of several.
+pub fn status_by(mode: ExitMode, differs: bool) -> u8
     ensures { result ≡ status_by mode differs }
 {
     match mode {

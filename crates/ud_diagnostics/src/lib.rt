@@ -2,13 +2,13 @@
 //!
 //! `report_usage` reports a fault of the arguments. `final_result` is the result of a run after its
 //! output was flushed, or after the flush failed; `report_result` reports its fault, if any, and
-//! returns the exit status. The texts of the messages are defined in ud_model,
-//! specs/answer/Messages.antt and CommandLine.antt.
+//! returns the exit status. `status_by` is the one without a fault. The texts of the messages are
+//! defined in ud_model, specs/answer/Messages.antt and CommandLine.antt.
 #![tactic(auto)]
 
 mod exit;
 mod fault_messages;
 mod usage_messages;
 
-pub use exit::{EXIT_TROUBLE, final_result, report_result};
+pub use exit::{EXIT_TROUBLE, final_result, report_result, status_by};
 pub use usage_messages::report_usage;

@@ -1,7 +1,6 @@
 //! The run over all files of a tree.
 
 ghost use Rattle.std.specs.Prelude.{◌≡◌, ◌++◌, [], true, false, OnOk};
-ghost use Rattle.ud_model.specs.answer.Answer.{status_by};
 ghost use Rattle.ud_passes.specs.names.NameTables.{names_in, Tabulates};
 ghost use Rattle.ud_tree.specs.Messages.{KeepsFinds, TellsIf, list_message, write_message};
 ghost use Rattle.ud_tree.specs.Statuses.{tree_status};
@@ -21,13 +20,10 @@ use crate::tree::Tree;
 use crate::walk::Found;
 use std::alloc::AllocError;
 use std::io::{Read, Write};
+use ud_diagnostics::{EXIT_TROUBLE, status_by};
 use ud_engine::Watched;
 use ud_io::send;
-use ud_model::ExitMode;
 use ud_passes::Names;
-
-/// The status of a fault, of any kind.
-const EXIT_TROUBLE: u8 = 2;
 
 /// Runs over the files that the arguments name, and returns the exit status.
 ///
@@ -182,16 +178,5 @@ fn status(arguments: &Arguments, unheard: bool, faults: usize, changed: usize) -
             status_by(arguments.plan.run.settings().exit_mode, changed > 0)
         }
         Task::Names => 0,
-    }
-}
-
-/// Returns the status of files without a fault.
-fn status_by(mode: ExitMode, some_changed: bool) -> u8
-    ensures { result ≡ status_by mode some_changed }
-{
-    match mode {
-        ExitMode::Zero => u8::from(some_changed),
-        ExitMode::One => u8::from(!some_changed),
-        ExitMode::Two => 0,
     }
 }

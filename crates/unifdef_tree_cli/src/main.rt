@@ -14,15 +14,12 @@ use std::process::ExitCode;
 use std::{env, io};
 use ud_io::Watched;
 use ud_tree::{
-    Arguments, Disk, Job, Request, Task, parse_arguments, print_help, report_argument_fault,
-    report_line, run_tree,
+    Arguments, Disk, EXIT_TROUBLE, Job, Request, Task, parse_arguments, print_help,
+    report_argument_fault, report_line, run_tree,
 };
 
 /// The version that `-V` prints.
 const VERSION: &str = "unifdef-tree 1.0";
-
-/// The status of a fault, of any kind.
-const EXIT_TROUBLE: u8 = 2;
 
 /// The last line of a run that couldn't keep folders open.
 const WITHOUT_PROC: &[u8] = b"Without /proc, folders were found by their paths";
