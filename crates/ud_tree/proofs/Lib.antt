@@ -16,3 +16,6 @@ pub mod PickLemmas
 pub mod RemainderLemmas
 mod ArgumentLemmas
 pub mod KeepLemmas
+mod PatternSetLemmas
+mod PatternPartLemmas
+mod PatternPlaceLemmas

@@ -5,7 +5,7 @@
 --   IsLeft patterns path     the file at this path isn't
 use Rattle.std.specs.Prelude.{◌≡◌, ℕ, List, [], Bool, false, codes, nat_eq}
 use Rattle.std.specs.List.{starts_with}
-use Rattle.ud_pattern.specs.Patterns.{MatchesAny}
+use Rattle.ud_tree.specs.Patterns.{MatchesAny}
 use Rattle.ud_tree.specs.Paths.{last_name}
 
 -- `is_fresh name`: the name begins as those of new files do.

@@ -3,6 +3,8 @@ pub mod Paths
 pub mod Statuses
 pub mod Fates
 pub mod Runs
+pub mod Patterns
+pub mod PatternPlaces
 pub mod Choices
 pub mod Remainders
 pub mod Requests

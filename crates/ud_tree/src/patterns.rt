@@ -1,11 +1,17 @@
-//! The patterns by which files are chosen.
+//! The patterns by which files are chosen: shell patterns of names, as `*.[ch]` (POSIX XCU 2.13).
+//!
+//! `specs/Patterns.antt` defines which names a pattern matches. `matches` decides that by the last
+//! `*` alone: once the parts before a `*` have matched, they need no other place.
 
 ghost use Rattle.std.specs.Prelude.{◌≡◌, ◌↔◌, [], true, map, string_bytes};
 ghost use Rattle.ud_tree.specs.Choices.{IsChosen};
 ghost use Rattle.ud_tree.specs.Covering.{IsVersioned};
 
+mod matching;
+mod parts;
+
 use crate::paths::is_fresh;
-use ud_pattern::{matches, matches_any};
+use crate::patterns::matching::{matches, matches_any};
 
 /// The patterns of a run without `-g`: sources and headers of C and C++, and those from which
 /// `configure` makes one.

@@ -1,3 +1,0 @@
-mod SetLemmas
-mod PartLemmas
-mod PlaceLemmas

@@ -1,9 +1,0 @@
-use Rattle.std.proofs.Common.{length}
-use Rattle.ud_pattern.specs.Places.{Parts}
-use Rattle.ud_pattern.proofs.matching.match_parts.Given as goal
-
-abbrev pub invariant-parts : goal.invariant-parts
-invariant-parts l = Parts l.pattern l.name l.parts l.bytes
-
-abbrev pub decreases-parts : goal.decreases-parts
-decreases-parts l = length l.bytes
