@@ -284,6 +284,8 @@ refused_arguments() {
 1::No path
 1:-DA:No path
 EOT
+  tree -D '' -UA src
+  check 'refused: an empty argument' same "$status $(cat "$work/err")" '2 unifdef-tree: Bad symbol: -D'
   tree -DA $'src/\xff.c'
   check 'refused: not UTF-8' same "$status $(cat "$work/err")" '2 unifdef-tree: Cannot take arguments'
   check 'refused: nothing is done' holds src/good.c "$text"

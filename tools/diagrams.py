@@ -36,8 +36,6 @@ SAYS = {
     "unifdef_cli": "main opens the file",
     "ud_replace": "a file is old, or has its output",
     "ud_diff": "a diff turns a text into the other",
-    "ud_tree_args": "options and paths are the words'",
-    "ud_pattern": "a match is one by POSIX's rules",
     "ud_tree": "a run over a tree asks for no more",
     "unifdef_tree_cli": "main opens the tree",
 }

@@ -38,11 +38,9 @@ SECONDS = {
     "ud_faults": 25,
     "ud_cond": 249,
     "ud_text": 194,
-    "ud_args": 80,
+    "ud_args": 100,
     "ud_sections": 108,
     "ud_passes": 140,
-    "ud_tree_args": 50,
-    "ud_pattern": 16,
     "ud_engine": 130,
     "ud_diagnostics": 28,
     "unifdef": 45,
@@ -50,7 +48,7 @@ SECONDS = {
     "unifdef_c": 130,
     "ud_replace": 90,
     "ud_diff": 70,
-    "ud_tree": 240,
+    "ud_tree": 250,
     "unifdef_tree_cli": 60,
 }
 OTHER = 60

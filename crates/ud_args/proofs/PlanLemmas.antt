@@ -12,7 +12,6 @@ use Rattle.ud_model.specs.answer.CommandLine.{ParsedArg, flag, option, operand, 
 use Rattle.ud_args.specs.SymbolStorage.{StoresSymbol}
 use Rattle.ud_args.specs.ParsedSettings.{with_flag, SetsSymbol, IsSetting, IsFaultOf, IsUsageOf}
 use Rattle.ud_args.specs.declared.options.Setting.{Setting}
-use Rattle.ud_args.specs.declared.options.Setting.TheVariants as said
 use Rattle.ud_args.specs.declared.usage.Usage.{Usage}
 use Rattle.ud_args.specs.declared.usage.Usage.TheVariants.{OutOfMemory}
 use Rattle.ud_args.specs.Plans.{PlanState, PlanRepresents}

@@ -1,5 +1,6 @@
-pub mod LetterSplits
+pub mod CommandLines
 pub mod ParsedArgs
 pub mod SymbolStorage
 pub mod ParsedSettings
 pub mod Plans
+pub mod TreeWords

@@ -1,32 +1,36 @@
-//! The arguments of a command line, read from the first letter to the last (POSIX XBD 12.2).
+//! The words of a command line, read from the first letter to the last (POSIX XBD 12.2).
 //!
-//! Each step reads an option, with its argument if it takes one, or an operand. `options` finds
-//! the faults of an option's argument. Reading takes no memory.
+//! Each step reads an option, with its argument if it takes one, or an operand. `programs` has the
+//! options of each program, and `options` finds the faults of an option's argument. Reading takes
+//! no memory.
 
-ghost use Rattle.std.specs.Prelude.{◌≡◌, ◌∷◌, ◌+◌, ◌<◌, ◌^◌, length, map, chars, string_bytes};
-ghost use Rattle.ud_model.specs.answer.CommandLine.{is_flag, takes_argument, option_letters};
-ghost use Rattle.ud_model.specs.answer.CommandLine.{operands_from};
-ghost use Rattle.ud_model.specs.answer.CommandLine.{parsed_from, parsed_args};
-ghost use Rattle.ud_args.specs.LetterSplits.{letters_then, bytes_then};
+ghost use Rattle.std.specs.Prelude.{◌≡◌, ◌∷◌, ◌+◌, map, chars, string_bytes};
+ghost use Rattle.std.specs.Prelude.{Some, None};
+ghost use Rattle.ud_model.specs.answer.CommandLine.{option_letters};
+ghost use Rattle.ud_args.specs.CommandLines.{operands_from, option_then, parsed_next, parsed_words};
+ghost use Rattle.ud_args.specs.ParsedArgs.{letters_of, bytes_of};
 
-/// An option or an operand, as read from the arguments.
+use crate::programs::Program;
+use crate::words::Words;
+
+/// An option or an operand, as read from the words of a command line.
 #[derive(Clone, Copy)]
-pub(crate) enum ParsedArg<'a> {
+pub enum ParsedArg<'a> {
     /// An option without an argument.
     Flag {
         letter: char,
     },
-    /// An option with its argument, and the number of the command-line argument that contains the
-    /// option's, counted from 1.
+    /// An option with its argument, and the number of the word that contains the argument, counted
+    /// from 1.
     WithArgument {
         letter: char,
         word: usize,
-        argument: &'a [u8],
+        argument: &'a str,
     },
-    /// An operand, and its index among the arguments, counted from 0.
+    /// An operand, and its index among the words, counted from 0.
     Operand {
         index: usize,
-        name: &'a [u8],
+        name: &'a str,
     },
     /// A letter that is no option.
     Unknown {
@@ -36,161 +40,181 @@ pub(crate) enum ParsedArg<'a> {
     MissingArgument {
         letter: char,
     },
+    /// A word with options that comes after an operand, and its index among the words.
+    Late {
+        index: usize,
+        name: &'a str,
+    },
 }
 
 /// The rest of a command line.
 #[derive(Clone, Copy)]
 pub(crate) struct CommandLine<'a> {
-    /// The remaining letters of the argument that was read last.
+    /// The program that has the options.
+    program: Program,
+    /// The remaining letters of the word that was read last.
     letters: &'a str,
-    /// The arguments after that one.
-    args: &'a [String],
-    /// The number of arguments that were read.
-    read: usize,
-    /// `true` if each further argument is an operand; no letters remain then.
+    /// The words after that one.
+    rest: Words<'a>,
+    /// `true` if an operand was read; no letters remain then.
+    after_operand: bool,
+    /// `true` if each further word is an operand; no letters remain then.
     only_operands: bool,
-    ghost few: { read + length args.now < 2 ^ 64 },
 }
 
 impl<'a> CommandLine<'a> {
-    ghost use Rattle.ud_args.specs.ParsedArgs.{remaining_args, parsed_arg, parsed_then};
-    ghost use Rattle.ud_args.specs.ParsedArgs.{parsed_after_letters, parsed_with_argument};
+    ghost use Rattle.ud_args.specs.ParsedArgs.{remaining, as_parsed, parsed_then, after_word};
+    ghost use Rattle.ud_args.specs.ParsedArgs.{ordinary_word, texts};
 
-    /// Returns the whole command line of `args`, which are without the program's name.
-    pub(crate) fn new(args: &'a [String]) -> CommandLine<'a>
-        ensures { remaining_args result ≡ parsed_args (map string_bytes args.now) }
+    /// Returns the whole command line of these words, which are without the program's name.
+    pub(crate) fn new(program: Program, words: &'a [String]) -> CommandLine<'a>
+        ensures { remaining result ≡ parsed_words program (map string_bytes words.now) }
     {
         CommandLine {
+            program,
             letters: "",
-            args,
-            read: 0,
+            rest: Words::new(words),
+            after_operand: false,
             only_operands: false,
         }
     }
 
     /// Reads the next option or operand. Returns it with the rest, or `None` at the end.
     pub(crate) fn next(&self) -> Option<(ParsedArg<'a>, CommandLine<'a>)>
-        ensures { remaining_args self.now ≡ parsed_then result }
+        ensures { remaining self.now ≡ parsed_then result }
     {
         if self.only_operands {
             return self.operand();
         }
         match split_first_letter(self.letters) {
             Some((letter, letters)) => Some(self.option(letter, letters)),
-            None => self.next_arg(),
+            None => self.next_word(),
         }
     }
 
-    /// Reads the next argument, if no letters remain.
-    fn next_arg(&self) -> Option<(ParsedArg<'a>, CommandLine<'a>)>
-        ensures { parsed_from self.now.read (map string_bytes self.now.args.now) ≡
-            parsed_then result }
+    /// Reads the next word, if no letters remain.
+    fn next_word(&self) -> Option<(ParsedArg<'a>, CommandLine<'a>)>
+        ensures { parsed_next self.now.program None self.now.after_operand self.now.rest.read
+            (texts self.now.rest) ≡ parsed_then result }
     {
-        let (word, args) = self.args.split_first()?;
+        let (word, rest) = self.rest.next()?;
         let after = CommandLine {
             letters: "",
-            args,
-            read: self.read + 1,
+            rest,
             only_operands: false,
+            ..*self
         };
-        if word.as_bytes() == b"--".as_slice() {
+        if word == "--" {
             return after.operand();
         }
-        match split_first_letter(option_letters(word)) {
-            Some((letter, letters)) => Some(after.option(letter, letters)),
-            None => self.operand(),
+        match self.program.long_flag(word) {
+            Some(letter) => Some((ParsedArg::Flag { letter }, after)),
+            None => Some(after.option_or_operand(self.rest.read, word)),
         }
     }
 
-    /// Reads the next argument as an operand, as all after it are.
-    fn operand(&self) -> Option<(ParsedArg<'a>, CommandLine<'a>)>
-        ensures { operands_from self.now.read (map string_bytes self.now.args.now) ≡
-            parsed_then result }
+    /// Takes the word that was read last, which has this index and is neither `--` nor a long flag.
+    fn option_or_operand(&self, index: usize, word: &'a str) -> (ParsedArg<'a>, CommandLine<'a>)
+        requires { self.now.rest.read ≡ index + 1 }
+        ensures { ordinary_word self.now.program self.now.after_operand index word.now
+            (texts self.now.rest) ≡ as_parsed result.0 ∷ remaining result.1 }
     {
-        let (word, args) = self.args.split_first()?;
-        let name = word.as_bytes();
-        let after = CommandLine {
+        let behind = CommandLine {
             letters: "",
-            args,
-            read: self.read + 1,
-            only_operands: true,
+            after_operand: true,
+            only_operands: self.program.ends_at_operand(),
+            ..*self
         };
-        let index = self.read;
+        match split_first_letter(option_letters(word)) {
+            None => (ParsedArg::Operand { index, name: word }, behind),
+            Some(_) if self.after_operand => (ParsedArg::Late { index, name: word }, behind),
+            Some((letter, letters)) => self.option(letter, letters),
+        }
+    }
+
+    /// Reads the next word as an operand, as all after it are.
+    fn operand(&self) -> Option<(ParsedArg<'a>, CommandLine<'a>)>
+        ensures { operands_from self.now.rest.read (texts self.now.rest) ≡ parsed_then result }
+    {
+        let index = self.rest.read;
+        let (name, rest) = self.rest.next()?;
+        let after = CommandLine {
+            rest,
+            only_operands: true,
+            ..*self
+        };
         Some((ParsedArg::Operand { index, name }, after))
     }
 
-    /// Reads a letter of the argument that was read last. The letters `after` follow it.
+    /// Reads a letter of the word that was read last. The letters `after` follow it.
     fn option(&self, letter: char, after: &'a str) -> (ParsedArg<'a>, CommandLine<'a>)
-        ensures { parsed_after_letters self.now.read (letter ∷ chars after.now)
-            (map string_bytes self.now.args.now) ≡ parsed_arg result.0 ∷ remaining_args result.1 }
+        ensures { after_word self.now.program self.now.after_operand self.now.rest.read
+            (letter ∷ chars after.now) (texts self.now.rest) ≡
+            as_parsed result.0 ∷ remaining result.1 }
     {
-        if takes_argument(letter) {
-            return self.option_with_argument(letter, after);
-        }
         let rest = self.with_letters(after);
-        if is_flag(letter) {
+        if self.program.is_flag(letter) {
             (ParsedArg::Flag { letter }, rest)
+        } else if self.program.takes_argument(letter) {
+            self.option_with_argument(letter, after)
         } else {
             (ParsedArg::Unknown { letter }, rest)
         }
     }
 
     /// Reads an option with its argument. The letters `after` follow the option's: they are its
-    /// argument or, if there are none, the next command-line argument is.
+    /// argument or, if there are none, the next word is.
     fn option_with_argument(&self, letter: char, after: &'a str) -> (ParsedArg<'a>, CommandLine<'a>)
-        ensures { parsed_with_argument letter self.now.read (chars after.now)
-            (map string_bytes self.now.args.now) ≡ parsed_arg result.0 ∷ remaining_args result.1 }
+        ensures { option_then letter self.now.rest.read (chars after.now)
+            (parsed_next self.now.program (Some letter) self.now.after_operand self.now.rest.read
+            (texts self.now.rest)) (parsed_next self.now.program None self.now.after_operand
+            self.now.rest.read (texts self.now.rest)) ≡ as_parsed result.0 ∷ remaining result.1 }
     {
+        let end = self.with_letters("");
+        let word = self.rest.read;
         if !after.is_empty() {
-            let word = self.read;
-            let argument = after.as_bytes();
-            return (
-                ParsedArg::WithArgument {
+            let argument = after;
+            let given = ParsedArg::WithArgument {
+                letter,
+                word,
+                argument,
+            };
+            return (given, end);
+        }
+        match self.rest.next() {
+            None => (ParsedArg::MissingArgument { letter }, end),
+            Some((argument, rest)) => {
+                let word = rest.read;
+                let given = ParsedArg::WithArgument {
                     letter,
                     word,
                     argument,
-                },
-                self.with_letters(""),
-            );
-        }
-        match self.args.split_first() {
-            None => (ParsedArg::MissingArgument { letter }, self.with_letters("")),
-            Some((next, args)) => {
-                let word = self.read + 1;
-                let argument = next.as_bytes();
-                let rest = CommandLine {
-                    letters: "",
-                    args,
-                    read: word,
-                    only_operands: false,
                 };
-                (
-                    ParsedArg::WithArgument {
-                        letter,
-                        word,
-                        argument,
-                    },
+                let after = CommandLine {
+                    letters: "",
                     rest,
-                )
+                    only_operands: false,
+                    ..*self
+                };
+                (given, after)
             }
         }
     }
 
     /// Returns the same command line with `letters` as the remaining letters.
     fn with_letters(&self, letters: &'a str) -> CommandLine<'a>
-        ensures { remaining_args result ≡ parsed_after_letters self.now.read (chars letters.now)
-            (map string_bytes self.now.args.now) }
+        ensures { remaining result ≡ after_word self.now.program self.now.after_operand
+            self.now.rest.read (chars letters.now) (texts self.now.rest) }
     {
         CommandLine {
             letters,
-            args: self.args,
-            read: self.read,
             only_operands: false,
+            ..*self
         }
     }
 }
 
-/// Returns the option letters of an argument; none if it is an operand.
+/// Returns the option letters of a word; none if it is an operand.
 fn option_letters(word: &str) -> &str
     ensures { chars result.now ≡ option_letters word.now }
 {
@@ -202,24 +226,10 @@ fn option_letters(word: &str) -> &str
 
 /// Returns the first letter of a text and what follows, or `None` if the text is empty.
 fn split_first_letter(text: &str) -> Option<(char, &str)>
-    ensures letters { chars text.now ≡ letters_then result }
-    ensures bytes { text.now ≡ bytes_then result }
+    ensures letters { chars text.now ≡ letters_of result }
+    ensures bytes { text.now ≡ bytes_of result }
 {
     let mut letters = text.chars();
     let letter = letters.next()?;
     Some((letter, letters.as_str()))
-}
-
-/// Returns whether a letter is an option without an argument.
-fn is_flag(letter: char) -> bool
-    ensures { result ≡ is_flag letter }
-{
-    matches!(letter, 'b' | 'c' | 'k' | 'l' | 'n' | 's' | 'K' | 'S' | 't')
-}
-
-/// Returns whether a letter is an option with an argument.
-fn takes_argument(letter: char) -> bool
-    ensures { result ≡ takes_argument letter }
-{
-    matches!(letter, 'D' | 'U' | 'i' | 'x')
 }

@@ -1,17 +1,27 @@
-//! The command line of unifdef(1): its options, its operand, and the symbols that the options
-//! define or undefine (POSIX XBD 12.2).
+//! The command lines of unifdef(1) and unifdef-tree(1): their options and operands, and the symbols
+//! that the options define or undefine (POSIX XBD 12.2).
 //!
-//! `ud_model.specs.answer.CommandLine` defines what arguments mean, and when they are faulty.
-//! `command_line` reads the arguments, one option or operand after another. `options` returns the
-//! setting of each, or its fault, and `parse` adds the setting to the plan of a run.
+//! `ud_model.specs.answer.CommandLine` defines what arguments of unifdef(1) mean, and when they are
+//! faulty. `specs/CommandLines.antt` defines what words give, for both programs.
+//!
+//! `command_line` reads the words, one option or operand after another, by the letters of
+//! `programs`. `options` returns the setting of each, or its fault, and `parse` adds the setting to
+//! the plan of a run. `tree_words` has what is unifdef-tree's alone.
 #![tactic(auto)]
 
 mod command_line;
 mod options;
 mod parse;
 mod plans;
+mod programs;
+mod tree_words;
 mod usage;
+mod words;
 
+pub use command_line::ParsedArg;
 pub use parse::{display_name, input_of, plan};
 pub use plans::Plan;
+pub use tree_words::{
+    first_fault, given_by, has_flag, has_symbols, paths, patterns, plan_among, word_at,
+};
 pub use usage::Usage;

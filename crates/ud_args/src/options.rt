@@ -77,8 +77,11 @@ fn parse_setting<'a>(given: ParsedArg<'a>) -> Result<Setting<'a>, Usage>
             letter,
             word,
             argument,
-        } => parse_option_with_argument(letter, word, argument),
-        ParsedArg::Operand { index, name } => Ok(Setting::Operand { index, name }),
+        } => parse_option_with_argument(letter, word, argument.as_bytes()),
+        ParsedArg::Operand { index, name } | ParsedArg::Late { index, name } => {
+            let name = name.as_bytes();
+            Ok(Setting::Operand { index, name })
+        }
         ParsedArg::Unknown { letter } => Err(Usage::UnknownOption { letter }),
         ParsedArg::MissingArgument { letter } => Err(Usage::MissingArgument { letter }),
     }

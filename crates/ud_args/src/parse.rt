@@ -10,6 +10,7 @@ ghost use Rattle.ud_args.specs.Plans.{IsPlanOf, as_operand};
 use crate::command_line::CommandLine;
 use crate::options::{Setting, parse_arg};
 use crate::plans::{Plan, PlanDraft};
+use crate::programs::Program;
 use crate::usage::Usage;
 use std::alloc::Global;
 
@@ -50,7 +51,7 @@ pub fn plan(alloc: Global, args: &[String]) -> Result<Plan, Usage>
     ensures err { IfErr result (IsUsageOf (parsed_args (map string_bytes args.now))) }
 {
     let mut draft = PlanDraft::new(alloc);
-    let mut line = CommandLine::new(args);
+    let mut line = CommandLine::new(Program::Unifdef, args);
     'given: while let Some((given, after)) = line.next() {
         line = after;
         draft.apply(given)?;
@@ -141,7 +142,7 @@ fn find_operand(args: &[String]) -> Result<Option<Operand<'_>>, Usage>
         × (option_map as_operand o ≡ operand_in (parsed_args (map string_bytes args.now)))) }
     ensures err { IfErr result (IsFaultOf (usage_fault (map string_bytes args.now))) }
 {
-    let mut line = CommandLine::new(args);
+    let mut line = CommandLine::new(Program::Unifdef, args);
     let mut operand = None;
     'given: while let Some((given, after)) = line.next() {
         line = after;

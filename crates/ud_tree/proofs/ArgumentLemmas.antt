@@ -1,6 +1,7 @@
 -- The faults of a command line.
 use Rattle.std.proofs.Common.{◌≡◌, List, [], ◌∷◌, Bool, true, false, cond, Some, refl, subst}
-use Rattle.ud_tree_args.specs.CommandLines.{Parsed, is_fault, first_fault}
+use Rattle.ud_args.specs.CommandLines.{Parsed}
+use Rattle.ud_args.specs.TreeWords.{is_fault, first_fault}
 
 -- The first fault of the words is one.
 pub first_fault_is : (gs : List Parsed) (g : Parsed) → first_fault gs ≡ Some g → is_fault g ≡ true

@@ -8,15 +8,15 @@
 --   IsFaultIn gs f          a fault of the command line
 --
 -- `gs` is what the words of the command line give, one option or path after another.
-use Rattle.std.specs.Prelude.{◌≡◌, ◌⊎◌, ℕ, ◌-◌, List, [], true, false, Some, None, map}
-use Rattle.std.specs.Prelude.{string_bytes, codes, get_or, if◌then◌else◌, not, ◌&&◌}
-use Rattle.ud_model.specs.answer.CommandLine.{UsageFault, usage_fault, unknown_option}
-use Rattle.ud_model.specs.answer.CommandLine.{missing_argument, bad_symbol_in, bad_mode_in}
-use Rattle.ud_model.specs.answer.CommandLine.{too_many_files}
-use Rattle.ud_args.specs.Plans.{IsPlanOf}
-use Rattle.ud_tree_args.specs.CommandLines.{Parsed, unknown, lacking, late, first_fault}
-use Rattle.ud_tree_args.specs.CommandLines.{has_flag, has_symbols, unifdef_words, patterns_in}
-use Rattle.ud_tree_args.specs.CommandLines.{paths_in}
+use Rattle.std.specs.Prelude.{◌≡◌, ◌⊎◌, ℕ, List, [], true, false, Some, None, map, string_bytes}
+use Rattle.std.specs.Prelude.{codes, if◌then◌else◌, not, ◌&&◌}
+use Rattle.ud_model.specs.answer.CommandLine.{UsageFault, unknown_option, missing_argument}
+use Rattle.ud_model.specs.answer.CommandLine.{bad_symbol_in, bad_mode_in, too_many_files}
+use Rattle.ud_model.specs.answer.CommandLine as args
+use Rattle.ud_args.specs.Plans.{PlanRepresents}
+use Rattle.ud_args.specs.CommandLines.{Parsed, unknown, lacking, late}
+use Rattle.ud_args.specs.TreeWords.{first_fault, has_flag, has_symbols, unifdef_args, word_at}
+use Rattle.ud_args.specs.TreeWords.{patterns_in, paths_in}
 use Rattle.ud_tree.specs.declared.arguments.Task.{Task}
 use Rattle.ud_tree.specs.declared.arguments.Task.TheVariants.{Replace, Diff, Names}
 use Rattle.ud_tree.specs.declared.arguments.Arguments.{Arguments}
@@ -55,7 +55,7 @@ pub record AreFitting (gs : List Parsed) : Type 0 where
 -- `-0`.
 pub record IsArgumentsOf (gs : List Parsed) (args : Arguments) : Type 0 where
   pub fitting : AreFitting gs
-  pub plan : IsPlanOf (unifdef_words gs) args.plan.run
+  pub plan : PlanRepresents args.plan.run (unifdef_args gs)
   pub prunes : args.plan.prunes ≡ has_flag (codes "p") gs
   pub patterns : map string_bytes args.patterns.items ≡ patterns_in gs
   pub paths : map string_bytes args.paths.items ≡ paths_in gs
@@ -84,17 +84,9 @@ IsRequestOf gs (Run args) = (first_fault gs ≡ None) × (has_flag (codes "h") g
 abbrev pub IsWordFault : Parsed → ArgumentFault → Type 0
 IsWordFault g (UnknownOption c) = g ≡ unknown c
 IsWordFault g (MissingArgument c) = g ≡ lacking c
-IsWordFault g (BadSymbol w) = ⊥
-IsWordFault g (BadMode w) = ⊥
-IsWordFault g DiffAndNames = ⊥
-IsWordFault g ChangesAndNames = ⊥
-IsWordFault g PruningAndNames = ⊥
-IsWordFault g PruningAndComplement = ⊥
-IsWordFault g PruningAndPlain = ⊥
-IsWordFault g (OptionAfterPath w) = g ≡ late (string_bytes w)
-IsWordFault g PathsAndInput = ⊥
-IsWordFault g NoPath = ⊥
+IsWordFault g (OptionAfterPath w) = (n : ℕ) × (g ≡ late n (string_bytes w))
 IsWordFault g OutOfMemory = Unit {0}
+IsWordFault g _ = ⊥
 
 -- `AreGiven a b gs`: the flags `a` and `b` are given.
 abbrev pub AreGiven : List ℕ → List ℕ → List Parsed → Type 0
@@ -102,11 +94,11 @@ AreGiven a b gs = (has_flag a gs ≡ true) × (has_flag b gs ≡ true)
 
 -- `HasUsage gs f`: the options of unifdef(1) have the fault `f`.
 abbrev pub HasUsage : List Parsed → UsageFault → Type 0
-HasUsage gs f = usage_fault (unifdef_words gs) ≡ Some f
+HasUsage gs f = args.first_fault (unifdef_args gs) ≡ Some f
 
--- `IsBadWord fault gs w`: the options of unifdef(1) have a fault in the word `w`.
+-- `IsBadWord fault gs w`: the options of unifdef(1) have a fault in the argument of the option `w`.
 abbrev pub IsBadWord : (ℕ → UsageFault) → List Parsed → List ℕ → Type 0
-IsBadWord fault gs w = (n : ℕ) × HasUsage gs (fault n) × (w ≡ get_or (unifdef_words gs) (n - 1) [])
+IsBadWord fault gs w = (n : ℕ) × HasUsage gs (fault n) × (w ≡ word_at n gs)
 
 -- `IsFaultIn gs f`: `f` is the first fault of the words. Or it is that of two options that don't go
 -- together, of the options of unifdef(1), or of the paths. Or memory ran out.
@@ -122,7 +114,7 @@ IsFaultIn gs ChangesAndNames = AreGiven (codes "d") (codes "s") gs
 IsFaultIn gs PruningAndNames = AreGiven (codes "p") (codes "s") gs
 IsFaultIn gs PruningAndComplement = AreGiven (codes "p") (codes "c") gs
 IsFaultIn gs PruningAndPlain = AreGiven (codes "p") (codes "t") gs
-IsFaultIn gs (OptionAfterPath w) = first_fault gs ≡ Some (late (string_bytes w))
+IsFaultIn gs (OptionAfterPath w) = (n : ℕ) × (first_fault gs ≡ Some (late n (string_bytes w)))
 IsFaultIn gs PathsAndInput = (has_flag (codes "0") gs ≡ true) × ¬ (paths_in gs ≡ [])
 IsFaultIn gs NoPath = ((has_flag (codes "0") gs ≡ false) × (paths_in gs ≡ [])) ⊎
     HasUsage gs too_many_files

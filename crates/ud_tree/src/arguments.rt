@@ -1,21 +1,19 @@
 //! The arguments of unifdef-tree(1), read as POSIX XBD 12.2 has it: options first, then paths.
 
-ghost use Rattle.std.specs.Prelude.{◌≡◌, ◌-◌, List, [], true, false, IfOk, IfErr, IfSome, IfNone};
-ghost use Rattle.std.specs.Prelude.{map, string_bytes, codes, get_or};
+ghost use Rattle.std.specs.Prelude.{◌≡◌, true, false, IfOk, IfErr, IfSome, IfNone};
+ghost use Rattle.std.specs.Prelude.{map, string_bytes, codes};
+ghost use Rattle.ud_args.specs.ParsedArgs.{as_parsed, parsed};
 ghost use Rattle.ud_args.specs.ParsedSettings.{IsUsageOf};
-ghost use Rattle.ud_model.specs.answer.CommandLine.{parsed_args};
-ghost use Rattle.ud_tree_args.specs.CommandLines.{Parsed, parsed_words, is_fault, has_flag};
-ghost use Rattle.ud_tree_args.specs.CommandLines.{unifdef_words};
-ghost use Rattle.ud_tree_args.specs.GivenWords.{as_parsed, parsed};
+ghost use Rattle.ud_args.specs.TreeWords.{given_in, is_fault, has_flag, unifdef_args};
 ghost use Rattle.ud_tree.specs.Requests.{IsRequestOf, IsArgumentsOf, IsFaultIn, IsWordFault};
 ghost use Rattle.ud_tree.specs.Requests.{AreFitting, task_of};
 
-use std::alloc::{AllocError, Global};
-use ud_args::{Usage, plan};
-use ud_replace::TextPlan;
-use ud_tree_args::{
-    Given, first_fault, given_by, has_flag, has_symbols, paths, patterns, unifdef_words,
+use std::alloc::Global;
+use ud_args::{
+    ParsedArg, Usage, first_fault, given_by, has_flag, has_symbols, paths, patterns, plan_among,
+    word_at,
 };
+use ud_replace::TextPlan;
 
 /// The task of a run.
 #[derive(Clone, Copy, Debug, PartialEq, Eq)]
@@ -117,8 +115,8 @@ pub enum ArgumentFault {
 /// fault of the options of unifdef, or a fault of the paths. `OutOfMemory` if memory can't be
 /// allocated. Nothing was done.
 pub fn parse_arguments(alloc: Global, words: &[String]) -> Result<Request, ArgumentFault>
-    ensures request { IfOk result (IsRequestOf (parsed_words (map string_bytes words.now))) }
-    ensures fault { IfErr result (IsFaultIn (parsed_words (map string_bytes words.now))) }
+    ensures request { IfOk result (IsRequestOf (given_in (map string_bytes words.now))) }
+    ensures fault { IfErr result (IsFaultIn (given_in (map string_bytes words.now))) }
 {
     let Ok(given) = given_by(alloc, words) else {
         return Err(ArgumentFault::OutOfMemory);
@@ -130,7 +128,7 @@ pub fn parse_arguments(alloc: Global, words: &[String]) -> Result<Request, Argum
 ///
 /// # Errors
 /// As `parse_arguments`.
-fn request_of(alloc: Global, given: &[Given<'_>]) -> Result<Request, ArgumentFault>
+fn request_of(alloc: Global, given: &[ParsedArg<'_>]) -> Result<Request, ArgumentFault>
     ensures request { IfOk result (IsRequestOf (parsed given.now)) }
     ensures fault { IfErr result (IsFaultIn (parsed given.now)) }
 {
@@ -153,28 +151,25 @@ fn request_of(alloc: Global, given: &[Given<'_>]) -> Result<Request, ArgumentFau
 }
 
 /// Returns a fault of the words.
-fn word_fault(alloc: Global, fault: Given<'_>) -> ArgumentFault
+fn word_fault(alloc: Global, fault: ParsedArg<'_>) -> ArgumentFault
     requires { is_fault (as_parsed fault) ≡ true }
     ensures { IsWordFault (as_parsed fault.entry) result }
 {
     match fault {
-        Given::Unknown { letter } => ArgumentFault::UnknownOption(letter),
-        Given::MissingArgument { letter } => ArgumentFault::MissingArgument(letter),
-        Given::Late { word } => match String::from_str(alloc, word) {
+        ParsedArg::Unknown { letter } => ArgumentFault::UnknownOption(letter),
+        ParsedArg::MissingArgument { letter } => ArgumentFault::MissingArgument(letter),
+        ParsedArg::Late { name, .. } => match String::from_str(alloc, name) {
             Ok(word) => ArgumentFault::OptionAfterPath(word),
             Err(_) => ArgumentFault::OutOfMemory,
         },
-        Given::Flag { letter: _ }
-        | Given::WithArgument {
-            letter: _,
-            argument: _,
+        ParsedArg::Flag { .. } | ParsedArg::WithArgument { .. } | ParsedArg::Operand { .. } => {
+            unreachable!()
         }
-        | Given::Path { word: _ } => unreachable!(),
     }
 }
 
 /// Returns the fault if some options don't go together.
-fn clash(given: &[Given<'_>]) -> Option<ArgumentFault>
+fn clash(given: &[ParsedArg<'_>]) -> Option<ArgumentFault>
     ensures fault { IfSome result (IsFaultIn (parsed given.now)) }
     ensures fits { IfNone result (AreFitting (parsed given.now)) }
 {
@@ -188,7 +183,7 @@ fn clash(given: &[Given<'_>]) -> Option<ArgumentFault>
 }
 
 /// Returns the fault of `-s` beside an option that doesn't go with it.
-fn clash_with_names(given: &[Given<'_>]) -> Option<ArgumentFault>
+fn clash_with_names(given: &[ParsedArg<'_>]) -> Option<ArgumentFault>
     requires { has_flag (codes "s") (parsed given.now) ≡ true }
     ensures fault { IfSome result (IsFaultIn (parsed given.now)) }
     ensures fits { IfNone result (AreFitting (parsed given.now)) }
@@ -206,7 +201,7 @@ fn clash_with_names(given: &[Given<'_>]) -> Option<ArgumentFault>
 }
 
 /// Returns the fault of `-p` beside an option that doesn't go with it, where `-s` isn't given.
-fn clash_with_pruning(given: &[Given<'_>]) -> Option<ArgumentFault>
+fn clash_with_pruning(given: &[ParsedArg<'_>]) -> Option<ArgumentFault>
     requires pruning { has_flag (codes "p") (parsed given.now) ≡ true }
     requires no_names { has_flag (codes "s") (parsed given.now) ≡ false }
     ensures fault { IfSome result (IsFaultIn (parsed given.now)) }
@@ -226,17 +221,14 @@ fn clash_with_pruning(given: &[Given<'_>]) -> Option<ArgumentFault>
 /// # Errors
 /// The first fault of the options of unifdef, or a fault of the paths. `OutOfMemory` if memory
 /// can't be allocated.
-fn run_of(alloc: Global, given: &[Given<'_>]) -> Result<Arguments, ArgumentFault>
+fn run_of(alloc: Global, given: &[ParsedArg<'_>]) -> Result<Arguments, ArgumentFault>
     requires { AreFitting (parsed given.now) }
     ensures run { IfOk result (IsArgumentsOf (parsed given.now)) }
     ensures fault { IfErr result (IsFaultIn (parsed given.now)) }
 {
-    let Ok(options) = unifdef_words(alloc, given) else {
-        return Err(ArgumentFault::OutOfMemory);
-    };
-    let run = match plan(alloc, options.as_slice()) {
+    let run = match plan_among(alloc, given) {
         Ok(run) => run,
-        Err(usage) => return Err(option_fault(alloc, options.as_slice(), usage)),
+        Err(usage) => return Err(option_fault(alloc, given, usage)),
     };
     let Ok(patterns) = patterns(alloc, given) else {
         return Err(ArgumentFault::OutOfMemory);
@@ -270,7 +262,7 @@ fn run_of(alloc: Global, given: &[Given<'_>]) -> Result<Arguments, ArgumentFault
 }
 
 /// Returns the task.
-fn task_of(given: &[Given<'_>]) -> Task
+fn task_of(given: &[ParsedArg<'_>]) -> Task
     ensures { result ≡ task_of (parsed given.now) }
 {
     if has_flag(given, 'n') {
@@ -283,16 +275,16 @@ fn task_of(given: &[Given<'_>]) -> Task
 }
 
 /// Returns the fault of the options of unifdef.
-fn option_fault(alloc: Global, options: &[String], usage: Usage) -> ArgumentFault
-    ensures { (gs : List Parsed) → map string_bytes options.now ≡ unifdef_words gs →
-        IsUsageOf (parsed_args (map string_bytes options.now)) usage → IsFaultIn gs result }
+fn option_fault(alloc: Global, given: &[ParsedArg<'_>], usage: Usage) -> ArgumentFault
+    ensures { IsUsageOf (unifdef_args (parsed given.now)) usage →
+        IsFaultIn (parsed given.now) result }
 {
     match usage {
-        Usage::BadSymbol { word } => match option_at(alloc, options, word) {
+        Usage::BadSymbol { word } => match word_at(alloc, given, word) {
             Ok(option) => ArgumentFault::BadSymbol(option),
             Err(_) => ArgumentFault::OutOfMemory,
         },
-        Usage::BadMode { word } => match option_at(alloc, options, word) {
+        Usage::BadMode { word } => match word_at(alloc, given, word) {
             Ok(option) => ArgumentFault::BadMode(option),
             Err(_) => ArgumentFault::OutOfMemory,
         },
@@ -300,19 +292,5 @@ fn option_fault(alloc: Global, options: &[String], usage: Usage) -> ArgumentFaul
         Usage::MissingArgument { letter } => ArgumentFault::MissingArgument(letter),
         Usage::TooManyFiles => ArgumentFault::NoPath,
         Usage::OutOfMemory => ArgumentFault::OutOfMemory,
-    }
-}
-
-/// Returns one of the options by its number, counted from 1; the empty word if there is none.
-///
-/// # Errors
-/// Fails if memory runs out.
-fn option_at(alloc: Global, options: &[String], number: usize) -> Result<String, AllocError>
-    ensures { IfOk result (λ word.
-        string_bytes word ≡ get_or (map string_bytes options.now) (number - 1) []) }
-{
-    match options.get(number.saturating_sub(1)) {
-        Some(option) => String::from_str(alloc, option.as_str()),
-        None => String::from_str(alloc, ""),
     }
 }

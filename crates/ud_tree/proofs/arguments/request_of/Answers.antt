@@ -1,5 +1,5 @@
 use Rattle.std.proofs.Common.{sym}
-use Rattle.ud_tree_args.specs.GivenWords.{as_parsed, parsed}
+use Rattle.ud_args.specs.ParsedArgs.{as_parsed, parsed}
 use Rattle.ud_tree.proofs.ArgumentLemmas.{first_fault_is}
 use Rattle.ud_tree.proofs.arguments.request_of.Goals as goal
 

@@ -1,11 +1,11 @@
 use Rattle.std.proofs.Common.{arith}
 use Rattle.std.proofs.lemmas.Grind.{common_steps}
 use Rattle.std.proofs.lemmas.Str.{chars-nil}
-use Rattle.ud_args.proofs.LetterLemmas.{parsed_option-bytes, chars-empty}
+use Rattle.ud_args.proofs.LetterLemmas.{option_then-bytes, chars-empty}
 use Rattle.ud_args.proofs.command_line.CommandLine.option_with_argument.Goals as goal
 
 pub returns-then-not-is_empty : goal.returns-then-not-is_empty
-returns-then-not-is_empty c = grind (arith, parsed_option-bytes, chars-nil)
+returns-then-not-is_empty c = grind (arith, common_steps, option_then-bytes, chars-nil)
 
 pub returns-in-None : goal.returns-in-None
 returns-in-None c = grind (arith, common_steps, chars-empty, chars-nil)

@@ -1,0 +1,40 @@
+use Rattle.std.proofs.Common.{◌≡◌, ◌∙◌, ◌++◌, ◌∷◌, ◌+◌, [], List, ap, sym, append_assoc, drop, get_or}
+use Rattle.std.proofs.lemmas.Result.{err_from_is_err_and}
+use Rattle.ud_model.specs.answer.CommandLine.{ParsedArg}
+use Rattle.ud_args.specs.declared.command_line.ParsedArg.TheVariants.{Flag}
+use Rattle.ud_args.specs.ParsedArgs.{parsed, parsed_arg}
+use Rattle.ud_args.specs.TreeWords.{unifdef_args}
+use Rattle.ud_args.proofs.TreeLemmas.{unifdef_args-here, unifdef_args-past}
+use Rattle.ud_args.proofs.tree_words.plan_among.Goals as goal
+use Rattle.ud_args.proofs.tree_words.plan_among.Goals.{then-is_unifdef_option+in_ok-apply, else-is_unifdef_option}
+
+pub returns-in_err-apply-clause-err : goal.returns-in_err-apply-clause-err
+returns-in_err-apply-clause-err c =
+    let p = err_from_is_err_and c.from_residual.result c.from_residual.ensures.1 in
+    let before = c.loop-item.invariant in
+    let rest : List ParsedArg = unifdef_args (parsed (drop (c.loop-item.item-index + 1) c.args.given.now)) in
+    let all : unifdef_args (parsed c.args.given.now) ≡ before.0 ++ parsed_arg (get_or c.args.given.now c.loop-item.item-index (Flag 0)) ∷ rest =
+    before.1 ∙ ap (λ (gs : List ParsedArg). before.0 ++ gs)
+    (unifdef_args-here c.args.given.now c.loop-item.item-index (Flag 0) c.loop-item-test.true (sym c.is_unifdef_option.ensures ∙ c.if-is_unifdef_option.true)) in
+    rw (p.1, p.2, all) (c.in_err-apply.ensures.err before.0 before.2 rest)
+
+pub loop-item-preserved : goal.loop-item-preserved
+loop-item-preserved c =
+    let before = c.loop-item.invariant in
+    let g : ParsedArg = parsed_arg (get_or c.args.given.now c.loop-item.item-index (Flag 0)) in
+    let rest : List ParsedArg = unifdef_args (parsed (drop (c.loop-item.item-index + 1) c.args.given.now)) in
+    elim c.if-is_unifdef_option.branch [
+      | then-is_unifdef_option+in_ok-apply w ↦ (
+        before.0 ++ g ∷ [],
+        before.1 ∙ ap (λ (gs : List ParsedArg). before.0 ++ gs)
+            (unifdef_args-here c.args.given.now c.loop-item.item-index (Flag 0) c.loop-item-test.true (sym c.is_unifdef_option.ensures ∙ w.if-is_unifdef_option.true))
+            ∙ sym (append_assoc before.0 (g ∷ []) rest),
+        rw (w.draft-is) (w.in_ok-apply.ensures.ok before.0 before.2),
+      )
+      | else-is_unifdef_option w ↦ (
+        before.0,
+        before.1 ∙ ap (λ (gs : List ParsedArg). before.0 ++ gs)
+            (unifdef_args-past c.args.given.now c.loop-item.item-index (Flag 0) c.loop-item-test.true (sym c.is_unifdef_option.ensures ∙ w.if-is_unifdef_option.false)),
+        rw (w.draft-is) before.2,
+      )
+    ]

@@ -1,0 +1,181 @@
+//! What the words of unifdef-tree(1) give, and the plan of the options of unifdef(1) among them.
+
+ghost use Rattle.std.specs.Prelude.{◌≡◌, ◌∷◌, [], IfOk, IfErr, map, string_bytes, option_map};
+ghost use Rattle.ud_args.specs.ParsedArgs.{as_parsed, parsed};
+ghost use Rattle.ud_args.specs.ParsedSettings.{IsUsageOf};
+ghost use Rattle.ud_args.specs.Plans.{PlanRepresents};
+ghost use Rattle.ud_args.specs.TreeWords.{given_in, is_fault, first_fault, has_flag, has_symbols};
+ghost use Rattle.ud_args.specs.TreeWords.{paths_in, patterns_in, is_unifdef_option, unifdef_args};
+ghost use Rattle.ud_args.specs.TreeWords.{option_word, word_at};
+
+use crate::command_line::{CommandLine, ParsedArg};
+use crate::plans::{Plan, PlanDraft};
+use crate::programs::Program;
+use crate::usage::Usage;
+use std::alloc::{AllocError, Global};
+
+/// Returns what the words of a command line give, in reading order. They are without the program's
+/// name.
+///
+/// # Errors
+/// Fails if memory runs out.
+pub fn given_by(alloc: Global, words: &[String]) -> Result<Vec<ParsedArg<'_>>, AllocError>
+    ensures { IfOk result (λ given. parsed given.items ≡ given_in (map string_bytes words.now)) }
+{
+    let mut given = Vec::new(alloc);
+    let mut line = CommandLine::new(Program::UnifdefTree, words);
+    'given: while let Some((item, after)) = line.next() {
+        line = after;
+        given.push(item)?;
+    }
+    Ok(given)
+}
+
+/// Returns whether this is a fault of the words.
+fn is_fault(given: ParsedArg<'_>) -> bool
+    ensures { result ≡ is_fault (as_parsed given.entry) }
+{
+    matches!(
+        given,
+        ParsedArg::Unknown { .. } | ParsedArg::MissingArgument { .. } | ParsedArg::Late { .. }
+    )
+}
+
+/// Returns the first fault of the words, if there is one.
+pub fn first_fault<'a>(given: &[ParsedArg<'a>]) -> Option<ParsedArg<'a>>
+    ensures { option_map as_parsed result ≡ first_fault (parsed given.now) }
+{
+    for item in given {
+        if is_fault(*item) {
+            return Some(*item);
+        }
+    }
+    None
+}
+
+/// Returns whether the flag with this letter is given.
+pub fn has_flag(given: &[ParsedArg<'_>], letter: char) -> bool
+    ensures { result ≡ has_flag (letter ∷ []) (parsed given.now) }
+{
+    for item in given {
+        if let ParsedArg::Flag { letter: flag } = *item
+            && flag == letter
+        {
+            return true;
+        }
+    }
+    false
+}
+
+/// Returns whether an option is given that names a symbol.
+pub fn has_symbols(given: &[ParsedArg<'_>]) -> bool
+    ensures { result ≡ has_symbols (parsed given.now) }
+{
+    for item in given {
+        if let ParsedArg::WithArgument {
+            letter: 'D' | 'U' | 'i',
+            ..
+        } = *item
+        {
+            return true;
+        }
+    }
+    false
+}
+
+/// Returns the paths.
+///
+/// # Errors
+/// Fails if memory runs out.
+pub fn paths(alloc: Global, given: &[ParsedArg<'_>]) -> Result<Vec<String>, AllocError>
+    ensures { IfOk result (λ words. map string_bytes words.items ≡ paths_in (parsed given.now)) }
+{
+    let mut words = Vec::new(alloc);
+    for item in given {
+        if let ParsedArg::Operand { name, .. } = *item {
+            words.push(String::from_str(alloc, name)?)?;
+        }
+    }
+    Ok(words)
+}
+
+/// Returns the patterns of `-g`.
+///
+/// # Errors
+/// Fails if memory runs out.
+pub fn patterns(alloc: Global, given: &[ParsedArg<'_>]) -> Result<Vec<String>, AllocError>
+    ensures { IfOk result (λ words. map string_bytes words.items ≡ patterns_in (parsed given.now)) }
+{
+    let mut words = Vec::new(alloc);
+    for item in given {
+        if let ParsedArg::WithArgument {
+            letter: 'g',
+            argument,
+            ..
+        } = *item
+        {
+            words.push(String::from_str(alloc, argument)?)?;
+        }
+    }
+    Ok(words)
+}
+
+/// Returns whether an option is one of unifdef(1).
+fn is_unifdef_option(given: ParsedArg<'_>) -> bool
+    ensures { result ≡ is_unifdef_option (as_parsed given.entry) }
+{
+    match given {
+        ParsedArg::Flag { letter } => matches!(letter, 'b' | 'c' | 'K' | 'k' | 'l' | 's' | 't'),
+        ParsedArg::WithArgument { letter, .. } => matches!(letter, 'D' | 'U' | 'i' | 'x'),
+        _ => false,
+    }
+}
+
+/// Returns the plan of the options of unifdef(1).
+///
+/// # Errors
+/// Their first fault, `BadSymbol` or `BadMode`. `OutOfMemory` if an allocation fails.
+pub fn plan_among(alloc: Global, given: &[ParsedArg<'_>]) -> Result<Plan, Usage>
+    ensures ok { IfOk result (λ plan. PlanRepresents plan (unifdef_args (parsed given.now))) }
+    ensures err { IfErr result (IsUsageOf (unifdef_args (parsed given.now))) }
+{
+    let mut draft = PlanDraft::new(alloc);
+    for item in given {
+        if is_unifdef_option(*item) {
+            draft.apply(*item)?;
+        }
+    }
+    draft.into_plan()
+}
+
+/// Returns the option whose argument is in the word with this number, as one word. Returns the
+/// empty word if there is none.
+///
+/// # Errors
+/// Fails if memory runs out.
+pub fn word_at(alloc: Global, given: &[ParsedArg<'_>], number: usize) -> Result<String, AllocError>
+    ensures { IfOk result (λ word. string_bytes word ≡ word_at number (parsed given.now)) }
+{
+    for item in given {
+        if let ParsedArg::WithArgument {
+            letter,
+            word,
+            argument,
+        } = *item
+            && word == number
+        {
+            return option_word(alloc, letter, argument);
+        }
+    }
+    Ok(String::new(alloc))
+}
+
+/// Returns an option and its argument as one word.
+fn option_word(alloc: Global, letter: char, argument: &str) -> Result<String, AllocError>
+    ensures { IfOk result (λ word. string_bytes word ≡ option_word letter argument.now) }
+{
+    let mut word = String::from_str(alloc, "-")?;
+    word.push(letter)?;
+    word.push_str(argument)?;
+    Ok(word)
+}

@@ -1,7 +1,0 @@
-use Rattle.std.proofs.Common.{◌≡◌, drop}
-use Rattle.ud_tree_args.specs.CommandLines.{first_fault}
-use Rattle.ud_tree_args.specs.GivenWords.{parsed}
-use Rattle.ud_tree_args.proofs.given.first_fault.Given as goal
-
-abbrev pub invariant-loop-item : goal.invariant-loop-item
-invariant-loop-item l = first_fault (parsed (drop l.item-index l.given)) ≡ first_fault (parsed l.given)

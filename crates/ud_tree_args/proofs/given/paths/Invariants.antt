@@ -1,7 +1,0 @@
-use Rattle.std.proofs.Common.{◌≡◌, ◌++◌, drop, map, string_bytes}
-use Rattle.ud_tree_args.specs.CommandLines.{paths_in}
-use Rattle.ud_tree_args.specs.GivenWords.{parsed}
-use Rattle.ud_tree_args.proofs.given.paths.Given as goal
-
-abbrev pub invariant-loop-item : goal.invariant-loop-item
-invariant-loop-item l = map string_bytes l.words.items ++ paths_in (parsed (drop l.item-index l.given)) ≡ paths_in (parsed l.given)
