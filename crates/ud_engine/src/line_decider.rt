@@ -23,12 +23,13 @@ ghost use Rattle.ud_engine.specs.NameListing.{ListsNext, ListsWith};
 
 use crate::listing::append_names;
 use crate::output::Output;
+use arrayvec::ArrayVec;
 use std::io::Write;
 use ud_cond::Symbols;
 use ud_io::Watched;
 use ud_model::{Settings, Verdict};
 use ud_sections::{Lister, Machine, SectionFault, Span, Step, TextPolicy, directive};
-use ud_text::{Line, LineBuffer, Lines, Scanner, ScannerOf};
+use ud_text::{Line, LineBuffer, Lines, Scanner};
 
 /// The most bytes of a short line's body.
 const SHORT_LINE_BYTES: usize = 1024;
@@ -36,7 +37,7 @@ const SHORT_LINE_BYTES: usize = 1024;
 /// A scanner and a machine, which decide the lines of a text in order.
 #[derive(Drop)]
 pub(crate) struct LineDecider {
-    scanner: ScannerOf<SHORT_LINE_BYTES>,
+    scanner: Scanner<ArrayVec<u8, SHORT_LINE_BYTES>>,
     machine: Machine,
 }
 
@@ -47,7 +48,7 @@ impl LineDecider {
             DeciderRepresents o result [] (closed nothing) }
     {
         LineDecider {
-            scanner: ScannerOf::new(),
+            scanner: Scanner::with_buffer(),
             machine: Machine::new(settings),
         }
     }
@@ -458,13 +459,13 @@ fn is_else(body: &[u8]) -> bool
 /// # Errors
 /// Fails if the line is faulty.
 #[inline(always)]
-fn decide_with<const N: usize>(
-    scanner: &mut ScannerOf<N>,
+fn decide_with<H: LineBuffer>(
+    scanner: &mut Scanner<H>,
     machine: &mut Machine,
     line: &Line<'_>,
     symbols: &Symbols,
 ) -> Result<Step, SectionFault>
-    requires fits { length line.now.body.now ≤ N }
+    requires fits { length line.now.body.now ≤ H.CAPACITY }
     requires within { IsWithinLimits (as_line line.now) }
     requires one_line { NoNewline line.now.body.now }
     ensures decides { DecidesNext symbols.now (decider_of scanner.old machine.old)
@@ -498,8 +499,8 @@ fn verdict_of(decided: Result<Step, SectionFault>, keyword: &mut Span) -> Option
 /// # Errors
 /// Fails if the line is faulty. Nothing is appended.
 #[inline(always)]
-fn list_names_with<const N: usize, W: Write>(
-    scanner: &mut ScannerOf<N>,
+fn list_names_with<H: LineBuffer, W: Write>(
+    scanner: &mut Scanner<H>,
     machine: &mut Machine,
     line: &Line<'_>,
     symbols: &Symbols,
@@ -508,7 +509,7 @@ fn list_names_with<const N: usize, W: Write>(
     output: &mut Output,
     out: &mut Watched<W>,
 ) -> Result<(), SectionFault>
-    requires fits { length line.now.body.now ≤ N }
+    requires fits { length line.now.body.now ≤ H.CAPACITY }
     requires within { IsWithinLimits (as_line line.now) }
     requires one_line { NoNewline line.now.body.now }
     ensures lists { ListsWith W.contents symbols.now scanner.old scanner.new machine.old machine.new

@@ -11,15 +11,12 @@ ghost use Rattle.ud_model.specs.text.Scans.{Reading};
 ghost use Rattle.ud_model.specs.declared.kind.Mode.{Mode};
 ghost use Rattle.ud_passes.specs.Walks.{Walked, len_of, is_one_line, CanBeRead, IsNext};
 
+use std::alloc::Global;
 use ud_model::{LINE_BYTES, Line, Mode};
-use ud_text::{ScannerOf, count_lines, line_in};
+use ud_text::{GrowingBuffer, Scanner, count_lines, line_in};
 
-/// The most bytes of a short line's body.
-pub(crate) const SHORT_LINE_BYTES: usize = 1024;
-
-/// A scanner of short lines. A longer line is read by a `Scanner` that is a local of a function of
-/// its own, so that no other line and no text clears its memory.
-pub(crate) type ShortScanner = ScannerOf<SHORT_LINE_BYTES>;
+/// The scanner of a walk.
+pub(crate) type LineScanner = Scanner<GrowingBuffer>;
 
 /// The next lines of a text.
 #[derive(Clone, Copy)]
@@ -38,7 +35,7 @@ pub(crate) struct Walk<'t> {
     /// The text from here on.
     rest: &'t [u8],
     /// The scanner of the lines before.
-    pub(crate) scanner: ShortScanner,
+    pub(crate) scanner: LineScanner,
 }
 
 /// Returns how many lines text lines are.
@@ -51,14 +48,14 @@ pub(crate) fn lines_in(bytes: &[u8]) -> usize
 
 impl<'t> Walk<'t> {
     /// Returns the beginning of a text.
-    pub(crate) fn new(text: &'t [u8]) -> Walk<'t>
+    pub(crate) fn new(alloc: Global, text: &'t [u8]) -> Walk<'t>
         ensures rest { result.rest.now ≡ text.now }
         ensures walked { (mode : Mode) →
             Walked mode text.now [] result.rest.now result.scanner }
     {
         Walk {
             rest: text,
-            scanner: ScannerOf::new(),
+            scanner: Scanner::growing(alloc),
         }
     }
 

@@ -2,3 +2,4 @@
 pub mod LexerViews
 pub mod ScannerState
 pub mod ScanBorrows
+pub mod GrowingScans

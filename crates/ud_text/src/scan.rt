@@ -1,8 +1,10 @@
 //! Scans the lines of a text, one after the other.
 
+mod growing;
 pub(crate) mod lexer;
 mod marks;
 mod scanner;
 
+pub use growing::GrowingBuffer;
 pub use marks::first_mark;
-pub use scanner::{Scanner, ScannerOf, law_same_scans};
+pub use scanner::{Scanner, law_same_scans};

@@ -15,10 +15,9 @@ ghost use Rattle.ud_passes.specs.names.UnlistedLines.{listed_text, Listed};
 
 use crate::lines::append_line;
 use crate::names::conditions::has_unlisted;
-use crate::walk::{SHORT_LINE_BYTES, ShortScanner, Stretch, Walk, lines_in};
+use crate::walk::{LineScanner, Stretch, Walk, lines_in};
 use std::alloc::{AllocError, Global};
 use ud_model::{Line, Mode};
-use ud_text::{Scanner, ScannerOf};
 
 /// A file whose conditions are counted.
 #[derive(Clone, Copy)]
@@ -39,58 +38,27 @@ struct Found {
     number: usize,
 }
 
-/// Reads a line that the scanner takes. Returns whether it has a condition that can't be listed.
-fn read_by<const N: usize>(
+/// Reads a line. Returns whether it has a condition that can't be listed.
+///
+/// # Errors
+/// Fails if memory runs out.
+fn read_line(
     alloc: Global,
-    scanner: &mut ScannerOf<N>,
+    scanner: &mut LineScanner,
     mode: Mode,
     line: &Line<'_>,
-) -> bool
-    requires room { length line.now.body.now ≤ N }
+) -> Result<bool, AllocError>
     requires one_line { NoNewline line.now.body.now }
     requires fits { length (text_of (as_line line.now)) ≤ LINE_BYTES }
-    ensures represents { (before : List Reading) → ScannerRepresents scanner.old before →
-        ScannerRepresents scanner.new
-        (before ++ next_reading before mode (as_line line.now) ∷ []) }
-    ensures unlisted { (before : List Reading) → ScannerRepresents scanner.old before →
-        result ≡ is_unlisted_line (next_reading before mode (as_line line.now)) }
+    ensures represents { OnOk result ((before : List Reading) →
+        ScannerRepresents scanner.old before → ScannerRepresents scanner.new
+        (before ++ next_reading before mode (as_line line.now) ∷ [])) }
+    ensures unlisted { IfOk result (λ unlisted. (before : List Reading) →
+        ScannerRepresents scanner.old before →
+        unlisted ≡ is_unlisted_line (next_reading before mode (as_line line.now))) }
 {
-    let scan = scanner.read(mode, line);
-    has_unlisted(alloc, &scan)
-}
-
-/// Reads a line. Returns whether it has a condition that can't be listed.
-fn read_line(alloc: Global, scanner: &mut ShortScanner, mode: Mode, line: &Line<'_>) -> bool
-    requires one_line { NoNewline line.now.body.now }
-    requires fits { length (text_of (as_line line.now)) ≤ LINE_BYTES }
-    ensures represents { (before : List Reading) → ScannerRepresents scanner.old before →
-        ScannerRepresents scanner.new
-        (before ++ next_reading before mode (as_line line.now) ∷ []) }
-    ensures unlisted { (before : List Reading) → ScannerRepresents scanner.old before →
-        result ≡ is_unlisted_line (next_reading before mode (as_line line.now)) }
-{
-    if line.body.len() > SHORT_LINE_BYTES {
-        return read_long_line(alloc, scanner, mode, line);
-    }
-    read_by(alloc, scanner, mode, line)
-}
-
-/// Reads a line that isn't short, as `read_line`.
-#[inline(never)]
-fn read_long_line(alloc: Global, scanner: &mut ShortScanner, mode: Mode, line: &Line<'_>) -> bool
-    requires one_line { NoNewline line.now.body.now }
-    requires fits { length (text_of (as_line line.now)) ≤ LINE_BYTES }
-    ensures represents { (before : List Reading) → ScannerRepresents scanner.old before →
-        ScannerRepresents scanner.new
-        (before ++ next_reading before mode (as_line line.now) ∷ []) }
-    ensures unlisted { (before : List Reading) → ScannerRepresents scanner.old before →
-        result ≡ is_unlisted_line (next_reading before mode (as_line line.now)) }
-{
-    let mut long = Scanner::new();
-    long.copy_state_of(scanner);
-    let unlisted = read_by(alloc, &mut long, mode, line);
-    scanner.copy_state_of(&long);
-    unlisted
+    let scan = scanner.read_growing(mode, line)?;
+    Ok(has_unlisted(alloc, &scan))
 }
 
 impl<'a> File<'a> {
@@ -158,7 +126,8 @@ impl<'a> File<'a> {
                 ..found
             }),
             Stretch::Fitting(line) => {
-                if read_line(alloc, &mut walk.scanner, self.mode, &line) {
+                let unlisted = read_line(alloc, &mut walk.scanner, self.mode, &line)?;
+                if unlisted {
                     return Ok(self.add(found, line.body, out)?);
                 }
                 Ok(Found {
@@ -187,7 +156,7 @@ impl<'a> File<'a> {
             listed_text self.entry.lists self.entry.name.now
             (read_as self.entry.mode text.now)) }
     {
-        let mut walk = Walk::new(text);
+        let mut walk = Walk::new(alloc, text);
         let mut found = Found {
             count: 0,
             number: 1,

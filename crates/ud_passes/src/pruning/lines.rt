@@ -31,12 +31,11 @@ ghost use Rattle.ud_passes.specs.pruning.EditedLines.{IsCondition, HasNoQuote, l
 
 use crate::pruning::cells::{CellBytes, split_bytes};
 use crate::pruning::conditions::LeftCondition;
-use crate::walk::SHORT_LINE_BYTES;
 use std::alloc::{AllocError, Global};
 use ud_cond::{Rules, Symbols};
 use ud_model::{Kind, Line, Mode, Scan};
 use ud_sections::{Cut, Directive, directive};
-use ud_text::{Scanner, ScannerOf, line_in};
+use ud_text::{Scanner, line_in};
 
 /// An editor of lines, with the last line that it edited.
 #[derive(Drop)]
@@ -103,62 +102,55 @@ fn condition_on<'a>(scan: &Scan<'a>) -> Option<Directive<'a>>
     }
 }
 
-/// Reads a line as the first one of a text. Returns whether it joins no other line, and has a
-/// directive of this kind with this text.
-fn reads_as<const N: usize>(
-    scanner: &mut ScannerOf<N>,
-    line: &Line<'_>,
-    kind: Kind,
-    text: &[u8],
-) -> bool
-    requires fits { length line.now.body.now ≤ N }
-    requires one_line { NoNewline line.now.body.now }
-    requires new { ScannerRepresents scanner.old [] }
-    ensures { result ≡ is_meant kind text.now (scan_after_run [] (as_line line.now)) }
-{
-    let scan = scanner.read(Mode::C, line);
-    if scan.joins_after {
-        return false;
-    }
-    is_condition(directive(&scan), kind, text)
-}
-
 /// Returns whether a line, read by itself, joins no other line, and has a directive of this kind
 /// with this text.
-fn is_meant(line: &Line<'_>, kind: Kind, text: &[u8]) -> bool
+///
+/// # Errors
+/// Fails if memory runs out.
+fn is_meant(alloc: Global, line: &Line<'_>, kind: Kind, text: &[u8]) -> Result<bool, AllocError>
     requires fits { length line.now.body.now ≤ LINE_BYTES }
     requires one_line { NoNewline line.now.body.now }
-    ensures { result ≡ is_meant kind text.now (scan_after_run [] (as_line line.now)) }
+    ensures { IfOk result (λ meant.
+        meant ≡ is_meant kind text.now (scan_after_run [] (as_line line.now))) }
 {
-    if line.body.len() <= SHORT_LINE_BYTES {
-        let mut scanner = ScannerOf::<SHORT_LINE_BYTES>::new();
-        return reads_as(&mut scanner, line, kind, text);
+    let mut scanner = Scanner::growing(alloc);
+    let scan = scanner.read_growing(Mode::C, line)?;
+    if scan.joins_after {
+        return Ok(false);
     }
-    let mut scanner = Scanner::new();
-    reads_as(&mut scanner, line, kind, text)
+    Ok(is_condition(directive(&scan), kind, text))
 }
 
 /// Returns whether the bytes of an edited line take the place of the line: they are other ones, and
 /// are read as the directive of this kind with this text.
-fn takes_place(bytes: &[u8], line: &Line<'_>, kind: Kind, text: &[u8]) -> bool
+///
+/// # Errors
+/// Fails if memory runs out.
+fn takes_place(
+    alloc: Global,
+    bytes: &[u8],
+    line: &Line<'_>,
+    kind: Kind,
+    text: &[u8],
+) -> Result<bool, AllocError>
     requires fits { length bytes.now ≤ LINE_BYTES }
     requires one_line { NoNewline line.now.body.now }
     requires ended { is_empty line.now.ending.now ≡ false }
-    ensures { (table : List Argument) (rules : SpecRules) (d : HasDirective) →
-        IsCondition (as_line line.now) d → d.kind ≡ kind →
+    ensures { IfOk result (λ edited. (table : List Argument) (rules : SpecRules)
+        (d : HasDirective) → IsCondition (as_line line.now) d → d.kind ≡ kind →
         map shown (left_cells_of table rules (as_line line.now) d) ≡ text.now →
         bytes.now ≡ text_of (left_line table rules (as_line line.now) d) →
-        IsEditedTo result (text_of (line_if_read table rules (as_line line.now) d))
-        (as_line line.now) bytes.now }
+        IsEditedTo edited (text_of (line_if_read table rules (as_line line.now) d))
+        (as_line line.now) bytes.now) }
 {
     let edited = line_in(bytes, line.number);
     if edited.ending != line.ending {
-        return false;
+        return Ok(false);
     }
     if edited.body == line.body {
-        return false;
+        return Ok(false);
     }
-    is_meant(&edited, kind, text)
+    Ok(is_meant(alloc, &edited, kind, text)?)
 }
 
 impl LineEditor {
@@ -242,10 +234,11 @@ impl LineEditor {
         self.bytes.extend_from_slice(left.bytes.as_slice())?;
         self.bytes.extend_from_slice(line.ending)?;
         Ok(takes_place(
+            *self.bytes.allocator(),
             self.bytes.as_slice(),
             line,
             found.kind,
             left.shown.as_slice(),
-        ))
+        )?)
     }
 }

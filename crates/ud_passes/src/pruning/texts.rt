@@ -17,11 +17,10 @@ ghost use Rattle.ud_passes.specs.Passes.{Grows};
 ghost use Rattle.ud_passes.specs.pruning.Passing.{IsPrunedNext, Pruned};
 
 use crate::pruning::lines::LineEditor;
-use crate::walk::{SHORT_LINE_BYTES, ShortScanner, Stretch, Walk};
+use crate::walk::{LineScanner, Stretch, Walk};
 use std::alloc::AllocError;
 use ud_cond::{Rules, Symbols};
 use ud_model::{Line, Mode};
-use ud_text::{Scanner, ScannerOf};
 
 /// Appends the bytes of an edited line, or those of the line if it stays.
 ///
@@ -44,43 +43,12 @@ fn append_either(
     out.extend_from_slice(line.ending)
 }
 
-/// Reads a line that the scanner takes, and appends the rest of it. Returns whether it was
-/// edited.
-///
-/// # Errors
-/// Fails if memory runs out.
-fn append_by<const N: usize>(
-    scanner: &mut ScannerOf<N>,
-    editor: &mut LineEditor,
-    line: &Line<'_>,
-    symbols: &Symbols,
-    rules: Rules,
-    out: &mut Vec<u8>,
-) -> Result<bool, AllocError>
-    requires room { length line.now.body.now ≤ N }
-    requires fits { length (text_of (as_line line.now)) ≤ LINE_BYTES }
-    requires one_line { NoNewline line.now.body.now }
-    ensures grows { Grows out.old.items out.new.items }
-    ensures represents { OnOk result ((before : List Reading) →
-        ScannerRepresents scanner.old before → ScannerRepresents scanner.new
-        (before ++ next_reading before Mode.C (as_line line.now) ∷ [])) }
-    ensures pruned { IfOk result (λ edited. (calls : List Argument) →
-        TableRepresents symbols.now calls → (before : List Reading) →
-        ScannerRepresents scanner.old before → IsPrunedNext calls (as_rules rules) before
-        (as_line line.now) edited out.old.items out.new.items) }
-{
-    let scan = scanner.read(Mode::C, line);
-    let edited = editor.edit(line, &scan, symbols, rules)?;
-    append_either(edited, editor.bytes.as_slice(), line, out)?;
-    Ok(edited)
-}
-
 /// Reads a line, and appends the rest of it. Returns whether it was edited.
 ///
 /// # Errors
 /// Fails if memory runs out.
 fn append_line(
-    scanner: &mut ShortScanner,
+    scanner: &mut LineScanner,
     editor: &mut LineEditor,
     line: &Line<'_>,
     symbols: &Symbols,
@@ -98,41 +66,10 @@ fn append_line(
         ScannerRepresents scanner.old before → IsPrunedNext calls (as_rules rules) before
         (as_line line.now) edited out.old.items out.new.items) }
 {
-    if line.body.len() > SHORT_LINE_BYTES {
-        return append_long_line(scanner, editor, line, symbols, rules, out);
-    }
-    append_by(scanner, editor, line, symbols, rules, out)
-}
-
-/// Reads a line that isn't short, as `append_line`.
-///
-/// # Errors
-/// Fails if memory runs out.
-#[inline(never)]
-fn append_long_line(
-    scanner: &mut ShortScanner,
-    editor: &mut LineEditor,
-    line: &Line<'_>,
-    symbols: &Symbols,
-    rules: Rules,
-    out: &mut Vec<u8>,
-) -> Result<bool, AllocError>
-    requires fits { length (text_of (as_line line.now)) ≤ LINE_BYTES }
-    requires one_line { NoNewline line.now.body.now }
-    ensures grows { Grows out.old.items out.new.items }
-    ensures represents { OnOk result ((before : List Reading) →
-        ScannerRepresents scanner.old before → ScannerRepresents scanner.new
-        (before ++ next_reading before Mode.C (as_line line.now) ∷ [])) }
-    ensures pruned { IfOk result (λ edited. (calls : List Argument) →
-        TableRepresents symbols.now calls → (before : List Reading) →
-        ScannerRepresents scanner.old before → IsPrunedNext calls (as_rules rules) before
-        (as_line line.now) edited out.old.items out.new.items) }
-{
-    let mut long = Scanner::new();
-    long.copy_state_of(scanner);
-    let edited = append_by(&mut long, editor, line, symbols, rules, out);
-    scanner.copy_state_of(&long);
-    edited
+    let scan = scanner.read_growing(Mode::C, line)?;
+    let edited = editor.edit(line, &scan, symbols, rules)?;
+    append_either(edited, editor.bytes.as_slice(), line, out)?;
+    Ok(edited)
 }
 
 /// Returns 1 if a line was edited, else 0.
@@ -198,8 +135,9 @@ fn append_pruned(
         (out.new.items ≡ out.old.items ++ pruned_text calls (as_rules rules) text.now) ×
         (count ≡ edited_count calls (as_rules rules) text.now)) }
 {
-    let mut walk = Walk::new(text);
-    let mut editor = LineEditor::new(*out.allocator());
+    let alloc = *out.allocator();
+    let mut walk = Walk::new(alloc, text);
+    let mut editor = LineEditor::new(alloc);
     let mut count = 0;
     while !walk.is_at_end() {
         count = step(&mut walk, &mut editor, symbols, rules, count, out)?;

@@ -23,11 +23,10 @@ use crate::remaining::lines::append_reason;
 use crate::remaining::listing::Listing;
 use crate::remaining::names::has_listed;
 use crate::remaining::reasons::why_stays;
-use crate::walk::{SHORT_LINE_BYTES, ShortScanner, Stretch, Walk, lines_in};
+use crate::walk::{LineScanner, Stretch, Walk, lines_in};
 use std::alloc::{AllocError, Global};
 use ud_cond::Symbols;
 use ud_model::{Line, Mode};
-use ud_text::{Scanner, ScannerOf};
 
 /// A search for the conditions of texts that still name a symbol, and those that were found.
 #[derive(Drop)]
@@ -59,45 +58,13 @@ struct Taken<'t> {
     goes_on: bool,
 }
 
-/// Reads a line that the scanner takes, and takes its text if it is of a condition. `after` is the
-/// text of that condition.
-///
-/// # Errors
-/// Fails if memory runs out.
-fn take_by<'t, const N: usize>(
-    scanner: &mut ScannerOf<N>,
-    mode: Mode,
-    place: Place<'t>,
-    line: &Line<'t>,
-    after: &mut Vec<u8>,
-) -> Result<Taken<'t>, AllocError>
-    requires room { length line.now.body.now ≤ N }
-    requires fits { length (text_of (as_line line.now)) ≤ LINE_BYTES }
-    requires one_line { NoNewline line.now.body.now }
-    ensures represents { OnOk result ((before : List Reading) →
-        ScannerRepresents scanner.old before → ScannerRepresents scanner.new
-        (before ++ next_reading before mode (as_line line.now) ∷ [])) }
-    ensures taken { IfOk result (λ t. (before : List Reading) →
-        ScannerRepresents scanner.old before →
-        IsTaken (begun_as place.entry.begun after.old.items)
-        (reading_at mode (as_line line.now) (scan_after before mode (as_line line.now))
-        place.entry.number) (begun_as t.begun after.new.items) t.goes_on) }
-{
-    let scan = scanner.read(mode, line);
-    let begun = take_line(place.begun, &scan, line, place.number, after)?;
-    Ok(Taken {
-        begun,
-        goes_on: scan.joins_after,
-    })
-}
-
 /// Reads a line, and takes its text if it is of a condition. `after` is the text of that
 /// condition.
 ///
 /// # Errors
 /// Fails if memory runs out.
 fn take<'t>(
-    scanner: &mut ShortScanner,
+    scanner: &mut LineScanner,
     mode: Mode,
     place: Place<'t>,
     line: &Line<'t>,
@@ -114,40 +81,12 @@ fn take<'t>(
         (reading_at mode (as_line line.now) (scan_after before mode (as_line line.now))
         place.entry.number) (begun_as t.begun after.new.items) t.goes_on) }
 {
-    if line.body.len() > SHORT_LINE_BYTES {
-        return take_long(scanner, mode, place, line, after);
-    }
-    take_by(scanner, mode, place, line, after)
-}
-
-/// Takes a line that isn't short, as `take`.
-///
-/// # Errors
-/// Fails if memory runs out.
-#[inline(never)]
-fn take_long<'t>(
-    scanner: &mut ShortScanner,
-    mode: Mode,
-    place: Place<'t>,
-    line: &Line<'t>,
-    after: &mut Vec<u8>,
-) -> Result<Taken<'t>, AllocError>
-    requires fits { length (text_of (as_line line.now)) ≤ LINE_BYTES }
-    requires one_line { NoNewline line.now.body.now }
-    ensures represents { OnOk result ((before : List Reading) →
-        ScannerRepresents scanner.old before → ScannerRepresents scanner.new
-        (before ++ next_reading before mode (as_line line.now) ∷ [])) }
-    ensures taken { IfOk result (λ t. (before : List Reading) →
-        ScannerRepresents scanner.old before →
-        IsTaken (begun_as place.entry.begun after.old.items)
-        (reading_at mode (as_line line.now) (scan_after before mode (as_line line.now))
-        place.entry.number) (begun_as t.begun after.new.items) t.goes_on) }
-{
-    let mut long = Scanner::new();
-    long.copy_state_of(scanner);
-    let taken = take_by(&mut long, mode, place, line, after)?;
-    scanner.copy_state_of(&long);
-    Ok(taken)
+    let scan = scanner.read_growing(mode, line)?;
+    let begun = take_line(place.begun, &scan, line, place.number, after)?;
+    Ok(Taken {
+        begun,
+        goes_on: scan.joins_after,
+    })
 }
 
 impl Search {
@@ -311,7 +250,7 @@ impl Search {
         ensures added { OnOk result ((calls : List Argument) → TableRepresents symbols.now calls →
             Appends calls name.now (conditions_of mode text.now) self.old self.new) }
     {
-        let mut walk = Walk::new(text);
+        let mut walk = Walk::new(*self.list.allocator(), text);
         let mut place = Place {
             number: 1,
             begun: None,

@@ -1,6 +1,6 @@
 -- ScanBorrows: what a scanner represents once the borrow of the scan that it returned has ended.
 --
---   ScansLine N scanner mode line   the scanner, of capacity `N`, represents one more reading: the
+--   ScansLine H scanner mode line   the scanner, with an `H`, represents one more reading: the
 --                                   line in this mode, with its scan
 --
 -- Example: a new scanner that has read a line represents that line's reading alone.
@@ -12,12 +12,12 @@ use Rattle.ud_model.specs.text.Scans.{Reading}
 use Rattle.ud_model.specs.text.Scanning.{next_reading}
 use Rattle.ud_model.specs.declared.kind.Mode.{Mode}
 use Rattle.ud_text.specs.scan.ScannerState.{ScannerState, ScannerRepresents}
-use Rattle.ud_text.specs.contracts.scan.scanner.ScannerOf.{the_row}
+use Rattle.ud_text.specs.contracts.scan.scanner.Scanner.{the_row}
 
--- `ScansLine N scanner mode line`: if the scanner represents some readings, it then represents
+-- `ScansLine H scanner mode line`: if the scanner represents some readings, it then represents
 -- these and the line's
 abbrev pub ScansLine : RattleType → MutBor ScannerState → Mode → TextLine → Fml
-ScansLine N scanner mode line =
-    Rests (the_row N) scanner (λ new. (before : List Reading) →
+ScansLine H scanner mode line =
+    Rests (the_row H) scanner (λ new. (before : List Reading) →
     ScannerRepresents scanner.now before →
     ScannerRepresents new (before ++ next_reading before mode line ∷ []))

@@ -1,6 +1,8 @@
 //! Buffers for a line whose bytes come in chunks.
 
-ghost use Rattle.std.specs.Prelude.{◌≡◌, ◌+◌, ◌<◌, ◌≤◌, List, ℕ, [], ◌++◌, length, true, false};
+ghost use Rattle.std.specs.Prelude.{◌≡◌, ◌+◌, ◌<◌, ◌≤◌, List, ℕ, [], ◌∷◌, ◌++◌, length, true};
+ghost use Rattle.std.specs.Prelude.{false, ◌↔◌, IsSome};
+ghost use Rattle.std.specs.Option.{option_to_list};
 
 use arrayvec::ArrayVec;
 use ud_model::LINE_BYTES;
@@ -26,6 +28,16 @@ pub trait LineBuffer: Drop {
     /// Returns an empty buffer.
     fn new() -> Self
         ensures { items result ≡ [] };
+
+    /// Appends a byte.
+    fn push(&mut self, byte: u8)
+        requires { length (items self.old) < CAPACITY }
+        ensures { items self.new ≡ items self.old ++ byte ∷ [] };
+
+    /// Removes and returns the last byte, if there is one.
+    fn pop(&mut self) -> Option<u8>
+        ensures items { items self.old ≡ items self.new ++ option_to_list result }
+        ensures variant { IsSome result ↔ (0 < length (items self.old)) };
 
     /// Appends `bytes` if all of them fit. Otherwise changes nothing, and returns `false`.
     fn try_append(&mut self, bytes: &[u8]) -> bool
@@ -59,6 +71,14 @@ impl<const N: usize> LineBuffer for ArrayVec<u8, N> {
 
     fn new() -> ArrayVec<u8, N> {
         ArrayVec::new()
+    }
+
+    fn push(&mut self, byte: u8) {
+        ArrayVec::push(self, byte);
+    }
+
+    fn pop(&mut self) -> Option<u8> {
+        ArrayVec::pop(self)
     }
 
     fn try_append(&mut self, bytes: &[u8]) -> bool {

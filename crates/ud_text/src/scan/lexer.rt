@@ -6,7 +6,6 @@
 
 ghost use Rattle.std.specs.Prelude.{◌≡◌, ◌≤◌, ◌<◌, ◌+◌, ◌&&◌, ℕ, List, [], ◌∷◌, ◌++◌, length, take};
 ghost use Rattle.std.specs.Prelude.{replicate};
-ghost use Rattle.arrayvec.specs.ArrayVec.{array_vec_len};
 ghost use Rattle.ud_model.specs.text.Lines.{NoNewline};
 ghost use Rattle.ud_model.specs.text.Scanning.{is_block};
 ghost use Rattle.ud_model.specs.aids.LexStates.{next_state, opens_comment};
@@ -14,6 +13,7 @@ ghost use Rattle.ud_model.specs.aids.LexStates.{masked_byte, stays_white, blank_
 ghost use Rattle.ud_model.specs.aids.LexStates.{kind_in_state, fresh_at, LexesTo};
 ghost use Rattle.ud_text.specs.scan.LexerViews.{lex_state_of, shown_in, MasksMore, MasksContent};
 
+use crate::lines::LineBuffer;
 use crate::scan::marks::first_mark;
 use arrayvec::ArrayVec;
 use memchr::memchr;
@@ -141,10 +141,10 @@ pub(crate) fn is_in_block_comment(state: LexState) -> bool
 }
 
 /// Replaces the last byte by a space.
-fn blank_last<const ROOM: usize>(masked: &mut ArrayVec<u8, ROOM>)
-    requires { array_vec_len masked.old ≤ ROOM }
-    ensures items { masked.new.items ≡ blank_last masked.old.items }
-    ensures len { array_vec_len masked.new ≡ array_vec_len masked.old }
+fn blank_last<H: LineBuffer>(masked: &mut H)
+    requires { length (H.items masked.old) ≤ H.CAPACITY }
+    ensures items { H.items masked.new ≡ blank_last (H.items masked.old) }
+    ensures len { length (H.items masked.new) ≡ length (H.items masked.old) }
 {
     if masked.pop().is_some() {
         masked.push(b' ');
@@ -152,10 +152,10 @@ fn blank_last<const ROOM: usize>(masked: &mut ArrayVec<u8, ROOM>)
 }
 
 /// Reads one more byte, and appends it as it is shown.
-fn mask_byte<const ROOM: usize>(lexer: Lexer, byte: u8, masked: &mut ArrayVec<u8, ROOM>) -> Lexer
-    requires { array_vec_len masked.old < ROOM }
-    ensures masks { MasksMore lexer masked.old.items (byte ∷ []) result masked.new.items }
-    ensures len { array_vec_len masked.new ≡ array_vec_len masked.old + 1 }
+fn mask_byte<H: LineBuffer>(lexer: Lexer, byte: u8, masked: &mut H) -> Lexer
+    requires { length (H.items masked.old) < H.CAPACITY }
+    ensures masks { MasksMore lexer (H.items masked.old) (byte ∷ []) result (H.items masked.new) }
+    ensures len { length (H.items masked.new) ≡ length (H.items masked.old) + 1 }
 {
     if opens_comment(lexer.state, byte) {
         blank_last(masked);
@@ -168,17 +168,17 @@ fn mask_byte<const ROOM: usize>(lexer: Lexer, byte: u8, masked: &mut ArrayVec<u8
 }
 
 /// Appends `bytes`.
-fn append<const ROOM: usize>(bytes: &[u8], masked: &mut ArrayVec<u8, ROOM>)
-    requires { array_vec_len masked.old + length bytes.now ≤ ROOM }
-    ensures { masked.new.items ≡ masked.old.items ++ bytes.now }
+fn append<H: LineBuffer>(bytes: &[u8], masked: &mut H)
+    requires { length (H.items masked.old) + length bytes.now ≤ H.CAPACITY }
+    ensures { H.items masked.new ≡ H.items masked.old ++ bytes.now }
 {
-    let _ = masked.try_extend_from_slice(bytes);
+    let _ = masked.try_append(bytes);
 }
 
 /// Appends `count` spaces.
-fn append_spaces<const ROOM: usize>(count: usize, masked: &mut ArrayVec<u8, ROOM>)
-    requires { array_vec_len masked.old + count ≤ ROOM }
-    ensures { masked.new.items ≡ masked.old.items ++ replicate count 32 }
+fn append_spaces<H: LineBuffer>(count: usize, masked: &mut H)
+    requires { length (H.items masked.old) + count ≤ H.CAPACITY }
+    ensures { H.items masked.new ≡ H.items masked.old ++ replicate count 32 }
 {
     for _space in 0..count {
         masked.push(b' ');
@@ -188,17 +188,13 @@ fn append_spaces<const ROOM: usize>(count: usize, masked: &mut ArrayVec<u8, ROOM
 /// Reads leading bytes that leave the state unchanged, outside comments and literals or in a
 /// comment, and appends them as they are shown. Reads none in another state. Returns the lexer
 /// after them, and their number.
-fn mask_uniform<const ROOM: usize>(
-    lexer: Lexer,
-    rest: &[u8],
-    masked: &mut ArrayVec<u8, ROOM>,
-) -> (Lexer, usize)
-    requires fits { array_vec_len masked.old + length rest.now ≤ ROOM }
+fn mask_uniform<H: LineBuffer>(lexer: Lexer, rest: &[u8], masked: &mut H) -> (Lexer, usize)
+    requires fits { length (H.items masked.old) + length rest.now ≤ H.CAPACITY }
     requires one_line { NoNewline rest.now }
-    ensures masks { MasksMore lexer masked.old.items (take result.1 rest.now) result.0
-        masked.new.items }
+    ensures masks { MasksMore lexer (H.items masked.old) (take result.1 rest.now) result.0
+        (H.items masked.new) }
     ensures bound { result.1 ≤ length rest.now }
-    ensures len { array_vec_len masked.new ≡ array_vec_len masked.old + result.1 }
+    ensures len { length (H.items masked.new) ≡ length (H.items masked.old) + result.1 }
 {
     match lexer.state {
         LexState::Text => {
@@ -229,16 +225,12 @@ fn mask_uniform<const ROOM: usize>(
 
 /// Reads the content of a line, and appends it to `masked` as it is shown.
 #[inline(never)]
-fn mask_content<const ROOM: usize>(
-    lexer: Lexer,
-    content: &[u8],
-    masked: &mut ArrayVec<u8, ROOM>,
-) -> Lexer
-    requires empty { masked.old.items ≡ [] }
-    requires fits { length content.now ≤ ROOM }
+fn mask_content<H: LineBuffer>(lexer: Lexer, content: &[u8], masked: &mut H) -> Lexer
+    requires empty { H.items masked.old ≡ [] }
+    requires fits { length content.now ≤ H.CAPACITY }
     requires one_line { NoNewline content.now }
-    ensures len { length masked.new.items ≡ length content.now }
-    ensures masks { MasksContent lexer content.now result masked.new.items }
+    ensures len { length (H.items masked.new) ≡ length content.now }
+    ensures masks { MasksContent lexer content.now result (H.items masked.new) }
 {
     let mut inside = lexer;
     let mut at = 0;
@@ -258,17 +250,17 @@ fn mask_content<const ROOM: usize>(
 /// ends outside comments and literals and it has no mark. Otherwise it is appended to `masked` as
 /// it is shown.
 #[inline(always)]
-pub(crate) fn mask_or_borrow<'a, const ROOM: usize>(
+pub(crate) fn mask_or_borrow<'a, H: LineBuffer>(
     lexer: Lexer,
     content: &'a [u8],
-    masked: &mut ArrayVec<u8, ROOM>,
+    masked: &mut H,
 ) -> (Lexer, Option<&'a [u8]>)
-    requires empty { masked.old.items ≡ [] }
-    requires fits { length content.now ≤ ROOM }
+    requires empty { H.items masked.old ≡ [] }
+    requires fits { length content.now ≤ H.CAPACITY }
     requires one_line { NoNewline content.now }
-    ensures len { length (shown_in result.1 masked.new.items) ≡ length content.now }
+    ensures len { length (shown_in result.1 (H.items masked.new)) ≡ length content.now }
     ensures masks { MasksContent lexer content.now result.0
-        (shown_in result.1 masked.new.items) }
+        (shown_in result.1 (H.items masked.new)) }
 {
     if let LexState::Text = lexer.state {
         if first_mark(content) == content.len() {

@@ -30,14 +30,14 @@ ghost use Rattle.ud_model.specs.text.Scanning.{is_block};
 
 use crate::bulk::plain::plain_text_len;
 use crate::bulk::skip_text_lines;
+use crate::lines::{LineBuffer, LongLineBuffer};
 use crate::scan::lexer::{
     LexState, Lexer, is_fresh, is_in_block_comment, mask_or_borrow, next_state, pass_content,
     stays_white,
 };
 use crate::scan::marks::first_mark;
-use arrayvec::ArrayVec;
 use std::marker::Model;
-use ud_model::{CommentAt, LINE_BYTES, Line, Mode, Scan};
+use ud_model::{CommentAt, Line, Mode, Scan};
 
 /// The state that is carried from line to line.
 #[derive(Clone, Copy)]
@@ -77,17 +77,14 @@ pub(crate) struct ScannedLine<'a> {
 }
 
 /// A scanner of the lines of a text, which come in order, each in its mode. It reads lines whose
-/// body has at most `N` bytes.
+/// body fits in an `H`.
 #[derive(Drop)]
-pub struct ScannerOf<const N: usize> {
+pub struct Scanner<H = LongLineBuffer> {
     /// The state after the lines so far.
-    scan_state: ScanState,
+    pub(crate) scan_state: ScanState,
     /// The last line as it is masked, if its own bytes weren't borrowed.
-    masked: ArrayVec<u8, N>,
+    pub(crate) masked: H,
 }
-
-/// A scanner of lines of any length that a line may have.
-pub type Scanner = ScannerOf<LINE_BYTES>;
 
 /// Returns the state of a C run without lines.
 fn initial_state() -> ScanState
@@ -163,18 +160,19 @@ fn comment_at(spliced: bool, state: LexState) -> CommentAt
 
 /// Scans a line in C mode. The masked bytes are appended to `masked`, unless they are borrowed.
 #[inline(always)]
-fn scan_code<'a, const ROOM: usize>(
+fn scan_code<'a, H: LineBuffer>(
     scan_state: ScanState,
     line: &Line<'a>,
-    masked: &mut ArrayVec<u8, ROOM>,
+    masked: &mut H,
 ) -> ScannedLine<'a>
-    requires empty { masked.old.items ≡ [] }
-    requires fits { length line.now.body.now ≤ ROOM }
+    requires empty { H.items masked.old ≡ [] }
+    requires fits { length line.now.body.now ≤ H.CAPACITY }
     requires one_line { NoNewline line.now.body.now }
     ensures represents { ReadsNext Mode.C scan_state (as_line line.now) result.scan_state }
     ensures value { IsNextScan Mode.C scan_state (as_line line.now)
-        (scan_with (shown_in result.borrowed masked.new.items) result.flags) }
-    ensures fits { length (shown_in result.borrowed masked.new.items) ≤ length line.now.body.now }
+        (scan_with (shown_in result.borrowed (H.items masked.new)) result.flags) }
+    ensures fits { length (shown_in result.borrowed (H.items masked.new)) ≤
+        length line.now.body.now }
 {
     let spliced = is_spliced(line);
     let bytes = content(line, spliced);
@@ -297,18 +295,19 @@ fn scan_plain<'a>(line: &Line<'a>) -> ScannedLine<'a>
 
 /// Scans a line in its mode. The masked bytes are appended to `masked`, unless they are borrowed.
 #[inline(always)]
-fn scan_line<'a, const ROOM: usize>(
+pub(crate) fn scan_line<'a, H: LineBuffer>(
     mode: Mode,
     scan_state: ScanState,
     line: &Line<'a>,
-    masked: &mut ArrayVec<u8, ROOM>,
+    masked: &mut H,
 ) -> ScannedLine<'a>
-    requires fits { length line.now.body.now ≤ ROOM }
+    requires fits { length line.now.body.now ≤ H.CAPACITY }
     requires one_line { NoNewline line.now.body.now }
     ensures represents { ReadsNext mode scan_state (as_line line.now) result.scan_state }
     ensures value { IsNextScan mode scan_state (as_line line.now)
-        (scan_with (shown_in result.borrowed masked.new.items) result.flags) }
-    ensures fits { length (shown_in result.borrowed masked.new.items) ≤ length line.now.body.now }
+        (scan_with (shown_in result.borrowed (H.items masked.new)) result.flags) }
+    ensures fits { length (shown_in result.borrowed (H.items masked.new)) ≤
+        length line.now.body.now }
 {
     match mode {
         Mode::C => {
@@ -319,6 +318,26 @@ fn scan_line<'a, const ROOM: usize>(
             scan_code(scan_state, line, masked)
         }
         Mode::Plain => scan_plain(line),
+    }
+}
+
+/// Returns the scan of a scanned line, whose masked bytes are in `masked` if they aren't borrowed.
+#[inline(always)]
+pub(crate) fn scan_of<'s, 'a: 's>(scanned: ScannedLine<'a>, masked: &'s [u8]) -> Scan<'s>
+    ensures { as_scan result ≡ scan_with (shown_in scanned.entry.borrowed masked.now)
+        scanned.entry.flags }
+{
+    let masked = match scanned.borrowed {
+        Some(bytes) => bytes,
+        None => masked,
+    };
+    Scan {
+        masked,
+        fresh: scanned.flags.fresh,
+        joins_before: scanned.flags.joins_before,
+        joins_after: scanned.flags.joins_after,
+        spliced: scanned.flags.spliced,
+        comment: scanned.flags.comment,
     }
 }
 
@@ -391,7 +410,7 @@ fn skip_text_in(mode: Mode, scan_state: ScanState, lines: &[u8]) -> (usize, Scan
     }
 }
 
-impl<const N: usize> Model for ScannerOf<N> {
+impl<H> Model for Scanner<H> {
     ghost use Rattle.ud_text.specs.scan.ScannerState.{ScannerState, scanner_state_of};
 
     ghost Value = { ScannerState };
@@ -399,20 +418,26 @@ impl<const N: usize> Model for ScannerOf<N> {
     ghost view = { λ s. scanner_state_of s.scan_state };
 }
 
-impl<const N: usize> ScannerOf<N> {
-    /// Returns a scanner that has read no line.
-    pub fn new() -> ScannerOf<N>
+impl Scanner<LongLineBuffer> {
+    /// Returns a scanner that has read no line. It reads lines of any length that a line may have.
+    pub fn new() -> Scanner<LongLineBuffer>
         ensures { ScannerRepresents result [] }
     {
-        ScannerOf {
-            scan_state: initial_state(),
-            masked: ArrayVec::new(),
-        }
+        Scanner::with_buffer()
+    }
+}
+
+impl<H: LineBuffer> Scanner<H> {
+    /// Returns a scanner that has read no line, as `new` does, whose buffer is an `H`.
+    pub fn with_buffer() -> Scanner<H>
+        ensures { ScannerRepresents result [] }
+    {
+        Scanner::over(H::new())
     }
 
     /// Reads the next line of the text, and returns its scan. Later lines never change the scan.
     ///
-    /// The line's body has at most `N` bytes, none of which is a newline. In plain mode the line
+    /// The line's body fits in an `H`, and none of its bytes is a newline. In plain mode the line
     /// is masked unchanged, and the next line in C mode starts afresh. In C mode each masked byte
     /// has the index that it has in the body (C11 5.1.1.2, phases 2 and 3, and 6.4.9).
     ///
@@ -434,26 +459,27 @@ impl<const N: usize> ScannerOf<N> {
     /// ```
     #[inline(always)]
     pub fn read<'s, 'a: 's>(&'s mut self, mode: Mode, line: &Line<'a>) -> Scan<'s>
-        requires fits { length line.now.body.now ≤ N }
+        requires fits { length line.now.body.now ≤ H.CAPACITY }
         requires one_line { NoNewline line.now.body.now }
-        ensures* represents { sem 𝓛 (ScansLine N.row self.entry mode (as_line line.now)) }
+        ensures* represents { sem 𝓛 (ScansLine H.row self.entry mode (as_line line.now)) }
         ensures value { (before : List Reading) → ScannerRepresents self.old before →
             as_scan result ≡ scan_after before mode (as_line line.now) }
         ensures fits { length result.masked.now ≤ length line.now.body.now }
     {
         let scanned = scan_line(mode, self.scan_state, line, &mut self.masked);
         self.scan_state = scanned.scan_state;
-        let masked = match scanned.borrowed {
-            Some(bytes) => bytes,
-            None => self.masked.as_slice(),
-        };
-        Scan {
+        scan_of(scanned, self.masked.as_slice())
+    }
+}
+
+impl<H> Scanner<H> {
+    /// Returns a scanner that has read no line, with this buffer.
+    pub(crate) fn over(masked: H) -> Scanner<H>
+        ensures { ScannerRepresents result [] }
+    {
+        Scanner {
+            scan_state: initial_state(),
             masked,
-            fresh: scanned.flags.fresh,
-            joins_before: scanned.flags.joins_before,
-            joins_after: scanned.flags.joins_after,
-            spliced: scanned.flags.spliced,
-            comment: scanned.flags.comment,
         }
     }
 
@@ -529,7 +555,7 @@ impl<const N: usize> ScannerOf<N> {
 
     /// Copies the state of a scanner, which may read longer or shorter lines. The next line is then
     /// read as that scanner would read it.
-    pub fn copy_state_of<const M: usize>(&mut self, scanner: &ScannerOf<M>)
+    pub fn copy_state_of<K>(&mut self, scanner: &Scanner<K>)
         ensures { self.new ≡ scanner.now }
     {
         self.scan_state = scanner.scan_state;

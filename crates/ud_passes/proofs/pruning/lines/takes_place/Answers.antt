@@ -29,5 +29,5 @@ returns c = λ table rules d i k s b.
     let l : Line = as_line c.args.line.now in
     let e : Line = as_line c.line_in-edited.result in
     let to = c.line_in-edited.ensures.bytes in
-    edited_if table rules l d i c.requires.one_line (is_end l.ending c.args.line.now.ended c.requires.ended) c.args.bytes.now b e to.0 to.1 c.line_in-edited.ensures.value ((bytes_eq-Decides e.ending l.ending).0 (not-false _ (sym c.ne.ensures ∙ c.if-ne.false))) (sym c.eq.ensures ∙ c.if-eq.false) c.is_meant.result
-    (c.is_meant.ensures ∙ ap₂ (λ (j : Kind) (x : List ℕ). is_meant j x (scan_after_run [] e)) (sym k) (sym s))
+    edited_if table rules l d i c.requires.one_line (is_end l.ending c.args.line.now.ended c.requires.ended) c.args.bytes.now b e to.0 to.1 c.line_in-edited.ensures.value ((bytes_eq-Decides e.ending l.ending).0 (not-false _ (sym c.ne.ensures ∙ c.if-ne.false))) (sym c.eq.ensures ∙ c.if-eq.false) c.in_ok-is_meant.field-0
+    (c.in_ok-is_meant.ensures ∙ ap₂ (λ (j : Kind) (x : List ℕ). is_meant j x (scan_after_run [] e)) (sym k) (sym s))

@@ -3,4 +3,4 @@ use Rattle.std.proofs.Common.{◌≡◌, ◌++◌, replicate}
 use Rattle.ud_text.proofs.scan.lexer.append_spaces.Given as goal
 
 abbrev pub invariant-loop-space : goal.invariant-loop-space
-invariant-loop-space g l = l.masked.items ≡ l.initial.masked.items ++ replicate l._space 32
+invariant-loop-space g l = g.H.LineBuffer.items l.masked ≡ g.H.LineBuffer.items l.initial.masked ++ replicate l._space 32

@@ -12,13 +12,10 @@ loop-at-init g c = record {
 }
 
 pub mask_uniform-count-requires : goal.mask_uniform-count-requires
-mask_uniform-count-requires g c = (
-  search rules,
-  (
-    omega (arith, c.loop-at.invariant.size, c.loop-at.invariant.within, length-drop c.loop-at.at c.args.content.now, c.requires.fits),
-    no_newline-take _ _ (no_newline-drop c.loop-at.at c.args.content.now c.requires.one_line),
-  ),
-)
+mask_uniform-count-requires g c = record {
+  fits = omega (arith, c.loop-at.invariant.size, c.loop-at.invariant.within, length-drop c.loop-at.at c.args.content.now, c.requires.fits);
+  one_line = no_newline-take _ _ (no_newline-drop c.loop-at.at c.args.content.now c.requires.one_line);
+}
 
 pub loop-at-preserved-then-at-content : goal.loop-at-preserved-then-at-content
 loop-at-preserved-then-at-content g c = record {

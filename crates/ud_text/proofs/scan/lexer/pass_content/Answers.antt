@@ -17,7 +17,11 @@ loop-rest-init c = record {
 pub mask_content-inside-requires : goal.mask_content-inside-requires
 mask_content-inside-requires c =
     let n : length c.split_at.result.0.now ≡ min c.min.result (length c.loop-rest.rest.now) = ap (λ (l : List ℕ). length l) c.split_at.ensures.front ∙ length-take c.min.result c.loop-rest.rest.now in
-    (search rules, (c.clear.ensures, (omega arith, subst NoNewline (sym c.split_at.ensures.front) (no_newline-take c.min.result c.loop-rest.rest.now c.loop-rest.invariant.one_line))))
+    record {
+      empty = c.clear.ensures;
+      fits = omega arith;
+      one_line = subst NoNewline (sym c.split_at.ensures.front) (no_newline-take c.min.result c.loop-rest.rest.now c.loop-rest.invariant.one_line);
+    }
 
 pub loop-rest-preserved : goal.loop-rest-preserved
 loop-rest-preserved c =

@@ -15,15 +15,19 @@ use Rattle.ud_text.proofs.scan.scanner.scan_code.Goals.{After-comment_at, then-s
 
 pub mask_or_borrow-requires : goal.mask_or_borrow-requires
 mask_or_borrow-requires g c =
-    (search rules, (c.requires.empty, (search rules, subst NoNewline (sym c.content-bytes.ensures) (no_newline-content (as_line c.args.line.now) c.requires.one_line))))
+    record {
+      empty = c.requires.empty;
+      fits = search rules;
+      one_line = subst NoNewline (sym c.content-bytes.ensures) (no_newline-content (as_line c.args.line.now) c.requires.one_line);
+    }
 
 -- how the content is shown after the spliced text of the C run
 shown_content : (g : Over) (c : After-comment_at g) (before : List Reading) → ScannerRepresents (scanner_state_of c.args.scan_state) before →
     Masks (length (spliced_text (c_run_of before))) (spliced_text (c_run_of before) ++ content (as_line c.args.line.now)) (lex_state_of c.mask_or_borrow.result.0.state)
-    c.mask_or_borrow.result.0.white (shown_in c.mask_or_borrow.result.1 c.mask_or_borrow.new.masked.items)
+    c.mask_or_borrow.result.0.white (shown_in c.mask_or_borrow.result.1 (g.H.LineBuffer.items c.mask_or_borrow.new.masked))
 shown_content g c before h =
     subst (λ (l : List ℕ). Masks (length (spliced_text (c_run_of before))) (spliced_text (c_run_of before) ++ l) (lex_state_of c.mask_or_borrow.result.0.state)
-    c.mask_or_borrow.result.0.white (shown_in c.mask_or_borrow.result.1 c.mask_or_borrow.new.masked.items)) c.content-bytes.ensures
+    c.mask_or_borrow.result.0.white (shown_in c.mask_or_borrow.result.1 (g.H.LineBuffer.items c.mask_or_borrow.new.masked))) c.content-bytes.ensures
     (c.mask_or_borrow.ensures.masks (spliced_text (c_run_of before)) h.reads)
 
 or_true : (a b : Bool) → a ≡ true → a ≡ (a || b)
@@ -43,7 +47,7 @@ joins_is g c =
 
 pub returns-clause-represents : goal.returns-clause-represents
 returns-clause-represents g c = λ before h.
-    represents_code (scanner_state_of c.args.scan_state) before (as_line c.args.line.now) (shown_in c.mask_or_borrow.result.1 c.mask_or_borrow.new.masked.items)
+    represents_code (scanner_state_of c.args.scan_state) before (as_line c.args.line.now) (shown_in c.mask_or_borrow.result.1 (g.H.LineBuffer.items c.mask_or_borrow.new.masked))
     (lex_state_of c.mask_or_borrow.result.0.state) c.mask_or_borrow.result.0.white _ h (shown_content g c before h)
     c.end_line-lexer.ensures.state c.end_line-lexer.ensures.white (joins_is g c)
 
@@ -55,5 +59,5 @@ returns-clause-value g c = λ before h.
     (joins_is g c ∙ ap (λ (p : LexState). is_spliced (as_line c.args.line.now) || is_block (kind_in_state p)) c.end_line-lexer.ensures.state)
     c.is_spliced-spliced.ensures
     (c.comment_at.ensures ∙ ap₂ (λ (s : Bool) (p : LexState). comment_at s (kind_in_state p)) c.is_spliced-spliced.ensures c.end_line-lexer.ensures.state)
-    ∙ sym (scan_carried (scanner_state_of c.args.scan_state) before (as_line c.args.line.now) (shown_in c.mask_or_borrow.result.1 c.mask_or_borrow.new.masked.items)
+    ∙ sym (scan_carried (scanner_state_of c.args.scan_state) before (as_line c.args.line.now) (shown_in c.mask_or_borrow.result.1 (g.H.LineBuffer.items c.mask_or_borrow.new.masked))
     (lex_state_of c.mask_or_borrow.result.0.state) c.mask_or_borrow.result.0.white h (shown_content g c before h))

@@ -15,14 +15,14 @@ returns-in-TooLong-clause-listed c = λ text start l.
     let n = c.in-TooLong.ensures.next text l.read l.walked in
     line_more c.args.self text start c.args.found c.args.walk.now c.args.out.now.items l c.next.new.self (as_line c.in-TooLong.field-0) n.1 (long_line (read_after c.args.self.mode l.read (as_line c.in-TooLong.field-0)) n.0)
 
-pub returns-else-read_line-clause-listed : goal.returns-else-read_line-clause-listed
-returns-else-read_line-clause-listed c = λ text start l.
+pub returns-else-unlisted-clause-listed : goal.returns-else-unlisted-clause-listed
+returns-else-unlisted-clause-listed c = λ text start l.
     let n = c.in-Fitting.ensures.next text l.read l.walked in
-    line_more c.args.self text start c.args.found c.args.walk.now c.args.out.now.items l _ (as_line c.in-Fitting.line) (n.1 c.read_line.new.scanner (c.read_line.ensures.represents l.read n.0))
-    (sym (c.read_line.ensures.unlisted l.read n.0) ∙ c.if-read_line.false)
+    line_more c.args.self text start c.args.found c.args.walk.now c.args.out.now.items l _ (as_line c.in-Fitting.line) (n.1 c.read_line.new.scanner (c.in_ok-unlisted-in-Fitting.ensures.represents l.read n.0))
+    (sym (c.in_ok-unlisted-in-Fitting.ensures.unlisted l.read n.0) ∙ c.if-unlisted.false)
 
-pub returns-then-read_line-clause-listed : goal.returns-then-read_line-clause-listed
-returns-then-read_line-clause-listed c = λ text start l.
+pub returns-then-unlisted-clause-listed : goal.returns-then-unlisted-clause-listed
+returns-then-unlisted-clause-listed c = λ text start l.
     let n = c.in-Fitting.ensures.next text l.read l.walked in
-    line_found c.args.self text start c.args.found c.args.walk.now c.args.out.now.items l _ (as_line c.in-Fitting.line) (n.1 c.read_line.new.scanner (c.read_line.ensures.represents l.read n.0))
-    (sym (c.read_line.ensures.unlisted l.read n.0) ∙ c.if-read_line.true) _ _ c.in_ok-add-in-Fitting.ensures.count c.in_ok-add-in-Fitting.ensures.number _ c.in_ok-add-in-Fitting.ensures.line
+    line_found c.args.self text start c.args.found c.args.walk.now c.args.out.now.items l _ (as_line c.in-Fitting.line) (n.1 c.read_line.new.scanner (c.in_ok-unlisted-in-Fitting.ensures.represents l.read n.0))
+    (sym (c.in_ok-unlisted-in-Fitting.ensures.unlisted l.read n.0) ∙ c.if-unlisted.true) _ _ c.in_ok-add-in-Fitting.ensures.count c.in_ok-add-in-Fitting.ensures.number _ c.in_ok-add-in-Fitting.ensures.line

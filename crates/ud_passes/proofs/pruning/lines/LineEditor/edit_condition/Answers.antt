@@ -49,5 +49,5 @@ returns c = λ calls h i q.
     c.as_slice-2.ensures.value ∙ c.in_ok-extend_from_slice-3.ensures.items ∙ ap (λ (x : List ℕ). x ++ l.ending)
     (c.in_ok-extend_from_slice-2.ensures.items ∙ ap₂ (λ (x y : List ℕ). x ++ y)
     (c.in_ok-extend_from_slice.ensures.items ∙ ap₂ (λ (x y : List ℕ). x ++ y) c.clear.ensures.items c.split_bytes.ensures.front) c.as_slice.ensures.value) in
-    subst (λ (x : List ℕ). IsEditedTo c.takes_place.result (text_of (line_if_read calls rules l d)) l x) c.as_slice-2.ensures.value
-    (c.takes_place.ensures calls rules d i refl (left.shown_are ∙ sym c.as_slice-3.ensures.value) (bytes ∙ ap (λ (x : List ℕ). (take (keyword_end d) l.body ++ x) ++ l.ending) (sym left.bytes_are)))
+    subst (λ (x : List ℕ). IsEditedTo c.in_ok-takes_place.field-0 (text_of (line_if_read calls rules l d)) l x) c.as_slice-2.ensures.value
+    (c.in_ok-takes_place.ensures calls rules d i refl (left.shown_are ∙ sym c.as_slice-3.ensures.value) (bytes ∙ ap (λ (x : List ℕ). (take (keyword_end d) l.body ++ x) ++ l.ending) (sym left.bytes_are)))

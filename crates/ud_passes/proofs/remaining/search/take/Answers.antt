@@ -2,7 +2,7 @@
 use Rattle.std.proofs.Common.{arith}
 use Rattle.std.proofs.lemmas.Bool.{le-leb}
 use Rattle.ud_passes.proofs.ConditionLemmas.{taken_fitting, joins_fitting}
-use Rattle.ud_passes.proofs.remaining.search.take_by.Goals as goal
+use Rattle.ud_passes.proofs.remaining.search.take.Goals as goal
 
 pub returns-clause-taken : goal.returns-clause-taken
-returns-clause-taken g c = grind (arith, le-leb, taken_fitting, joins_fitting)
+returns-clause-taken c = grind (arith, le-leb, taken_fitting, joins_fitting)

@@ -6,7 +6,7 @@ use Rattle.ud_model.specs.text.LineViews.{as_scan}
 use Rattle.ud_model.specs.output.SimplifiedTexts.{has_condition}
 use Rattle.ud_model.specs.declared.kind.Kind.{Kind}
 use Rattle.ud_passes.specs.pruning.EditedLines.{is_meant}
-use Rattle.ud_passes.proofs.pruning.lines.reads_as.Goals as goal
+use Rattle.ud_passes.proofs.pruning.lines.is_meant.Goals as goal
 
 joined : (kind : Kind) (text : List ℕ) (s : Scan) → s.joins_after ≡ true → false ≡ is_meant kind text s
 joined kind text s e = ap (λ (b : Bool). not b && has_condition kind text (content_of s)) (sym e)
@@ -15,11 +15,11 @@ alone : (kind : Kind) (text : List ℕ) (s : Scan) → s.joins_after ≡ false �
 alone kind text s e = ap (λ (b : Bool). not b && has_condition kind text (content_of s)) (sym e)
 
 pub returns-then-scan : goal.returns-then-scan
-returns-then-scan g c =
-    joined c.args.kind c.args.text.now (as_scan c.read.result) c.if-scan.true ∙ ap (is_meant c.args.kind c.args.text.now) (c.read.ensures.value [] c.requires.new)
+returns-then-scan c =
+    joined c.args.kind c.args.text.now (as_scan c.in_ok-scan.scan) c.if-scan.true ∙ ap (is_meant c.args.kind c.args.text.now) (c.in_ok-scan.ensures.value [] c.growing-scanner.ensures)
 
 pub returns : goal.returns
-returns g c =
+returns c =
     c.is_condition.ensures ∙ ap (has_condition c.args.kind c.args.text.now) c.directive.ensures.value
-    ∙ alone c.args.kind c.args.text.now (as_scan c.read.result) c.if-scan.false
-    ∙ ap (is_meant c.args.kind c.args.text.now) (c.read.ensures.value [] c.requires.new)
+    ∙ alone c.args.kind c.args.text.now (as_scan c.in_ok-scan.scan) c.if-scan.false
+    ∙ ap (is_meant c.args.kind c.args.text.now) (c.in_ok-scan.ensures.value [] c.growing-scanner.ensures)

@@ -11,15 +11,15 @@ use Rattle.ud_model.specs.declared.limits.TheConstants.{LINE_BYTES}
 use Rattle.ud_cond.specs.CondViews.{as_rules}
 use Rattle.ud_passes.specs.pruning.EditedLines.{c_reading, IsScannedAlone, IsEditedTo}
 use Rattle.ud_passes.proofs.PassLemmas.{next_edited}
-use Rattle.ud_passes.proofs.pruning.texts.append_by.Goals as goal
+use Rattle.ud_passes.proofs.pruning.texts.append_line.Goals as goal
 
 pub returns-clause-pruned : goal.returns-clause-pruned
-returns-clause-pruned g c = λ calls h before r alone.
+returns-clause-pruned c = λ calls h before r alone.
     let rules = as_rules c.args.rules in
     let l : Line = as_line c.args.line.now in
-    let scan : as_scan c.read.result ≡ scan_after before C l = c.read.ensures.value before r in
+    let scan : as_scan c.in_ok-scan.scan ≡ scan_after before C l = c.in_ok-scan.ensures.value before r in
     let i = c.in_ok-edited.ensures calls h (subst (λ (s : Scan). IsScannedAlone s l) (sym scan) alone) in
     let j : IsEditedTo c.in_ok-edited.edited (text_of (simplified_line calls rules (next_reading before C l))) l c.as_slice.result.now =
     subst (λ (s : Scan). IsEditedTo c.in_ok-edited.edited (text_of (simplified_line calls rules (c_reading l s))) l c.as_slice.result.now) scan
-    (subst (λ (x : List ℕ). IsEditedTo c.in_ok-edited.edited (text_of (simplified_line calls rules (c_reading l (as_scan c.read.result)))) l x) (sym c.as_slice.ensures.value) i) in
+    (subst (λ (x : List ℕ). IsEditedTo c.in_ok-edited.edited (text_of (simplified_line calls rules (c_reading l (as_scan c.in_ok-scan.scan)))) l x) (sym c.as_slice.ensures.value) i) in
     next_edited calls rules (next_reading before C l) c.in_ok-edited.edited c.as_slice.result.now c.args.out.now.items c.append_either.new.out.items (le-leb (length (text_of l)) LINE_BYTES c.requires.fits) j c.in_ok-append_either.ensures.bytes

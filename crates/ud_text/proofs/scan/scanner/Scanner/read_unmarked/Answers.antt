@@ -2,7 +2,7 @@
 use Rattle.std.proofs.Common.{length, ◌∙◌, sym, refl}
 use Rattle.ud_model.specs.text.LineViews.{as_line}
 use Rattle.ud_text.proofs.lemmas.scan.UnmarkedLemmas.{unmarked_stays, unmarked_scan_of}
-use Rattle.ud_text.proofs.scan.scanner.ScannerOf.read_unmarked.Goals as goal
+use Rattle.ud_text.proofs.scan.scanner.Scanner.read_unmarked.Goals as goal
 
 pub returns-clause-represents : goal.returns-clause-represents
 returns-clause-represents g c =
