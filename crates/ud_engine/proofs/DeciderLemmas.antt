@@ -14,6 +14,7 @@ use Rattle.ud_faults.specs.declared.sections.SectionFault.{SectionFault}
 use Rattle.ud_sections.specs.declared.sections.step.Span.{Span}
 use Rattle.ud_sections.specs.declared.sections.step.Step.{Step}
 use Rattle.ud_sections.specs.sections.MachineState.{MachineRepresents, StepsLine, machine_fault}
+use Rattle.ud_sections.specs.sections.StepViews.{KeywordIsWithin}
 use Rattle.ud_sections.proofs.lemmas.sections.NextLemmas.{readings_more}
 use Rattle.ud_engine.specs.declared.line_decider.LineDecider.{LineDecider as TheReader}
 use Rattle.ud_engine.specs.DecidedLines.{DeciderRepresents, DecidesLine, DecidesNext, DecidesAs}
@@ -48,8 +49,10 @@ second P Q (Err f) h = tt
 -- A step or a fault, as a verdict and the span of the keyword.
 pub as_verdict : (symbols : List Argument) (r new : TheReader) (l : Line) (decided : Result Step
     SectionFault) (verdict : Option Verdict) (keyword : Span) →
-    DecidesNext symbols r new l decided → IfErr decided (λ f. machine_fault new.machine ≡ Some f) →
+    DecidesNext symbols r new l decided →
+    IfOk decided (λ s. KeywordIsWithin s.verdict s.keyword l.body) →
+    IfErr decided (λ f. machine_fault new.machine ≡ Some f) →
     IfOk decided (λ s. (verdict ≡ Some s.verdict) × (keyword ≡ s.keyword)) →
     OnErr decided (verdict ≡ None) → DecidesAs symbols r new l keyword verdict
-as_verdict symbols r new l (Ok s) verdict keyword h fault (v, k) none = rw (v, k) h
-as_verdict symbols r new l (Err f) verdict keyword h fault ok none = rw none (f, fault, h)
+as_verdict symbols r new l (Ok s) verdict keyword h i fault (v, k) none = rw (v, k) (h, i)
+as_verdict symbols r new l (Err f) verdict keyword h i fault ok none = rw none (f, fault, h)

@@ -5,14 +5,15 @@
 --   DecidesLine o r xs t l step       it has also read this line
 --   DecidesNext symbols r new l result   it did, whatever it had read, or the line is faulty
 --   line_with body ending number      the line of these parts
+--   CanBeDecided l                    a line within the limits
 --   DecidesAs symbols r new l keyword verdict   `DecidesNext`, by a verdict and the keyword's span
 --   consumed lines bytes              a line buffer once these bytes are consumed
 --   AreText xs                        these items are text lines
 --   DecidesBulk o r xs t ls verdict   a decider has also read these text lines
 --   DecidesText r new lines bytes     it did, whatever it had read
 use Rattle.std.specs.Prelude.{◌≡◌, ℕ, suc, ◌+◌, List, [], ◌∷◌, ◌++◌, length, map, Option}
-use Rattle.std.specs.Prelude.{Some, None, Result, Ok, Err, MatchResult}
-use Rattle.ud_model.specs.text.Lines.{Line, whole_lines, numbered_from}
+use Rattle.std.specs.Prelude.{Some, None, Result, Ok, Err, MatchResult, IsTrue}
+use Rattle.ud_model.specs.text.Lines.{Line, NoNewline, is_ending, whole_lines, numbered_from}
 use Rattle.ud_model.specs.text.Scans.{Reading}
 use Rattle.ud_model.specs.sections.Directives.{text, content_of}
 use Rattle.ud_model.specs.sections.Faults.{FaultOf}
@@ -30,7 +31,8 @@ use Rattle.ud_text.specs.lines.LinesState.{LinesState}
 use Rattle.ud_sections.specs.sections.MachineState.{MachineRepresents, machine_fault}
 use Rattle.ud_sections.specs.sections.Transitions.{text_verdict}
 use Rattle.ud_sections.specs.printing.PrinterOutputs.{judged_text}
-use Rattle.ud_sections.specs.sections.StepViews.{as_span}
+use Rattle.ud_sections.specs.sections.Limits.{IsWithinLimits}
+use Rattle.ud_sections.specs.sections.StepViews.{as_span, KeywordIsWithin}
 use Rattle.ud_sections.specs.declared.sections.step.Span.{Span}
 use Rattle.ud_sections.specs.declared.sections.step.Step.{Step}
 use Rattle.ud_sections.specs.declared.sections.machine.Machine.{Machine}
@@ -73,12 +75,20 @@ DecidesNext symbols r new l result =
 abbrev pub line_with : List ℕ → List ℕ → ℕ → Line
 line_with body ending number = record { body = body; ending = ending; number = number }
 
+-- `CanBeDecided l`: the line `l` is within the limits, and one line alone.
+pub record CanBeDecided (l : Line) : Type 0 where
+  pub within : IsWithinLimits l
+  pub one_line : NoNewline l.body
+  pub ended : IsTrue (is_ending l.ending)
+
 -- `DecidesAs symbols r new l keyword verdict`: `DecidesNext` with the step of this verdict, whose
--- keyword has this span; or with the fault that the machine of `new` has.
+-- keyword has this span, in the body if the directive is edited; or with the fault that the machine
+-- of `new` has.
 abbrev pub DecidesAs : List Argument → LineDecider → LineDecider → Line → Span → Option Verdict →
     Type 0
 DecidesAs symbols r new l keyword (Some verdict) =
-    DecidesNext symbols r new l (Ok (record { verdict = verdict; keyword = keyword }))
+    DecidesNext symbols r new l (Ok (record { verdict = verdict; keyword = keyword })) ×
+    KeywordIsWithin verdict keyword l.body
 DecidesAs symbols r new l keyword None =
     (f : SectionFault) × (machine_fault new.machine ≡ Some f) × DecidesNext symbols r new l (Err f)
 

@@ -3,8 +3,8 @@
 --   ListsMore o xs t l depths ..     the names of this line, as they are listed
 --   ListsLine o r xs t l depths ..   a decider has also read this line, and listed its names
 --   ListsNext .. r new l depths ..   it did, whatever it had read, or the line is faulty
---   ListsWith .. l depths ..         the same of the deciders of these scanners and machines
-use Rattle.std.specs.Prelude.{◌≡◌, ℕ, List, [], ◌∷◌, ◌++◌, Bool, Option, Result, MatchResult}
+--   ListsNames .. l depths ..        the same, and nothing was appended for a faulty line
+use Rattle.std.specs.Prelude.{◌≡◌, ℕ, List, [], ◌∷◌, ◌++◌, Bool, Option, Result, MatchResult, OnErr}
 use Rattle.ud_model.specs.text.Lines.{Line}
 use Rattle.ud_model.specs.text.Scans.{Reading}
 use Rattle.ud_model.specs.sections.Tree.{Item, Tree}
@@ -16,9 +16,7 @@ use Rattle.ud_model.specs.answer.Listing.{levels, listed}
 use Rattle.ud_faults.specs.Faults.{fault_of}
 use Rattle.ud_faults.specs.declared.sections.SectionFault.{SectionFault}
 use Rattle.ud_engine.specs.declared.line_decider.LineDecider.{LineDecider}
-use Rattle.ud_text.specs.scan.ScannerState.{ScannerState}
-use Rattle.ud_sections.specs.declared.sections.machine.Machine.{Machine}
-use Rattle.ud_engine.specs.DecidedLines.{DeciderRepresents, decider_of}
+use Rattle.ud_engine.specs.DecidedLines.{DeciderRepresents}
 use Rattle.ud_io.specs.Streams.{Stream, stream_of, TakesAllBut}
 use Rattle.ud_io.specs.Watched.{WatchedState}
 
@@ -54,11 +52,11 @@ ListsNext contents symbols r new l depths pending buffered left out out' result 
     buffered left pending)
     (λ f. FaultOf xs (next_item o xs t l) (fault_of f))
 
--- `ListsWith .. scanner scanner' m m' l depths pending buffered left out out' result`: `ListsNext`
--- of the decider of `scanner` and `m`, and of that of `scanner'` and `m'`.
-abbrev pub ListsWith : {W T : Type 0} → (W → Option (List ℕ)) → List Argument → ScannerState →
-    ScannerState → Machine → Machine → Line → Bool → List ℕ → List ℕ → List ℕ → WatchedState W →
-    WatchedState W → Result T SectionFault → Type 0
-ListsWith contents symbols scanner scanner' m m' l depths pending buffered left out out' result =
-    ListsNext contents symbols (decider_of scanner m) (decider_of scanner' m') l depths
-    pending buffered left out out' result
+-- `ListsNames contents symbols r new l depths depths' pending buffered left out out' result`:
+-- `ListsNext`. If `l` has a fault, nothing was appended. The lister stays.
+pub record ListsNames {W T : Type 0} (contents : W → Option (List ℕ)) (symbols : List Argument)
+    (r new : LineDecider) (l : Line) (depths depths' : Bool) (pending buffered left : List ℕ)
+    (out out' : WatchedState W) (result : Result T SectionFault) : Type 0 where
+  pub lists : ListsNext contents symbols r new l depths pending buffered left out out' result
+  pub unchanged : OnErr result ((out' ≡ out) × (left ≡ buffered))
+  pub stays : depths' ≡ depths

@@ -1,9 +1,9 @@
 //! Deciding lines, one after another, by a scanner and a machine.
 
 ghost use Rattle.std.specs.Prelude.{◌≡◌, ◌≤◌, ◌++◌, [], ℕ, List, length, take, IfOk};
-ghost use Rattle.std.specs.Prelude.{false, OnErr, IsTrue, IfSome, IfNone, IfErr, Some, None, true};
+ghost use Rattle.std.specs.Prelude.{false, OnErr, IfSome, IfNone, IfErr, Some, None, true};
 ghost use Rattle.std.specs.Prelude.{is_some, codes};
-ghost use Rattle.ud_model.specs.text.Lines.{NoNewline, is_ending};
+ghost use Rattle.ud_model.specs.text.Lines.{NoNewline};
 ghost use Rattle.ud_model.specs.text.Scans.{Reading};
 ghost use Rattle.ud_model.specs.sections.Tree.{Item, Tree, closed, nothing};
 ghost use Rattle.ud_model.specs.sections.Items.{Options};
@@ -14,12 +14,13 @@ ghost use Rattle.ud_model.specs.text.LineViews.{as_line};
 ghost use Rattle.ud_text.specs.bulk.BulkScanning.{AreWholeLines};
 ghost use Rattle.ud_text.specs.lines.Consuming.{CanConsume};
 ghost use Rattle.ud_sections.specs.sections.Limits.{IsWithinLimits};
-ghost use Rattle.ud_sections.specs.sections.StepViews.{HoldsKeyword, KeywordIsWithin};
+ghost use Rattle.ud_sections.specs.sections.StepViews.{HoldsKeyword};
 ghost use Rattle.ud_sections.specs.sections.MachineState.{end_fault_of, machine_fault};
 ghost use Rattle.ud_sections.specs.sections.Transitions.{text_policy_of};
 ghost use Rattle.ud_engine.specs.DecidedLines.{DeciderRepresents, DecidesNext, DecidesText};
-ghost use Rattle.ud_engine.specs.DecidedLines.{DecidesAs, consumed, decider_of, line_with};
-ghost use Rattle.ud_engine.specs.NameListing.{ListsNext, ListsWith};
+ghost use Rattle.ud_engine.specs.DecidedLines.{CanBeDecided, DecidesAs, consumed};
+ghost use Rattle.ud_engine.specs.DecidedLines.{decider_of, line_with};
+ghost use Rattle.ud_engine.specs.NameListing.{ListsNames};
 
 use crate::listing::append_names;
 use crate::output::Output;
@@ -87,11 +88,8 @@ impl LineDecider {
         symbols: &Symbols,
         keyword: &mut Span,
     ) -> Option<Verdict>
-        requires within { IsWithinLimits (as_line line.now) }
-        requires one_line { NoNewline line.now.body.now }
-        ensures decides { DecidesAs symbols.now self.old self.new (as_line line.now) keyword.new
-            result }
-        ensures cursor { IfSome result (λ v. KeywordIsWithin v keyword.new line.now.body.now) }
+        requires { CanBeDecided (as_line line.now) }
+        ensures { DecidesAs symbols.now self.old self.new (as_line line.now) keyword.new result }
     {
         if is_endif(line.body) {
             return self.decide_endif(line.ending, line.number, symbols, keyword);
@@ -112,11 +110,9 @@ impl LineDecider {
         symbols: &Symbols,
         keyword: &mut Span,
     ) -> Option<Verdict>
-        requires ended { IsTrue (is_ending ending.now) }
-        requires within { IsWithinLimits (line_with (codes "#endif") ending.now number) }
-        ensures decides { DecidesAs symbols.now self.old self.new
+        requires { CanBeDecided (line_with (codes "#endif") ending.now number) }
+        ensures { DecidesAs symbols.now self.old self.new
             (line_with (codes "#endif") ending.now number) keyword.new result }
-        ensures cursor { IfSome result (λ v. KeywordIsWithin v keyword.new (codes "#endif")) }
     {
         self.decide_parts(b"#endif", ending, number, symbols, keyword)
     }
@@ -130,11 +126,9 @@ impl LineDecider {
         symbols: &Symbols,
         keyword: &mut Span,
     ) -> Option<Verdict>
-        requires ended { IsTrue (is_ending ending.now) }
-        requires within { IsWithinLimits (line_with (codes "#else") ending.now number) }
-        ensures decides { DecidesAs symbols.now self.old self.new
+        requires { CanBeDecided (line_with (codes "#else") ending.now number) }
+        ensures { DecidesAs symbols.now self.old self.new
             (line_with (codes "#else") ending.now number) keyword.new result }
-        ensures cursor { IfSome result (λ v. KeywordIsWithin v keyword.new (codes "#else")) }
     {
         self.decide_parts(b"#else", ending, number, symbols, keyword)
     }
@@ -149,12 +143,9 @@ impl LineDecider {
         symbols: &Symbols,
         keyword: &mut Span,
     ) -> Option<Verdict>
-        requires ended { IsTrue (is_ending ending.now) }
-        requires within { IsWithinLimits (line_with body.now ending.now number) }
-        requires one_line { NoNewline body.now }
-        ensures decides { DecidesAs symbols.now self.old self.new
+        requires { CanBeDecided (line_with body.now ending.now number) }
+        ensures { DecidesAs symbols.now self.old self.new
             (line_with body.now ending.now number) keyword.new result }
-        ensures cursor { IfSome result (λ v. KeywordIsWithin v keyword.new body.now) }
     {
         self.decide_parts(body, ending, number, symbols, keyword)
     }
@@ -169,12 +160,9 @@ impl LineDecider {
         symbols: &Symbols,
         keyword: &mut Span,
     ) -> Option<Verdict>
-        requires ended { IsTrue (is_ending ending.now) }
-        requires within { IsWithinLimits (line_with body.now ending.now number) }
-        requires one_line { NoNewline body.now }
-        ensures decides { DecidesAs symbols.now self.old self.new
+        requires { CanBeDecided (line_with body.now ending.now number) }
+        ensures { DecidesAs symbols.now self.old self.new
             (line_with body.now ending.now number) keyword.new result }
-        ensures cursor { IfSome result (λ v. KeywordIsWithin v keyword.new body.now) }
     {
         let line = Line {
             body,
@@ -194,8 +182,7 @@ impl LineDecider {
         line: &Line<'_>,
         symbols: &Symbols,
     ) -> Option<Result<Step, SectionFault>>
-        requires within { IsWithinLimits (as_line line.now) }
-        requires one_line { NoNewline line.now.body.now }
+        requires { CanBeDecided (as_line line.now) }
         ensures decides { IfSome result (DecidesNext symbols.now self.old self.new
             (as_line line.now)) }
         ensures cursor { IfSome result (λ r. IfOk r (λ s. HoldsKeyword s line.now)) }
@@ -218,12 +205,9 @@ impl LineDecider {
         symbols: &Symbols,
         keyword: &mut Span,
     ) -> Option<Verdict>
-        requires ended { IsTrue (is_ending ending.now) }
-        requires within { IsWithinLimits (line_with body.now ending.now number) }
-        requires one_line { NoNewline body.now }
-        ensures decides { DecidesAs symbols.now self.old self.new
+        requires { CanBeDecided (line_with body.now ending.now number) }
+        ensures { DecidesAs symbols.now self.old self.new
             (line_with body.now ending.now number) keyword.new result }
-        ensures cursor { IfSome result (λ v. KeywordIsWithin v keyword.new body.now) }
     {
         let line = Line {
             body,
@@ -246,11 +230,8 @@ impl LineDecider {
         symbols: &Symbols,
         keyword: &mut Span,
     ) -> Option<Verdict>
-        requires within { IsWithinLimits (as_line line.now) }
-        requires one_line { NoNewline line.now.body.now }
-        ensures decides { DecidesAs symbols.now self.old self.new (as_line line.now) keyword.new
-            result }
-        ensures cursor { IfSome result (λ v. KeywordIsWithin v keyword.new line.now.body.now) }
+        requires { CanBeDecided (as_line line.now) }
+        ensures { DecidesAs symbols.now self.old self.new (as_line line.now) keyword.new result }
     {
         let mut scanner = Scanner::new();
         scanner.copy_state_of(&self.scanner);
@@ -288,14 +269,10 @@ impl LineDecider {
         output: &mut Output,
         out: &mut Watched<W>,
     ) -> Result<(), SectionFault>
-        requires ended { IsTrue (is_ending ending.now) }
-        requires within { IsWithinLimits (line_with body.now ending.now number) }
-        requires one_line { NoNewline body.now }
-        ensures lists { ListsNext W.contents symbols.now self.old self.new
-            (line_with body.now ending.now number) lister.old pending.now output.old output.new
-            out.old out.new result }
-        ensures unchanged { OnErr result ((out.new ≡ out.old) × (output.new ≡ output.old)) }
-        ensures stays { lister.new ≡ lister.old }
+        requires { CanBeDecided (line_with body.now ending.now number) }
+        ensures { ListsNames W.contents symbols.now self.old self.new
+            (line_with body.now ending.now number) lister.old lister.new pending.now
+            output.old output.new out.old out.new result }
     {
         let line = &Line {
             body,
@@ -332,12 +309,9 @@ impl LineDecider {
         output: &mut Output,
         out: &mut Watched<W>,
     ) -> Result<(), SectionFault>
-        requires within { IsWithinLimits (as_line line.now) }
-        requires one_line { NoNewline line.now.body.now }
-        ensures lists { ListsNext W.contents symbols.now self.old self.new (as_line line.now)
-            lister.old pending.now output.old output.new out.old out.new result }
-        ensures unchanged { OnErr result ((out.new ≡ out.old) × (output.new ≡ output.old)) }
-        ensures stays { lister.new ≡ lister.old }
+        requires { CanBeDecided (as_line line.now) }
+        ensures { ListsNames W.contents symbols.now self.old self.new (as_line line.now)
+            lister.old lister.new pending.now output.old output.new out.old out.new result }
     {
         if line.body.len() > SHORT_LINE_BYTES {
             return self.list_names_long(line, symbols, lister, pending, output, out);
@@ -365,12 +339,9 @@ impl LineDecider {
         output: &mut Output,
         out: &mut Watched<W>,
     ) -> Result<(), SectionFault>
-        requires within { IsWithinLimits (as_line line.now) }
-        requires one_line { NoNewline line.now.body.now }
-        ensures lists { ListsNext W.contents symbols.now self.old self.new (as_line line.now)
-            lister.old pending.now output.old output.new out.old out.new result }
-        ensures unchanged { OnErr result ((out.new ≡ out.old) × (output.new ≡ output.old)) }
-        ensures stays { lister.new ≡ lister.old }
+        requires { CanBeDecided (as_line line.now) }
+        ensures { ListsNames W.contents symbols.now self.old self.new (as_line line.now)
+            lister.old lister.new pending.now output.old output.new out.old out.new result }
     {
         let mut scanner = Scanner::new();
         scanner.copy_state_of(&self.scanner);
@@ -466,8 +437,7 @@ fn decide_with<H: LineBuffer>(
     symbols: &Symbols,
 ) -> Result<Step, SectionFault>
     requires fits { length line.now.body.now ≤ H.CAPACITY }
-    requires within { IsWithinLimits (as_line line.now) }
-    requires one_line { NoNewline line.now.body.now }
+    requires line { CanBeDecided (as_line line.now) }
     ensures decides { DecidesNext symbols.now (decider_of scanner.old machine.old)
         (decider_of scanner.new machine.new) (as_line line.now) result }
     ensures cursor { IfOk result (λ s. HoldsKeyword s line.now) }
@@ -510,12 +480,10 @@ fn list_names_with<H: LineBuffer, W: Write>(
     out: &mut Watched<W>,
 ) -> Result<(), SectionFault>
     requires fits { length line.now.body.now ≤ H.CAPACITY }
-    requires within { IsWithinLimits (as_line line.now) }
-    requires one_line { NoNewline line.now.body.now }
-    ensures lists { ListsWith W.contents symbols.now scanner.old scanner.new machine.old machine.new
-        (as_line line.now) lister.old pending.now output.old output.new out.old out.new result }
-    ensures unchanged { OnErr result ((out.new ≡ out.old) × (output.new ≡ output.old)) }
-    ensures stays { lister.new ≡ lister.old }
+    requires line { CanBeDecided (as_line line.now) }
+    ensures { ListsNames W.contents symbols.now (decider_of scanner.old machine.old)
+        (decider_of scanner.new machine.new) (as_line line.now) lister.old lister.new pending.now
+        output.old output.new out.old out.new result }
 {
     let mode = machine.mode();
     let scan = scanner.read(mode, line);

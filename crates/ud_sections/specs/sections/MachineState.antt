@@ -5,6 +5,7 @@
 --   StepsLine m o xs t l step       the machine has read `l` too, with this step
 --   StepsNext m new scan l table result    it did, whatever it had read
 --   FindsFault m scan l table result       an error is the fault of `l`
+--   IsMachineStep m new scan line table result   what a step is to its callers
 --   AreTextLines o mode xs rs       the lines `rs` after the items `xs` are text
 --   StepsText m o xs t rs verdict   the machine has read these text lines too
 --   StepsOverText m new last verdict       it did, whatever it had read
@@ -18,7 +19,7 @@
 --
 -- Example: a machine that has read only `#if X` has one open section, and that line wasn't text.
 use Rattle.std.specs.Prelude.{◌≡◌, ℕ, List, [], ◌∷◌, ◌++◌, map, Bool, true, Option, Some, None}
-use Rattle.std.specs.Prelude.{Result, Ok, Err, IfOk, IfErr}
+use Rattle.std.specs.Prelude.{Result, Ok, Err, IfOk, IfErr, OnOk, OnErr}
 use Rattle.ud_model.specs.text.Lines.{Line}
 use Rattle.ud_model.specs.text.Scans.{Scan, Reading}
 use Rattle.ud_model.specs.text.Scanning.{scan_after}
@@ -30,6 +31,8 @@ use Rattle.ud_model.specs.sections.Items.{Options, reading_of, mode_after, read_
 use Rattle.ud_model.specs.sections.Faults.{Fault, AreFaultless, FaultOf, last_number, ends_removed}
 use Rattle.ud_model.specs.sections.Faults.{ends_in_comment, end_fault}
 use Rattle.ud_model.specs.answer.Printing.{judged_line}
+use Rattle.ud_model.specs.text.LineViews.{as_line}
+use Rattle.ud_model.specs.declared.line.Line.{Line as TheLine}
 use Rattle.ud_model.specs.declared.kind.Mode.{Mode}
 use Rattle.ud_model.specs.declared.verdict.Verdict.{Verdict}
 use Rattle.ud_cond.specs.symbols.SymbolTable.{TableRepresents}
@@ -37,7 +40,7 @@ use Rattle.ud_faults.specs.Faults.{fault_of}
 use Rattle.ud_faults.specs.declared.sections.SectionFault.{SectionFault}
 use Rattle.ud_sections.specs.declared.sections.machine.Machine.{Machine}
 use Rattle.ud_sections.specs.declared.sections.step.Step.{Step}
-use Rattle.ud_sections.specs.sections.StepViews.{as_span}
+use Rattle.ud_sections.specs.sections.StepViews.{as_span, HoldsKeyword}
 use Rattle.ud_sections.specs.sections.OpenSections.{open_sections_of}
 use Rattle.ud_sections.specs.sections.Limits.{IsWithinLimits}
 
@@ -126,6 +129,21 @@ FindsFault m scan l table result =
     (o : Options) → (xs : List (Item Reading)) → (t : Tree Reading) →
     MachineRepresents m o xs t → ComesNext o xs t scan l table → machine_fault m ≡ None →
     IfErr result (λ f. FaultOf xs (next_item o xs t l) (fault_of f))
+
+-- `IsMachineStep m new scan line table result`: the machine `m` was given the next line, which has
+-- this scan, and is now `new`. If it stepped, it had no fault and has none, and the keyword of a
+-- directive that is edited is in the line. Else it has represented the lines before, and still
+-- does, and it has the fault: the one that it had, or that of the line.
+pub record IsMachineStep (m new : Machine) (scan : Scan) (line : TheLine) (table : List Argument)
+    (result : Result Step SectionFault) : Type 0 where
+  pub represents : StepsNext m new scan (as_line line) table result
+  pub finds_fault : FindsFault m scan (as_line line) table result
+  pub keyword_within : IfOk result (λ step. HoldsKeyword step line)
+  pub no_fault : OnOk result ((machine_fault m ≡ None) × (machine_fault new ≡ None))
+  pub records_fault : IfErr result (λ f. new ≡ machine_with_fault m f)
+  pub unchanged : OnErr result ((o : Options) → (xs : List (Item Reading)) → (t : Tree Reading) →
+      MachineRepresents m o xs t → MachineRepresents new o xs t)
+  pub fused : (f : SectionFault) → machine_fault m ≡ Some f → result ≡ Err f
 
 -- `HasEndFault m in_comment fault`: whatever items `m` has read, if it has no fault, and
 -- `in_comment` is whether they end in a comment, then `fault` is that of the text's end.

@@ -6,8 +6,8 @@
 //! sections change. `specs/sections/MachineState.antt` defines what a machine represents: a list of
 //! lines and their tree.
 
-ghost use Rattle.std.specs.Prelude.{◌≡◌, ◌≤◌, ◌<◌, ◌+◌, [], List, length, IsTrue, IfOk, IfErr};
-ghost use Rattle.std.specs.Prelude.{OnOk, OnErr, None, Some, Ok};
+ghost use Rattle.std.specs.Prelude.{◌≡◌, ◌≤◌, ◌<◌, ◌+◌, [], List, length, IsTrue, IfOk};
+ghost use Rattle.std.specs.Prelude.{None, Some, Ok};
 ghost use Rattle.arrayvec.specs.ArrayVec.{array_vec_len};
 ghost use Rattle.ud_model.specs.text.Scans.{Reading};
 ghost use Rattle.ud_model.specs.sections.Tree.{Item, Tree, closed, nothing, depth};
@@ -19,7 +19,6 @@ ghost use Rattle.ud_sections.specs.directives.ParsedDirectives.{content_found};
 ghost use Rattle.ud_sections.specs.directives.ParsedDirectives.{IsWithinScan};
 ghost use Rattle.ud_sections.specs.sections.ClassifiedLines.{classified};
 ghost use Rattle.ud_sections.specs.sections.Limits.{IsWithinLimits};
-ghost use Rattle.ud_sections.specs.sections.StepViews.{HoldsKeyword};
 ghost use Rattle.ud_sections.specs.sections.StackOps.{applied, innermost_of};
 ghost use Rattle.ud_model.specs.sections.Pruning.{is_removed};
 ghost use Rattle.ud_sections.specs.sections.Checking.{opens_section};
@@ -62,10 +61,10 @@ pub struct Machine {
 }
 
 impl Machine {
-    ghost use Rattle.ud_sections.specs.sections.MachineState.{MachineRepresents, StepsNext};
-    ghost use Rattle.ud_sections.specs.sections.MachineState.{FindsFault, StepsOverText};
+    ghost use Rattle.ud_sections.specs.sections.MachineState.{MachineRepresents, IsMachineStep};
+    ghost use Rattle.ud_sections.specs.sections.MachineState.{StepsOverText};
     ghost use Rattle.ud_sections.specs.sections.MachineState.{HasEndFault, end_fault_of};
-    ghost use Rattle.ud_sections.specs.sections.MachineState.{machine_fault, machine_with_fault};
+    ghost use Rattle.ud_sections.specs.sections.MachineState.{machine_fault};
     ghost use Rattle.ud_sections.specs.sections.Transitions.{IsTransition};
     ghost use Rattle.ud_sections.specs.sections.Transitions.{text_verdict};
     ghost use Rattle.ud_sections.specs.sections.Transitions.{text_policy_of, transition_of};
@@ -155,18 +154,7 @@ impl Machine {
     ) -> Result<Step, SectionFault>
         requires fits { length scan.now.masked.now ≤ length line.now.body.now }
         requires within { IsWithinLimits (as_line line.now) }
-        ensures represents { StepsNext self.old self.new (as_scan scan.now) (as_line line.now)
-            symbols.now result }
-        ensures finds_fault { FindsFault self.old (as_scan scan.now) (as_line line.now)
-            symbols.now result }
-        ensures keyword_within { IfOk result (λ step. HoldsKeyword step line.now) }
-        ensures no_fault { OnOk result ((machine_fault self.old ≡ None) ×
-            (machine_fault self.new ≡ None)) }
-        ensures records_fault { IfErr result (λ f. self.new ≡ machine_with_fault self.old f) }
-        ensures unchanged { OnErr result ((o : Options) → (xs : List (Item Reading)) →
-            (t : Tree Reading) →
-            MachineRepresents self.old o xs t → MachineRepresents self.new o xs t) }
-        ensures fused { (f : SectionFault) → machine_fault self.old ≡ Some f → result ≡ Err f }
+        ensures { IsMachineStep self.old self.new (as_scan scan.now) line.now symbols.now result }
     {
         self.step_by(scan, directive(scan), line, symbols)
     }
@@ -188,18 +176,7 @@ impl Machine {
         requires within { IsWithinLimits (as_line line.now) }
         requires content { content_found content ≡ content_of (as_scan scan.now) }
         requires keyword { IsWithinScan content (length scan.now.masked.now) }
-        ensures represents { StepsNext self.old self.new (as_scan scan.now) (as_line line.now)
-            symbols.now result }
-        ensures finds_fault { FindsFault self.old (as_scan scan.now) (as_line line.now)
-            symbols.now result }
-        ensures keyword_within { IfOk result (λ step. HoldsKeyword step line.now) }
-        ensures no_fault { OnOk result ((machine_fault self.old ≡ None) ×
-            (machine_fault self.new ≡ None)) }
-        ensures records_fault { IfErr result (λ f. self.new ≡ machine_with_fault self.old f) }
-        ensures unchanged { OnErr result ((o : Options) → (xs : List (Item Reading)) →
-            (t : Tree Reading) →
-            MachineRepresents self.old o xs t → MachineRepresents self.new o xs t) }
-        ensures fused { (f : SectionFault) → machine_fault self.old ≡ Some f → result ≡ Err f }
+        ensures { IsMachineStep self.old self.new (as_scan scan.now) line.now symbols.now result }
     {
         if let Some(fault) = self.fault {
             return Err(fault);

@@ -26,7 +26,6 @@ ghost use Rattle.ud_text.specs.scan.ScannerState.{ReadsNext, IsNextScan, StaysAf
 ghost use Rattle.ud_text.specs.scan.ScanBorrows.{ScansLine};
 ghost use Rattle.ud_text.specs.bulk.BulkScanning.{AreWholeLines, SkipsText};
 ghost use Rattle.ud_text.specs.bulk.BulkStates.{can_start, continues_line};
-ghost use Rattle.ud_model.specs.text.Scanning.{is_block};
 
 use crate::bulk::plain::plain_text_len;
 use crate::bulk::skip_text_lines;

@@ -5,8 +5,8 @@ use Rattle.ud_engine.specs.DecidedLines.{DecidesNext, decider_of}
 use Rattle.ud_engine.proofs.DeciderLemmas.{as_verdict}
 use Rattle.ud_engine.proofs.line_decider.LineDecider.decide_long.Goals as goal
 
-pub returns-clause-decides : goal.returns-clause-decides
-returns-clause-decides c =
+pub returns : goal.returns
+returns c =
     let machine = c.decide_with-decided.new.machine in
     let next = λ (before after : ScannerState). DecidesNext c.args.symbols.now (decider_of before
     c.args.self.now.machine) (decider_of after machine) (as_line c.args.line.now)
@@ -16,4 +16,4 @@ returns-clause-decides c =
     (subst (λ s. next s c.copy_state_of-2.new.self) c.copy_state_of.ensures
     (subst (λ s. next c.copy_state_of.new.self s) (sym c.copy_state_of-2.ensures)
     c.decide_with-decided.ensures.decides))
-    c.decide_with-decided.ensures.fault c.verdict_of.ensures.ok c.verdict_of.ensures.err
+    c.decide_with-decided.ensures.cursor c.decide_with-decided.ensures.fault c.verdict_of.ensures.ok c.verdict_of.ensures.err

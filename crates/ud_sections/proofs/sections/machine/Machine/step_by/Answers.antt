@@ -8,25 +8,49 @@ use Rattle.ud_sections.proofs.lemmas.sections.MachineLemmas.{reads_line}
 use Rattle.ud_sections.proofs.sections.machine.Machine.step_by.Goals as goal
 
 -- a line that is certainly text, without a look at its keyword
-pub returns-in-Ok-None-clause-represents : goal.returns-in-Ok-None-clause-represents
-returns-in-Ok-None-clause-represents c = λ o xs t h next.
-    let found : content_found c.args.content ≡ text = search rules in
-    let reported = text_turn c.args.self.now o (as_scan c.args.scan.now) (as_line c.args.line.now) (sym c.requires.content ∙ found) in
-    let same = ap (λ m. m.open_sections.items) c.note_text.ensures.rest in
-    rw c.note_text.ensures.value
-    (reads_line c.args.self.now _ o xs t (as_line c.args.line.now) _ h
-    (turns_well c.args.self.now o xs t (as_scan c.args.scan.now) (as_line c.args.line.now) c.args.symbols.now h next c.requires.within c.note_text.ensures.fits _ reported)
-    (ap (λ m. m.settings) c.note_text.ensures.rest) same
-    (ap (λ m. m.removed) c.note_text.ensures.rest ∙ ap is_removed c.note_text.ensures.value) (ap (λ m. m.last) c.note_text.ensures.rest))
+pub returns-in-Ok-None : goal.returns-in-Ok-None
+returns-in-Ok-None c = record {
+  represents = λ o xs t h next.
+      let found : content_found c.args.content ≡ text = search rules in
+      let reported = text_turn c.args.self.now o (as_scan c.args.scan.now) (as_line c.args.line.now) (sym c.requires.content ∙ found) in
+      let same = ap (λ m. m.open_sections.items) c.note_text.ensures.rest in
+      rw c.note_text.ensures.value
+      (reads_line c.args.self.now _ o xs t (as_line c.args.line.now) _ h
+      (turns_well c.args.self.now o xs t (as_scan c.args.scan.now) (as_line c.args.line.now) c.args.symbols.now h next c.requires.within c.note_text.ensures.fits _ reported)
+      (ap (λ m. m.settings) c.note_text.ensures.rest) same
+      (ap (λ m. m.removed) c.note_text.ensures.rest ∙ ap is_removed c.note_text.ensures.value) (ap (λ m. m.last) c.note_text.ensures.rest));
+  finds_fault = search rules;
+  keyword_within = search rules;
+  no_fault = search rules;
+  records_fault = search rules;
+  unchanged = search rules;
+  fused = search rules;
+}
 
-pub returns-in-Ok-clause-represents : goal.returns-in-Ok-clause-represents
-returns-in-Ok-clause-represents c = λ o xs t h next.
-    reads_line c.args.self.now _ o xs t (as_line c.args.line.now) c.in-Ok.next h
-    (turns_well c.args.self.now o xs t (as_scan c.args.scan.now) (as_line c.args.line.now) c.args.symbols.now h next c.requires.within c.transition.ensures.fits
-    c.in-Ok.next (sym (c.in-Ok.ensures.value o.table next.represents)))
-    refl c.apply.ensures c.is_removed-self.ensures refl
+pub returns-in-Ok : goal.returns-in-Ok
+returns-in-Ok c = record {
+  represents = λ o xs t h next.
+      reads_line c.args.self.now _ o xs t (as_line c.args.line.now) c.in-Ok.next h
+      (turns_well c.args.self.now o xs t (as_scan c.args.scan.now) (as_line c.args.line.now) c.args.symbols.now h next c.requires.within c.transition.ensures.fits
+      c.in-Ok.next (sym (c.in-Ok.ensures.value o.table next.represents)))
+      refl c.apply.ensures c.is_removed-self.ensures refl;
+  finds_fault = search rules;
+  keyword_within = search rules;
+  no_fault = search rules;
+  records_fault = search rules;
+  unchanged = search rules;
+  fused = search rules;
+}
 
-pub returns-in-Err-clause-finds_fault : goal.returns-in-Err-clause-finds_fault
-returns-in-Err-clause-finds_fault c = λ o xs t h next none.
-    turns_ill c.args.self.now o xs t (as_scan c.args.scan.now) (as_line c.args.line.now) c.args.symbols.now h next c.requires.within c.transition.ensures.fits
-    c.in-Err.fault (sym (c.in-Err.ensures.value o.table next.represents))
+pub returns-in-Err : goal.returns-in-Err
+returns-in-Err c = record {
+  represents = search rules;
+  finds_fault = λ o xs t h next none.
+      turns_ill c.args.self.now o xs t (as_scan c.args.scan.now) (as_line c.args.line.now) c.args.symbols.now h next c.requires.within c.transition.ensures.fits
+      c.in-Err.fault (sym (c.in-Err.ensures.value o.table next.represents));
+  keyword_within = search rules;
+  no_fault = search rules;
+  records_fault = search rules;
+  unchanged = search rules;
+  fused = search rules;
+}
