@@ -30,6 +30,7 @@ pub mod ProcessedAnswers
 pub mod ProcessedOnce
 pub mod Each
 pub mod EachLines
+pub mod WovenTrees
 pub mod PrunedLines
 pub mod ByLength
 pub mod Changed

@@ -18,7 +18,8 @@ use Rattle.ud_model.proofs.output.Each.{Each, each_both}
 use Rattle.ud_model.proofs.output.Heeding.{ReadIn, none_read, one_read, the_mode, Heeds, item_heeds, one_mode, are_read}
 use Rattle.ud_model.proofs.output.CountedText.{counted_text}
 use Rattle.ud_model.proofs.output.ListComplete.{read_more}
-use Rattle.ud_model.proofs.output.InsertedTree.{items, Strewn, strewn_counted, Nodesof, weave_nodes}
+use Rattle.ud_model.proofs.output.InsertedTree.{items, Inserted, strewn_counted, weave_inserted}
+use Rattle.ud_model.proofs.output.WovenTrees.{Woven}
 
 -- The readings of items are those from which they come.
 pub readings_back : (o : Options) (rs : List Reading) → map reading_of (items o rs) ≡ rs
@@ -64,12 +65,12 @@ inserted_in_text o p b n some input {r = r} {s = s} run other us a =
     let zs : List (Item Reading) = items o (read_as m s.output) in
     let first : lines_of_nodes us ≡ items o (read_as m r.output) =
     read_lines a.read ∙ items_are o p.none_ignores a.read ∙ ap (λ (ls : List Line). items o (read_in m ls)) (sym a.are) in
-    let w : Nodesof us zs = weave_nodes us zs (subst (λ (ys : List (Item Reading)). Strewn ys zs) (sym first) (strewn_counted o c.1)) in (
+    let w : Woven NodesWithInserted us zs = weave_inserted us zs (subst (λ (ys : List (Item Reading)). Inserted ys zs) (sym first) (strewn_counted o c.1)) in (
       w.nodes,
       record {
         items = zs;
         read = are_read o p.none_ignores zs (read_items o m (lines_of s.output) (by_push (lines_of s.output))) (closed w.nodes) w.lines;
         are = sym (lines_back o m (lines_of s.output) (by_push (lines_of s.output)));
       },
-      w.inserted,
+      w.alike,
     )

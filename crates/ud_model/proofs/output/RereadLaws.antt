@@ -32,7 +32,7 @@ use Rattle.ud_model.proofs.output.ReachedAlike.{reached_alike}
 use Rattle.ud_model.proofs.output.WorldsExist.{world_of}
 use Rattle.ud_model.proofs.output.EachLines.{other_lines}
 use Rattle.ud_model.proofs.output.PrunedOpeners.{KeepsCondition, Keeps, pruned_keeps}
-use Rattle.ud_model.proofs.output.TreeAlong.{AlongNodes, nodes_along}
+use Rattle.ud_model.proofs.output.TreeAlong.{nodes_along}
 use Rattle.ud_model.proofs.output.Undecided.{Stays, pruned_undecided, undecided_stay}
 use Rattle.ud_model.proofs.output.Each.{Each, Pairwise}
 use Rattle.ud_model.proofs.output.Sizes.{whole}
@@ -112,10 +112,10 @@ module _ (o : Options) (p : IsPlain o) (input : List ℕ) where
       let z : (ys : List (Item Reading)) × Again o (the_mode o) xs t ys = again o p xs t g.sound (subst AllButLast g.are (lines_end 1 (texts_of input) (lines_exist input).formed)) in
       let left : printed xs (marks t) ≡ lines_of_nodes (folded ns) =
       ap₂ (λ (ys : List (Item Reading)) (u : Tree Reading). printed ys (marks u)) (sym (sound_lines g.sound) ∙ ap (λ (u : Tree Reading). lines u) same) same ∙ printed-pruned ns in
-      let along : AlongNodes left_seen scanned (folded ns) z.0 =
+      let along =
       nodes_along left_seen scanned (folded ns) z.0 (z.1.same ∙ ap (λ (l : List (Item (Edited Reading))). map (item_with left_seen) l) left) in
-      let bytes : with_lines line_bytes along.tree ≡ with_lines edited_bytes (folded ns) =
-      sym (with_lines-twice scanned (λ (q : Seen). q.bytes) along.tree) ∙ ap (λ (m : Nodes Seen). with_lines (λ (q : Seen). q.bytes) m) along.same
+      let bytes : with_lines line_bytes along.nodes ≡ with_lines edited_bytes (folded ns) =
+      sym (with_lines-twice scanned (λ (q : Seen). q.bytes) along.nodes) ∙ ap (λ (m : Nodes Seen). with_lines (λ (q : Seen). q.bytes) m) along.alike
       ∙ with_lines-twice left_seen (λ (q : Seen). q.bytes) (folded ns) in
       let formed : AreFormed (map left_piece (printed xs (marks t))) =
       subst (λ (u : Tree Reading). AreFormed (map left_piece (printed xs (marks u)))) (sym same)
@@ -123,18 +123,18 @@ module _ (o : Options) (p : IsPlain o) (input : List ℕ) where
       let out : output_by o.settings.listing o.settings xs t ≡ concat (map left_piece (printed xs (marks t))) =
       ap (λ (q : Listing). output_by q o.settings xs t) p.unlisted ∙ plain_output o p xs (marks t) in
       record {
-        tree = along.tree;
+        tree = along.nodes;
         is_tree = record {
           items = z.0;
-          read = are_read o p.none_ignores z.0 z.1.read (closed along.tree) along.are;
+          read = are_read o p.none_ignores z.0 z.1.read (closed along.nodes) along.lines;
           are = ap lines_of out ∙ output_lines (map left_piece (printed xs (marks t))) formed
               ∙ ap (λ (l : List (List ℕ)). numbered_from 1 l) (sym (item_bytes z.0 (printed xs (marks t)) z.1.same)) ∙ sym z.1.numbered;
         };
-        alike = along.same;
+        alike = along.alike;
         same = bytes;
         uncut = z.1.uncut;
         few = again_few o (the_mode o) xs t z.0 z.1 (sound_few o xs t (texts_of input) g.sound (sym g.are));
-        low = low_left along.tree ns bytes (subst (λ (u : Tree Reading). height u ≤ OPEN_SECTIONS) same (sound_low o xs t g.sound));
+        low = low_left along.nodes ns bytes (subst (λ (u : Tree Reading). height u ≤ OPEN_SECTIONS) same (sound_low o xs t g.sound));
         calm = z.1.ends (end_parts (ends_in_comment xs) (last_number xs) (innermost t) e).0;
       }
 
