@@ -1,16 +1,13 @@
 -- A run whose status isn't 2: nothing failed.
-use Rattle.std.proofs.Common.{◌≡◌, ℕ, ◌+◌, ◌<◌, ◌≤◌, ◌^◌, List, [], length, Bool, true, false, inl, inr, refl, subst, arith}
+use Rattle.std.proofs.Common.{◌≡◌, ℕ, ◌+◌, ◌<◌, ◌≤◌, ◌^◌, List, [], length, Bool, true, false, inl, inr, refl, arith}
 use Rattle.std.proofs.lemmas.Grind.{common_steps}
 use Rattle.ud_model.specs.declared.settings.ExitMode.{ExitMode}
 use Rattle.ud_tree.specs.declared.arguments.Task.{Task}
 use Rattle.ud_tree.specs.Messages.{output_messages}
 use Rattle.ud_tree.specs.Statuses.{tree_status}
-use Rattle.ud_tree.specs.Streams.{Source, ReadsWhole, TakesInput}
 use Rattle.ud_tree.proofs.DoneLemmas.{all_unfailed}
-use Rattle.ud_tree.specs.Runs.{EachFile, changed_in, names_of}
-use Rattle.ud_tree.specs.TreeRuns.{DoesOne, Run, IsRun, IsClean}
-use Rattle.ud_tree.specs.WalkMessages.{WalkTells}
-use Rattle.ud_tree.specs.declared.walk.Found.{Found}
+use Rattle.ud_tree.specs.Runs.{changed_in}
+use Rattle.ud_tree.specs.TreeRuns.{Run, IsRun, IsClean}
 
 -- The status is 2 if there is a fault, or if the error stream has failed.
 none_by_status : (task : Task) (mode : ExitMode) (unheard : Bool) (faults changed status : ℕ) → status ≡ tree_status task mode unheard faults changed → ¬ (status ≡ 2) → (faults ≡ 0) × (unheard ≡ false)
@@ -31,10 +28,6 @@ at_most_two false false = omega arith
 none_of : (messages : List (List ℕ)) → length messages ≡ 0 → messages ≡ []
 none_of messages is = grind (arith, common_steps)
 
--- If paths come from the input, it was read whole.
-whole_input : {from_input : Bool} {given left : Source} {text : List ℕ} → TakesInput from_input given left text → from_input ≡ true → ReadsWhole given left text
-whole_input h is = grind arith
-
 -- A run whose status isn't 2 found files, and nothing failed.
 pub run_clean : (run : Run) → ¬ (run.ending.status ≡ 2) → length run.messages + 2 < 2 ^ 64 →
     IsRun run → IsClean run
@@ -48,20 +41,11 @@ run_clean run other few (inr h) =
     let most : length (output_messages e.is_lost failed) ≤ 2 = at_most_two e.is_lost failed in
     let sum = s.faults_are (omega (arith, few, most, s.reported, none.0)) in
     let works : failed ≡ false = unfailed e.is_lost failed (omega (arith, sum, none.0)) in
-    let quiet : run.messages ≡ [] = none_of run.messages (omega (arith, sum, none.0)) in
     record {
-      mid = h.mid;
-      files = h.files;
-      results = e.does.results;
-      is_walk = h.is_walk;
-      untold = subst (λ (m : List (List ℕ)). WalkTells run.old h.mid m) quiet h.walk;
-      text = h.text;
-      misses = h.misses;
-      no_message = quiet;
-      each = subst (λ (fs : List Found). EachFile (DoesOne run.args) h.mid (names_of fs) run.new e.does.results)
-          (all_unfailed e.does.is_done works) e.does.each;
+      processes = h;
+      no_message = none_of run.messages (omega (arith, sum, none.0));
+      all_done = all_unfailed e.does.is_done works;
       faultless = omega (arith, s.reported, none.0);
-      whole = λ is. (h.text, whole_input h.takes is);
       unfailed = works;
       flushed = s.flushed works;
       heard = none.1;

@@ -50,7 +50,7 @@ use Rattle.ud_tree.specs.Runs.{outputs_of, nothing_listed}
 use Rattle.ud_tree.specs.Runs.{changed_in, same_in, faulty_in, edited_in, removed_in, names_of}
 use Rattle.ud_tree.specs.Shown.{ShowsOne, ListsOne}
 use Rattle.ud_tree.specs.Messages.{output_messages}
-use Rattle.ud_tree.specs.Streams.{StreamEnds, ends_of, Source, TakesInput, ReadsWhole}
+use Rattle.ud_tree.specs.Streams.{StreamEnds, ends_of, Source, TakesInput}
 use Rattle.ud_io.specs.Streams.{Sends, stream_of}
 use Rattle.ud_io.specs.Watched.{WatchedState}
 use Rattle.ud_tree.specs.Summaries.{last_lines, EndsWith}
@@ -266,22 +266,14 @@ pub record ProcessesFiles (run : Run) : Type 0 where
 abbrev pub IsRun : Run → Type 0
 IsRun run = StopsEarly run ⊎ ProcessesFiles run
 
--- `IsClean run`: if paths come from the input, it was read whole. A whole walk missed none of the
--- paths and has no message, and none of its files has an error. The output hasn't failed and is
--- flushed, and the error stream hasn't failed.
+-- `IsClean run`: the walk has no message, so none of its calls failed. Each file that it found was
+-- processed, and none has an error. The output hasn't failed and is flushed, and the error stream
+-- hasn't failed.
 pub record IsClean (run : Run) : Type 0 where
-  pub mid : List Call
-  pub files : List Found
-  pub results : List FileResult
-  pub is_walk : IsWalk run.old mid files
-  pub untold : WalkTells run.old mid []
-  pub text : List ℕ
-  pub misses : MissesNone run.args text run.old mid (StandsIn files) (0 < length run.messages)
+  pub processes : ProcessesFiles run
   pub no_message : run.messages ≡ []
-  pub each : EachFile (DoesOne run.args) mid (names_of files) run.new results
-  pub faultless : faulty_in results ≡ 0
-  pub whole : run.args.from_input ≡ true →
-      (text : List ℕ) × ReadsWhole run.given run.left text
+  pub all_done : processes.ends.does.done ≡ processes.files
+  pub faultless : faulty_in processes.ends.does.results ≡ 0
   pub unfailed : run.ending.streams.failed ≡ false
   pub flushed : run.ending.streams.unflushed ≡ false
   pub heard : run.ending.streams.unheard ≡ false
