@@ -210,4 +210,3 @@ fn report_remaining<E: Write>(arguments: &Arguments, report: &mut Report, err: &
     }
     report.line(err, &[number, text, b"; -r lists them"]);
 }
-

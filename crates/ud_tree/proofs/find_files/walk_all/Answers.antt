@@ -46,9 +46,9 @@ returns-clause-goes_on g c = goes_then c.loop-path.invariant.0 c.go.ensures.goes
 pub returns-clause-walks : goal.returns-clause-walks
 returns-clause-walks g c = record {
   takes = λ all.
-    paths_covered c.args.job.now.arguments.now c.if-job.false
-    (covers_paths (λ p. string_bytes p) c.as_slice-path-items.result.now c.loop-path.path-index (omega arith) (λ some. omega (arith, some, c.faulty.ensures, c.if-faulty-gt0.false)) c.loop-path.invariant.1 c.in_ok-go.ensures.exhausts
-    c.in_ok-go.ensures.catches.grows.stay (catches_then c.loop-path.invariant.2 c.in_ok-go.ensures.catches) _ (ap (map string_bytes) c.requires))
-    c.as_slice-path-items.ensures.value;
+      paths_covered c.args.job.now.arguments.now c.if-job.false
+      (covers_paths (λ p. string_bytes p) c.as_slice-path-items.result.now c.loop-path.path-index (omega arith) (λ some. omega (arith, some, c.faulty.ensures, c.if-faulty-gt0.false)) c.loop-path.invariant.1 c.in_ok-go.ensures.exhausts
+      c.in_ok-go.ensures.catches.grows.stay (catches_then c.loop-path.invariant.2 c.in_ok-go.ensures.catches) _ (ap (map string_bytes) c.requires))
+      c.as_slice-path-items.ensures.value;
   stops = λ is. cc;
 }

@@ -28,8 +28,8 @@ pub returns-in_err-visit-clause-goes_on : goal.returns-in_err-visit-clause-goes_
 returns-in_err-visit-clause-goes_on g c = record {
   finds = finds_then c.loop-name.invariant.0 c.visit.ensures.finds;
   told = (walk_visited c.loop-name.invariant.2
-    (name_listed (λ n. n.items) c.as_slice-name-items.result.now c.loop-name.name-index c.name-item.result c.as_slice.result.now c.loop-name-test.true c.name-item.is c.as_slice.ensures.value)
-    c.visit.ensures.told).reports;
+      (name_listed (λ n. n.items) c.as_slice-name-items.result.now c.loop-name.name-index c.name-item.result c.as_slice.result.now c.loop-name-test.true c.name-item.is c.as_slice.ensures.value)
+      c.visit.ensures.told).reports;
 }
 
 pub returns-clause-goes_on : goal.returns-clause-goes_on

@@ -33,7 +33,7 @@ pub returns-in-Link-clause-goes_on : goal.returns-in-Link-clause-goes_on
 returns-in-Link-clause-goes_on g c = record {
   finds = finds_same c.add_folder-in-Link.ensures.found (finds_then (finds_call _ c.args.self.now.found.items c.node.ensures) (finds_call _ c.args.self.now.found.items c.leads_to_folder.ensures));
   told = walk_then (walk_met _ c.in-Present.node c.args.report.now (stream_of g.E.Write.contents c.args.err.now) c.in-Present.ensures)
-    (walk_followed _ _ c.args.report.now (stream_of g.E.Write.contents c.args.err.now) c.leads_to_folder.ensures);
+      (walk_followed _ _ c.args.report.now (stream_of g.E.Write.contents c.args.err.now) c.leads_to_folder.ensures);
 }
 
 pub returns-in-Link-2-clause-goes_on : goal.returns-in-Link-2-clause-goes_on
