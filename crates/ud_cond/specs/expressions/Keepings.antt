@@ -7,10 +7,12 @@
 --   IsKept K k front x n    the part `x` is for `k`, after tokens with the flags `front`
 --   IsAt K ps x n (k, s)    the program has the part `x` for `k` after the frames `s`
 --   Represents K x ps n q   the program is in the state `q` of the parser
+--   ReadsToken K m s token ..   a token is read where an operand has to come
 use Rattle.std.specs.Prelude.{◌≡◌, ℕ, ◌+◌, List, [], ◌∷◌, ◌++◌, length, Option, Some, None, IfSome}
 use Rattle.std.specs.Prelude.{Bool, true, false}
 use Rattle.ud_model.specs.aids.Parsing.{Meaning, Frame, left, before, paren, ParseState, needs, has}
-use Rattle.ud_model.specs.aids.Parsing.{reads}
+use Rattle.ud_model.specs.aids.Parsing.{reads, step}
+use Rattle.ud_model.specs.conditions.Tokens.{Token}
 
 -- How a program keeps what is meant, `A`: by parts `P`, and by notes `N` on the tokens so far.
 pub record Keeping (A P N : Type 0) : Type 0 where
@@ -94,6 +96,12 @@ module _ {A P N : Type 0} (K : Keeping A P N) where
       List ℕ → Type 0
   ReadsOn m q text x ps n rest = (p : ParseState A) × Represents x ps n p ×
       (reads m q text ≡ reads m p rest)
+
+  -- `ReadsToken m s token text x ps n rest`: the same of the state after `token`, where an operand
+  -- has to come for the frames `s`
+  abbrev pub ReadsToken : Meaning A → List (Frame A) → Token → List ℕ → Option P →
+      List (Frame P) → N → List ℕ → Type 0
+  ReadsToken m s token = ReadsOn m (step m (needs s) token)
 
   -- `IsMeant m o x n`: `o` is something, for which the program has the part `x`
   abbrev pub IsMeant : Option A → P → N → Type 0

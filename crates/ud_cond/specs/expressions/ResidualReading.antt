@@ -8,7 +8,8 @@
 --   kept_of_tree table rules e   the record `Kept` of a tree
 --   part_of k n                  the program's part for `k`, whose flags begin at `n`
 --   kept_keeping                 how a program keeps such parts
-use Rattle.std.specs.Prelude.{ℕ, ◌+◌, suc, List, [], ◌∷◌, ◌++◌, length, replicate, Option}
+--   HasResidual table rules text r flags   the residual of a text: its condition, and its tokens
+use Rattle.std.specs.Prelude.{◌≡◌, ℕ, ◌+◌, suc, List, [], ◌∷◌, ◌++◌, length, replicate, Option}
 use Rattle.std.specs.Prelude.{Some, Bool, true, false, not, ◌&&◌, if◌then◌else◌, ℤ}
 use Rattle.ud_model.specs.conditions.Table.{Argument}
 use Rattle.ud_model.specs.conditions.Expressions.{Expression}
@@ -16,7 +17,7 @@ use Rattle.ud_model.specs.conditions.Conditions.{Rules, negate}
 use Rattle.ud_model.specs.conditions.Values.{name_value, apply_unary, apply_binary, number_of}
 use Rattle.ud_model.specs.conditions.Residuals.{is_unit, settled, stands_alone, residual}
 use Rattle.ud_model.specs.conditions.ResidualTexts.{keeps}
-use Rattle.ud_model.specs.aids.Parsing.{Meaning}
+use Rattle.ud_model.specs.aids.Parsing.{Meaning, expression_of}
 use Rattle.ud_model.specs.declared.cond.Cond.{Cond}
 use Rattle.ud_model.specs.declared.operator.Operator.{Operator}
 use Rattle.ud_model.specs.declared.operator.Operator.TheVariants.{Or, And, Not}
@@ -172,3 +173,9 @@ part_of k n = record {
 -- `kept_keeping`: a program keeps such parts, and notes the flags
 abbrev pub kept_keeping : Keeping Kept Part (List Bool)
 kept_keeping = record { part = part_of; flags = λ k. k.flags; notes = λ fs. Some fs }
+
+-- `HasResidual table rules text r flags`: `text` is an expression. Its residual has the condition
+-- `r`, and `flags` say which of the tokens it has.
+abbrev pub HasResidual : List Argument → Rules → List ℕ → Cond → List Bool → Type 0
+HasResidual table rules text r flags = (e : Expression) × (expression_of text ≡ Some e) ×
+    ((residual table rules e).cond ≡ r) × (flags ≡ keeps table rules e)

@@ -15,7 +15,7 @@ ghost use Rattle.ud_cond.specs.CondViews.{as_token};
 ghost use Rattle.ud_cond.specs.expressions.DefinedOperands as asking;
 ghost use Rattle.ud_cond.specs.expressions.Stacks.{weight, operand_weight};
 ghost use Rattle.ud_cond.specs.expressions.Keepings.{count, Noted, Awaits, IsAt, Represents};
-ghost use Rattle.ud_cond.specs.expressions.Keepings.{ReadsOn, IsMeant, tokens_asked};
+ghost use Rattle.ud_cond.specs.expressions.Keepings.{ReadsToken, IsMeant, tokens_asked};
 
 use crate::expressions::keeper::Keeper;
 use crate::expressions::operators::{is_prefix, precedence};
@@ -120,9 +120,8 @@ fn read_operand<'a, K: Keeper, const BYTES: usize, const OPERANDS: usize>(
     requires room { weight stacks.old + 1 ≤ BYTES }
     requires fits { count K.keeping notes.old + length rest.now < LINE_BYTES }
     ensures some { IfSome result (λ r. (s : List (Frame K.Meant)) →
-        Awaits K.keeping stacks.old notes.old s → ReadsOn K.keeping (K.meaning keeper.now)
-        (step (K.meaning keeper.now) (needs s) (as_token token.entry)) rest.now
-        r.0 stacks.new notes.new r.1.now) }
+        Awaits K.keeping stacks.old notes.old s → ReadsToken K.keeping (K.meaning keeper.now) s
+        (as_token token.entry) rest.now r.0 stacks.new notes.new r.1.now) }
     ensures none { IfNone result ((s : List (Frame K.Meant)) → reads (K.meaning keeper.now)
         (step (K.meaning keeper.now) (needs s) (as_token token.entry)) rest.now ≡ None) }
     ensures lighter { IfSome result

@@ -8,9 +8,7 @@
 ghost use Rattle.std.specs.Prelude.{◌≡◌, ◌≤◌, ◌<◌, ◌+◌, List, Bool, true, false, ◌&&◌, [], ◌∷◌};
 ghost use Rattle.std.specs.Prelude.{◌++◌, length, replicate, Some, None, IfSome, IfNone};
 ghost use Rattle.ud_model.specs.conditions.Table.{Argument};
-ghost use Rattle.ud_model.specs.conditions.Expressions.{Expression};
 ghost use Rattle.ud_model.specs.conditions.Residuals as residuals;
-ghost use Rattle.ud_model.specs.conditions.ResidualTexts.{keeps};
 ghost use Rattle.ud_model.specs.aids.Parsing as parsing;
 ghost use Rattle.ud_model.specs.aids.Parsing.{reads, needs};
 ghost use Rattle.ud_model.specs.declared.limits.TheConstants.{LINE_BYTES};
@@ -22,7 +20,7 @@ ghost use Rattle.ud_cond.specs.expressions.Keepings.{TakesTwo, IsMeant};
 ghost use Rattle.ud_cond.specs.expressions.ResidualReading as spec;
 ghost use Rattle.ud_cond.specs.expressions.ResidualReading.{kept_keeping};
 ghost use Rattle.ud_cond.specs.expressions.ResidualReading.{joined_kept, kept_meaning_of};
-ghost use Rattle.ud_cond.specs.expressions.ResidualReading.{are_all_kept};
+ghost use Rattle.ud_cond.specs.expressions.ResidualReading.{are_all_kept, HasResidual};
 
 use crate::conditions::{Rules, negate};
 use crate::expressions::keeper::Keeper;
@@ -337,10 +335,8 @@ pub fn residual(
 ) -> Option<Cond>
     requires fits { length text.now ≤ LINE_BYTES }
     ensures some { IfSome result (λ r. (calls : List Argument) →
-        TableRepresents symbols.now calls → (e : Expression) ×
-        (parsing.expression_of text.now ≡ Some e) ×
-        ((residuals.residual calls (as_rules rules) e).cond ≡ r) ×
-        (flags.new ≡ keeps calls (as_rules rules) e)) }
+        TableRepresents symbols.now calls →
+        HasResidual calls (as_rules rules) text.now r flags.new) }
     ensures none { IfNone result (parsing.expression_of text.now ≡ None) }
 {
     flags.clear();
