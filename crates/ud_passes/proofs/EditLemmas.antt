@@ -34,6 +34,13 @@ fewer nothing h = tt
 fewer (without p) h = fewer p h.1
 fewer (with_same p) h = (h.0, fewer p h.1)
 
+-- The texts before equal endings.
+cut_there : (b c : List ℕ) → take (length (b ++ c) - length c) (b ++ c) ≡ b
+cut_there b c = take_at b c (length (b ++ c) - length c) (let a : length (b ++ c) ≡ length b + length c = length-append b c in omega (arith, a))
+
+pub same_cut : (b a c : List ℕ) → b ++ c ≡ a ++ c → b ≡ a
+same_cut b a c q = sym (cut_there b c) ∙ ap (λ (x : List ℕ). take (length x - length c) x) q ∙ cut_there a c
+
 same_line : (a b : Line) → a.body ≡ b.body → a.ending ≡ b.ending → a.number ≡ b.number → a ≡ b
 same_line a b p q r = grind arith
 
@@ -118,12 +125,6 @@ module _ (table : List Argument) (rules : Rules) (l : Line) (d : Directive) (i :
       module _ (same : e.ending ≡ l.ending) where
         keeps : keeps_ending k ≡ true
         keeps = (bytes_eq-Decides (ending_of (text_of k)) l.ending).1 (sym read_ending ∙ same)
-
-        cut_there : (b c : List ℕ) → take (length (b ++ c) - length c) (b ++ c) ≡ b
-        cut_there b c = take_at b c (length (b ++ c) - length c) (let a : length (b ++ c) ≡ length b + length c = length-append b c in omega (arith, a))
-
-        same_cut : (b a c : List ℕ) → b ++ c ≡ a ++ c → b ≡ a
-        same_cut b a c q = sym (cut_there b c) ∙ ap (λ (x : List ℕ). take (length x - length c) x) q ∙ cut_there a c
 
         body_same : e.body ≡ k.body
         body_same = same_cut e.body k.body l.ending (ap (λ (x : List ℕ). e.body ++ x) (sym same) ∙ read_text ∙ bytes_are)

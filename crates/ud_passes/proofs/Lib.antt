@@ -11,3 +11,6 @@ pub mod FitLemmas
 pub mod NameLemmas
 pub mod ConditionLemmas
 pub mod SearchLemmas
+pub mod ShownLemmas
+pub mod FoldLemmas
+pub mod RestoreLemmas

@@ -65,7 +65,7 @@ module _ (table : List Argument) (name : List ℕ) where
 pub none_begun : (b : Option Begun) (bytes : List ℕ) → is_some b ≡ false → begun_as b bytes ≡ None
 none_begun b bytes e = grind arith
 
-pub none_if : (b : Option Begun) (none : Bool) → is_some b ≡ not none → (none ≡ false → false ≡ true) → is_some b ≡ false
+pub none_if : {A : Type 0} (b : Option A) (none : Bool) → is_some b ≡ not none → (none ≡ false → false ≡ true) → is_some b ≡ false
 none_if b true e h = e
 none_if b false e h = e ∙ sym (h refl)
 

@@ -7,14 +7,18 @@
 //! - `Names` keeps the lists of the files' names, and the conditions that can't be listed.
 //! - `Remaining` keeps the conditions that still name a symbol of the options.
 //! - `prune` appends a text without the operands of its conditions that the symbols decide.
+//! - `fold` appends a text with one line in place of each conditional directive over several lines,
+//!   and `restore` goes back.
 #![tactic(auto)]
 
+mod folding;
 mod lines;
 mod names;
 mod pruning;
 mod remaining;
 mod walk;
 
+pub use folding::{fold, restore};
 pub use names::Names;
 pub use pruning::{law_pruned_text, prune};
 pub use remaining::{Listing, Remaining};

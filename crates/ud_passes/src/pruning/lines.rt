@@ -44,7 +44,7 @@ pub(crate) struct LineEditor {
 }
 
 /// Returns whether a text has a quote.
-fn has_quote(text: &[u8]) -> bool
+pub(crate) fn has_quote(text: &[u8]) -> bool
     ensures { result ≡ list_any is_quote text.now }
 {
     text.iter().any(|byte| matches!(*byte, b'"' | b'\''))

@@ -1,0 +1,16 @@
+-- From the first line to the last.
+use Rattle.std.proofs.Common.{[], append-nil, sym, ◌∙◌}
+use Rattle.ud_model.specs.declared.kind.Mode.TheVariants.{C}
+use Rattle.ud_text.proofs.lemmas.scan.PassLemmas.{nothing_left}
+use Rattle.ud_passes.proofs.RestoreLemmas.{none_restored, all_restored}
+use Rattle.ud_passes.proofs.folding.restored.append_restored.Goals as goal
+
+pub loop-walk-init : goal.loop-walk-init
+loop-walk-init c = record {
+  grows = ([], sym (append-nil c.args.out.now.items));
+  restored = none_restored c.args.text.now c.args.out.now.items c.new-walk.result (c.new-walk.ensures.walked C);
+}
+
+pub returns-clause-restored : goal.returns-clause-restored
+returns-clause-restored c = all_restored c.args.text.now c.args.out.now.items c.loop-walk.walk _ c.loop-walk.invariant.restored
+    (nothing_left c.loop-walk.walk.rest.now (sym c.is_at_end.ensures ∙ c.loop-walk-test.false))

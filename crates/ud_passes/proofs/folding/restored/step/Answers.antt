@@ -1,0 +1,19 @@
+-- One line.
+use Rattle.std.proofs.Common.{◌++◌, List, ℕ, ◌∙◌, ap, sym}
+use Rattle.ud_model.specs.text.LineViews.{as_line}
+use Rattle.ud_passes.proofs.RestoreLemmas.{line_more, long_restored}
+use Rattle.ud_passes.proofs.folding.restored.step.Goals as goal
+
+pub returns-in_ok-append_line-in-TooLong-clause-restored :
+    goal.returns-in_ok-append_line-in-TooLong-clause-restored
+returns-in_ok-append_line-in-TooLong-clause-restored c = λ text start s.
+    let n = c.in-TooLong.ensures.next text s.read s.walked in
+    line_more text start c.args.walk.now c.args.out.now.items s c.next.new.self _ (as_line c.in-TooLong.line) n.1
+    (c.in_ok-append_line-in-TooLong.ensures.bytes ∙ ap (λ (x : List ℕ). c.args.out.now.items ++ x) (sym (long_restored (as_line c.in-TooLong.line) n.0)))
+
+pub returns-in_ok-append_restored_line-in-Fitting-clause-restored :
+    goal.returns-in_ok-append_restored_line-in-Fitting-clause-restored
+returns-in_ok-append_restored_line-in-Fitting-clause-restored c = λ text start s.
+    let n = c.in-Fitting.ensures.next text s.read s.walked in
+    line_more text start c.args.walk.now c.args.out.now.items s _ _ (as_line c.in-Fitting.line)
+    (n.1 c.pass.new.self (c.pass.ensures s.read n.0)) c.in_ok-append_restored_line-in-Fitting.ensures.bytes

@@ -1,0 +1,8 @@
+-- What is left to show of the bytes from here on.
+use Rattle.std.proofs.Common.{◌≡◌, drop, true}
+use Rattle.ud_model.specs.output.FoldedTexts.{tabs_are_beside}
+use Rattle.ud_passes.proofs.ShownLemmas.{left}
+use Rattle.ud_passes.proofs.folding.shown.tabs_are_beside.Given as goal
+
+abbrev pub invariant-loop-byte : goal.invariant-loop-byte
+invariant-loop-byte l = left l.owes l.blank (drop l.byte-index l.shown) ≡ tabs_are_beside true l.shown

@@ -1,0 +1,3 @@
+-- Folded texts, and the way back.
+pub mod Folding
+pub mod LogicalLines

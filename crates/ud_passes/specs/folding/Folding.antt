@@ -1,0 +1,64 @@
+-- Folding: what the pass that folds a text appends.
+--
+--   FollowsBy b rs               the line before `rs` joins the first of them, or not
+--   rest_from group rs           the folded lines `rs`, if the lines `group` before them go on
+--   Takes r group old ..         the line `r` was taken after the lines `group`
+--   Folded text start ..         the lines so far were folded
+--   Restored text start ..       the lines so far were restored
+use Rattle.std.specs.Prelude.{◌≡◌, ℕ, List, [], ◌∷◌, ◌++◌, Bool, true, Option, IfSome}
+use Rattle.std.specs.List.{flat_map}
+use Rattle.ud_model.specs.text.Scans.{Reading}
+use Rattle.ud_model.specs.text.Splicing.{c_run_of}
+use Rattle.ud_model.specs.text.Scanning.{joins}
+use Rattle.ud_model.specs.output.FoldedTexts.{continued, folded_bytes, folded_lines, restored_line}
+use Rattle.ud_model.specs.declared.kind.Mode.TheVariants.{C}
+use Rattle.ud_passes.specs.Walks.{Walked}
+use Rattle.ud_passes.specs.folding.LogicalLines.{plain_lines, IsGroup}
+use Rattle.ud_passes.specs.declared.folding.logical.Last.{Last}
+use Rattle.ud_passes.specs.declared.folding.logical.LogicalLine.{LogicalLine}
+use Rattle.ud_passes.specs.declared.walk.Walk.{Walk}
+
+-- `FollowsBy b rs`: the line before the lines `rs` joins the first of them, if there is one and if
+-- `b`.
+abbrev pub FollowsBy : Bool → List Reading → Type 0
+FollowsBy b [] = Unit {0}
+FollowsBy b (r ∷ rs) = r.scan.joins_before ≡ b
+
+-- `rest_from group rs`: the folded lines `group` and those of the lines `rs` that continue them,
+-- and the other folded lines. Without a group, the lines that continue the line before stay.
+abbrev pub rest_from : List Reading → List Reading → List ℕ
+rest_from [] rs = plain_lines (continued rs) ++ folded_lines rs
+rest_from (g ∷ group) rs = folded_bytes (g ∷ group ++ continued rs) ++ folded_lines rs
+
+-- `Takes r group old out l b new`: the line `r` was taken after the lines `group`. Bytes were
+-- appended to `old`, and `l` and `b` have the lines that go on.
+pub record Takes (r : Reading) (group : List Reading) (old : List ℕ) (l : LogicalLine)
+    (b : Option Last) (new : List ℕ) : Type 0 where
+  pub more : List ℕ
+  pub appended : new ≡ old ++ more
+  pub next : List Reading
+  pub is_group : IsGroup l b next
+  pub goes_on : IfSome b (λ _. r.scan.joins_after ≡ true)
+  pub rest : (rs : List Reading) → FollowsBy r.scan.joins_after rs →
+      rest_from group (r ∷ rs) ≡ more ++ rest_from next rs
+
+-- `Folded text start l b walk out`: the folded lines before the place of the walk were appended to
+-- `start`, but for those of the logical line that goes on.
+pub record Folded (text start : List ℕ) (l : LogicalLine) (b : Option Last) (walk : Walk)
+    (out : List ℕ) : Type 0 where
+  pub read : List Reading
+  pub walked : Walked C text read walk.rest.now walk.scanner
+  pub group : List Reading
+  pub is_group : IsGroup l b group
+  pub goes_on : IfSome b (λ _. joins (c_run_of read) ≡ true)
+  pub done : List ℕ
+  pub list_is : out ≡ start ++ done
+  pub rest : (rs : List Reading) → FollowsBy (joins (c_run_of read)) rs →
+      folded_lines (read ++ rs) ≡ done ++ rest_from group rs
+
+-- `Restored text start walk out`: the lines before the place of the walk were appended to `start`,
+-- with newlines in place of their vertical tabs.
+pub record Restored (text start : List ℕ) (walk : Walk) (out : List ℕ) : Type 0 where
+  pub read : List Reading
+  pub walked : Walked C text read walk.rest.now walk.scanner
+  pub list_is : out ≡ start ++ flat_map (λ (r : Reading). restored_line r.line) read

@@ -1,0 +1,59 @@
+-- Logical lines: what the code keeps of a logical line that begins with a directive.
+--
+--   plain_lines rs              the bytes of the lines `rs`
+--   read_line l scan n          the line `l` as it is read in C mode, with this scan and this number
+--   is_line_shown k bytes       the line `k` has an ending, fits, and is a directive by itself, with
+--                               these masked bytes
+--   IsLast b r                  `b` is the line `r`
+--   IsLogical l b group         the lines `group` begin a directive, the last of which is `b`
+--   IsGroup l b group           the same, or no logical line goes on
+use Rattle.std.specs.Prelude.{◌≡◌, ℕ, List, [], ◌∷◌, ◌++◌, Bool, true, not, ◌&&◌, Option, Some, None}
+use Rattle.std.specs.List.{flat_map}
+use Rattle.ud_model.specs.text.Lines.{Line, NoNewline, text_of}
+use Rattle.ud_model.specs.text.Splicing.{is_empty, is_spliced}
+use Rattle.ud_model.specs.text.Scans.{Reading}
+use Rattle.ud_model.specs.text.Scanning.{scan_after_run}
+use Rattle.ud_model.specs.output.FoldedTexts.{continued_part, shown_lines, begins_directive, are_alike}
+use Rattle.ud_model.specs.output.FoldedTexts.{fits, is_shown_as}
+use Rattle.ud_model.specs.output.SimplifiedTexts.{keeps_ending}
+use Rattle.ud_passes.specs.declared.folding.logical.Last.{Last}
+use Rattle.ud_passes.specs.declared.folding.logical.LogicalLine.{LogicalLine}
+
+-- `plain_lines rs`: the bytes of the lines `rs`.
+abbrev pub plain_lines : List Reading → List ℕ
+plain_lines rs = flat_map (λ (r : Reading). text_of r.line) rs
+
+-- `is_line_shown k bytes`: the line `k` has an ending of its own, and fits. By itself it is a
+-- directive with these masked bytes, as `is_shown_as`.
+abbrev pub is_line_shown : Line → List ℕ → Bool
+is_line_shown k bytes = not (is_empty k.ending) && fits k && keeps_ending k &&
+    is_shown_as (scan_after_run [] k) bytes
+
+-- `IsLast b r`: `b` is the line `r`, with its scan as far as the next line's place goes.
+pub record IsLast (b : Last) (r : Reading) : Type 0 where
+  pub body_is : b.line.body.now ≡ r.line.body
+  pub ending_is : b.line.ending.now ≡ r.line.ending
+  pub comment_is : b.comment ≡ r.scan.comment
+  pub spliced_is : b.spliced ≡ r.scan.spliced
+  pub splice_is : r.scan.spliced ≡ is_spliced r.line
+  pub one_line : NoNewline r.line.body
+
+-- `IsLogical l b group`: the lines `group` have the same ending, and the first of them has a
+-- directive. `l` has their bytes, and `b` is the last of them.
+pub record IsLogical (l : LogicalLine) (b : Last) (group : List Reading) : Type 0 where
+  pub front : List Reading
+  pub last : Reading
+  pub is : group ≡ front ++ last ∷ []
+  pub is_last : IsLast b last
+  pub begins : begins_directive group ≡ true
+  pub alike : are_alike group last.line.ending ≡ true
+  pub plain_is : l.plain.items ≡ plain_lines group
+  pub body_is : l.body.items ≡ flat_map continued_part front
+  pub shown_is : l.shown.items ≡ shown_lines group
+  pub one_line : NoNewline l.body.items
+
+-- `IsGroup l b group`: `b` is the last of the lines `group`, which go on. There are none without
+-- it.
+abbrev pub IsGroup : LogicalLine → Option Last → List Reading → Type 0
+IsGroup l None group = group ≡ []
+IsGroup l (Some b) group = IsLogical l b group

@@ -1,0 +1,166 @@
+//! The way back from a folded text.
+
+ghost use Rattle.std.specs.Prelude.{◌≡◌, ◌≤◌, ◌<◌, ◌∷◌, ◌++◌, ℕ, List, [], length, IfOk, OnOk};
+ghost use Rattle.std.specs.Prelude.{OnErr};
+ghost use Rattle.ud_model.specs.text.Lines.{NoNewline, text_of};
+ghost use Rattle.ud_model.specs.text.LineViews.{as_line};
+ghost use Rattle.ud_model.specs.output.FoldedTexts.{restored_text, restored_line, restored_body};
+ghost use Rattle.ud_model.specs.output.FoldedTexts.{restored_byte};
+ghost use Rattle.ud_model.specs.declared.limits.TheConstants.{LINE_BYTES};
+ghost use Rattle.ud_text.specs.scan.ScannerState.{ScannerRepresents};
+ghost use Rattle.ud_passes.specs.Passes.{Grows};
+ghost use Rattle.ud_passes.specs.folding.Folding.{Restored};
+
+use crate::folding::logical::append_line;
+use crate::folding::shown::{VERTICAL_TAB, has_tab};
+use crate::walk::{SHORT_LINE_BYTES, Stretch, Walk};
+use std::alloc::AllocError;
+use ud_model::{Line, Mode};
+use ud_text::{Scanner, ScannerOf};
+
+/// Appends the bytes that a byte stands for, which is masked so, in a line with this ending.
+///
+/// # Errors
+/// Fails if memory runs out.
+fn append_byte(ending: &[u8], byte: u8, masked: u8, out: &mut Vec<u8>) -> Result<(), AllocError>
+    ensures grows { Grows out.old.items out.new.items }
+    ensures bytes { OnOk result
+        (out.new.items ≡ out.old.items ++ restored_byte ending.now byte masked) }
+{
+    if byte != VERTICAL_TAB {
+        out.push(byte)?;
+        return Ok(());
+    }
+    if masked == VERTICAL_TAB {
+        out.push(b'\\')?;
+    }
+    out.extend_from_slice(ending)
+}
+
+/// Appends the lines that a body stands for, which is masked so, without the last ending.
+///
+/// # Errors
+/// Fails if memory runs out.
+fn append_body(
+    ending: &[u8],
+    body: &[u8],
+    masked: &[u8],
+    out: &mut Vec<u8>,
+) -> Result<(), AllocError>
+    requires masked { length masked.now ≤ length body.now }
+    ensures grows { Grows out.old.items out.new.items }
+    ensures bytes { OnOk result
+        (out.new.items ≡ out.old.items ++ restored_body ending.now body.now masked.now) }
+{
+    for i in 0..masked.len() {
+        append_byte(ending, body[i], masked[i], out)?;
+    }
+    out.extend_from_slice(body.split_at(masked.len()).1)?;
+    Ok(())
+}
+
+/// Reads a line as the first one of a text, and appends the lines that it stands for.
+///
+/// # Errors
+/// Fails if memory runs out.
+fn append_by<const N: usize>(
+    scanner: &mut ScannerOf<N>,
+    line: &Line<'_>,
+    out: &mut Vec<u8>,
+) -> Result<(), AllocError>
+    requires room { length line.now.body.now ≤ N }
+    requires fits { length (text_of (as_line line.now)) ≤ LINE_BYTES }
+    requires one_line { NoNewline line.now.body.now }
+    requires new { ScannerRepresents scanner.old [] }
+    ensures grows { Grows out.old.items out.new.items }
+    ensures bytes { OnOk result
+        (out.new.items ≡ out.old.items ++ restored_line (as_line line.now)) }
+{
+    let scan = scanner.read(Mode::C, line);
+    append_body(line.ending, line.body, scan.masked, out)?;
+    out.extend_from_slice(line.ending)?;
+    Ok(())
+}
+
+/// Appends the lines that a line stands for.
+///
+/// # Errors
+/// Fails if memory runs out.
+fn append_restored_line(line: &Line<'_>, out: &mut Vec<u8>) -> Result<(), AllocError>
+    requires fits { length (text_of (as_line line.now)) ≤ LINE_BYTES }
+    requires one_line { NoNewline line.now.body.now }
+    ensures grows { Grows out.old.items out.new.items }
+    ensures bytes { OnOk result
+        (out.new.items ≡ out.old.items ++ restored_line (as_line line.now)) }
+{
+    if !has_tab(line.body) {
+        append_line(line, out)?;
+        return Ok(());
+    }
+    if line.body.len() <= SHORT_LINE_BYTES {
+        let mut scanner = ScannerOf::<SHORT_LINE_BYTES>::new();
+        return append_by(&mut scanner, line, out);
+    }
+    let mut scanner = Scanner::new();
+    append_by(&mut scanner, line, out)
+}
+
+/// Takes the next line, and appends the lines that it stands for.
+///
+/// # Errors
+/// Fails if memory runs out.
+fn step(walk: &mut Walk<'_>, out: &mut Vec<u8>) -> Result<(), AllocError>
+    requires some { 0 < length walk.old.rest.now }
+    ensures grows { Grows out.old.items out.new.items }
+    ensures shorter { length walk.new.rest.now < length walk.old.rest.now }
+    ensures restored { OnOk result ((text start : List ℕ) →
+        Restored text start walk.old out.old.items →
+        Restored text start walk.new out.new.items) }
+{
+    match walk.next(Mode::C, false) {
+        Stretch::Texts(bytes) => out.extend_from_slice(bytes)?,
+        Stretch::TooLong(line) => append_line(&line, out)?,
+        Stretch::Fitting(line) => {
+            walk.scanner.pass(Mode::C, &line);
+            append_restored_line(&line, out)?;
+        }
+    }
+    Ok(())
+}
+
+/// Appends a restored text, as `restore`.
+///
+/// # Errors
+/// Fails if memory runs out. `out` has then perhaps more bytes.
+fn append_restored(text: &[u8], out: &mut Vec<u8>) -> Result<(), AllocError>
+    ensures grows { Grows out.old.items out.new.items }
+    ensures restored { OnOk result (out.new.items ≡ out.old.items ++ restored_text text.now) }
+{
+    let mut walk = Walk::new(text);
+    while !walk.is_at_end() {
+        step(&mut walk, out)?;
+    }
+    Ok(())
+}
+
+/// Appends a folded text to `out`, with newlines in place of its vertical tabs.
+///
+/// `text` may have any length and any bytes. A vertical tab outside comments becomes a splice: a
+/// backslash and the line's ending. One in a comment becomes the ending. A line over `LINE_BYTES`
+/// stays. `out` may have any bytes, which stay before those of the text.
+///
+/// # Errors
+/// Fails if memory runs out. `out` is then as before.
+pub fn restore(text: &[u8], out: &mut Vec<u8>) -> Result<(), AllocError>
+    ensures restored { OnOk result (out.new.items ≡ out.old.items ++ restored_text text.now) }
+    ensures unchanged { OnErr result (out.new.items ≡ out.old.items) }
+{
+    let before = out.len();
+    match append_restored(text, out) {
+        Ok(()) => Ok(()),
+        Err(error) => {
+            out.truncate(before);
+            Err(error)
+        }
+    }
+}

@@ -1,0 +1,126 @@
+//! Whether the one line that lines form is read as they are.
+
+ghost use Rattle.std.specs.Prelude.{◌≡◌, ◌≤◌, [], length, not, true, ◌&&◌};
+ghost use Rattle.ud_model.specs.text.Lines.{Line as TextLine, NoNewline, text_of, is_ending};
+ghost use Rattle.ud_model.specs.text.Scanning.{scan_after_run};
+ghost use Rattle.ud_model.specs.text.LineViews.{as_line, as_scan};
+ghost use Rattle.ud_model.specs.sections.Directives.{content_of};
+ghost use Rattle.ud_model.specs.output.FoldedTexts as spec;
+ghost use Rattle.ud_model.specs.output.FoldedTexts.{is_shown_as, tabs_are_beside};
+ghost use Rattle.ud_model.specs.declared.limits.TheConstants.{LINE_BYTES};
+ghost use Rattle.ud_text.specs.scan.ScannerState.{ScannerRepresents};
+ghost use Rattle.ud_passes.specs.folding.LogicalLines.{is_line_shown};
+
+use crate::pruning::has_quote;
+use crate::walk::SHORT_LINE_BYTES;
+use memchr::memchr;
+use ud_model::{LINE_BYTES, Line, Mode, Scan};
+use ud_sections::directive;
+use ud_text::{Scanner, ScannerOf, line_in};
+
+/// The vertical tab, which stands for a newline that continues a directive.
+pub(crate) const VERTICAL_TAB: u8 = 11;
+
+/// Returns whether bytes have a vertical tab.
+pub(crate) fn has_tab(bytes: &[u8]) -> bool
+    ensures { result ≡ spec.has_tab bytes.now }
+{
+    memchr(VERTICAL_TAB, bytes).is_some()
+}
+
+/// Returns whether a line has a directive.
+pub(crate) fn is_directive(scan: &Scan<'_>) -> bool
+    ensures { result ≡ spec.is_directive (content_of (as_scan scan.now)) }
+{
+    matches!(directive(scan), Ok(Some(_)))
+}
+
+/// Returns whether a byte is white space other than a vertical tab.
+fn is_blank(byte: u8) -> bool
+    ensures { result ≡ spec.is_blank byte }
+{
+    matches!(byte, b' ' | b'\t' | 12 | b'\r')
+}
+
+/// Returns whether other white space, or the line's end, is beside each vertical tab.
+fn tabs_are_beside(shown: &[u8]) -> bool
+    ensures { result ≡ tabs_are_beside true shown.now }
+{
+    // Other white space precedes the next byte, vertical tabs aside.
+    let mut blank = true;
+    // A vertical tab before the next byte has no such white space before it.
+    let mut owes = false;
+    for byte in shown {
+        if *byte == VERTICAL_TAB {
+            owes = owes || !blank;
+        } else {
+            blank = is_blank(*byte);
+            if owes && !blank {
+                return false;
+            }
+            owes = false;
+        }
+    }
+    true
+}
+
+/// Returns whether masked bytes have no quote, and white space beside each vertical tab.
+fn are_apart(shown: &[u8]) -> bool
+    ensures { result ≡ (spec.has_no_quote shown.now && tabs_are_beside true shown.now) }
+{
+    !has_quote(shown) && tabs_are_beside(shown)
+}
+
+/// Returns whether a line with this scan is a directive that joins no next line, with these masked
+/// bytes. They have no quote, and white space beside each vertical tab.
+fn is_shown_as(scan: &Scan<'_>, shown: &[u8]) -> bool
+    ensures { result ≡ is_shown_as (as_scan scan.now) shown.now }
+{
+    if scan.joins_after {
+        return false;
+    }
+    if scan.masked != shown {
+        return false;
+    }
+    is_directive(scan) && are_apart(shown)
+}
+
+/// Reads a line as the first one of a text. Returns whether it is shown so.
+fn is_shown_by<const N: usize>(scanner: &mut ScannerOf<N>, line: &Line<'_>, shown: &[u8]) -> bool
+    requires fits { length line.now.body.now ≤ N }
+    requires one_line { NoNewline line.now.body.now }
+    requires new { ScannerRepresents scanner.old [] }
+    ensures { result ≡ is_shown_as (scan_after_run [] (as_line line.now)) shown.now }
+{
+    let scan = scanner.read(Mode::C, line);
+    is_shown_as(&scan, shown)
+}
+
+/// Returns whether a line is shown so by itself, as `is_shown_by`.
+fn is_shown(line: &Line<'_>, shown: &[u8]) -> bool
+    requires fits { length line.now.body.now ≤ LINE_BYTES }
+    requires one_line { NoNewline line.now.body.now }
+    ensures { result ≡ is_shown_as (scan_after_run [] (as_line line.now)) shown.now }
+{
+    if line.body.len() <= SHORT_LINE_BYTES {
+        let mut scanner = ScannerOf::<SHORT_LINE_BYTES>::new();
+        return is_shown_by(&mut scanner, line, shown);
+    }
+    let mut scanner = Scanner::new();
+    is_shown_by(&mut scanner, line, shown)
+}
+
+/// Returns whether bytes are a line with this ending, which fits and is shown so by itself.
+pub(crate) fn is_line_shown(bytes: &[u8], ending: &[u8], shown: &[u8]) -> bool
+    ensures { (k : TextLine) → bytes.now ≡ text_of k → ending.now ≡ k.ending →
+        NoNewline k.body → is_ending k.ending ≡ true → result ≡ is_line_shown k shown.now }
+{
+    if ending.is_empty() || bytes.len() > LINE_BYTES {
+        return false;
+    }
+    let line = line_in(bytes, 1);
+    if line.ending != ending {
+        return false;
+    }
+    is_shown(&line, shown)
+}

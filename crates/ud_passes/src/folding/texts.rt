@@ -1,0 +1,205 @@
+//! Folds a text, line by line.
+
+ghost use Rattle.std.specs.Prelude.{◌≡◌, ◌≤◌, ◌<◌, ◌∷◌, ◌++◌, ℕ, List, [], length, true, IfOk, OnOk};
+ghost use Rattle.std.specs.Prelude.{OnErr, IfSome};
+ghost use Rattle.ud_model.specs.text.Lines.{NoNewline, text_of};
+ghost use Rattle.ud_model.specs.text.Scans.{Reading};
+ghost use Rattle.ud_model.specs.text.Splicing.{c_run_of};
+ghost use Rattle.ud_model.specs.text.Scanning.{joins, scan_after, next_reading};
+ghost use Rattle.ud_model.specs.text.LineViews.{as_line};
+ghost use Rattle.ud_model.specs.output.FoldedTexts.{folded_text, folded_lines};
+ghost use Rattle.ud_model.specs.output.InsertedLines.{read_as};
+ghost use Rattle.ud_model.specs.declared.kind.Mode.{Mode};
+ghost use Rattle.ud_model.specs.declared.kind.Mode.TheVariants.{C};
+ghost use Rattle.ud_model.specs.declared.limits.TheConstants.{LINE_BYTES};
+ghost use Rattle.ud_text.specs.scan.ScannerState.{ScannerRepresents};
+ghost use Rattle.ud_passes.specs.Passes.{Grows};
+ghost use Rattle.ud_passes.specs.Walks.{reading_at};
+ghost use Rattle.ud_passes.specs.folding.LogicalLines.{IsGroup};
+ghost use Rattle.ud_passes.specs.folding.Folding.{Takes, Folded};
+
+use crate::folding::logical::{Last, LogicalLine, append_line};
+use crate::folding::shown::has_tab;
+use crate::walk::{SHORT_LINE_BYTES, ShortScanner, Stretch, Walk};
+use std::alloc::AllocError;
+use ud_model::{Line, Mode};
+use ud_text::{Scanner, ScannerOf};
+
+/// Reads a line that the scanner takes, and takes it after the lines that go on.
+///
+/// # Errors
+/// Fails if memory runs out.
+fn take_by<'t, const N: usize>(
+    scanner: &mut ScannerOf<N>,
+    logical: &mut LogicalLine,
+    begun: Option<Last<'t>>,
+    line: &Line<'t>,
+    out: &mut Vec<u8>,
+) -> Result<Option<Last<'t>>, AllocError>
+    requires room { length line.now.body.now ≤ N }
+    requires one_line { NoNewline line.now.body.now }
+    ensures grows { Grows out.old.items out.new.items }
+    ensures represents { OnOk result ((before : List Reading) →
+        ScannerRepresents scanner.old before → ScannerRepresents scanner.new
+        (before ++ next_reading before Mode.C (as_line line.now) ∷ [])) }
+    ensures taken { IfOk result (λ b. (n : ℕ) (before group : List Reading) →
+        ScannerRepresents scanner.old before → IsGroup logical.old begun.entry group →
+        IfSome begun.entry (λ _. joins (c_run_of before) ≡ true) →
+        Takes (reading_at C (as_line line.now) (scan_after before C (as_line line.now)) n) group
+        out.old.items logical.new b out.new.items) }
+{
+    let scan = scanner.read(Mode::C, line);
+    logical.take(begun, line, &scan, out)
+}
+
+/// Reads a line, and takes it after the lines that go on.
+///
+/// # Errors
+/// Fails if memory runs out.
+fn take<'t>(
+    scanner: &mut ShortScanner,
+    logical: &mut LogicalLine,
+    begun: Option<Last<'t>>,
+    line: &Line<'t>,
+    out: &mut Vec<u8>,
+) -> Result<Option<Last<'t>>, AllocError>
+    requires fits { length (text_of (as_line line.now)) ≤ LINE_BYTES }
+    requires one_line { NoNewline line.now.body.now }
+    ensures grows { Grows out.old.items out.new.items }
+    ensures represents { OnOk result ((before : List Reading) →
+        ScannerRepresents scanner.old before → ScannerRepresents scanner.new
+        (before ++ next_reading before Mode.C (as_line line.now) ∷ [])) }
+    ensures taken { IfOk result (λ b. (n : ℕ) (before group : List Reading) →
+        ScannerRepresents scanner.old before → IsGroup logical.old begun.entry group →
+        IfSome begun.entry (λ _. joins (c_run_of before) ≡ true) →
+        Takes (reading_at C (as_line line.now) (scan_after before C (as_line line.now)) n) group
+        out.old.items logical.new b out.new.items) }
+{
+    if line.body.len() > SHORT_LINE_BYTES {
+        return take_long(scanner, logical, begun, line, out);
+    }
+    take_by(scanner, logical, begun, line, out)
+}
+
+/// Takes a line that isn't short, as `take`.
+///
+/// # Errors
+/// Fails if memory runs out.
+#[inline(never)]
+fn take_long<'t>(
+    scanner: &mut ShortScanner,
+    logical: &mut LogicalLine,
+    begun: Option<Last<'t>>,
+    line: &Line<'t>,
+    out: &mut Vec<u8>,
+) -> Result<Option<Last<'t>>, AllocError>
+    requires fits { length (text_of (as_line line.now)) ≤ LINE_BYTES }
+    requires one_line { NoNewline line.now.body.now }
+    ensures grows { Grows out.old.items out.new.items }
+    ensures represents { OnOk result ((before : List Reading) →
+        ScannerRepresents scanner.old before → ScannerRepresents scanner.new
+        (before ++ next_reading before Mode.C (as_line line.now) ∷ [])) }
+    ensures taken { IfOk result (λ b. (n : ℕ) (before group : List Reading) →
+        ScannerRepresents scanner.old before → IsGroup logical.old begun.entry group →
+        IfSome begun.entry (λ _. joins (c_run_of before) ≡ true) →
+        Takes (reading_at C (as_line line.now) (scan_after before C (as_line line.now)) n) group
+        out.old.items logical.new b out.new.items) }
+{
+    let mut long = Scanner::new();
+    long.copy_state_of(scanner);
+    let last = take_by(&mut long, logical, begun, line, out);
+    scanner.copy_state_of(&long);
+    last
+}
+
+/// Takes the next lines after those that go on.
+///
+/// # Errors
+/// Fails if memory runs out.
+fn step<'t>(
+    walk: &mut Walk<'t>,
+    logical: &mut LogicalLine,
+    begun: Option<Last<'t>>,
+    out: &mut Vec<u8>,
+) -> Result<Option<Last<'t>>, AllocError>
+    requires some { 0 < length walk.old.rest.now }
+    ensures grows { Grows out.old.items out.new.items }
+    ensures shorter { length walk.new.rest.now < length walk.old.rest.now }
+    ensures folded { IfOk result (λ b. (text start : List ℕ) →
+        Folded text start logical.old begun.entry walk.old out.old.items →
+        Folded text start logical.new b walk.new out.new.items) }
+{
+    match walk.next(Mode::C, begun.is_none()) {
+        Stretch::Texts(bytes) => {
+            out.extend_from_slice(bytes)?;
+            Ok(None)
+        }
+        Stretch::TooLong(line) => {
+            logical.give_up(begun, out)?;
+            append_line(&line, out)?;
+            Ok(None)
+        }
+        Stretch::Fitting(line) => {
+            let last = take(&mut walk.scanner, logical, begun, &line, out)?;
+            Ok(last)
+        }
+    }
+}
+
+/// Appends a folded text without a vertical tab, as `fold`.
+///
+/// # Errors
+/// Fails if memory runs out. `out` has then perhaps more bytes.
+fn append_lines(text: &[u8], out: &mut Vec<u8>) -> Result<(), AllocError>
+    ensures grows { Grows out.old.items out.new.items }
+    ensures folded { OnOk result
+        (out.new.items ≡ out.old.items ++ folded_lines (read_as C text.now)) }
+{
+    let mut walk = Walk::new(text);
+    let mut logical = LogicalLine::new(*out.allocator());
+    let mut begun = None;
+    while !walk.is_at_end() {
+        begun = step(&mut walk, &mut logical, begun, out)?;
+    }
+    logical.end_text(begun, out)?;
+    Ok(())
+}
+
+/// Appends a folded text, as `fold`.
+///
+/// # Errors
+/// Fails if memory runs out. `out` has then perhaps more bytes.
+fn append_folded(text: &[u8], out: &mut Vec<u8>) -> Result<(), AllocError>
+    ensures grows { Grows out.old.items out.new.items }
+    ensures folded { OnOk result (out.new.items ≡ out.old.items ++ folded_text text.now) }
+{
+    if has_tab(text) {
+        return out.extend_from_slice(text);
+    }
+    append_lines(text, out)
+}
+
+/// Appends a text to `out`, with one line in place of each conditional directive over several lines.
+///
+/// `text` may have any length and any bytes. A vertical tab stands for each newline that continues
+/// the directive. A directive that wouldn't be read as its lines stays, and so does a text that has
+/// a vertical tab. `out` may have any bytes, which stay before those of the text. The text is read
+/// in C mode.
+///
+/// (C11 5.1.1.2, phases 2 and 3, and 6.10p5)
+///
+/// # Errors
+/// Fails if memory runs out. `out` is then as before.
+pub fn fold(text: &[u8], out: &mut Vec<u8>) -> Result<(), AllocError>
+    ensures folded { OnOk result (out.new.items ≡ out.old.items ++ folded_text text.now) }
+    ensures unchanged { OnErr result (out.new.items ≡ out.old.items) }
+{
+    let before = out.len();
+    match append_folded(text, out) {
+        Ok(()) => Ok(()),
+        Err(error) => {
+            out.truncate(before);
+            Err(error)
+        }
+    }
+}
