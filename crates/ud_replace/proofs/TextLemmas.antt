@@ -1,5 +1,5 @@
 -- The run over a text in memory, and the pass over its output.
-use Rattle.std.proofs.Common.{◌≡◌, ℕ, List, [], ◌++◌, Bool, true, false, ◌||◌, Some, Ok, Err, refl, sym, ap, ◌∙◌, subst, arith}
+use Rattle.std.proofs.Common.{◌≡◌, ℕ, List, [], ◌++◌, Bool, true, false, ◌||◌, bytes_eq, Option, None, Some, Ok, Err, refl, sym, ap, ◌∙◌, subst, arith}
 use Rattle.std.specs.Prelude.{nat_lt}
 use Rattle.ud_io.specs.Watched.{AppendsAllOrPrefix}
 use Rattle.ud_model.specs.conditions.Conditions.{Rules}
@@ -12,8 +12,13 @@ use Rattle.ud_passes.specs.pruning.PrunedTexts.{pruned_text, edited_count}
 use Rattle.ud_replace.specs.declared.error.ReplaceError.{ReplaceError}
 use Rattle.ud_replace.specs.declared.error.ReplaceError.TheVariants.{Text, OutOfMemory}
 use Rattle.ud_replace.specs.declared.text_plan.TextRun.{TextRun}
-use Rattle.ud_replace.specs.TextOutcomes.{TextOptions, unpruned, pruned, as_run, as_faulty, as_pruned, RunsOver, error_of, FailsOver, over_faulty, over_memory}
+use Rattle.ud_replace.specs.TextOutcomes.{TextOptions, unpruned, pruned, folded, may_fold, goes_back, comes_back, StaysUnfolded, as_run, as_faulty, as_pruned, as_folded, RunsOver, error_of, FailsOver, over_faulty, over_memory}
 use Rattle.ud_replace.specs.UnprunedRuns.{RunsUnpruned, FailsUnpruned, run_faulty, no_memory_left, PrunesInto}
+use Rattle.ud_replace.specs.FoldedRuns.{RunsPruned, LeavesFolded, RunsFolded, TriesFolded, FoldsOrStays}
+use Rattle.ud_model.specs.output.FoldedTexts.{folded_text, restored_text}
+use Rattle.ud_model.specs.answer.Outcomes.{Outcome, HasOutcome}
+use Rattle.ud_model.proofs.sections.Soundness.{one_run}
+use Rattle.std.proofs.lemmas.Bool.{false≢true}
 use Rattle.ud_replace.proofs.StepLemmas.{works}
 
 -- A run that ended without an error is the outcome of the text.
@@ -44,9 +49,13 @@ fails_unpruned o input text before left reader writer ReadFault e m ran = no_mem
 fails_unpruned o input text before left reader writer WriteFault e m ran = no_memory_left
 
 -- The failure of a run is that of the text, whether or not conditions are pruned.
-pub fails_over : (o : TextOptions) {text : List ℕ} {e : ReplaceError} → FailsUnpruned o.run text e → FailsOver o text e
-fails_over o (run_faulty a f has is some) = over_faulty (unpruned a) f (as_faulty some has) is some
-fails_over o no_memory_left = over_memory
+pub fails_over : (o : TextOptions) {text : List ℕ} {e : ReplaceError} → StaysUnfolded o text → FailsUnpruned o.run text e → FailsOver o text e
+fails_over o stays (run_faulty a f has is some) = over_faulty (unpruned a) f (as_faulty some has stays) is some
+fails_over o stays no_memory_left = over_memory
+
+-- Without pruning, no text is folded.
+pub stays_as_is : (o : TextOptions) (text : List ℕ) → o.prunes ≡ false → StaysUnfolded o text
+stays_as_is o text none = λ a i. false≢true (sym none ∙ i.prunes)
 
 -- Memory couldn't be allocated.
 pub fails_memory : (o : TextOptions) (text : List ℕ) {e : ReplaceError} → e ≡ OutOfMemory → FailsOver o text e
@@ -64,23 +73,94 @@ runs_as_is o ran none differs edited h = record {
   edited_is = edited;
 }
 
+-- Bytes were written.
+pub all_written : (old new given : List ℕ) (failed : Bool) → failed ≡ false → AppendsAllOrPrefix failed (Some old) (Some new) given → new ≡ old ++ given
+all_written old new given failed unfailed written = grind arith
+
 -- The text that the pass made of another one was appended.
-pub prunes_into : (o : Options) {text old new given buffer start : List ℕ} {n : ℕ} {failed : Bool} (rules : Rules) → rules ≡ rules_of o.settings → failed ≡ false →
-    AppendsAllOrPrefix failed (Some old) (Some new) given → given ≡ buffer → start ≡ [] →
+pub prunes_into : (o : Options) {text old new given buffer start : List ℕ} {n : ℕ} (rules : Rules) → rules ≡ rules_of o.settings →
+    new ≡ old ++ given → given ≡ buffer → start ≡ [] →
     (buffer ≡ start ++ pruned_text o.table rules text) × (n ≡ edited_count o.table rules text) → PrunesInto o text old new n
-prunes_into o rules is unfailed written given none h = grind arith
+prunes_into o rules is written given none h = grind arith
 
 -- With pruning, the output of the run went through the pass.
-pub runs_pruned : (o : TextOptions) {text start whole seen before left : List ℕ} {d : Bool} {n : ℕ} (ran : TextRun) → o.prunes ≡ true → ran.differs ≡ (d || nat_lt 0 n) →
-    ran.edited ≡ n → start ≡ [] → RunsUnpruned o.run text start whole d → seen ≡ whole → PrunesInto o.run seen before left n → RunsOver o text before left ran
-runs_pruned o {text = text} {start = start} {whole = whole} {before = before} {left = left} {d = d} {n = n} ran wanted differs edited none started is p =
-    let h : RunsUnpruned o.run text [] whole d = subst (λ (b : List ℕ). RunsUnpruned o.run text b whole d) none started in
-    let same : PrunesInto o.run h.outcome.output before left n = subst (λ (t : List ℕ). PrunesInto o.run t before left n) (is ∙ h.appended) p in
+pub runs_pruned : (o : Options) {text start whole seen before left : List ℕ} {d : Bool} {n : ℕ} (ran : TextRun) → ran.differs ≡ (d || nat_lt 0 n) →
+    ran.edited ≡ n → start ≡ [] → RunsUnpruned o text start whole d → seen ≡ whole → PrunesInto o seen before left n → RunsPruned o text before left ran
+runs_pruned o {text = text} {start = start} {whole = whole} {before = before} {left = left} {d = d} {n = n} ran differs edited none started is p =
+    let h : RunsUnpruned o text [] whole d = subst (λ (b : List ℕ). RunsUnpruned o text b whole d) none started in
+    let same : PrunesInto o h.outcome.output before left n = subst (λ (t : List ℕ). PrunesInto o t before left n) (is ∙ h.appended) p in
     record {
-      outcome = pruned o.run h.outcome;
-      runs = as_pruned wanted h.faultless h.runs;
+      outcome = h.outcome;
+      runs = h.runs;
       faultless = h.faultless;
       appended = same.appended;
       differs_is = differs ∙ ap (λ (b : Bool). b || nat_lt 0 n) h.differs_is ∙ ap (λ (k : ℕ). h.outcome.differs || nat_lt 0 k) same.edited_is;
       edited_is = edited ∙ same.edited_is;
     }
+
+-- A text that isn't folded.
+pub runs_over : (o : TextOptions) {text before left : List ℕ} (ran : TextRun) → o.prunes ≡ true → StaysUnfolded o text → RunsPruned o.run text before left ran → RunsOver o text before left ran
+runs_over o ran wanted stays h = record {
+  outcome = pruned o.run h.outcome;
+  runs = as_pruned wanted h.faultless h.runs stays;
+  faultless = h.faultless;
+  appended = h.appended;
+  differs_is = h.differs_is;
+  edited_is = h.edited_is;
+}
+
+-- A folded text.
+pub folds_over : (o : TextOptions) {text before left lines : List ℕ} (ran : TextRun) → o.prunes ≡ true → may_fold o.run.settings ≡ true → goes_back lines text ≡ true → lines ≡ folded_text text →
+    RunsFolded o.run lines before left ran → RunsOver o text before left ran
+folds_over o {text = text} {before = before} {left = left} ran wanted may goes e given =
+    let h : RunsFolded o.run (folded_text text) before left ran = subst (λ (x : List ℕ). RunsFolded o.run x before left ran) e given in
+    record {
+      outcome = folded o.run h.outcome;
+      runs = as_folded (record { prunes = wanted; may = may; goes = subst (λ (x : List ℕ). goes_back x text ≡ true) e goes; runs = h.runs; faultless = h.faultless; comes = h.again });
+      faultless = h.faultless;
+      appended = h.appended;
+      differs_is = h.differs_is;
+      edited_is = h.edited_is;
+    }
+
+pub stays_over : (o : TextOptions) (text lines : List ℕ) → lines ≡ folded_text text → LeavesFolded o.run lines → StaysUnfolded o text
+stays_over o text lines e h = λ a i. h a (subst (λ (x : List ℕ). HasOutcome o.run x a) (sym e) i.runs) i.faultless i.comes
+
+-- A text has one outcome.
+pub leaves_faulty : (o : Options) (lines : List ℕ) (a : Outcome) → HasOutcome o lines a → ¬ (a.fault ≡ None) → LeavesFolded o lines
+leaves_faulty o lines a has some = λ b h none _. some (subst (λ (x : Outcome). x.fault ≡ None) (one_run h has) none)
+
+pub leaves_other : (o : Options) (lines : List ℕ) (a : Outcome) → HasOutcome o lines a → comes_back (pruned o a).output ≡ false → LeavesFolded o lines
+leaves_other o lines a has other = λ b h none back. false≢true (sym other ∙ subst (λ (x : Outcome). comes_back (pruned o x).output ≡ true) (one_run h has) back)
+
+pub memory_left : (o : Options) (text : List ℕ) {e : ReplaceError} → e ≡ OutOfMemory → FailsUnpruned o text e
+memory_left o text is = subst (λ (x : ReplaceError). FailsUnpruned o text x) (sym is) no_memory_left
+
+pub leaves_failed : (o : Options) (lines : List ℕ) {e : ReplaceError} (f : RunFault) → e ≡ Text f → FailsUnpruned o lines e → LeavesFolded o lines
+leaves_failed o lines f e (run_faulty a g has is some) = leaves_faulty o lines a has some
+leaves_failed o lines f e no_memory_left = absurd cc
+
+-- What the looks at the output say of it.
+module _ (o : Options) {text start whole lines back shown again seen : List ℕ} {ran : TextRun} (none : start ≡ []) (h : RunsPruned o text start whole ran) (e : lines ≡ whole)
+    (b : back ≡ restored_text lines) (s : shown ≡ back) (a : again ≡ folded_text shown) (t : seen ≡ again) where
+  printed : lines ≡ (pruned o h.outcome).output
+  printed = e ∙ h.appended ∙ ap (λ (x : List ℕ). x ++ (pruned o h.outcome).output) none
+
+  pub comes : (r : Bool) → bytes_eq seen lines ≡ r → comes_back (pruned o h.outcome).output ≡ r
+  comes r q = subst (λ (x : List ℕ). comes_back x ≡ r) printed (ap (λ (x : List ℕ). bytes_eq x lines) (sym (t ∙ a ∙ ap folded_text (s ∙ b))) ∙ q)
+
+  pub runs_folded : {old new : List ℕ} → bytes_eq seen lines ≡ true → new ≡ old ++ shown → RunsFolded o text old new ran
+  runs_folded {old = old} q w = record {
+    outcome = h.outcome;
+    runs = h.runs;
+    faultless = h.faultless;
+    again = comes true q;
+    appended = w ∙ ap (λ (x : List ℕ). old ++ x) (s ∙ b ∙ ap restored_text printed);
+    differs_is = h.differs_is;
+    edited_is = h.edited_is;
+  }
+
+pub folds_or_stays : (o : TextOptions) (text lines old new : List ℕ) (ran : Option TextRun) → o.prunes ≡ true → may_fold o.run.settings ≡ true → goes_back lines text ≡ true → lines ≡ folded_text text →
+    TriesFolded o.run lines old new ran → FoldsOrStays o text old new ran
+folds_or_stays o text lines old new None wanted may goes e h = stays_over o text lines e h
+folds_or_stays o text lines old new (Some ran) wanted may goes e h = folds_over o ran wanted may goes e h

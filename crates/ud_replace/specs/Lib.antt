@@ -3,6 +3,7 @@ pub mod Stats
 pub mod Filling
 pub mod TextOutcomes
 pub mod UnprunedRuns
+pub mod FoldedRuns
 pub mod Replacing
 pub mod Moments
 pub mod CallRecords

@@ -5,6 +5,12 @@
 --   IsPlanned plan o          `o` has the options of a plan
 --   TextOutcome               the output, the fault, whether it differs, and the edited conditions
 --   unpruned a, pruned o a    the outcome of a run, as it is and with pruned conditions
+--   may_fold s                a run with the settings `s` reads C, and counts no lines
+--   goes_back lines text      the folded text `lines` is another one than `text`, and restored to it
+--   comes_back bytes          the restored text is folded to `bytes`
+--   IsFolded o text a         the output for `text` is that of the outcome `a` of the folded text
+--   StaysUnfolded o text      the output for `text` is none of a folded text
+--   folded o a                the outcome `a` of a folded text, restored and with pruned conditions
 --   HasTextOutcome o text a   `a` is the outcome of `text`
 --   TextRun                   what a run over a text returns
 --   RunsOver o text old new ran   the output for a text was appended to `old`
@@ -13,11 +19,13 @@
 --   IsOutputOf o text output edited   the output of the outcome of a text
 --
 -- Example: under `-UA`, the output for the line `#if A || X` is that line. If conditions are
--- pruned, it is `#if X`.
+-- pruned, it is `#if X`. So it is for the lines `#if A || \` and `X`: the run reads them as one.
 use Rattle.std.specs.Prelude.{◌≡◌, ℕ, List, ◌++◌, Bool, true, false, ◌||◌, Option, None}
-use Rattle.std.specs.Prelude.{nat_lt}
+use Rattle.std.specs.Prelude.{nat_lt, not, ◌&&◌, bytes_eq}
 use Rattle.ud_model.specs.sections.Faults.{Fault}
 use Rattle.ud_model.specs.sections.Items.{Options, rules_of}
+use Rattle.ud_model.specs.declared.settings.Settings.{Settings}
+use Rattle.ud_model.specs.output.FoldedTexts.{folded_text, restored_text}
 use Rattle.ud_model.specs.answer.Outcomes.{Outcome, HasOutcome}
 use Rattle.ud_cond.specs.symbols.SymbolTable.{TableRepresents}
 use Rattle.ud_faults.specs.declared.run.RunFault.{RunFault}
@@ -64,15 +72,48 @@ pruned o a = record {
   edited = edited_count o.table (rules_of o.settings) a.output;
 }
 
--- `HasTextOutcome o text r`: `r` is the outcome of the run over `text`. If conditions are pruned,
--- and the text has no fault, it is that outcome with pruned conditions.
+-- `may_fold s`: a run with the settings `s` reads C, and neither blanks nor numbers lines.
+abbrev pub may_fold : Settings → Bool
+may_fold s = not s.plain && not s.blank && not s.renumber
+
+-- `goes_back lines text`: the folded text `lines` is another one than `text`, and is restored to it.
+abbrev pub goes_back : List ℕ → List ℕ → Bool
+goes_back lines text = not (bytes_eq lines text) && bytes_eq (restored_text lines) text
+
+-- `comes_back bytes`: the text that is restored from `bytes` is folded to them.
+abbrev pub comes_back : List ℕ → Bool
+comes_back bytes = bytes_eq (folded_text (restored_text bytes)) bytes
+
+-- `IsFolded o text a`: conditions are pruned, and `text` may be folded and goes back. `a` is the
+-- outcome of the run over the folded text. It has no fault, and its output comes back.
+pub record IsFolded (o : TextOptions) (text : List ℕ) (a : Outcome) : Type 0 where
+  pub prunes : o.prunes ≡ true
+  pub may : may_fold o.run.settings ≡ true
+  pub goes : goes_back (folded_text text) text ≡ true
+  pub runs : HasOutcome o.run (folded_text text) a
+  pub faultless : a.fault ≡ None
+  pub comes : comes_back (pruned o.run a).output ≡ true
+
+-- `StaysUnfolded o text`: there is no such outcome of the folded text.
+abbrev pub StaysUnfolded : TextOptions → List ℕ → Type 0
+StaysUnfolded o text = (a : Outcome) → ¬ IsFolded o text a
+
+-- `folded o a`: the outcome `a` of a folded text, restored and without the operands that the options
+-- `o` decide.
+abbrev pub folded : Options → Outcome → TextOutcome
+folded o a = record (pruned o a) { output = restored_text (pruned o a).output }
+
+-- `HasTextOutcome o text r`: `r` is the outcome of `text`. If `text` is folded, it is that of the
+-- folded text. Else it is that of the run over `text`. If conditions are pruned, and the text has no
+-- fault, it is that outcome with pruned conditions.
 pub data HasTextOutcome (o : TextOptions) (text : List ℕ) : TextOutcome → Type 0 where
   as_run : {a : Outcome} → o.prunes ≡ false → HasOutcome o.run text a →
       HasTextOutcome o text (unpruned a)
   as_faulty : {a : Outcome} → ¬ (a.fault ≡ None) → HasOutcome o.run text a →
-      HasTextOutcome o text (unpruned a)
+      StaysUnfolded o text → HasTextOutcome o text (unpruned a)
   as_pruned : {a : Outcome} → o.prunes ≡ true → a.fault ≡ None → HasOutcome o.run text a →
-      HasTextOutcome o text (pruned o.run a)
+      StaysUnfolded o text → HasTextOutcome o text (pruned o.run a)
+  as_folded : {a : Outcome} → IsFolded o text a → HasTextOutcome o text (folded o.run a)
 
 -- `RunsOver o text old new ran`: `text` has no fault, and the output for it was appended to the
 -- bytes `old`, which are then `new`. `ran` has whether it differs, and the edited conditions.

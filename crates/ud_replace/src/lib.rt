@@ -11,6 +11,7 @@
 mod append;
 mod call;
 mod error;
+mod folded_run;
 mod folder;
 mod history;
 mod laws;

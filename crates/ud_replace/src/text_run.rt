@@ -1,12 +1,16 @@
 //! The run over a text in memory, and the pass over its output.
+//!
+//! If conditions are to be pruned, the text is folded first, if it can be (`folded_run.rt`).
 
-ghost use Rattle.std.specs.Prelude.{◌≡◌, true, false, MatchResult};
+ghost use Rattle.std.specs.Prelude.{◌≡◌, ◌++◌, true, false, MatchResult};
 ghost use Rattle.ud_args.specs.Plans.{ForOptionsOf};
 ghost use Rattle.ud_replace.specs.TextOutcomes.{TextOptions, IsPlanned, RunsOver, FailsOver};
 ghost use Rattle.ud_replace.specs.TextOutcomes.{error_of};
 ghost use Rattle.ud_replace.specs.UnprunedRuns.{RunsUnpruned, FailsUnpruned, PrunesInto};
+ghost use Rattle.ud_replace.specs.FoldedRuns.{RunsPruned};
 
 use crate::error::ReplaceError;
+use crate::folded_run::try_folded;
 use crate::text_plan::{TextPlan, TextRun};
 use std::alloc::Global;
 use ud_args::Plan;
@@ -37,7 +41,7 @@ pub fn run_text(
     Ok(TextRun { differs, edited: 0 })
 }
 
-/// Appends the output of the run over a text, with pruned conditions.
+/// Appends the output for a text, with pruned conditions.
 ///
 /// # Errors
 /// As `run_text`.
@@ -52,13 +56,53 @@ fn run_pruning(
     ensures { (o : TextOptions) → IsPlanned plan.now o → MatchResult result
         (RunsOver o text.now out.old.inner.items out.new.inner.items) (FailsOver o text.now) }
 {
+    match try_folded(alloc, plan, text, out)? {
+        Some(ran) => Ok(ran),
+        None => {
+            let ran = run_pruned(alloc, &plan.run, text, out)?;
+            Ok(ran)
+        }
+    }
+}
+
+/// Appends the output of the run over a text, with pruned conditions.
+///
+/// # Errors
+/// As `run_text`.
+pub(crate) fn run_pruned(
+    alloc: Global,
+    plan: &Plan,
+    text: &[u8],
+    out: &mut Watched<Vec<u8>>,
+) -> Result<TextRun, ReplaceError>
+    requires not_failed { out.old.failed ≡ false }
+    ensures { ForOptionsOf plan.now (λ o. MatchResult result
+        (RunsPruned o text.now out.old.inner.items out.new.inner.items)
+        (FailsUnpruned o text.now)) }
+{
     let mut output = Watched::new(Vec::<u8>::new(alloc));
-    let differs = run_unpruned(&plan.run, text, &mut output)?;
-    let edited = append_pruned(alloc, &plan.run, output.inner().as_slice(), out)?;
+    let differs = run_unpruned(plan, text, &mut output)?;
+    let edited = append_pruned(alloc, plan, output.inner().as_slice(), out)?;
     Ok(TextRun {
         differs: differs || edited > 0,
         edited,
     })
+}
+
+/// Appends bytes.
+///
+/// # Errors
+/// `OutOfMemory` if memory can't be allocated.
+pub(crate) fn write_bytes(out: &mut Watched<Vec<u8>>, bytes: &[u8]) -> Result<(), ReplaceError>
+    requires not_failed { out.old.failed ≡ false }
+    ensures { MatchResult result
+        (λ _. out.new.inner.items ≡ out.old.inner.items ++ bytes.now)
+        (λ e. e ≡ ReplaceError.OutOfMemory) }
+{
+    if !write_all(out, bytes) {
+        return Err(ReplaceError::OutOfMemory);
+    }
+    Ok(())
 }
 
 /// Appends a text without the operands of its conditions that the symbols decide. Returns how many
@@ -85,9 +129,7 @@ fn append_pruned(
     let Ok(edited) = prune(text, plan.symbols(), rules, &mut pruned) else {
         return Err(ReplaceError::OutOfMemory);
     };
-    if !write_all(out, pruned.as_slice()) {
-        return Err(ReplaceError::OutOfMemory);
-    }
+    write_bytes(out, pruned.as_slice())?;
     Ok(edited)
 }
 

@@ -7,5 +7,5 @@ use Rattle.ud_replace.proofs.text_run.append_pruned.Goals as goal
 
 pub returns : goal.returns
 returns c = λ o s t.
-    prunes_into o _ (ap rules_of (c.settings-settings.ensures ∙ sym s)) c.if-not-write_all.ensures.failed c.if-not-write_all.ensures.written c.as_slice.ensures.value c.new-pruned.ensures.items
+    prunes_into o _ (ap rules_of (c.settings-settings.ensures ∙ sym s)) c.in_ok-write_bytes.ensures c.as_slice.ensures.value c.new-pruned.ensures.items
     (c.in-Ok.ensures.pruned o.table (subst (λ x. TableRepresents x o.table) (sym c.symbols.ensures) t))

@@ -1,25 +1,28 @@
--- By the run, and the pass over its output.
-use Rattle.std.proofs.Common.{◌≡◌, refl, sym, ap, ◌∙◌, ◌||◌, nat_lt}
+-- By the folded text, or the text as it is.
+use Rattle.std.proofs.Common.{◌≡◌, List, ℕ, subst, ap, ◌∙◌}
+use Rattle.std.specs.Prelude.{IfNone}
 use Rattle.std.proofs.lemmas.Result.{err_from_is_err_and}
-use Rattle.ud_replace.proofs.TextLemmas.{fails_memory, fails_over, runs_pruned}
+use Rattle.ud_replace.specs.FoldedRuns.{RunsPruned, FoldsOrStays}
+use Rattle.ud_replace.proofs.TextLemmas.{fails_memory, fails_over, runs_over}
 use Rattle.ud_replace.proofs.text_run.run_pruning.Goals as goal
-use Rattle.ud_replace.proofs.text_run.run_pruning.Goals.{then-differs, else-differs}
 
-pub returns-in_err-differs : goal.returns-in_err-differs
-returns-in_err-differs c = λ o p.
+pub returns-in_err-ran : goal.returns-in_err-ran
+returns-in_err-ran c = λ o p.
     let e = err_from_is_err_and c.from_residual.result c.from_residual.ensures.1 in
-    rw (e.1, e.2) (fails_over o (c.in_err-differs.ensures o.run p.settings p.table))
+    rw (e.1, e.2) (fails_memory o c.args.text.now (c.in_err-ran.ensures.folds o p))
 
-pub returns-in_err-edited : goal.returns-in_err-edited
-returns-in_err-edited c = λ o p.
-    let e = err_from_is_err_and c.from_residual-in_err-edited.result c.from_residual-in_err-edited.ensures.1 in
-    rw (e.1, e.2) (fails_memory o c.args.text.now (c.in_err-edited.ensures o.run p.settings p.table))
+pub returns-in_err-ran-in-None : goal.returns-in_err-ran-in-None
+returns-in_err-ran-in-None c = λ o p.
+    let e = err_from_is_err_and c.from_residual-in_err-ran-in-None.result c.from_residual-in_err-ran-in-None.ensures.1 in
+    let stays = subst (λ r. FoldsOrStays o c.args.text.now c.args.out.now.inner.items c.try_folded.new.out.inner.items r) c.in-None.is (c.in_ok-ran.ensures.folds o p) in
+    rw (e.1, e.2) (fails_over o stays (c.in_err-ran-in-None.ensures o.run p.settings p.table))
 
-pub returns : goal.returns
-returns c = λ o p.
-    let differs : c.if-differs.result ≡ (c.in_ok-differs.differs || nat_lt 0 c.in_ok-edited.edited) = elim c.if-differs.branch [
-      | then-differs w ↦ w.result-is ∙ w.if-differs.true ∙ sym (ap (λ b. b || nat_lt 0 c.in_ok-edited.edited) w.if-differs.true)
-      | else-differs w ↦ w.result-is ∙ sym (ap (λ b. b || nat_lt 0 c.in_ok-edited.edited) w.if-differs.false)
-    ] in
-    runs_pruned o _ (p.prunes ∙ c.requires.prunes) differs refl (ap (λ v. v.items) c.new-output.ensures.inner ∙ c.new.ensures.items) (c.in_ok-differs.ensures o.run p.settings p.table)
-    (c.as_slice.ensures.value ∙ ap (λ v. v.items) c.inner.ensures) (c.in_ok-edited.ensures o.run p.settings p.table)
+pub returns-in-Some : goal.returns-in-Some
+returns-in-Some c = λ o p. subst (λ r. FoldsOrStays o c.args.text.now c.args.out.now.inner.items c.try_folded.new.out.inner.items r) c.in-Some.is (c.in_ok-ran.ensures.folds o p)
+
+pub returns-in_ok-ran-in-None : goal.returns-in_ok-ran-in-None
+returns-in_ok-ran-in-None c = λ o p.
+    let stays = subst (λ r. FoldsOrStays o c.args.text.now c.args.out.now.inner.items c.try_folded.new.out.inner.items r) c.in-None.is (c.in_ok-ran.ensures.folds o p) in
+    let same = subst (λ r. IfNone r (c.try_folded.new.out ≡ c.args.out.now)) c.in-None.is c.in_ok-ran.ensures.untouched in
+    runs_over o _ (p.prunes ∙ c.requires.prunes) stays
+    (subst (λ (x : List ℕ). RunsPruned o.run c.args.text.now x c.run_pruned.new.out.inner.items c.in_ok-ran-in-None.ran) (ap (λ v. v.inner.items) same) (c.in_ok-ran-in-None.ensures o.run p.settings p.table))

@@ -1,0 +1,52 @@
+-- FoldedRuns: the run over a text whose directives over several lines are folded.
+--
+--   RunsPruned o text old new ran      the output with pruned conditions was appended to `old`
+--   LeavesFolded o lines               no outcome of the folded text `lines` is taken
+--   RunsFolded o lines old new ran     the restored output for `lines` was appended to `old`
+--   TriesFolded o lines old new ran    one of the two, for the folded text `lines`
+--   FoldsOrStays o text old new ran    the output for `text` was appended so, or the text stays
+use Rattle.std.specs.Prelude.{◌≡◌, ℕ, List, ◌++◌, true, Option, Some, None}
+use Rattle.ud_model.specs.sections.Items.{Options}
+use Rattle.ud_model.specs.answer.Outcomes.{Outcome, HasOutcome}
+use Rattle.ud_model.specs.output.FoldedTexts.{restored_text}
+use Rattle.ud_replace.specs.declared.text_plan.TextRun.{TextRun}
+use Rattle.ud_replace.specs.TextOutcomes.{TextOptions, pruned, comes_back, StaysUnfolded, RunsOver}
+
+-- `RunsPruned o text old new ran`: `text` has no fault, and the output of the run over it was
+-- appended to `old` with pruned conditions. `ran` has whether it differs, and the edited conditions.
+pub record RunsPruned (o : Options) (text old new : List ℕ) (ran : TextRun) : Type 0 where
+  pub outcome : Outcome
+  pub runs : HasOutcome o text outcome
+  pub faultless : outcome.fault ≡ None
+  pub appended : new ≡ old ++ (pruned o outcome).output
+  pub differs_is : ran.differs ≡ (pruned o outcome).differs
+  pub edited_is : ran.edited ≡ (pruned o outcome).edited
+
+-- `LeavesFolded o lines`: each outcome of the folded text `lines` has a fault, or its output doesn't
+-- come back.
+abbrev pub LeavesFolded : Options → List ℕ → Type 0
+LeavesFolded o lines = (a : Outcome) → HasOutcome o lines a → a.fault ≡ None →
+    ¬ (comes_back (pruned o a).output ≡ true)
+
+-- `RunsFolded o lines old new ran`: the folded text `lines` has no fault, and the output of the run
+-- over it, which comes back, was appended to `old` as a restored text with pruned conditions.
+pub record RunsFolded (o : Options) (lines old new : List ℕ) (ran : TextRun) : Type 0 where
+  pub outcome : Outcome
+  pub runs : HasOutcome o lines outcome
+  pub faultless : outcome.fault ≡ None
+  pub again : comes_back (pruned o outcome).output ≡ true
+  pub appended : new ≡ old ++ restored_text (pruned o outcome).output
+  pub differs_is : ran.differs ≡ (pruned o outcome).differs
+  pub edited_is : ran.edited ≡ (pruned o outcome).edited
+
+-- `TriesFolded o lines old new ran`: this was appended for the folded text `lines`, or none of its
+-- outcomes is taken.
+abbrev pub TriesFolded : Options → List ℕ → List ℕ → List ℕ → Option TextRun → Type 0
+TriesFolded o lines old new None = LeavesFolded o lines
+TriesFolded o lines old new (Some ran) = RunsFolded o lines old new ran
+
+-- `FoldsOrStays o text old new ran`: the output for `text` was appended to `old`, or the text isn't
+-- folded.
+abbrev pub FoldsOrStays : TextOptions → List ℕ → List ℕ → List ℕ → Option TextRun → Type 0
+FoldsOrStays o text old new None = StaysUnfolded o text
+FoldsOrStays o text old new (Some ran) = RunsOver o text old new ran
