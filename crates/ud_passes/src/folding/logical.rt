@@ -161,7 +161,10 @@ impl LogicalLine {
     {
         let line = last.line;
         append_line(&line, &mut self.body)?;
-        if is_line_shown(self.body.as_slice(), line.ending, self.shown.as_slice()) {
+        let alloc = *self.body.allocator();
+        let body = self.body.as_slice();
+        let is_read = is_line_shown(alloc, body, line.ending, self.shown.as_slice())?;
+        if is_read {
             out.extend_from_slice(self.body.as_slice())?;
         } else {
             out.extend_from_slice(self.plain.as_slice())?;

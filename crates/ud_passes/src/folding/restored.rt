@@ -7,16 +7,15 @@ ghost use Rattle.ud_model.specs.text.LineViews.{as_line};
 ghost use Rattle.ud_model.specs.output.FoldedTexts.{restored_text, restored_line, restored_body};
 ghost use Rattle.ud_model.specs.output.FoldedTexts.{restored_byte};
 ghost use Rattle.ud_model.specs.declared.limits.TheConstants.{LINE_BYTES};
-ghost use Rattle.ud_text.specs.scan.ScannerState.{ScannerRepresents};
 ghost use Rattle.ud_passes.specs.Passes.{Grows};
 ghost use Rattle.ud_passes.specs.folding.Folding.{Restored};
 
 use crate::folding::logical::append_line;
 use crate::folding::shown::{VERTICAL_TAB, has_tab};
-use crate::walk::{SHORT_LINE_BYTES, Stretch, Walk};
+use crate::walk::{Stretch, Walk};
 use std::alloc::AllocError;
 use ud_model::{Line, Mode};
-use ud_text::{Scanner, ScannerOf};
+use ud_text::Scanner;
 
 /// Appends the bytes that a byte stands for, which is masked so, in a line with this ending.
 ///
@@ -59,30 +58,7 @@ fn append_body(
     Ok(())
 }
 
-/// Reads a line as the first one of a text, and appends the lines that it stands for.
-///
-/// # Errors
-/// Fails if memory runs out.
-fn append_by<const N: usize>(
-    scanner: &mut ScannerOf<N>,
-    line: &Line<'_>,
-    out: &mut Vec<u8>,
-) -> Result<(), AllocError>
-    requires room { length line.now.body.now ≤ N }
-    requires fits { length (text_of (as_line line.now)) ≤ LINE_BYTES }
-    requires one_line { NoNewline line.now.body.now }
-    requires new { ScannerRepresents scanner.old [] }
-    ensures grows { Grows out.old.items out.new.items }
-    ensures bytes { OnOk result
-        (out.new.items ≡ out.old.items ++ restored_line (as_line line.now)) }
-{
-    let scan = scanner.read(Mode::C, line);
-    append_body(line.ending, line.body, scan.masked, out)?;
-    out.extend_from_slice(line.ending)?;
-    Ok(())
-}
-
-/// Appends the lines that a line stands for.
+/// Appends the lines that a line stands for, by its scan as the first line of a text.
 ///
 /// # Errors
 /// Fails if memory runs out.
@@ -97,12 +73,11 @@ fn append_restored_line(line: &Line<'_>, out: &mut Vec<u8>) -> Result<(), AllocE
         append_line(line, out)?;
         return Ok(());
     }
-    if line.body.len() <= SHORT_LINE_BYTES {
-        let mut scanner = ScannerOf::<SHORT_LINE_BYTES>::new();
-        return append_by(&mut scanner, line, out);
-    }
-    let mut scanner = Scanner::new();
-    append_by(&mut scanner, line, out)
+    let mut scanner = Scanner::growing(*out.allocator());
+    let scan = scanner.read_growing(Mode::C, line)?;
+    append_body(line.ending, line.body, scan.masked, out)?;
+    out.extend_from_slice(line.ending)?;
+    Ok(())
 }
 
 /// Takes the next line, and appends the lines that it stands for.
@@ -136,8 +111,8 @@ fn append_restored(text: &[u8], out: &mut Vec<u8>) -> Result<(), AllocError>
     ensures grows { Grows out.old.items out.new.items }
     ensures restored { OnOk result (out.new.items ≡ out.old.items ++ restored_text text.now) }
 {
-    let mut walk = Walk::new(text);
-    while !walk.is_at_end() {
+    let mut walk = Walk::new(*out.allocator(), text);
+    'lines: while !walk.is_at_end() {
         step(&mut walk, out)?;
     }
     Ok(())

@@ -1,6 +1,6 @@
 //! Whether the one line that lines form is read as they are.
 
-ghost use Rattle.std.specs.Prelude.{◌≡◌, ◌≤◌, [], length, not, true, ◌&&◌};
+ghost use Rattle.std.specs.Prelude.{◌≡◌, ◌≤◌, [], length, not, true, ◌&&◌, IfOk};
 ghost use Rattle.ud_model.specs.text.Lines.{Line as TextLine, NoNewline, text_of, is_ending};
 ghost use Rattle.ud_model.specs.text.Scanning.{scan_after_run};
 ghost use Rattle.ud_model.specs.text.LineViews.{as_line, as_scan};
@@ -8,15 +8,14 @@ ghost use Rattle.ud_model.specs.sections.Directives.{content_of};
 ghost use Rattle.ud_model.specs.output.FoldedTexts as spec;
 ghost use Rattle.ud_model.specs.output.FoldedTexts.{is_shown_as, tabs_are_beside};
 ghost use Rattle.ud_model.specs.declared.limits.TheConstants.{LINE_BYTES};
-ghost use Rattle.ud_text.specs.scan.ScannerState.{ScannerRepresents};
 ghost use Rattle.ud_passes.specs.folding.LogicalLines.{is_line_shown};
 
 use crate::pruning::has_quote;
-use crate::walk::SHORT_LINE_BYTES;
 use memchr::memchr;
+use std::alloc::{AllocError, Global};
 use ud_model::{LINE_BYTES, Line, Mode, Scan};
 use ud_sections::directive;
-use ud_text::{Scanner, ScannerOf, line_in};
+use ud_text::{Scanner, line_in};
 
 /// The vertical tab, which stands for a newline that continues a directive.
 pub(crate) const VERTICAL_TAB: u8 = 11;
@@ -85,42 +84,40 @@ fn is_shown_as(scan: &Scan<'_>, shown: &[u8]) -> bool
     is_directive(scan) && are_apart(shown)
 }
 
-/// Reads a line as the first one of a text. Returns whether it is shown so.
-fn is_shown_by<const N: usize>(scanner: &mut ScannerOf<N>, line: &Line<'_>, shown: &[u8]) -> bool
-    requires fits { length line.now.body.now ≤ N }
-    requires one_line { NoNewline line.now.body.now }
-    requires new { ScannerRepresents scanner.old [] }
-    ensures { result ≡ is_shown_as (scan_after_run [] (as_line line.now)) shown.now }
-{
-    let scan = scanner.read(Mode::C, line);
-    is_shown_as(&scan, shown)
-}
-
-/// Returns whether a line is shown so by itself, as `is_shown_by`.
-fn is_shown(line: &Line<'_>, shown: &[u8]) -> bool
+/// Returns whether a line, read as the first one of a text, is a directive with these masked bytes.
+///
+/// # Errors
+/// Fails if memory runs out.
+fn is_shown(alloc: Global, line: &Line<'_>, shown: &[u8]) -> Result<bool, AllocError>
     requires fits { length line.now.body.now ≤ LINE_BYTES }
     requires one_line { NoNewline line.now.body.now }
-    ensures { result ≡ is_shown_as (scan_after_run [] (as_line line.now)) shown.now }
+    ensures { IfOk result (λ so.
+        so ≡ is_shown_as (scan_after_run [] (as_line line.now)) shown.now) }
 {
-    if line.body.len() <= SHORT_LINE_BYTES {
-        let mut scanner = ScannerOf::<SHORT_LINE_BYTES>::new();
-        return is_shown_by(&mut scanner, line, shown);
-    }
-    let mut scanner = Scanner::new();
-    is_shown_by(&mut scanner, line, shown)
+    let mut scanner = Scanner::growing(alloc);
+    let scan = scanner.read_growing(Mode::C, line)?;
+    Ok(is_shown_as(&scan, shown))
 }
 
 /// Returns whether bytes are a line with this ending, which fits and is shown so by itself.
-pub(crate) fn is_line_shown(bytes: &[u8], ending: &[u8], shown: &[u8]) -> bool
-    ensures { (k : TextLine) → bytes.now ≡ text_of k → ending.now ≡ k.ending →
-        NoNewline k.body → is_ending k.ending ≡ true → result ≡ is_line_shown k shown.now }
+///
+/// # Errors
+/// Fails if memory runs out.
+pub(crate) fn is_line_shown(
+    alloc: Global,
+    bytes: &[u8],
+    ending: &[u8],
+    shown: &[u8],
+) -> Result<bool, AllocError>
+    ensures { IfOk result (λ so. (k : TextLine) → bytes.now ≡ text_of k → ending.now ≡ k.ending →
+        NoNewline k.body → is_ending k.ending ≡ true → so ≡ is_line_shown k shown.now) }
 {
     if ending.is_empty() || bytes.len() > LINE_BYTES {
-        return false;
+        return Ok(false);
     }
     let line = line_in(bytes, 1);
     if line.ending != ending {
-        return false;
+        return Ok(false);
     }
-    is_shown(&line, shown)
+    Ok(is_shown(alloc, &line, shown)?)
 }

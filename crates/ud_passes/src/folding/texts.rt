@@ -20,44 +20,16 @@ ghost use Rattle.ud_passes.specs.folding.Folding.{Takes, Folded};
 
 use crate::folding::logical::{Last, LogicalLine, append_line};
 use crate::folding::shown::has_tab;
-use crate::walk::{SHORT_LINE_BYTES, ShortScanner, Stretch, Walk};
+use crate::walk::{LineScanner, Stretch, Walk};
 use std::alloc::AllocError;
 use ud_model::{Line, Mode};
-use ud_text::{Scanner, ScannerOf};
-
-/// Reads a line that the scanner takes, and takes it after the lines that go on.
-///
-/// # Errors
-/// Fails if memory runs out.
-fn take_by<'t, const N: usize>(
-    scanner: &mut ScannerOf<N>,
-    logical: &mut LogicalLine,
-    begun: Option<Last<'t>>,
-    line: &Line<'t>,
-    out: &mut Vec<u8>,
-) -> Result<Option<Last<'t>>, AllocError>
-    requires room { length line.now.body.now ≤ N }
-    requires one_line { NoNewline line.now.body.now }
-    ensures grows { Grows out.old.items out.new.items }
-    ensures represents { OnOk result ((before : List Reading) →
-        ScannerRepresents scanner.old before → ScannerRepresents scanner.new
-        (before ++ next_reading before Mode.C (as_line line.now) ∷ [])) }
-    ensures taken { IfOk result (λ b. (n : ℕ) (before group : List Reading) →
-        ScannerRepresents scanner.old before → IsGroup logical.old begun.entry group →
-        IfSome begun.entry (λ _. joins (c_run_of before) ≡ true) →
-        Takes (reading_at C (as_line line.now) (scan_after before C (as_line line.now)) n) group
-        out.old.items logical.new b out.new.items) }
-{
-    let scan = scanner.read(Mode::C, line);
-    logical.take(begun, line, &scan, out)
-}
 
 /// Reads a line, and takes it after the lines that go on.
 ///
 /// # Errors
 /// Fails if memory runs out.
 fn take<'t>(
-    scanner: &mut ShortScanner,
+    scanner: &mut LineScanner,
     logical: &mut LogicalLine,
     begun: Option<Last<'t>>,
     line: &Line<'t>,
@@ -75,41 +47,8 @@ fn take<'t>(
         Takes (reading_at C (as_line line.now) (scan_after before C (as_line line.now)) n) group
         out.old.items logical.new b out.new.items) }
 {
-    if line.body.len() > SHORT_LINE_BYTES {
-        return take_long(scanner, logical, begun, line, out);
-    }
-    take_by(scanner, logical, begun, line, out)
-}
-
-/// Takes a line that isn't short, as `take`.
-///
-/// # Errors
-/// Fails if memory runs out.
-#[inline(never)]
-fn take_long<'t>(
-    scanner: &mut ShortScanner,
-    logical: &mut LogicalLine,
-    begun: Option<Last<'t>>,
-    line: &Line<'t>,
-    out: &mut Vec<u8>,
-) -> Result<Option<Last<'t>>, AllocError>
-    requires fits { length (text_of (as_line line.now)) ≤ LINE_BYTES }
-    requires one_line { NoNewline line.now.body.now }
-    ensures grows { Grows out.old.items out.new.items }
-    ensures represents { OnOk result ((before : List Reading) →
-        ScannerRepresents scanner.old before → ScannerRepresents scanner.new
-        (before ++ next_reading before Mode.C (as_line line.now) ∷ [])) }
-    ensures taken { IfOk result (λ b. (n : ℕ) (before group : List Reading) →
-        ScannerRepresents scanner.old before → IsGroup logical.old begun.entry group →
-        IfSome begun.entry (λ _. joins (c_run_of before) ≡ true) →
-        Takes (reading_at C (as_line line.now) (scan_after before C (as_line line.now)) n) group
-        out.old.items logical.new b out.new.items) }
-{
-    let mut long = Scanner::new();
-    long.copy_state_of(scanner);
-    let last = take_by(&mut long, logical, begun, line, out);
-    scanner.copy_state_of(&long);
-    last
+    let scan = scanner.read_growing(Mode::C, line)?;
+    logical.take(begun, line, &scan, out)
 }
 
 /// Takes the next lines after those that go on.
@@ -155,10 +94,11 @@ fn append_lines(text: &[u8], out: &mut Vec<u8>) -> Result<(), AllocError>
     ensures folded { OnOk result
         (out.new.items ≡ out.old.items ++ folded_lines (read_as C text.now)) }
 {
-    let mut walk = Walk::new(text);
-    let mut logical = LogicalLine::new(*out.allocator());
+    let alloc = *out.allocator();
+    let mut walk = Walk::new(alloc, text);
+    let mut logical = LogicalLine::new(alloc);
     let mut begun = None;
-    while !walk.is_at_end() {
+    'lines: while !walk.is_at_end() {
         begun = step(&mut walk, &mut logical, begun, out)?;
     }
     logical.end_text(begun, out)?;

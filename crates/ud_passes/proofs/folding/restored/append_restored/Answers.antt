@@ -5,12 +5,12 @@ use Rattle.ud_text.proofs.lemmas.scan.PassLemmas.{nothing_left}
 use Rattle.ud_passes.proofs.RestoreLemmas.{none_restored, all_restored}
 use Rattle.ud_passes.proofs.folding.restored.append_restored.Goals as goal
 
-pub loop-walk-init : goal.loop-walk-init
-loop-walk-init c = record {
+pub lines-init : goal.lines-init
+lines-init c = record {
   grows = ([], sym (append-nil c.args.out.now.items));
   restored = none_restored c.args.text.now c.args.out.now.items c.new-walk.result (c.new-walk.ensures.walked C);
 }
 
 pub returns-clause-restored : goal.returns-clause-restored
-returns-clause-restored c = all_restored c.args.text.now c.args.out.now.items c.loop-walk.walk _ c.loop-walk.invariant.restored
-    (nothing_left c.loop-walk.walk.rest.now (sym c.is_at_end.ensures ∙ c.loop-walk-test.false))
+returns-clause-restored c = all_restored c.args.text.now c.args.out.now.items c.lines.walk _ c.lines.invariant.restored
+    (nothing_left c.lines.walk.rest.now (sym c.is_at_end.ensures ∙ c.lines-test.false))

@@ -23,6 +23,6 @@ returns c = λ k b e n o.
     let l : Line = as_line c.line_in-line.result in
     let to = c.line_in-line.ensures.bytes in
     let some : is_empty k.ending ≡ false = ap is_empty (sym e) ∙ sym c.is_empty.ensures ∙ c.if-is_empty.false in
-    c.is_shown.ensures ∙ shown_by k n (is_end k.ending o some) c.args.bytes.now b l to.0 to.1 c.line_in-line.ensures.value c.args.shown.now
+    c.in_ok-is_shown.ensures ∙ shown_by k n (is_end k.ending o some) c.args.bytes.now b l to.0 to.1 c.line_in-line.ensures.value c.args.shown.now
     ((bytes_eq-Decides l.ending c.args.ending.now).0 (not-false _ (sym c.ne.ensures ∙ c.if-ne.false)) ∙ e) some
     (le-leb (length (text_of k)) LINE_BYTES (subst (λ (x : List ℕ). length x ≤ LINE_BYTES) b c.if-bytes-gt-LINE_BYTES.false))

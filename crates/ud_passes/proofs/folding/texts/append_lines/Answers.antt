@@ -5,14 +5,14 @@ use Rattle.ud_text.proofs.lemmas.scan.PassLemmas.{nothing_left}
 use Rattle.ud_passes.proofs.FoldLemmas.{first_folded, all_folded}
 use Rattle.ud_passes.proofs.folding.texts.append_lines.Goals as goal
 
-pub loop-walk-init : goal.loop-walk-init
-loop-walk-init c = record {
+pub lines-init : goal.lines-init
+lines-init c = record {
   grows = ([], sym (append-nil c.args.out.now.items));
   folded = first_folded c.args.text.now c.args.out.now.items _ c.new-walk.result (c.new-walk.ensures.walked C);
 }
 
 pub returns-clause-folded : goal.returns-clause-folded
 returns-clause-folded c =
-    let s = c.loop-walk.invariant.folded in
-    all_folded c.args.text.now c.args.out.now.items _ _ c.loop-walk.walk _ _ s
-    (nothing_left c.loop-walk.walk.rest.now (sym c.is_at_end.ensures ∙ c.loop-walk-test.false)) (c.in_ok-end_text.ensures.bytes s.group s.is_group)
+    let s = c.lines.invariant.folded in
+    all_folded c.args.text.now c.args.out.now.items _ _ c.lines.walk _ _ s
+    (nothing_left c.lines.walk.rest.now (sym c.is_at_end.ensures ∙ c.lines-test.false)) (c.in_ok-end_text.ensures.bytes s.group s.is_group)

@@ -9,18 +9,18 @@ pub returns-in_ok-extend_from_slice-clause-bytes : goal.returns-in_ok-extend_fro
 returns-in_ok-extend_from_slice-clause-bytes c = λ group i.
     let b = c.args.last.now in
     let bytes : List ℕ = c.append_line.new.out.items in
-    let all : (if c.is_line_shown.result then bytes else c.args.self.now.plain.items) ≡ folded_bytes group =
-    folded_as c.args.self.now b group bytes c.is_line_shown.result i (c.in_ok-append_line.ensures.bytes ∙ sym (append_assoc c.args.self.now.body.items b.line.body.now b.line.ending.now))
-    (λ k w e n o. c.is_line_shown.ensures k (c.as_slice.ensures.value ∙ w) e n o ∙ ap (λ (x : List ℕ). is_line_shown k x) c.as_slice-2.ensures.value) b.line.ended in
+    let all : (if c.in_ok-is_read.is_read then bytes else c.args.self.now.plain.items) ≡ folded_bytes group =
+    folded_as c.args.self.now b group bytes c.in_ok-is_read.is_read i (c.in_ok-append_line.ensures.bytes ∙ sym (append_assoc c.args.self.now.body.items b.line.body.now b.line.ending.now))
+    (λ k w e n o. c.in_ok-is_read.ensures k (c.as_slice-body.ensures.value ∙ w) e n o ∙ ap (λ (x : List ℕ). is_line_shown k x) c.as_slice.ensures.value) b.line.ended in
     c.in_ok-extend_from_slice.ensures.items
-    ∙ ap (λ (x : List ℕ). c.args.out.now.items ++ x) (c.as_slice-then-is_line_shown.ensures.value ∙ sym (ap (λ (t : Bool). if t then bytes else c.args.self.now.plain.items) c.if-is_line_shown.true) ∙ all)
+    ∙ ap (λ (x : List ℕ). c.args.out.now.items ++ x) (c.as_slice-then-is_read.ensures.value ∙ sym (ap (λ (t : Bool). if t then bytes else c.args.self.now.plain.items) c.if-is_read.true) ∙ all)
 
 pub returns-in_ok-extend_from_slice-2-clause-bytes : goal.returns-in_ok-extend_from_slice-2-clause-bytes
 returns-in_ok-extend_from_slice-2-clause-bytes c = λ group i.
     let b = c.args.last.now in
     let bytes : List ℕ = c.append_line.new.out.items in
-    let all : (if c.is_line_shown.result then bytes else c.args.self.now.plain.items) ≡ folded_bytes group =
-    folded_as c.args.self.now b group bytes c.is_line_shown.result i (c.in_ok-append_line.ensures.bytes ∙ sym (append_assoc c.args.self.now.body.items b.line.body.now b.line.ending.now))
-    (λ k w e n o. c.is_line_shown.ensures k (c.as_slice.ensures.value ∙ w) e n o ∙ ap (λ (x : List ℕ). is_line_shown k x) c.as_slice-2.ensures.value) b.line.ended in
+    let all : (if c.in_ok-is_read.is_read then bytes else c.args.self.now.plain.items) ≡ folded_bytes group =
+    folded_as c.args.self.now b group bytes c.in_ok-is_read.is_read i (c.in_ok-append_line.ensures.bytes ∙ sym (append_assoc c.args.self.now.body.items b.line.body.now b.line.ending.now))
+    (λ k w e n o. c.in_ok-is_read.ensures k (c.as_slice-body.ensures.value ∙ w) e n o ∙ ap (λ (x : List ℕ). is_line_shown k x) c.as_slice.ensures.value) b.line.ended in
     c.in_ok-extend_from_slice-2.ensures.items
-    ∙ ap (λ (x : List ℕ). c.args.out.now.items ++ x) (c.as_slice-else-is_line_shown.ensures.value ∙ sym (ap (λ (t : Bool). if t then bytes else c.args.self.now.plain.items) c.if-is_line_shown.false) ∙ all)
+    ∙ ap (λ (x : List ℕ). c.args.out.now.items ++ x) (c.as_slice-else-is_read.ensures.value ∙ sym (ap (λ (t : Bool). if t then bytes else c.args.self.now.plain.items) c.if-is_read.false) ∙ all)

@@ -2,7 +2,7 @@
 use Rattle.std.proofs.Common.{[], ◌∙◌, ap}
 use Rattle.ud_model.specs.text.Scans.{Scan}
 use Rattle.ud_model.specs.output.FoldedTexts.{is_shown_as}
-use Rattle.ud_passes.proofs.folding.shown.is_shown_by.Goals as goal
+use Rattle.ud_passes.proofs.folding.shown.is_shown.Goals as goal
 
 pub returns : goal.returns
-returns g c = c.is_shown_as.ensures ∙ ap (λ (s : Scan). is_shown_as s c.args.shown.now) (c.read.ensures.value [] c.requires.new)
+returns c = c.is_shown_as.ensures ∙ ap (λ (s : Scan). is_shown_as s c.args.shown.now) (c.in_ok-scan.ensures.value [] c.growing-scanner.ensures)

@@ -10,12 +10,12 @@ use Rattle.ud_passes.specs.Walks.{reading_at}
 use Rattle.ud_passes.specs.folding.Folding.{Takes}
 use Rattle.ud_passes.proofs.CellLemmas.{if_ok}
 use Rattle.ud_passes.proofs.FoldLemmas.{is_spliced_by, if_some}
-use Rattle.ud_passes.proofs.folding.texts.take_by.Goals as goal
+use Rattle.ud_passes.proofs.folding.texts.take.Goals as goal
 
 pub returns-clause-taken : goal.returns-clause-taken
-returns-clause-taken g c = if_ok c.take.result c.take.ensures.taken (λ b f n before group r i j.
+returns-clause-taken c = if_ok c.take.result c.take.ensures.taken (λ b f n before group r i j.
     let l : Line = as_line c.args.line.now in
-    let scan = c.read.ensures.value before r in
+    let scan = c.in_ok-scan.ensures.value before r in
     subst (λ (s : Scan). Takes (reading_at C l s n) group c.args.out.now.items c.take.new.self b c.take.new.out.items) scan
     (f n group i (if_some c.args.begun (λ h. ap (λ (s : Scan). s.joins_before) scan ∙ joins_before-code (c_run_of before) l ∙ h) j)
     (ap (λ (s : Scan). s.spliced) scan ∙ is_spliced_by (c_run_of before) l)))
