@@ -9,7 +9,8 @@ pub mod EditLemmas
 pub mod PassLemmas
 pub mod FitLemmas
 pub mod NameLemmas
-pub mod ConditionLemmas
+pub mod MentionLemmas
+pub mod DefinitionLemmas
 pub mod SearchLemmas
 pub mod ShownLemmas
 pub mod FoldLemmas

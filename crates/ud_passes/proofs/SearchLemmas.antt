@@ -1,5 +1,7 @@
--- Searches: text lines are passed, a line is taken, and a condition ends.
-use Rattle.std.proofs.Common.{◌≡◌, ℕ, ◌+◌, List, [], ◌∷◌, ◌++◌, length, length-append, Bool, true, false, not, Option, None, is_some, refl, sym, ◌∙◌, ap, subst, append_assoc, append-nil, arith}
+-- Searches: text lines are passed, a line is taken, and a mention ends.
+use Rattle.std.proofs.Common.{◌≡◌, ℕ, ◌+◌, ◌-◌, ◌≤◌, List, [], ◌∷◌, ◌++◌, length, take, drop, length-append, length-drop, take-append-drop, Bool, true, false, ◌&&◌, Option, None, Some, is_some, refl, sym, ◌∙◌, ap, subst, append_assoc, append-nil, arith}
+use Rattle.std.specs.List.{concat}
+use Rattle.std.proofs.lemmas.Bool.{and_right}
 use Rattle.std.proofs.lemmas.Grind.{common_steps, flat_map-append}
 use Rattle.std.proofs.lemmas.List.Elements.{filter-append}
 use Rattle.ud_model.specs.text.Lines.{Line, whole_lines}
@@ -8,144 +10,200 @@ use Rattle.ud_model.specs.text.Scanning.{scan_after}
 use Rattle.ud_model.specs.conditions.Table.{Argument}
 use Rattle.ud_model.specs.output.InsertedLines.{read_as}
 use Rattle.ud_model.specs.declared.kind.Mode.{Mode}
+use Rattle.ud_model.proofs.text.LinesLemmas.{are_whole}
+use Rattle.ud_text.proofs.lemmas.bulk.QuietLineLemmas.{ended_lines}
 use Rattle.ud_passes.specs.Passes.{fits}
 use Rattle.ud_passes.specs.Walks.{reading_at, read_after, AreTexts, HaveBytes, Walked}
-use Rattle.ud_passes.specs.remaining.Conditions.{Condition, conditions_in, conditions_of, joins_next}
-use Rattle.ud_passes.specs.remaining.RemainingLists.{lines_for, named_count}
-use Rattle.ud_passes.specs.remaining.Searches.{taken, rest_from, ended, Appends, EndsLine, Searched, IsTaken, begun_as}
-use Rattle.ud_passes.specs.declared.remaining.conditions.Begun.{Begun}
+use Rattle.ud_passes.specs.remaining.Definitions.{IsClear}
+use Rattle.ud_passes.specs.remaining.Mentions.{Mention, mentions_in, mentions_of, joins_next}
+use Rattle.ud_passes.specs.remaining.ListedNames.{names_by}
+use Rattle.ud_passes.specs.remaining.RemainingLists.{lines_for, named_count, defining_count, is_condition, is_defining}
+use Rattle.ud_passes.specs.remaining.Searches.{taken, rest_from, ended, Appends, EndsLine, Searched, IsTaken, begun_as, IsClearTo}
+use Rattle.ud_passes.specs.declared.remaining.mentions.Begun.{Begun}
+use Rattle.ud_passes.specs.declared.remaining.mentions.Class.{Class}
+use Rattle.ud_passes.specs.declared.remaining.mentions.Class.TheVariants.{Condition, Definition, Closing}
 use Rattle.ud_passes.specs.declared.remaining.listing.Listing.{Listing}
 use Rattle.ud_passes.specs.declared.remaining.search.Search.{Search}
 use Rattle.ud_passes.specs.declared.remaining.search.Place.{Place}
 use Rattle.ud_passes.specs.declared.walk.Walk.{Walk}
-use Rattle.ud_passes.proofs.ConditionLemmas.{one_line, end_here, end_of_text, text_line, taken_long, joins_long}
+use Rattle.ud_passes.proofs.DefinitionLemmas.{clear_drop, DefineNothing, lines_clear}
+use Rattle.ud_passes.proofs.MentionLemmas.{one_line, end_here, end_of_text, text_line, taken_long, joins_long}
 use Rattle.ud_passes.proofs.WalkLemmas.{walk_ends}
 
--- 1. The conditions of more lines.
+-- 1. The mentions of more lines.
 
--- `Goes before found p goes_on`: the conditions of the lines `before` and of any lines after them.
-abbrev pub Goes : List Reading → List Condition → Option Condition → Bool → Type 0
-Goes before found p goes_on = (rs : List Reading) → conditions_in false (before ++ rs) ≡ found ++ rest_from p goes_on rs
+-- `Goes table before found p goes_on`: the mentions of the lines `before` and of any lines after them.
+abbrev pub Goes : List Argument → List Reading → List Mention → Option Mention → Bool → Type 0
+Goes table before found p goes_on = (rs : List Reading) → mentions_in table false (before ++ rs) ≡ found ++ rest_from table p goes_on rs
 
-pub goes_by_line : (before : List Reading) (found : List Condition) (p : Option Condition) (r : Reading) → Goes before found p true → Goes (before ++ r ∷ []) found (taken p r) (joins_next r)
-goes_by_line before found p r h = grind (arith, common_steps, one_line)
+module _ (table : List Argument) where
+  pub goes_by_line : (before : List Reading) (found : List Mention) (p : Option Mention) (r : Reading) → Goes table before found p true → Goes table (before ++ r ∷ []) found (taken table p r) (joins_next r)
+  goes_by_line before found p r h = grind (arith, common_steps, one_line)
 
-pub goes_by_end : (before : List Reading) (found : List Condition) (p : Option Condition) → Goes before found p false → Goes before (found ++ ended p) None true
-goes_by_end before found p h = grind (arith, common_steps, end_here)
+  pub goes_by_end : (before : List Reading) (found : List Mention) (p : Option Mention) → Goes table before found p false → Goes table before (found ++ ended p) None true
+  goes_by_end before found p h = grind (arith, common_steps, end_here)
 
-pub goes_by_texts : (before : List Reading) (found : List Condition) (rs : List Reading) → AreTexts rs → Goes before found None true → Goes (before ++ rs) found None true
-goes_by_texts before found rs h g = λ more. ap (λ (x : List Reading). conditions_in false x) (append_assoc before rs more) ∙ g (rs ++ more) ∙ ap (λ (x : List Condition). found ++ x) (none rs h more)
-  where
-    none : (rs : List Reading) → AreTexts rs → (more : List Reading) → conditions_in false (rs ++ more) ≡ conditions_in false more
-    none [] h more = refl
-    none (r ∷ rs) h more = text_line r (rs ++ more) h.0 ∙ none rs h.1 more
+  pub goes_by_texts : (before : List Reading) (found : List Mention) (rs : List Reading) → AreTexts rs → DefineNothing table rs → Goes table before found None true → Goes table (before ++ rs) found None true
+  goes_by_texts before found rs h d g =
+      λ more. ap (λ (x : List Reading). mentions_in table false x) (append_assoc before rs more) ∙ g (rs ++ more) ∙ ap (λ (x : List Mention). found ++ x) (none rs h d more)
+    where
+      none : (rs : List Reading) → AreTexts rs → DefineNothing table rs → (more : List Reading) → mentions_in table false (rs ++ more) ≡ mentions_in table false more
+      none [] h d more = refl
+      none (r ∷ rs) h d more = text_line table r (rs ++ more) h.0 d.0 ∙ none rs h.1 d.1 more
+
+  -- Clear lines define nothing.
+  pub texts_clear : (until : ℕ) (bytes rest : List ℕ) (rs : List Reading) → IsClearTo table until rest → length bytes ≤ length rest - until → bytes ≡ take (length bytes) rest →
+      HaveBytes bytes rs → DefineNothing table rs
+  texts_clear until bytes rest rs c long front h =
+      let is : bytes ≡ concat (whole_lines bytes) = ended_lines bytes h.ends in
+      let n : ℕ = length bytes in
+      lines_clear table (whole_lines bytes) h.first (length rest - until) (drop n rest) (are_whole bytes)
+      (subst (λ (x : List ℕ). length x ≤ length rest - until) is long)
+      (subst (IsClear table (length rest - until)) (sym (take-append-drop n rest) ∙ ap (λ (x : List ℕ). x ++ drop n rest) (sym front ∙ is)) c) rs h.lines_are
+
+  -- After some bytes, what was clear stays clear.
+  pub still_clear : (until n : ℕ) (rest : List ℕ) → IsClearTo table until rest → IsClearTo table until (drop n rest)
+  still_clear until n rest c =
+      let size = length-drop n rest in
+      subst (λ (k : ℕ). IsClear table k (drop n rest)) (omega (arith, size)) (clear_drop table n (length rest - until) rest c)
 
 -- 2. What is appended.
 
+pub defining_count-append : (ms ns : List Mention) → defining_count (ms ++ ns) ≡ defining_count ms + defining_count ns
+defining_count-append ms ns = grind (arith, common_steps, filter-append)
+
 module _ (table : List Argument) (name : List ℕ) where
-  pub lines_for-append : (listing : Listing) (cs ds : List Condition) → lines_for table listing name (cs ++ ds) ≡ lines_for table listing name cs ++ lines_for table listing name ds
-  lines_for-append listing cs ds = grind (arith, filter-append, flat_map-append)
+  pub lines_for-append : (listing : Listing) (ms ns : List Mention) → lines_for table listing name (ms ++ ns) ≡ lines_for table listing name ms ++ lines_for table listing name ns
+  lines_for-append listing ms ns = grind (arith, filter-append, flat_map-append)
 
-  pub named_count-append : (cs ds : List Condition) → named_count table (cs ++ ds) ≡ named_count table cs + named_count table ds
-  named_count-append cs ds = grind (arith, common_steps, filter-append)
+  pub named_count-append : (ms ns : List Mention) → named_count table (ms ++ ns) ≡ named_count table ms + named_count table ns
+  named_count-append ms ns = grind (arith, common_steps, filter-append)
 
-  pub appends_none : (old new : Search) → new.list.items ≡ old.list.items → new.count ≡ old.count → new.listing ≡ old.listing → Appends table name [] old new
-  appends_none old new l c g = grind (arith, common_steps)
+  pub appends_none : (old new : Search) → new.list.items ≡ old.list.items → new.count ≡ old.count → new.defined ≡ old.defined → new.listing ≡ old.listing → Appends table name [] old new
+  appends_none old new l c d g = grind (arith, common_steps)
 
-  pub appends_kept : (cs : List Condition) (start old new : Search) → Appends table name cs start old →
-      new.list.items ≡ old.list.items → new.count ≡ old.count → new.listing ≡ old.listing → Appends table name cs start new
-  appends_kept cs start old new a l c g = grind arith
+  -- An unlisted mention.
+  pub appends_unlisted : (found : Option Begun) (b : Begun) (after : List ℕ) (old new : Search) → found ≡ Some b → names_by table b.class after ≡ false →
+      new.list.items ≡ old.list.items → new.count ≡ old.count → new.defined ≡ old.defined → new.listing ≡ old.listing → Appends table name (ended (begun_as found after)) old new
+  appends_unlisted found b after old new e none l c d g =
+      let undefined : is_defining b.class ≡ false = by b.class none in
+      let uncounted : (is_condition b.class && names_by table b.class after) ≡ false = and_right (is_condition b.class) (names_by table b.class after) none in
+      subst (λ (p : Option Begun). Appends table name (ended (begun_as p after)) old new) (sym e) (grind (arith, common_steps))
+    where
+      by : (class : Class) → names_by table class after ≡ false → is_defining class ≡ false
+      by Definition h = h
+      by (Condition kind) h = refl
+      by Closing h = refl
 
-  pub appends_more : (cs ds : List Condition) (start mid new : Search) → Appends table name cs start mid → Appends table name ds mid new → Appends table name (cs ++ ds) start new
-  appends_more cs ds start mid new a b =
-      grind (arith, common_steps, named_count-append, lines_for-append)
+  pub appends_kept : (ms : List Mention) (start old new : Search) → Appends table name ms start old →
+      new.list.items ≡ old.list.items → new.count ≡ old.count → new.defined ≡ old.defined → new.listing ≡ old.listing → Appends table name ms start new
+  appends_kept ms start old new a l c d g = grind arith
+
+  pub appends_more : (ms ns : List Mention) (start mid new : Search) → Appends table name ms start mid → Appends table name ns mid new → Appends table name (ms ++ ns) start new
+  appends_more ms ns start mid new a b =
+      grind (arith, common_steps, named_count-append, defining_count-append, lines_for-append)
 
 -- 3. The places of a search.
 
 pub none_begun : (b : Option Begun) (bytes : List ℕ) → is_some b ≡ false → begun_as b bytes ≡ None
 none_begun b bytes e = grind arith
 
-pub none_if : {A : Type 0} (b : Option A) (none : Bool) → is_some b ≡ not none → (none ≡ false → false ≡ true) → is_some b ≡ false
-none_if b true e h = e
-none_if b false e h = e ∙ sym (h refl)
+pub none_if : {A : Type 0} (b : Option A) (most : ℕ) → (is_some b ≡ true → most ≡ 0) → (most ≡ 0 → false ≡ true) → is_some b ≡ false
+none_if None most p q = refl
+none_if (Some b) most p q = sym (q (p refl))
 
 module _ (table : List Argument) (mode : Mode) (name text : List ℕ) (start old : Search) (place : Place) (walk : Walk) (s : Searched table mode name text start old place walk)
-    (new : Search) (next : Place) (on : Walk) where
+    (new : Search) (next : Place) (on : Walk) (clear : IsClearTo table next.until on.rest.now) where
   -- Text lines were passed.
-  pub texts_searched : (bytes : List ℕ) (rs : List Reading) → AreTexts rs → HaveBytes bytes rs → Walked mode text (s.read ++ rs) on.rest.now on.scanner →
+  pub texts_searched : (bytes : List ℕ) (rs : List Reading) → AreTexts rs → DefineNothing table rs → HaveBytes bytes rs → Walked mode text (s.read ++ rs) on.rest.now on.scanner →
       is_some place.begun ≡ false → is_some next.begun ≡ false → (count : ℕ) → count ≡ length (whole_lines bytes) → next.number ≡ place.number + count →
-      new.list.items ≡ old.list.items → new.count ≡ old.count → new.listing ≡ old.listing → Searched table mode name text start new next on
-  texts_searched bytes rs h b w none none_then count c m l k g =
-      let parts : Goes s.read s.found None true = λ rs. s.parts rs ∙ ap (λ (x : Option Condition). s.found ++ rest_from x true rs) (none_begun place.begun old.after.items none) in
+      new.list.items ≡ old.list.items → new.count ≡ old.count → new.defined ≡ old.defined → new.listing ≡ old.listing → Searched table mode name text start new next on
+  texts_searched bytes rs h undefined b w none none_then count c m l k d g =
+      let parts : Goes table s.read s.found None true = λ rs. s.parts rs ∙ ap (λ (x : Option Mention). s.found ++ rest_from table x true rs) (none_begun place.begun old.after.items none) in
       let i = s.number_is in let n = b.count_is in let o = length-append s.read rs in
       record {
         read = s.read ++ rs;
         walked = w;
         number_is = omega (arith, i, n, o, c, m);
+        clear = clear;
         found = s.found;
-        parts = λ more. goes_by_texts s.read s.found rs h parts more ∙ ap (λ (x : Option Condition). s.found ++ rest_from x true more) (sym (none_begun next.begun new.after.items none_then));
-        appends = appends_kept table name s.found start old new s.appends l k g;
+        parts = λ more. goes_by_texts table s.read s.found rs h undefined parts more ∙ ap (λ (x : Option Mention). s.found ++ rest_from table x true more) (sym (none_begun next.begun new.after.items none_then));
+        appends = appends_kept table name s.found start old new s.appends l k d g;
       }
 
   -- A line was taken.
   module _ (k : Line) (w : Walked mode text (s.read ++ read_after mode s.read k ∷ []) on.rest.now on.scanner) (m : next.number ≡ place.number + 1)
-      (mid : Search) (same_list : mid.list.items ≡ old.list.items) (same_count : mid.count ≡ old.count) (same_listing : mid.listing ≡ old.listing) where
+      (mid : Search) (same_list : mid.list.items ≡ old.list.items) (same_count : mid.count ≡ old.count) (same_defined : mid.defined ≡ old.defined) (same_listing : mid.listing ≡ old.listing) where
     abbrev r : Reading
     r = read_after mode s.read k
 
-    abbrev begun_before : Option Condition
+    abbrev begun_before : Option Mention
     begun_before = begun_as place.begun old.after.items
 
-    line_taken : (q : Option Condition) (goes_on : Bool) → q ≡ taken begun_before r → goes_on ≡ joins_next r →
+    line_taken : (q : Option Mention) (goes_on : Bool) → q ≡ taken table begun_before r → goes_on ≡ joins_next r →
         EndsLine table name q goes_on mid new (begun_as next.begun new.after.items) → Searched table mode name text start new next on
     line_taken q goes_on t j e = record {
       read = s.read ++ r ∷ [];
       walked = w;
       number_is = let i = s.number_is in let o = length-append s.read (r ∷ []) in omega (arith, i, o, m);
+      clear = clear;
       found = after.0;
       parts = after.1;
       appends = after.2;
     }
       where
         kept : Appends table name s.found start mid
-        kept = appends_kept table name s.found start old mid s.appends same_list same_count same_listing
+        kept = appends_kept table name s.found start old mid s.appends same_list same_count same_defined same_listing
 
-        goes : Goes (s.read ++ r ∷ []) s.found q goes_on
-        goes = subst (λ (x : Option Condition). Goes (s.read ++ r ∷ []) s.found x goes_on) (sym t)
-            (subst (λ (b : Bool). Goes (s.read ++ r ∷ []) s.found (taken begun_before r) b) (sym j) (goes_by_line s.read s.found begun_before r s.parts))
+        goes : Goes table (s.read ++ r ∷ []) s.found q goes_on
+        goes = subst (λ (x : Option Mention). Goes table (s.read ++ r ∷ []) s.found x goes_on) (sym t)
+            (subst (λ (b : Bool). Goes table (s.read ++ r ∷ []) s.found (taken table begun_before r) b) (sym j) (goes_by_line table s.read s.found begun_before r s.parts))
 
-        by : (b : Bool) → Goes (s.read ++ r ∷ []) s.found q b → EndsLine table name q b mid new (begun_as next.begun new.after.items) →
-            (found : List Condition) × Goes (s.read ++ r ∷ []) found (begun_as next.begun new.after.items) true × Appends table name found start new
-        by true g a = (s.found, subst (λ (x : Option Condition). Goes (s.read ++ r ∷ []) s.found x true) (sym a.1) g, subst (λ (cs : List Condition). Appends table name cs start new) (append-nil s.found) (appends_more table name s.found [] start mid new kept a.0))
+        by : (b : Bool) → Goes table (s.read ++ r ∷ []) s.found q b → EndsLine table name q b mid new (begun_as next.begun new.after.items) →
+            (found : List Mention) × Goes table (s.read ++ r ∷ []) found (begun_as next.begun new.after.items) true × Appends table name found start new
+        by true g a = (
+          s.found,
+          subst (λ (x : Option Mention). Goes table (s.read ++ r ∷ []) s.found x true) (sym a.1) g,
+          subst (λ (ms : List Mention). Appends table name ms start new) (append-nil s.found) (appends_more table name s.found [] start mid new kept a.0),
+        )
         by false g a = (
           s.found ++ ended q,
-          subst (λ (x : Option Condition). Goes (s.read ++ r ∷ []) (s.found ++ ended q) x true) (sym a.1) (goes_by_end (s.read ++ r ∷ []) s.found q g),
+          subst (λ (x : Option Mention). Goes table (s.read ++ r ∷ []) (s.found ++ ended q) x true) (sym a.1) (goes_by_end table (s.read ++ r ∷ []) s.found q g),
           appends_more table name s.found (ended q) start mid new kept a.0,
         )
 
-        after : (found : List Condition) × Goes (s.read ++ r ∷ []) found (begun_as next.begun new.after.items) true × Appends table name found start new
+        after : (found : List Mention) × Goes table (s.read ++ r ∷ []) found (begun_as next.begun new.after.items) true × Appends table name found start new
         after = by goes_on goes e
 
-    pub line_searched : (q : Option Condition) (goes_on : Bool) → IsTaken begun_before (reading_at mode k (scan_after s.read mode k) place.number) q goes_on →
+    pub line_searched : (q : Option Mention) (goes_on : Bool) → IsTaken table begun_before (reading_at mode k (scan_after s.read mode k) place.number) q goes_on →
         EndsLine table name q goes_on mid new (begun_as next.begun new.after.items) → Searched table mode name text start new next on
     line_searched q goes_on i e =
         let same : reading_at mode k (scan_after s.read mode k) place.number ≡ r = ap (λ (n : ℕ). reading_at mode k (scan_after s.read mode k) n) s.number_is in
-        line_taken q goes_on (i.0 ∙ ap (λ (x : Reading). taken begun_before x) same) (i.1 ∙ ap (λ (x : Reading). joins_next x) same) e
+        line_taken q goes_on (i.0 ∙ ap (λ (x : Reading). taken table begun_before x) same) (i.1 ∙ ap (λ (x : Reading). joins_next x) same) e
 
     pub long_searched : fits k ≡ false → EndsLine table name begun_before false mid new (begun_as next.begun new.after.items) → Searched table mode name text start new next on
-    long_searched f e = line_taken begun_before false (sym (taken_long begun_before r f)) (sym (joins_long r f)) e
+    long_searched f e = line_taken begun_before false (sym (taken_long table begun_before r f)) (sym (joins_long r f)) e
 
 -- 4. The whole text.
 
-pub first_place : (table : List Argument) (mode : Mode) (name all : List ℕ) (now : Search) (walk : Walk) → Walked mode all [] walk.rest.now walk.scanner →
-    Searched table mode name all now now (record { number = 1; begun = None }) walk
-first_place table mode name all now walk w = record { read = []; walked = w; number_is = refl; found = []; parts = λ rs. refl; appends = appends_none table name now now refl refl refl }
+pub first_place : (table : List Argument) (mode : Mode) (name all : List ℕ) (now : Search) (until : ℕ) (walk : Walk) → until ≡ length walk.rest.now → Walked mode all [] walk.rest.now walk.scanner →
+    Searched table mode name all now now (record { number = 1; begun = None; until = until }) walk
+first_place table mode name all now until walk e w =
+    record {
+      read = [];
+      walked = w;
+      number_is = refl;
+      clear = subst (λ (n : ℕ). IsClear table n walk.rest.now) {x = 0} (omega arith) tt;
+      found = [];
+      parts = λ rs. refl;
+      appends = appends_none table name now now refl refl refl refl;
+    }
 
 pub all_searched : (table : List Argument) (mode : Mode) (name text : List ℕ) (start now new : Search) (place : Place) (walk : Walk) → Searched table mode name text start now place walk → walk.rest.now ≡ [] →
-    Appends table name (ended (begun_as place.begun now.after.items)) now new → Appends table name (conditions_of mode text) start new
+    Appends table name (ended (begun_as place.begun now.after.items)) now new → Appends table name (mentions_of table mode text) start new
 all_searched table mode name text start now new place walk s e a =
-    let b : Option Condition = begun_as place.begun now.after.items in
+    let b : Option Mention = begun_as place.begun now.after.items in
     let all : s.read ≡ read_as mode text = walk_ends mode text s.read walk.rest.now walk.scanner s.walked e in
-    let cs : s.found ++ ended b ≡ conditions_of mode text =
-    ap (λ (x : List Condition). s.found ++ x) (sym (end_of_text b)) ∙ sym (s.parts []) ∙ ap (λ (x : List Reading). conditions_in false x) (append-nil s.read ∙ all) in
-    subst (λ (x : List Condition). Appends table name x start new) cs (appends_more table name s.found (ended b) start now new s.appends a)
+    let ms : s.found ++ ended b ≡ mentions_of table mode text =
+    ap (λ (x : List Mention). s.found ++ x) (sym (end_of_text table b)) ∙ sym (s.parts []) ∙ ap (λ (x : List Reading). mentions_in table false x) (append-nil s.read ∙ all) in
+    subst (λ (x : List Mention). Appends table name x start new) ms (appends_more table name s.found (ended b) start now new s.appends a)

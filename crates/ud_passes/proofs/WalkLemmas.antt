@@ -53,7 +53,7 @@ texts_next mode text read rest s w some p next t whole skips e =
     let o = length-append read i.0 in (
       i.0,
       i.2,
-      record { bytes_are = ap concat all ∙ sym (ended_lines p whole); count_is = count },
+      record { ends = whole; first = n; lines_are = i.3; bytes_are = ap concat all ∙ sym (ended_lines p whole); count_is = count },
       record {
         done = w.done ++ p;
         is = append_assoc w.done p next ∙ ap (λ (x : List ℕ). w.done ++ x) e ∙ w.is;

@@ -7,15 +7,17 @@
 --   Walked mode text read ..       the lines `read` of a text were read
 --   len_of s                       how many bytes the stretch `s` has
 --   is_one_line s                  the stretch `s` is one line
+--   IsPrefixOf most rest s         the text lines of the stretch `s` are a prefix of `rest`
 --   CanBeRead s                    the scanner can read the line of the stretch `s`
 --   IsNext mode whole read next ..   the stretch `next` has the lines after the lines `read`
 --
 -- Example: a walk over `x;` newline `#if A` newline reads a text line at first. The next line is
 -- read by the pass: only a pass needs the scan of it.
-use Rattle.std.specs.Prelude.{◌≡◌, ℕ, ◌+◌, ◌<◌, ◌≤◌, List, [], ◌∷◌, ◌++◌, length, map}
+use Rattle.std.specs.Prelude.{◌≡◌, ℕ, ◌+◌, ◌<◌, ◌≤◌, List, [], ◌∷◌, ◌++◌, length, map, take}
 use Rattle.std.specs.Prelude.{Bool, true, false}
 use Rattle.std.specs.List.{concat}
 use Rattle.ud_model.specs.text.Lines.{Line, NoNewline, text_of, texts_of, whole_lines}
+use Rattle.ud_model.specs.text.Lines.{numbered_from}
 use Rattle.ud_model.specs.text.Scans.{Scan, Reading}
 use Rattle.ud_model.specs.text.Scanning.{scan_after, next_reading}
 use Rattle.ud_model.specs.text.LineViews.{as_line}
@@ -43,9 +45,11 @@ abbrev pub AreTexts : List Reading → Type 0
 AreTexts [] = Unit {0}
 AreTexts (r ∷ rs) = (content_of r.scan ≡ text) × AreTexts rs
 
--- `HaveBytes bytes rs`: the lines `rs` have together these bytes, and are as many as the lines of
--- these.
+-- `HaveBytes bytes rs`: the lines `rs` have together these bytes, and are the whole lines of these.
 pub record HaveBytes (bytes : List ℕ) (rs : List Reading) : Type 0 where
+  pub ends : AreWholeLines bytes
+  pub first : ℕ
+  pub lines_are : map (λ r. r.line) rs ≡ numbered_from first (whole_lines bytes)
   pub bytes_are : concat (map (λ r. text_of r.line) rs) ≡ bytes
   pub count_is : length rs ≡ length (whole_lines bytes)
 
@@ -71,6 +75,14 @@ abbrev pub is_one_line : Stretch → Bool
 is_one_line (Texts bytes) = false
 is_one_line (Fitting line) = true
 is_one_line (TooLong line) = true
+
+-- `IsPrefixOf most rest s`: if the stretch `s` has text lines, they are a prefix of the text `rest`
+-- with at most `most` bytes.
+abbrev pub IsPrefixOf : ℕ → List ℕ → Stretch → Type 0
+IsPrefixOf most rest (Texts bytes) =
+    (length bytes.now ≤ most) × (bytes.now ≡ take (length bytes.now) rest)
+IsPrefixOf most rest (Fitting line) = Unit {0}
+IsPrefixOf most rest (TooLong line) = Unit {0}
 
 -- `CanBeRead s`: a line that the scanner is to read has no newline, and fits.
 abbrev pub CanBeRead : Stretch → Type 0

@@ -1,5 +1,6 @@
 -- The conditions of a text that name a symbol.
-pub mod Conditions
+pub mod Definitions
+pub mod Mentions
 pub mod ListedNames
 pub mod Reasons
 pub mod RemainingLists

@@ -1,12 +1,13 @@
-//! The conditions of texts that still name a symbol of the options, as a list or counted.
+//! What texts still say of a symbol of the options, as a list or counted: conditions that name it,
+//! definitions of it, and words after an `#else` or `#endif`.
 //!
-//! The search goes over a text line by line. Text lines are skipped many at once. A directive that
-//! begins or continues a section begins a condition, and the lines that its line joins go on with
-//! it. Where the condition ends, its words are looked up.
+//! The search goes over a text line by line. Text lines are skipped many at once, up to one that
+//! may define a symbol. A directive of a section and a definition begin a mention, and the lines
+//! that its line joins go on with it. Where the mention ends, its words are looked up.
 //!
-//! `specs/remaining/Conditions.antt` defines the conditions of a text, `ListedNames.antt` which of
-//! them name a symbol, `Reasons.antt` why one of these stays, and `RemainingLists.antt` the list.
-//! `Searches.antt` has what a search keeps.
+//! `specs/remaining/Mentions.antt` defines the mentions of a text, `Definitions.antt` which lines
+//! define a symbol, and `ListedNames.antt` which mentions name one. `Reasons.antt` has what the
+//! list says of a mention, `RemainingLists.antt` the list, and `Searches.antt` what a search keeps.
 
 ghost use Rattle.std.specs.Prelude.{◌≡◌, List, [], OnOk, OnErr};
 ghost use Rattle.ud_model.specs.conditions.Table.{Argument};
@@ -19,16 +20,18 @@ use std::marker::Model;
 use ud_cond::Symbols;
 use ud_model::Mode;
 
-mod conditions;
+mod definitions;
 mod lines;
 mod listing;
+mod mentions;
 mod names;
 mod reasons;
 mod search;
 
 pub use listing::Listing;
 
-/// The conditions of all texts so far that still name a symbol.
+/// The mentions of symbols in all texts so far: conditions, definitions, and words after an `#else`
+/// or `#endif`.
 #[derive(Drop)]
 pub struct Remaining {
     search: Search,
@@ -42,14 +45,15 @@ impl Model for Remaining {
     ghost view = { λ r. record {
       listing = r.search.listing;
       count = r.search.count;
+      defined = r.search.defined;
       list = r.search.list.items;
     } };
 }
 
 impl Remaining {
-    /// Returns no conditions.
+    /// Returns an empty list.
     pub fn new(alloc: Global, listing: Listing) -> Remaining
-        ensures { result ≡ record { listing = listing; count = 0; list = [] } }
+        ensures { result ≡ record { listing = listing; count = 0; defined = 0; list = [] } }
     {
         Remaining {
             search: Search::new(alloc, listing),
@@ -63,6 +67,13 @@ impl Remaining {
         self.search.count
     }
 
+    /// Returns the number of lines that define a symbol, at most `usize::MAX`.
+    pub fn defined(&self) -> usize
+        ensures { result ≡ self.now.defined }
+    {
+        self.search.defined
+    }
+
     /// Returns the list.
     pub fn list(&self) -> &[u8]
         ensures { result.now ≡ self.now.list }
@@ -70,10 +81,11 @@ impl Remaining {
         self.search.list.as_slice()
     }
 
-    /// Adds the conditions of a text that name one of the symbols. `name` is that of its file.
+    /// Adds what a text says of the symbols. `name` is that of its file.
     ///
     /// `text` may have any length and any bytes. A condition whose comment never closes ends with
-    /// the text. A line over `LINE_BYTES` has no condition, and joins no other line.
+    /// the text. A line over `LINE_BYTES` has no condition and no definition, and joins no other
+    /// line.
     ///
     /// # Errors
     /// Fails if memory runs out. Nothing is then added.
@@ -89,10 +101,11 @@ impl Remaining {
         ensures unchanged { OnErr result (self.new ≡ self.old) }
     {
         let search = &mut self.search;
-        let (count, len) = (search.count, search.list.len());
+        let (count, defined, len) = (search.count, search.defined, search.list.len());
         let result = search.search(name, text, mode, symbols);
         if result.is_err() {
             search.count = count;
+            search.defined = defined;
             search.list.truncate(len);
         }
         result

@@ -6,10 +6,12 @@
 //! What comes next is a `Stretch`. A further kind of stretch needs a case in `IsNext`.
 
 ghost use Rattle.std.specs.Prelude.{◌≡◌, ◌+◌, ◌<◌, ◌≤◌, ◌==◌, List, [], ℕ, length, true, false};
+ghost use Rattle.std.specs.Prelude.{drop};
 ghost use Rattle.ud_model.specs.text.Lines.{whole_lines};
 ghost use Rattle.ud_model.specs.text.Scans.{Reading};
 ghost use Rattle.ud_model.specs.declared.kind.Mode.{Mode};
-ghost use Rattle.ud_passes.specs.Walks.{Walked, len_of, is_one_line, CanBeRead, IsNext};
+ghost use Rattle.ud_passes.specs.Walks.{Walked, len_of, is_one_line, IsPrefixOf, CanBeRead};
+ghost use Rattle.ud_passes.specs.Walks.{IsNext};
 
 use std::alloc::Global;
 use ud_model::{LINE_BYTES, Line, Mode};
@@ -66,10 +68,16 @@ impl<'t> Walk<'t> {
         self.rest.is_empty()
     }
 
-    /// Takes the next lines: text lines, if `many` is true and some come next, or else one line.
-    pub(crate) fn next(&mut self, mode: Mode, many: bool) -> Stretch<'t>
+    /// Returns the text from here on.
+    pub(crate) fn rest(&self) -> &'t [u8]
+        ensures { result.now ≡ self.now.rest.now }
+    {
+        self.rest
+    }
+
+    /// Takes the next lines: text lines if some come next, or else one line.
+    pub(crate) fn next(&mut self, mode: Mode) -> Stretch<'t>
         requires some { 0 < length self.old.rest.now }
-        ensures one { many ≡ false → is_one_line result ≡ true }
         ensures some { 0 < len_of result }
         ensures bytes { len_of result + length self.new.rest.now ≡ length self.old.rest.now }
         ensures readable { CanBeRead result }
@@ -77,10 +85,28 @@ impl<'t> Walk<'t> {
             Walked mode text read self.old.rest.now self.old.scanner →
             IsNext mode text read result self.new.rest.now self.new.scanner }
     {
-        if !many {
+        self.next_within(mode, self.rest.len())
+    }
+
+    /// Takes the next lines: text lines with together at most `most` bytes if some come next, or
+    /// else one line.
+    pub(crate) fn next_within(&mut self, mode: Mode, most: usize) -> Stretch<'t>
+        requires some { 0 < length self.old.rest.now }
+        ensures one { most ≡ 0 → is_one_line result ≡ true }
+        ensures some { 0 < len_of result }
+        ensures bytes { len_of result + length self.new.rest.now ≡ length self.old.rest.now }
+        ensures rest { self.new.rest.now ≡ drop (len_of result) self.old.rest.now }
+        ensures prefix { IsPrefixOf most self.old.rest.now result }
+        ensures readable { CanBeRead result }
+        ensures next { (text : List ℕ) (read : List Reading) →
+            Walked mode text read self.old.rest.now self.old.scanner →
+            IsNext mode text read result self.new.rest.now self.new.scanner }
+    {
+        if most == 0 {
             return self.next_line(mode);
         }
-        let skipped = self.scanner.skip_text(mode, self.rest);
+        let within = &self.rest[..most.min(self.rest.len())];
+        let skipped = self.scanner.skip_text(mode, within);
         if skipped == 0 {
             return self.next_line(mode);
         }
@@ -95,6 +121,7 @@ impl<'t> Walk<'t> {
         ensures one { is_one_line result ≡ true }
         ensures some { 0 < len_of result }
         ensures bytes { len_of result + length self.new.rest.now ≡ length self.old.rest.now }
+        ensures rest { self.new.rest.now ≡ drop (len_of result) self.old.rest.now }
         ensures readable { CanBeRead result }
         ensures next { (text : List ℕ) (read : List Reading) →
             Walked mode text read self.old.rest.now self.old.scanner →

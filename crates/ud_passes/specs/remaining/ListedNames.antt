@@ -2,7 +2,7 @@
 -- C11 6.4.2.1.
 --
 --   has_listed table in_word text   a word of the text is a name that the table lists
---   names_listed table c            a word of the condition is such a name
+--   names_listed table m            the mention `m` has such a name
 --
 -- A word is a longest run of word bytes. So `VMS2` isn't the word `VMS`, and neither is `0VMS`.
 --
@@ -11,7 +11,9 @@ use Rattle.std.specs.Prelude.{ℕ, List, [], ◌∷◌, Bool, true, false, ◌&&
 use Rattle.ud_model.specs.text.Bytes.{is_word_byte, leading_word}
 use Rattle.ud_model.specs.conditions.Table.{Argument}
 use Rattle.ud_model.specs.conditions.Conditions.{is_listed}
-use Rattle.ud_passes.specs.remaining.Conditions.{Condition}
+use Rattle.ud_passes.specs.remaining.Mentions.{Mention}
+use Rattle.ud_passes.specs.declared.remaining.mentions.Class.{Class}
+use Rattle.ud_passes.specs.declared.remaining.mentions.Class.TheVariants.{Definition}
 
 module _ (table : List Argument) where
   -- `has_listed in_word t`: a word of `t` is a name that the table lists. `in_word`: a word byte
@@ -22,6 +24,12 @@ module _ (table : List Argument) where
   has_listed false (b ∷ bs) = (is_word_byte b && is_listed table (leading_word (b ∷ bs))) ||
       has_listed (is_word_byte b) bs
 
-  -- `names_listed c`: a word of the condition's text is a name that the table lists.
-  abbrev pub names_listed : Condition → Bool
-  names_listed c = has_listed false c.after
+  -- `names_by class after`: a mention of this class, with the text `after`, has such a name. Each
+  -- definition has.
+  abbrev pub names_by : Class → List ℕ → Bool
+  names_by Definition after = true
+  names_by class after = has_listed false after
+
+  -- `names_listed m`: the mention `m` has such a name.
+  abbrev pub names_listed : Mention → Bool
+  names_listed m = names_by m.class m.after

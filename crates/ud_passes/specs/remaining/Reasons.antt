@@ -1,16 +1,18 @@
 -- Reasons: why a condition stays that names a symbol of the options, though operands are removed.
 -- `ud_model.specs.output.LeftOperands` has the law of which these are the cases.
 --
---   why_stays table rules c   the reason of the condition `c`
---   phrase reason             the reason in words
+--   why_stays table rules kind m   the reason of the condition `m`
+--   reason_of table listing m      the reason that the list has for the mention `m`, if it has one
+--   phrase reason                  the reason in words
+--   reason_text reason             the same before the text of a line, if there is one
 --
 -- The first reason that holds counts. A condition of which no operand can be removed, and which
 -- names no listed symbol as an operand, names one among the arguments of a call.
 --
 -- Example: with A undefined, `#if F(A)` stays for its arguments, `#if A + X` since an operand is
 -- unknown, and `#if!A||X` since its rest would be `#ifX`.
-use Rattle.std.specs.Prelude.{ℕ, List, length, Bool, not, ◌||◌, leb, Option, Some, None, codes}
-use Rattle.std.specs.Prelude.{if◌then◌else◌}
+use Rattle.std.specs.Prelude.{ℕ, List, [], ◌++◌, length, Bool, not, ◌||◌, leb, Option, Some, None}
+use Rattle.std.specs.Prelude.{codes, if◌then◌else◌}
 use Rattle.std.specs.List.{list_any}
 use Rattle.ud_model.specs.conditions.Table.{Argument}
 use Rattle.ud_model.specs.conditions.Expressions.{Expression}
@@ -23,16 +25,25 @@ use Rattle.ud_model.specs.sections.Directives.{test_of}
 use Rattle.ud_model.specs.declared.kind.Test.{Test}
 use Rattle.ud_model.specs.declared.kind.Test.TheVariants.{Nonzero, Defined, Undefined, Nothing}
 use Rattle.ud_model.specs.declared.limits.TheConstants.{LINE_BYTES}
-use Rattle.ud_passes.specs.remaining.Conditions.{Condition}
+use Rattle.ud_model.specs.declared.kind.Kind.{Kind}
+use Rattle.ud_cond.specs.CondViews.{as_rules}
+use Rattle.ud_passes.specs.remaining.Mentions.{Mention}
+use Rattle.ud_passes.specs.declared.remaining.listing.Listing.{Listing}
+use Rattle.ud_passes.specs.declared.remaining.listing.Listing.TheVariants.{Explained}
+use Rattle.ud_passes.specs.declared.remaining.mentions.Class.{Class}
+use Rattle.ud_passes.specs.declared.remaining.mentions.Class.TheVariants.{Condition, Definition}
+use Rattle.ud_passes.specs.declared.remaining.mentions.Class.TheVariants.{Closing}
 use Rattle.ud_passes.specs.declared.remaining.reasons.Reason.{Reason}
 use Rattle.ud_passes.specs.declared.remaining.reasons.Reason.TheVariants.{SeveralLines, Decided}
 use Rattle.ud_passes.specs.declared.remaining.reasons.Reason.TheVariants.{NotUnderstood, Misread}
 use Rattle.ud_passes.specs.declared.remaining.reasons.Reason.TheVariants.{InArguments}
 use Rattle.ud_passes.specs.declared.remaining.reasons.Reason.TheVariants.{UnknownOperand}
+use Rattle.ud_passes.specs.declared.remaining.reasons.Reason.TheVariants.{SourceDefines}
+use Rattle.ud_passes.specs.declared.remaining.reasons.Reason.TheVariants.{InComment}
 
--- `is_split c`: the condition is on several lines, or longer than a line may be.
-abbrev pub is_split : Condition → Bool
-is_split c = c.spanning || not (leb (length c.after) LINE_BYTES)
+-- `is_split m`: the condition is on several lines, or longer than a line may be.
+abbrev pub is_split : Mention → Bool
+is_split m = m.spanning || not (leb (length m.after) LINE_BYTES)
 
 module _ (table : List Argument) (rules : Rules) where
   -- `can_shrink e`: the residual of the tree `e` lacks some of its tokens.
@@ -55,13 +66,27 @@ module _ (table : List Argument) (rules : Rules) where
   why_unknown Undefined after = NotUnderstood
   why_unknown Nothing after = NotUnderstood
 
-  -- `why_stays c`: why the condition `c` stays, if one of its words is listed.
-  abbrev pub why_stays : Condition → Reason
-  why_stays c =
-      if is_split c then SeveralLines
-      else if is_unknown (condition_of c.kind c.after table rules).cond
-      then why_unknown (test_of c.kind) c.after
+  -- `why_stays kind m`: why the condition `m` stays, whose directive has this kind, if one of its
+  -- words is listed.
+  abbrev pub why_stays : Kind → Mention → Reason
+  why_stays kind m =
+      if is_split m then SeveralLines
+      else if is_unknown (condition_of kind m.after table rules).cond
+      then why_unknown (test_of kind) m.after
       else Decided
+
+-- `reason_by table class listing m`: the reason that the list has for the mention `m`, which has
+-- this class.
+abbrev pub reason_by : List Argument → Class → Listing → Mention → Option Reason
+reason_by table Definition listing m = Some SourceDefines
+reason_by table Closing listing m = Some InComment
+reason_by table (Condition kind) (Explained rules) m =
+    Some (why_stays table (as_rules rules) kind m)
+reason_by table (Condition kind) listing m = None
+
+-- `reason_of table listing m`: the reason that the list has for the mention `m`, if it has one.
+abbrev pub reason_of : List Argument → Listing → Mention → Option Reason
+reason_of table listing m = reason_by table m.class listing m
 
 -- `phrase reason`: the reason in words.
 abbrev pub phrase : Reason → List ℕ
@@ -71,3 +96,10 @@ phrase NotUnderstood = codes "not understood"
 phrase Misread = codes "its rest would be misread"
 phrase InArguments = codes "among arguments of a call"
 phrase UnknownOperand = codes "an operand is unknown"
+phrase SourceDefines = codes "the source defines it"
+phrase InComment = codes "a comment names it"
+
+-- `reason_text reason`: the reason in words before the text of a line, if there is one.
+abbrev pub reason_text : Option Reason → List ℕ
+reason_text None = []
+reason_text (Some reason) = phrase reason ++ codes ": "

@@ -1,63 +1,85 @@
--- RemainingLists: the list of the conditions of a text that name a symbol of the options.
+-- RemainingLists: the list of the mentions of a text that name a symbol of the options.
 --
---   line_of table listing name c        the line of the list for a condition of the file `name`
+--   line_of table listing name m        the line of the list for a mention of the file `name`
 --   remaining_text table listing ..     the list of a file's text
 --   remaining_count table mode bytes    how many conditions it has
+--   defined_count table mode bytes      how many definitions it has
 --   AddsAll table mode name text ..     those of a text were counted, and listed
 --
--- Example: if the table lists A, the list of `x.c` with the lines `int x;` and `#if A + X` is
--- `x.c:2: #if A + X`, or with reasons `x.c:2: an operand is unknown: #if A + X`.
-use Rattle.std.specs.Prelude.{◌≡◌, ℕ, ◌+◌, ◌<◌, ◌^◌, List, [], ◌∷◌, ◌++◌, length, codes}
-use Rattle.std.specs.Prelude.{filter}
+-- Example: if the table lists A, the list of `x.c` with the lines `int x;`, `#if A + X` and `#endif
+-- // A` has the line `x.c:2: #if A + X`, or with reasons `x.c:2: an operand is unknown: #if A + X`.
+-- Then comes `x.c:3: a comment names it: #endif // A`.
+use Rattle.std.specs.Prelude.{◌≡◌, ℕ, ◌+◌, ◌<◌, ◌^◌, List, [], ◌∷◌, ◌++◌, length, Bool, true, false}
+use Rattle.std.specs.Prelude.{filter, ◌&&◌}
 use Rattle.std.specs.List.{flat_map}
 use Rattle.ud_model.specs.text.Bytes.{newline}
 use Rattle.ud_model.specs.conditions.Table.{Argument}
 use Rattle.ud_model.specs.declared.kind.Mode.{Mode}
-use Rattle.ud_cond.specs.CondViews.{as_rules}
-use Rattle.ud_passes.specs.Passes.{place_at, numbered_line}
-use Rattle.ud_passes.specs.remaining.Conditions.{Condition, conditions_of}
+use Rattle.ud_passes.specs.Passes.{place_at}
+use Rattle.ud_passes.specs.remaining.Mentions.{Mention, mentions_of}
 use Rattle.ud_passes.specs.remaining.ListedNames.{names_listed}
-use Rattle.ud_passes.specs.remaining.Reasons.{why_stays, phrase}
+use Rattle.ud_passes.specs.remaining.Reasons.{reason_of, reason_text}
 use Rattle.ud_passes.specs.declared.remaining.listing.Listing.{Listing}
-use Rattle.ud_passes.specs.declared.remaining.listing.Listing.TheVariants.{Counted, Listed}
-use Rattle.ud_passes.specs.declared.remaining.listing.Listing.TheVariants.{Explained}
+use Rattle.ud_passes.specs.declared.remaining.listing.Listing.TheVariants.{Counted}
+use Rattle.ud_passes.specs.declared.remaining.mentions.Class.{Class}
+use Rattle.ud_passes.specs.declared.remaining.mentions.Class.TheVariants.{Condition, Definition}
+
+-- `is_condition class`: a mention of this class is a condition.
+abbrev pub is_condition : Class → Bool
+is_condition (Condition kind) = true
+is_condition class = false
+
+-- `is_defining class`: a mention of this class is a definition.
+abbrev pub is_defining : Class → Bool
+is_defining Definition = true
+is_defining class = false
 
 module _ (table : List Argument) where
-  -- `line_of listing name c`: the line for the condition `c` of the file `name`, if it is listed.
-  abbrev pub line_of : Listing → List ℕ → Condition → List ℕ
-  line_of Counted name c = []
-  line_of Listed name c = numbered_line name c.number c.body
-  line_of (Explained rules) name c =
-      place_at name c.number ++ phrase (why_stays table (as_rules rules) c) ++ codes ": " ++
-      c.body ++ newline ∷ []
+  -- `line_of listing name m`: the line for the mention `m` of the file `name`, if it is listed.
+  abbrev pub line_of : Listing → List ℕ → Mention → List ℕ
+  line_of Counted name m = []
+  line_of listing name m = place_at name m.number ++ reason_text (reason_of table listing m) ++
+      m.body ++ newline ∷ []
 
-  -- `lines_for listing name cs`: the lines for those of the conditions that name a listed symbol.
-  abbrev pub lines_for : Listing → List ℕ → List Condition → List ℕ
-  lines_for listing name cs = flat_map (line_of listing name) (filter (names_listed table) cs)
+  -- `lines_for listing name ms`: the lines for those of the mentions that name a listed symbol.
+  abbrev pub lines_for : Listing → List ℕ → List Mention → List ℕ
+  lines_for listing name ms = flat_map (line_of listing name) (filter (names_listed table) ms)
 
-  -- `named_count cs`: how many of the conditions name a listed symbol.
-  abbrev pub named_count : List Condition → ℕ
-  named_count cs = length (filter (names_listed table) cs)
+  -- `named_count ms`: how many of the mentions are conditions that name a listed symbol.
+  abbrev pub named_count : List Mention → ℕ
+  named_count ms = length (filter (λ m. is_condition m.class && names_listed table m) ms)
 
   -- `remaining_text listing mode name bytes`: the list of the text of the file `name`.
   abbrev pub remaining_text : Listing → Mode → List ℕ → List ℕ → List ℕ
-  remaining_text listing mode name bytes = lines_for listing name (conditions_of mode bytes)
+  remaining_text listing mode name bytes = lines_for listing name (mentions_of table mode bytes)
 
   -- `remaining_count mode bytes`: how many conditions of the text name a listed symbol.
   abbrev pub remaining_count : Mode → List ℕ → ℕ
-  remaining_count mode bytes = named_count (conditions_of mode bytes)
+  remaining_count mode bytes = named_count (mentions_of table mode bytes)
 
--- The number of the conditions of some texts, and the list.
+-- `defining_count ms`: how many of the mentions are definitions.
+abbrev pub defining_count : List Mention → ℕ
+defining_count ms = length (filter (λ m. is_defining m.class) ms)
+
+-- `defined_count table mode bytes`: how many lines of the text define a listed symbol.
+abbrev pub defined_count : List Argument → Mode → List ℕ → ℕ
+defined_count table mode bytes = defining_count (mentions_of table mode bytes)
+
+-- The numbers of the conditions and the definitions of some texts, and the list.
 pub record RemainingState : Type 0 where
   pub listing : Listing
   pub count : ℕ
+  pub defined : ℕ
   pub list : List ℕ
 
--- `AddsAll table mode name text old new`: the conditions of the text of the file `name` that name a
--- listed symbol were counted, unless the count is at its limit, and listed.
+-- `AddsAll table mode name text old new`: the mentions of the text of the file `name` that name a
+-- listed symbol were listed. Conditions and definitions were counted, unless their count is at its
+-- limit.
 pub record AddsAll (table : List Argument) (mode : Mode) (name text : List ℕ)
     (old new : RemainingState) : Type 0 where
   pub list_is : new.list ≡ old.list ++ remaining_text table old.listing mode name text
   pub count_is : old.count + remaining_count table mode text < 2 ^ 64 →
       new.count ≡ old.count + remaining_count table mode text
+  pub defined_is : old.defined + defined_count table mode text < 2 ^ 64 →
+      new.defined ≡ old.defined + defined_count table mode text
   pub listing_is : new.listing ≡ old.listing

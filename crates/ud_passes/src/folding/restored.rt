@@ -92,7 +92,7 @@ fn step(walk: &mut Walk<'_>, out: &mut Vec<u8>) -> Result<(), AllocError>
         Restored text start walk.old out.old.items →
         Restored text start walk.new out.new.items) }
 {
-    match walk.next(Mode::C, false) {
+    match walk.next_within(Mode::C, 0) {
         Stretch::Texts(bytes) => out.extend_from_slice(bytes)?,
         Stretch::TooLong(line) => append_line(&line, out)?,
         Stretch::Fitting(line) => {

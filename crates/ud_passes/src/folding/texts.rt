@@ -1,7 +1,7 @@
 //! Folds a text, line by line.
 
 ghost use Rattle.std.specs.Prelude.{◌≡◌, ◌≤◌, ◌<◌, ◌∷◌, ◌++◌, ℕ, List, [], length, true, IfOk, OnOk};
-ghost use Rattle.std.specs.Prelude.{OnErr, IfSome};
+ghost use Rattle.std.specs.Prelude.{OnErr, IfSome, is_some};
 ghost use Rattle.ud_model.specs.text.Lines.{NoNewline, text_of};
 ghost use Rattle.ud_model.specs.text.Scans.{Reading};
 ghost use Rattle.ud_model.specs.text.Splicing.{c_run_of};
@@ -51,6 +51,16 @@ fn take<'t>(
     logical.take(begun, line, &scan, out)
 }
 
+/// Returns how many bytes of text lines may be passed at once: none if a directive goes on.
+fn passable_len(begun: Option<Last<'_>>) -> usize
+    ensures { is_some begun.entry ≡ true → result ≡ 0 }
+{
+    match begun {
+        Some(_) => 0,
+        None => usize::MAX,
+    }
+}
+
 /// Takes the next lines after those that go on.
 ///
 /// # Errors
@@ -68,7 +78,7 @@ fn step<'t>(
         Folded text start logical.old begun.entry walk.old out.old.items →
         Folded text start logical.new b walk.new out.new.items) }
 {
-    match walk.next(Mode::C, begun.is_none()) {
+    match walk.next_within(Mode::C, passable_len(begun)) {
         Stretch::Texts(bytes) => {
             out.extend_from_slice(bytes)?;
             Ok(None)

@@ -116,7 +116,7 @@ impl<'a> File<'a> {
             Listed self.entry text start found walk.old out.old.items →
             Listed self.entry text start f walk.new out.new.items) }
     {
-        match walk.next(self.mode, true) {
+        match walk.next(self.mode) {
             Stretch::Texts(bytes) => Ok(Found {
                 number: found.number + self.lines_in(bytes),
                 ..found

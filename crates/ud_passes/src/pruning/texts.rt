@@ -103,7 +103,7 @@ fn step(
         Pruned calls (as_rules rules) text start count walk.old out.old.items →
         Pruned calls (as_rules rules) text start n walk.new out.new.items) }
 {
-    match walk.next(Mode::C, true) {
+    match walk.next(Mode::C) {
         Stretch::Texts(bytes) => {
             out.extend_from_slice(bytes)?;
             Ok(count)

@@ -1,14 +1,14 @@
-//! Whether conditions are counted, listed or explained.
+//! Whether mentions are counted, listed or explained.
 
 use ud_cond::Rules;
 
-/// The result of a search for conditions.
+/// The result of a search for what texts say of the symbols.
 #[derive(Clone, Copy)]
 pub enum Listing {
-    /// Their number.
+    /// The numbers of conditions and definitions.
     Counted,
-    /// Their number, and a line for each.
+    /// These numbers, and a line for each mention.
     Listed,
-    /// Their number, and a line for each with the reason why it stays under these rules.
+    /// The same. The line of a condition has the reason why it stays under these rules.
     Explained(Rules),
 }

@@ -14,7 +14,7 @@ use ud_model::Kind;
 use ud_model::bytes::{is_word_byte, word_len};
 
 /// Returns whether a symbol has this name.
-fn is_listed(symbols: &Symbols, name: &[u8]) -> bool
+pub(crate) fn is_listed(symbols: &Symbols, name: &[u8]) -> bool
     ensures { (calls : List Argument) → TableRepresents symbols.now calls →
         result ≡ is_listed calls name.now }
 {

@@ -1,4 +1,4 @@
-//! Why a condition stays.
+//! What the list says of a mention: why a condition stays, or what else names the symbol.
 
 ghost use Rattle.std.specs.Prelude.{◌≡◌, ◌≤◌, List, length, not};
 ghost use Rattle.std.specs.List.{list_any};
@@ -11,14 +11,16 @@ ghost use Rattle.ud_model.specs.declared.limits.TheConstants.{LINE_BYTES};
 ghost use Rattle.ud_cond.specs.CondViews.{as_rules};
 ghost use Rattle.ud_cond.specs.symbols.SymbolTable.{TableRepresents};
 ghost use Rattle.ud_passes.specs.remaining.Reasons as spec;
-ghost use Rattle.ud_passes.specs.remaining.Searches.{as_condition};
+ghost use Rattle.ud_passes.specs.remaining.Searches.{as_mention};
 
-use crate::remaining::conditions::Begun;
+use crate::remaining::listing::Listing;
+use crate::remaining::mentions::{Begun, Class};
 use crate::remaining::names::has_listed_operand;
 use ud_cond::{Rules, Symbols, TokenFlags, condition, residual};
 use ud_model::{Cond, Kind, LINE_BYTES, Test};
 
-/// Why a condition stays that names a symbol, though operands that are decided are removed.
+/// Why a condition stays that names a symbol, though operands that are decided are removed. Or what
+/// else names a symbol.
 #[derive(Clone, Copy)]
 pub(crate) enum Reason {
     /// It is on several lines.
@@ -33,6 +35,10 @@ pub(crate) enum Reason {
     InArguments,
     /// It has an operand that is unknown.
     UnknownOperand,
+    /// It is no condition, but a definition in the source.
+    SourceDefines,
+    /// It is no condition, but what follows an `#else` or `#endif`.
+    InComment,
 }
 
 impl Reason {
@@ -47,6 +53,8 @@ impl Reason {
             Reason::Misread => b"its rest would be misread",
             Reason::InArguments => b"among arguments of a call",
             Reason::UnknownOperand => b"an operand is unknown",
+            Reason::SourceDefines => b"the source defines it",
+            Reason::InComment => b"a comment names it",
         }
     }
 }
@@ -102,16 +110,36 @@ fn why_unknown(kind: Kind, text: &[u8], symbols: &Symbols, rules: Rules) -> Reas
 }
 
 /// Returns why a condition stays that names a symbol.
-pub(crate) fn why_stays(begun: &Begun<'_>, after: &[u8], symbols: &Symbols, rules: Rules) -> Reason
+fn why_stays(kind: Kind, begun: &Begun<'_>, after: &[u8], symbols: &Symbols, rules: Rules) -> Reason
     ensures { (calls : List Argument) → TableRepresents symbols.now calls →
-        result ≡ spec.why_stays calls (as_rules rules) (as_condition begun.now after.now) }
+        result ≡ spec.why_stays calls (as_rules rules) kind (as_mention begun.now after.now) }
 {
     if begun.is_spanning || after.len() > LINE_BYTES {
         return Reason::SeveralLines;
     }
-    if is_unknown(begun.kind, after, symbols, rules) {
-        why_unknown(begun.kind, after, symbols, rules)
+    if is_unknown(kind, after, symbols, rules) {
+        why_unknown(kind, after, symbols, rules)
     } else {
         Reason::Decided
+    }
+}
+
+/// Returns the reason that the list has for a mention, if it has one.
+pub(crate) fn reason_of(
+    begun: &Begun<'_>,
+    after: &[u8],
+    symbols: &Symbols,
+    listing: Listing,
+) -> Option<Reason>
+    ensures { (calls : List Argument) → TableRepresents symbols.now calls →
+        result ≡ spec.reason_of calls listing (as_mention begun.now after.now) }
+{
+    match begun.class {
+        Class::Definition => Some(Reason::SourceDefines),
+        Class::Closing => Some(Reason::InComment),
+        Class::Condition(kind) => match listing {
+            Listing::Explained(rules) => Some(why_stays(kind, begun, after, symbols, rules)),
+            Listing::Counted | Listing::Listed => None,
+        },
     }
 }

@@ -1,7 +1,7 @@
 //! The search of a text, line by line.
 
 ghost use Rattle.std.specs.Prelude.{◌≡◌, ℕ, ◌+◌, ◌<◌, ◌≤◌, ◌^◌, List, [], ◌∷◌, ◌++◌, length};
-ghost use Rattle.std.specs.Prelude.{IfOk, OnOk};
+ghost use Rattle.std.specs.Prelude.{IfOk, OnOk, if◌then◌else◌, is_some, true, ◌-◌};
 ghost use Rattle.ud_model.specs.text.Lines.{NoNewline, text_of};
 ghost use Rattle.ud_model.specs.text.Scans.{Reading};
 ghost use Rattle.ud_model.specs.text.Scanning.{next_reading, scan_after};
@@ -12,31 +12,34 @@ ghost use Rattle.ud_text.specs.scan.ScannerState.{ScannerRepresents};
 ghost use Rattle.ud_cond.specs.symbols.SymbolTable.{TableRepresents};
 ghost use Rattle.ud_passes.specs.Passes.{Grows};
 ghost use Rattle.ud_passes.specs.Walks.{reading_at};
-ghost use Rattle.ud_passes.specs.remaining.RemainingLists.{line_of};
-ghost use Rattle.ud_passes.specs.remaining.Searches.{as_condition, begun_as, IsTaken, ended};
-ghost use Rattle.ud_passes.specs.remaining.Searches.{Appends, EndsLine, Searched};
-ghost use Rattle.ud_passes.specs.remaining.Conditions.{conditions_of};
+ghost use Rattle.ud_passes.specs.remaining.ListedNames.{names_by};
+ghost use Rattle.ud_passes.specs.remaining.RemainingLists.{line_of, is_condition, is_defining};
+ghost use Rattle.ud_passes.specs.remaining.Searches.{as_mention, begun_as, IsTaken, ended};
+ghost use Rattle.ud_passes.specs.remaining.Searches.{Appends, EndsLine, Searched, IsClearTo};
+ghost use Rattle.ud_passes.specs.remaining.Mentions.{mentions_of};
 
-use crate::lines::append_line;
-use crate::remaining::conditions::{Begun, take_line};
+use crate::remaining::definitions::clear_len;
 use crate::remaining::lines::append_reason;
 use crate::remaining::listing::Listing;
+use crate::remaining::mentions::{Begun, Class, take_line};
 use crate::remaining::names::has_listed;
-use crate::remaining::reasons::why_stays;
+use crate::remaining::reasons::reason_of;
 use crate::walk::{LineScanner, Stretch, Walk, lines_in};
 use std::alloc::{AllocError, Global};
 use ud_cond::Symbols;
 use ud_model::{Line, Mode};
 
-/// A search for the conditions of texts that still name a symbol, and those that were found.
+/// A search for the mentions of texts that name a symbol, and those that were found.
 #[derive(Drop)]
 pub(crate) struct Search {
     pub(crate) listing: Listing,
     /// The number of conditions, at most `usize::MAX`.
     pub(crate) count: usize,
-    /// A line for each condition: the file, the line's number, and its text.
+    /// The number of definitions, at most `usize::MAX`.
+    pub(crate) defined: usize,
+    /// A line for each mention: the file, the line's number, and its text.
     pub(crate) list: Vec<u8>,
-    /// The text of the current condition, with that of the lines that its line joins.
+    /// The text of the current mention, with that of the lines that its line joins.
     after: Vec<u8>,
 }
 
@@ -45,21 +48,22 @@ pub(crate) struct Search {
 struct Place<'t> {
     /// The number of the next line.
     number: usize,
-    /// The condition that goes on with the next line, if there is one.
+    /// The mention that goes on with the next line, if there is one.
     begun: Option<Begun<'t>>,
+    /// The text has no definition from here on, but perhaps in its last bytes: so many.
+    until: usize,
 }
 
 /// A line that was read.
 #[derive(Clone, Copy)]
 struct Taken<'t> {
-    /// The condition that has begun before the line or on it, if there is one.
+    /// The mention that has begun before the line or on it, if there is one.
     begun: Option<Begun<'t>>,
     /// The line joins the next one.
     goes_on: bool,
 }
 
-/// Reads a line, and takes its text if it is of a condition. `after` is the text of that
-/// condition.
+/// Reads a line, and takes its text if it is of a mention. `after` is the text of that mention.
 ///
 /// # Errors
 /// Fails if memory runs out.
@@ -68,6 +72,7 @@ fn take<'t>(
     mode: Mode,
     place: Place<'t>,
     line: &Line<'t>,
+    symbols: &Symbols,
     after: &mut Vec<u8>,
 ) -> Result<Taken<'t>, AllocError>
     requires fits { length (text_of (as_line line.now)) ≤ LINE_BYTES }
@@ -75,61 +80,112 @@ fn take<'t>(
     ensures represents { OnOk result ((before : List Reading) →
         ScannerRepresents scanner.old before → ScannerRepresents scanner.new
         (before ++ next_reading before mode (as_line line.now) ∷ [])) }
-    ensures taken { IfOk result (λ t. (before : List Reading) →
-        ScannerRepresents scanner.old before →
-        IsTaken (begun_as place.entry.begun after.old.items)
+    ensures taken { IfOk result (λ t. (calls : List Argument) → TableRepresents symbols.now calls →
+        (before : List Reading) → ScannerRepresents scanner.old before →
+        IsTaken calls (begun_as place.entry.begun after.old.items)
         (reading_at mode (as_line line.now) (scan_after before mode (as_line line.now))
         place.entry.number) (begun_as t.begun after.new.items) t.goes_on) }
 {
     let scan = scanner.read_growing(mode, line)?;
-    let begun = take_line(place.begun, &scan, line, place.number, after)?;
+    let begun = take_line(place.begun, &scan, line, place.number, symbols, after)?;
     Ok(Taken {
         begun,
         goes_on: scan.joins_after,
     })
 }
 
+/// Returns whether a mention of this class, with the text `after`, names a symbol.
+fn names_listed(symbols: &Symbols, class: Class, after: &[u8]) -> bool
+    ensures { (calls : List Argument) → TableRepresents symbols.now calls →
+        result ≡ names_by calls class after.now }
+{
+    match class {
+        Class::Definition => true,
+        Class::Condition(_) | Class::Closing => has_listed(symbols, after),
+    }
+}
+
+/// Returns up to how many bytes before its end the text of a walk has no definition, if `until` is
+/// one such number.
+fn clear_until(symbols: &Symbols, walk: &Walk<'_>, until: usize) -> usize
+    ensures { (calls : List Argument) → TableRepresents symbols.now calls →
+        IsClearTo calls until walk.now.rest.now → IsClearTo calls result walk.now.rest.now }
+{
+    let rest = walk.rest();
+    if until < rest.len() {
+        return until;
+    }
+    rest.len() - clear_len(symbols, rest)
+}
+
+/// Returns how many bytes of text lines may be passed at once: none if a mention goes on, or else
+/// those before the last `until` ones.
+fn passable_len(place: Place<'_>, walk: &Walk<'_>, until: usize) -> usize
+    ensures begun { is_some place.entry.begun ≡ true → result ≡ 0 }
+    ensures clear { result ≤ length walk.now.rest.now - until }
+{
+    if place.begun.is_some() {
+        return 0;
+    }
+    walk.rest().len().saturating_sub(until)
+}
+
 impl Search {
-    /// Returns a search that has found no conditions.
+    /// Returns a search that has found no mentions.
     pub(crate) fn new(alloc: Global, listing: Listing) -> Search
         ensures none { result.count ≡ 0 }
+        ensures undefined { result.defined ≡ 0 }
         ensures empty { result.list.items ≡ [] }
         ensures listing { result.listing ≡ listing }
     {
         Search {
             listing,
             count: 0,
+            defined: 0,
             list: Vec::new(alloc),
             after: Vec::new(alloc),
         }
     }
 
-    /// Appends the line of a condition.
+    /// Counts a condition or a definition.
+    fn tally(&mut self, class: Class)
+        ensures count { self.old.count + (if is_condition class then 1 else 0) < 2 ^ 64 →
+            self.new.count ≡ self.old.count + (if is_condition class then 1 else 0) }
+        ensures defined { self.old.defined + (if is_defining class then 1 else 0) < 2 ^ 64 →
+            self.new.defined ≡ self.old.defined + (if is_defining class then 1 else 0) }
+        ensures list { self.new.list ≡ self.old.list }
+        ensures after { self.new.after ≡ self.old.after }
+        ensures listing { self.new.listing ≡ self.old.listing }
+    {
+        match class {
+            Class::Condition(_) => self.count = self.count.saturating_add(1),
+            Class::Definition => self.defined = self.defined.saturating_add(1),
+            Class::Closing => {}
+        }
+    }
+
+    /// Appends the line of a mention.
     ///
     /// # Errors
     /// Fails if memory runs out.
     fn append(&mut self, name: &[u8], symbols: &Symbols, begun: Begun<'_>) -> Result<(), AllocError>
         ensures grows { Grows self.old.list.items self.new.list.items }
         ensures count { self.new.count ≡ self.old.count }
+        ensures defined { self.new.defined ≡ self.old.defined }
         ensures listing { self.new.listing ≡ self.old.listing }
         ensures line { OnOk result ((calls : List Argument) →
             TableRepresents symbols.now calls → self.new.list.items ≡ self.old.list.items ++
             line_of calls self.old.listing name.now
-            (as_condition begun.entry self.old.after.items)) }
+            (as_mention begun.entry self.old.after.items)) }
     {
-        let list = &mut self.list;
-        match self.listing {
-            Listing::Counted => Ok(()),
-            Listing::Listed => append_line(list, name, begun.number, begun.body),
-            Listing::Explained(rules) => {
-                let after = self.after.as_slice();
-                let reason = why_stays(&begun, after, symbols, rules);
-                append_reason(list, name, begun.number, reason, begun.body)
-            }
+        if let Listing::Counted = self.listing {
+            return Ok(());
         }
+        let reason = reason_of(&begun, self.after.as_slice(), symbols, self.listing);
+        append_reason(&mut self.list, name, begun.number, reason, begun.body)
     }
 
-    /// Ends a condition: counts it and appends its line if it names a symbol.
+    /// Ends a mention: counts it and appends its line if it names a symbol.
     ///
     /// # Errors
     /// Fails if memory runs out.
@@ -148,15 +204,15 @@ impl Search {
         let Some(begun) = begun else {
             return Ok(());
         };
-        if !has_listed(symbols, self.after.as_slice()) {
+        if !names_listed(symbols, begun.class, self.after.as_slice()) {
             return Ok(());
         }
-        self.count = self.count.saturating_add(1);
+        self.tally(begun.class);
         self.append(name, symbols, begun)
     }
 
-    /// Ends the condition of a line, unless the line joins the next one. Returns the place after
-    /// the line.
+    /// Ends the mention of a line, unless the line joins the next one. Returns the place after the
+    /// line.
     ///
     /// # Errors
     /// Fails if memory runs out.
@@ -165,28 +221,31 @@ impl Search {
         name: &[u8],
         symbols: &Symbols,
         taken: Taken<'t>,
-        number: usize,
+        place: Place<'t>,
     ) -> Result<Place<'t>, AllocError>
-        requires room { number + 1 < 2 ^ 64 }
+        requires room { place.number + 1 < 2 ^ 64 }
         ensures grows { Grows self.old.list.items self.new.list.items }
         ensures listing { self.new.listing ≡ self.old.listing }
-        ensures number { IfOk result (λ p. p.number ≡ number + 1) }
+        ensures number { IfOk result (λ p. p.number ≡ place.entry.number + 1) }
+        ensures until { IfOk result (λ p. p.until ≡ place.entry.until) }
         ensures ended { IfOk result (λ p. (calls : List Argument) →
             TableRepresents symbols.now calls → EndsLine calls name.now
             (begun_as taken.entry.begun self.old.after.items) taken.entry.goes_on self.old self.new
             (begun_as p.begun self.new.after.items)) }
     {
-        let number = number + 1;
+        let number = place.number + 1;
         if taken.goes_on {
             return Ok(Place {
                 number,
                 begun: taken.begun,
+                until: place.until,
             });
         }
         self.end(name, symbols, taken.begun)?;
         Ok(Place {
             number,
             begun: None,
+            until: place.until,
         })
     }
 
@@ -214,22 +273,31 @@ impl Search {
             Searched calls mode name.now text start self.old place.entry walk.old →
             Searched calls mode name.now text start self.new p walk.new) }
     {
-        let number = place.number;
-        match walk.next(mode, place.begun.is_none()) {
+        let until = clear_until(symbols, walk, place.until);
+        let most = passable_len(place, walk, until);
+        match walk.next_within(mode, most) {
             Stretch::Texts(bytes) => Ok(Place {
-                number: number + lines_in(bytes),
+                number: place.number + lines_in(bytes),
                 begun: None,
+                until,
             }),
             Stretch::TooLong(_) => {
                 let taken = Taken {
                     begun: place.begun,
                     goes_on: false,
                 };
-                Ok(self.end_line(name, symbols, taken, number)?)
+                Ok(self.end_line(name, symbols, taken, Place { until, ..place })?)
             }
             Stretch::Fitting(line) => {
-                let taken = take(&mut walk.scanner, mode, place, &line, &mut self.after)?;
-                Ok(self.end_line(name, symbols, taken, number)?)
+                let taken = take(
+                    &mut walk.scanner,
+                    mode,
+                    place,
+                    &line,
+                    symbols,
+                    &mut self.after,
+                )?;
+                Ok(self.end_line(name, symbols, taken, Place { until, ..place })?)
             }
         }
     }
@@ -248,12 +316,13 @@ impl Search {
         ensures grows { Grows self.old.list.items self.new.list.items }
         ensures listing { self.new.listing ≡ self.old.listing }
         ensures added { OnOk result ((calls : List Argument) → TableRepresents symbols.now calls →
-            Appends calls name.now (conditions_of mode text.now) self.old self.new) }
+            Appends calls name.now (mentions_of calls mode text.now) self.old self.new) }
     {
         let mut walk = Walk::new(*self.list.allocator(), text);
         let mut place = Place {
             number: 1,
             begun: None,
+            until: text.len(),
         };
         while !walk.is_at_end() {
             place = self.search_lines(name, mode, symbols, &mut walk, place)?;

@@ -15,7 +15,7 @@ pub returns-in_ok-extend_from_slice-in-Texts-clause-folded :
 returns-in_ok-extend_from_slice-in-Texts-clause-folded c = λ text start s.
     let n = c.in-Texts.ensures.next text s.read s.walked in
     texts_folded text start c.args.logical.now c.args.begun c.args.walk.now c.args.out.now.items s c.args.logical.now c.next.new.self _
-    (none_if c.args.begun c.is_none.result c.is_none.ensures c.in-Texts.ensures.one) c.in-Texts.bytes.now n.0 n.1 n.2 n.3 c.in_ok-extend_from_slice-in-Texts.ensures.items
+    (none_if c.args.begun _ c.passable_len.ensures c.in-Texts.ensures.one) c.in-Texts.bytes.now n.0 n.1 n.2 n.3 c.in_ok-extend_from_slice-in-Texts.ensures.items
 
 pub returns-in_ok-append_line-in-TooLong-clause-folded :
     goal.returns-in_ok-append_line-in-TooLong-clause-folded

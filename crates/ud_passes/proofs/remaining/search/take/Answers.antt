@@ -1,7 +1,7 @@
 -- A line that fits.
 use Rattle.std.proofs.Common.{arith}
 use Rattle.std.proofs.lemmas.Bool.{le-leb}
-use Rattle.ud_passes.proofs.ConditionLemmas.{taken_fitting, joins_fitting}
+use Rattle.ud_passes.proofs.MentionLemmas.{taken_fitting, joins_fitting}
 use Rattle.ud_passes.proofs.remaining.search.take.Goals as goal
 
 pub returns-clause-taken : goal.returns-clause-taken

@@ -9,7 +9,8 @@ loop-mode-init c = record {
   grows = ([], sym (append-nil c.args.self.now.list.items));
   listing = refl;
   room = let e = ap (λ (x : List ℕ). length x) c.new-walk.ensures.rest in omega (arith, e);
-  searched = λ calls h. first_place calls c.args.mode c.args.name.now c.args.text.now c.args.self.now c.new-walk.result (c.new-walk.ensures.walked c.args.mode);
+  searched = λ calls h. first_place calls c.args.mode c.args.name.now c.args.text.now c.args.self.now (length c.args.text.now) c.new-walk.result
+      (ap (λ (x : List ℕ). length x) (sym c.new-walk.ensures.rest)) (c.new-walk.ensures.walked c.args.mode);
 }
 
 pub returns-clause-added : goal.returns-clause-added

@@ -1,0 +1,150 @@
+//! The lines that may name a symbol: conditions, definitions, and the ends of groups.
+
+ghost use Rattle.std.specs.Prelude.{◌≡◌, ℕ, List, IfOk, None};
+ghost use Rattle.ud_model.specs.text.LineViews.{as_line, as_scan};
+ghost use Rattle.ud_model.specs.conditions.Table.{Argument};
+ghost use Rattle.ud_model.specs.declared.kind.Mode.{Mode};
+ghost use Rattle.ud_cond.specs.symbols.SymbolTable.{TableRepresents};
+ghost use Rattle.ud_sections.specs.directives.ParsedDirectives.{as_directive};
+ghost use Rattle.ud_passes.specs.remaining.Definitions.{is_definition};
+ghost use Rattle.ud_passes.specs.remaining.Mentions.{class_of, shown_after, mention_at};
+ghost use Rattle.ud_passes.specs.Walks.{reading_at};
+ghost use Rattle.ud_passes.specs.remaining.Searches.{as_mention, begun_as, extended};
+
+use crate::remaining::definitions::defines;
+use std::alloc::AllocError;
+use ud_cond::Symbols;
+use ud_model::{Kind, Line, Scan};
+use ud_sections::{Directive, directive};
+
+/// The part of a line that may name a symbol.
+#[derive(Clone, Copy)]
+pub(crate) enum Class {
+    /// The condition of a directive of this kind.
+    Condition(Kind),
+    /// The name in a `#define` or `#undef`.
+    Definition,
+    /// The text after an `#else` or `#endif`.
+    Closing,
+}
+
+/// A mention whose logical line may go on, without its text.
+#[derive(Clone, Copy)]
+pub(crate) struct Begun<'t> {
+    /// The number of the line on which it begins.
+    pub(crate) number: usize,
+    /// The body of that line.
+    pub(crate) body: &'t [u8],
+    /// That line is joined to a neighbour.
+    pub(crate) is_spanning: bool,
+    /// The part of the line that may name a symbol.
+    pub(crate) class: Class,
+}
+
+/// Returns the class of a directive of this kind.
+fn class_of(kind: Kind) -> Class
+    ensures { result ≡ class_of kind }
+{
+    match kind {
+        Kind::Else | Kind::Endif => Class::Closing,
+        _ => Class::Condition(kind),
+    }
+}
+
+/// Returns what follows the keyword of a directive: masked, or as it is at the end of a group.
+fn shown_after<'a>(
+    scan: &Scan<'_>,
+    line: &Line<'a>,
+    found: &Directive<'a>,
+    class: Class,
+) -> &'a [u8]
+    ensures { (mode : Mode) (n : ℕ) → result.now ≡
+        shown_after (reading_at mode (as_line line.now) (as_scan scan.now) n)
+        (as_directive found.now) class }
+{
+    if let Class::Closing = class {
+        let at = scan.masked.len().saturating_sub(found.after.len());
+        return line.body.get(at..).unwrap_or(&[]);
+    }
+    found.after
+}
+
+/// Returns whether a line defines a symbol, or undefines it.
+fn is_definition(scan: &Scan<'_>, line: &Line<'_>, symbols: &Symbols) -> bool
+    ensures { (calls : List Argument) → TableRepresents symbols.now calls →
+        (mode : Mode) (n : ℕ) → result ≡
+        is_definition calls (reading_at mode (as_line line.now) (as_scan scan.now) n) }
+{
+    scan.fresh && defines(symbols, scan.masked) && defines(symbols, line.body)
+}
+
+/// Returns the mention of this class that begins on a line.
+fn begun_on<'t>(scan: &Scan<'_>, line: &Line<'t>, number: usize, class: Class) -> Begun<'t>
+    ensures { (mode : Mode) (after : List ℕ) → as_mention result after ≡
+        mention_at (reading_at mode (as_line line.now) (as_scan scan.now) number) class after }
+{
+    Begun {
+        number,
+        body: line.body,
+        is_spanning: scan.joins_before || scan.joins_after,
+        class,
+    }
+}
+
+/// Begins a mention on a line, if there is one.
+///
+/// # Errors
+/// Fails if memory runs out.
+fn begin<'t>(
+    scan: &Scan<'_>,
+    line: &Line<'t>,
+    number: usize,
+    symbols: &Symbols,
+    after: &mut Vec<u8>,
+) -> Result<Option<Begun<'t>>, AllocError>
+    ensures { IfOk result (λ now. (calls : List Argument) → TableRepresents symbols.now calls →
+        (mode : Mode) → begun_as now after.new.items ≡
+        extended calls None (reading_at mode (as_line line.now) (as_scan scan.now) number)) }
+{
+    match directive(scan) {
+        Err(_) => Ok(None),
+        Ok(Some(found)) => {
+            let class = class_of(found.kind);
+            after.clear();
+            after.extend_from_slice(shown_after(scan, &*line, &found, class))?;
+            Ok(Some(begun_on(scan, line, number, class)))
+        }
+        Ok(None) => {
+            if !is_definition(scan, line, symbols) {
+                return Ok(None);
+            }
+            after.clear();
+            Ok(Some(begun_on(scan, line, number, Class::Definition)))
+        }
+    }
+}
+
+/// Takes a line that fits: as a part of the mention that has begun, or else as the line on which
+/// one may begin. `after` is the text of that mention.
+///
+/// # Errors
+/// Fails if memory runs out.
+pub(crate) fn take_line<'t>(
+    begun: Option<Begun<'t>>,
+    scan: &Scan<'_>,
+    line: &Line<'t>,
+    number: usize,
+    symbols: &Symbols,
+    after: &mut Vec<u8>,
+) -> Result<Option<Begun<'t>>, AllocError>
+    ensures { IfOk result (λ now. (calls : List Argument) → TableRepresents symbols.now calls →
+        (mode : Mode) → begun_as now after.new.items ≡
+        extended calls (begun_as begun.entry after.old.items)
+        (reading_at mode (as_line line.now) (as_scan scan.now) number)) }
+{
+    if begun.is_some() {
+        after.extend_from_slice(scan.masked)?;
+        return Ok(begun);
+    }
+    begin(scan, line, number, symbols, after)
+}
