@@ -1,6 +1,6 @@
 #!/bin/sh
-# Fails if a condition of the files names a symbol of the options, and prints what would change and
-# what would stay: gone.sh -USYMBOL .. -- PATH ..
+# Fails if a condition, a definition, or a comment of #else or #endif names a symbol of the options.
+# Prints what would change and what would stay: gone.sh -USYMBOL .. -- PATH ..
 #
 # A hook of pre-commit (.pre-commit-hooks.yaml). A fault of a file fails too.
 left=$(unifdef-tree -n -q -r "$@") && [ -z "$left" ] && exit

@@ -377,7 +377,7 @@ src/crlf.h:6: #elifdef A B \'
     'unifdef-tree: 1 file listed, 0 faulty; 0 conditions could not be listed'
 }
 
-# Tests the list of the conditions that still name a symbol. The wanted lines were found by hand.
+# Tests the list of what still names a symbol. The wanted lines were found by hand.
 remaining() {
   fresh_tree
   put src/a.c '#ifdef VMS\nx\n#endif\n#if defined(UNIX) || defined(VMS)\n#elif A\n#endif\n# elif VMS\n'
@@ -387,17 +387,21 @@ remaining() {
   # shellcheck disable=SC1003 # The backslash belongs to the line.
   local listed='src/b.c:1: #if A && \
 src/b.c:4: #elif VMS ? 1 : 2
+src/b.c:5: a comment names it: #endif // VMS
+src/c.c:5: the source defines it: #define VMS
 src/c.c:7: #if A\'
   tree -r -n -UVMS src/b.c src/c.c
   check '-r: of a text that would be' same "$(grep '^src' "$work/out")" "$listed"
   tree -r -UVMS src
   check '-r: status' same "$status" 2
   check '-r: list' same "$(cat "$work/out")" "$listed"
-  check '-r: count' same "$(tail -n 1 "$work/err")" 'unifdef-tree: 3 conditions still name a symbol'
+  check '-r: count' same "$(tail -n 2 "$work/err")" 'unifdef-tree: 3 conditions still name a symbol
+unifdef-tree: 1 line of the source defines a symbol'
   put src/a.c '#ifdef VMS\nx\n#endif\n#if defined(UNIX) || defined(VMS)\n#elif A\n#endif\n'
   tree -UVMS src
   check 'remaining: status' same "$status" 1
-  check 'remaining: count' same "$(tail -n 1 "$work/err")" 'unifdef-tree: 4 conditions still name a symbol; -r lists them'
+  check 'remaining: count' same "$(tail -n 2 "$work/err")" 'unifdef-tree: 4 conditions still name a symbol; -r lists them
+unifdef-tree: 1 line of the source defines a symbol; -r lists it'
   check 'remaining: no list' same "$(cat "$work/out")" ''
   tree -q -r -UVMS src
   check '-r: line numbers of the output' same "$(head -n 1 "$work/out")" 'src/a.c:1: #if defined(UNIX) || defined(VMS)'
@@ -412,6 +416,69 @@ src/c.c:7: #if A\'
   tree -r -DOTHER=1 -UVMS2 src/none.c
   check '-r: none' same "$(cat "$work/err")" 'unifdef-tree: 0 changed, 1 unchanged, 0 faulty
 unifdef-tree: 0 conditions still name a symbol'
+}
+
+# Tests the lines of the source that define a symbol. Those that are wanted were found by hand.
+definitions() {
+  fresh_tree
+  put src/a.c '#define VMS 1\n#ifdef VMS\nimportant();\n#endif\n'
+  put src/b.c '#ifndef AMIGA\n#define AMIGA\n#endif\n#ifdef VMS\n#undef VMS\n#endif\n'
+  tree -p -r -n -UVMS -UAMIGA src
+  check 'definitions: under -p -r -n' same "$(grep '^src' "$work/out")" 'src/a.c:1: the source defines it: #define VMS 1
+src/b.c:1: the source defines it: #define AMIGA'
+  check 'definitions: count' same "$(cat "$work/err")" 'unifdef-tree: 2 would change, 0 unchanged, 0 faulty
+unifdef-tree: 8 lines removed
+unifdef-tree: 0 conditions edited
+unifdef-tree: 0 conditions still name a symbol
+unifdef-tree: 2 lines of the source define a symbol'
+  tree -n -UVMS src
+  check 'definitions: one that goes does not count' same "$(tail -n 1 "$work/err")" 'unifdef-tree: 1 line of the source defines a symbol; -r lists it'
+  tree -q -r -UVMS -UAMIGA src
+  check 'definitions: under -q -r' same "$(cat "$work/out" "$work/err")" 'src/a.c:1: the source defines it: #define VMS 1
+src/b.c:1: the source defines it: #define AMIGA'
+  tree -DAMIGA -UVMS src/b.c
+  check 'definitions: count without -r' same "$(tail -n 1 "$work/err")" 'unifdef-tree: 1 line of the source defines a symbol; -r lists it'
+  tree -DOTHER src
+  check 'definitions: none' same "$(cat "$work/err")" 'unifdef-tree: 0 changed, 2 unchanged, 0 faulty'
+  # The lines 1, 2, 10, 13, 17 and 23 define a symbol. A comment covers the lines 4 to 6, and a
+  # literal the lines 7 and 8. A comment or a backslash precedes the name in the lines 12, 15 and 18.
+  rm src/*
+  put src/c.c '#undef VMS\r\n  # define VMS(a) a\n/* #define VMS */\n/*\n#define VMS\n*/\ns = "\\\n#define VMS";\n#define VMS2 VMS\n#\tundef\tVMS\nx #define VMS\n/* */ #define VMS\n#define VMS\\\n  1\n#define /* */ VMS\n#defineVMS\n#define UNIX\n#define \\\nVMS\n#if X\n#endif // VMS2\n#define X VMS\n#undef VMS/**/'
+  tree -r -DUNIX -UVMS src
+  # shellcheck disable=SC1003 # The backslash belongs to the line.
+  check 'definitions: in C' same "$(cat "$work/out")" 'src/c.c:1: the source defines it: #undef VMS
+src/c.c:2: the source defines it:   # define VMS(a) a
+src/c.c:10: the source defines it: #	undef	VMS
+src/c.c:13: the source defines it: #define VMS\
+src/c.c:17: the source defines it: #define UNIX
+src/c.c:23: the source defines it: #undef VMS/**/'
+  tree -t -r -DUNIX -UVMS src
+  # shellcheck disable=SC1003 # The backslash belongs to the line.
+  check 'definitions: under -t' same "$(cat "$work/out")" 'src/c.c:1: the source defines it: #undef VMS
+src/c.c:2: the source defines it:   # define VMS(a) a
+src/c.c:5: the source defines it: #define VMS
+src/c.c:8: the source defines it: #define VMS";
+src/c.c:10: the source defines it: #	undef	VMS
+src/c.c:13: the source defines it: #define VMS\
+src/c.c:17: the source defines it: #define UNIX
+src/c.c:23: the source defines it: #undef VMS/**/'
+}
+
+# Tests the comments of `#else` and `#endif` that name a symbol.
+comments() {
+  fresh_tree
+  put src/a.c '#if X\n#else /* VMS2 */\n#endif /* a\n VMS */\n#if X // VMS\n# else // !VMS || X\r\n#endif VMS\n#if X || VMS\n#endif /*VMS*/\n#ifdef VMS\n#endif // VMS\n'
+  local listed='src/a.c:6: a comment names it: # else // !VMS || X
+src/a.c:7: a comment names it: #endif VMS'
+  tree -n -r -UVMS src
+  check 'comments: with a condition' same "$(grep '^src' "$work/out")" "$listed
+src/a.c:8: #if X || VMS
+src/a.c:9: a comment names it: #endif /*VMS*/"
+  check 'comments: not counted' same "$(tail -n 1 "$work/err")" 'unifdef-tree: 1 condition still names a symbol'
+  tree -p -r -UVMS src
+  check 'comments: under -p -r' same "$(cat "$work/out")" "$listed
+src/a.c:9: a comment names it: #endif /*VMS*/"
+  check 'comments: they stay' same "$(grep -c VMS src/a.c)" 6
 }
 
 # Tests the number of removed lines: that of all files, and none under -b.
@@ -988,6 +1055,8 @@ in_folder() {
   refusals
   lists
   remaining
+  definitions
+  comments
   removed_lines
   prunes
   small_diffs

@@ -52,7 +52,7 @@ complete -c unifdef-tree -n __unifdef_tree_at_options -s h -l help -d 'Print a l
 complete -c unifdef-tree -n __unifdef_tree_at_options -s n -d 'Show what would change'
 complete -c unifdef-tree -n __unifdef_tree_at_options -s p -d 'Remove decided operands from conditions that stay'
 complete -c unifdef-tree -n __unifdef_tree_at_options -s q -d 'Leave out the counts'
-complete -c unifdef-tree -n __unifdef_tree_at_options -s r -d 'List the conditions that still name a symbol'
+complete -c unifdef-tree -n __unifdef_tree_at_options -s r -d 'List the conditions that still name a symbol, and its definitions'
 complete -c unifdef-tree -n __unifdef_tree_at_options -s s -d 'Count the names in conditions'
 complete -c unifdef-tree -n __unifdef_tree_at_options -s V -l version -d 'Print the version'
 complete -c unifdef-tree -n __unifdef_tree_at_options -s w -d 'Write into files that cannot be replaced'

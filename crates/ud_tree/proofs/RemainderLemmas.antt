@@ -13,7 +13,7 @@ use Rattle.ud_tree.specs.Remainders.{Finds, AddsOutputs, FindsAll}
 use Rattle.ud_tree.specs.Runs.{Output, made}
 
 adds_same : {table : List Argument} {mode : Mode} (s : RemainingState) → AddsOutputs table mode [] s s
-adds_same s = record { list_is = sym (append-nil s.list); count_is = λ small. omega arith; listing_is = refl }
+adds_same s = record { list_is = sym (append-nil s.list); count_is = λ small. omega arith; defined_is = λ small. omega arith; listing_is = refl }
 
 -- The report has the same conditions as before.
 pub finds_none : {args : Arguments} {old new : Report} → new.remaining ≡ old.remaining → (old.has_lost ≡ true → new.has_lost ≡ true) → FindsAll args [] old new

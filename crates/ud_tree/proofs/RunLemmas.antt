@@ -18,7 +18,7 @@ use Rattle.ud_tree.specs.declared.arguments.Task.{Task}
 use Rattle.ud_tree.specs.declared.arguments.Task.TheVariants.{Names}
 use Rattle.ud_tree.specs.Fates.{fate_of, is_changed, is_same, is_faulty, no_edits}
 use Rattle.ud_tree.specs.Runs.{FileResult, Unshown, EachFile, no_file, then_file, changed_in, faulty_in, edited_in, removed_in, shown_of, told_of, Counted, names_of, nothing_listed, listed_of, outputs_of}
-use Rattle.ud_tree.specs.Remainders.{FindsAll, listing_of, mode_of, texts_of, count_of}
+use Rattle.ud_tree.specs.Remainders.{FindsAll, listing_of, mode_of, texts_of, count_of, defined_of}
 use Rattle.ud_tree.proofs.RemainderLemmas.{finds_none, finds_then, finds_same}
 use Rattle.ud_tree.specs.Statuses.{tree_status}
 use Rattle.ud_tree.specs.Streams.{Source, ends_of}
@@ -198,7 +198,7 @@ by_list false is off on = off is
 -- The run ends with the status of its counts.
 pub ends : (job : Job) (files : List Found) {old mid new : Moment} {listed listed_err : Stream} {r mid_report list_report end_report : Report} {counts : Counts} (lost unwritten : Bool) (in_walk faults hidden status : ℕ) (start lists : NameLists) →
     start.list.items ≡ [] → start.hidden ≡ 0 → start.hidden_list.items ≡ [] → hidden ≡ lists.hidden →
-    r.remaining ≡ record { listing = listing_of job.arguments.now; count = 0; list = [] } → (lost ≡ false → mid_report.has_lost ≡ false) → end_report.remaining ≡ mid_report.remaining →
+    r.remaining ≡ record { listing = listing_of job.arguments.now; count = 0; defined = 0; list = [] } → (lost ≡ false → mid_report.has_lost ≡ false) → end_report.remaining ≡ mid_report.remaining →
     DoesFiles job files old r mid mid_report counts start lists → WritesList job.arguments.now lists mid_report.remaining.list lost mid.out listed →
     TellsIf list_message lost mid_report list_report mid.err listed_err → Sends listed new.out [] → unwritten ≡ new.out.failed → (new.out.failed ≡ false → new.out.unflushed ≡ false) →
     (end : Stream) → TellsIf write_message unwritten list_report end_report listed_err end → TellsEnd job.arguments.now counts faults hidden end_report end new.err →
@@ -210,7 +210,7 @@ ends job files {old = old} {new = new} {counts = counts} lost unwritten in_walk 
     let args = job.arguments.now in
     let of_output = joined (output_messages lost unwritten) in
     let both = tells_same (sym (output_told lost unwritten)) (tells_then t u) in
-    let last = last_lines args counts.changed counts.unchanged faults hidden counts.edits e.remaining in
+    let last = last_lines args counts.changed counts.unchanged faults hidden counts.edits e.remaining e.defined in
     let all_names : lists.list.items ≡ (listed_of h.results).names = w.adds.names ∙ ap (λ (x : List ℕ). x ++ (listed_of h.results).names) no_name in
     let all_hidden : lists.hidden_list.items ≡ (listed_of h.results).hidden_list = w.adds.hidden_list ∙ ap (λ (x : List ℕ). x ++ (listed_of h.results).hidden_list) no_condition in
     record {
@@ -223,7 +223,7 @@ ends job files {old = old} {new = new} {counts = counts} lost unwritten in_walk 
           each = subst (λ (calls : List Call). EachFile (DoesOne args) old.calls (names_of d.done) calls h.results) (sym same) h.each;
         };
         is_lost = lost;
-        tally = record { faults = faults; hidden = hidden; edits = counts.edits; remaining = e.remaining };
+        tally = record { faults = faults; hidden = hidden; edits = counts.edits; remaining = e.remaining; defined = e.defined };
         shows = record {
           listed = l.listed;
           shown_is = ap (λ (x : List ℕ). x ++ l.listed) h.shown_is;
@@ -246,6 +246,11 @@ ends job files {old = old} {new = new} {counts = counts} lost unwritten in_walk 
               ∙ counted_from (count_of calls (mode_of args) (outputs_of h.results)) (ap (λ (s : RemainingState). s.count) no_remainder)
               (w.finds.added (whole_report whole) wanted calls represents).count_is small;
           none_remains = λ off. e.remaining_is ∙ ap (λ (s : RemainingState). s.count) (same_remainder ∙ w.finds.same off ∙ no_remainder);
+          defined = λ whole wanted calls represents small.
+              e.defined_is ∙ ap (λ (s : RemainingState). s.defined) same_remainder
+              ∙ counted_from (defined_of calls (mode_of args) (outputs_of h.results)) (ap (λ (s : RemainingState). s.defined) no_remainder)
+              (w.finds.added (whole_report whole) wanted calls represents).defined_is small;
+          none_defined = λ off. e.defined_is ∙ ap (λ (s : RemainingState). s.defined) (same_remainder ∙ w.finds.same off ∙ no_remainder);
         };
         has_status = record {
           faults_are = subst (λ (b : Bool). in_walk + length (output_messages lost b) + faulty_in h.results < 2 ^ 64 → faults ≡ in_walk + length (output_messages lost b) + faulty_in h.results) failed
@@ -257,8 +262,8 @@ ends job files {old = old} {new = new} {counts = counts} lost unwritten in_walk 
         };
         tells = record {
           told_is = ap (λ (x : List ℕ). (x ++ of_output) ++ last) h.told_is ∙ ap (λ (b : Bool). (told_of h.results ++ joined (output_messages lost b)) ++ last) failed;
-          last_is = ap (λ (x : ℕ). last_lines args x counts.unchanged faults hidden counts.edits e.remaining) h.counts_are.changed
-              ∙ ap (λ (x : ℕ). last_lines args (changed_in h.results) x faults hidden counts.edits e.remaining) h.counts_are.unchanged;
+          last_is = ap (λ (x : ℕ). last_lines args x counts.unchanged faults hidden counts.edits e.remaining e.defined) h.counts_are.changed
+              ∙ ap (λ (x : ℕ). last_lines args (changed_in h.results) x faults hidden counts.edits e.remaining e.defined) h.counts_are.unchanged;
         };
       };
       written = record {

@@ -6,7 +6,7 @@ use Rattle.ud_tree.specs.declared.arguments.Arguments.{Arguments}
 use Rattle.ud_tree.specs.declared.counts.Counts.{Counts}
 use Rattle.ud_tree.specs.declared.arguments.Task.TheVariants.{Names}
 use Rattle.ud_io.specs.Streams.{Stream, Sends}
-use Rattle.ud_tree.specs.Summaries.{line_of, changes_line, files_text, hidden_text, summary, remaining_text, remaining_line, removed_line, removed_text, edited_line, edited_text, last_lines, TellsEnd, Says}
+use Rattle.ud_tree.specs.Summaries.{line_of, changes_line, files_text, hidden_text, summary, remaining_text, remaining_line, removed_line, removed_text, edited_line, edited_text, defined_line, defined_text, last_lines, TellsEnd, Says}
 use Rattle.ud_tree.specs.Visible.{visible}
 use Rattle.ud_io.proofs.StreamLemmas.{sends_none, sends_then, sends_same}
 
@@ -73,9 +73,9 @@ said_unshown {err' = err'} {bytes = bytes} h hidden = subst (λ (s : Stream). Se
 -- A quiet run ends with nothing.
 pub ends_quiet : (args : Arguments) (counts : Counts) (faults hidden : ℕ) (old : Report) (err : Stream) → args.quiet ≡ true → TellsEnd args counts faults hidden old err err
 ends_quiet args counts faults hidden old err quiet =
-    let none : Sends err err (last_lines args counts.changed counts.unchanged faults hidden counts.edits old.remaining.count) =
-    sends_same (sym (ap (λ (b : Bool). cond b [] (summary args.task args.list_hidden counts.changed counts.unchanged faults hidden ++ removed_line counts.edits.lines ++ edited_line args.plan.prunes counts.edits.conditions ++ remaining_line args.list_remaining old.remaining.count)) quiet)) (sends_none err) in
-    record { remaining = old.remaining.count; remaining_is = refl; told = (err, none); alone = λ e. none }
+    let none : Sends err err (last_lines args counts.changed counts.unchanged faults hidden counts.edits old.remaining.count old.remaining.defined) =
+    sends_same (sym (ap (λ (b : Bool). cond b [] (summary args.task args.list_hidden counts.changed counts.unchanged faults hidden ++ removed_line counts.edits.lines ++ edited_line args.plan.prunes counts.edits.conditions ++ remaining_line args.list_remaining old.remaining.count ++ defined_line args.list_remaining old.remaining.defined)) quiet)) (sends_none err) in
+    record { remaining = old.remaining.count; remaining_is = refl; defined = old.remaining.defined; defined_is = refl; told = (err, none); alone = λ e. none }
 
 -- No line was removed.
 pub removed_none : (count : ℕ) → count ≡ 0 → removed_line count ≡ []
@@ -95,19 +95,33 @@ pub edited_told : (prunes : Bool) (count : ℕ) (number text : List ℕ) → pru
     line_of (number ++ (text ++ [])) ≡ edited_line prunes count
 edited_told prunes count number text on p q = grind arith
 
--- Other runs end with the four lines.
-pub ends_told : (args : Arguments) (counts : Counts) (faults hidden remaining : ℕ) {old new : Report} (later next : Report) {err mid more other err' : Stream} → args.quiet ≡ false → remaining ≡ old.remaining.count →
+-- No line defines a symbol.
+pub defined_none : (listed : Bool) (count : ℕ) → count ≡ 0 → defined_line listed count ≡ []
+defined_none listed count none = grind arith
+
+-- The line with the number of lines that define a symbol.
+pub defined_told : (listed : Bool) (count : ℕ) (number text : List ℕ) → ¬ (count ≡ 0) → number ≡ decimal count → text ≡ defined_text listed count →
+    line_of (number ++ (text ++ [])) ≡ defined_line listed count
+defined_told listed count number text some p q = grind (arith, common_steps)
+
+-- Other runs end with the five lines.
+pub ends_told : (args : Arguments) (counts : Counts) (faults hidden remaining defined : ℕ) {old new : Report} (later next last : Report) {err mid more other most err' : Stream} → args.quiet ≡ false →
+    remaining ≡ old.remaining.count → defined ≡ old.remaining.defined →
     Says old new err mid (summary args.task args.list_hidden counts.changed counts.unchanged faults hidden) → (new.is_shown ≡ false → Sends mid more (removed_line counts.edits.lines)) → (new.is_shown ≡ false → later.is_shown ≡ false) →
     (later.is_shown ≡ false → Sends more other (edited_line args.plan.prunes counts.edits.conditions)) →
-    (later.is_shown ≡ false → next.is_shown ≡ false) → (next.is_shown ≡ false → Sends other err' (remaining_line args.list_remaining remaining)) →
+    (later.is_shown ≡ false → next.is_shown ≡ false) → (next.is_shown ≡ false → Sends other most (remaining_line args.list_remaining remaining)) →
+    (next.is_shown ≡ false → last.is_shown ≡ false) → (last.is_shown ≡ false → Sends most err' (defined_line args.list_remaining defined)) →
     TellsEnd args counts faults hidden old err err'
-ends_told args counts faults hidden remaining later next {err = err} {err' = err'} loud same h i j k l m =
-    let is : summary args.task args.list_hidden counts.changed counts.unchanged faults hidden ++ removed_line counts.edits.lines ++ edited_line args.plan.prunes counts.edits.conditions ++ remaining_line args.list_remaining remaining ≡
-    last_lines args counts.changed counts.unchanged faults hidden counts.edits remaining =
-    sym (ap (λ (b : Bool). cond b [] (summary args.task args.list_hidden counts.changed counts.unchanged faults hidden ++ removed_line counts.edits.lines ++ edited_line args.plan.prunes counts.edits.conditions ++ remaining_line args.list_remaining remaining)) loud) in
+ends_told args counts faults hidden remaining defined later next last {err = err} {err' = err'} loud same same_defined h i j k l m n o =
+    let text : List ℕ =
+    summary args.task args.list_hidden counts.changed counts.unchanged faults hidden ++ removed_line counts.edits.lines ++ edited_line args.plan.prunes counts.edits.conditions ++ remaining_line args.list_remaining remaining ++ defined_line args.list_remaining defined in
+    let is : text ≡ last_lines args counts.changed counts.unchanged faults hidden counts.edits remaining defined = sym (ap (λ (b : Bool). cond b [] text) loud) in
+    let shown = l (j h.hidden) in
     record {
       remaining = remaining;
       remaining_is = same;
-      told = (h.cleared, sends_same is (sends_then (sends_then (sends_then h.sent (i h.hidden)) (k (j h.hidden))) (m (l (j h.hidden)))));
-      alone = λ e. sends_same is (sends_then (sends_then (sends_then (said_unshown h e) (i h.hidden)) (k (j h.hidden))) (m (l (j h.hidden))));
+      defined = defined;
+      defined_is = same_defined;
+      told = (h.cleared, sends_same is (sends_then (sends_then (sends_then (sends_then h.sent (i h.hidden)) (k (j h.hidden))) (m shown)) (o (n shown))));
+      alone = λ e. sends_same is (sends_then (sends_then (sends_then (sends_then (said_unshown h e) (i h.hidden)) (k (j h.hidden))) (m shown)) (o (n shown)));
     }

@@ -7,9 +7,11 @@
 --   changes_line word changed unchanged faults   how many files changed, or would
 --   summary task listed changed unchanged faults hidden   how many files there were of each kind
 --   remaining_line listed count   how many conditions still name a symbol
+--   defined_line listed count   how many lines define a symbol
 --   removed_line count        how many lines were removed
 --   edited_line prunes count   how many conditions were edited
---   last_lines args changed unchanged faults hidden edits remaining   these lines, unless quiet
+--   last_lines args changed unchanged faults hidden edits remaining defined   these lines, unless
+--                             quiet
 --   TellsEnd args counts faults hidden old err err'   they were written last
 --   EndsWith s bytes          the last bytes that were written to `s`
 --   Says old new err err' bytes   `bytes` were written, after the number of files was removed
@@ -74,6 +76,21 @@ abbrev pub remaining_line : Bool → ℕ → List ℕ
 remaining_line listed count = if count == 0 && not listed then [] else line_of (decimal count ++
     remaining_text count ++ (if listed then [] else codes "; -r lists them"))
 
+-- `defined_text listed count`: what follows the number of lines that define a symbol. It names the
+-- option that lists them, unless they are `listed`.
+abbrev pub defined_text : Bool → ℕ → List ℕ
+defined_text listed count =
+    if listed then plural count (codes " line of the source defines a symbol")
+    (codes " lines of the source define a symbol")
+    else plural count (codes " line of the source defines a symbol; -r lists it")
+    (codes " lines of the source define a symbol; -r lists them")
+
+-- `defined_line listed count`: the line with the number of lines that define a symbol, which is
+-- left out if there is none.
+abbrev pub defined_line : Bool → ℕ → List ℕ
+defined_line listed count =
+    if count == 0 then [] else line_of (decimal count ++ defined_text listed count)
+
 -- `removed_text count`: what follows the number of removed lines.
 abbrev pub removed_text : ℕ → List ℕ
 removed_text count = plural count (codes " line removed") (codes " lines removed")
@@ -96,26 +113,28 @@ edited_line prunes count = if prunes then line_of (decimal count ++ edited_text 
 abbrev pub EndsWith : Stream → List ℕ → Type 0
 EndsWith s bytes = (mid : Stream) × Sends mid s bytes
 
--- `last_lines args changed unchanged faults hidden edits remaining`: the summary, and the lines
--- with the numbers of removed lines, of edited conditions and of those that still name a symbol;
--- nothing if the run is quiet.
-abbrev pub last_lines : Arguments → ℕ → ℕ → ℕ → ℕ → Edits → ℕ → List ℕ
-last_lines args changed unchanged faults hidden edits remaining = if args.quiet then []
+-- `last_lines args changed unchanged faults hidden edits remaining defined`: the summary, and the
+-- lines with the numbers of removed lines, of edited conditions, of those that still name a symbol,
+-- and of lines that define one; nothing if the run is quiet.
+abbrev pub last_lines : Arguments → ℕ → ℕ → ℕ → ℕ → Edits → ℕ → ℕ → List ℕ
+last_lines args changed unchanged faults hidden edits remaining defined = if args.quiet then []
     else summary args.task args.list_hidden changed unchanged faults hidden ++
     removed_line edits.lines ++ edited_line args.plan.prunes edits.conditions ++
-    remaining_line args.list_remaining remaining
+    remaining_line args.list_remaining remaining ++ defined_line args.list_remaining defined
 
 -- `TellsEnd args counts faults hidden old err err'`: the last lines were written, with these
--- numbers and that of the conditions that still name a symbol, which the report has. Nothing else
--- was, unless a terminal showed the number of files.
+-- numbers and those of conditions and definitions, which the report has. Nothing else was, unless a
+-- terminal showed the number of files.
 pub record TellsEnd (args : Arguments) (counts : Counts) (faults hidden : ℕ) (old : Report)
     (err err' : Stream) : Type 0 where
   pub remaining : ℕ
   pub remaining_is : remaining ≡ old.remaining.count
-  pub told : EndsWith err'
-      (last_lines args counts.changed counts.unchanged faults hidden counts.edits remaining)
-  pub alone : old.is_shown ≡ false → Sends err err'
-      (last_lines args counts.changed counts.unchanged faults hidden counts.edits remaining)
+  pub defined : ℕ
+  pub defined_is : defined ≡ old.remaining.defined
+  pub told : EndsWith err' (last_lines args counts.changed counts.unchanged faults hidden
+      counts.edits remaining defined)
+  pub alone : old.is_shown ≡ false → Sends err err' (last_lines args counts.changed
+      counts.unchanged faults hidden counts.edits remaining defined)
 
 -- `Says old new err err' bytes`: `bytes` were written. If a terminal showed the number of files,
 -- that was removed before.

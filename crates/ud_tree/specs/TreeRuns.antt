@@ -45,6 +45,7 @@ use Rattle.ud_tree.specs.Changes.{ReplacesShowing}
 use Rattle.ud_passes.specs.declared.names.Names.{Names as NameLists}
 use Rattle.ud_passes.specs.names.NameTables.{names_in, Tabulates}
 use Rattle.ud_tree.specs.Remainders.{is_searched, listing_of, mode_of, texts_of, count_of}
+use Rattle.ud_tree.specs.Remainders.{defined_of}
 use Rattle.ud_tree.specs.Runs.{FileResult, Unshown, EachFile, shown_of, told_of, listed_of}
 use Rattle.ud_tree.specs.Runs.{outputs_of, nothing_listed}
 use Rattle.ud_tree.specs.Runs.{changed_in, same_in, faulty_in, edited_in, removed_in, names_of}
@@ -123,13 +124,14 @@ pub record Ending : Type 0 where
   pub last : List ℕ
   pub status : ℕ
 
--- `Tally`: the numbers of faults, of conditions whose names can't be listed, of edits, and of
--- conditions that still name a symbol.
+-- `Tally`: the numbers of faults, of conditions whose names can't be listed, of edits, of
+-- conditions that still name a symbol, and of lines that define one.
 pub record Tally : Type 0 where
   pub faults : ℕ
   pub hidden : ℕ
   pub edits : Edits
   pub remaining : ℕ
+  pub defined : ℕ
 
 -- `DoesAll args failed old files new`: what the arguments ask for is done with each file in turn,
 -- and nothing else. If the output has `failed`, these may be the first files (`IsDone`).
@@ -142,8 +144,8 @@ pub record DoesAll (args : Arguments) (failed : Bool) (old : List Call) (files :
 
 -- `ShowsAll args results is_lost shown`: what is shown of each file comes first, and then a list.
 -- If names are listed, it is the table of the names of all files, after their conditions whose
--- names can't be listed. If they aren't, but the conditions that still name a symbol are, it is the
--- list of those of all outputs. There is no line if no option names a symbol.
+-- names can't be listed. If they aren't, but what outputs still say of a symbol is, it is the list
+-- of that for all outputs. There is no line if no option names a symbol.
 pub record ShowsAll (args : Arguments) (results : List FileResult) (is_lost : Bool)
     (shown : List ℕ) : Type 0 where
   pub listed : List ℕ
@@ -159,7 +161,8 @@ pub record ShowsAll (args : Arguments) (results : List FileResult) (is_lost : Bo
 
 -- `Totals args results is_lost tally`: the tally has the numbers of all files, if a machine can
 -- count these: of the conditions whose names can't be listed, of edited conditions, of removed
--- lines, and of the conditions of all outputs that still name a symbol, unless some was lost.
+-- lines, and of the conditions of all outputs that still name a symbol and the lines that define
+-- one, unless some was lost.
 pub record Totals (args : Arguments) (results : List FileResult) (is_lost : Bool)
     (tally : Tally) : Type 0 where
   pub hidden : (listed_of results).hidden < 2 ^ 64 → tally.hidden ≡ (listed_of results).hidden
@@ -170,6 +173,11 @@ pub record Totals (args : Arguments) (results : List FileResult) (is_lost : Bool
       count_of calls (mode_of args) (outputs_of results) < 2 ^ 64 →
       tally.remaining ≡ count_of calls (mode_of args) (outputs_of results)
   pub none_remains : is_searched args ≡ false → tally.remaining ≡ 0
+  pub defined : is_lost ≡ false → is_searched args ≡ true → (calls : List Argument) →
+      TableRepresents args.plan.run.symbols calls →
+      defined_of calls (mode_of args) (outputs_of results) < 2 ^ 64 →
+      tally.defined ≡ defined_of calls (mode_of args) (outputs_of results)
+  pub none_defined : is_searched args ≡ false → tally.defined ≡ 0
 
 -- `HasStatus args in_walk results is_lost faults ending`: there is one fault for each of the walk,
 -- for each message about the output and for each faulty file, if a machine can count these, and at
@@ -194,7 +202,7 @@ pub record TellsAll (args : Arguments) (results : List FileResult) (is_lost : Bo
   pub told_is : ending.told ≡
       told_of results ++ joined (output_messages is_lost ending.streams.failed) ++ ending.last
   pub last_is : ending.last ≡ last_lines args (changed_in results) (same_in results)
-      tally.faults tally.hidden tally.edits tally.remaining
+      tally.faults tally.hidden tally.edits tally.remaining tally.defined
 
 -- `Ends args in_walk old files new ending`: the files are processed. The output, the last lines,
 -- the status and the messages are those of their results.

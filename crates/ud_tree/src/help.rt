@@ -24,7 +24,7 @@ const OPTIONS: [&[u8]; 23] = [
     b"  -n            change nothing, and print a diff of what would change",
     b"  -p            remove decided operands from the conditions that stay",
     b"  -q            leave out the last lines with the counts",
-    b"  -r            list the conditions that still name a symbol; with -s, those not listed",
+    b"  -r            list what still names a symbol; with -s, conditions that are not listed",
     b"  -s            change nothing, and count the names in conditions",
     b"  -t            plain text: parse no comments and quotes",
     b"  -Usym         take a symbol as undefined",

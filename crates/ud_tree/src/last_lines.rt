@@ -1,11 +1,11 @@
 //! The last lines of a run: how many files there were of each kind, how many lines were removed,
-//! how many conditions were edited, and how many still name a symbol.
+//! how many conditions were edited, how many still name a symbol, and how many lines define one.
 
 ghost use Rattle.std.specs.Prelude.{◌≡◌, false};
 ghost use Rattle.ud_tree.specs.Messages.{KeepsFinds};
 ghost use Rattle.ud_tree.specs.Summaries.{Says, TellsEnd, changes_line, summary};
 ghost use Rattle.ud_tree.specs.Summaries.{edited_line, hidden_text, plural, remaining_line};
-ghost use Rattle.ud_tree.specs.Summaries.{removed_line};
+ghost use Rattle.ud_tree.specs.Summaries.{removed_line, defined_line, defined_text};
 ghost use Rattle.ud_io.specs.Streams.{Sends, stream_of};
 
 use crate::arguments::{Arguments, Task};
@@ -17,7 +17,7 @@ use std::io::Write;
 use ud_engine::Watched;
 
 /// Writes the last lines, unless the run is quiet: the counts, how many lines were removed, how
-/// many conditions were edited, and how many still name a symbol.
+/// many conditions were edited, how many still name a symbol, and how many lines define one.
 pub(crate) fn report_end<E: Write>(
     job: &Job<'_>,
     report: &mut Report,
@@ -41,6 +41,7 @@ pub(crate) fn report_end<E: Write>(
         counts.edits.conditions,
     );
     report_remaining(job.arguments, report, err);
+    report_defined(job.arguments, report, err);
 }
 
 /// Writes the counts.
@@ -189,9 +190,11 @@ fn report_edited<E: Write>(prunes: bool, report: &mut Report, err: &mut Watched<
 
 /// Writes how many conditions still name a symbol, if they were listed or if there are some.
 fn report_remaining<E: Write>(arguments: &Arguments, report: &mut Report, err: &mut Watched<E>)
-    ensures { report.old.is_shown ≡ false → Sends (stream_of E.contents err.old)
+    ensures line { report.old.is_shown ≡ false → Sends (stream_of E.contents err.old)
         (stream_of E.contents err.new)
         (remaining_line arguments.now.list_remaining report.old.remaining.count) }
+    ensures hidden { report.old.is_shown ≡ false → report.new.is_shown ≡ false }
+    ensures keeps { KeepsFinds report.old report.new }
 {
     let count = report.remaining();
     let mut digits = Buffer::new();
@@ -209,4 +212,42 @@ fn report_remaining<E: Write>(arguments: &Arguments, report: &mut Report, err: &
         return;
     }
     report.line(err, &[number, text, b"; -r lists them"]);
+}
+
+/// Writes how many lines define a symbol, if there are some.
+fn report_defined<E: Write>(arguments: &Arguments, report: &mut Report, err: &mut Watched<E>)
+    ensures { report.old.is_shown ≡ false → Sends (stream_of E.contents err.old)
+        (stream_of E.contents err.new)
+        (defined_line arguments.now.list_remaining report.old.remaining.defined) }
+{
+    let count = report.defined();
+    if count == 0 {
+        return;
+    }
+    let mut digits = Buffer::new();
+    let number = digits.format(count).as_bytes();
+    report.line(
+        err,
+        &[number, defined_text(arguments.list_remaining, count)],
+    );
+}
+
+/// Returns what follows the number of lines that define a symbol. Unless they are `listed`, it
+/// names the option that does.
+fn defined_text(listed: bool, count: usize) -> &'static [u8]
+    ensures { result.now ≡ defined_text listed count }
+{
+    if listed {
+        plural(
+            count,
+            b" line of the source defines a symbol",
+            b" lines of the source define a symbol",
+        )
+    } else {
+        plural(
+            count,
+            b" line of the source defines a symbol; -r lists it",
+            b" lines of the source define a symbol; -r lists them",
+        )
+    }
 }

@@ -95,8 +95,8 @@ fn without_code(text: &str) -> &str {
     }
 }
 
-/// Returns whether the conditions that still name a symbol are counted or listed. Under `-p` each
-/// line of the list says why the condition stays.
+/// Returns whether what outputs still say of a symbol is counted or listed. Under `-p` the line of
+/// a condition says why it stays.
 fn listing_of(arguments: &Arguments) -> Listing
     ensures { result ≡ listing_of arguments.now }
 {
@@ -123,9 +123,9 @@ pub(crate) struct Report {
     is_shown: bool,
     /// The number of faults.
     faulty: usize,
-    /// The conditions that still name a symbol.
+    /// The mentions of symbols that outputs still have.
     remaining: Remaining,
-    /// True if memory ran out for some of these conditions, or for a diff.
+    /// True if memory ran out for some of these, or for a diff.
     has_lost: bool,
 }
 
@@ -135,7 +135,8 @@ impl Report {
         ensures plain { job.now.is_terminal ≡ false → IsPlain result }
         ensures faultless { result.faulty ≡ 0 }
         ensures remaining { result.remaining ≡
-            record { listing = listing_of job.now.arguments.now; count = 0; list = [] } }
+            record { listing = listing_of job.now.arguments.now; count = 0; defined = 0;
+            list = [] } }
     {
         Report {
             alloc: job.alloc,
@@ -161,7 +162,14 @@ impl Report {
         self.remaining.count()
     }
 
-    /// Writes the list of conditions that still name a symbol, if it is wanted.
+    /// Returns the number of lines that define a symbol.
+    pub(crate) fn defined(&self) -> usize
+        ensures { result ≡ self.now.remaining.defined }
+    {
+        self.remaining.defined()
+    }
+
+    /// Writes the list of what outputs still say of a symbol, if it is wanted.
     pub(crate) fn write_remaining<W: Write>(&self, job: &Job<'_>, out: &mut Watched<W>)
         ensures { Sends (stream_of W.contents out.old) (stream_of W.contents out.new)
             (if job.now.arguments.now.list_remaining then self.now.remaining.list else []) }
@@ -179,7 +187,7 @@ impl Report {
         self.has_lost
     }
 
-    /// Adds the conditions of a file's output that still name a symbol, if they are wanted.
+    /// Adds what a file's output still says of a symbol, if that is wanted.
     pub(crate) fn search(&mut self, job: &Job<'_>, name: &[u8], output: &[u8])
         ensures screen { KeepsScreen self.old self.new }
         ensures finds { Finds job.now.arguments.now name.now output.now self.old self.new }

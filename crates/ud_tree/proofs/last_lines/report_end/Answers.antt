@@ -9,5 +9,7 @@ returns-then-job g c =
 
 pub returns : goal.returns
 returns g c =
-    ends_told c.args.job.now.arguments.now c.args.counts c.args.faults c.args.hidden _ c.report_removed.new.report c.report_edited.new.report c.if-job.false
-    (ap (λ s. s.count) (c.report_edited.ensures.keeps.remaining ∙ c.report_removed.ensures.keeps.remaining ∙ c.report_counts.ensures.keeps.remaining)) c.report_counts.ensures.says c.report_removed.ensures.line c.report_removed.ensures.hidden c.report_edited.ensures.line c.report_edited.ensures.hidden c.report_remaining.ensures
+    let same = c.report_edited.ensures.keeps.remaining ∙ c.report_removed.ensures.keeps.remaining ∙ c.report_counts.ensures.keeps.remaining in
+    ends_told c.args.job.now.arguments.now c.args.counts c.args.faults c.args.hidden _ _ c.report_removed.new.report c.report_edited.new.report c.report_remaining.new.report c.if-job.false
+    (ap (λ s. s.count) same) (ap (λ s. s.defined) (c.report_remaining.ensures.keeps.remaining ∙ same)) c.report_counts.ensures.says c.report_removed.ensures.line c.report_removed.ensures.hidden
+    c.report_edited.ensures.line c.report_edited.ensures.hidden c.report_remaining.ensures.line c.report_remaining.ensures.hidden c.report_defined.ensures
