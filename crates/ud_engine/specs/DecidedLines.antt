@@ -5,13 +5,13 @@
 --   DecidesLine o r xs t l step       it has also read this line
 --   DecidesNext symbols r new l result   it did, whatever it had read, or the line is faulty
 --   line_with body ending number      the line of these parts
---   CanBeDecided l                    a line within the limits
+--   CanBeDecided room l               a line within the limits, and with as many bytes
 --   DecidesAs symbols r new l keyword verdict   `DecidesNext`, by a verdict and the keyword's span
 --   consumed lines bytes              a line buffer once these bytes are consumed
 --   AreText xs                        these items are text lines
 --   DecidesBulk o r xs t ls verdict   a decider has also read these text lines
 --   DecidesText r new lines bytes     it did, whatever it had read
-use Rattle.std.specs.Prelude.{◌≡◌, ℕ, suc, ◌+◌, List, [], ◌∷◌, ◌++◌, length, map, Option}
+use Rattle.std.specs.Prelude.{◌≡◌, ℕ, suc, ◌+◌, ◌≤◌, List, [], ◌∷◌, ◌++◌, length, map, Option}
 use Rattle.std.specs.Prelude.{Some, None, Result, Ok, Err, MatchResult, IsTrue}
 use Rattle.ud_model.specs.text.Lines.{Line, NoNewline, is_ending, whole_lines, numbered_from}
 use Rattle.ud_model.specs.text.Scans.{Reading}
@@ -75,8 +75,10 @@ DecidesNext symbols r new l result =
 abbrev pub line_with : List ℕ → List ℕ → ℕ → Line
 line_with body ending number = record { body = body; ending = ending; number = number }
 
--- `CanBeDecided l`: the line `l` is within the limits, and one line alone.
-pub record CanBeDecided (l : Line) : Type 0 where
+-- `CanBeDecided room l`: the line `l` is within the limits, it is one line alone, and its body has
+-- at most `room` bytes.
+pub record CanBeDecided (room : ℕ) (l : Line) : Type 0 where
+  pub fits : length l.body ≤ room
   pub within : IsWithinLimits l
   pub one_line : NoNewline l.body
   pub ended : IsTrue (is_ending l.ending)

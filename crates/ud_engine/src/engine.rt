@@ -26,6 +26,7 @@ ghost use Rattle.ud_engine.specs.Feeding.{IsOpen, WriterMatches};
 ghost use Rattle.ud_engine.specs.Finishing.{PrintsRest, without_fault};
 ghost use Rattle.ud_engine.specs.Advancing.{IsCursor};
 
+use crate::line_decider::LineRoom;
 use crate::line_processor::LineProcessor;
 use crate::output::Output;
 use crate::plan_source::PlanSource;
@@ -85,6 +86,7 @@ fn next_line<'a, H: LineBuffer>(
     ensures bytes { IfSome result (λ line. text_of (as_line line) ≡
         take (length (text_of (as_line line))) (drop cursor.pos chunk.now)) }
     ensures one_line { IfSome result (λ line. NoNewline line.body.now) }
+    ensures fits { IfSome result (λ line. length line.body.now ≤ H.CAPACITY) }
     ensures bound { IfSome result (λ line. line.number ≤ lines.old.last_line) }
     ensures counted { OnSome result (lines.new ≡
         record lines.old { before = lines.old.before + 1 }) }
@@ -132,6 +134,8 @@ pub struct EngineOf<P: PlanSource, S: Show, H: LineBuffer = LongLineBuffer> {
     lines: Lines<H>,
     /// The processor that decides and prints the lines.
     printer: LineProcessor<S>,
+    /// The buffers for the decision of a line.
+    room: LineRoom<H>,
     /// The pending output.
     output: Output,
     /// The fault after which the engine is fused.
@@ -199,6 +203,7 @@ impl<'p, S: Show, H: LineBuffer> EngineOf<&'p Plan, S, H> {
             plan: engine.plan,
             lines: engine.lines.into_long(),
             printer: engine.printer,
+            room: LineRoom::new(),
             output: engine.output,
             fault: engine.fault,
         }
@@ -226,6 +231,7 @@ impl<P: PlanSource, S: Show, H: LineBuffer> EngineOf<P, S, H> {
             plan,
             lines: Lines::with_buffer(TEXT_LINES),
             printer: LineProcessor::new(settings, show),
+            room: LineRoom::new(),
             output: Output::new(),
             fault: None,
         }
@@ -329,6 +335,7 @@ impl<P: PlanSource, S: Show, H: LineBuffer> EngineOf<P, S, H> {
             &mut self.lines,
             &mut self.printer,
             self.plan.symbols(),
+            &mut self.room,
             &mut self.output,
             out,
         );
@@ -511,7 +518,9 @@ impl<P: PlanSource, S: Show, H: LineBuffer> EngineOf<P, S, H> {
         };
         let end = cursor.pos + (line.body.len() + line.ending.len());
         let printer = &mut self.printer;
-        let put = match printer.print(&line, self.plan.symbols(), pending, &mut self.output, out) {
+        let room = &mut self.room;
+        let symbols = self.plan.symbols();
+        let put = match printer.print(&line, symbols, room, pending, &mut self.output, out) {
             Ok(put) => put,
             Err(fault) => return Err(RunFault::Section(fault)),
         };
@@ -565,6 +574,7 @@ impl<P: PlanSource, S: Show, H: LineBuffer> EngineOf<P, S, H> {
         let printed = self.printer.put_line(
             &self.lines.line(),
             self.plan.symbols(),
+            &mut self.room,
             pending,
             &mut self.output,
             out,
@@ -585,6 +595,7 @@ fn print_last_line<S: Show, H: LineBuffer, W: Write>(
     lines: &mut Lines<H>,
     printer: &mut LineProcessor<S>,
     symbols: &Symbols,
+    room: &mut LineRoom<H>,
     output: &mut Output,
     out: &mut Watched<W>,
 ) -> Result<(), RunFault>
@@ -599,7 +610,7 @@ fn print_last_line<S: Show, H: LineBuffer, W: Write>(
     match lines.close() {
         Err(fault) => Err(RunFault::Text(fault)),
         Ok(false) => Ok(()),
-        Ok(true) => match printer.put_line(&lines.line(), symbols, &[], output, out) {
+        Ok(true) => match printer.put_line(&lines.line(), symbols, room, &[], output, out) {
             Err(fault) => Err(RunFault::Section(fault)),
             Ok(()) => {
                 output.flush(out);

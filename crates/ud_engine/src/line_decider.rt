@@ -19,12 +19,11 @@ ghost use Rattle.ud_sections.specs.sections.MachineState.{end_fault_of, machine_
 ghost use Rattle.ud_sections.specs.sections.Transitions.{text_policy_of};
 ghost use Rattle.ud_engine.specs.DecidedLines.{DeciderRepresents, DecidesNext, DecidesText};
 ghost use Rattle.ud_engine.specs.DecidedLines.{CanBeDecided, DecidesAs, consumed};
-ghost use Rattle.ud_engine.specs.DecidedLines.{decider_of, line_with};
+ghost use Rattle.ud_engine.specs.DecidedLines.{line_with};
 ghost use Rattle.ud_engine.specs.NameListing.{ListsNames};
 
 use crate::listing::append_names;
 use crate::output::Output;
-use arrayvec::ArrayVec;
 use std::io::Write;
 use ud_cond::Symbols;
 use ud_io::Watched;
@@ -32,13 +31,29 @@ use ud_model::{Settings, Verdict};
 use ud_sections::{Lister, Machine, SectionFault, Span, Step, TextPolicy, directive};
 use ud_text::{Line, LineBuffer, Lines, Scanner};
 
-/// The most bytes of a short line's body.
-const SHORT_LINE_BYTES: usize = 1024;
+/// Buffers for the parts of a line's decision that a decider doesn't keep.
+#[derive(Drop)]
+pub(crate) struct LineRoom<H> {
+    /// The span of the last line's keyword.
+    keyword: Span,
+    /// The last line as it is masked, if its own bytes weren't borrowed.
+    masked: H,
+}
+
+impl<H: LineBuffer> LineRoom<H> {
+    /// Returns the room before the first line.
+    pub(crate) fn new() -> LineRoom<H> {
+        LineRoom {
+            keyword: Span { at: 0, len: 0 },
+            masked: H::new(),
+        }
+    }
+}
 
 /// A scanner and a machine, which decide the lines of a text in order.
 #[derive(Drop)]
 pub(crate) struct LineDecider {
-    scanner: Scanner<ArrayVec<u8, SHORT_LINE_BYTES>>,
+    scanner: Scanner<()>,
     machine: Machine,
 }
 
@@ -49,7 +64,7 @@ impl LineDecider {
             DeciderRepresents o result [] (closed nothing) }
     {
         LineDecider {
-            scanner: Scanner::with_buffer(),
+            scanner: Scanner::bare(),
             machine: Machine::new(settings),
         }
     }
@@ -63,106 +78,109 @@ impl LineDecider {
     /// # Errors
     /// Fails if the line is faulty.
     #[inline(always)]
-    pub(crate) fn decide(
+    pub(crate) fn decide<H: LineBuffer>(
         &mut self,
         line: &Line<'_>,
         symbols: &Symbols,
+        room: &mut LineRoom<H>,
     ) -> Result<Step, SectionFault>
-        requires within { IsWithinLimits (as_line line.now) }
-        requires one_line { NoNewline line.now.body.now }
+        requires { CanBeDecided H.CAPACITY (as_line line.now) }
         ensures decides { DecidesNext symbols.now self.old self.new (as_line line.now) result }
         ensures cursor { IfOk result (λ s. HoldsKeyword s line.now) }
     {
-        let mut keyword = Span { at: 0, len: 0 };
-        match self.decide_by_body(line, symbols, &mut keyword) {
-            Some(verdict) => Ok(Step { verdict, keyword }),
+        match self.decide_by_body(line, symbols, room) {
+            Some(verdict) => Ok(Step {
+                verdict,
+                keyword: room.keyword,
+            }),
             None => Err(self.fault()),
         }
     }
 
     /// Decides the next line, as `decide_endif` does, by the function for its body.
     #[inline(always)]
-    fn decide_by_body(
+    fn decide_by_body<H: LineBuffer>(
         &mut self,
         line: &Line<'_>,
         symbols: &Symbols,
-        keyword: &mut Span,
+        room: &mut LineRoom<H>,
     ) -> Option<Verdict>
-        requires { CanBeDecided (as_line line.now) }
-        ensures { DecidesAs symbols.now self.old self.new (as_line line.now) keyword.new result }
+        requires { CanBeDecided H.CAPACITY (as_line line.now) }
+        ensures { DecidesAs symbols.now self.old self.new (as_line line.now) room.new.keyword
+            result }
     {
         if is_endif(line.body) {
-            return self.decide_endif(line.ending, line.number, symbols, keyword);
+            return self.decide_endif(line.ending, line.number, symbols, room);
         }
         if is_else(line.body) {
-            return self.decide_else(line.ending, line.number, symbols, keyword);
+            return self.decide_else(line.ending, line.number, symbols, room);
         }
-        self.decide_any(line.body, line.ending, line.number, symbols, keyword)
+        self.decide_any(line.body, line.ending, line.number, symbols, room)
     }
 
     /// Decides the next line, an `#endif`. Returns its verdict, and sets the span of its keyword.
     /// Returns `None` if the line is faulty, and then the machine has the fault.
     #[inline(never)]
-    fn decide_endif(
+    fn decide_endif<H: LineBuffer>(
         &mut self,
         ending: &[u8],
         number: u32,
         symbols: &Symbols,
-        keyword: &mut Span,
+        room: &mut LineRoom<H>,
     ) -> Option<Verdict>
-        requires { CanBeDecided (line_with (codes "#endif") ending.now number) }
+        requires { CanBeDecided H.CAPACITY (line_with (codes "#endif") ending.now number) }
         ensures { DecidesAs symbols.now self.old self.new
-            (line_with (codes "#endif") ending.now number) keyword.new result }
+            (line_with (codes "#endif") ending.now number) room.new.keyword result }
     {
-        self.decide_parts(b"#endif", ending, number, symbols, keyword)
+        self.decide_parts(b"#endif", ending, number, symbols, room)
     }
 
     /// Decides the next line, an `#else`, as `decide_endif` does.
     #[inline(never)]
-    fn decide_else(
+    fn decide_else<H: LineBuffer>(
         &mut self,
         ending: &[u8],
         number: u32,
         symbols: &Symbols,
-        keyword: &mut Span,
+        room: &mut LineRoom<H>,
     ) -> Option<Verdict>
-        requires { CanBeDecided (line_with (codes "#else") ending.now number) }
+        requires { CanBeDecided H.CAPACITY (line_with (codes "#else") ending.now number) }
         ensures { DecidesAs symbols.now self.old self.new
-            (line_with (codes "#else") ending.now number) keyword.new result }
+            (line_with (codes "#else") ending.now number) room.new.keyword result }
     {
-        self.decide_parts(b"#else", ending, number, symbols, keyword)
+        self.decide_parts(b"#else", ending, number, symbols, room)
     }
 
     /// Decides the next line, whatever its body is, as `decide_endif` does.
     #[inline(never)]
-    fn decide_any(
+    fn decide_any<H: LineBuffer>(
         &mut self,
         body: &[u8],
         ending: &[u8],
         number: u32,
         symbols: &Symbols,
-        keyword: &mut Span,
+        room: &mut LineRoom<H>,
     ) -> Option<Verdict>
-        requires { CanBeDecided (line_with body.now ending.now number) }
+        requires { CanBeDecided H.CAPACITY (line_with body.now ending.now number) }
         ensures { DecidesAs symbols.now self.old self.new
-            (line_with body.now ending.now number) keyword.new result }
+            (line_with body.now ending.now number) room.new.keyword result }
     {
-        self.decide_parts(body, ending, number, symbols, keyword)
+        self.decide_parts(body, ending, number, symbols, room)
     }
 
     /// Decides the next line as `decide_endif` does. Its scan is mostly known at once.
     #[inline(always)]
-    fn decide_parts(
+    fn decide_parts<H: LineBuffer>(
         &mut self,
         body: &[u8],
         ending: &[u8],
         number: u32,
         symbols: &Symbols,
-        keyword: &mut Span,
+        room: &mut LineRoom<H>,
     ) -> Option<Verdict>
-        requires { CanBeDecided (line_with body.now ending.now number) }
+        requires { CanBeDecided H.CAPACITY (line_with body.now ending.now number) }
         ensures { DecidesAs symbols.now self.old self.new
-            (line_with body.now ending.now number) keyword.new result }
+            (line_with body.now ending.now number) room.new.keyword result }
     {
         let line = Line {
             body,
@@ -170,8 +188,8 @@ impl LineDecider {
             number,
         };
         match self.decide_unmarked(&line, symbols) {
-            Some(decided) => verdict_of(decided, keyword),
-            None => self.decide_marked(body, ending, number, symbols, keyword),
+            Some(decided) => verdict_of(decided, &mut room.keyword),
+            None => self.decide_marked(body, ending, number, symbols, room),
         }
     }
 
@@ -182,7 +200,8 @@ impl LineDecider {
         line: &Line<'_>,
         symbols: &Symbols,
     ) -> Option<Result<Step, SectionFault>>
-        requires { CanBeDecided (as_line line.now) }
+        requires within { IsWithinLimits (as_line line.now) }
+        requires one_line { NoNewline line.now.body.now }
         ensures decides { IfSome result (DecidesNext symbols.now self.old self.new
             (as_line line.now)) }
         ensures cursor { IfSome result (λ r. IfOk r (λ s. HoldsKeyword s line.now)) }
@@ -197,47 +216,27 @@ impl LineDecider {
     /// Decides the next line as `decide_endif` does, whatever it has and whatever is carried from
     /// the lines before.
     #[inline(never)]
-    fn decide_marked(
+    fn decide_marked<H: LineBuffer>(
         &mut self,
         body: &[u8],
         ending: &[u8],
         number: u32,
         symbols: &Symbols,
-        keyword: &mut Span,
+        room: &mut LineRoom<H>,
     ) -> Option<Verdict>
-        requires { CanBeDecided (line_with body.now ending.now number) }
+        requires { CanBeDecided H.CAPACITY (line_with body.now ending.now number) }
         ensures { DecidesAs symbols.now self.old self.new
-            (line_with body.now ending.now number) keyword.new result }
+            (line_with body.now ending.now number) room.new.keyword result }
     {
         let line = Line {
             body,
             ending,
             number,
         };
-        if body.len() > SHORT_LINE_BYTES {
-            return self.decide_long(&line, symbols, keyword);
-        }
-        let decided = decide_with(&mut self.scanner, &mut self.machine, &line, symbols);
-        verdict_of(decided, keyword)
-    }
-
-    /// Decides the next line, if it is longer than `SHORT_LINE_BYTES`, as `decide_endif` does. The
-    /// scanner for it is a local of this function, so that shorter lines don't clear its memory.
-    #[inline(never)]
-    fn decide_long(
-        &mut self,
-        line: &Line<'_>,
-        symbols: &Symbols,
-        keyword: &mut Span,
-    ) -> Option<Verdict>
-        requires { CanBeDecided (as_line line.now) }
-        ensures { DecidesAs symbols.now self.old self.new (as_line line.now) keyword.new result }
-    {
-        let mut scanner = Scanner::new();
-        scanner.copy_state_of(&self.scanner);
-        let decided = decide_with(&mut scanner, &mut self.machine, line, symbols);
-        self.scanner.copy_state_of(&scanner);
-        verdict_of(decided, keyword)
+        let mode = self.machine.mode();
+        let scan = self.scanner.read_into(mode, &line, &mut room.masked);
+        let decided = self.machine.step(&scan, &line, symbols);
+        verdict_of(decided, &mut room.keyword)
     }
 
     /// Returns the fault of the last line.
@@ -258,18 +257,19 @@ impl LineDecider {
     /// # Errors
     /// Fails if the line is faulty. Nothing is appended.
     #[inline(never)]
-    pub(crate) fn list_names<W: Write>(
+    pub(crate) fn list_names<W: Write, H: LineBuffer>(
         &mut self,
         body: &[u8],
         ending: &[u8],
         number: u32,
         symbols: &Symbols,
+        room: &mut LineRoom<H>,
         lister: &mut Lister,
         pending: &[u8],
         output: &mut Output,
         out: &mut Watched<W>,
     ) -> Result<(), SectionFault>
-        requires { CanBeDecided (line_with body.now ending.now number) }
+        requires { CanBeDecided H.CAPACITY (line_with body.now ending.now number) }
         ensures { ListsNames W.contents symbols.now self.old self.new
             (line_with body.now ending.now number) lister.old lister.new pending.now
             output.old output.new out.old out.new result }
@@ -280,7 +280,7 @@ impl LineDecider {
             number,
         };
         let Some(scan) = self.scanner.read_unmarked(line) else {
-            return self.list_names_marked(line, symbols, lister, pending, output, out);
+            return self.list_names_marked(line, symbols, room, lister, pending, output, out);
         };
         let content = directive(&scan);
         if let Err(reason) = self.machine.step_by(&scan, content, line, symbols) {
@@ -300,64 +300,31 @@ impl LineDecider {
     /// # Errors
     /// As `list_names`.
     #[inline(never)]
-    fn list_names_marked<W: Write>(
+    fn list_names_marked<W: Write, H: LineBuffer>(
         &mut self,
         line: &Line<'_>,
         symbols: &Symbols,
+        room: &mut LineRoom<H>,
         lister: &mut Lister,
         pending: &[u8],
         output: &mut Output,
         out: &mut Watched<W>,
     ) -> Result<(), SectionFault>
-        requires { CanBeDecided (as_line line.now) }
+        requires { CanBeDecided H.CAPACITY (as_line line.now) }
         ensures { ListsNames W.contents symbols.now self.old self.new (as_line line.now)
             lister.old lister.new pending.now output.old output.new out.old out.new result }
     {
-        if line.body.len() > SHORT_LINE_BYTES {
-            return self.list_names_long(line, symbols, lister, pending, output, out);
+        let mode = self.machine.mode();
+        let scan = self.scanner.read_into(mode, line, &mut room.masked);
+        let content = directive(&scan);
+        if let Err(fault) = self.machine.step_by(&scan, content, line, symbols) {
+            return Err(fault);
         }
-        let scanner = &mut self.scanner;
-        let machine = &mut self.machine;
-        list_names_with(
-            scanner, machine, line, symbols, lister, pending, output, out,
-        )
-    }
-
-    /// Decides the next line if it is longer than `SHORT_LINE_BYTES`, and appends `pending` and its
-    /// names. The scanner for it is a local of this function, so that shorter lines don't clear its
-    /// memory.
-    ///
-    /// # Errors
-    /// As `list_names`.
-    #[inline(never)]
-    fn list_names_long<W: Write>(
-        &mut self,
-        line: &Line<'_>,
-        symbols: &Symbols,
-        lister: &mut Lister,
-        pending: &[u8],
-        output: &mut Output,
-        out: &mut Watched<W>,
-    ) -> Result<(), SectionFault>
-        requires { CanBeDecided (as_line line.now) }
-        ensures { ListsNames W.contents symbols.now self.old self.new (as_line line.now)
-            lister.old lister.new pending.now output.old output.new out.old out.new result }
-    {
-        let mut scanner = Scanner::new();
-        scanner.copy_state_of(&self.scanner);
-        let machine = &mut self.machine;
-        let listed = list_names_with(
-            &mut scanner,
-            machine,
-            line,
-            symbols,
-            lister,
-            pending,
-            output,
-            out,
-        );
-        self.scanner.copy_state_of(&scanner);
-        listed
+        output.append(pending, out);
+        let outer = self.machine.depth().saturating_sub(1);
+        let prefix = lister.prefix(outer);
+        append_names(output, prefix, Lister::names_in(content), out);
+        Ok(())
     }
 
     /// Returns how the next line is read, and what becomes of it if it is text.
@@ -425,29 +392,6 @@ fn is_else(body: &[u8]) -> bool
     matches!(body, b"#else")
 }
 
-/// Decides the next line by a scanner that takes it, and by a machine. Returns its step.
-///
-/// # Errors
-/// Fails if the line is faulty.
-#[inline(always)]
-fn decide_with<H: LineBuffer>(
-    scanner: &mut Scanner<H>,
-    machine: &mut Machine,
-    line: &Line<'_>,
-    symbols: &Symbols,
-) -> Result<Step, SectionFault>
-    requires fits { length line.now.body.now ≤ H.CAPACITY }
-    requires line { CanBeDecided (as_line line.now) }
-    ensures decides { DecidesNext symbols.now (decider_of scanner.old machine.old)
-        (decider_of scanner.new machine.new) (as_line line.now) result }
-    ensures cursor { IfOk result (λ s. HoldsKeyword s line.now) }
-    ensures fault { IfErr result (λ f. machine_fault machine.new ≡ Some f) }
-{
-    let mode = machine.mode();
-    let scan = scanner.read(mode, line);
-    machine.step(&scan, line, symbols)
-}
-
 /// Returns the verdict of a step, and sets the span of its keyword; `None` for a fault.
 #[inline(always)]
 fn verdict_of(decided: Result<Step, SectionFault>, keyword: &mut Span) -> Option<Verdict>
@@ -461,39 +405,4 @@ fn verdict_of(decided: Result<Step, SectionFault>, keyword: &mut Span) -> Option
         }
         Err(_) => None,
     }
-}
-
-/// Decides the next line by a scanner that takes it, and by a machine. Appends `pending` and the
-/// line's names.
-///
-/// # Errors
-/// Fails if the line is faulty. Nothing is appended.
-#[inline(always)]
-fn list_names_with<H: LineBuffer, W: Write>(
-    scanner: &mut Scanner<H>,
-    machine: &mut Machine,
-    line: &Line<'_>,
-    symbols: &Symbols,
-    lister: &mut Lister,
-    pending: &[u8],
-    output: &mut Output,
-    out: &mut Watched<W>,
-) -> Result<(), SectionFault>
-    requires fits { length line.now.body.now ≤ H.CAPACITY }
-    requires line { CanBeDecided (as_line line.now) }
-    ensures { ListsNames W.contents symbols.now (decider_of scanner.old machine.old)
-        (decider_of scanner.new machine.new) (as_line line.now) lister.old lister.new pending.now
-        output.old output.new out.old out.new result }
-{
-    let mode = machine.mode();
-    let scan = scanner.read(mode, line);
-    let content = directive(&scan);
-    if let Err(fault) = machine.step_by(&scan, content, line, symbols) {
-        return Err(fault);
-    }
-    output.append(pending, out);
-    let around = machine.depth().saturating_sub(1);
-    let prefix = lister.prefix(around);
-    append_names(output, prefix, Lister::names_in(content), out);
-    Ok(())
 }

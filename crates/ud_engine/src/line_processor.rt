@@ -21,7 +21,7 @@ ghost use Rattle.ud_engine.specs.ProcessedLines.{ShowsNext, judged_as};
 ghost use Rattle.ud_engine.specs.DecidedLines.{consumed, line_with};
 ghost use Rattle.ud_io.specs.Streams.{stream_of};
 
-use crate::line_decider::LineDecider;
+use crate::line_decider::{LineDecider, LineRoom};
 use crate::output::Output;
 use std::io::Write;
 use ud_cond::Symbols;
@@ -87,16 +87,18 @@ impl<S: Show> LineProcessor<S> {
     /// # Errors
     /// Fails if the line is faulty. Nothing is appended.
     #[inline(always)]
-    pub(crate) fn print<W: Write>(
+    pub(crate) fn print<W: Write, H: LineBuffer>(
         &mut self,
         line: &Line<'_>,
         symbols: &Symbols,
+        room: &mut LineRoom<H>,
         pending: &[u8],
         output: &mut Output,
         out: &mut Watched<W>,
     ) -> Result<bool, SectionFault>
         requires within { IsWithinLimits (as_line line.now) }
         requires one_line { NoNewline line.now.body.now }
+        requires fits { length line.now.body.now ≤ H.CAPACITY }
         ensures prints { PrintsNext S.represents S.piece W.contents symbols.now self.old self.new
             (as_line line.now) pending.now output.old output.new out.old out.new (λ put. put)
             result }
@@ -109,6 +111,7 @@ impl<S: Show> LineProcessor<S> {
                     line.ending,
                     line.number,
                     symbols,
+                    room,
                     lister,
                     pending,
                     output,
@@ -119,7 +122,7 @@ impl<S: Show> LineProcessor<S> {
                     Ok(()) => Ok(true),
                 }
             }
-            None => match self.decider.decide(line, symbols) {
+            None => match self.decider.decide(line, symbols, room) {
                 Err(fault) => Err(fault),
                 Ok(step) => {
                     let shown = append_line(&mut self.printer, line, &step, pending, output, out);
@@ -135,22 +138,24 @@ impl<S: Show> LineProcessor<S> {
     /// # Errors
     /// As `print`.
     #[inline(never)]
-    pub(crate) fn put_line<W: Write>(
+    pub(crate) fn put_line<W: Write, H: LineBuffer>(
         &mut self,
         line: &Line<'_>,
         symbols: &Symbols,
+        room: &mut LineRoom<H>,
         pending: &[u8],
         output: &mut Output,
         out: &mut Watched<W>,
     ) -> Result<(), SectionFault>
         requires within { IsWithinLimits (as_line line.now) }
         requires one_line { NoNewline line.now.body.now }
+        requires fits { length line.now.body.now ≤ H.CAPACITY }
         ensures prints { PrintsNext S.represents S.piece W.contents symbols.now self.old self.new
             (as_line line.now) pending.now output.old output.new out.old out.new (λ done. true)
             result }
         ensures unchanged { OnErr result ((out.new ≡ out.old) × (output.new ≡ output.old)) }
     {
-        match self.print(line, symbols, pending, output, out) {
+        match self.print(line, symbols, room, pending, output, out) {
             Err(fault) => Err(fault),
             Ok(shown) => {
                 if !shown {

@@ -369,6 +369,7 @@ impl<H: LineBuffer> Lines<H> {
     /// the text, which lacks its newline.
     pub fn line(&self) -> Line<'_>
         requires complete { IsComplete self.now }
+        ensures fits { length result.body.now ≤ H.CAPACITY }
         ensures value { as_line result ≡ line_at (suc self.now.before) self.now.held }
         ensures bound { result.number ≤ self.now.last_line }
         ensures represents { (text : List ℕ) → LinesRepresent self.now text →
@@ -537,6 +538,7 @@ fn split_newline(line: &[u8]) -> (&[u8], &[u8])
 
 /// Splits a line into its body and its ending.
 fn split_ending(line: &[u8]) -> (&[u8], &[u8])
+    ensures fits { length result.0.now ≤ length line.now }
     ensures value { (number : ℕ) →
         IsLineOf result.0.now result.1.now number (line_at number line.now) }
     ensures ended { IsTrue (is_ending result.1.now) }

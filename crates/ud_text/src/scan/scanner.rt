@@ -471,6 +471,38 @@ impl<H: LineBuffer> Scanner<H> {
     }
 }
 
+impl Scanner<()> {
+    /// Returns a scanner that has read no line, without a buffer. It reads by `read_into`.
+    pub fn bare() -> Scanner<()>
+        ensures { ScannerRepresents result [] }
+    {
+        Scanner::over(())
+    }
+
+    /// Reads the next line of the text, and returns its scan, as `read` does. The scan borrows from
+    /// `masked` and from the line.
+    #[inline(always)]
+    pub fn read_into<'s, 'a: 's, H: LineBuffer>(
+        &mut self,
+        mode: Mode,
+        line: &Line<'a>,
+        masked: &'s mut H,
+    ) -> Scan<'s>
+        requires fits { length line.now.body.now ≤ H.CAPACITY }
+        requires one_line { NoNewline line.now.body.now }
+        ensures represents { (before : List Reading) → ScannerRepresents self.old before →
+            ScannerRepresents self.new
+            (before ++ next_reading before mode (as_line line.now) ∷ []) }
+        ensures value { (before : List Reading) → ScannerRepresents self.old before →
+            as_scan result ≡ scan_after before mode (as_line line.now) }
+        ensures fits { length result.masked.now ≤ length line.now.body.now }
+    {
+        let scanned = scan_line(mode, self.scan_state, line, masked);
+        self.scan_state = scanned.scan_state;
+        scan_of(scanned, masked.as_slice())
+    }
+}
+
 impl<H> Scanner<H> {
     /// Returns a scanner that has read no line, with this buffer.
     pub(crate) fn over(masked: H) -> Scanner<H>
@@ -550,14 +582,6 @@ impl<H> Scanner<H> {
             result ≡ ends_in_block before }
     {
         is_in_block_comment(self.scan_state.lexer.state)
-    }
-
-    /// Copies the state of a scanner, which may read longer or shorter lines. The next line is then
-    /// read as that scanner would read it.
-    pub fn copy_state_of<K>(&mut self, scanner: &Scanner<K>)
-        ensures { self.new ≡ scanner.now }
-    {
-        self.scan_state = scanner.scan_state;
     }
 }
 

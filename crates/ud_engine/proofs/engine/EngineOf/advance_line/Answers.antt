@@ -50,7 +50,7 @@ returns-in-Err-print-clause-moves g c = λ s old.
     (record { symbols = (g.P.PlanSource.plan c.self.inside.plan).symbols; lines = c.next_line.new.lines; printer = c.print.new.self; buffered = c.print.new.output; fault = c.self.inside.fault })
     (as_line c.in-Some.line) c.in-Some.ensures.borrowed c.in-Some.ensures.bytes (omega (arith, len)) c.in-Some.ensures.value c.in-Some.ensures.counted refl
     (c.in-Some.ensures.represents s.text h.took) c.in-Err-print.fault
-    (c.in-Err-print.ensures.prints s.options s.pieces h.items h.tree (subst (λ x. TableRepresents x s.options.table) (sym c.symbols.ensures) h.symbols) h.has)
+    (c.in-Err-print.ensures.prints s.options s.pieces h.items h.tree (subst (λ x. TableRepresents x s.options.table) (sym c.symbols-symbols.ensures) h.symbols) h.has)
 
 pub returns-then-put-clause-moves : goal.returns-then-put-clause-moves
 returns-then-put-clause-moves g c = λ s old.
@@ -64,7 +64,7 @@ returns-then-put-clause-moves g c = λ s old.
     _ (as_line c.in-Some.line) c.in-Some.ensures.borrowed c.in-Some.ensures.bytes (omega (arith, len)) c.in-Some.ensures.value c.in-Some.ensures.counted refl
     (c.in-Some.ensures.represents s.text h.took)
     c.in-Ok-print.put (search rules)
-    (c.in-Ok-print.ensures.prints s.options s.pieces h.items h.tree (subst (λ x. TableRepresents x s.options.table) (sym c.symbols.ensures) h.symbols) h.has)
+    (c.in-Ok-print.ensures.prints s.options s.pieces h.items h.tree (subst (λ x. TableRepresents x s.options.table) (sym c.symbols-symbols.ensures) h.symbols) h.has)
 
 pub returns-clause-moves : goal.returns-clause-moves
 returns-clause-moves g c = λ s old.
@@ -78,7 +78,7 @@ returns-clause-moves g c = λ s old.
     _ (as_line c.in-Some.line) c.in-Some.ensures.borrowed c.in-Some.ensures.bytes (omega (arith, len)) c.in-Some.ensures.value c.in-Some.ensures.counted refl
     (c.in-Some.ensures.represents s.text h.took)
     c.in-Ok-print.put (search rules)
-    (c.in-Ok-print.ensures.prints s.options s.pieces h.items h.tree (subst (λ x. TableRepresents x s.options.table) (sym c.symbols.ensures) h.symbols) h.has)
+    (c.in-Ok-print.ensures.prints s.options s.pieces h.items h.tree (subst (λ x. TableRepresents x s.options.table) (sym c.symbols-symbols.ensures) h.symbols) h.has)
 
 pub returns-then-put-clause-next : goal.returns-then-put-clause-next
 returns-then-put-clause-next g c =

@@ -21,5 +21,5 @@ returns-clause-represents g c = λ s b. in_session g.S.Show.represents g.S.Show.
     count = none_count c.with_buffer.result c.with_buffer.ensures.value;
   };
   works = refl;
-  written = c.new-2.ensures;
+  written = c.new-3.ensures;
 })

@@ -4,5 +4,5 @@ pub returns : goal.returns
 returns c = λ o e. record {
   read = c.new.ensures.represents o e;
   no_fault = c.new.ensures.no_fault;
-  carries = c.with_buffer.ensures;
+  carries = c.bare.ensures;
 }
