@@ -1,13 +1,14 @@
 -- Letters of a text in UTF-8, and the options that they give.
-use Rattle.std.proofs.Common.{◌≡◌, ◌∙◌, ℕ, ◌<◌, List, [], ◌∷◌, ◌++◌, ◌+◌, false, length, refl, chars, arith, ◌≢◌}
+use Rattle.std.proofs.Common.{◌≡◌, ◌∙◌, ℕ, ◌<◌, List, [], ◌∷◌, ◌++◌, ◌+◌, false, length, refl, chars, arith, ◌≢◌, suc, add-one, ap, sym, map, drop, get_or, string_bytes, String, Global}
+use Rattle.std.proofs.Math.Seq.{drop-cons}
 use Rattle.std.specs.Str.{IsUtf8, encode_utf8_all}
 use Rattle.std.specs.Char.{encode_utf8}
 use Rattle.std.proofs.lemmas.Grind.{common_steps}
 use Rattle.std.proofs.lemmas.Str.{chars-nil, encodes-chars, char_from_byte}
 use Rattle.ud_model.specs.answer.CommandLine.{option_letters}
 use Rattle.ud_args.specs.CommandLines.{Parsed, option, option_then}
-use Rattle.ud_args.specs.ParsedArgs.{ordinary_word, after_word}
-use Rattle.ud_args.specs.declared.programs.Program.{Program}
+use Rattle.ud_args.specs.ParsedArgs.{ordinary_word, after_letters}
+use Rattle.ud_args.specs.declared.command_line.CommandLine.{CommandLine}
 
 -- a text without bytes has no letters
 pub chars-empty : (bytes : List ℕ) → length bytes ≡ 0 → chars bytes ≡ []
@@ -32,6 +33,11 @@ option_letters-other (b ∷ bs) rest c e h =
     option_letters-cons b bs (λ (k : b ≡ 45). h (char_from_byte (b ∷ bs) rest c e (omega (arith, k)) (omega arith) ∙ k))
 
 -- a word of option letters gives what its letters give, if no operand came before
-pub ordinary_word-letters : (p : Program) (n c : ℕ) (w cs : List ℕ) (ws : List (List ℕ)) → option_letters w ≡ c ∷ cs
-    → ordinary_word p false n w ws ≡ after_word p false (n + 1) (c ∷ cs) ws
-ordinary_word-letters p n c w cs ws e = rw e refl
+pub ordinary_word-letters : (line : CommandLine) (n c : ℕ) (w cs : List ℕ) → line.after_operand ≡ false → line.read ≡ n + 1 → option_letters w ≡ c ∷ cs
+    → ordinary_word line n w ≡ after_letters line (c ∷ cs)
+ordinary_word-letters line n c w cs h k e = rw (h, ← k, e) refl
+
+-- the words from an index on are the one there and those after it
+pub texts-next : (words : List (String Global)) (n : ℕ) (w : String Global) → n < length words → w ≡ get_or words n w
+    → map string_bytes (drop n words) ≡ string_bytes w ∷ map string_bytes (drop (n + 1) words)
+texts-next words n w h e = rw (add-one, drop-cons words n w h) (ap (λ (x : String Global). string_bytes x ∷ map string_bytes (drop (suc n) words)) (sym e))

@@ -70,8 +70,8 @@ abbrev pub operands_from : ℕ → List (List ℕ) → List Parsed
 operands_from n [] = []
 operands_from n (w ∷ ws) = operand n w ∷ operands_from (n + 1) ws
 
--- `option_then c n letters next rest`: the option `c` with the letters after it in the word with the
--- number `n` as its argument, and then `rest`. If there are no letters, that is `next`.
+-- `option_then c n letters next rest`: the option `c`, and then `rest`. Its argument is the letters
+-- after it in the word with the number `n`. If there are no letters, this is `next`.
 abbrev pub option_then : ℕ → ℕ → List ℕ → List Parsed → List Parsed → List Parsed
 option_then c n [] next rest = next
 option_then c n (l ∷ ls) next rest = option c n (encode_utf8_all (l ∷ ls)) ∷ rest
@@ -85,10 +85,10 @@ letters_then p n (c ∷ cs) next rest =
     else if takes_argument p c then option_then c n cs (next c) rest
     else unknown c ∷ letters_then p n cs next rest
 
--- `ordinary_then p after n w next rest behind`: what the word `w` with the index `n` gives, which is
--- neither `--` nor a long flag, and then the words after it. These are `behind` after an operand,
--- as it is if `after` says that one came before. Else they are `next c` if the option `c` takes the
--- first of them, or `rest`.
+-- `ordinary_then p after n w next rest behind`: what the word `w` with the index `n` gives, and
+-- then the words after it. `w` is neither `--` nor a long flag, and `after` says whether an operand
+-- came before it. After an operand, the words after it give `behind`. Else they give `next c` if
+-- the option `c` takes the first of them, or `rest`.
 abbrev pub ordinary_then : Program → Bool → ℕ → List ℕ → (ℕ → List Parsed) → List Parsed →
     List Parsed → List Parsed
 ordinary_then p after n w next rest behind =
@@ -120,8 +120,8 @@ parsed_next p None after n (w ∷ ws) =
 abbrev pub parsed_words : Program → List (List ℕ) → List Parsed
 parsed_words p words = parsed_next p None false 0 words
 
--- `as_arg g`: what is given, as the definition of unifdef(1) has it, with each word after an operand
--- as one.
+-- `as_arg g`: what is given, as the definition of unifdef(1) has it. There, a late word is an
+-- operand.
 abbrev pub as_arg : Parsed → ParsedArg
 as_arg (flag c) = args.flag c
 as_arg (option c n a) = args.option c n a

@@ -3,24 +3,24 @@
 --   as_parsed given       an option or operand of the code, as the definitions have it
 --   parsed given          several of them
 --   parsed_arg given      an option or operand of the code, as unifdef(1) takes it
---   after_word p after n letters words   what these letters and then the words give
---   behind_operand p n words   what the words give after an operand
---   texts words           the bytes of the words that are still to be read
+--   texts line            the bytes of the words that are still to be read
+--   operands line         each of those words as an operand
+--   next_words line waits   what those words give, if an option takes the first of them
+--   after_letters line letters   what these letters and then the words give
+--   ordinary_word line n w   what a word and then the words after it give
 --   remaining line        all that is still to be read
 --   remaining_args line   the same, as unifdef(1) takes it
 --   parsed_then next      the result of the next call, and all that comes after it
 --   letters_of split      the letters of a text of which the first letter was split off
 --   bytes_of split        the bytes of this text
-use Rattle.std.specs.Prelude.{ℕ, ◌+◌, List, [], ◌∷◌, ◌++◌, map, chars, string_bytes, encode_utf8}
-use Rattle.std.specs.Prelude.{Bool, true, Option, Some, None, if◌then◌else◌}
+use Rattle.std.specs.Prelude.{ℕ, List, [], ◌∷◌, ◌++◌, drop, map, chars, string_bytes, encode_utf8}
+use Rattle.std.specs.Prelude.{true, Option, Some, None, if◌then◌else◌}
 use denote.Ref.{Bor}
 use Rattle.ud_model.specs.answer.CommandLine.{ParsedArg as GivenInWords}
 use Rattle.ud_args.specs.CommandLines.{Parsed, flag, option, operand, unknown, lacking, late}
 use Rattle.ud_args.specs.CommandLines.{letters_then, ordinary_then, parsed_next, operands_from}
 use Rattle.ud_args.specs.CommandLines.{ends_at_operand, as_arg}
-use Rattle.ud_args.specs.declared.programs.Program.{Program}
 use Rattle.ud_args.specs.declared.command_line.CommandLine.{CommandLine}
-use Rattle.ud_args.specs.declared.words.Words.{Words}
 use Rattle.ud_args.specs.declared.command_line.ParsedArg.{ParsedArg}
 use Rattle.ud_args.specs.declared.command_line.ParsedArg.TheVariants.{Flag, WithArgument, Operand}
 use Rattle.ud_args.specs.declared.command_line.ParsedArg.TheVariants.{Unknown, MissingArgument}
@@ -43,40 +43,37 @@ parsed given = map as_parsed given
 abbrev pub parsed_arg : ParsedArg → GivenInWords
 parsed_arg given = as_arg (as_parsed given)
 
--- `after_word p after n letters words`: all that `letters` and then `words` give, if `n` words come
--- before `words`. `after` says whether an operand came before.
-abbrev pub after_word : Program → Bool → ℕ → List ℕ → List (List ℕ) → List Parsed
-after_word p after n letters words =
-    letters_then p n letters (λ c. parsed_next p (Some c) after n words)
-    (parsed_next p None after n words)
+-- `texts line`: the bytes of the words that are still to be read
+abbrev pub texts : CommandLine → List (List ℕ)
+texts line = map string_bytes (drop line.read line.words.now)
 
--- `behind_operand p n words`: what the words from the index `n` on give after an operand
-abbrev pub behind_operand : Program → ℕ → List (List ℕ) → List Parsed
-behind_operand p n words =
-    if ends_at_operand p then operands_from n words else parsed_next p None true n words
+-- `operands line`: each of those words as an operand
+abbrev pub operands : CommandLine → List Parsed
+operands line = operands_from line.read (texts line)
 
--- `ordinary_word p after n w words`: what the word `w` with the index `n` gives, which is neither
--- `--` nor a long flag, and then the words after it
-abbrev pub ordinary_word : Program → Bool → ℕ → List ℕ → List (List ℕ) → List Parsed
-ordinary_word p after n w words =
-    ordinary_then p after n w (λ c. parsed_next p (Some c) after (n + 1) words)
-    (parsed_next p None after (n + 1) words) (behind_operand p (n + 1) words)
+-- `next_words line waits`: what those words give, if the option `waits` takes the first of them
+abbrev pub next_words : CommandLine → Option ℕ → List Parsed
+next_words line waits =
+    parsed_next line.program waits line.after_operand line.read (texts line)
 
--- `texts words`: the bytes of the words that are still to be read
-abbrev pub texts : Words → List (List ℕ)
-texts words = map string_bytes words.words.now
+-- `after_letters line letters`: what these letters of the word that was read last and then the
+-- words after it give
+abbrev pub after_letters : CommandLine → List ℕ → List Parsed
+after_letters line letters = letters_then line.program line.read letters
+    (λ c. next_words line (Some c)) (next_words line None)
 
--- `texts_then next`: the bytes of a next word, if any, and of the words after it
-abbrev pub texts_then : Option (Bor (List ℕ) × Words) → List (List ℕ)
-texts_then None = []
-texts_then (Some next) = next.0.now ∷ texts next.1
+-- `ordinary_word line n w`: what the word `w` with the index `n` gives, which was read last and is
+-- neither `--` nor a long flag, and then the words after it
+abbrev pub ordinary_word : CommandLine → ℕ → List ℕ → List Parsed
+ordinary_word line n w = ordinary_then line.program line.after_operand n w
+    (λ c. next_words line (Some c)) (next_words line None)
+    (if ends_at_operand line.program then operands line
+    else parsed_next line.program None true line.read (texts line))
 
 -- `remaining line`: all options and operands that are still to be read from the command line
 abbrev pub remaining : CommandLine → List Parsed
 remaining line =
-    if line.only_operands then operands_from line.rest.read (texts line.rest)
-    else after_word line.program line.after_operand line.rest.read (chars line.letters.now)
-    (texts line.rest)
+    if line.only_operands then operands line else after_letters line (chars line.letters.now)
 
 -- `remaining_args line`: all that is still to be read, as unifdef(1) takes it
 abbrev pub remaining_args : CommandLine → List GivenInWords

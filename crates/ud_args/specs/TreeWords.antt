@@ -15,8 +15,8 @@ use Rattle.std.specs.Prelude.{Some, None, codes, encode_utf8, if◌then◌else�
 use Rattle.std.specs.List.{filter_map, list_any}
 use Rattle.ud_model.specs.text.Bytes.{hyphen}
 use Rattle.ud_model.specs.answer.CommandLine.{ParsedArg, has_letter, takes_argument}
-use Rattle.ud_args.specs.CommandLines.{Parsed, flag, option, operand, unknown, lacking, late, as_arg}
-use Rattle.ud_args.specs.CommandLines.{parsed_words}
+use Rattle.ud_args.specs.CommandLines.{Parsed, flag, option, operand, unknown, lacking, late}
+use Rattle.ud_args.specs.CommandLines.{as_arg, parsed_words}
 use Rattle.ud_args.specs.declared.programs.Program.TheVariants.{UnifdefTree}
 
 -- `given_in words`: what the words give, in reading order.

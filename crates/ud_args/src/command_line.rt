@@ -7,11 +7,10 @@
 ghost use Rattle.std.specs.Prelude.{◌≡◌, ◌∷◌, ◌+◌, map, chars, string_bytes};
 ghost use Rattle.std.specs.Prelude.{Some, None};
 ghost use Rattle.ud_model.specs.answer.CommandLine.{option_letters};
-ghost use Rattle.ud_args.specs.CommandLines.{operands_from, option_then, parsed_next, parsed_words};
+ghost use Rattle.ud_args.specs.CommandLines.{option_then, parsed_words};
 ghost use Rattle.ud_args.specs.ParsedArgs.{letters_of, bytes_of};
 
 use crate::programs::Program;
-use crate::words::Words;
 
 /// An option or an operand, as read from the words of a command line.
 #[derive(Clone, Copy)]
@@ -54,8 +53,10 @@ pub(crate) struct CommandLine<'a> {
     program: Program,
     /// The remaining letters of the word that was read last.
     letters: &'a str,
-    /// The words after that one.
-    rest: Words<'a>,
+    /// All words.
+    words: &'a [String],
+    /// The number of words that were read.
+    read: usize,
     /// `true` if an operand was read; no letters remain then.
     after_operand: bool,
     /// `true` if each further word is an operand; no letters remain then.
@@ -63,8 +64,8 @@ pub(crate) struct CommandLine<'a> {
 }
 
 impl<'a> CommandLine<'a> {
-    ghost use Rattle.ud_args.specs.ParsedArgs.{remaining, as_parsed, parsed_then, after_word};
-    ghost use Rattle.ud_args.specs.ParsedArgs.{ordinary_word, texts};
+    ghost use Rattle.ud_args.specs.ParsedArgs.{remaining, as_parsed, parsed_then, operands};
+    ghost use Rattle.ud_args.specs.ParsedArgs.{next_words, after_letters, ordinary_word};
 
     /// Returns the whole command line of these words, which are without the program's name.
     pub(crate) fn new(program: Program, words: &'a [String]) -> CommandLine<'a>
@@ -73,7 +74,8 @@ impl<'a> CommandLine<'a> {
         CommandLine {
             program,
             letters: "",
-            rest: Words::new(words),
+            words,
+            read: 0,
             after_operand: false,
             only_operands: false,
         }
@@ -94,13 +96,12 @@ impl<'a> CommandLine<'a> {
 
     /// Reads the next word, if no letters remain.
     fn next_word(&self) -> Option<(ParsedArg<'a>, CommandLine<'a>)>
-        ensures { parsed_next self.now.program None self.now.after_operand self.now.rest.read
-            (texts self.now.rest) ≡ parsed_then result }
+        ensures { next_words self.now None ≡ parsed_then result }
     {
-        let (word, rest) = self.rest.next()?;
+        let word = self.words.get(self.read)?.as_str();
         let after = CommandLine {
             letters: "",
-            rest,
+            read: self.read + 1,
             only_operands: false,
             ..*self
         };
@@ -109,15 +110,15 @@ impl<'a> CommandLine<'a> {
         }
         match self.program.long_flag(word) {
             Some(letter) => Some((ParsedArg::Flag { letter }, after)),
-            None => Some(after.option_or_operand(self.rest.read, word)),
+            None => Some(after.option_or_operand(self.read, word)),
         }
     }
 
     /// Takes the word that was read last, which has this index and is neither `--` nor a long flag.
     fn option_or_operand(&self, index: usize, word: &'a str) -> (ParsedArg<'a>, CommandLine<'a>)
-        requires { self.now.rest.read ≡ index + 1 }
-        ensures { ordinary_word self.now.program self.now.after_operand index word.now
-            (texts self.now.rest) ≡ as_parsed result.0 ∷ remaining result.1 }
+        requires { self.now.read ≡ index + 1 }
+        ensures { ordinary_word self.now index word.now ≡
+            as_parsed result.0 ∷ remaining result.1 }
     {
         let behind = CommandLine {
             letters: "",
@@ -134,12 +135,12 @@ impl<'a> CommandLine<'a> {
 
     /// Reads the next word as an operand, as all after it are.
     fn operand(&self) -> Option<(ParsedArg<'a>, CommandLine<'a>)>
-        ensures { operands_from self.now.rest.read (texts self.now.rest) ≡ parsed_then result }
+        ensures { operands self.now ≡ parsed_then result }
     {
-        let index = self.rest.read;
-        let (name, rest) = self.rest.next()?;
+        let index = self.read;
+        let name = self.words.get(index)?.as_str();
         let after = CommandLine {
-            rest,
+            read: index + 1,
             only_operands: true,
             ..*self
         };
@@ -148,8 +149,7 @@ impl<'a> CommandLine<'a> {
 
     /// Reads a letter of the word that was read last. The letters `after` follow it.
     fn option(&self, letter: char, after: &'a str) -> (ParsedArg<'a>, CommandLine<'a>)
-        ensures { after_word self.now.program self.now.after_operand self.now.rest.read
-            (letter ∷ chars after.now) (texts self.now.rest) ≡
+        ensures { after_letters self.now (letter ∷ chars after.now) ≡
             as_parsed result.0 ∷ remaining result.1 }
     {
         let rest = self.with_letters(after);
@@ -165,13 +165,11 @@ impl<'a> CommandLine<'a> {
     /// Reads an option with its argument. The letters `after` follow the option's: they are its
     /// argument or, if there are none, the next word is.
     fn option_with_argument(&self, letter: char, after: &'a str) -> (ParsedArg<'a>, CommandLine<'a>)
-        ensures { option_then letter self.now.rest.read (chars after.now)
-            (parsed_next self.now.program (Some letter) self.now.after_operand self.now.rest.read
-            (texts self.now.rest)) (parsed_next self.now.program None self.now.after_operand
-            self.now.rest.read (texts self.now.rest)) ≡ as_parsed result.0 ∷ remaining result.1 }
+        ensures { option_then letter self.now.read (chars after.now) (next_words self.now
+            (Some letter)) (next_words self.now None) ≡ as_parsed result.0 ∷ remaining result.1 }
     {
         let end = self.with_letters("");
-        let word = self.rest.read;
+        let word = self.read;
         if !after.is_empty() {
             let argument = after;
             let given = ParsedArg::WithArgument {
@@ -181,10 +179,11 @@ impl<'a> CommandLine<'a> {
             };
             return (given, end);
         }
-        match self.rest.next() {
+        match self.words.get(word) {
             None => (ParsedArg::MissingArgument { letter }, end),
-            Some((argument, rest)) => {
-                let word = rest.read;
+            Some(next) => {
+                let argument = next.as_str();
+                let word = word + 1;
                 let given = ParsedArg::WithArgument {
                     letter,
                     word,
@@ -192,7 +191,7 @@ impl<'a> CommandLine<'a> {
                 };
                 let after = CommandLine {
                     letters: "",
-                    rest,
+                    read: word,
                     only_operands: false,
                     ..*self
                 };
@@ -203,8 +202,7 @@ impl<'a> CommandLine<'a> {
 
     /// Returns the same command line with `letters` as the remaining letters.
     fn with_letters(&self, letters: &'a str) -> CommandLine<'a>
-        ensures { remaining result ≡ after_word self.now.program self.now.after_operand
-            self.now.rest.read (chars letters.now) (texts self.now.rest) }
+        ensures { remaining result ≡ after_letters self.now (chars letters.now) }
     {
         CommandLine {
             letters,

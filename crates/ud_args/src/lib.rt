@@ -16,12 +16,9 @@ mod plans;
 mod programs;
 mod tree_words;
 mod usage;
-mod words;
 
 pub use command_line::ParsedArg;
 pub use parse::{display_name, input_of, plan};
 pub use plans::Plan;
-pub use tree_words::{
-    first_fault, given_by, has_flag, has_symbols, paths, patterns, plan_among, word_at,
-};
+pub use tree_words::{given_by, has_flag, has_symbols, paths, patterns, plan_among, word_at};
 pub use usage::Usage;

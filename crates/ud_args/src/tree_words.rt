@@ -4,9 +4,8 @@ ghost use Rattle.std.specs.Prelude.{◌≡◌, ◌∷◌, [], IfOk, IfErr, map, 
 ghost use Rattle.ud_args.specs.ParsedArgs.{as_parsed, parsed};
 ghost use Rattle.ud_args.specs.ParsedSettings.{IsUsageOf};
 ghost use Rattle.ud_args.specs.Plans.{PlanRepresents};
-ghost use Rattle.ud_args.specs.TreeWords.{given_in, is_fault, first_fault, has_flag, has_symbols};
-ghost use Rattle.ud_args.specs.TreeWords.{paths_in, patterns_in, is_unifdef_option, unifdef_args};
-ghost use Rattle.ud_args.specs.TreeWords.{option_word, word_at};
+ghost use Rattle.ud_args.specs.TreeWords.{given_in, has_flag, has_symbols, paths_in, patterns_in};
+ghost use Rattle.ud_args.specs.TreeWords.{is_unifdef_option, unifdef_args, option_word, word_at};
 
 use crate::command_line::{CommandLine, ParsedArg};
 use crate::plans::{Plan, PlanDraft};
@@ -29,28 +28,6 @@ pub fn given_by(alloc: Global, words: &[String]) -> Result<Vec<ParsedArg<'_>>, A
         given.push(item)?;
     }
     Ok(given)
-}
-
-/// Returns whether this is a fault of the words.
-fn is_fault(given: ParsedArg<'_>) -> bool
-    ensures { result ≡ is_fault (as_parsed given.entry) }
-{
-    matches!(
-        given,
-        ParsedArg::Unknown { .. } | ParsedArg::MissingArgument { .. } | ParsedArg::Late { .. }
-    )
-}
-
-/// Returns the first fault of the words, if there is one.
-pub fn first_fault<'a>(given: &[ParsedArg<'a>]) -> Option<ParsedArg<'a>>
-    ensures { option_map as_parsed result ≡ first_fault (parsed given.now) }
-{
-    for item in given {
-        if is_fault(*item) {
-            return Some(*item);
-        }
-    }
-    None
 }
 
 /// Returns whether the flag with this letter is given.

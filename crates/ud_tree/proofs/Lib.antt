@@ -14,7 +14,6 @@ pub mod RunLemmas
 mod ShownLemmas
 pub mod PickLemmas
 pub mod RemainderLemmas
-mod ArgumentLemmas
 pub mod KeepLemmas
 mod PatternSetLemmas
 mod PatternPartLemmas

@@ -4,7 +4,6 @@
 --   AreFitting gs           the options go together
 --   IsArgumentsOf gs args   the arguments of a run
 --   IsRequestOf gs r        the request
---   IsWordFault g f         the fault of one option or path
 --   IsFaultIn gs f          a fault of the command line
 --
 -- `gs` is what the words of the command line give, one option or path after another.
@@ -79,14 +78,6 @@ IsRequestOf gs Version = (first_fault gs ≡ None) × (has_flag (codes "h") gs �
     (has_flag (codes "V") gs ≡ true)
 IsRequestOf gs (Run args) = (first_fault gs ≡ None) × (has_flag (codes "h") gs ≡ false) ×
     (has_flag (codes "V") gs ≡ false) × IsArgumentsOf gs args
-
--- `IsWordFault g f`: `f` is the fault of the option or path `g`. Or memory ran out.
-abbrev pub IsWordFault : Parsed → ArgumentFault → Type 0
-IsWordFault g (UnknownOption c) = g ≡ unknown c
-IsWordFault g (MissingArgument c) = g ≡ lacking c
-IsWordFault g (OptionAfterPath w) = (n : ℕ) × (g ≡ late n (string_bytes w))
-IsWordFault g OutOfMemory = Unit {0}
-IsWordFault g _ = ⊥
 
 -- `AreGiven a b gs`: the flags `a` and `b` are given.
 abbrev pub AreGiven : List ℕ → List ℕ → List Parsed → Type 0

@@ -1,17 +1,15 @@
 //! The arguments of unifdef-tree(1), read as POSIX XBD 12.2 has it: options first, then paths.
 
-ghost use Rattle.std.specs.Prelude.{◌≡◌, true, false, IfOk, IfErr, IfSome, IfNone};
-ghost use Rattle.std.specs.Prelude.{map, string_bytes, codes};
-ghost use Rattle.ud_args.specs.ParsedArgs.{as_parsed, parsed};
+ghost use Rattle.std.specs.Prelude.{◌≡◌, None, IfOk, IfErr, IfSome, IfNone, map, string_bytes};
+ghost use Rattle.ud_args.specs.ParsedArgs.{parsed};
 ghost use Rattle.ud_args.specs.ParsedSettings.{IsUsageOf};
-ghost use Rattle.ud_args.specs.TreeWords.{given_in, is_fault, has_flag, unifdef_args};
-ghost use Rattle.ud_tree.specs.Requests.{IsRequestOf, IsArgumentsOf, IsFaultIn, IsWordFault};
+ghost use Rattle.ud_args.specs.TreeWords.{given_in, first_fault, unifdef_args};
+ghost use Rattle.ud_tree.specs.Requests.{IsRequestOf, IsArgumentsOf, IsFaultIn};
 ghost use Rattle.ud_tree.specs.Requests.{AreFitting, task_of};
 
 use std::alloc::Global;
 use ud_args::{
-    ParsedArg, Usage, first_fault, given_by, has_flag, has_symbols, paths, patterns, plan_among,
-    word_at,
+    ParsedArg, Usage, given_by, has_flag, has_symbols, paths, patterns, plan_among, word_at,
 };
 use ud_replace::TextPlan;
 
@@ -132,8 +130,8 @@ fn request_of(alloc: Global, given: &[ParsedArg<'_>]) -> Result<Request, Argumen
     ensures request { IfOk result (IsRequestOf (parsed given.now)) }
     ensures fault { IfErr result (IsFaultIn (parsed given.now)) }
 {
-    if let Some(fault) = first_fault(given) {
-        return Err(word_fault(alloc, fault));
+    if let Some(fault) = word_fault(alloc, given) {
+        return Err(fault);
     }
     if has_flag(given, 'h') {
         return Ok(Request::Help);
@@ -150,22 +148,28 @@ fn request_of(alloc: Global, given: &[ParsedArg<'_>]) -> Result<Request, Argumen
     }
 }
 
-/// Returns a fault of the words.
-fn word_fault(alloc: Global, fault: ParsedArg<'_>) -> ArgumentFault
-    requires { is_fault (as_parsed fault) ≡ true }
-    ensures { IsWordFault (as_parsed fault.entry) result }
+/// Returns the first fault of the words, if there is one.
+fn word_fault(alloc: Global, given: &[ParsedArg<'_>]) -> Option<ArgumentFault>
+    ensures fault { IfSome result (IsFaultIn (parsed given.now)) }
+    ensures right { IfNone result (first_fault (parsed given.now) ≡ None) }
 {
-    match fault {
-        ParsedArg::Unknown { letter } => ArgumentFault::UnknownOption(letter),
-        ParsedArg::MissingArgument { letter } => ArgumentFault::MissingArgument(letter),
-        ParsedArg::Late { name, .. } => match String::from_str(alloc, name) {
-            Ok(word) => ArgumentFault::OptionAfterPath(word),
-            Err(_) => ArgumentFault::OutOfMemory,
-        },
-        ParsedArg::Flag { .. } | ParsedArg::WithArgument { .. } | ParsedArg::Operand { .. } => {
-            unreachable!()
+    for item in given {
+        match *item {
+            ParsedArg::Unknown { letter } => return Some(ArgumentFault::UnknownOption(letter)),
+            ParsedArg::MissingArgument { letter } => {
+                return Some(ArgumentFault::MissingArgument(letter));
+            }
+            ParsedArg::Late { name, .. } => {
+                return match String::from_str(alloc, name) {
+                    Ok(word) => Some(ArgumentFault::OptionAfterPath(word)),
+                    Err(_) => Some(ArgumentFault::OutOfMemory),
+                };
+            }
+            ParsedArg::Flag { .. } | ParsedArg::WithArgument { .. } | ParsedArg::Operand { .. } =>
+                {}
         }
     }
+    None
 }
 
 /// Returns the fault if some options don't go together.
@@ -173,47 +177,21 @@ fn clash(given: &[ParsedArg<'_>]) -> Option<ArgumentFault>
     ensures fault { IfSome result (IsFaultIn (parsed given.now)) }
     ensures fits { IfNone result (AreFitting (parsed given.now)) }
 {
-    if has_flag(given, 's') {
-        return clash_with_names(given);
+    let names = has_flag(given, 's');
+    let prunes = has_flag(given, 'p');
+    if names && has_flag(given, 'n') {
+        Some(ArgumentFault::DiffAndNames)
+    } else if names && has_flag(given, 'd') {
+        Some(ArgumentFault::ChangesAndNames)
+    } else if names && prunes {
+        Some(ArgumentFault::PruningAndNames)
+    } else if prunes && has_flag(given, 'c') {
+        Some(ArgumentFault::PruningAndComplement)
+    } else if prunes && has_flag(given, 't') {
+        Some(ArgumentFault::PruningAndPlain)
+    } else {
+        None
     }
-    if has_flag(given, 'p') {
-        return clash_with_pruning(given);
-    }
-    None
-}
-
-/// Returns the fault of `-s` beside an option that doesn't go with it.
-fn clash_with_names(given: &[ParsedArg<'_>]) -> Option<ArgumentFault>
-    requires { has_flag (codes "s") (parsed given.now) ≡ true }
-    ensures fault { IfSome result (IsFaultIn (parsed given.now)) }
-    ensures fits { IfNone result (AreFitting (parsed given.now)) }
-{
-    if has_flag(given, 'n') {
-        return Some(ArgumentFault::DiffAndNames);
-    }
-    if has_flag(given, 'd') {
-        return Some(ArgumentFault::ChangesAndNames);
-    }
-    if has_flag(given, 'p') {
-        return Some(ArgumentFault::PruningAndNames);
-    }
-    None
-}
-
-/// Returns the fault of `-p` beside an option that doesn't go with it, where `-s` isn't given.
-fn clash_with_pruning(given: &[ParsedArg<'_>]) -> Option<ArgumentFault>
-    requires pruning { has_flag (codes "p") (parsed given.now) ≡ true }
-    requires no_names { has_flag (codes "s") (parsed given.now) ≡ false }
-    ensures fault { IfSome result (IsFaultIn (parsed given.now)) }
-    ensures fits { IfNone result (AreFitting (parsed given.now)) }
-{
-    if has_flag(given, 'c') {
-        return Some(ArgumentFault::PruningAndComplement);
-    }
-    if has_flag(given, 't') {
-        return Some(ArgumentFault::PruningAndPlain);
-    }
-    None
 }
 
 /// Returns the arguments of a run, whose options go together.

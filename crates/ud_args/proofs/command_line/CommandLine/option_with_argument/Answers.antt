@@ -1,7 +1,7 @@
 use Rattle.std.proofs.Common.{arith}
 use Rattle.std.proofs.lemmas.Grind.{common_steps}
 use Rattle.std.proofs.lemmas.Str.{chars-nil}
-use Rattle.ud_args.proofs.LetterLemmas.{option_then-bytes, chars-empty}
+use Rattle.ud_args.proofs.LetterLemmas.{option_then-bytes, chars-empty, texts-next}
 use Rattle.ud_args.proofs.command_line.CommandLine.option_with_argument.Goals as goal
 
 pub returns-then-not-is_empty : goal.returns-then-not-is_empty
@@ -11,4 +11,4 @@ pub returns-in-None : goal.returns-in-None
 returns-in-None c = grind (arith, common_steps, chars-empty, chars-nil)
 
 pub returns-in-Some : goal.returns-in-Some
-returns-in-Some c = grind (arith, chars-empty, chars-nil)
+returns-in-Some c = grind (arith, chars-empty, chars-nil, texts-next)
