@@ -4,7 +4,7 @@
 --   IsPrunedBy args text p     `p` is what the arguments leave of the text
 --   HandsOutPruned text ..     what fits of it was written
 --   PruneAnswer block text ..  this, or nothing, since the words are bad or memory was refused
-use Rattle.std.specs.Prelude.{◌≡◌, ◌⊎◌, ◌==◌, ℕ, ℤ, pos, negsuc, List, length, Bool, not, nat_le}
+use Rattle.std.specs.Prelude.{◌≡◌, ◌==◌, ℕ, ℤ, pos, negsuc, List, length, Bool, not, nat_le}
 use Rattle.std.specs.Prelude.{None, if◌then◌else◌}
 use Rattle.ud_model.specs.answer.CommandLine.{usage_fault, options_of}
 use Rattle.ud_model.specs.conditions.Conditions.{Rules}

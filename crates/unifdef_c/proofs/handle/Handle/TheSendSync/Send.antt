@@ -12,7 +12,6 @@ use denote.Struct.Owning.{to}
 use denote.Param.Send.{IsSend, Quiet, part_keyless}
 use Rattle.std.specs.Global.{Global}
 use Rattle.std.proofs.Crossing as heap
-use Rattle.std.proofs.alloc.Global.TheSendSync as allocator
 use Rattle.unifdef_c.specs.Handles.{handle_owns}
 use Rattle.unifdef_c.specs.contracts.stream.Stream as stream
 use Rattle.unifdef_c.proofs.stream.Stream.TheSendSync.{the_send as stream_send}
