@@ -1,4 +1,3 @@
-use Rattle.ud_io.specs.Streams.{stream_of}
 use Rattle.ud_tree.proofs.WalkLemmas.{finds_none}
 use Rattle.std.proofs.Common.{refl, ◌<◌}
 use Rattle.ud_tree.proofs.CoverLemmas.{takes_none, takes_at}
