@@ -18,9 +18,11 @@ begins_white (b ∷ t) = is_white b
 -- end. White space or the start is before both if `white`.
 pub data IsSpread : Bool → List ℕ → List ℕ → Type 0 where
   nothing : {white : Bool} → IsSpread white [] []
-  kept : {white : Bool} {u t : List ℕ} (b : ℕ) → IsSpread (is_white b) u t → IsSpread white (b ∷ u) (b ∷ t)
+  kept : {white : Bool} {u t : List ℕ} (b : ℕ) → IsSpread (is_white b) u t →
+      IsSpread white (b ∷ u) (b ∷ t)
   behind : {u t : List ℕ} (b : ℕ) → is_white b ≡ true → IsSpread true u t → IsSpread true (b ∷ u) t
-  in_front : {white : Bool} {u t : List ℕ} (b : ℕ) → is_white b ≡ true → begins_white t ≡ true → IsSpread true u t → IsSpread white (b ∷ u) t
+  in_front : {white : Bool} {u t : List ℕ} (b : ℕ) → is_white b ≡ true → begins_white t ≡ true →
+      IsSpread true u t → IsSpread white (b ∷ u) t
 
 -- Each text is itself, with nothing inserted.
 pub unspread : (white : Bool) (t : List ℕ) → IsSpread white t t
@@ -34,9 +36,11 @@ Spread u t = (white : Bool) × IsSpread white u t
 -- Both texts are empty, or begin with the same byte, which isn't white space.
 data SameFront : List ℕ → List ℕ → Type 0 where
   no_front : SameFront [] []
-  front : {u t : List ℕ} (b : ℕ) → is_white b ≡ false → IsSpread false u t → SameFront (b ∷ u) (b ∷ t)
+  front : {u t : List ℕ} (b : ℕ) → is_white b ≡ false → IsSpread false u t →
+      SameFront (b ∷ u) (b ∷ t)
 
-skip_kept : {u t : List ℕ} (b : ℕ) (w : Bool) → is_white b ≡ w → IsSpread w u t → SameFront (skip_white u) (skip_white t) →
+skip_kept : {u t : List ℕ} (b : ℕ) (w : Bool) → is_white b ≡ w → IsSpread w u t →
+    SameFront (skip_white u) (skip_white t) →
     SameFront (if w then skip_white u else b ∷ u) (if w then skip_white t else b ∷ t)
 skip_kept b true e s f = f
 skip_kept b false e s f = front b e s
@@ -47,8 +51,10 @@ past_one b u e = ap (λ (w : Bool). if w then skip_white u else b ∷ u) (sym e)
 skipped : {w : Bool} {u t : List ℕ} → IsSpread w u t → SameFront (skip_white u) (skip_white t)
 skipped nothing = no_front
 skipped (kept b s) = skip_kept b (is_white b) refl s (skipped s)
-skipped (behind {u = u} {t = t} b e s) = subst (λ (x : List ℕ). SameFront x (skip_white t)) (past_one b u e) (skipped s)
-skipped (in_front {u = u} {t = t} b e f s) = subst (λ (x : List ℕ). SameFront x (skip_white t)) (past_one b u e) (skipped s)
+skipped (behind {u = u} {t = t} b e s) =
+    subst (λ (x : List ℕ). SameFront x (skip_white t)) (past_one b u e) (skipped s)
+skipped (in_front {u = u} {t = t} b e f s) =
+    subst (λ (x : List ℕ). SameFront x (skip_white t)) (past_one b u e) (skipped s)
 
 -- If one text begins with the byte `c`, the other does, and the rests are spread so.
 record SameFirst (c : ℕ) (u t : List ℕ) : Type 0 where
@@ -58,7 +64,8 @@ record SameFirst (c : ℕ) (u t : List ℕ) : Type 0 where
 other_byte : (b c : ℕ) → is_white b ≡ true → is_white c ≡ false → (b == c) ≡ false
 other_byte b c e n = grind arith
 
-other_front : (c : ℕ) (t : List ℕ) → begins_white t ≡ true → is_white c ≡ false → starts_with_byte c t ≡ false
+other_front : (c : ℕ) (t : List ℕ) → begins_white t ≡ true → is_white c ≡ false →
+    starts_with_byte c t ≡ false
 other_front c [] e n = refl
 other_front c (b ∷ t) e n = other_byte b c e n
 
@@ -75,19 +82,26 @@ data SameRest : Option (List ℕ) → Option (List ℕ) → Type 0 where
   no_rest : SameRest None None
   some_rest : {u t : List ℕ} → Spread u t → SameRest (Some u) (Some t)
 
-rest_if : (c : Bool) (x y v z : Option (List ℕ)) → SameRest x v → SameRest y z → SameRest (if c then x else y) (if c then v else z)
+rest_if : (c : Bool) (x y v z : Option (List ℕ)) → SameRest x v → SameRest y z →
+    SameRest (if c then x else y) (if c then v else z)
 rest_if true x y v z p q = p
 rest_if false x y v z p q = q
 
-no_parens : (b n : ℕ) (u : List ℕ) → is_white b ≡ true → after_matching_paren n u ≡ after_matching_paren n (b ∷ u)
+no_parens : (b n : ℕ) (u : List ℕ) → is_white b ≡ true →
+    after_matching_paren n u ≡ after_matching_paren n (b ∷ u)
 no_parens b n u e = grind (arith, other_byte)
 
-closed : (n : ℕ) {w : Bool} {u t : List ℕ} → IsSpread w u t → SameRest (after_matching_paren n u) (after_matching_paren n t)
+closed : (n : ℕ) {w : Bool} {u t : List ℕ} → IsSpread w u t →
+    SameRest (after_matching_paren n u) (after_matching_paren n t)
 closed n nothing = no_rest
-closed zero (kept {u = u} {t = t} b s) = rest_if (b == 40) _ _ _ _ (closed 1 s) (rest_if (b == 41) _ _ _ _ (some_rest (is_white b, s)) (closed 0 s))
-closed (suc n) (kept {u = u} {t = t} b s) = rest_if (b == 40) _ _ _ _ (closed (suc (suc n)) s) (rest_if (b == 41) _ _ _ _ (closed n s) (closed (suc n) s))
-closed n (behind {u = u} {t = t} b e s) = subst (λ (x : Option (List ℕ)). SameRest x (after_matching_paren n t)) (no_parens b n u e) (closed n s)
-closed n (in_front {u = u} {t = t} b e f s) = subst (λ (x : Option (List ℕ)). SameRest x (after_matching_paren n t)) (no_parens b n u e) (closed n s)
+closed zero (kept {u = u} {t = t} b s) =
+    rest_if (b == 40) _ _ _ _ (closed 1 s) (rest_if (b == 41) _ _ _ _ (some_rest (is_white b, s)) (closed 0 s))
+closed (suc n) (kept {u = u} {t = t} b s) =
+    rest_if (b == 40) _ _ _ _ (closed (suc (suc n)) s) (rest_if (b == 41) _ _ _ _ (closed n s) (closed (suc n) s))
+closed n (behind {u = u} {t = t} b e s) =
+    subst (λ (x : Option (List ℕ)). SameRest x (after_matching_paren n t)) (no_parens b n u e) (closed n s)
+closed n (in_front {u = u} {t = t} b e f s) =
+    subst (λ (x : Option (List ℕ)). SameRest x (after_matching_paren n t)) (no_parens b n u e) (closed n s)
 
 -- Both texts have the same first token, and the rests are spread so.
 data SameNext : NextToken → NextToken → Type 0 where
@@ -95,11 +109,13 @@ data SameNext : NextToken → NextToken → Type 0 where
   unread : SameNext unreadable unreadable
   finds : {u t : List ℕ} (k : Token) → Spread u t → SameNext (found k u) (found k t)
 
-next_if : (c : Bool) {x y v z : NextToken} → SameNext x v → SameNext y z → SameNext (if c then x else y) (if c then v else z)
+next_if : (c : Bool) {x y v z : NextToken} → SameNext x v → SameNext y z →
+    SameNext (if c then x else y) (if c then v else z)
 next_if true p q = p
 next_if false p q = q
 
-next_by : {c : ℕ} {u t : List ℕ} {x y v z : NextToken} → SameFirst c u t → (Spread (drop 1 u) (drop 1 t) → SameNext x v) → SameNext y z →
+next_by : {c : ℕ} {u t : List ℕ} {x y v z : NextToken} → SameFirst c u t →
+    (Spread (drop 1 u) (drop 1 t) → SameNext x v) → SameNext y z →
     SameNext (if starts_with_byte c u then x else y) (if starts_with_byte c t then v else z)
 next_by {c = c} {u = u} {x = x} {y = y} {v = v} {z = z} f p q =
     subst (λ (b : Bool). SameNext (if starts_with_byte c u then x else y) (if b then v else z)) f.same (by (starts_with_byte c u) refl)
@@ -108,12 +124,15 @@ next_by {c = c} {u = u} {x = x} {y = y} {v = v} {z = z} f p q =
     by true e = p (f.rest e)
     by false e = q
 
-one_or_two : (c : ℕ) (long short : Operator) {u t : List ℕ} → is_white c ≡ false → IsSpread false u t →
+one_or_two : (c : ℕ) (long short : Operator) {u t : List ℕ} → is_white c ≡ false →
+    IsSpread false u t →
     SameNext (one_or_two_bytes c long short u) (one_or_two_bytes c long short t)
-one_or_two c long short n s = next_by (same_first c n s) (λ r. finds (operator long) r) (finds (operator short) (false, s))
+one_or_two c long short n s =
+    next_by (same_first c n s) (λ r. finds (operator long) r) (finds (operator short) (false, s))
 
 same_sign : (b : ℕ) {u t : List ℕ} → IsSpread false u t → SameNext (punctuator b u) (punctuator b t)
-same_sign b s = next_if (b == 40) (finds opening (false, s)) (next_if (b == 41) (finds closing (false, s))
+same_sign b s =
+    next_if (b == 40) (finds opening (false, s)) (next_if (b == 41) (finds closing (false, s))
     (next_if (b == 33) (one_or_two 61 NotEqual Not refl s) (next_if (b == 60) (one_or_two 61 LessEqual Less refl s)
     (next_if (b == 62) (one_or_two 61 GreaterEqual Greater refl s) (next_if (b == 38) (one_or_two 38 And BitAnd refl s)
     (next_if (b == 124) (one_or_two 124 Or BitOr refl s)
@@ -139,14 +158,17 @@ pub white_word : (b : ℕ) → is_white b ≡ true → is_word_byte b ≡ false
 white_word b e = let l : b < 33 = white_low b e in low_word b (omega arith)
 
 black_word : (b : ℕ) → is_word_byte b ≡ true → is_white b ≡ false
-black_word b e = false_from_ne_true (is_white b) (λ h. let r : true ≡ false = sym e ∙ white_word b h in cc)
+black_word b e =
+    false_from_ne_true (is_white b) (λ h. let r : true ≡ false = sym e ∙ white_word b h in cc)
 
 -- No word begins with white space.
 no_word : (t : List ℕ) → begins_white t ≡ true → (leading_word t ≡ []) × (skip_word t ≡ t)
 no_word [] e = (refl, refl)
-no_word (b ∷ t) e = (ap (λ (w : Bool). if w then b ∷ leading_word t else []) (white_word b e), ap (λ (w : Bool). if w then skip_word t else b ∷ t) (white_word b e))
+no_word (b ∷ t) e =
+    (ap (λ (w : Bool). if w then b ∷ leading_word t else []) (white_word b e), ap (λ (w : Bool). if w then skip_word t else b ∷ t) (white_word b e))
 
-word_kept : {u t : List ℕ} (b : ℕ) (w : Bool) → is_word_byte b ≡ w → IsSpread (is_white b) u t → (is_white b ≡ false → SameWord u t) → SameWord (b ∷ u) (b ∷ t)
+word_kept : {u t : List ℕ} (b : ℕ) (w : Bool) → is_word_byte b ≡ w → IsSpread (is_white b) u t →
+    (is_white b ≡ false → SameWord u t) → SameWord (b ∷ u) (b ∷ t)
 word_kept {u = u} {t = t} b true e s f =
     let r : SameWord u t = f (black_word b e) in
     record {
@@ -168,23 +190,28 @@ same_word n (in_front {u = u} {t = t} b e f s) = record {
       (subst (λ (x : List ℕ). IsSpread false (b ∷ u) x) (sym (no_word t f).1) (in_front b e f s));
 }
 
-signs_agree : {u t : List ℕ} → IsSpread false u t → (starts_with_byte 43 u || starts_with_byte 45 u) ≡ (starts_with_byte 43 t || starts_with_byte 45 t)
+signs_agree : {u t : List ℕ} → IsSpread false u t →
+    (starts_with_byte 43 u || starts_with_byte 45 u) ≡ (starts_with_byte 43 t || starts_with_byte 45 t)
 signs_agree s = ap₂ (λ (a b : Bool). a || b) (same_first 43 refl s).same (same_first 45 refl s).same
 
 -- The name `w` has arguments before both rests, or before neither.
-same_name : (w : List ℕ) {u t : List ℕ} → IsSpread false u t → SameNext (name_token w u) (name_token w t)
+same_name : (w : List ℕ) {u t : List ℕ} → IsSpread false u t →
+    SameNext (name_token w u) (name_token w t)
 same_name w {u = u} {t = t} s = by (skipped s)
   where
-    by_rest : {x y : Option (List ℕ)} → SameRest x y → SameNext (with_arguments w x) (with_arguments w y)
+    by_rest : {x y : Option (List ℕ)} → SameRest x y →
+        SameNext (with_arguments w x) (with_arguments w y)
     by_rest no_rest = unread
     by_rest (some_rest r) = finds (name w true) r
 
-    by : {x y : List ℕ} → SameFront x y → SameNext (if starts_with_byte 40 x then with_arguments w (after_matching_paren 0 (drop 1 x)) else found (name w false) u)
+    by : {x y : List ℕ} → SameFront x y →
+        SameNext (if starts_with_byte 40 x then with_arguments w (after_matching_paren 0 (drop 1 x)) else found (name w false) u)
         (if starts_with_byte 40 y then with_arguments w (after_matching_paren 0 (drop 1 y)) else found (name w false) t)
     by no_front = finds (name w false) (false, s)
     by (front b n r) = next_if (b == 40) (by_rest (closed 0 r)) (finds (name w false) (false, s))
 
-same_token : (w : List ℕ) {u t : List ℕ} → IsSpread false u t → SameNext (word_token w u) (word_token w t)
+same_token : (w : List ℕ) {u t : List ℕ} → IsSpread false u t →
+    SameNext (word_token w u) (word_token w t)
 same_token w {u = u} {t = t} s = next_if (is_digit (slice_index w 0))
     (subst (λ (b : Bool). SameNext (if is_constant w && not (has_exponent_sign w u) then found (number w) u else unreadable)
     (if is_constant w && not ((slice_index w (length w - 1) == 101 || slice_index w (length w - 1) == 69) && b) then found (number w) t else unreadable)) (signs_agree s)
@@ -202,14 +229,17 @@ same_next : {u t : List ℕ} → Spread u t → SameNext (next_token u) (next_to
 unfolding next_token
 same_next (w, s) = same_leading (skipped s)
 
-same_after : (n m : ℕ) (u t : List ℕ) {x y : NextToken} → next_token u ≡ x → next_token t ≡ y → SameNext x y →
+same_after : (n m : ℕ) (u t : List ℕ) {x y : NextToken} → next_token u ≡ x → next_token t ≡ y →
+    SameNext x y →
     ((v z : List ℕ) → Spread v z → length v < length u → length z < length t → tokens_in n v ≡ tokens_in m z) →
     prepend_token (λ (v : List ℕ). tokens_in n v) x ≡ prepend_token (λ (z : List ℕ). tokens_in m z) y
 same_after n m u t p q ends f = refl
 same_after n m u t p q unread f = refl
-same_after n m u t p q (finds {u = v} {t = z} k s) f = ap (option_map (λ (ts : List Token). k ∷ ts)) (f v z s (shorter u v k p) (shorter t z k q))
+same_after n m u t p q (finds {u = v} {t = z} k s) f =
+    ap (option_map (λ (ts : List Token). k ∷ ts)) (f v z s (shorter u v k p) (shorter t z k q))
 
-same_in : (n m : ℕ) (u t : List ℕ) → Spread u t → length u < n → length t < m → tokens_in n u ≡ tokens_in m t
+same_in : (n m : ℕ) (u t : List ℕ) → Spread u t → length u < n → length t < m →
+    tokens_in n u ≡ tokens_in m t
 same_in zero m u t s l k = absurd (omega arith)
 same_in (suc n) zero u t s l k = absurd (omega arith)
 same_in (suc n) (suc m) u t s l k =

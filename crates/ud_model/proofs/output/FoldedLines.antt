@@ -31,7 +31,8 @@ use Rattle.ud_model.proofs.output.LeftLines.{spliced_body}
 abbrev pub HaveSpaces : Bool → List ℕ → List ℕ → Type 0
 HaveSpaces before [] masked = Unit {0}
 HaveSpaces before (b ∷ bytes) [] = Unit {0}
-HaveSpaces before (b ∷ bytes) (m ∷ masked) = (b ≢ slash → m ≢ b → before ≡ true) × HaveSpaces (m == space) bytes masked
+HaveSpaces before (b ∷ bytes) (m ∷ masked) =
+    (b ≢ slash → m ≢ b → before ≡ true) × HaveSpaces (m == space) bytes masked
 
 comment_shown : (k : LexemeKind) (a b : ℕ) → shown_as k b ≢ b → (shown_as k a == space) ≡ true
 comment_shown block_comment a b n = refl
@@ -43,7 +44,9 @@ begins_slash : (a : ℕ) (u : List ℕ) → a ≢ slash → shown_as (lexeme_at 
 unfolding lexeme_at
 begins_slash a u n = grind arith
 
-spaces_from : (k : LexemeKind) (n : ℕ) (before : Bool) (u : List ℕ) → (0 < n → (b : ℕ) → shown_as k b ≢ b → before ≡ true) → HaveSpaces before u (map shown (lex_from k n u))
+spaces_from : (k : LexemeKind) (n : ℕ) (before : Bool) (u : List ℕ) →
+    (0 < n → (b : ℕ) → shown_as k b ≢ b → before ≡ true) →
+    HaveSpaces before u (map shown (lex_from k n u))
 unfolding lex_from
 spaces_from k n before [] h = tt
 spaces_from k zero before (a ∷ u) h =
@@ -52,13 +55,15 @@ spaces_from k zero before (a ∷ u) h =
 spaces_from k (suc n) before (a ∷ u) h =
     (λ s d. h (omega arith) a d, spaces_from k n (shown_as k a == space) u (λ l b d. comment_shown k a b d))
 
-fewer : (n : ℕ) (before : Bool) (u ms : List ℕ) → HaveSpaces before u ms → HaveSpaces before u (take n ms)
+fewer : (n : ℕ) (before : Bool) (u ms : List ℕ) → HaveSpaces before u ms →
+    HaveSpaces before u (take n ms)
 fewer n before [] ms h = tt
 fewer zero before (b ∷ u) ms h = tt
 fewer (suc n) before (b ∷ u) [] h = tt
 fewer (suc n) before (b ∷ u) (m ∷ ms) h = (h.0, fewer n (m == space) u ms h.1)
 
-front_bytes : (before : Bool) (u v ms : List ℕ) → HaveSpaces before (u ++ v) ms → HaveSpaces before u ms
+front_bytes : (before : Bool) (u v ms : List ℕ) → HaveSpaces before (u ++ v) ms →
+    HaveSpaces before u ms
 front_bytes before [] v ms h = tt
 front_bytes before (b ∷ u) v [] h = tt
 front_bytes before (b ∷ u) v (m ∷ ms) h = (h.0, front_bytes (m == space) u v ms h.1)
@@ -93,10 +98,12 @@ all_masked rs = flat_map (λ (r : Reading). r.scan.masked) rs
 -- The bytes of a break, which lies outside comments if `outside`, and behind a splice if `spliced`,
 -- and how they are masked.
 abbrev break_bytes : Bool → Bool → List ℕ
-break_bytes outside spliced = if outside then vertical_tab ∷ [] else if spliced then backslash ∷ vertical_tab ∷ [] else vertical_tab ∷ []
+break_bytes outside spliced =
+    if outside then vertical_tab ∷ [] else if spliced then backslash ∷ vertical_tab ∷ [] else vertical_tab ∷ []
 
 abbrev break_shown : Bool → Bool → List ℕ
-break_shown outside spliced = if outside then vertical_tab ∷ [] else if spliced then space ∷ space ∷ [] else space ∷ []
+break_shown outside spliced =
+    if outside then vertical_tab ∷ [] else if spliced then space ∷ space ∷ [] else space ∷ []
 
 -- The bytes after the content of a line in the folded line, with such a break, and how they are
 -- masked.
@@ -114,7 +121,8 @@ bytes_behind r rs = bytes_after (is_outside r.scan.comment) r.scan.spliced rs
 abbrev shown_behind : Reading → List Reading → List ℕ
 shown_behind r rs = shown_after (is_outside r.scan.comment) r.scan.spliced rs
 
-shown_parts : (r : Reading) (rs : List Reading) → shown_lines (r ∷ rs) ≡ r.scan.masked ++ shown_behind r rs
+shown_parts : (r : Reading) (rs : List Reading) →
+    shown_lines (r ∷ rs) ≡ r.scan.masked ++ shown_behind r rs
 shown_parts r [] = sym (append-nil r.scan.masked)
 shown_parts r (s ∷ rs) = append_assoc r.scan.masked (shown_break r.scan) (shown_lines (s ∷ rs))
 
@@ -127,7 +135,8 @@ tab_is_white b e = grind arith
 blank_is_white : (b : ℕ) → is_blank b ≡ true → is_white b ≡ true
 blank_is_white b e = (and_parts (is_white b) (not (b == vertical_tab)) e).0
 
-next_place : {white : Bool} {b m : ℕ} {bytes masked : List ℕ} → IsPlace white (b ∷ bytes) (m ∷ masked) → IsPlace (is_white m) bytes masked
+next_place : {white : Bool} {b m : ℕ} {bytes masked : List ℕ} →
+    IsPlace white (b ∷ bytes) (m ∷ masked) → IsPlace (is_white m) bytes masked
 next_place {b = b} {m = m} {bytes = bytes} {masked = masked} p = by (m == vertical_tab) refl
   where
     by : (t : Bool) → (m == vertical_tab) ≡ t → IsPlace (is_white m) bytes masked
@@ -149,14 +158,16 @@ next_place {b = b} {m = m} {bytes = bytes} {masked = masked} p = by (m == vertic
     }
 
 -- The place behind bytes and as many masked ones.
-place_behind : (p m : List ℕ) {white : Bool} {bytes masked : List ℕ} → length m ≡ length p → IsPlace white (p ++ bytes) (m ++ masked) → (now : Bool) × IsPlace now bytes masked
+place_behind : (p m : List ℕ) {white : Bool} {bytes masked : List ℕ} → length m ≡ length p →
+    IsPlace white (p ++ bytes) (m ++ masked) → (now : Bool) × IsPlace now bytes masked
 place_behind [] [] {white = white} l i = (white, i)
 place_behind (b ∷ p) (c ∷ m) l i = place_behind p m (omega arith) (next_place i)
 place_behind [] (c ∷ m) l i = absurd (omega arith)
 place_behind (b ∷ p) [] l i = absurd (omega arith)
 
 -- Such bytes stay.
-kept_all : (p m : List ℕ) {white : Bool} {bytes masked t : List ℕ} → length m ≡ length p → IsPlace white (p ++ bytes) (m ++ masked) →
+kept_all : (p m : List ℕ) {white : Bool} {bytes masked t : List ℕ} → length m ≡ length p →
+    IsPlace white (p ++ bytes) (m ++ masked) →
     ((now : Bool) → IsPlace now bytes masked → IsSpread now masked t) → IsSpread white (m ++ masked) (m ++ t)
 kept_all [] [] {white = white} l i f = f white i
 kept_all (b ∷ p) (c ∷ m) l i f = kept c (kept_all p m (omega arith) (next_place i) f)
@@ -164,18 +175,23 @@ kept_all [] (c ∷ m) l i f = absurd (omega arith)
 kept_all (b ∷ p) [] l i f = absurd (omega arith)
 
 -- The masked bytes after a line are empty or begin with white space.
-shown_white : (outside spliced : Bool) (rs : List Reading) → begins_white (shown_after outside spliced rs) ≡ true
+shown_white : (outside spliced : Bool) (rs : List Reading) →
+    begins_white (shown_after outside spliced rs) ≡ true
 shown_white outside spliced [] = refl
 shown_white true spliced (r ∷ rs) = refl
 shown_white false true (r ∷ rs) = refl
 shown_white false false (r ∷ rs) = refl
 
-part_by : (l : Line) (outside spliced : Bool) → is_spliced l ≡ spliced → (if outside then content l else l.body) ++ vertical_tab ∷ [] ≡ content l ++ break_bytes outside spliced
+part_by : (l : Line) (outside spliced : Bool) → is_spliced l ≡ spliced →
+    (if outside then content l else l.body) ++ vertical_tab ∷ [] ≡ content l ++ break_bytes outside spliced
 part_by l true spliced e = refl
-part_by l false true e = ap (λ (x : List ℕ). x ++ vertical_tab ∷ []) (spliced_body l e) ∙ append_assoc (content l) (backslash ∷ []) (vertical_tab ∷ [])
-part_by l false false e = ap (λ (b : Bool). (if b then take (length l.body - 1) l.body else l.body) ++ vertical_tab ∷ []) (sym e)
+part_by l false true e =
+    ap (λ (x : List ℕ). x ++ vertical_tab ∷ []) (spliced_body l e) ∙ append_assoc (content l) (backslash ∷ []) (vertical_tab ∷ [])
+part_by l false false e =
+    ap (λ (b : Bool). (if b then take (length l.body - 1) l.body else l.body) ++ vertical_tab ∷ []) (sym e)
 
-body_parts : (before : Bool) (r : Reading) (rs : List Reading) (masked : List ℕ) → IsMeasured r → HaveSpaces before (folded_body (r ∷ rs)) masked →
+body_parts : (before : Bool) (r : Reading) (rs : List Reading) (masked : List ℕ) → IsMeasured r →
+    HaveSpaces before (folded_body (r ∷ rs)) masked →
     HaveSpaces before (content r.line ++ bytes_behind r rs) masked
 body_parts before r [] masked i h =
     let p = content-prefix r.line in
@@ -186,11 +202,14 @@ body_parts before r (s ∷ rs) masked i h =
     ∙ append_assoc (content r.line) (break_bytes (is_outside r.scan.comment) r.scan.spliced) (folded_body (s ∷ rs))) h
 
 -- So are the masked bytes of a line and of those after it.
-parts_spaces : (before : Bool) (r : Reading) (rs : List Reading) → IsMeasured r → HaveSpaces before (folded_body (r ∷ rs)) (shown_lines (r ∷ rs)) →
+parts_spaces : (before : Bool) (r : Reading) (rs : List Reading) → IsMeasured r →
+    HaveSpaces before (folded_body (r ∷ rs)) (shown_lines (r ∷ rs)) →
     HaveSpaces before (content r.line ++ bytes_behind r rs) (r.scan.masked ++ shown_behind r rs)
-parts_spaces before r rs i h = subst (λ (ms : List ℕ). HaveSpaces before (content r.line ++ bytes_behind r rs) ms) (shown_parts r rs) (body_parts before r rs (shown_lines (r ∷ rs)) i h)
+parts_spaces before r rs i h =
+    subst (λ (ms : List ℕ). HaveSpaces before (content r.line ++ bytes_behind r rs) ms) (shown_parts r rs) (body_parts before r rs (shown_lines (r ∷ rs)) i h)
 
-parts_place : {white : Bool} (r : Reading) (rs : List Reading) → IsMeasured r → IsPlace white (folded_body (r ∷ rs)) (shown_lines (r ∷ rs)) →
+parts_place : {white : Bool} (r : Reading) (rs : List Reading) → IsMeasured r →
+    IsPlace white (folded_body (r ∷ rs)) (shown_lines (r ∷ rs)) →
     IsPlace white (content r.line ++ bytes_behind r rs) (r.scan.masked ++ shown_behind r rs)
 parts_place r rs i p = record {
   before = p.before;
@@ -202,7 +221,9 @@ parts_place r rs i p = record {
 }
 
 -- A space is before a break that lies in a comment.
-space_before : (before spliced : Bool) (u masked : List ℕ) → HaveSpaces before (break_bytes false spliced ++ u) (break_shown false spliced ++ masked) → before ≡ true
+space_before : (before spliced : Bool) (u masked : List ℕ) →
+    HaveSpaces before (break_bytes false spliced ++ u) (break_shown false spliced ++ masked) →
+    before ≡ true
 space_before before true u masked h = h.0 (λ q. omega arith) (λ q. omega arith)
 space_before before false u masked h = h.0 (λ q. omega arith) (λ q. omega arith)
 
@@ -210,37 +231,51 @@ first_white : (b : ℕ) (masked : List ℕ) → blank_follows (b ∷ masked) ≡
 first_white b masked e = grind (arith, tab_is_white, blank_is_white)
 
 -- If white space follows the vertical tabs, the joined lines begin with white space.
-white_by : (p m : List ℕ) (outside spliced : Bool) (rs : List Reading) → Each IsMeasured rs → length m ≡ length p → HaveSpaces false (p ++ bytes_after outside spliced rs) (m ++ shown_after outside spliced rs) →
+white_by : (p m : List ℕ) (outside spliced : Bool) (rs : List Reading) → Each IsMeasured rs →
+    length m ≡ length p →
+    HaveSpaces false (p ++ bytes_after outside spliced rs) (m ++ shown_after outside spliced rs) →
     blank_follows (m ++ shown_after outside spliced rs) ≡ true → begins_white (m ++ all_masked rs) ≡ true
 white_by [] [] outside spliced [] i l h e = refl
 white_by [] [] true spliced (r ∷ rs) i l h e =
     white_by (content r.line) r.scan.masked (is_outside r.scan.comment) r.scan.spliced rs i.1 i.0.size (parts_spaces false r rs i.0 h.1) (ap blank_follows (sym (shown_parts r rs)) ∙ e)
-white_by [] [] false spliced (r ∷ rs) i l h e = let n : false ≡ true = space_before false spliced (folded_body (r ∷ rs)) (shown_lines (r ∷ rs)) h in cc
-white_by (c ∷ p) (b ∷ m) outside spliced rs i l h e = first_white b (m ++ shown_after outside spliced rs) e
+white_by [] [] false spliced (r ∷ rs) i l h e =
+    let n : false ≡ true = space_before false spliced (folded_body (r ∷ rs)) (shown_lines (r ∷ rs)) h in cc
+white_by (c ∷ p) (b ∷ m) outside spliced rs i l h e =
+    first_white b (m ++ shown_after outside spliced rs) e
 white_by [] (b ∷ m) outside spliced rs i l h e = absurd (omega arith)
 white_by (c ∷ p) [] outside spliced rs i l h e = absurd (omega arith)
 
-lines_white : (r : Reading) (rs : List Reading) → Each IsMeasured (r ∷ rs) → HaveSpaces false (folded_body (r ∷ rs)) (shown_lines (r ∷ rs)) → blank_follows (shown_lines (r ∷ rs)) ≡ true → begins_white (all_masked (r ∷ rs)) ≡ true
+lines_white : (r : Reading) (rs : List Reading) → Each IsMeasured (r ∷ rs) →
+    HaveSpaces false (folded_body (r ∷ rs)) (shown_lines (r ∷ rs)) →
+    blank_follows (shown_lines (r ∷ rs)) ≡ true → begins_white (all_masked (r ∷ rs)) ≡ true
 lines_white r rs i h e =
     white_by (content r.line) r.scan.masked (is_outside r.scan.comment) r.scan.spliced rs i.1 i.0.size (parts_spaces false r rs i.0 h) (ap blank_follows (sym (shown_parts r rs)) ∙ e)
 
-break_by : {white : Bool} (outside spliced : Bool) (r : Reading) (rs : List Reading) → Each IsMeasured (r ∷ rs) →
+break_by : {white : Bool} (outside spliced : Bool) (r : Reading) (rs : List Reading) →
+    Each IsMeasured (r ∷ rs) →
     IsPlace white (bytes_after outside spliced (r ∷ rs)) (shown_after outside spliced (r ∷ rs)) →
     (IsPlace true (folded_body (r ∷ rs)) (shown_lines (r ∷ rs)) → IsSpread true (shown_lines (r ∷ rs)) (all_masked (r ∷ rs))) →
     IsSpread white (shown_after outside spliced (r ∷ rs)) (all_masked (r ∷ rs))
-break_by {white = white} true spliced r rs i p f = by (or_cases p.blank (blank_follows (shown_lines (r ∷ rs))) (and_parts (p.blank || blank_follows (shown_lines (r ∷ rs))) (tabs_are_beside p.blank (shown_lines (r ∷ rs))) p.tabs).0)
+break_by {white = white} true spliced r rs i p f =
+    by (or_cases p.blank (blank_follows (shown_lines (r ∷ rs))) (and_parts (p.blank || blank_follows (shown_lines (r ∷ rs))) (tabs_are_beside p.blank (shown_lines (r ∷ rs))) p.tabs).0)
   where
-    by : (p.blank ≡ true) ⊎ (blank_follows (shown_lines (r ∷ rs)) ≡ true) → IsSpread white (vertical_tab ∷ shown_lines (r ∷ rs)) (all_masked (r ∷ rs))
-    by (inl b) = subst (λ (w : Bool). IsSpread w (vertical_tab ∷ shown_lines (r ∷ rs)) (all_masked (r ∷ rs))) (sym (p.blank_white b)) (behind vertical_tab refl (f (next_place p)))
+    by : (p.blank ≡ true) ⊎ (blank_follows (shown_lines (r ∷ rs)) ≡ true) →
+        IsSpread white (vertical_tab ∷ shown_lines (r ∷ rs)) (all_masked (r ∷ rs))
+    by (inl b) =
+        subst (λ (w : Bool). IsSpread w (vertical_tab ∷ shown_lines (r ∷ rs)) (all_masked (r ∷ rs))) (sym (p.blank_white b)) (behind vertical_tab refl (f (next_place p)))
     by (inr b) = in_front vertical_tab refl (lines_white r rs i p.spaces.1 b) (f (next_place p))
 break_by {white = white} false spliced r rs i p f =
     subst (λ (w : Bool). IsSpread w (shown_after false spliced (r ∷ rs)) (all_masked (r ∷ rs))) (sym (p.space_white (space_before p.before spliced (folded_body (r ∷ rs)) (shown_lines (r ∷ rs)) p.spaces))) (by spliced p)
   where
-    by : (spliced : Bool) → IsPlace white (bytes_after false spliced (r ∷ rs)) (shown_after false spliced (r ∷ rs)) → IsSpread true (shown_after false spliced (r ∷ rs)) (all_masked (r ∷ rs))
+    by : (spliced : Bool) →
+        IsPlace white (bytes_after false spliced (r ∷ rs)) (shown_after false spliced (r ∷ rs)) →
+        IsSpread true (shown_after false spliced (r ∷ rs)) (all_masked (r ∷ rs))
     by true q = behind space refl (behind space refl (f (next_place (next_place q))))
     by false q = behind space refl (f (next_place q))
 
-spread_by : {white : Bool} (p m : List ℕ) (outside spliced : Bool) (rs : List Reading) → Each IsMeasured rs → length m ≡ length p → IsPlace white (p ++ bytes_after outside spliced rs) (m ++ shown_after outside spliced rs) →
+spread_by : {white : Bool} (p m : List ℕ) (outside spliced : Bool) (rs : List Reading) →
+    Each IsMeasured rs → length m ≡ length p →
+    IsPlace white (p ++ bytes_after outside spliced rs) (m ++ shown_after outside spliced rs) →
     IsSpread white (m ++ shown_after outside spliced rs) (m ++ all_masked rs)
 spread_by p m outside spliced [] i l q = kept_all p m l q (λ now j. nothing)
 spread_by p m outside spliced (r ∷ rs) i l q =
@@ -267,16 +302,22 @@ shown_so scan bytes e =
     let ends : not scan.joins_after ≡ true = (and_parts (is_directive (content_of scan)) (not scan.joins_after) masked.0).1 in
     record { ends = grind arith; masked = (bytes_eq-Decides scan.masked bytes).0 masked.1; tabs = tabs.1 }
 
-pub folded_shown : (rs : List Reading) → is_foldable rs ≡ true → IsShown (scan_after_run [] (folded_line rs)) (shown_lines rs)
-folded_shown rs e = shown_so (scan_after_run [] (folded_line rs)) (shown_lines rs) (and_parts _ (is_shown_as (scan_after_run [] (folded_line rs)) (shown_lines rs)) e).1
+pub folded_shown : (rs : List Reading) → is_foldable rs ≡ true →
+    IsShown (scan_after_run [] (folded_line rs)) (shown_lines rs)
+folded_shown rs e =
+    shown_so (scan_after_run [] (folded_line rs)) (shown_lines rs) (and_parts _ (is_shown_as (scan_after_run [] (folded_line rs)) (shown_lines rs)) e).1
 
 whole_body : (k : Line) (bytes : List ℕ) → IsShown (scan_after_run [] k) bytes → content k ≡ k.body
-whole_body k bytes s = ap (λ (b : Bool). if b then take (length k.body - 1) k.body else k.body) (unspliced k s.ends)
+whole_body k bytes s =
+    ap (λ (b : Bool). if b then take (length k.body - 1) k.body else k.body) (unspliced k s.ends)
 
-folded_place : (r : Reading) (rs : List Reading) → IsMeasured r → IsShown (scan_after_run [] (folded_line (r ∷ rs))) (shown_lines (r ∷ rs)) → IsPlace true (content r.line ++ bytes_behind r rs) (r.scan.masked ++ shown_behind r rs)
+folded_place : (r : Reading) (rs : List Reading) → IsMeasured r →
+    IsShown (scan_after_run [] (folded_line (r ∷ rs))) (shown_lines (r ∷ rs)) →
+    IsPlace true (content r.line ++ bytes_behind r rs) (r.scan.masked ++ shown_behind r rs)
 folded_place r rs i s = parts_place r rs i (record {
   before = true;
-  spaces = subst (λ (u : List ℕ). HaveSpaces true u (shown_lines (r ∷ rs))) (whole_body (folded_line (r ∷ rs)) (shown_lines (r ∷ rs)) s)
+  spaces =
+      subst (λ (u : List ℕ). HaveSpaces true u (shown_lines (r ∷ rs))) (whole_body (folded_line (r ∷ rs)) (shown_lines (r ∷ rs)) s)
       (subst (λ (ms : List ℕ). HaveSpaces true (content (folded_line (r ∷ rs))) ms) s.masked (alone_spaces (folded_line (r ∷ rs))));
   space_white = λ e. refl;
   blank = true;
@@ -284,12 +325,14 @@ folded_place r rs i s = parts_place r rs i (record {
   blank_white = λ e. refl;
 })
 
-word_stays : (rest more : List ℕ) → first_is is_word_byte rest ≡ false → begins_white more ≡ true → first_is is_word_byte (rest ++ more) ≡ false
+word_stays : (rest more : List ℕ) → first_is is_word_byte rest ≡ false → begins_white more ≡ true →
+    first_is is_word_byte (rest ++ more) ≡ false
 word_stays [] [] e w = refl
 word_stays [] (b ∷ more) e w = white_word b w
 word_stays (b ∷ rest) more e w = e
 
-gap_stays : (word rest more : List ℕ) (k : Kind) → kind_of word ≡ Some k → first_is is_white (word ++ rest) ≡ false → first_is is_white (word ++ (rest ++ more)) ≡ false
+gap_stays : (word rest more : List ℕ) (k : Kind) → kind_of word ≡ Some k →
+    first_is is_white (word ++ rest) ≡ false → first_is is_white (word ++ (rest ++ more)) ≡ false
 gap_stays [] rest more k q e = absurd (none-some k q)
 gap_stays (b ∷ word) rest more k q e = e
 
@@ -304,7 +347,8 @@ module _ (r : Reading) (rs : List Reading) (d : Directive) (i : Each IsMeasured 
   now = scan_after_run [] (folded_line (r ∷ rs))
 
   abbrev longer : Directive
-  longer = record { kind = d.kind; keyword = d.keyword; after = rest ++ shown_behind r rs; broken = is_continued_outside_comment now }
+  longer =
+      record { kind = d.kind; keyword = d.keyword; after = rest ++ shown_behind r rs; broken = is_continued_outside_comment now }
 
   has_longer : HasDirective now longer
   has_longer = record {
@@ -350,10 +394,12 @@ module _ (r : Reading) (rs : List Reading) (d : Directive) (i : Each IsMeasured 
   rest_size = rw length-drop (omega (arith, size))
 
   spread : Spread (rest ++ shown_behind r rs) (rest ++ all_masked rs)
-  spread = (rest_place.0, spread_by (drop (length front) (content r.line)) rest (is_outside r.scan.comment) r.scan.spliced rs i.1 rest_size rest_place.1)
+  spread =
+      (rest_place.0, spread_by (drop (length front) (content r.line)) rest (is_outside r.scan.comment) r.scan.spliced rs i.1 rest_size rest_place.1)
 
   folded_has : (e : Directive) × (content_of now ≡ directive e) × IsReadAs e d rs
-  folded_has = (longer, (directive_is now longer).1 has_longer, record { kind = refl; keyword = refl; tokens = spread_tokens (rest ++ shown_behind r rs) (rest ++ all_masked rs) spread ∙ ap (λ (u : List ℕ). tokens_of (u ++ all_masked rs)) (sym h.after) })
+  folded_has =
+      (longer, (directive_is now longer).1 has_longer, record { kind = refl; keyword = refl; tokens = spread_tokens (rest ++ shown_behind r rs) (rest ++ all_masked rs) spread ∙ ap (λ (u : List ℕ). tokens_of (u ++ all_masked rs)) (sym h.after) })
 
 -- 4. The lines of a text.
 
@@ -361,20 +407,24 @@ next_measured : (before : List Reading) (l : Line) → IsMeasured (next_reading 
 unfolding scan_after_run
 next_measured before l = record { size = length-masked before l; spliced = refl }
 
-measured : (before : List Reading) (ls : List Line) → Each IsMeasured before → Each IsMeasured (readings_after before (map (in_mode C) ls))
+measured : (before : List Reading) (ls : List Line) → Each IsMeasured before →
+    Each IsMeasured (readings_after before (map (in_mode C) ls))
 measured before [] i = i
-measured before (l ∷ ls) i = measured (before ++ next_reading before C l ∷ []) ls (each_both IsMeasured before (next_reading before C l ∷ []) i (next_measured before l, tt))
+measured before (l ∷ ls) i =
+    measured (before ++ next_reading before C l ∷ []) ls (each_both IsMeasured before (next_reading before C l ∷ []) i (next_measured before l, tt))
 
 each_continued : (rs : List Reading) → Each IsMeasured rs → Each IsMeasured (continued rs)
 each_continued [] i = tt
 each_continued (r ∷ rs) i = by r.scan.joins_before (each_continued rs i.1)
   where
-    by : (b : Bool) → Each IsMeasured (continued rs) → Each IsMeasured (if b then r ∷ continued rs else [])
+    by : (b : Bool) → Each IsMeasured (continued rs) →
+        Each IsMeasured (if b then r ∷ continued rs else [])
     by true j = (i.0, j)
     by false j = tt
 
 -- The folded line has the directive of its lines.
-pub folded_read : (bytes : List ℕ) (before after : List Reading) (r : Reading) (d : Directive) → read_as C bytes ≡ before ++ r ∷ after → content_of r.scan ≡ directive d →
+pub folded_read : (bytes : List ℕ) (before after : List Reading) (r : Reading) (d : Directive) →
+    read_as C bytes ≡ before ++ r ∷ after → content_of r.scan ≡ directive d →
     is_foldable (r ∷ continued after) ≡ true → (e : Directive) × (content_of (scan_after_run [] (folded_line (r ∷ continued after))) ≡ directive e) × IsReadAs e d (continued after)
 folded_read bytes before after r d q e f =
     let i : Each IsMeasured (r ∷ after) = (each_parts IsMeasured before (r ∷ after) (subst (λ (rs : List Reading). Each IsMeasured rs) q (measured [] (lines_of bytes) tt))).1 in
