@@ -31,7 +31,6 @@ SAYS = {
     "ud_args": "a plan is that of the arguments",
     "ud_io": "streams that note a failure",
     "ud_engine": "a run's output is the definition's",
-    "ud_diagnostics": "message and status are the definition's",
     "unifdef": "tool gives the one answer",
     "unifdef_cli": "main opens the file",
     "ud_replace": "a file is old, or has its output",

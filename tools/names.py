@@ -181,7 +181,7 @@ def unlisted_messages(tree):
     with open("docs/unifdef.1", encoding="utf-8") as file:
         listed = file.read().partition("\n.Sh DIAGNOSTICS\n")[2].partition("\n.Sh ")[0]
     for path in filter(
-        re.compile(r"crates/(ud_diagnostics|unifdef_cli)/src/.*\.rt").fullmatch, tree.files
+        re.compile(r"crates/(unifdef|unifdef_cli)/src/.*\.rt").fullmatch, tree.files
     ):
         with open(path, encoding="utf-8") as file:
             source = without_comments(path, file.read())

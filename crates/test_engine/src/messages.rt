@@ -3,9 +3,8 @@
 use std::alloc::Global;
 use std::process::Abort;
 use std::test::Fail;
-use ud_diagnostics::{EXIT_TROUBLE, final_result, report_result, report_usage};
 use ud_model::Settings;
-use unifdef::{Usage, Watched};
+use unifdef::{EXIT_TROUBLE, Usage, Watched, final_result, report_result, report_usage};
 
 /// Compares the message and the status.
 fn check(rt: &impl Abort, said: &[u8], status: u8, message: &[u8], expected: u8) {

@@ -1,5 +1,5 @@
 //! The faults of a command line, as data. The messages that the tool writes are in
-//! `ud_diagnostics`.
+//! the crate unifdef.
 
 use thiserror::Error;
 

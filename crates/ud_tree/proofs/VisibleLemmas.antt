@@ -3,7 +3,7 @@ use Rattle.std.proofs.Common.{◌≡◌, ℕ, List, [], ◌∷◌, ◌++◌, Boo
 use Rattle.std.specs.List.{flat_map}
 use Rattle.std.proofs.lemmas.Grind.{flat_map-append}
 use Rattle.ud_io.specs.Watched.{AppendsAllOrPrefix}
-use Rattle.ud_diagnostics.specs.RunMessages.{fault_message}
+use Rattle.unifdef.specs.RunMessages.{fault_message}
 use Rattle.ud_faults.specs.declared.run.RunFault.{RunFault}
 use Rattle.ud_tree.specs.declared.report.Report.{Report}
 use Rattle.ud_tree.specs.Messages.{is_visible, is_raw, Tells, TellsText}

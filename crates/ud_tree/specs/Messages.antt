@@ -22,7 +22,7 @@
 -- `old` and `new` are the report before and after, `err` and `err'` the error stream.
 use Rattle.std.specs.Prelude.{◌≡◌, ℕ, ◌+◌, ◌<◌, ◌^◌, List, [], ◌∷◌, ◌++◌, Bool, false, Result}
 use Rattle.std.specs.Prelude.{Ok, Err, codes, if◌then◌else◌}
-use Rattle.ud_diagnostics.specs.RunMessages.{fault_message}
+use Rattle.unifdef.specs.RunMessages.{fault_message}
 use Rattle.ud_faults.specs.declared.run.RunFault.{RunFault}
 use Rattle.ud_replace.specs.declared.error.Update.{Update}
 use Rattle.ud_replace.specs.declared.error.ReplaceError.{ReplaceError}

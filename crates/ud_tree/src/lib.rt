@@ -40,5 +40,5 @@ pub use lock::Lock;
 pub use report::{report_argument_fault, report_line};
 pub use run::run_tree;
 pub use tree::Tree;
-pub use ud_diagnostics::EXIT_TROUBLE;
 pub use ud_replace::{FileId, Lookup, Node, NodeKind};
+pub use unifdef::EXIT_TROUBLE;

@@ -7,7 +7,7 @@
 ghost use Rattle.std.specs.Prelude.{◌≡◌, ◌+◌, ◌<◌, ◌^◌, [], ◌++◌, true, false};
 ghost use Rattle.std.specs.Prelude.{if◌then◌else◌};
 ghost use Rattle.std.specs.List.{flat_map};
-ghost use Rattle.ud_diagnostics.specs.RunMessages.{fault_message};
+ghost use Rattle.unifdef.specs.RunMessages.{fault_message};
 ghost use Rattle.ud_replace.specs.Calls.{met};
 ghost use Rattle.ud_tree.specs.Messages.{KeepsFinds, KeepsScreen};
 ghost use Rattle.ud_tree.specs.Messages.{IsPlain, Tells, TellsText, fault_line, locked_line};
@@ -25,12 +25,12 @@ use itoa::Buffer;
 use std::alloc::Global;
 use std::io::{self, Write};
 use ud_cond::Rules;
-use ud_diagnostics::report_result;
 use ud_faults::RunFault;
 use ud_io::{Watched, send, send_parts};
 use ud_model::Settings;
 use ud_passes::{Listing, Remaining};
 use ud_replace::Lookup;
+use unifdef::report_result;
 
 /// The number of files after which the line on the terminal is shown again.
 const STEP: usize = 64;
@@ -135,8 +135,12 @@ impl Report {
         ensures plain { job.now.is_terminal ≡ false → IsPlain result }
         ensures faultless { result.faulty ≡ 0 }
         ensures remaining { result.remaining ≡
-            record { listing = listing_of job.now.arguments.now; count = 0; defined = 0;
-            list = [] } }
+            record {
+              listing = listing_of job.now.arguments.now;
+              count = 0;
+              defined = 0;
+              list = [];
+            } }
     {
         Report {
             alloc: job.alloc,

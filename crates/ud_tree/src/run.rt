@@ -20,10 +20,10 @@ use crate::tree::Tree;
 use crate::walk::Found;
 use std::alloc::AllocError;
 use std::io::{Read, Write};
-use ud_diagnostics::{EXIT_TROUBLE, status_by};
 use ud_engine::Watched;
 use ud_io::send;
 use ud_passes::Names;
+use unifdef::{EXIT_TROUBLE, status_by};
 
 /// Runs over the files that the arguments name, and returns the exit status.
 ///

@@ -17,7 +17,7 @@ use Rattle.ud_io.specs.Watched.{WatchedState, AppendsAllOrPrefix}
 use Rattle.ud_engine.specs.Runs.{EndsWith, StoppedAtFault}
 use Rattle.ud_engine.specs.Finishing.{text_fault_of}
 use Rattle.ud_faults.specs.Faults.{limit_of, fault_of}
-use Rattle.ud_diagnostics.specs.RunMessages.{final_result, result_message, result_status}
+use Rattle.unifdef.specs.RunMessages.{final_result, result_message, result_status}
 use Rattle.unifdef.specs.ToolCall.{Call}
 use Rattle.unifdef.specs.ToolAnswer.{AnswersSpec, RefusesArgs}
 use Rattle.unifdef.specs.ToolEnded.{is_read_error, is_write_error, ToolEnded, EndsAsRun, CallEnds}

@@ -19,8 +19,8 @@ use Rattle.ud_io.specs.Watched.{AppendsAllOrPrefix}
 use Rattle.ud_faults.specs.declared.run.RunFault.{RunFault}
 use Rattle.unifdef.specs.ToolCall.{Call}
 use Rattle.unifdef.specs.ToolAnswer.{Answers, AnswersSpec, FailsForMemory}
-use Rattle.ud_diagnostics.specs.UsageMessages.{usage_text}
-use Rattle.ud_diagnostics.specs.RunMessages.{final_result, result_message, result_status}
+use Rattle.unifdef.specs.UsageMessages.{usage_text}
+use Rattle.unifdef.specs.RunMessages.{final_result, result_message, result_status}
 use Rattle.unifdef.proofs.RefusalLemmas.{TellsFault, tells-IsUsageOf}
 
 -- the message and the status of the end of a run are those of its outcome

@@ -2,7 +2,7 @@
 use Rattle.std.proofs.Common.{◌≡◌, ◌⊎◌, List, Bool, true, false, Option, Some, arith}
 use Rattle.ud_model.specs.answer.CommandLine.{ParsedArg, UsageFault, first_fault, usage_message}
 use Rattle.ud_model.specs.answer.Messages.{out_of_memory}
-use Rattle.ud_diagnostics.specs.UsageMessages.{usage_text}
+use Rattle.unifdef.specs.UsageMessages.{usage_text}
 use Rattle.ud_args.specs.SymbolStorage.{StoresSymbol}
 use Rattle.ud_args.specs.ParsedSettings.{IsUsageOf}
 use Rattle.ud_args.specs.declared.usage.Usage.{Usage}

@@ -1,3 +1,5 @@
 pub mod ToolCall
 pub mod ToolAnswer
 pub mod ToolEnded
+pub mod RunMessages
+pub mod UsageMessages

@@ -15,7 +15,7 @@ use Rattle.ud_model.specs.answer.Answer.{Answer, IsAnswer, memory_answer}
 use Rattle.ud_model.specs.answer.CommandLine.{UsageFault, parsed_args, usage_fault}
 use Rattle.ud_args.specs.SymbolStorage.{StoresSymbol}
 use Rattle.ud_io.specs.Watched.{AppendsAllOrPrefix}
-use Rattle.ud_diagnostics.specs.UsageMessages.{ReportsUsage}
+use Rattle.unifdef.specs.UsageMessages.{ReportsUsage}
 use Rattle.unifdef.specs.ToolCall.{Call}
 
 module _ {R W : Type 0} where

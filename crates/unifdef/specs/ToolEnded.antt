@@ -11,7 +11,7 @@ use Rattle.ud_faults.specs.declared.run.RunFault.{RunFault}
 use Rattle.ud_faults.specs.declared.run.RunFault.TheVariants.{Text, Section, Read, Write}
 use Rattle.ud_engine.specs.Runs.{RunEnded, LagsOneRead}
 use Rattle.ud_io.specs.Watched.{AppendsAllOrPrefix}
-use Rattle.ud_diagnostics.specs.RunMessages.{final_result, result_message, result_status}
+use Rattle.unifdef.specs.RunMessages.{final_result, result_message, result_status}
 use Rattle.unifdef.specs.ToolCall.{Call}
 use Rattle.unifdef.specs.ToolAnswer.{FailsForMemory, RefusesFaultyArgs}
 

@@ -1,7 +1,7 @@
 //! unifdef(1) as a library, over a reader and two writers.
 //!
 //! `tool` is the whole tool. ud_args parses its arguments, ud_engine processes the text and writes
-//! the output, and ud_diagnostics reports errors and returns the exit status. For callers that have
+//! the output, and `diagnostics` reports errors and returns the exit status. For callers that have
 //! a text in chunks, this crate also exports parts of ud_args and ud_engine:
 //!
 //! - `plan` parses arguments, and fails where the program does (`Usage`). `input_of` returns which
@@ -17,11 +17,12 @@
 //! examples.
 #![tactic(auto)]
 
+mod diagnostics;
 mod laws;
 mod running;
 
+pub use diagnostics::{EXIT_TROUBLE, final_result, report_result, report_usage, status_by};
 pub use laws::law_failed_streams;
 pub use running::tool;
 pub use ud_args::{Plan, Usage, input_of, plan};
-pub use ud_diagnostics::EXIT_TROUBLE;
 pub use ud_engine::{Engine, RunFault, Watched, run};

@@ -5,10 +5,10 @@ ghost use Rattle.unifdef.specs.ToolCall.{call_of};
 ghost use Rattle.unifdef.specs.ToolAnswer.{RefusesFaultyArgs, AnswersAsDefined, LeavesFlushed};
 ghost use Rattle.unifdef.specs.ToolEnded.{EndsAsRun, LagsAsRun};
 
+use crate::diagnostics::{EXIT_TROUBLE, final_result, report_result, report_usage};
 use std::alloc::Global;
 use std::io::{Read, Write};
 use ud_args::{display_name, plan};
-use ud_diagnostics::{EXIT_TROUBLE, final_result, report_result, report_usage};
 use ud_engine::{Watched, run};
 
 /// Runs unifdef(1): parses `args`, reads the text from `reader`, writes the output to `out` and

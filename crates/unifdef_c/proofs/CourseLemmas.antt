@@ -12,7 +12,7 @@ use Rattle.ud_engine.specs.Feeding.{FeedFails, Session, WriterMatches}
 use Rattle.ud_model.specs.sections.Faults.{Fault}
 use Rattle.ud_engine.specs.Finishing.{FinishFault, Finishes, RunAnswers}
 use Rattle.ud_engine.proofs.RunLemmas.{own_piece, own_session, ran_early, ended_ran}
-use Rattle.ud_diagnostics.specs.RunMessages.{result_message, result_status}
+use Rattle.unifdef.specs.RunMessages.{result_message, result_status}
 use Rattle.unifdef.proofs.HeadlineLemmas.{tells_outcome}
 use Rattle.unifdef_c.proofs.TextCallLemmas.{parts_are}
 use Rattle.unifdef_c.specs.Streams.{BeginsStream, FeedsEngine, FeedsStream, TakesStream, FinishesStream, EndsStream, InSession, session, pending, output_of, fed_of}

@@ -17,7 +17,7 @@ use Rattle.ud_model.specs.answer.Messages.{out_of_memory}
 use Rattle.ud_model.specs.declared.settings.Settings.{Settings}
 use Rattle.ud_faults.specs.declared.run.RunFault.{RunFault}
 use Rattle.ud_faults.specs.declared.run.RunFault.TheVariants.{Write}
-use Rattle.ud_diagnostics.specs.RunMessages.{result_message, result_status}
+use Rattle.unifdef.specs.RunMessages.{result_message, result_status}
 use Rattle.unifdef_c.specs.Words.{words_of, AreUtf8}
 use Rattle.unifdef_c.specs.TextCalls.{overwritten}
 use Rattle.unifdef_c.specs.Streams.{BeginsStream, FeedsStream, TakesStream, EndsStream, pending}

@@ -11,7 +11,7 @@ use Rattle.ud_model.specs.answer.CommandLine.{usage_fault, options_of, display_n
 use Rattle.ud_model.specs.answer.Answer.{IsAnswer}
 use Rattle.ud_faults.specs.declared.run.RunFault.{RunFault}
 use Rattle.ud_engine.specs.Finishing.{RunAnswers}
-use Rattle.ud_diagnostics.specs.RunMessages.{result_message, result_status}
+use Rattle.unifdef.specs.RunMessages.{result_message, result_status}
 use Rattle.unifdef_c.specs.Streams.{InSession, TakesStream, session, pending, output_of}
 use Rattle.unifdef_c.specs.declared.stream.Stream.{Stream}
 

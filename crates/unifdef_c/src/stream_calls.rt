@@ -11,11 +11,10 @@ use crate::hand_out::{TOO_SMALL, overwrite};
 use crate::handle::Handle;
 use crate::stream::{BeginFault, Fed, Stream};
 use std::alloc::Global;
-use ud_diagnostics::report_result;
 use ud_engine::RunFault;
 use ud_io::Watched;
 use ud_model::Settings;
-use unifdef::EXIT_TROUBLE;
+use unifdef::{EXIT_TROUBLE, report_result};
 
 /// Opens a stream: unifdef(1) over a text that comes in chunks. If `handle` is open, closes it
 /// before.

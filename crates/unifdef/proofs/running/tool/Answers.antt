@@ -2,7 +2,7 @@ use Rattle.std.proofs.Common.{◌≡◌, refl, sym, ap₂, map, string_bytes, �
 use Rattle.ud_model.specs.answer.CommandLine.{options_of, display_name}
 use Rattle.ud_io.specs.Watched.{AppendsAllOrPrefix}
 use Rattle.ud_io.proofs.BufferingLemmas.{all_or_prefix_same}
-use Rattle.ud_diagnostics.specs.RunMessages.{final_result, result_message, result_status}
+use Rattle.unifdef.specs.RunMessages.{final_result, result_message, result_status}
 use Rattle.unifdef.proofs.EndedLemmas.{flushed_went, read_reported, write_reported}
 use Rattle.unifdef.proofs.HeadlineLemmas.{usage_answers, flushed_answers, flushed_kept_up}
 use Rattle.unifdef.proofs.running.tool.Goals as goal

@@ -3,9 +3,9 @@
 ghost use Rattle.std.specs.Prelude.{◌≡◌, false};
 ghost use Rattle.ud_model.specs.answer.Answer.{status_by, status_under};
 ghost use Rattle.ud_io.specs.Watched.{AppendsAllOrPrefix};
-ghost use Rattle.ud_diagnostics.specs.RunMessages.{final_result, result_message, result_status};
+ghost use Rattle.unifdef.specs.RunMessages.{final_result, result_message, result_status};
 
-use crate::fault_messages::report_fault;
+use crate::diagnostics::fault_messages::report_fault;
 use std::io::Write;
 use ud_faults::RunFault;
 use ud_io::Watched;

@@ -4,7 +4,6 @@
 //! output was flushed, or after the flush failed; `report_result` reports its fault, if any, and
 //! returns the exit status. `status_by` is the one without a fault. The texts of the messages are
 //! defined in ud_model, specs/answer/Messages.antt and CommandLine.antt.
-#![tactic(auto)]
 
 mod exit;
 mod fault_messages;

@@ -2,7 +2,7 @@
 
 ghost use Rattle.std.specs.Prelude.{◌≡◌, ◌++◌, false, codes, decimal, encode_utf8};
 ghost use Rattle.ud_io.specs.Watched.{AppendsAllOrPrefix};
-ghost use Rattle.ud_diagnostics.specs.UsageMessages.{usage_text};
+ghost use Rattle.unifdef.specs.UsageMessages.{usage_text};
 
 use itoa::Buffer;
 use std::io::Write;

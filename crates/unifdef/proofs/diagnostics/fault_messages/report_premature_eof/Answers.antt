@@ -1,7 +1,7 @@
 use Rattle.std.proofs.Common.{◌∙◌}
 use Rattle.ud_io.proofs.StreamLemmas.{sent_as}
-use Rattle.ud_diagnostics.proofs.MessageLemmas.{premature_joined}
-use Rattle.ud_diagnostics.proofs.fault_messages.report_premature_eof.Goals as goal
+use Rattle.unifdef.proofs.MessageLemmas.{premature_joined}
+use Rattle.unifdef.proofs.diagnostics.fault_messages.report_premature_eof.Goals as goal
 
 pub returns : goal.returns
 returns g c =

@@ -5,7 +5,7 @@ ghost use Rattle.ud_model.specs.answer.Messages.{about, about_line, message_of};
 ghost use Rattle.ud_model.specs.sections.Faults.{premature_eof};
 ghost use Rattle.ud_faults.specs.Faults.{limit_of, fault_of};
 ghost use Rattle.ud_io.specs.Watched.{AppendsAllOrPrefix};
-ghost use Rattle.ud_diagnostics.specs.RunMessages.{fault_message};
+ghost use Rattle.unifdef.specs.RunMessages.{fault_message};
 
 use itoa::Buffer;
 use std::io::Write;

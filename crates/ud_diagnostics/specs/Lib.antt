@@ -1,2 +1,0 @@
-pub mod RunMessages
-pub mod UsageMessages
