@@ -565,6 +565,7 @@ unifdef-tree: 2 conditions edited'
   tree -p -w -UVMS src
   check '-p -w' holds src/b.c "$pruned"
   prunes_by_options
+  prunes_over_lines
 }
 
 # Tests -p with options that say how conditions are decided, and with those that it refuses.
@@ -593,14 +594,13 @@ prunes_by_options() {
   printf 'src/a.c\0' > "$work/paths"
   (cd "$work/run" && "$TREE" -0 -p -UVMS < "$work/paths" > "$work/out" 2> "$work/err")
   check '-p -0' holds src/a.c "$pruned"
-  # shellcheck disable=SC1003 # The backslash belongs to the line.
-  put src/a.c '#if X || \\\n  VMS\n#endif\n#if!VMS&&X\n#endif\n#if X ? VMS : 1\n#endif\n#if X || VMS + Y\n#endif\n#if F(VMS)\n#endif\n'
+  put src/a.c '#if X || V\\\nMS\n#endif\n#if!VMS&&X\n#endif\n#if X ? VMS : 1\n#endif\n#if X || VMS + Y\n#endif\n#if F(VMS)\n#endif\n'
   tree -p -r -UVMS src/a.c
   check '-p -r: what stays' same "$(cat "$work/err")" 'unifdef-tree: 0 changed, 1 unchanged, 0 faulty
 unifdef-tree: 0 conditions edited
 unifdef-tree: 5 conditions still name a symbol'
   # shellcheck disable=SC1003 # The backslash belongs to the line.
-  check '-p -r: why each stays' same "$(cat "$work/out")" 'src/a.c:1: over several lines: #if X || \
+  check '-p -r: why each stays' same "$(cat "$work/out")" 'src/a.c:1: over several lines: #if X || V\
 src/a.c:4: its rest would be misread: #if!VMS&&X
 src/a.c:6: not understood: #if X ? VMS : 1
 src/a.c:8: an operand is unknown: #if X || VMS + Y
@@ -628,6 +628,36 @@ src/b.c:8: not understood: #elifdef VMS -1'
     check "-p ${words%%:*}: refused" same "$status $(cat "$work/err")" "2 unifdef-tree: ${words#*:}"
     check "-p ${words%%:*}: nothing is done" holds src/a.c "$unpruned"
   done
+}
+
+# Checks what -p with these options makes of a file: TEST OPTIONS BEFORE AFTER. A second run changes
+# nothing.
+prunes_to() {
+  local options
+  read -ra options <<< "$2"
+  put src/a.c "$3"
+  tree -q -p "${options[@]}" src
+  check "-p over lines: $1" holds src/a.c "$4"
+  tree -q -p "${options[@]}" src
+  check "-p over lines: $1: a second run" same "$status$(cat "$work/err")" 0
+  check "-p over lines: $1: what it leaves" holds src/a.c "$4"
+}
+
+# Tests -p with directives that a backslash or a comment continues.
+prunes_over_lines() {
+  local stays
+  fresh_tree
+  prunes_to 'an operand' -UVMS '#if defined(UNIX) || \\\n\tdefined(VMS)\nx\n#endif\n' '#if defined(UNIX)\nx\n#endif\n'
+  prunes_to 'a break that stays' -UVMS '#if VMS || A || \\\n  B\n#endif\n' '#if A || \\\n  B\n#endif\n'
+  prunes_to 'a section' -UVMS 'a\n#if defined(VMS) && \\\n  X\nb\n#endif\nc\n' 'a\nc\n'
+  prunes_to 'comments' -UVMS '#ifdef VMS\na\n#else /* no\n VMS */\nb\n#endif /* x\n y */\n' 'b\n'
+  prunes_to 'a comment that stays' -UVMS '#if VMS || A /* x\n y */\n#endif\n' '#if A /* x\n y */\n#endif\n'
+  prunes_to 'CRLF' -UVMS '#if X || \\\r\n  VMS\r\n#endif\r\n' '#if X\r\n#endif\r\n'
+  for stays in '#if X || V\\\nMS\n#endif\n' "#if X || VMS || \\\\\\n  'a'\\n#endif\\n" '#if X ||\\\nVMS\n#endif\n' \
+    '#if X || \\\r\n  VMS\n#endif\n' '#if X || \\\n  VMS\n#endif\n\v\n' '#define A \\\n  VMS\n'; do
+    prunes_to "$stays" -UVMS "$stays" "$stays"
+  done
+  prunes_to '-b' '-b -UVMS' '#if X || \\\n  VMS\n#endif\n' '#if X || \\\n  VMS\n#endif\n'
 }
 
 # Tests that a diff has the changed lines, three lines around them, and no other ones.

@@ -218,7 +218,7 @@ module _ (r : Reading) (old : List ℕ) (l : LogicalLine) where
         ends_here rs e = rest_joined group r rs begins j ∙ ap₂ (λ (x y : List Reading). folded_bytes ((group ++ r ∷ []) ++ x) ++ (plain_lines y ++ folded_lines rs)) e (sym e)
             ∙ ap (λ (x : List Reading). folded_bytes x ++ (plain_lines (continued rs) ++ folded_lines rs)) (append-nil (group ++ r ∷ []))
 
--- 5. What is kept of the lines.
+-- 5. The lines that go on.
 
 pub last_is : (b : Last) (line : ReadLine) (scan : ReadScan) (n : ℕ) → b ≡ record { line = line; comment = scan.comment; spliced = scan.spliced } →
     scan.spliced ≡ is_spliced (as_line line) → NoNewline line.body.now → IsLast b (reading_at C (as_line line) (as_scan scan) n)

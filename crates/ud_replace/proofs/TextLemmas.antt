@@ -140,7 +140,7 @@ pub leaves_failed : (o : Options) (lines : List ℕ) {e : ReplaceError} (f : Run
 leaves_failed o lines f e (run_faulty a g has is some) = leaves_faulty o lines a has some
 leaves_failed o lines f e no_memory_left = absurd cc
 
--- What the looks at the output say of it.
+-- The looks at the output.
 module _ (o : Options) {text start whole lines back shown again seen : List ℕ} {ran : TextRun} (none : start ≡ []) (h : RunsPruned o text start whole ran) (e : lines ≡ whole)
     (b : back ≡ restored_text lines) (s : shown ≡ back) (a : again ≡ folded_text shown) (t : seen ≡ again) where
   printed : lines ≡ (pruned o h.outcome).output

@@ -13,7 +13,8 @@ use Rattle.ud_replace.specs.declared.text_plan.TextRun.{TextRun}
 use Rattle.ud_replace.specs.TextOutcomes.{TextOptions, pruned, comes_back, StaysUnfolded, RunsOver}
 
 -- `RunsPruned o text old new ran`: `text` has no fault, and the output of the run over it was
--- appended to `old` with pruned conditions. `ran` has whether it differs, and the edited conditions.
+-- appended to `old` with pruned conditions. `ran` has whether it differs, and the edited
+-- conditions.
 pub record RunsPruned (o : Options) (text old new : List ℕ) (ran : TextRun) : Type 0 where
   pub outcome : Outcome
   pub runs : HasOutcome o text outcome
@@ -22,8 +23,8 @@ pub record RunsPruned (o : Options) (text old new : List ℕ) (ran : TextRun) : 
   pub differs_is : ran.differs ≡ (pruned o outcome).differs
   pub edited_is : ran.edited ≡ (pruned o outcome).edited
 
--- `LeavesFolded o lines`: each outcome of the folded text `lines` has a fault, or its output doesn't
--- come back.
+-- `LeavesFolded o lines`: each outcome of the folded text `lines` has a fault, or its output
+-- doesn't come back.
 abbrev pub LeavesFolded : Options → List ℕ → Type 0
 LeavesFolded o lines = (a : Outcome) → HasOutcome o lines a → a.fault ≡ None →
     ¬ (comes_back (pruned o a).output ≡ true)

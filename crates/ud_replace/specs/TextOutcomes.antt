@@ -6,7 +6,7 @@
 --   TextOutcome               the output, the fault, whether it differs, and the edited conditions
 --   unpruned a, pruned o a    the outcome of a run, as it is and with pruned conditions
 --   may_fold s                a run with the settings `s` reads C, and counts no lines
---   goes_back lines text      the folded text `lines` is another one than `text`, and restored to it
+--   goes_back lines text      the folded text `lines` isn't `text`, and is restored to it
 --   comes_back bytes          the restored text is folded to `bytes`
 --   IsFolded o text a         the output for `text` is that of the outcome `a` of the folded text
 --   StaysUnfolded o text      the output for `text` is none of a folded text
@@ -19,7 +19,7 @@
 --   IsOutputOf o text output edited   the output of the outcome of a text
 --
 -- Example: under `-UA`, the output for the line `#if A || X` is that line. If conditions are
--- pruned, it is `#if X`. So it is for the lines `#if A || \` and `X`: the run reads them as one.
+-- pruned, it is `#if X`. For the lines `#if A || \` and `X` it is that too: they are read as one.
 use Rattle.std.specs.Prelude.{◌≡◌, ℕ, List, ◌++◌, Bool, true, false, ◌||◌, Option, None}
 use Rattle.std.specs.Prelude.{nat_lt, not, ◌&&◌, bytes_eq}
 use Rattle.ud_model.specs.sections.Faults.{Fault}
@@ -76,7 +76,7 @@ pruned o a = record {
 abbrev pub may_fold : Settings → Bool
 may_fold s = not s.plain && not s.blank && not s.renumber
 
--- `goes_back lines text`: the folded text `lines` is another one than `text`, and is restored to it.
+-- `goes_back lines text`: the folded text `lines` isn't `text`, and is restored to it.
 abbrev pub goes_back : List ℕ → List ℕ → Bool
 goes_back lines text = not (bytes_eq lines text) && bytes_eq (restored_text lines) text
 
@@ -98,14 +98,14 @@ pub record IsFolded (o : TextOptions) (text : List ℕ) (a : Outcome) : Type 0 w
 abbrev pub StaysUnfolded : TextOptions → List ℕ → Type 0
 StaysUnfolded o text = (a : Outcome) → ¬ IsFolded o text a
 
--- `folded o a`: the outcome `a` of a folded text, restored and without the operands that the options
--- `o` decide.
+-- `folded o a`: the outcome `a` of a folded text, restored and without the operands that the
+-- options `o` decide.
 abbrev pub folded : Options → Outcome → TextOutcome
 folded o a = record (pruned o a) { output = restored_text (pruned o a).output }
 
--- `HasTextOutcome o text r`: `r` is the outcome of `text`. If `text` is folded, it is that of the
--- folded text. Else it is that of the run over `text`. If conditions are pruned, and the text has no
--- fault, it is that outcome with pruned conditions.
+-- `HasTextOutcome o text r`: `r` is the outcome of `text`. If `text` is folded, it is the outcome
+-- of the folded text. Else it is the outcome of the run over `text`, with pruned conditions if they
+-- are to be pruned and the text has no fault.
 pub data HasTextOutcome (o : TextOptions) (text : List ℕ) : TextOutcome → Type 0 where
   as_run : {a : Outcome} → o.prunes ≡ false → HasOutcome o.run text a →
       HasTextOutcome o text (unpruned a)

@@ -1,20 +1,20 @@
 -- Logical lines: what the code keeps of a logical line that begins with a directive.
 --
 --   plain_lines rs              the bytes of the lines `rs`
---   read_line l scan n          the line `l` as it is read in C mode, with this scan and this number
---   is_line_shown k bytes       the line `k` has an ending, fits, and is a directive by itself, with
---                               these masked bytes
+--   is_line_shown k bytes       the line `k` has an ending, fits, and is a directive by itself,
+--                               with these masked bytes
 --   IsLast b r                  `b` is the line `r`
 --   IsLogical l b group         the lines `group` begin a directive, the last of which is `b`
 --   IsGroup l b group           the same, or no logical line goes on
-use Rattle.std.specs.Prelude.{◌≡◌, ℕ, List, [], ◌∷◌, ◌++◌, Bool, true, not, ◌&&◌, Option, Some, None}
+use Rattle.std.specs.Prelude.{◌≡◌, ℕ, List, [], ◌∷◌, ◌++◌, Bool, true, not, ◌&&◌, Option, Some}
+use Rattle.std.specs.Prelude.{None}
 use Rattle.std.specs.List.{flat_map}
 use Rattle.ud_model.specs.text.Lines.{Line, NoNewline, text_of}
 use Rattle.ud_model.specs.text.Splicing.{is_empty, is_spliced}
 use Rattle.ud_model.specs.text.Scans.{Reading}
 use Rattle.ud_model.specs.text.Scanning.{scan_after_run}
-use Rattle.ud_model.specs.output.FoldedTexts.{continued_part, shown_lines, begins_directive, are_alike}
-use Rattle.ud_model.specs.output.FoldedTexts.{fits, is_shown_as}
+use Rattle.ud_model.specs.output.FoldedTexts.{continued_part, shown_lines, begins_directive}
+use Rattle.ud_model.specs.output.FoldedTexts.{are_alike, fits, is_shown_as}
 use Rattle.ud_model.specs.output.SimplifiedTexts.{keeps_ending}
 use Rattle.ud_passes.specs.declared.folding.logical.Last.{Last}
 use Rattle.ud_passes.specs.declared.folding.logical.LogicalLine.{LogicalLine}

@@ -136,8 +136,8 @@ impl LogicalLine {
         scan: &Scan<'_>,
     ) -> Result<Last<'t>, AllocError>
         requires one_line { NoNewline line.now.body.now }
-        ensures { IfOk result (λ b. (n : ℕ) (group : List Reading) → IsLogical self.old last.now group →
-            line.now.ending.now ≡ last.now.line.ending.now →
+        ensures { IfOk result (λ b. (n : ℕ) (group : List Reading) →
+            IsLogical self.old last.now group → line.now.ending.now ≡ last.now.line.ending.now →
             scan.now.spliced ≡ is_spliced (as_line line.now) →
             IsLogical self.new b
             (group ++ reading_at C (as_line line.now) (as_scan scan.now) n ∷ [])) }

@@ -1,7 +1,7 @@
 //! Folds a text, line by line.
 
-ghost use Rattle.std.specs.Prelude.{◌≡◌, ◌≤◌, ◌<◌, ◌∷◌, ◌++◌, ℕ, List, [], length, true, IfOk, OnOk};
-ghost use Rattle.std.specs.Prelude.{OnErr, IfSome, is_some};
+ghost use Rattle.std.specs.Prelude.{◌≡◌, ◌≤◌, ◌<◌, ◌∷◌, ◌++◌, ℕ, List, [], length, true, IfOk};
+ghost use Rattle.std.specs.Prelude.{OnOk, OnErr, IfSome, is_some};
 ghost use Rattle.ud_model.specs.text.Lines.{NoNewline, text_of};
 ghost use Rattle.ud_model.specs.text.Scans.{Reading};
 ghost use Rattle.ud_model.specs.text.Splicing.{c_run_of};
@@ -129,7 +129,8 @@ fn append_folded(text: &[u8], out: &mut Vec<u8>) -> Result<(), AllocError>
     append_lines(text, out)
 }
 
-/// Appends a text to `out`, with one line in place of each conditional directive over several lines.
+/// Appends a text to `out`, with one line in place of each conditional directive over several
+/// lines.
 ///
 /// `text` may have any length and any bytes. A vertical tab stands for each newline that continues
 /// the directive. A directive that wouldn't be read as its lines stays, and so does a text that has

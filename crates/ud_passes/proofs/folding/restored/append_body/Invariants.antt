@@ -1,4 +1,4 @@
--- What is left of the body is still to be appended.
+-- The rest of the body is still to be appended.
 use Rattle.std.proofs.Common.{◌≡◌, ◌++◌, drop}
 use Rattle.ud_model.specs.output.FoldedTexts.{restored_body}
 use Rattle.ud_passes.specs.Passes.{Grows}

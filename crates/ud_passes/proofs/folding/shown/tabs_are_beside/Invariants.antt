@@ -1,4 +1,4 @@
--- What is left to show of the bytes from here on.
+-- The rest of the bytes decides.
 use Rattle.std.proofs.Common.{◌≡◌, drop, true}
 use Rattle.ud_model.specs.output.FoldedTexts.{tabs_are_beside}
 use Rattle.ud_passes.proofs.ShownLemmas.{left}
