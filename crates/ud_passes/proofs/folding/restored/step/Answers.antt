@@ -8,7 +8,7 @@ pub returns-in_ok-append_line-in-TooLong-clause-restored :
     goal.returns-in_ok-append_line-in-TooLong-clause-restored
 returns-in_ok-append_line-in-TooLong-clause-restored c = λ text start s.
     let n = c.in-TooLong.ensures.next text s.read s.walked in
-    line_more text start c.args.walk.now c.args.out.now.items s c.next.new.self _ (as_line c.in-TooLong.line) n.1
+    line_more text start c.args.walk.now c.args.out.now.items s c.next_within.new.self _ (as_line c.in-TooLong.line) n.1
     (c.in_ok-append_line-in-TooLong.ensures.bytes ∙ ap (λ (x : List ℕ). c.args.out.now.items ++ x) (sym (long_restored (as_line c.in-TooLong.line) n.0)))
 
 pub returns-in_ok-append_restored_line-in-Fitting-clause-restored :

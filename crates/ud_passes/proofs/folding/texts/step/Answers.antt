@@ -14,7 +14,7 @@ pub returns-in_ok-extend_from_slice-in-Texts-clause-folded :
     goal.returns-in_ok-extend_from_slice-in-Texts-clause-folded
 returns-in_ok-extend_from_slice-in-Texts-clause-folded c = λ text start s.
     let n = c.in-Texts.ensures.next text s.read s.walked in
-    texts_folded text start c.args.logical.now c.args.begun c.args.walk.now c.args.out.now.items s c.args.logical.now c.next.new.self _
+    texts_folded text start c.args.logical.now c.args.begun c.args.walk.now c.args.out.now.items s c.args.logical.now c.next_within.new.self _
     (none_if c.args.begun _ c.passable_len.ensures c.in-Texts.ensures.one) c.in-Texts.bytes.now n.0 n.1 n.2 n.3 c.in_ok-extend_from_slice-in-Texts.ensures.items
 
 pub returns-in_ok-append_line-in-TooLong-clause-folded :
@@ -22,7 +22,7 @@ pub returns-in_ok-append_line-in-TooLong-clause-folded :
 returns-in_ok-append_line-in-TooLong-clause-folded c = λ text start s.
     let n = c.in-TooLong.ensures.next text s.read s.walked in
     let k : Line = as_line c.in-TooLong.line in
-    line_folded text start c.args.logical.now c.args.begun c.args.walk.now c.args.out.now.items s c.args.logical.now c.next.new.self _ _ k n.1
+    line_folded text start c.args.logical.now c.args.begun c.args.walk.now c.args.out.now.items s c.args.logical.now c.next_within.new.self _ _ k n.1
     (long_taken (read_after C s.read k) c.args.out.now.items c.args.logical.now c.args.begun s.group _ n.0 s.is_group (if_some c.args.begun (λ h. joins_before-code (c_run_of s.read) k ∙ h) s.goes_on)
     (c.in_ok-append_line-in-TooLong.ensures.bytes ∙ ap (λ (x : List ℕ). x ++ text_of k) (c.in_ok-give_up-in-TooLong.ensures.bytes s.group s.is_group)) c.args.logical.now)
 
