@@ -1,5 +1,5 @@
 -- A piece more is read.
-use Rattle.std.proofs.Common.{◌≡◌, ◌++◌, [], List, ℕ, sym, ◌∙◌, ap, refl, subst, append-nil, append_assoc, take, take-append-drop, length, arith, rules, min}
+use Rattle.std.proofs.Common.{◌≡◌, ◌++◌, [], List, ℕ, sym, ◌∙◌, ap, refl, subst, append-nil, append_assoc, take, take-append-drop, length, arith, min}
 use Rattle.std.proofs.Math.ListN.{length-take}
 use Rattle.ud_model.specs.text.Lines.{NoNewline}
 use Rattle.ud_model.specs.aids.LexStates.{LexesTo}
