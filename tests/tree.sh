@@ -658,6 +658,24 @@ prunes_over_lines() {
     prunes_to "$stays" -UVMS "$stays" "$stays"
   done
   prunes_to '-b' '-b -UVMS' '#if X || \\\n  VMS\n#endif\n' '#if X || \\\n  VMS\n#endif\n'
+  put src/a.c '#ifdef VMS\na\n#else /* no\n VMS */\nb\n#endif\n#if A || \\\n VMS || \\\n B\nq\n#endif\n'
+  tree -n -p -q -UVMS src
+  # shellcheck disable=SC1003 # The backslash belongs to the line.
+  check '-p over lines: -n' same "$(cat "$work/out")" '--- src/a.c
++++ src/a.c
+@@ -1,11 +1,5 @@
+-#ifdef VMS
+-a
+-#else /* no
+- VMS */
+ b
+-#endif
+ #if A || \
+- VMS || \
+- B
++ B
+ q
+ #endif'
 }
 
 # Tests that a diff has the changed lines, three lines around them, and no other ones.

@@ -3,6 +3,7 @@
 ghost use Rattle.std.specs.Prelude.{IfSome};
 ghost use Rattle.ud_diff.specs.Patching.{IsDiff};
 
+use crate::folded_marks::folded_marks;
 use crate::job::Job;
 use crate::marked::Marked;
 use ud_args::Plan;
@@ -14,6 +15,18 @@ use ud_sections::{Complement, Show};
 pub(crate) fn diff_of(job: &Job<'_>, name: &[u8], text: &[u8], output: &[u8]) -> Option<Vec<u8>>
     ensures { IfSome result (λ diff. IsDiff name.now text.now output.now diff.items) }
 {
+    let marks = match folded_marks(job, text, output) {
+        Some(marks) => marks,
+        None => marks_of(job, text)?,
+    };
+    match unified_diff(job.alloc, name, text, output, marks.as_slice()) {
+        Ok(diff) => Some(diff),
+        Err(_) => None,
+    }
+}
+
+/// Returns the marks of the lines of a text without a fault; `None` if memory runs out.
+pub(crate) fn marks_of(job: &Job<'_>, text: &[u8]) -> Option<Vec<u8>> {
     let plan = &job.arguments.plan.run;
     let settings = plan.settings();
     let printer = Marked::new(settings.blank);
@@ -26,10 +39,7 @@ pub(crate) fn diff_of(job: &Job<'_>, name: &[u8], text: &[u8], output: &[u8]) ->
     if printed.is_err() {
         return None;
     }
-    match unified_diff(job.alloc, name, text, output, marks.as_slice()) {
-        Ok(diff) => Some(diff),
-        Err(_) => None,
-    }
+    Some(marks)
 }
 
 /// Appends the output of a printer for a text.

@@ -11,6 +11,7 @@ mod disk;
 mod file_diff;
 mod file_result;
 mod find_files;
+mod folded_marks;
 mod folders;
 mod help;
 mod job;
