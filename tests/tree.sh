@@ -916,9 +916,9 @@ colours() {
   script -qec "'$TREE' -n -q -UA src" /dev/null < /dev/null | tr -d '\r' > "$work/shown"
   check 'colours: removed lines are red, added ones green, and the head is cyan' same \
     "$(sed -n '3,5p;7,8p' "$work/shown")" \
-    "$esc[36m@@ -1,5 +1 @@$esc[m"$'\n'"$esc[31m-#ifdef A$esc[m"$'\n'"$esc[31m-yes$esc[m"$'\n'" no"$'\n'"$esc[31m-#endif$esc[m"
+    "${esc}[36m@@ -1,5 +1 @@${esc}[m"$'\n'"${esc}[31m-#ifdef A${esc}[m"$'\n'"${esc}[31m-yes${esc}[m"$'\n'" no"$'\n'"${esc}[31m-#endif${esc}[m"
   check 'colours: the bytes are the same without' same \
-    "$(sed "s/$esc\\[[0-9]*m//g" "$work/shown")" "$plain"
+    "$(sed "s/${esc}\\[[0-9]*m//g" "$work/shown")" "$plain"
   NO_COLOR=1 script -qec "'$TREE' -n -q -UA src" /dev/null < /dev/null | tr -d '\r' > "$work/shown"
   check 'colours: none with NO_COLOR' same "$(cat "$work/shown")" "$plain"
   NO_COLOR='' script -qec "'$TREE' -n -q -UA src" /dev/null < /dev/null > "$work/shown"
