@@ -14,33 +14,30 @@ source "$here/debian.sh"
 # run WORD..: runs the program in the folder of a source.
 run() { (cd "$folder" && "$program" -x2 "$@" -- .) > "$work/listed" 2> "$work/said"; }
 
-# faulty: prints how many files of the last run have a fault.
-faulty() { sed -n 's/.* unchanged, \([0-9]*\) faulty$/\1/p' "$work/said"; }
-
 # counted WORDS: prints the number in the last line of a run that has these words, or 0.
 counted() { awk -v words="$1" 'index($0, words) { n = $2 } END { print n + 0 }' "$work/said"; }
 
 # pruned PACKAGE OPTION..: prints a row of the table.
 pruned() {
-  local package=$1 folder without faults
+  local package=$1 folder without
   shift
   (source_of "$package") > "$work/log" 2>&1 ||
     { echo "pruned: left out: $package: $(tail -n 1 "$work/log")" >&2; return 0; }
   folder=$(find "$work/source/$package" -mindepth 1 -maxdepth 1 -type d)
   rm -rf "$folder/.pc" # What Debian's patches change, in copies.
   run -n "$@" || true # A directive over several lines that would go is a fault without -p.
-  without=$(counted 'still name') faults=$(faulty)
+  without=$(counted 'still name')
   run -p -r "$@" || { cat "$work/said" >&2; exit 1; }
   # shellcheck disable=SC2016 # These are quotes of Markdown.
-  printf '| %s | `%s` | %s | %s | %s | %s |\n' "${folder##*/}" "$*" "$without" "$faults" "$(counted 'edited')" "$(counted 'still name')"
+  printf '| %s | `%s` | %s | %s | %s |\n' "${folder##*/}" "$*" "$without" "$(counted 'edited')" "$(counted 'still name')"
   cut -d: -f3 "$work/listed" | sort | uniq -c >> "$work/reasons"
   run -p "$@" || { cat "$work/said" >&2; exit 1; }
   grep -q '^unifdef-tree: 0 changed' "$work/said" || { echo "pruned: a second run changes $package" >&2; exit 1; }
 }
 
 # shellcheck disable=SC2016 # These too.
-echo '| Sources | Options | Without `-p` | Faulty files without | Edited with `-p` | Left with `-p` |'
-echo '|---|---|---|---|---|---|'
+echo '| Sources | Options | Without `-p` | Edited with `-p` | Left with `-p` |'
+echo '|---|---|---|---|---|'
 pruned vim -UVMS -UAMIGA -UMSWIN -UMACOS_X -UHAIKU
 pruned openssl -U_WIN32 -UOPENSSL_SYS_WINDOWS -UOPENSSL_SYS_VMS
 pruned zlib -U_WIN32 -UWIN32 -UMSDOS -UVMS
