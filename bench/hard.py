@@ -37,7 +37,7 @@ def chain():
 def rows():
     """Yields all rows."""
     yield Hard("a quote in each line", ["-DA"], UNCLOSED, "bytes", len(UNCLOSED), 6)
-    yield Hard("a quote is all of each line", ["-DA"], QUOTES, "bytes", len(QUOTES), 5)
+    yield Hard("a quote is all of each line", ["-DA"], QUOTES, "bytes", len(QUOTES), 50)
     total = b"#if " + b"+".join([b"A0"] * OPERANDS) + b"\n#endif\n"
     yield Hard("each value the next symbol", chain(), total, "symbols", VALUES, 5_000)
     for order, numbers in (("rising", range(SYMBOLS)), ("falling", reversed(range(SYMBOLS)))):
