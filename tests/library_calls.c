@@ -311,7 +311,7 @@ static void stream_growth(void) {
         size_t taken = unifdef_take(&stream, output, sizeof output, &pending);
         if (taken != sizeof line || pending != 0) check("growth: take", 0);
     }
-    check("growth: memory stays small", most_live - before < 100000);
+    check("growth: memory stays small", most_live - before < 200000);
     unifdef_close(&stream);
     check("growth: all of it is freed", live == before);
 }
