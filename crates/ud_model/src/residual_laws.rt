@@ -199,8 +199,9 @@ pub fn law_folded_lines()
 /// C selects the same lines of a text that is simplified while it is folded.
 ///
 /// The run is over the folded input, and `final` is a text that gives the simplified output if it
-/// is folded. C reads a text as it reads the folded one (C11 5.1.1.2, phases 2 and 3). A further
-/// run over that copies it, without a fault, and no operand goes (unifdef(1)).
+/// is folded. This is about the folded texts. `law_folded_lines` says how C reads a directive
+/// before it is folded (C11 5.1.1.2, phases 2 and 3). A further run over the folded `final` copies
+/// it, without a fault, and no operand goes (unifdef(1)).
 pub fn law_answer_folded()
     ensures selected { (args : List (List ℕ)) (input final : List ℕ) (a : Answer) →
         Succeeds args (folded_text input) a → IsPlainC (options_of args) →
