@@ -1,22 +1,22 @@
 -- CommandLines: the command lines of unifdef(1) and unifdef-tree(1): what the words after the
 -- program's name give. POSIX XBD 12.2.
 --
---   is_flag p c         the letter is an option of a program without an argument
---   takes_argument p c   the letter is one with an argument
---   long_flag p w       the letter of the flag that a word is, as `h` of `--help`
---   ends_at_operand p   the first operand of the program ends its options
+--   is_flag p c         the letter is a program's option without an argument
+--   takes_argument p c   the letter is an option with an argument
+--   long_flag p w       the letter of a long flag, such as `h` for `--help`
+--   ends_at_operand p   the program's first operand ends its options
 --   Parsed              an option, an operand, or a fault
---   letters_then p n letters next rest   what the letters of a word give, and then what follows it
+--   letters_then p n letters next rest   what the letters of a word give, and what follows
 --   parsed_words p words   what the words give, in reading order
---   as_arg g            what is given, as the definition of unifdef(1) has it
+--   as_arg g            what is given, in terms of unifdef(1)
 --
--- A word that starts with `-` and is longer has letters of options. A letter's argument is the rest
--- of its word after it, or the whole next word if nothing is left. Each other word is an operand,
--- and so is each word after `--`.
+-- A word that starts with `-` and isn't `-` has letters of options. A letter's argument is the rest
+-- of its word after it, or the whole next word if nothing is left. Every other word is an operand,
+-- and so is every word after `--`.
 --
--- With unifdef(1), each word after an operand is one, too: `CommandLine` of ud_model says the same
--- of that program alone. With unifdef-tree(1), an option after an operand is a fault. There, the
--- word `--help` is the flag `h`, and `--version` is `V`.
+-- For unifdef(1), every word after an operand is one, too, as in `CommandLine` of ud_model. For
+-- unifdef-tree(1), an option after an operand is a fault, the word `--help` is the flag `h`, and
+-- `--version` is `V`.
 --
 -- Example: the words `-nDA` and `src` give the flag `n`, the option `D` with `A` in the first word,
 -- and the operand `src`, whose index is 1.
@@ -37,7 +37,7 @@ abbrev pub takes_argument : Program → ℕ → Bool
 takes_argument Unifdef c = args.takes_argument c
 takes_argument UnifdefTree c = has_letter (codes "DUgix") c
 
--- `long_flag p w`: the letter of the flag of `p` that the word `w` is, if it is one.
+-- `long_flag p w`: the letter of the long flag `w` of `p`, if the word is one.
 abbrev pub long_flag : Program → List ℕ → Option ℕ
 long_flag Unifdef w = None
 long_flag UnifdefTree w = if bytes_eq w (codes "--help") then Some 104
@@ -62,7 +62,7 @@ pub data Parsed : Type 0 where
   unknown : ℕ → Parsed
   -- The letter of an option whose argument is missing.
   lacking : ℕ → Parsed
-  -- A word with options that comes after an operand: its index and its bytes.
+  -- A word with options after an operand: its index and its bytes.
   late : ℕ → List ℕ → Parsed
 
 -- `operands_from n words`: each word as an operand, with indices from `n` on.
@@ -76,8 +76,8 @@ abbrev pub option_then : ℕ → ℕ → List ℕ → List Parsed → List Parse
 option_then c n [] next rest = next
 option_then c n (l ∷ ls) next rest = option c n (encode_utf8_all (l ∷ ls)) ∷ rest
 
--- `letters_then p n letters next rest`: the options of the letters of the word with the number `n`,
--- and what follows. That is `next c` if the option `c` takes the next word, else `rest`.
+-- `letters_then p n letters next rest`: the options in the letters of the word with the number `n`,
+-- followed by `next c` if the option `c` takes the next word, else by `rest`.
 abbrev pub letters_then : Program → ℕ → List ℕ → (ℕ → List Parsed) → List Parsed → List Parsed
 letters_then p n [] next rest = rest
 letters_then p n (c ∷ cs) next rest =
@@ -86,9 +86,9 @@ letters_then p n (c ∷ cs) next rest =
     else unknown c ∷ letters_then p n cs next rest
 
 -- `ordinary_then p after n w next rest behind`: what the word `w` with the index `n` gives, and
--- then the words after it. `w` is neither `--` nor a long flag, and `after` says whether an operand
--- came before it. After an operand, the words after it give `behind`. Else they give `next c` if
--- the option `c` takes the first of them, or `rest`.
+-- then the words after it. `w` is neither `--` nor a long flag. `after`: an operand came before.
+-- After an operand, the words after it give `behind`. Else they give `next c` if the option `c`
+-- takes the first of them, or `rest`.
 abbrev pub ordinary_then : Program → Bool → ℕ → List ℕ → (ℕ → List Parsed) → List Parsed →
     List Parsed → List Parsed
 ordinary_then p after n w next rest behind =
@@ -102,7 +102,7 @@ long_then None rest others = others
 long_then (Some c) rest others = flag c ∷ rest
 
 -- `parsed_next p waits after n words`: what the words from the index `n` on give, if the option
--- `waits` takes the first of them. `after` says whether an operand came before.
+-- `waits` takes the first of them. `after`: an operand came before.
 abbrev pub parsed_next : Program → Option ℕ → Bool → ℕ → List (List ℕ) → List Parsed
 parsed_next p None after n [] = []
 parsed_next p (Some c) after n [] = lacking c ∷ []
@@ -120,8 +120,7 @@ parsed_next p None after n (w ∷ ws) =
 abbrev pub parsed_words : Program → List (List ℕ) → List Parsed
 parsed_words p words = parsed_next p None false 0 words
 
--- `as_arg g`: what is given, as the definition of unifdef(1) has it. There, a late word is an
--- operand.
+-- `as_arg g`: what is given, in terms of unifdef(1), where a late word is an operand.
 abbrev pub as_arg : Parsed → ParsedArg
 as_arg (flag c) = args.flag c
 as_arg (option c n a) = args.option c n a

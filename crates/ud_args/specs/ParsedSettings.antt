@@ -1,6 +1,6 @@
--- ParsedSettings: the settings and faults of options and operands, as the code has them.
+-- ParsedSettings: the code's settings and faults of options and operands.
 --
---   as_argument symbol   a symbol, as the definitions have it
+--   as_argument symbol   a symbol, as one of the definitions
 --   IsSetting g said     `g` is valid, and `said` is its setting
 --   IsFaultOf fault u    the code's fault `u` is this fault of the command line
 --   IsUsageOf gs u       the code's fault `u` is the first one of `gs`, or a failed allocation
@@ -26,7 +26,7 @@ use Rattle.ud_args.specs.declared.usage.Usage.TheVariants.{UnknownOption, Missin
 use Rattle.ud_args.specs.declared.usage.Usage.TheVariants.{BadSymbol, BadMode, TooManyFiles}
 use Rattle.ud_args.specs.declared.usage.Usage.TheVariants.{OutOfMemory}
 
--- `as_argument s`: the code's symbol, as the definitions have it
+-- `as_argument s`: the code's symbol, as one of the definitions
 abbrev pub as_argument : Symbol → Argument
 as_argument s = record {
   name = s.name.now;
@@ -51,8 +51,8 @@ IsSetting g (said.Mode mode) = (word : ℕ) × (argument : List ℕ) × (g ≡ o
 IsSetting g (said.Symbol s) = SetsSymbol g (as_argument s)
 IsSetting g (said.Operand index name) = g ≡ operand index name.now
 
--- `IsFaultOf fault u`: the code's fault `u` is this fault of the command line; a lack of memory is
--- none
+-- `IsFaultOf fault u`: the code's fault `u` is this fault of the command line; a lack of memory
+-- isn't one
 abbrev pub IsFaultOf : Option UsageFault → Usage → Type 0
 IsFaultOf fault (UnknownOption letter) = fault ≡ Some (unknown_option letter)
 IsFaultOf fault (MissingArgument letter) = fault ≡ Some (missing_argument letter)
@@ -62,12 +62,12 @@ IsFaultOf fault TooManyFiles = fault ≡ Some too_many_files
 IsFaultOf fault OutOfMemory = ⊥
 
 -- `IsUsageOf gs u`: the code's fault `u` is the first one of `gs`; or an allocation failed, which
--- happens only as a symbol is added to the table
+-- only happens when a symbol is added to the table
 abbrev pub IsUsageOf : List GivenInWords → Usage → Type 0
 IsUsageOf gs OutOfMemory = StoresSymbol gs
 IsUsageOf gs u = IsFaultOf (first_fault gs) u
 
--- `with_names l`: the listing with names added to what is listed already
+-- `with_names l`: the listing after one more `-s`
 abbrev pub with_names : Listing → Listing
 with_names Off = Names
 with_names Names = Names

@@ -1,10 +1,10 @@
--- Plans: the plan of a run, as the arguments of a command line set it.
+-- Plans: the plan of a run, as set by the arguments of a command line.
 --
 --   PlanState                a plan, as callers see it
 --   IsPlanOf args plan       the arguments have no fault, and the plan is theirs
---   PlanRepresents plan gs   the plan is that of these options and operands, without a fault
+--   PlanRepresents plan gs   the plan comes from these options and operands, without a fault
 --   ForOptionsOf plan P      `P` is true of the options that the plan represents
---   as_operand o             an operand, as the definitions have it
+--   as_operand o             an operand, as one of the definitions
 use Rattle.std.specs.Prelude.{◌≡◌, ℕ, List, Option, None}
 use Rattle.std.specs.List.{filter_map}
 use Rattle.ud_model.specs.declared.settings.Settings.{Settings}
@@ -44,6 +44,6 @@ abbrev pub ForOptionsOf : PlanState → (Options → Type 0) → Type 0
 ForOptionsOf plan P =
     (o : Options) → o.settings ≡ plan.settings → TableRepresents plan.symbols o.table → P o
 
--- `as_operand o`: the code's operand, as the definitions have it
+-- `as_operand o`: the code's operand, as one of the definitions
 abbrev pub as_operand : declared.Operand → Operand
 as_operand o = record { index = o.index; name = o.name.now }

@@ -1,11 +1,11 @@
--- SymbolStorage: arguments take memory only as a symbol of an option is added to the table.
+-- SymbolStorage: arguments take memory only when an option's symbol is added to the table.
 --
 --   StoresSymbol gs   `gs` has an option with a symbol, and no fault up to it
 use Rattle.std.specs.Prelude.{◌≡◌, List, [], ◌∷◌, ◌++◌, None, IsSome}
 use Rattle.ud_model.specs.answer.CommandLine.{ParsedArg, first_fault, argument_in}
 
--- `StoresSymbol gs`: one of the options `gs` defines or undefines a symbol, and there is no fault
--- up to that option
+-- `StoresSymbol gs`: one of the options `gs` defines or undefines a symbol, without a fault up to
+-- that option
 pub record StoresSymbol (gs : List ParsedArg) : Type 0 where
   pub before : List ParsedArg
   pub symbol : ParsedArg

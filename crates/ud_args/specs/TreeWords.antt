@@ -1,11 +1,11 @@
 -- TreeWords: what the words of unifdef-tree(1) ask for.
 --
 --   given_in words      what the words give, in reading order
---   first_fault gs      the first fault of the words, if there is one
+--   first_fault gs      the first fault of the words, if any
 --   has_flag letters gs   a flag with one of these letters is given
---   has_symbols gs      an option is given that names a symbol
+--   has_symbols gs      some option names a symbol
 --   unifdef_args gs     the options of unifdef(1)
---   word_at n gs        the option whose argument is in the word with the number `n`, as one word
+--   word_at n gs        as one word, the option whose argument is in the word with the number `n`
 --   patterns_in gs      the patterns of `-g`
 --   paths_in gs         the paths
 --
@@ -24,14 +24,14 @@ abbrev pub given_in : List (List ℕ) → List Parsed
 given_in words = parsed_words UnifdefTree words
 
 -- `is_fault g`: `g` is a fault of the words: a letter that is no option, an option without its
--- argument, or one after a path.
+-- argument, or an option after a path.
 abbrev pub is_fault : Parsed → Bool
 is_fault (unknown c) = true
 is_fault (lacking c) = true
 is_fault (late n w) = true
 is_fault _ = false
 
--- `first_fault gs`: the first fault of the words, if there is one.
+-- `first_fault gs`: the first fault of the words, if any.
 abbrev pub first_fault : List Parsed → Option Parsed
 first_fault [] = None
 first_fault (g ∷ gs) = if is_fault g then Some g else first_fault gs
@@ -50,7 +50,7 @@ abbrev pub names_symbol : Parsed → Bool
 names_symbol (option c n a) = has_letter (codes "DUi") c
 names_symbol _ = false
 
--- `has_symbols gs`: an option is given that names a symbol.
+-- `has_symbols gs`: some option names a symbol.
 abbrev pub has_symbols : List Parsed → Bool
 has_symbols gs = list_any names_symbol gs
 

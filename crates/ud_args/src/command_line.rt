@@ -1,8 +1,7 @@
-//! The words of a command line, read from the first letter to the last (POSIX XBD 12.2).
+//! The words of a command line, read letter by letter (POSIX XBD 12.2).
 //!
 //! Each step reads an option, with its argument if it takes one, or an operand. `programs` has the
-//! options of each program, and `options` finds the faults of an option's argument. Reading takes
-//! no memory.
+//! options of each program, and `options` checks their arguments. Reading takes no memory.
 
 ghost use Rattle.std.specs.Prelude.{◌≡◌, ◌∷◌, ◌+◌, map, chars, string_bytes};
 ghost use Rattle.std.specs.Prelude.{Some, None};
@@ -39,7 +38,7 @@ pub enum ParsedArg<'a> {
     MissingArgument {
         letter: char,
     },
-    /// A word with options that comes after an operand, and its index among the words.
+    /// A word with options after an operand, and its index among the words.
     Late {
         index: usize,
         name: &'a str,
@@ -51,11 +50,11 @@ pub enum ParsedArg<'a> {
 pub(crate) struct CommandLine<'a> {
     /// The program that has the options.
     program: Program,
-    /// The remaining letters of the word that was read last.
+    /// The remaining letters of the last word read.
     letters: &'a str,
     /// All words.
     words: &'a [String],
-    /// The number of words that were read.
+    /// The number of words read.
     read: usize,
     /// `true` if an operand was read; no letters remain then.
     after_operand: bool,
@@ -67,7 +66,7 @@ impl<'a> CommandLine<'a> {
     ghost use Rattle.ud_args.specs.ParsedArgs.{remaining, as_parsed, parsed_then, operands};
     ghost use Rattle.ud_args.specs.ParsedArgs.{next_words, after_letters, ordinary_word};
 
-    /// Returns the whole command line of these words, which are without the program's name.
+    /// Returns the whole command line of these words, the program's name excluded.
     pub(crate) fn new(program: Program, words: &'a [String]) -> CommandLine<'a>
         ensures { remaining result ≡ parsed_words program (map string_bytes words.now) }
     {
@@ -114,7 +113,7 @@ impl<'a> CommandLine<'a> {
         }
     }
 
-    /// Takes the word that was read last, which has this index and is neither `--` nor a long flag.
+    /// Reads from the last word read, which has this index and is neither `--` nor a long flag.
     fn option_or_operand(&self, index: usize, word: &'a str) -> (ParsedArg<'a>, CommandLine<'a>)
         requires { self.now.read ≡ index + 1 }
         ensures { ordinary_word self.now index word.now ≡
@@ -133,7 +132,7 @@ impl<'a> CommandLine<'a> {
         }
     }
 
-    /// Reads the next word as an operand, as all after it are.
+    /// Reads the next word as an operand, like all words after it.
     fn operand(&self) -> Option<(ParsedArg<'a>, CommandLine<'a>)>
         ensures { operands self.now ≡ parsed_then result }
     {
@@ -147,7 +146,7 @@ impl<'a> CommandLine<'a> {
         Some((ParsedArg::Operand { index, name }, after))
     }
 
-    /// Reads a letter of the word that was read last. The letters `after` follow it.
+    /// Reads a letter of the last word read. The letters `after` follow it.
     fn option(&self, letter: char, after: &'a str) -> (ParsedArg<'a>, CommandLine<'a>)
         ensures { after_letters self.now (letter ∷ chars after.now) ≡
             as_parsed result.0 ∷ remaining result.1 }
@@ -163,7 +162,7 @@ impl<'a> CommandLine<'a> {
     }
 
     /// Reads an option with its argument. The letters `after` follow the option's: they are its
-    /// argument or, if there are none, the next word is.
+    /// argument; if there are none, the next word is.
     fn option_with_argument(&self, letter: char, after: &'a str) -> (ParsedArg<'a>, CommandLine<'a>)
         ensures { option_then letter self.now.read (chars after.now) (next_words self.now
             (Some letter)) (next_words self.now None) ≡ as_parsed result.0 ∷ remaining result.1 }
@@ -212,7 +211,7 @@ impl<'a> CommandLine<'a> {
     }
 }
 
-/// Returns the option letters of a word; none if it is an operand.
+/// Returns the option letters of a word; none for an operand.
 fn option_letters(word: &str) -> &str
     ensures { chars result.now ≡ option_letters word.now }
 {

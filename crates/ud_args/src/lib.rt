@@ -1,12 +1,12 @@
 //! The command lines of unifdef(1) and unifdef-tree(1): their options and operands, and the symbols
 //! that the options define or undefine (POSIX XBD 12.2).
 //!
-//! `ud_model.specs.answer.CommandLine` defines what arguments of unifdef(1) mean, and when they are
-//! faulty. `specs/CommandLines.antt` defines what words give, for both programs.
+//! `ud_model.specs.answer.CommandLine` defines what the arguments of unifdef(1) mean, and when they
+//! are faulty. `specs/CommandLines.antt` defines what words give, for both programs.
 //!
 //! `command_line` reads the words, one option or operand after another, by the letters of
 //! `programs`. `options` returns the setting of each, or its fault, and `parse` adds the setting to
-//! the plan of a run. `tree_words` has what is unifdef-tree's alone.
+//! the plan of a run. `tree_words` is for unifdef-tree alone.
 #![tactic(auto)]
 
 mod command_line;

@@ -35,14 +35,13 @@ pub(crate) enum Setting<'a> {
     Flag { letter: char },
     /// The exit mode.
     Mode { mode: ExitMode },
-    /// A symbol that is defined or undefined.
+    /// A symbol to define or undefine.
     Symbol { symbol: Symbol<'a> },
     /// An operand, and its index among the arguments, counted from 0.
     Operand { index: usize, name: &'a [u8] },
 }
 
-/// Returns the setting of the next option or operand. `behind_operand` is whether an operand came
-/// before.
+/// Returns the setting of the next option or operand. `behind_operand`: an operand came before.
 ///
 /// # Errors
 /// `TooManyFiles` after an operand, else the fault of an option. Takes no memory.
@@ -88,7 +87,7 @@ fn parse_setting<'a>(given: ParsedArg<'a>) -> Result<Setting<'a>, Usage>
 }
 
 /// Returns the setting of an option with its argument. `word` is the number of the command-line
-/// argument that contains the option's.
+/// argument that has the option's argument.
 fn parse_option_with_argument(
     letter: char,
     word: usize,
@@ -146,7 +145,7 @@ fn parse_ignoring_symbol(argument: &[u8]) -> Option<Symbol<'_>>
     }
 }
 
-/// Parses `NAME` or `NAME=VALUE` as a symbol that is defined.
+/// Parses `NAME` or `NAME=VALUE` as a symbol to define.
 fn parse_define(argument: &[u8], ignoring: bool) -> Option<Symbol<'_>>
     ensures { option_map as_argument result ≡ parse_define ignoring argument.now }
 {
@@ -158,7 +157,7 @@ fn parse_define(argument: &[u8], ignoring: bool) -> Option<Symbol<'_>>
     }
 }
 
-/// Parses a name as a symbol that is undefined.
+/// Parses a name as a symbol to undefine.
 fn parse_undefine(argument: &[u8], ignoring: bool) -> Option<Symbol<'_>>
     ensures { option_map as_argument result ≡ parse_undefine ignoring argument.now }
 {
@@ -180,7 +179,7 @@ fn symbol_named<'a>(name: &'a [u8], value: Option<&'a [u8]>, ignoring: bool) -> 
     })
 }
 
-/// Returns the number of bytes before the first `=`, or the number of all bytes if there is none.
+/// Returns the number of bytes before the first `=`, or of all bytes if there is none.
 fn name_len(argument: &[u8]) -> usize
     ensures bound { result ≤ length argument.now }
     ensures name { take result argument.now ≡ name_before_equals argument.now }
@@ -192,7 +191,7 @@ fn name_len(argument: &[u8]) -> usize
         .unwrap_or(argument.len())
 }
 
-/// Returns the settings with one more flag. Of two listings, the one with depths counts.
+/// Returns the settings with one more flag. A listing with depths overrides one without.
 pub(crate) fn with_flag(settings: Settings, letter: char) -> Settings
     ensures { result ≡ with_flag settings letter }
 {
@@ -233,7 +232,7 @@ pub(crate) fn with_flag(settings: Settings, letter: char) -> Settings
     }
 }
 
-/// Returns the listing with names added to what is listed already.
+/// Returns the listing after one more `-s`.
 fn with_names(listing: Listing) -> Listing
     ensures { result ≡ with_names listing }
 {

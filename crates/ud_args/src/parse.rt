@@ -16,17 +16,17 @@ use std::alloc::Global;
 
 /// Parses the arguments of a command line, without the program's name, into the plan of a run.
 ///
-/// An argument that starts with `-` and is longer consists of option letters, up to the first
-/// operand or `--`. An option's own argument is the rest after its letter or, if that is empty,
-/// the whole next argument. Memory is taken for the symbols alone.
+/// Up to the first operand or `--`, an argument of `-` and more consists of option letters. An
+/// option's own argument is the rest after its letter or, if that is empty, the whole next
+/// argument. Memory is taken only for the symbols.
 ///
 /// # Errors
-/// The first fault in reading order: `UnknownOption`, `MissingArgument`, `BadSymbol`, `BadMode`,
-/// or `TooManyFiles` at the argument after an operand.
+/// The first fault in reading order: `UnknownOption`, `MissingArgument`, `BadSymbol`, `BadMode`, or
+/// `TooManyFiles` for the argument after an operand.
 ///
-/// `OutOfMemory` if an allocation fails as a symbol is added, or as the table is made. The
-/// arguments up to some symbol have no fault then. Arguments without a valid `-D`, `-U` or `-i`
-/// before their first fault never give this error.
+/// `OutOfMemory` if an allocation fails while a symbol is added or the table is made. The arguments
+/// up to some symbol then have no fault. Arguments without a valid `-D`, `-U` or `-i` before their
+/// first fault never give this error.
 ///
 /// (POSIX XBD 12.2, unifdef(1))
 ///
@@ -74,7 +74,7 @@ pub fn input_of(args: &[String]) -> Option<usize>
 
 /// Returns the input's name in messages: the operand, or `stdin` if there is none or it is `-`.
 ///
-/// `plan` is that of the arguments. Takes no memory.
+/// `plan` is the arguments' plan. Takes no memory.
 pub fn display_name<'a>(plan: &Plan, args: &'a [String]) -> &'a [u8]
     ensures { IsPlanOf (map string_bytes args.now) plan.now →
         result.now ≡ display_name (map string_bytes args.now) }
@@ -85,7 +85,7 @@ pub fn display_name<'a>(plan: &Plan, args: &'a [String]) -> &'a [u8]
     }
 }
 
-/// Returns the operand of the arguments. `plan` is that of the arguments.
+/// Returns the operand of the arguments. `plan` is their plan.
 fn operand_in<'a>(plan: &Plan, args: &'a [String]) -> Option<Operand<'a>>
     ensures { IsPlanOf (map string_bytes args.now) plan.now →
         option_map as_operand result ≡ operand_in (parsed_args (map string_bytes args.now)) }

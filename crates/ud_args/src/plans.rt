@@ -1,4 +1,4 @@
-//! The plan of a run, as the arguments of a command line set it.
+//! The plan of a run, as set by the arguments of a command line.
 
 ghost use Rattle.std.specs.Prelude.{◌≡◌, ◌++◌, ◌∷◌, [], List, None, IsSome, OnOk, IfOk, IfErr};
 ghost use Rattle.ud_model.specs.conditions.Table.{Argument};
@@ -42,8 +42,7 @@ impl Model for Plan {
 }
 
 impl Plan {
-    /// Returns the settings as given: `renumber` stays true beside `blank`, and both beside a
-    /// listing.
+    /// Returns the settings as given: `renumber` stays true with `blank`, and both with a listing.
     pub fn settings(&self) -> Settings
         ensures { result ≡ self.now.settings }
     {
@@ -66,7 +65,7 @@ impl Plan {
     }
 }
 
-/// A plan that is being made of options and operands.
+/// A plan in the making, from options and operands.
 #[derive(Drop)]
 pub(crate) struct PlanDraft {
     /// The settings so far.
@@ -91,7 +90,7 @@ impl Model for PlanDraft {
 }
 
 impl PlanDraft {
-    /// Returns the draft of no arguments. Its symbols take memory from `alloc`.
+    /// Returns a draft without arguments. Its symbols take memory from `alloc`.
     pub(crate) fn new(alloc: Global) -> PlanDraft
         ensures { PlanRepresents result [] }
     {
@@ -105,8 +104,8 @@ impl PlanDraft {
     /// Adds the next option or operand.
     ///
     /// # Errors
-    /// The fault of `given`. If `given` is valid and sets a symbol, `OutOfMemory` if the allocation
-    /// for the symbol fails. The draft is then of no use.
+    /// The fault of `given`. Or `OutOfMemory`, if `given` is valid and sets a symbol, and the
+    /// allocation for it fails. The draft is then useless.
     pub(crate) fn apply(&mut self, given: ParsedArg<'_>) -> Result<(), Usage>
         ensures ok { (gs : List GivenInWords) → PlanRepresents self.old gs →
             OnOk result (PlanRepresents self.new (gs ++ parsed_arg given.entry ∷ [])) }
@@ -151,7 +150,7 @@ impl PlanDraft {
     /// Adds a symbol.
     ///
     /// # Errors
-    /// `OutOfMemory` if an allocation fails. The name is valid, so there is no other reason.
+    /// `OutOfMemory` if an allocation fails. The name is valid, so nothing else can fail.
     fn set_symbol(&mut self, symbol: Symbol<'_>) -> Result<(), Usage>
         ensures ok { OnOk result (self.new.symbols ≡
             self.old.symbols ++ as_argument symbol.entry ∷ []) }

@@ -39,7 +39,7 @@ impl Program {
         letters.contains(&letter)
     }
 
-    /// Returns the letter of the flag that a word is, if it is one.
+    /// Returns the letter of a long flag, if the word is one.
     pub(crate) fn long_flag(self, word: &str) -> Option<char>
         ensures { result ≡ long_flag self word.now }
     {

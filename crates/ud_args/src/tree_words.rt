@@ -1,4 +1,4 @@
-//! What the words of unifdef-tree(1) give, and the plan of the options of unifdef(1) among them.
+//! What the words of unifdef-tree(1) give, and the plan by the options of unifdef(1) among them.
 
 ghost use Rattle.std.specs.Prelude.{◌≡◌, ◌∷◌, [], IfOk, IfErr, map, string_bytes, option_map};
 ghost use Rattle.ud_args.specs.ParsedArgs.{as_parsed, parsed};
@@ -13,7 +13,7 @@ use crate::programs::Program;
 use crate::usage::Usage;
 use std::alloc::{AllocError, Global};
 
-/// Returns what the words of a command line give, in reading order. They are without the program's
+/// Returns what the words of a command line give, in reading order. They exclude the program's
 /// name.
 ///
 /// # Errors
@@ -44,7 +44,7 @@ pub fn has_flag(given: &[ParsedArg<'_>], letter: char) -> bool
     false
 }
 
-/// Returns whether an option is given that names a symbol.
+/// Returns whether some option names a symbol.
 pub fn has_symbols(given: &[ParsedArg<'_>]) -> bool
     ensures { result ≡ has_symbols (parsed given.now) }
 {
@@ -108,7 +108,7 @@ fn is_unifdef_option(given: ParsedArg<'_>) -> bool
     }
 }
 
-/// Returns the plan of the options of unifdef(1).
+/// Returns the plan by the options of unifdef(1).
 ///
 /// # Errors
 /// Their first fault, `BadSymbol` or `BadMode`. `OutOfMemory` if an allocation fails.
@@ -125,7 +125,7 @@ pub fn plan_among(alloc: Global, given: &[ParsedArg<'_>]) -> Result<Plan, Usage>
     draft.into_plan()
 }
 
-/// Returns the option whose argument is in the word with this number, as one word. Returns the
+/// Returns, as one word, the option whose argument is in the word with this number. Returns the
 /// empty word if there is none.
 ///
 /// # Errors

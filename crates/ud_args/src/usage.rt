@@ -1,12 +1,10 @@
-//! The faults of a command line, as data. The messages that the tool writes are in
-//! the crate unifdef.
+//! The faults of a command line, as data. The crate unifdef has the tool's messages.
 
 use thiserror::Error;
 
-/// A fault of a command line, or the lack of memory for the command line.
+/// A fault of a command line, or a lack of memory for it.
 ///
-/// Arguments are counted from 1, without the program's name. The texts of `Display` aren't
-/// guaranteed.
+/// Arguments are counted from 1, without the program's name. The texts of `Display` may change.
 #[derive(Clone, Copy, Debug, PartialEq, Eq, Error)]
 pub enum Usage {
     /// A letter that is no option.

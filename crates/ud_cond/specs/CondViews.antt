@@ -1,4 +1,4 @@
--- CondViews: the program's values as those of the definitions.
+-- CondViews: the program's values as values of the definitions.
 use Rattle.std.specs.Prelude.{List, ℕ, Bool, Option, option_map}
 use Rattle.ud_cond.specs.declared.symbols.Entry as entry
 use Rattle.ud_cond.specs.declared.conditions.Rules as rules

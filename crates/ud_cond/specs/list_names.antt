@@ -1,2 +1,2 @@
--- The names of a directive's text.
+-- The names in a directive's text.
 pub mod NameLists

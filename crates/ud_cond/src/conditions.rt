@@ -22,8 +22,7 @@ use ud_model::{Cond, Kind, Role, Test};
 /// The options for the values of expressions.
 #[derive(Clone, Copy, Debug, PartialEq, Eq)]
 pub struct Rules {
-    /// `true` if expressions without a symbol of the table have values too, and aren't unknown
-    /// (`-k`).
+    /// `true` if expressions without a symbol of the table have values too (`-k`).
     pub constants: bool,
     /// `true` if `&&` and `||` are unknown whenever an operand is (`-K`).
     pub strict: bool,
@@ -53,7 +52,7 @@ pub(crate) fn cond_of_value(rules: Rules, value: Value) -> Cond
 }
 
 /// Returns the condition that the value of a text decides in a scope, if the text suits the fast
-/// path and has no `u`. Most texts do.
+/// path and has no `u`, as most do.
 #[inline(never)]
 pub(crate) fn fast_cond(scope: &Scope<'_>, rules: Rules, text: &[u8]) -> Option<Cond>
     ensures { IfSome result (λ cond. DecidesFast scope.now (as_rules rules) text.now cond) }
@@ -113,7 +112,7 @@ fn general_expression_cond(text: &[u8], symbols: &Symbols, rules: Rules) -> Cond
     }
 }
 
-/// Returns the one identifier that a text is, but for white space around it.
+/// Returns the identifier that is the whole text, white space around it aside.
 #[inline(always)]
 pub(crate) fn sole_name(text: &[u8]) -> Option<&[u8]>
     ensures { option_map (λ n. n.now) result ≡ spec.sole_name text.now }
@@ -219,9 +218,9 @@ fn condition_by_kind(kind: Kind, text: &[u8], symbols: &Symbols, rules: Rules) -
 /// Returns the condition of a directive that no continuation cuts, and whether its section is
 /// plain text.
 ///
-/// `text` is what follows the keyword on its masked line, at most `LINE_BYTES`. The result is that
-/// of the list of calls that `symbols` represents. Text that isn't understood is unknown, and so
-/// are `#else` and `#endif`. Takes no memory.
+/// `text` is what follows the keyword on its masked line, at most `LINE_BYTES`. The result depends
+/// only on the calls that `symbols` represents. Text that isn't understood is unknown, and so are
+/// `#else` and `#endif`. Takes no memory.
 ///
 /// (C11 6.10.1; unifdef(1), `-D`, `-U`, `-iD`, `-iU`, `-k` and `-K`)
 ///

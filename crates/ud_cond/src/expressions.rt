@@ -1,13 +1,13 @@
 //! Evaluates the expressions of `#if` and `#elif` (C11 6.10.1).
 //!
 //! `fast_path` evaluates the common ones, in which few operators are pending and only `defined` has
-//! parentheses. `reader` reads every other one, over the two stacks of `stacks`. Both read the text
-//! by `tokens`, build no tree and allocate nothing. What the reader keeps of a part is up to its
-//! `keeper.Keeper`.
+//! parentheses. `reader` reads all others, with the two stacks of `stacks`. Both read the text
+//! through `tokens`, build no tree and allocate nothing. The reader's `keeper.Keeper` determines
+//! what it keeps of each part.
 //!
-//! `evaluation` keeps the value of each part, `values.Value`: `constants` has those of constants,
-//! and `operators` the precedence of each operator. `residuals` keeps a `parts.Part`, and so finds
-//! which tokens are left of an expression without the operands that the table decides.
+//! `evaluation` keeps the value of each part, a `values.Value`; `constants` evaluates constants,
+//! and `operators` has the precedence of each operator. `residuals` keeps a `parts.Part`, and so
+//! finds which tokens are left without the operands that the table decides.
 //!
 //! A new operator needs a token, a precedence, and its value in `values`.
 

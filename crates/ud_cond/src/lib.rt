@@ -1,7 +1,7 @@
-//! The table of symbols, and the conditions that it decides.
+//! The table of symbols, and the conditions it decides.
 //!
-//! `ud_model.specs.conditions.Table` defines what a list of calls says of a name, and
-//! `ud_model.specs.conditions.Conditions` what a condition is.
+//! `ud_model.specs.conditions.Table` defines the entries that a list of calls gives names, and
+//! `ud_model.specs.conditions.Conditions` the decision on a directive.
 //! `specs.symbols.SymbolTable` defines what a `Symbols` represents and how its rows are sorted,
 //! `specs.symbols.NameFilters` which names are known to be unlisted without a search,
 //! `specs.expressions.Evaluation` the value that `fast_path` or `evaluation` has of an expression,

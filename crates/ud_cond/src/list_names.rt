@@ -34,7 +34,7 @@ fn is_expression(text: &[u8]) -> bool
     evaluate(&scope, text).is_some()
 }
 
-/// Returns the names of an expression, in order and with repeats; none if the text isn't one.
+/// Returns the names of an expression, in order and with repeats; none if `text` isn't one.
 fn expression_names(text: &[u8]) -> Names<'_>
     requires fits { length text.now ≤ LINE_BYTES }
     ensures { result ≡ names_in_tree (expression_of text.now) }
@@ -46,7 +46,7 @@ fn expression_names(text: &[u8]) -> Names<'_>
     }
 }
 
-/// Returns the one name that a text is, but for white space around it; else none.
+/// Returns the name that is the whole text, white space around it aside; else none.
 #[inline(never)]
 fn single_name(text: &[u8]) -> Names<'_>
     ensures { result ≡ name_alone (sole_name text.now) }
@@ -61,7 +61,7 @@ fn single_name(text: &[u8]) -> Names<'_>
 ///
 /// An `#if` or `#elif` has the names of its operands and of each `defined`, but none inside
 /// arguments. An `#ifdef`, `#ifndef`, `#elifdef` or `#elifndef` has its one name. Text that isn't
-/// understood has no names, and neither have `#else` and `#endif`.
+/// understood has no names, nor do `#else` and `#endif`.
 ///
 /// `text` is what follows the keyword on its masked line, at most `LINE_BYTES`. Takes no memory.
 ///

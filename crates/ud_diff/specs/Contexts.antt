@@ -1,20 +1,20 @@
 -- Contexts: the lines that hunks show around changes (POSIX XCU, diff -u and patch).
 --
---   context                how many kept lines are shown before changes, and after them
+--   context                the number of kept lines shown before and after changes
 --   AreKept ls             each of the lines is in both texts
---   AreChanges ls          changes, with few kept lines between each and the next
+--   AreChanges ls          changes, with few kept lines in between
 --   IsContext ls AtEdge    a context, of fewer lines only at the edge of the texts
 --   HasContext old new h   a hunk has changes, and contexts before and after them
---   IsBefore h k           a hunk ends before another one begins, and a line is between them
+--   IsBefore h k           a hunk ends before another one begins, with a line in between
 --
 -- Example: of ten lines, the hunk that removes the sixth one begins with the third line and ends
 -- with the ninth. The hunk that removes the second line begins with the first one and ends with the
--- fifth. The second and the ninth line are removed by one hunk, since their contexts meet.
+-- fifth. One hunk removes the second and the ninth line, since their contexts meet.
 use Rattle.std.specs.Prelude.{◌≡◌, ℕ, ◌+◌, ◌*◌, ◌<◌, ◌≤◌, List, [], ◌∷◌, ◌++◌, length, true, false}
 use Rattle.std.specs.Prelude.{All}
 use Rattle.ud_diff.specs.Hunks.{SignedLine, Hunk, old_lines, new_lines, is_change}
 
--- `context`: how many kept lines are shown before changes, and as many after them.
+-- `context`: the number of kept lines shown before changes, and after them.
 abbrev pub context : ℕ
 context = 3
 
@@ -26,25 +26,25 @@ IsKept l = is_change l.sign ≡ false
 abbrev pub AreKept : List SignedLine → Type 0
 AreKept ls = All IsKept ls
 
--- `AreChanges ls`: the lines begin and end with a change, and between a change and the next are at
--- most as many kept lines as two contexts have.
+-- `AreChanges ls`: the lines begin and end with a change, and from one change to the next there are
+-- at most as many kept lines as two contexts have.
 pub data AreChanges : List SignedLine → Type 0 where
   one : (l : SignedLine) → is_change l.sign ≡ true → AreChanges (l ∷ [])
   more : (ls kept : List SignedLine) (l : SignedLine) → AreChanges ls → AreKept kept →
       length kept ≤ 2 * context → is_change l.sign ≡ true → AreChanges (ls ++ (kept ++ l ∷ []))
 
--- `IsContext ls AtEdge`: the lines are kept ones, and as many as a context has. There may be fewer
--- where `AtEdge` is true.
+-- `IsContext ls AtEdge`: the lines are kept, and as many as a context has; there may be fewer if
+-- `AtEdge` is true.
 pub record IsContext (ls : List SignedLine) (AtEdge : Type 0) : Type 0 where
   pub kept : AreKept ls
   pub few : length ls ≤ context
   pub fewer : length ls < context → AtEdge
 
--- `old_end h`: how many lines of the old text come before the hunk or are in it.
+-- `old_end h`: the number of lines of the old text before the hunk or in it.
 abbrev pub old_end : Hunk → ℕ
 old_end h = h.old_before + length (old_lines h.lines)
 
--- `new_end h`: how many lines of the new text come before the hunk or are in it.
+-- `new_end h`: the number of lines of the new text before the hunk or in it.
 abbrev pub new_end : Hunk → ℕ
 new_end h = h.new_before + length (new_lines h.lines)
 
@@ -56,8 +56,8 @@ BeginsTexts h = (h.old_before ≡ 0) × (h.new_before ≡ 0)
 abbrev pub EndsTexts : List (List ℕ) → List (List ℕ) → Hunk → Type 0
 EndsTexts old new h = (old_end h ≡ length old) × (new_end h ≡ length new)
 
--- `HasContext old new h`: the hunk has changes, and a context before them and after them. `old` and
--- `new` are the lines of both texts.
+-- `HasContext old new h`: the hunk has changes, and contexts before and after them. `old` and `new`
+-- are the lines of both texts.
 pub record HasContext (old new : List (List ℕ)) (h : Hunk) : Type 0 where
   pub before : List SignedLine
   pub changes : List SignedLine
@@ -67,6 +67,6 @@ pub record HasContext (old new : List (List ℕ)) (h : Hunk) : Type 0 where
   pub begins : IsContext before (BeginsTexts h)
   pub ends : IsContext after (EndsTexts old new h)
 
--- `IsBefore h k`: the hunk `h` ends before `k` begins, and a line is between them.
+-- `IsBefore h k`: the hunk `h` ends before `k` begins, with a line in between.
 abbrev pub IsBefore : Hunk → Hunk → Type 0
 IsBefore h k = (old_end h < k.old_before) × (new_end h < k.new_before)

@@ -7,9 +7,9 @@
 --   path_text path            the name of a file, in quotes if it needs them
 --   diff_text path hunks      the names of the file, and the hunks
 --
--- Example: the range of two lines after one other is `2,2`, that of one line after it `2`, and that
--- of no line after it `1,0`. The name `a"b` is printed as `"a\042b"`, as patch and git read it, and
--- the path `.//./a.c` as `a.c`.
+-- Example: after one other line, the range of two lines is `2,2`, of one line `2`, and of no line
+-- `1,0`. The name `a"b` is printed as `"a\042b"`, as patch and git read it, and the path `.//./a.c`
+-- as `a.c`.
 use Rattle.std.specs.Prelude.{ℕ, ◌+◌, ◌==◌, nat_eq, List, [], ◌∷◌, ◌++◌, length, codes, decimal}
 use Rattle.std.specs.Prelude.{if◌then◌else◌, Bool, ◌&&◌, ◌||◌, ◌/◌, ◌%◌, nat_lt}
 use Rattle.std.specs.List.{starts_with, ends_with, flat_map, list_any}
@@ -18,8 +18,8 @@ use Rattle.ud_diff.specs.declared.line.Sign.{Sign}
 use Rattle.ud_diff.specs.declared.line.Sign.TheVariants.{Kept, Removed, Added}
 use Rattle.ud_diff.specs.Hunks.{SignedLine, Hunk, old_lines, new_lines}
 
--- `range_text before count`: the number of the first of `count` lines that come after `before`
--- others, or of the line before if there are none. Then a comma and the count, unless it is 1.
+-- `range_text before count`: the number of the first of `count` lines after `before` others, or of
+-- the line before if `count` is 0. Then a comma and the count, unless it is 1.
 unfoldable pub range_text : ℕ → ℕ → List ℕ
 range_text before count = decimal (if count == 0 then before else before + 1) ++
     (if count == 1 then [] else 44 ∷ decimal count)
@@ -57,13 +57,13 @@ hunk_text h = ranges_text h.old_before (length (old_lines h.lines)) h.new_before
 abbrev pub is_dropped : ℕ → List ℕ → Bool
 is_dropped b rest = b == 47 || (b == 46 && starts_with nat_eq rest (47 ∷ []))
 
--- `after_dots path`: the path without the slashes at its beginning, and the dots before them.
+-- `after_dots path`: the path without leading slashes, and the dots before them.
 unfoldable pub after_dots : List ℕ → List ℕ
 after_dots [] = []
 after_dots (b ∷ rest) = if is_dropped b rest then after_dots rest else b ∷ rest
 
--- `without_dots path`: the path without each `./` at its beginning, and the slashes after those. An
--- absolute path stays.
+-- `without_dots path`: the path without each leading `./`, and the slashes after it. An absolute
+-- path stays.
 abbrev pub without_dots : List ℕ → List ℕ
 without_dots path = if starts_with nat_eq path (46 ∷ 47 ∷ []) then after_dots path else path
 
@@ -71,12 +71,12 @@ without_dots path = if starts_with nat_eq path (46 ∷ 47 ∷ []) then after_dot
 abbrev pub is_special : ℕ → Bool
 is_special b = nat_lt b 32 || b == 34 || b == 92 || b == 127
 
--- `escaped b`: the byte `b` in a quoted name: a special one by its three octal digits.
+-- `escaped b`: the byte `b` in a quoted name: a special one as three octal digits.
 unfoldable pub escaped : ℕ → List ℕ
 escaped b = if is_special b then 92 ∷ (48 + b / 64) ∷ (48 + b / 8 % 8) ∷ (48 + b % 8) ∷ []
     else b ∷ []
 
--- `tab_after path`: a tab, if the name of a file has a space, since else it would end there.
+-- `tab_after path`: a tab if the name of a file has a space, since it would end there otherwise.
 abbrev pub tab_after : List ℕ → List ℕ
 tab_after path = if list_any (λ b. b == 32) path then 9 ∷ [] else []
 
@@ -84,8 +84,7 @@ tab_after path = if list_any (λ b. b == 32) path then 9 ∷ [] else []
 abbrev pub quoted_text : List ℕ → List ℕ
 quoted_text path = 34 ∷ (flat_map escaped path ++ 34 ∷ [])
 
--- `is_quoted path`: a name with a special byte is quoted, and so is one that begins or ends with a
--- space.
+-- `is_quoted path`: a name is quoted if it has a special byte, or begins or ends with a space.
 abbrev pub is_quoted : List ℕ → Bool
 is_quoted path = list_any is_special path || starts_with nat_eq path (32 ∷ []) ||
     ends_with nat_eq path (32 ∷ [])

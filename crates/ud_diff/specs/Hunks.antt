@@ -1,7 +1,7 @@
 -- Hunks: the hunks of a unified diff (POSIX XCU, diff -u), as data.
 --
 --   SignedLine      a line after its sign
---   Hunk            lines that change, between some that stay
+--   Hunk            lines that change, among some that stay
 --   old_lines ls    the lines of the old text among signed lines
 --   new_lines ls    the lines of the new text among them
 --   turned h        the hunk that changes the new text back
@@ -17,7 +17,7 @@ pub record SignedLine : Type 0 where
   pub sign : Sign
   pub bytes : List ℕ
 
--- A hunk: how many lines come before it in the old text and in the new one, and its lines.
+-- A hunk: the numbers of lines before it in the old and the new text, and its lines.
 pub record Hunk : Type 0 where
   pub old_before : ℕ
   pub new_before : ℕ
@@ -35,7 +35,7 @@ is_new Kept = true
 is_new Removed = false
 is_new Added = true
 
--- `is_change sign`: a line with this sign is in one text alone.
+-- `is_change sign`: a line with this sign is in only one of the texts.
 abbrev pub is_change : Sign → Bool
 is_change Kept = false
 is_change Removed = true
@@ -49,7 +49,7 @@ old_lines ls = map (λ l. l.bytes) (filter (λ l. is_old l.sign) ls)
 abbrev pub new_lines : List SignedLine → List (List ℕ)
 new_lines ls = map (λ l. l.bytes) (filter (λ l. is_new l.sign) ls)
 
--- `turned_sign sign`: the sign if old and new are exchanged.
+-- `turned_sign sign`: the sign if old and new are swapped.
 abbrev pub turned_sign : Sign → Sign
 turned_sign Kept = Kept
 turned_sign Removed = Added
@@ -59,7 +59,7 @@ turned_sign Added = Removed
 abbrev pub turned_line : SignedLine → SignedLine
 turned_line l = record { sign = turned_sign l.sign; bytes = l.bytes }
 
--- `turned h`: the hunk `h` with old and new exchanged.
+-- `turned h`: the hunk `h` with old and new swapped.
 abbrev pub turned : Hunk → Hunk
 turned h = record {
   old_before = h.new_before;

@@ -1,4 +1,4 @@
--- Patching: what hunks make of the lines of a text (POSIX XCU, patch).
+-- Patching: how hunks change the lines of a text (POSIX XCU, patch).
 --
 --   rest_after wanted lines        the lines after `wanted`, if the lines begin with them
 --   patched_from done hunks lines  the new lines, if `done` lines come before these old ones
@@ -6,10 +6,10 @@
 --   Turns hunks old new            the hunks turn all of `old` into all of `new`
 --   IsDiff path old new bytes      a diff that turns the text `old` into `new`, and back
 --
--- What a context is, and when a hunk is before another, is in Contexts.
+-- Contexts defines contexts, and when a hunk is before another.
 --
--- Example: the hunk before which one line comes, and which removes the line `b` and adds `c`, makes
--- the lines `a`, `c` of the lines `a`, `b`. Of `a`, `d` it makes nothing.
+-- Example: the hunk after one line that removes the line `b` and adds `c` turns the lines `a`, `b`
+-- into `a`, `c`. It doesn't fit `a`, `d`.
 use Rattle.std.specs.Prelude.{◌≡◌, ℕ, ◌+◌, ◌-◌, List, [], ◌∷◌, ◌++◌, length, take, drop, map, ◌&&◌}
 use Rattle.std.specs.Prelude.{Option, Some, None, option_and_then, option_map, nat_le, bytes_eq}
 use Rattle.std.specs.Prelude.{if◌then◌else◌, Bool, All, AllPairs}
@@ -24,13 +24,13 @@ rest_after [] lines = Some lines
 rest_after (w ∷ ws) [] = None
 rest_after (w ∷ ws) (l ∷ ls) = if bytes_eq w l then rest_after ws ls else None
 
--- `is_within done h lines`: the hunk `h` begins at one of these old lines, before which `done`
--- others come, or at their end.
+-- `is_within done h lines`: the hunk `h` begins at one of these old lines, which come after `done`
+-- others, or at their end.
 abbrev pub is_within : ℕ → Hunk → List (List ℕ) → Bool
 is_within done h lines = nat_le done h.old_before && nat_le (h.old_before - done) (length lines)
 
--- `patched_from done hunks lines`: what the hunks make of the old lines `lines`, before which
--- `done` others come. Each hunk must begin among them, and its old lines must be there.
+-- `patched_from done hunks lines`: the result of the hunks for the old lines `lines`, which come
+-- after `done` others. Each hunk must begin among them, and its old lines must be there.
 abbrev pub patched_from : ℕ → List Hunk → List (List ℕ) → Option (List (List ℕ))
 patched_from done [] lines = Some lines
 patched_from done (h ∷ hunks) lines =
@@ -40,11 +40,11 @@ patched_from done (h ∷ hunks) lines =
     (rest_after (old_lines h.lines) (drop (h.old_before - done) lines))
     else None
 
--- `patched hunks lines`: what the hunks make of the lines of a text; none if they don't fit them.
+-- `patched hunks lines`: the result of the hunks for the lines of a text; None if they don't fit.
 abbrev pub patched : List Hunk → List (List ℕ) → Option (List (List ℕ))
 patched hunks lines = patched_from 0 hunks lines
 
--- `Turns hunks old new`: the hunks turn the lines `old` into `new`. Where no hunk is, lines stay.
+-- `Turns hunks old new`: the hunks turn the lines `old` into `new`. Lines outside hunks stay.
 pub data Turns : List Hunk → List (List ℕ) → List (List ℕ) → Type 0 where
   nothing : Turns [] [] []
   stay : (hunks : List Hunk) (old new : List (List ℕ)) (ls : List (List ℕ)) → Turns hunks old new →
@@ -55,7 +55,7 @@ pub data Turns : List Hunk → List (List ℕ) → List (List ℕ) → Type 0 wh
 
 -- `IsDiff path old new bytes`: `bytes` are the printed form of hunks for the file `path`. Applied
 -- to the text `old` they give `new`, and turned round and applied to `new` they give `old`. Each
--- hunk has changes and their contexts, and ends before the later ones begin.
+-- hunk has changes and their contexts, and ends before later ones begin.
 pub record IsDiff (path old new bytes : List ℕ) : Type 0 where
   pub hunks : List Hunk
   pub printed : bytes ≡ diff_text path hunks

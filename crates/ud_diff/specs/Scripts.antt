@@ -1,18 +1,18 @@
--- Scripts: the lines of two texts with their signs, as far as the texts are read.
+-- Scripts: the lines of two texts with their signs, as far as read.
 --
---   signed line              a line of the program, as a signed one
+--   signed line              a line of the program, as a signed line
 --   signed_lines lines       several of them
 --   Extends s t              the script `t` has more of the same two texts than `s`
 --   IsScript old new lines   `lines` are all lines of the two texts
 --   hunk_of m n lines        the hunk of these lines
 --   AppendsHunks lines old new   hunks that turn the old lines into the new ones are appended
 --   between i j lines        the lines from the position `i` up to `j`
---   BeginsWithChange lines   the first line is in one text alone
---   gap                      how many kept lines end a hunk
+--   BeginsWithChange lines   the first line is in only one text
+--   gap                      the number of kept lines that ends a hunk
 --   IsNextHunk lines from start end   where the next changes and their contexts are
 --
--- Example: a script has ten lines, of which the sixth changes. From its beginning on, the next hunk
--- begins at the position 2 and ends at 9.
+-- Example: in a script of ten lines whose sixth line changes, the first hunk begins at the position
+-- 2 and ends at 9.
 use Rattle.std.specs.Prelude.{◌≡◌, ℕ, ◌+◌, ◌-◌, ◌*◌, ◌≤◌, List, [], ◌∷◌, ◌++◌, map, take, drop}
 use Rattle.std.specs.Prelude.{length, true, min, max, All, AllPairs}
 use Rattle.ud_model.specs.text.Lines.{texts_of}
@@ -32,15 +32,15 @@ signed line = record { sign = line.sign; bytes = line.bytes.now }
 abbrev pub signed_lines : List DiffLine → List SignedLine
 signed_lines lines = map signed lines
 
--- `Extends s t`: `t` is `s` after some lines were taken from the rests of the two texts.
+-- `Extends s t`: `t` is `s` after some lines were taken from the rest of either text.
 pub record Extends (s t : Script) : Type 0 where
   pub taken : List DiffLine
   pub lines : t.lines.items ≡ s.lines.items ++ taken
   pub old : texts_of s.old_rest.now ≡ old_lines (signed_lines taken) ++ texts_of t.old_rest.now
   pub new : texts_of s.new_rest.now ≡ new_lines (signed_lines taken) ++ texts_of t.new_rest.now
 
--- `IsScript old new lines`: the old ones of the lines are those of the text `old`, and the new ones
--- those of `new`.
+-- `IsScript old new lines`: the old ones among `lines` are the lines of the text `old`, and the new
+-- ones the lines of `new`.
 pub record IsScript (old new : List ℕ) (lines : List SignedLine) : Type 0 where
   pub old_are : old_lines lines ≡ texts_of old
   pub new_are : new_lines lines ≡ texts_of new
@@ -55,7 +55,7 @@ hunk_of old_before new_before lines = record {
 
 -- `AppendsHunks lines old new`: the printed form of hunks is appended to the bytes `old`, which are
 -- then `new`. The hunks turn the old ones of the lines into the new ones. Each hunk has changes and
--- their contexts, and ends before the later ones begin.
+-- their contexts, and ends before later ones begin.
 pub record AppendsHunks (lines : List SignedLine) (old new : List ℕ) : Type 0 where
   pub hunks : List Hunk
   pub printed : new ≡ old ++ flat_map hunk_text hunks
@@ -67,17 +67,17 @@ pub record AppendsHunks (lines : List SignedLine) (old new : List ℕ) : Type 0 
 abbrev pub between : ℕ → ℕ → List DiffLine → List SignedLine
 between i j lines = signed_lines (take (j - i) (drop i lines))
 
--- `BeginsWithChange lines`: the first line is in one text alone.
+-- `BeginsWithChange lines`: the first line is in only one of the texts.
 abbrev pub BeginsWithChange : List DiffLine → Type 0
 BeginsWithChange [] = ⊥
 BeginsWithChange (l ∷ ls) = is_change l.sign ≡ true
 
--- `gap`: how many kept lines end a hunk, one more than two contexts have.
+-- `gap`: the number of kept lines that ends a hunk, one more than two contexts have.
 abbrev pub gap : ℕ
 gap = 2 * context + 1
 
 -- `IsNextHunk lines from start end`: from the position `from` on, the next changes are from `first`
--- up to `last`. Up to `first` are kept lines, and after `last` is a gap, or kept lines up to the
+-- up to `last`. Kept lines come before `first`; after `last` comes a gap, or kept lines up to the
 -- end. From `start` up to `end` are the changes and their contexts.
 pub record IsNextHunk (lines : List DiffLine) (from start end : ℕ) : Type 0 where
   pub first : ℕ

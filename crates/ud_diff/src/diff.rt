@@ -8,12 +8,12 @@ use crate::print::append_names;
 use crate::script::script_of;
 use std::alloc::{AllocError, Global};
 
-/// Returns the unified diff of a text and the output for it. `path` names the file, and there is a
-/// mark for each line of the old text: `SAME` if it stays, `EDITED` if another line comes in its
-/// place, else any other byte.
+/// Returns the unified diff of a text and the output for it. `path` names the file, and `marks` has
+/// a mark for each line of the old text: `SAME` if it stays, `EDITED` if another line replaces it,
+/// else any other byte.
 ///
 /// Whatever the marks are, the diff turns one text into the other. Its hunks show three kept lines
-/// before changes and after them, and fewer only at the beginning and the end of the texts.
+/// before and after changes, fewer only at the beginning and end of the texts.
 ///
 /// # Errors
 /// Fails if memory runs out.

@@ -13,7 +13,7 @@ use crate::line::DiffLine;
 use crate::print::{append_line, append_ranges};
 use std::alloc::AllocError;
 
-/// The number of kept lines that are shown around a change.
+/// The number of kept lines shown around a change.
 const CONTEXT: usize = 3;
 
 /// Returns how many of the lines are in the old text.
@@ -30,15 +30,15 @@ fn count_new(lines: &[DiffLine<'_>]) -> usize
     lines.iter().filter(|line| line.is_new()).count()
 }
 
-/// Returns the position of the first line that is in one text alone.
+/// Returns the position of the first line that is in only one of the texts.
 fn first_change(lines: &[DiffLine<'_>]) -> Option<usize>
     ensures { result ≡ position (λ l. is_change l.sign) lines.now }
 {
     lines.iter().position(|line| line.is_change())
 }
 
-/// Returns how many lines there are from this change up to the last one before more kept lines than
-/// two contexts have.
+/// Returns the number of lines from this change up to the last change before a longer run of kept
+/// lines than two contexts.
 fn changes_len(lines: &[DiffLine<'_>]) -> usize
     requires { BeginsWithChange lines.now }
     ensures within { result ≤ length lines.now }
@@ -86,7 +86,7 @@ fn append_lines(out: &mut Vec<u8>, lines: &[DiffLine<'_>]) -> Result<(), AllocEr
     Ok(())
 }
 
-/// Appends a hunk, before which so many lines come in the two texts.
+/// Appends a hunk that comes after so many lines of both texts.
 fn append_hunk(
     out: &mut Vec<u8>,
     old_before: usize,

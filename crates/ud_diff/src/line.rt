@@ -10,9 +10,9 @@ use memchr::memchr;
 pub(crate) enum Sign {
     /// The line is in both texts.
     Kept,
-    /// The line is in the old text alone.
+    /// The line is only in the old text.
     Removed,
-    /// The line is in the new text alone.
+    /// The line is only in the new text.
     Added,
 }
 
@@ -46,7 +46,7 @@ impl DiffLine<'_> {
         }
     }
 
-    /// Returns whether the line is in one text alone.
+    /// Returns whether the line is in only one of the texts.
     pub(crate) fn is_change(&self) -> bool
         ensures { result ≡ is_change self.now.sign }
     {

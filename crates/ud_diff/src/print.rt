@@ -1,4 +1,4 @@
-//! Printing parts of a diff.
+//! Prints the parts of a diff.
 
 ghost use Rattle.std.specs.Prelude.{◌≡◌, ◌+◌, ◌<◌, ◌^◌, ◌++◌, OnOk, decimal};
 ghost use Rattle.ud_diff.specs.DiffTexts.{range_text, ranges_text, sign_byte, ended_text};
@@ -21,7 +21,7 @@ fn append_number(out: &mut Vec<u8>, number: usize) -> Result<(), AllocError>
     Ok(())
 }
 
-/// Appends where some lines begin, and how many they are. `before` lines come before them.
+/// Appends where some lines begin, and their number. `before` lines come before them.
 #[tactic(auto, unfolding(crate::specs::DiffTexts::range_text))]
 fn append_range(out: &mut Vec<u8>, before: usize, count: usize) -> Result<(), AllocError>
     requires { before + count < 2 ^ 64 }
@@ -36,7 +36,7 @@ fn append_range(out: &mut Vec<u8>, before: usize, count: usize) -> Result<(), Al
     Ok(())
 }
 
-/// Appends the first line of a hunk: where its lines of both texts begin, and how many they are.
+/// Appends the first line of a hunk: where its lines of both texts begin, and their numbers.
 pub(crate) fn append_ranges(
     out: &mut Vec<u8>,
     old_before: usize,
@@ -68,7 +68,7 @@ fn sign_byte(sign: Sign) -> u8
     }
 }
 
-/// Appends a line. If it has no newline, a line that says so follows.
+/// Appends a line. If it has no newline, a line follows that says so.
 #[tactic(auto, unfolding(crate::specs::DiffTexts::ended_text))]
 fn append_ended(out: &mut Vec<u8>, bytes: &[u8]) -> Result<(), AllocError>
     ensures { OnOk result (out.new.items ≡ out.old.items ++ ended_text bytes.now) }
@@ -96,7 +96,7 @@ fn is_dropped(byte: u8, rest: &[u8]) -> bool
     byte == b'/' || (byte == b'.' && rest.starts_with(b"/"))
 }
 
-/// Returns a path without the slashes at its beginning, and the dots before them.
+/// Returns a path without leading slashes, and the dots before them.
 #[tactic(auto, unfolding(crate::specs::DiffTexts::after_dots))]
 fn after_dots(path: &[u8]) -> &[u8]
     ensures { result.now ≡ after_dots path.now }
@@ -111,7 +111,7 @@ fn after_dots(path: &[u8]) -> &[u8]
     rest
 }
 
-/// Returns a path without each `./` at its beginning, and the slashes after those.
+/// Returns a path without each leading `./`, and the slashes after it.
 fn without_dots(path: &[u8]) -> &[u8]
     ensures { result.now ≡ without_dots path.now }
 {
@@ -129,7 +129,7 @@ fn is_special(byte: u8) -> bool
     byte < b' ' || byte == b'"' || byte == b'\\' || byte == 127
 }
 
-/// Returns whether a name has a byte for which it is quoted.
+/// Returns whether a name has a byte that needs quotes.
 fn has_special(path: &[u8]) -> bool
     ensures { result ≡ list_any is_special path.now }
 {
@@ -171,7 +171,7 @@ fn append_all_escaped(out: &mut Vec<u8>, path: &[u8]) -> Result<(), AllocError>
     Ok(())
 }
 
-/// Appends a name in quotes, as C has them.
+/// Appends a name in quotes, as in C.
 fn append_quoted(out: &mut Vec<u8>, path: &[u8]) -> Result<(), AllocError>
     ensures { OnOk result (out.new.items ≡ out.old.items ++ quoted_text path.now) }
 {
@@ -181,7 +181,7 @@ fn append_quoted(out: &mut Vec<u8>, path: &[u8]) -> Result<(), AllocError>
     Ok(())
 }
 
-/// Appends a name as it is. `patch` takes one with spaces if a tab follows it.
+/// Appends a name as it is. `patch` accepts spaces in it if a tab follows.
 fn append_plain(out: &mut Vec<u8>, path: &[u8]) -> Result<(), AllocError>
     ensures { OnOk result (out.new.items ≡ out.old.items ++ (path.now ++ tab_after path.now)) }
 {

@@ -9,10 +9,10 @@ use std::alloc::{AllocError, Global};
 /// The mark of a line that stays.
 pub const SAME: u8 = b'=';
 
-/// The mark of a line in whose place another one comes.
+/// The mark of a line that another one replaces.
 pub const EDITED: u8 = b'~';
 
-/// The lines so far, and the rests of both texts.
+/// The lines so far, and the rest of both texts.
 #[derive(Drop)]
 pub(crate) struct Script<'t> {
     lines: Vec<DiffLine<'t>>,
@@ -26,7 +26,7 @@ impl<'t> Script<'t> {
     ghost use Rattle.std.specs.Prelude.{◌≡◌, ◌<◌, [], length, ◌≤◌};
     ghost use Rattle.ud_diff.specs.Scripts.{Extends};
 
-    /// Appends the next line of the old text, if there is one, as a removed one.
+    /// Appends the next line of the old text, if any, as a removed one.
     fn remove_line(&mut self) -> Result<(), AllocError>
         ensures extends { OnOk result (Extends self.old self.new) }
         ensures less { 0 < length self.old.old_rest.now →
@@ -41,7 +41,7 @@ impl<'t> Script<'t> {
         Ok(())
     }
 
-    /// Appends the next line of the new text, if there is one, as an added one.
+    /// Appends the next line of the new text, if any, as an added one.
     fn add_line(&mut self) -> Result<(), AllocError>
         ensures extends { OnOk result (Extends self.old self.new) }
         ensures less { 0 < length self.old.new_rest.now →
@@ -57,8 +57,7 @@ impl<'t> Script<'t> {
         Ok(())
     }
 
-    /// Appends the next line of both texts as a kept one, if it is the same line. Returns whether
-    /// it is.
+    /// Appends the next line of both texts as a kept one, if it is the same. Returns whether it is.
     fn keep_line(&mut self) -> Result<bool, AllocError>
         ensures { OnOk result (Extends self.old self.new) }
     {
@@ -106,7 +105,7 @@ impl<'t> Script<'t> {
         self.remove_line()
     }
 
-    /// Appends the rests of both texts, as removed and added lines.
+    /// Appends the rest of both texts, as removed and added lines.
     fn finish(&mut self) -> Result<(), AllocError>
         ensures extends { OnOk result (Extends self.old self.new) }
         ensures old { OnOk result (self.new.old_rest.now ≡ []) }

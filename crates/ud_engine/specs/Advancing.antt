@@ -2,17 +2,17 @@
 --
 --   slice_between piece from at   the bytes between two positions of a chunk
 --   IsCursor room lines piece r   a cursor in a chunk
---   measure piece r               how much is left to do
+--   measure piece r               how much there is left to do
 --   Advances .. bytes ..          a step took these bytes
 --   StepFails .. f                the next line is faulty
---   Takes .. e f s rest pending old new used   an engine took bytes, and is another one after that
+--   Takes .. e f s rest pending old new used   an engine took bytes, and is a new one after that
 --   StopsIn s rest f                           the next line of an engine in this session is faulty
---   TakesPart .. e f rest pending out out' r   the one or the other, in each session
+--   TakesPart .. e f rest pending out out' r   either of these, in each session
 --   Steps .. e f s piece at old new next       an engine took the bytes between two cursors
---   Moves .. e f piece at next out out' result it did, or its next line is faulty, in each session
+--   Moves .. e f piece at next out out' result `Steps`, or its next line is faulty, in each session
 --   IsNext room lines piece at next            a cursor after another one
 --   IsPart room lines rest used                the first bytes of `rest` are taken
---   IsStep e f out out' result                 output and recorded fault after a step
+--   IsStep e f out out' result                 the output and the recorded fault after a step
 use Rattle.std.specs.Prelude.{ℕ, ◌+◌, ◌-◌, ◌<◌, ◌≤◌, List, ◌++◌, length, take, drop, if◌then◌else◌}
 use Rattle.std.specs.Prelude.{◌≡◌, Option, Result, MatchResult, IfErr}
 use Rattle.ud_model.specs.sections.Items.{Options}
@@ -35,8 +35,8 @@ abbrev pub slice_between : List ℕ → ℕ → ℕ → List ℕ
 slice_between piece from at = take (at - from) (drop from piece)
 
 -- `IsCursor room lines piece r`: the chunk `piece` is processed up to `r.pos`, and its bytes from
--- `r.pending_start` are pending. Those up to `r.whole_end`, if that is further, are whole lines
--- that can be consumed. The rest of the chunk fits.
+-- `r.pending_start` on are pending. Its bytes up to `r.whole_end`, if that is further, are whole
+-- lines that can be consumed. The rest of the chunk fits.
 pub record IsCursor (room : ℕ) (lines : LinesState) (piece : List ℕ) (r : Cursor) : Type 0 where
   pub from : r.pending_start ≤ r.pos
   pub at : r.pos ≤ length piece
@@ -44,13 +44,13 @@ pub record IsCursor (room : ℕ) (lines : LinesState) (piece : List ℕ) (r : Cu
   pub ready : r.pos < r.whole_end → CanConsume lines (slice_between piece r.pos r.whole_end)
   pub fits : HasCapacity room lines (length piece - r.pos)
 
--- `measure piece r`: falls with each step, by bytes that are consumed or by a try to skip text.
+-- `measure piece r`: falls with each step, by bytes consumed or by an attempt to skip text.
 abbrev pub measure : List ℕ → Cursor → ℕ
 measure piece r = (length piece - r.pos) + (length piece - r.pos) + (if r.bulk_tried then 0 else 1)
 
 -- `Advances .. e o piece text printed bytes old new pending left`: a step took `bytes`, which
--- follow `text`. `pending` and the output for `bytes` were appended, but for `left`, which is
--- pending now.
+-- follow `text`. `pending` and the output for `bytes` were appended, except `left`, which is now
+-- pending.
 pub record Advances {S : Type 0} (represents : S → List Judged → Type 0) (piece_of : S →
     List Judged →
     Judged → List ℕ) (e : EngineState S) (o : Options)
@@ -118,22 +118,22 @@ Moves represents piece_of contents e f piece at next out out' result =
     (stream_of contents out') next)
     (StopsIn s (drop at.pos piece))
 
--- `IsNext room lines piece at next`: `next` is a cursor in `piece`, not before `at`, and less is
--- left to do after it.
+-- `IsNext room lines piece at next`: `next` is a cursor in `piece`, not before `at`, with less left
+-- to do after it.
 pub record IsNext (room : ℕ) (lines : LinesState) (piece : List ℕ) (at next : Cursor) : Type 0 where
   pub cursor : IsCursor room lines piece next
   pub forward : at.pos ≤ next.pos
   pub less : measure piece next < measure piece at
 
 -- `IsPart room lines rest used`: the first `used` bytes of `rest` were taken, at least one. The
--- others fit.
+-- rest fits.
 pub record IsPart (room : ℕ) (lines : LinesState) (rest : List ℕ) (used : ℕ) : Type 0 where
   pub some : 0 < used
   pub within : used ≤ length rest
   pub fits : HasCapacity room lines (length rest - used)
 
--- `IsStep e f out out' result`: a step from the engine `e` to `f` records no fault. After an error
--- the output is unchanged.
+-- `IsStep e f out out' result`: a step from the engine `e` to `f` records no fault. An error leaves
+-- the output unchanged.
 pub record IsStep {S W T : Type 0} (e f : EngineState S) (out out' : WatchedState W)
     (result : Result T RunFault) : Type 0 where
   pub output_unchanged : IfErr result (OutputUnchanged out out' e.buffered f.buffered)

@@ -3,14 +3,14 @@
 --   decider_of scanner machine        the decider with this scanner and this machine
 --   DeciderRepresents o r xs t        a decider has read these items
 --   DecidesLine o r xs t l step       it has also read this line
---   DecidesNext symbols r new l result   it did, whatever it had read, or the line is faulty
---   line_with body ending number      the line of these parts
+--   DecidesNext symbols r new l result   the same for any items, or the line is faulty
+--   line_with body ending number      the line with these parts
 --   CanBeDecided room l               a line within the limits, and with as many bytes
 --   DecidesAs symbols r new l keyword verdict   `DecidesNext`, by a verdict and the keyword's span
 --   consumed lines bytes              a line buffer once these bytes are consumed
 --   AreText xs                        these items are text lines
 --   DecidesBulk o r xs t ls verdict   a decider has also read these text lines
---   DecidesText r new lines bytes     it did, whatever it had read
+--   DecidesText r new lines bytes     the same for any items
 use Rattle.std.specs.Prelude.{◌≡◌, ℕ, suc, ◌+◌, ◌≤◌, List, [], ◌∷◌, ◌++◌, length, map, Option}
 use Rattle.std.specs.Prelude.{Some, None, Result, Ok, Err, MatchResult, IsTrue}
 use Rattle.ud_model.specs.text.Lines.{Line, NoNewline, is_ending, whole_lines, numbered_from}
@@ -43,7 +43,7 @@ abbrev pub decider_of : ScannerState → Machine → LineDecider
 decider_of scanner machine = record { scanner = scanner; machine = machine }
 
 -- `DeciderRepresents o r xs t`: the decider `r` has read the items `xs` under the options `o`. None
--- of them is faulty, and `t` is their tree.
+-- is faulty, and `t` is their tree.
 pub record DeciderRepresents (o : Options) (r : LineDecider) (xs : List (Item Reading))
     (t : Tree Reading) : Type 0 where
   pub read : MachineRepresents r.machine o xs t
@@ -51,7 +51,7 @@ pub record DeciderRepresents (o : Options) (r : LineDecider) (xs : List (Item Re
   pub carries : ScannerRepresents r.scanner (map reading_of xs)
 
 -- `DecidesLine o r xs t l step`: after the items `xs`, `r` has also read the line `l`. The step has
--- the verdict of the line's mark, which is the last one, and the span of its keyword.
+-- the verdict of the last mark, and the span of the line's keyword.
 pub record DecidesLine (o : Options) (r : LineDecider) (xs : List (Item Reading)) (t : Tree Reading)
     (l : Line) (step : Step) : Type 0 where
   pub tree : Tree Reading
@@ -71,7 +71,7 @@ DecidesNext symbols r new l result =
     MatchResult result (DecidesLine o new xs t l)
     (λ f. FaultOf xs (next_item o xs t l) (fault_of f))
 
--- `line_with body ending number`: the line of these parts.
+-- `line_with body ending number`: the line with these parts.
 abbrev pub line_with : List ℕ → List ℕ → ℕ → Line
 line_with body ending number = record { body = body; ending = ending; number = number }
 
@@ -83,9 +83,9 @@ pub record CanBeDecided (room : ℕ) (l : Line) : Type 0 where
   pub one_line : NoNewline l.body
   pub ended : IsTrue (is_ending l.ending)
 
--- `DecidesAs symbols r new l keyword verdict`: `DecidesNext` with the step of this verdict, whose
--- keyword has this span, in the body if the directive is edited; or with the fault that the machine
--- of `new` has.
+-- `DecidesAs symbols r new l keyword verdict`: `DecidesNext` with the step of this verdict and this
+-- span of the keyword (within the body if the directive is edited); or with the fault of the
+-- machine of `new`.
 abbrev pub DecidesAs : List Argument → LineDecider → LineDecider → Line → Span → Option Verdict →
     Type 0
 DecidesAs symbols r new l keyword (Some verdict) =
@@ -94,7 +94,7 @@ DecidesAs symbols r new l keyword (Some verdict) =
 DecidesAs symbols r new l keyword None =
     (f : SectionFault) × (machine_fault new.machine ≡ Some f) × DecidesNext symbols r new l (Err f)
 
--- `consumed lines bytes`: `lines` once the whole lines of `bytes` are consumed too.
+-- `consumed lines bytes`: `lines` after also consuming the whole lines of `bytes`.
 abbrev pub consumed : LinesState → List ℕ → LinesState
 consumed lines bytes = record lines { before = lines.before + length (whole_lines bytes) }
 

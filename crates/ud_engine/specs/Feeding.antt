@@ -3,15 +3,15 @@
 --   EngineState S                                        the view of an engine
 --   IsOpen lines                                         more bytes can be taken
 --   EngineRepresentsBuffered .. e o piece text printed   an engine took this text
---   EngineRepresents .. e o piece text printed           it did, and all output is written
+--   EngineRepresents .. e o piece text printed           the same, and all output is written
 --   Session                                              what an engine was fed and has printed
 --   Begins .. show settings symbols s                    a session before the first byte
 --   IsInSession .. e s                                   an engine was fed and has printed this
---   IsBufferedIn .. e s                                  it did, and some output may be pending
+--   IsBufferedIn .. e s                                  the same, but some output may be pending
 --   longer s bytes more                                  a session after more bytes
 --   Continues .. e o piece longer printed old new        the next chunk was fed
 --   FeedFails .. old new longer printed f                feeding the next chunk failed
---   Feeds .. e s chunk failed old new result             the next chunk was fed, or that failed
+--   Feeds .. e s chunk failed old new result             the next chunk was fed, or feeding failed
 --   FeedsChunk .. e f chunk out out' result              the same, in each session
 --   WriterMatches failed result                          the error is `Write` if the writer failed
 --   RecordsFault fault result                            the fault that an engine records
@@ -38,7 +38,7 @@ use Rattle.ud_engine.specs.declared.line_processor.LineProcessor.{LineProcessor}
 use Rattle.ud_engine.specs.ProcessedLines.{ProcessorRepresents, text_by}
 use Rattle.ud_io.specs.Watched.{WatchedState, AppendsPrefix}
 
--- `EngineState S`: the symbols, the line buffer, the processor that prints by an `S`, the pending
+-- `EngineState S`: the symbols, the line buffer, the processor, which prints by an `S`, the pending
 -- output, and the fault after which the engine is fused.
 pub record EngineState (S : Type 0) : Type 0 where
   pub symbols : List Argument
@@ -56,7 +56,7 @@ pub record IsOpen (lines : LinesState) : Type 0 where
   pub no_newline : NoNewline lines.held
 
 -- `EngineRepresentsBuffered .. e o piece text printed`: `e` took `text`, none of whose lines is
--- faulty. `printed` is the output for its whole lines, of which some may be pending.
+-- faulty. `printed` is the output for its whole lines, some of it perhaps pending.
 pub record EngineRepresentsBuffered {S : Type 0} (represents : S → List Judged →
     Type 0) (piece_of : S →
     List Judged → Judged → List ℕ) (e : EngineState S) (o : Options)
@@ -90,9 +90,9 @@ pub record Session : Type 0 where
   pub text : List ℕ
   pub printed : List ℕ
 
--- `Begins .. show settings symbols s`: `s` is the session of an engine before the first byte, which
--- has these settings and symbols, and prints by `show`. `show` has printed no line yet, unless
--- names are listed.
+-- `Begins .. show settings symbols s`: `s` is the session of an engine before the first byte, with
+-- these settings and symbols, which prints by `show`. `show` has printed no line yet, unless names
+-- are listed.
 pub record Begins {S : Type 0} (represents : S → List Judged → Type 0) (piece_of : S →
     List Judged → Judged → List ℕ) (show : S) (settings : Settings) (symbols : List Argument)
     (s : Session) : Type 0 where
@@ -104,7 +104,7 @@ pub record Begins {S : Type 0} (represents : S → List Judged → Type 0) (piec
   pub no_text : s.text ≡ []
   pub no_output : s.printed ≡ []
 
--- `IsInSession .. e s`: `e` was fed and has printed what `s` says.
+-- `IsInSession .. e s`: `e` was fed and has printed what `s` records.
 abbrev pub IsInSession : {S : Type 0} → (S → List Judged → Type 0) → (S → List Judged → Judged →
     List ℕ) → EngineState S → Session → Type 0
 IsInSession represents piece_of e s =
@@ -122,8 +122,8 @@ longer s bytes more =
     record s { text = s.text ++ bytes; printed = s.printed ++ more }
 
 -- `Continues .. e o piece longer printed old new`: `e` was fed `longer`, and the output for its
--- lines after `printed` was appended. The text has no fault so far. The line that it begins and its
--- open sections are within the limits.
+-- lines after `printed` was appended. The text has no fault so far. Its last, unfinished line and
+-- its open sections are within the limits.
 pub record Continues {S : Type 0} (represents : S → List Judged → Type 0) (piece_of : S →
     List Judged →
     Judged → List ℕ) (e : EngineState S) (o : Options)
@@ -146,7 +146,7 @@ pub record FaultsAfter (o : Options) (piece : List Judged → Judged →
   pub printed_is : printed ≡ text_by o.settings.listing piece items tree
 
 -- `PrintsPrefix o piece longer printed`: `printed` is the output for some first lines of `longer`,
--- as a text that goes on. None of these lines is faulty.
+-- as a text that goes on, none of them faulty.
 pub record PrintsPrefix (o : Options) (piece : List Judged → Judged →
     List ℕ) (longer printed : List ℕ) : Type 0 where
   pub items : List (Item Reading)
@@ -181,7 +181,7 @@ ErrorMatchesWriter failed Read = ⊥
 ErrorMatchesWriter failed Write = failed ≡ true
 
 -- `Feeds .. e s chunk failed old new result`: an engine in the session `s` was fed `chunk`, and is
--- `e` after it; or that failed.
+-- then `e`; or feeding failed.
 abbrev pub Feeds : {S T : Type 0} → (S → List Judged → Type 0) → (S → List Judged → Judged →
     List ℕ) → EngineState S → Session → List ℕ → Bool → Option (List ℕ) → Option (List ℕ) →
     Result T RunFault → Type 0
@@ -191,7 +191,7 @@ Feeds represents piece_of e s chunk failed old new (Err f) =
     FeedFails s.options s.pieces failed old new (s.text ++ chunk) s.printed f
 
 -- `FeedsChunk .. contents e f chunk out out' result`: in each session of `e`, it was fed `chunk`,
--- and is `f` after it; or that failed (`Feeds`).
+-- and is then `f`; or feeding failed (`Feeds`).
 abbrev pub FeedsChunk : {S W T : Type 0} → (S → List Judged → Type 0) → (S → List Judged →
     Judged → List ℕ) → (W → Option (List ℕ)) → EngineState S → EngineState S → List ℕ →
     WatchedState W → WatchedState W → Result T RunFault → Type 0
@@ -199,13 +199,13 @@ FeedsChunk represents piece_of contents e f chunk out out' result =
     (s : Session) → IsInSession represents piece_of e s → Feeds represents piece_of f s chunk
     out'.failed (contents out.inner) (contents out'.inner) result
 
--- `WriterMatches failed result`: the writer hasn't failed after `Ok`, and `ErrorMatchesWriter` is
--- true of an error.
+-- `WriterMatches failed result`: after `Ok` the writer hasn't failed, and an error satisfies
+-- `ErrorMatchesWriter`.
 abbrev pub WriterMatches : {T : Type 0} → Bool → Result T RunFault → Type 0
 WriterMatches failed (Ok value) = failed ≡ false
 WriterMatches failed (Err f) = ErrorMatchesWriter failed f
 
--- `RecordsFault fault result`: `fault` is the error, if there is one.
+-- `RecordsFault fault result`: `fault` is the error, if any.
 abbrev pub RecordsFault : {T : Type 0} → Option RunFault → Result T RunFault → Type 0
 RecordsFault fault (Ok value) = fault ≡ None
 RecordsFault fault (Err f) = fault ≡ Some f

@@ -5,13 +5,13 @@
 --   FinishOk .. differs                            the text has no fault, and is printed
 --   FinishFault .. f                               the text has this fault
 --   FinishTruncated .. old new                     a write failed
---   FinishErr .. f                                 the one or the other
---   Finishes s failed old new result               the text has ended, or that failed
---   PrintsLast .. p s failed old new result        the last line is printed, or that failed
+--   FinishErr .. f                                 either of these
+--   Finishes s failed old new result               the text has ended, or ending it failed
+--   PrintsLast .. p s failed old new result        the last line is printed, or printing failed
 --   PrintsRest .. e p out out' result              the same, in each session
 --   text_fault_of f                                the fault of the definitions
 --   ResultIs result r                              the result of a run is this outcome
---   RunAnswers o input old new result              output and result are those of an input
+--   RunAnswers o input old new result              output and result are the outcome of an input
 use Rattle.std.specs.Prelude.{◌≡◌, ℕ, List, ◌++◌, Bool, true, false, Option, Some, None, Result, Ok}
 use Rattle.std.specs.Prelude.{Err}
 use Rattle.std.specs.Io.KnownBytes.{Appends}
@@ -33,7 +33,7 @@ use Rattle.ud_faults.specs.Faults.{limit_of}
 use Rattle.ud_engine.specs.ProcessedLines.{ProcessorRepresents, text_by, differs_in}
 use Rattle.ud_io.specs.Watched.{WatchedState, AppendsPrefix}
 
--- `without_fault symbols lines printer buffered`: an engine of these parts that isn't fused.
+-- `without_fault symbols lines printer buffered`: an engine with these parts that isn't fused.
 abbrev pub without_fault : {S : Type 0} → List Argument → LinesState → LineProcessor S → List ℕ →
     EngineState S
 without_fault symbols lines printer buffered =
@@ -46,7 +46,7 @@ without_fault symbols lines printer buffered =
           None;
     }
 
--- `PrintsAll .. p o piece text printed old new`: `p` has read all lines of `text`, none of which is
+-- `PrintsAll .. p o piece text printed old new`: `p` has read all lines of `text`, and none is
 -- faulty. The output for them, after `printed`, was appended.
 pub record PrintsAll {S : Type 0} (represents : S → List Judged → Type 0) (piece_of : S →
     List Judged →
@@ -61,8 +61,8 @@ pub record PrintsAll {S : Type 0} (represents : S → List Judged → Type 0) (p
   pub printed_is : printed ++ more ≡ text_by o.settings.listing piece items tree
   pub appended : Appends old new more
 
--- `FinishOk o piece text printed old new differs`: `text` has no fault. The output for it, after
--- `printed`, was appended, and `differs` if some line's output differs from the line.
+-- `FinishOk o piece text printed old new differs`: `text` has no fault. Its output after `printed`
+-- was appended. `differs`: some line's output differs from the line.
 pub record FinishOk (o : Options) (piece : List Judged → Judged →
     List ℕ) (text printed : List ℕ) (old new : Option (List ℕ)) (differs : Bool) : Type 0 where
   pub items : List (Item Reading)
@@ -73,8 +73,8 @@ pub record FinishOk (o : Options) (piece : List Judged → Judged →
   pub appended : Appends old new more
   pub differs_is : differs ≡ differs_in o.settings.listing piece items tree
 
--- `FinishFault o piece text printed old new f`: `text` has the fault `f`. The output for the lines
--- before it, after `printed`, was appended.
+-- `FinishFault o piece text printed old new f`: `text` has the fault `f`. The output after
+-- `printed` for the lines before it was appended.
 pub record FinishFault (o : Options) (piece : List Judged → Judged →
     List ℕ) (text printed : List ℕ) (old new : Option (List ℕ)) (f : Fault) : Type 0 where
   pub items : List (Item Reading)
@@ -107,8 +107,8 @@ FinishErr o piece failed old new text printed Read = ⊥
 FinishErr o piece failed old new text printed Write = (failed ≡ true) ×
     FinishTruncated o piece text printed old new
 
--- `Finishes s failed old new result`: the text of an engine in the session `s` has ended, or that
--- failed.
+-- `Finishes s failed old new result`: the text of an engine in the session `s` has ended, or ending
+-- it failed.
 abbrev pub Finishes : Session → Bool → Option (List ℕ) → Option (List ℕ) → Result Bool RunFault →
     Type 0
 Finishes s failed old new (Ok differs) =
@@ -117,7 +117,7 @@ Finishes s failed old new (Err f) =
     FinishErr s.options s.pieces failed old new s.text s.printed f
 
 -- `PrintsLast .. p s failed old new result`: `p` printed all lines of the text of an engine in the
--- session `s`; or that failed.
+-- session `s`; or printing failed.
 abbrev pub PrintsLast : {S T : Type 0} → (S → List Judged → Type 0) → (S → List Judged →
     Judged → List ℕ) → LineProcessor S → Session → Bool → Option (List ℕ) → Option (List ℕ) →
     Result T RunFault → Type 0
@@ -127,7 +127,7 @@ PrintsLast represents piece_of p s failed old new (Err f) =
     FinishErr s.options s.pieces failed old new s.text s.printed f
 
 -- `PrintsRest .. contents e p out out' result`: in each session of the engine `e`, `p` printed all
--- lines of its text; or that failed (`PrintsLast`).
+-- lines of its text; or printing failed (`PrintsLast`).
 abbrev pub PrintsRest : {S W T : Type 0} → (S → List Judged → Type 0) → (S → List Judged →
     Judged → List ℕ) → (W → Option (List ℕ)) → EngineState S → LineProcessor S →
     WatchedState W → WatchedState W → Result T RunFault → Type 0
@@ -135,7 +135,7 @@ PrintsRest represents piece_of contents e p out out' result =
     (s : Session) → IsInSession represents piece_of e s → PrintsLast represents piece_of p s
     out'.failed (contents out.inner) (contents out'.inner) result
 
--- `text_fault_of f`: the fault of the definitions, if `f` is one of the text.
+-- `text_fault_of f`: the definitions' form of `f`, if it is a fault of the text.
 abbrev pub text_fault_of : RunFault → Option Fault
 text_fault_of (Text f) = Some (limit_of f)
 text_fault_of (Section f) = Some (fault_of f)

@@ -1,8 +1,8 @@
 -- NameListing: a line decider that lists the names of lines.
 --
---   ListsMore o xs t l depths ..     the names of this line, as they are listed
+--   ListsMore o xs t l depths ..     the names of this line, as listed
 --   ListsLine o r xs t l depths ..   a decider has also read this line, and listed its names
---   ListsNext .. r new l depths ..   it did, whatever it had read, or the line is faulty
+--   ListsNext .. r new l depths ..   the same for any items, or the line is faulty
 --   ListsNames .. l depths ..        the same, and nothing was appended for a faulty line
 use Rattle.std.specs.Prelude.{◌≡◌, ℕ, List, [], ◌∷◌, ◌++◌, Bool, Option, Result, MatchResult, OnErr}
 use Rattle.ud_model.specs.text.Lines.{Line}
@@ -29,7 +29,7 @@ ListsMore o xs t l depths tree more =
     more
 
 -- `ListsLine o r xs t l depths old new buffered left pending`: `r` has also read the line `l`.
--- `buffered`, `pending` and the line's names were appended, but for `left`, which is buffered now.
+-- `buffered`, `pending` and the line's names were appended, except `left`, which is now buffered.
 pub record ListsLine (o : Options) (r : LineDecider) (xs : List (Item Reading)) (t : Tree Reading)
     (l : Line) (depths : Bool)
     (old new : Stream) (buffered left pending : List ℕ) : Type 0 where
@@ -53,7 +53,7 @@ ListsNext contents symbols r new l depths pending buffered left out out' result 
     (λ f. FaultOf xs (next_item o xs t l) (fault_of f))
 
 -- `ListsNames contents symbols r new l depths depths' pending buffered left out out' result`:
--- `ListsNext`. If `l` has a fault, nothing was appended. The lister stays.
+-- `ListsNext`. If `l` has a fault, nothing was appended. The lister stays the same.
 pub record ListsNames {W T : Type 0} (contents : W → Option (List ℕ)) (symbols : List Argument)
     (r new : LineDecider) (l : Line) (depths depths' : Bool) (pending buffered left : List ℕ)
     (out out' : WatchedState W) (result : Result T SectionFault) : Type 0 where

@@ -1,10 +1,10 @@
 -- ProcessedLines: the output for lines, and the state of a line processor.
 --
 --   text_by listing piece xs t                           the output for these items
---   differs_in listing piece xs t                        the output for some line differs from it
+--   differs_in listing piece xs t                        some line's output differs from the line
 --   ProcessorRepresents stands piece_of p o piece xs t   a processor has read these items
 --   BeginsLines .. settings show p                       a processor before the first line
---   HasEndFault .. p fault                               the fault at the end of what it read
+--   HasEndFault .. p fault                               the fault if the text ends here
 --   HasDifference .. p differs                           whether some line that it read differs
 --   PrintsMore o piece xs t l tree more                  the output for this line
 --   IsAppended put old new ..                            the output for a line was appended
@@ -15,8 +15,8 @@
 --   PrintsLine .. l put ..                               a processor has also printed this line
 --   printed_of passed bytes                              the output for skipped text
 --   PrintsBulk .. ls more                                a processor has also printed these lines
---   PrintsText .. p q lines bytes more                   it did, whatever it had read
---   PrintsNext .. p q l ..                               it printed this line, or that is faulty
+--   PrintsText .. p q lines bytes more                   the same for any items
+--   PrintsNext .. p q l ..                               it printed this line, or it is faulty
 use Rattle.std.specs.Prelude.{◌≡◌, ◌⊎◌, ℕ, suc, List, [], ◌∷◌, ◌++◌, take, map, Bool, true, false}
 use Rattle.std.specs.Prelude.{not, bytes_eq, if◌then◌else◌, Option, Some, None, Result, MatchResult}
 use Rattle.std.specs.List.{concat}
@@ -62,14 +62,14 @@ differs_in Off piece xs t = some_other (pieces_by piece [] (judged_lines xs (mar
 differs_in Names piece xs t = false
 differs_in Depths piece xs t = false
 
--- `lister_of listing`: the lister, if names are listed: with their depths or without.
+-- `lister_of listing`: the lister, with depths or without, if names are listed.
 abbrev pub lister_of : Listing → Option Bool
 lister_of Off = None
 lister_of Names = Some false
 lister_of Depths = Some true
 
--- `ProcessorRepresents represents piece_of p o piece xs t`: `p` has read the items `xs`, none of
--- which is faulty, and `t` is their tree. The printer got each of them, unless names are listed.
+-- `ProcessorRepresents represents piece_of p o piece xs t`: `p` has read the items `xs`, none is
+-- faulty, and `t` is their tree. The printer was given each of them, unless names are listed.
 pub record ProcessorRepresents {S : Type 0} (represents : S → List Judged → Type 0) (piece_of : S →
     List Judged → Judged → List ℕ) (p : LineProcessor S) (o : Options)
     (piece : List Judged → Judged →
@@ -81,7 +81,7 @@ pub record ProcessorRepresents {S : Type 0} (represents : S → List Judged → 
   pub differs : p.differs ≡ differs_in o.settings.listing piece xs t
 
 -- `BeginsLines .. settings show p`: under options with these settings, `p` has read no line, if the
--- printer `show` has printed none, unless names are listed.
+-- printer `show` has printed none or names are listed.
 abbrev pub BeginsLines : {S : Type 0} → (S → List Judged → Type 0) → (S → List Judged → Judged →
     List ℕ) → Settings → S → LineProcessor S → Type 0
 BeginsLines represents piece_of settings show p =
@@ -90,7 +90,7 @@ BeginsLines represents piece_of settings show p =
     ((before : List Judged) → (j : Judged) → piece_of show before j ≡ piece before j) →
     ProcessorRepresents represents piece_of p o piece [] (closed nothing)
 
--- `HasEndFault .. p fault`: whatever items `p` has read, `fault` is that of the text's end.
+-- `HasEndFault .. p fault`: whatever items `p` has read, `fault` is the fault of the text's end.
 abbrev pub HasEndFault : {S : Type 0} → (S → List Judged → Type 0) → (S → List Judged → Judged →
     List ℕ) → LineProcessor S → Option Fault → Type 0
 HasEndFault represents piece_of p fault =
@@ -98,8 +98,8 @@ HasEndFault represents piece_of p fault =
     (t : Tree Reading) → ProcessorRepresents represents piece_of p o piece xs t →
     fault ≡ end_fault xs t
 
--- `HasDifference .. p differs`: whatever items `p` has read, `differs` says whether the output for
--- some line differs from the line.
+-- `HasDifference .. p differs`: whatever items `p` has read, `differs` says whether some line's
+-- output differs from the line.
 abbrev pub HasDifference : {S : Type 0} → (S → List Judged → Type 0) → (S → List Judged → Judged →
     List ℕ) → LineProcessor S → Bool → Type 0
 HasDifference represents piece_of p differs =
@@ -116,16 +116,16 @@ PrintsMore o piece xs t l tree more =
     text_by o.settings.listing piece xs t ++ more
 
 -- `IsAppended put old new buffered left pending more own`: if `put`, then `buffered`, `pending` and
--- the line's output `more` were appended, but for `left`. Else `more` is the line itself, `own`,
--- and nothing was appended.
+-- the line's output `more` were appended, except `left`. Else `more` is the line itself, `own`, and
+-- nothing was appended.
 abbrev pub IsAppended : Bool → Stream → Stream → List ℕ → List ℕ → List ℕ → List ℕ → List ℕ → Type 0
 IsAppended true old new buffered left pending more own =
     TakesAllBut old new (buffered ++ (pending ++ more)) left
 IsAppended false old new buffered left pending more own = (new ≡ old) × (left ≡ buffered) ×
     (more ≡ own)
 
--- `ShowsLine put old new buffered left pending piece own`: `IsAppended` with `piece`, where `put`
--- means that `piece` differs from the line `own`.
+-- `ShowsLine put old new buffered left pending piece own`: `IsAppended` with `piece`; `put` means
+-- that `piece` differs from the line `own`.
 abbrev pub ShowsLine : Bool → Stream → Stream → List ℕ → List ℕ → List ℕ → List ℕ → List ℕ → Type 0
 ShowsLine put old new buffered left pending piece own = (put ≡ not (bytes_eq piece own)) ×
     IsAppended put old new buffered left pending piece own
@@ -148,7 +148,7 @@ abbrev pub IsLeftOf : List ℕ → List ℕ → Type 0
 IsLeftOf left ending = (left ≡ []) ⊎ (left ≡ ending)
 
 -- `PrintsLine .. p o piece xs t l put old new buffered left pending`: `p` has also read the line
--- `l`. If `put`, then `buffered`, `pending` and its output were appended, but for `left`; else its
+-- `l`. If `put`, then `buffered`, `pending` and its output were appended, except `left`; else its
 -- output is the line itself, and nothing was appended.
 pub record PrintsLine {S : Type 0} (represents : S → List Judged → Type 0) (piece_of : S →
     List Judged → Judged → List ℕ) (p : LineProcessor S) (o : Options)
@@ -161,8 +161,8 @@ pub record PrintsLine {S : Type 0} (represents : S → List Judged → Type 0) (
   pub is_more : PrintsMore o piece xs t l tree more
   pub goes : IsAppended put old new buffered left pending more (text_of l)
 
--- `printed_of passed bytes`: the output for skipped text, with which `bytes` begins: all of it, or
--- nothing.
+-- `printed_of passed bytes`: the output for skipped text at the beginning of `bytes`: all of the
+-- text, or nothing.
 abbrev pub printed_of : SkippedText → List ℕ → List ℕ
 printed_of passed bytes = if passed.kept then take passed.count bytes else []
 
@@ -193,7 +193,7 @@ PrintsText represents piece_of p q lines bytes more =
 
 -- `PrintsNext .. contents symbols p q l pending buffered left out out' put result`: whatever items
 -- `p` has read, under options with these symbols, `q` has also read the line `l`. Its output was
--- appended as `put` has it (`PrintsLine`); or `l` has this fault.
+-- appended as `PrintsLine` says; or `l` has this fault.
 abbrev pub PrintsNext : {S W T : Type 0} → (S → List Judged → Type 0) → (S → List Judged → Judged →
     List ℕ) → (W → Option (List ℕ)) → List Argument → LineProcessor S → LineProcessor S → Line →
     List ℕ → List ℕ → List ℕ → WatchedState W → WatchedState W → (T → Bool) →

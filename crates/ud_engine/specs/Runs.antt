@@ -1,14 +1,14 @@
 -- Runs: the state of a run, and its end.
 --
 --   RepresentsSomeText e                       an engine was fed some text
---   InProgress e o read_old read_new old new   it was fed all that the reader gave
---   LagsOneRead o read_old read_new old new    the output lags by one read at most
+--   InProgress e o read_old read_new old new   the engine was fed all that the reader gave
+--   LagsOneRead o read_old read_new old new    the output lags by at most one read
 --   EndsWith o given left old new result       the output fits the bytes read and the result
 --   RunEnded .. result                         the output fits what the reader gave
 --   RunFinished .. result                      all of this, and the outcome if nothing failed
 --   Finished .. o reader reader' out out' result   the same with streams before and after
 --   FinishesRun .. e .. result                 each run in progress is finished
---   ContinuesRun .. e f ..                     each run in progress still is
+--   ContinuesRun .. e f ..                     each run in progress goes on
 --   ErrorMatchesStreams reader writer result   the result shows whether a stream failed
 use Rattle.std.specs.Prelude.{◌≡◌, ◌⊎◌, ℕ, ◌+◌, ◌*◌, ◌-◌, List, ◌++◌, length, take, Bool, true}
 use Rattle.std.specs.Prelude.{false, Option, Some, None, Result, Ok, Err, IfSome, OnOk}
@@ -34,13 +34,12 @@ use Rattle.ud_engine.specs.Feeding.{EngineState, EngineRepresents}
 use Rattle.ud_faults.specs.Faults.{limit_of}
 use Rattle.ud_io.specs.Watched.{WatchedState, AppendsPrefix}
 
--- `all_but_last_chunk given`: `given` without its last bytes, as many as one read gives at most.
+-- `all_but_last_chunk given`: `given` without its last `CHUNK_BYTES`, the most that one read gives.
 abbrev pub all_but_last_chunk : List ℕ → List ℕ
 all_but_last_chunk given = take (length given - CHUNK_BYTES) given
 
--- `LagsOneRead o read_old read_new old new`: the output begins with the output of all whole lines
--- before the last chunk, the last `CHUNK_BYTES` that were read. The bytes before it have no fault,
--- as a text that goes on.
+-- `LagsOneRead o read_old read_new old new`: the output begins with the output for all whole lines
+-- before the last `CHUNK_BYTES` read. The bytes before it have no fault, as a text that goes on.
 pub record LagsOneRead (o : Options) (read_old read_new old new : Option (List ℕ)) : Type 0 where
   pub given : List ℕ
   pub consumed : Consumes read_old read_new given
@@ -50,7 +49,7 @@ pub record LagsOneRead (o : Options) (read_old read_new old new : Option (List �
   pub more : List ℕ
   pub appended : Appends old new (outcome.output ++ more)
 
--- `RepresentsSomeText e`: `e` was fed a text, none of it faulty.
+-- `RepresentsSomeText e`: `e` was fed some text without a fault.
 pub record RepresentsSomeText (e : EngineState Printer) : Type 0 where
   pub options : Options
   pub text : List ℕ
@@ -69,7 +68,7 @@ pub record InProgress (e : EngineState Printer) (o : Options)
       (piece_after (style_of o.settings)) given printed
   pub appended : Appends old new printed
 
--- `bytes_to_limit lines`: no more bytes than this fit before a limit is met.
+-- `bytes_to_limit lines`: at most this many bytes fit before a limit is met.
 abbrev pub bytes_to_limit : LinesState → ℕ
 bytes_to_limit lines = (LINE_BYTES + 1) * (TEXT_LINES - lines.before) +
     (LINE_BYTES - length lines.held)
@@ -82,8 +81,8 @@ pub record PrintsSoFar (o : Options) (given : List ℕ) (old new : Option (List 
   pub right : outcome.fault ≡ None
   pub appended : Appends old new outcome.output
 
--- `AppendsPrefixOfOutput o lines old new`: none of `lines` is faulty, and a prefix of the output
--- for them was appended.
+-- `AppendsPrefixOfOutput o lines old new`: none of `lines` is faulty, and a prefix of their output
+-- was appended.
 pub record AppendsPrefixOfOutput (o : Options) (lines : List Line) (old new : Option (List ℕ)) :
     Type 0 where
   pub items : List (Item Reading)
@@ -92,7 +91,7 @@ pub record AppendsPrefixOfOutput (o : Options) (lines : List Line) (old new : Op
   pub prefix : AppendsPrefix old new (output_by o.settings.listing o.settings items tree)
 
 -- `Truncated o given left old new`: `AppendsPrefixOfOutput` for some first whole lines of `given`;
--- or for all lines, if no byte is left to read.
+-- or for all lines, if nothing is left to read.
 pub data Truncated (o : Options) (given : List ℕ) (left old new : Option (List ℕ)) : Type 0 where
   in_course : (lines later : List Line) → lines_so_far given ≡ lines ++ later →
       AppendsPrefixOfOutput o lines old new → Truncated o given left old new
@@ -100,7 +99,7 @@ pub data Truncated (o : Options) (given : List ℕ) (left old new : Option (List
       Truncated o given left old new
 
 -- `StoppedAtFault o given left old new f`: `given` has the fault `f`, as a text that goes on or, if
--- no byte is left to read, as a whole text. The output for the lines before it was appended.
+-- nothing is left to read, as a whole text. The output for the lines before it was appended.
 pub record StoppedAtFault (o : Options) (given : List ℕ) (left old new : Option (List ℕ))
     (f : Fault) : Type 0 where
   pub outcome : Outcome
@@ -110,8 +109,8 @@ pub record StoppedAtFault (o : Options) (given : List ℕ) (left old new : Optio
 
 -- `EndsWith o given left old new result`: the appended bytes fit the bytes read, `given`, and
 -- `result`. After `Ok` all bytes are read, and all output is appended. After a fault of the text,
--- it is the output for the lines before it; after `Read`, for the whole lines; after `Write`, a
--- prefix for some lines.
+-- the output for the lines before it is appended; after `Read`, for the whole lines; after `Write`,
+-- a prefix for some lines.
 abbrev pub EndsWith : Options → List ℕ → Option (List ℕ) → Option (List ℕ) → Option (List ℕ) →
     Result Bool RunFault → Type 0
 EndsWith o given left old new (Ok differs) = IsAtEnd left × RunAnswers o given old new (Ok differs)
@@ -120,8 +119,8 @@ EndsWith o given left old new (Err (Section f)) = StoppedAtFault o given left ol
 EndsWith o given left old new (Err Read) = PrintsSoFar o given old new
 EndsWith o given left old new (Err Write) = Truncated o given left old new
 
--- `RunEnded o read_old read_new old new result`: the reader gave some bytes, and `EndsWith` is true
--- of them.
+-- `RunEnded o read_old read_new old new result`: the reader gave some bytes, which satisfy
+-- `EndsWith`.
 pub record RunEnded (o : Options) (read_old read_new old new : Option (List ℕ))
     (result : Result Bool RunFault) : Type 0 where
   pub given : List ℕ

@@ -1,9 +1,9 @@
--- Waiting: bytes that were read, and wait to be fed with the rest of their line.
+-- Waiting: bytes read that wait to be fed with the rest of their line.
 --
---   IsWaiting lines bytes                  the bytes begin the next line, and break no limit
---   IsFurther old new end left             less is left to do
---   FeedsAllBut .. e f bytes left ..       of the bytes that were read, an engine was fed all but
---                                          those that are left
+--   IsWaiting lines bytes                  the bytes begin the next line, and exceed no limit
+--   IsFurther old new end left             there is less left to do
+--   FeedsAllBut .. e f bytes left ..       an engine was fed all bytes read, except those
+--                                          that are left
 --   StopsRun .. e bytes .. f               each run in progress ends with the fault `f`
 --   EndsRun .. e bytes .. result           each run in progress that has read all ends with this
 --                                          result
@@ -20,21 +20,21 @@ use Rattle.ud_engine.specs.declared.pump.TheConstants.{CHUNK_BYTES}
 use Rattle.ud_engine.specs.Feeding.{EngineState}
 use Rattle.ud_engine.specs.Runs.{InProgress, RunFinished, bytes_to_limit}
 
--- `IsWaiting lines bytes`: `bytes` have no newline, and fit in one read. If there are any, they
--- begin the line after `lines`, which the text may have.
+-- `IsWaiting lines bytes`: `bytes` have no newline, and fit in one read. If any, they begin the
+-- line after `lines`, which the text may have.
 pub record IsWaiting (lines : LinesState) (bytes : List ℕ) : Type 0 where
   pub no_newline : NoNewline bytes
   pub short : length bytes ≤ CHUNK_BYTES
   pub begins : 0 < length bytes → (lines.held ≡ []) × (lines.before < TEXT_LINES)
 
--- `IsFurther old new end left`: fewer bytes fit below the limits. Or none was fed, and all `end`
+-- `IsFurther old new end left`: fewer bytes fit below the limits; or none was fed, and all `end`
 -- bytes are left.
 abbrev pub IsFurther : LinesState → LinesState → ℕ → ℕ → Type 0
 IsFurther old new end left = (bytes_to_limit new < bytes_to_limit old)
     ⊎ ((bytes_to_limit new ≤ bytes_to_limit old) × (left ≡ end))
 
--- `FeedsAllBut contents e f bytes left out out'`: a run in progress with the engine `e` had read
--- `bytes` besides. It is in progress with `f`, and has read `left` besides.
+-- `FeedsAllBut contents e f bytes left out out'`: a run in progress with the engine `e` had also
+-- read `bytes`. It is now in progress with `f`, and has also read `left`.
 abbrev pub FeedsAllBut : {W : Type 0} → (W → Option (List ℕ)) → EngineState Printer →
     EngineState Printer → List ℕ → List ℕ → WatchedState W → WatchedState W → Type 0
 FeedsAllBut contents e f bytes left out out' =
@@ -42,8 +42,8 @@ FeedsAllBut contents e f bytes left out out' =
     InProgress e o read (prepend_known bytes rest) written (contents out.inner) →
     InProgress f o read (prepend_known left rest) written (contents out'.inner)
 
--- `StopsRun contents e bytes out out' f`: a run in progress with the engine `e` that had read
--- `bytes` besides is finished with the fault `f`.
+-- `StopsRun contents e bytes out out' f`: a run in progress with the engine `e` that had also read
+-- `bytes` is finished with the fault `f`.
 abbrev pub StopsRun : {W : Type 0} → (W → Option (List ℕ)) → EngineState Printer → List ℕ →
     WatchedState W → WatchedState W → RunFault → Type 0
 StopsRun contents e bytes out out' f =
@@ -51,8 +51,8 @@ StopsRun contents e bytes out out' f =
     InProgress e o read (prepend_known bytes rest) written (contents out.inner) →
     RunFinished o read rest written (contents out'.inner) reader out'.failed (Err f)
 
--- `EndsRun contents e bytes out out' result`: a run in progress with the engine `e` that had read
--- `bytes` besides, the last ones, is finished with `result`.
+-- `EndsRun contents e bytes out out' result`: a run in progress with the engine `e` that had also
+-- read `bytes`, the last ones, is finished with `result`.
 abbrev pub EndsRun : {W : Type 0} → (W → Option (List ℕ)) → EngineState Printer → List ℕ →
     WatchedState W → WatchedState W → Result Bool RunFault → Type 0
 EndsRun contents e bytes out out' result =

@@ -1,8 +1,8 @@
-//! The engine: a text comes in chunks, and the output for its lines is written.
+//! The engine: takes a text in chunks, and writes the output for its lines.
 //!
-//! An engine buffers at most one line, the one that the end of the last chunk cut, and the
-//! machine's state of the open sections. The output for a chunk's lines is written before `feed`
-//! returns. Neighboring lines that stay unchanged are copied together; smaller parts are buffered.
+//! An engine buffers at most one line, the one cut by the end of the last chunk, and the machine's
+//! open sections. The output for a chunk's lines is written before `feed` returns. Neighboring
+//! lines that stay unchanged are copied together; smaller parts are buffered.
 //!
 //! A chunk is processed by steps of a `Cursor`. Each step skips many text lines, decides one line,
 //! or buffers the line that the chunk begins.
@@ -44,9 +44,9 @@ use ud_text::{Line, LineBuffer, Lines, LongLineBuffer, is_other_word};
 /// A position in a chunk. The bytes from `pending_start` to `pos` are to be copied to the output.
 #[derive(Clone, Copy)]
 struct Cursor {
-    /// True after a try to skip text lines: the next line is decided by itself.
+    /// True after an attempt to skip text lines: the next line is then decided by itself.
     bulk_tried: bool,
-    /// If after `pos`: the end of the whole lines within the limits that follow `pos`.
+    /// If after `pos`: the end of the whole lines from `pos` on that are within the limits.
     whole_end: usize,
     pending_start: usize,
     pos: usize,
@@ -69,7 +69,7 @@ fn cursor_at<H: LineBuffer>(lines: &Lines<H>, chunk: &[u8], at: usize) -> Cursor
 }
 
 /// Returns the line at a cursor, borrowed from the chunk, and consumes it. Returns `None`, and
-/// changes nothing, if the line is to be buffered or exceeds a limit.
+/// changes nothing, if the line must be buffered or exceeds a limit.
 #[inline(always)]
 fn next_line<'a, H: LineBuffer>(
     lines: &mut Lines<H>,
@@ -101,8 +101,8 @@ fn next_line<'a, H: LineBuffer>(
     lines.whole_in(&chunk[cursor.pos..])
 }
 
-/// Returns whether a line begins with a `#` that may belong to a directive. A try to skip text
-/// lines would mostly stop there. Most conditionals have no white space around the `#`.
+/// Returns whether a line begins with a `#` that may belong to a directive, where skipping text
+/// lines would usually stop. Most conditionals have no white space around the `#`.
 #[inline(always)]
 fn begins_conditional(line: &[u8]) -> bool
     ensures { MatchOption (skip_hash line.now) (result ≡ false)
@@ -114,8 +114,7 @@ fn begins_conditional(line: &[u8]) -> bool
     }
 }
 
-/// Returns whether to try to skip text lines. Skipping isn't tried at a conditional, where it would
-/// stop.
+/// Returns whether to try skipping text lines: not at a conditional, where skipping would stop.
 #[inline(always)]
 fn may_skip_text(chunk: &[u8], cursor: Cursor) -> bool
     requires { cursor.pos ≤ length chunk.now }
@@ -125,16 +124,16 @@ fn may_skip_text(chunk: &[u8], cursor: Cursor) -> bool
     !cursor.bulk_tried && cursor.pos < cursor.whole_end && !begins_conditional(&chunk[cursor.pos..])
 }
 
-/// An engine: unifdef(1) over a text that comes in chunks. It has its plan from a `P`.
+/// An engine: unifdef(1) over a text that comes in chunks. Its plan comes from a `P`.
 #[derive(Drop)]
 pub struct EngineOf<P: PlanSource, S: Show, H: LineBuffer = LongLineBuffer> {
-    /// The result of the command line.
+    /// The plan that the command line gives.
     plan: P,
     /// The buffered line.
     lines: Lines<H>,
     /// The processor that decides and prints the lines.
     printer: LineProcessor<S>,
-    /// The buffers for the decision of a line.
+    /// The buffers for deciding a line.
     room: LineRoom<H>,
     /// The pending output.
     output: Output,
@@ -167,8 +166,8 @@ impl<P: PlanSource, S: Show> EngineOf<P, S, LongLineBuffer> {
     /// Returns an engine before the first byte. It prints by `show`, or lists names if the plan
     /// asks for that.
     ///
-    /// The engine borrows `plan` if that is a `&Plan`, and owns it if it is a `Plan`. `show` has
-    /// printed no line yet, unless names are listed. Takes no memory.
+    /// `plan` is a `&Plan`, or a `Plan` that the engine owns. `show` has printed no line yet,
+    /// unless names are listed. Takes no memory.
     ///
     /// # Examples
     /// ```rust
@@ -192,7 +191,7 @@ impl<P: PlanSource, S: Show> EngineOf<P, S, LongLineBuffer> {
 impl<'p, S: Show, H: LineBuffer> EngineOf<&'p Plan, S, H> {
     /// Moves the state to an engine whose buffer holds the longest line.
     ///
-    /// Leaves in its place an engine before the first byte, which prints by `show`.
+    /// Leaves behind an engine before the first byte that prints by `show`.
     #[inline(never)]
     pub(crate) fn take_as_long(&mut self, show: S) -> EngineOf<&'p Plan, S, LongLineBuffer>
         ensures { result ≡ self.old }
@@ -219,7 +218,7 @@ impl<P: PlanSource, S: Show, H: LineBuffer> EngineOf<P, S, H> {
     ghost use Rattle.ud_engine.specs.FaultEffects.{result_after};
     ghost use Rattle.ud_model.specs.declared.limits.TheConstants.{LINE_BYTES, TEXT_LINES};
 
-    /// Returns an engine before the first byte, as `new` does, whose line buffer is an `H`.
+    /// Returns an engine before the first byte, as `new` does, with an `H` as its line buffer.
     pub(crate) fn with_buffer(plan: P, show: S) -> EngineOf<P, S, H>
         ensures represents { (s : Session) →
             Begins S.represents S.piece show (P.plan plan).settings (P.plan plan).symbols s →
@@ -239,7 +238,7 @@ impl<P: PlanSource, S: Show, H: LineBuffer> EngineOf<P, S, H> {
 
     /// Processes the next chunk: writes the output for every line that ends in it.
     ///
-    /// `chunk` may have any bytes. An engine from `new` accepts any length, another at most
+    /// `chunk` may have any bytes. An engine from `new` accepts any length; others accept at most
     /// `remaining_capacity` bytes. The line that `chunk` begins, at most `LINE_BYTES`, is buffered
     /// until it ends. `out` hasn't failed, unless the engine is fused.
     ///
@@ -285,8 +284,8 @@ impl<P: PlanSource, S: Show, H: LineBuffer> EngineOf<P, S, H> {
 
     /// Ends the text: writes the output for its last line, if that has no newline.
     ///
-    /// Returns whether the output for some line differs from the line; `false` if names are listed.
-    /// `out` hasn't failed, unless the engine is fused.
+    /// Returns whether some line's output differs from the line; `false` if names are listed. `out`
+    /// hasn't failed, unless the engine is fused.
     ///
     /// # Errors
     /// - The error of `feed` again, if the engine is fused. Nothing is written.
@@ -316,8 +315,7 @@ impl<P: PlanSource, S: Show, H: LineBuffer> EngineOf<P, S, H> {
         engine.finish_in_place(out)
     }
 
-    /// Ends the text, as `finish` does, and resets the line buffer. The engine isn't to be fed
-    /// again.
+    /// Ends the text, as `finish` does, and resets the line buffer. Don't feed the engine again.
     ///
     /// # Errors
     /// As `finish`.
@@ -351,8 +349,7 @@ impl<P: PlanSource, S: Show, H: LineBuffer> EngineOf<P, S, H> {
 
     /// Returns how many bytes the next chunk may have, at most `most`.
     ///
-    /// All of them, if the buffer holds the longest line; else as many as fit after the buffered
-    /// bytes.
+    /// `most` if the buffer holds the longest line; else as many as fit after the buffered bytes.
     pub(crate) fn remaining_capacity(&self, most: usize) -> usize
         ensures bound { result ≤ most }
         ensures fits { HasCapacity H.CAPACITY self.now.lines result }
@@ -362,8 +359,8 @@ impl<P: PlanSource, S: Show, H: LineBuffer> EngineOf<P, S, H> {
         self.lines.remaining_capacity(most)
     }
 
-    /// Returns whether the next byte begins a line that the text may have. No byte of a line is
-    /// buffered then.
+    /// Returns whether the next byte begins a line that the text may have; no byte is then
+    /// buffered.
     pub(crate) fn may_begin_line(&self) -> bool
         ensures { result ≡ true →
             (self.now.lines.held ≡ []) × (self.now.lines.before < TEXT_LINES) }
@@ -397,8 +394,8 @@ impl<P: PlanSource, S: Show, H: LineBuffer> EngineOf<P, S, H> {
         self.end_chunk(Ok(()), &chunk[cursor.pending_start..cursor.pos], out)
     }
 
-    /// Writes the buffered bytes and `pending`. Returns how the chunk ended: by a failed write, if
-    /// there is one, or as its lines did.
+    /// Writes the buffered bytes and `pending`. Returns how the chunk ended: `Write` if a write
+    /// failed, else as its lines ended.
     fn end_chunk<W: Write>(
         &mut self,
         ended: Result<(), RunFault>,
@@ -416,10 +413,10 @@ impl<P: PlanSource, S: Show, H: LineBuffer> EngineOf<P, S, H> {
         ended
     }
 
-    /// Makes the next step through a chunk: skips text lines, decides one line, or buffers the line
+    /// Takes the next step through a chunk: skips text lines, decides one line, or buffers the line
     /// that the chunk begins.
     ///
-    /// A step that tried to skip, and skipped nothing, only leaves the cursor marked as tried.
+    /// A step that skips nothing only marks the cursor as tried.
     ///
     /// # Errors
     /// As `feed`, but the pending bytes before the faulty line aren't written yet.
@@ -447,10 +444,10 @@ impl<P: PlanSource, S: Show, H: LineBuffer> EngineOf<P, S, H> {
         }
     }
 
-    /// Skips as many of the next lines as are recognized as text. Returns the cursor after them.
+    /// Skips the next lines, as far as they are recognized as text. Returns the cursor after them.
     ///
     /// If they are copied, the pending bytes extend over them. If they are dropped, the pending
-    /// bytes are appended to the output, and nothing is pending after them.
+    /// bytes are appended to the output, and then nothing is pending.
     fn advance_in_bulk<W: Write>(
         &mut self,
         chunk: &[u8],
@@ -587,7 +584,7 @@ impl<P: PlanSource, S: Show, H: LineBuffer> EngineOf<P, S, H> {
     }
 }
 
-/// Decides and prints the text's last line, if that has no newline.
+/// Decides and prints the text's last line, if it has no newline.
 ///
 /// # Errors
 /// As `Engine::finish`.

@@ -1,9 +1,9 @@
 //! unifdef(1) over a text that comes in chunks.
 //!
-//! `run` feeds the chunks of a reader to an `Engine`. The engine cuts them into lines. For each
-//! line, a `LineDecider` decides the line by a scanner and a machine, and a `LineProcessor` prints
-//! it. What is printed leaves through `Output`. `Feeding.EngineRepresents` relates an engine to the
-//! text that it was fed, and to the output for that text.
+//! `run` feeds the chunks of a reader to an `Engine`. The engine cuts them into lines. A
+//! `LineDecider` decides each line by a scanner and a machine, and a `LineProcessor` prints it
+//! through `Output`. `Feeding.EngineRepresents` relates an engine to the text it was fed, and to
+//! the output for that text.
 #![tactic(auto)]
 
 mod engine;

@@ -31,17 +31,17 @@ use ud_model::{Settings, Verdict};
 use ud_sections::{Lister, Machine, SectionFault, Span, Step, TextPolicy, directive};
 use ud_text::{Line, LineBuffer, Lines, Scanner};
 
-/// Buffers for the parts of a line's decision that a decider doesn't keep.
+/// Buffers that a decider needs for a line, but doesn't keep.
 #[derive(Drop)]
 pub(crate) struct LineRoom<H> {
     /// The span of the last line's keyword.
     keyword: Span,
-    /// The last line as it is masked, if its own bytes weren't borrowed.
+    /// The last line, masked, if its own bytes weren't borrowed.
     masked: H,
 }
 
 impl<H: LineBuffer> LineRoom<H> {
-    /// Returns the room before the first line.
+    /// Returns the buffers before the first line.
     pub(crate) fn new() -> LineRoom<H> {
         LineRoom {
             keyword: Span { at: 0, len: 0 },
@@ -72,8 +72,8 @@ impl LineDecider {
     /// Decides the next line. Returns its step.
     ///
     /// Every section has an `#endif`, and many have an `#else`. Their body is a constant here, so
-    /// that the compiler knows their scan and their directive. The parts of the line and the result
-    /// go by registers, so that the line and its step mostly need no memory.
+    /// the compiler knows their scan and directive. The parts of the line and the result go in
+    /// registers, so the line and its step mostly need no memory.
     ///
     /// # Errors
     /// Fails if the line is faulty.
@@ -97,7 +97,7 @@ impl LineDecider {
         }
     }
 
-    /// Decides the next line, as `decide_endif` does, by the function for its body.
+    /// Decides the next line, as `decide_endif` does, with the function for its body.
     #[inline(always)]
     fn decide_by_body<H: LineBuffer>(
         &mut self,
@@ -119,7 +119,7 @@ impl LineDecider {
     }
 
     /// Decides the next line, an `#endif`. Returns its verdict, and sets the span of its keyword.
-    /// Returns `None` if the line is faulty, and then the machine has the fault.
+    /// Returns `None` if the line is faulty; the machine then has the fault.
     #[inline(never)]
     fn decide_endif<H: LineBuffer>(
         &mut self,
@@ -168,7 +168,7 @@ impl LineDecider {
         self.decide_parts(body, ending, number, symbols, room)
     }
 
-    /// Decides the next line as `decide_endif` does. Its scan is mostly known at once.
+    /// Decides the next line as `decide_endif` does. Usually its scan is known at once.
     #[inline(always)]
     fn decide_parts<H: LineBuffer>(
         &mut self,
@@ -213,8 +213,7 @@ impl LineDecider {
         Some(self.machine.step(&scan, line, symbols))
     }
 
-    /// Decides the next line as `decide_endif` does, whatever it has and whatever is carried from
-    /// the lines before.
+    /// Decides any next line, as `decide_endif` does.
     #[inline(never)]
     fn decide_marked<H: LineBuffer>(
         &mut self,
@@ -294,8 +293,7 @@ impl LineDecider {
         Ok(())
     }
 
-    /// Decides the next line, whatever it has and whatever is carried from the lines before, and
-    /// appends `pending` and its names.
+    /// Decides any next line, and appends `pending` and its names.
     ///
     /// # Errors
     /// As `list_names`.
@@ -327,7 +325,7 @@ impl LineDecider {
         Ok(())
     }
 
-    /// Returns how the next line is read, and what becomes of it if it is text.
+    /// Returns how to scan the next line, and its verdict if it is text.
     pub(crate) fn text_policy(&self) -> TextPolicy
         ensures { result ≡ text_policy_of self.now.machine }
     {
@@ -335,7 +333,7 @@ impl LineDecider {
     }
 
     /// Consumes the longest prefix of `bytes` that is recognized as text lines, and returns its
-    /// length. `policy` is that of `text_policy`.
+    /// length. `policy` comes from `text_policy`.
     ///
     /// `bytes` are the next whole lines. The result is 0 or the end of a line.
     pub(crate) fn skip_text<H: LineBuffer>(

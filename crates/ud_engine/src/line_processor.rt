@@ -1,8 +1,7 @@
 //! Deciding lines, and printing the output for them.
 //!
-//! A `LineProcessor` gives each decided line to its printer, or lists the line's names. A line that
-//! the printer leaves unchanged isn't appended: the engine copies it from the chunk, with its
-//! neighbors.
+//! A `LineProcessor` gives each decided line to its printer, or lists the line's names. Lines that
+//! the printer leaves unchanged aren't appended: the engine copies them from the chunk.
 
 ghost use Rattle.std.specs.Prelude.{◌≡◌, bytes_eq, ◌∷◌, [], ◌++◌, ◌≤◌, List, ℕ, length, take, true};
 ghost use Rattle.std.specs.Prelude.{false, OnErr, IsTrue};
@@ -39,14 +38,14 @@ pub(crate) struct LineProcessor<S> {
     printer: S,
     /// The lister, if names are listed.
     lister: Option<Lister>,
-    /// True once the output for some line differs from the line.
+    /// True once some line's output differs from the line.
     differs: bool,
 }
 
 /// Text lines that were skipped in bulk.
 #[derive(Clone, Copy)]
 pub(crate) struct SkippedText {
-    /// The length of these lines in bytes; 0 if no line was skipped.
+    /// The length of these lines in bytes; 0 if none was skipped.
     pub(crate) count: usize,
     /// True if each of these lines is copied; false if all of them are dropped.
     pub(crate) kept: bool,
@@ -79,8 +78,8 @@ impl<S: Show> LineProcessor<S> {
         }
     }
 
-    /// Decides the next line. Appends `pending` and the output for the line, if that differs from
-    /// the line.
+    /// Decides the next line. Appends `pending` and the line's output, if that differs from the
+    /// line.
     ///
     /// Returns whether they were appended. If the output is the line itself, nothing is appended.
     ///
@@ -133,7 +132,7 @@ impl<S: Show> LineProcessor<S> {
         }
     }
 
-    /// Decides the next line. Appends `pending` and the output for the line, in every case.
+    /// Decides the next line. Always appends `pending` and the line's output.
     ///
     /// # Errors
     /// As `print`.
@@ -225,7 +224,7 @@ impl<S: Show> LineProcessor<S> {
         self.decider.finish()
     }
 
-    /// Returns whether the output for some line differs from the line; never if names are listed.
+    /// Returns whether some line's output differs from the line; never if names are listed.
     pub(crate) fn differs(&self) -> bool
         ensures { HasDifference S.represents S.piece self.now result }
     {
@@ -306,8 +305,8 @@ fn is_line(left: &[u8], line: &Line<'_>) -> bool
 /// Appends `pending` and the parts that the printer makes of the next line, if they differ from the
 /// line. Returns whether they were appended.
 ///
-/// The parts of the line and of its step go by registers or by the stack, and only for such a line.
-/// So others need no memory.
+/// The parts of such a line and its step go in registers or on the stack; other lines need no
+/// memory.
 #[inline(never)]
 fn append_parts_of<S: Show, W: Write>(
     show: &mut S,

@@ -9,7 +9,7 @@ use std::io::Write;
 use ud_cond::Names;
 use ud_io::Watched;
 
-/// Appends each name on a line of its own, after `prefix`.
+/// Appends each name after `prefix`, on a line of its own.
 pub(crate) fn append_names<W: Write>(
     output: &mut Output,
     prefix: &[u8],

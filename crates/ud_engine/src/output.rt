@@ -1,7 +1,7 @@
-//! Buffered output, so that few writes are made.
+//! Buffered output, for fewer writes.
 //!
-//! A failed write is recorded by the writer, and what is appended after it is dropped. So nothing
-//! that appends has an error, and a caller asks the writer once, at the end of a chunk.
+//! The writer records a failed write, and what is appended later is dropped. So appending never
+//! fails, and a caller asks the writer once, at the end of a chunk.
 
 ghost use Rattle.std.specs.Prelude.{◌≡◌, []};
 ghost use Rattle.std.specs.List.{flat_map};
@@ -12,7 +12,7 @@ use std::io::Write;
 use std::marker::Model;
 use ud_io::{Watched, send};
 
-/// The pending output: bytes that are accepted, but not written yet.
+/// The pending output: bytes accepted but not yet written.
 #[derive(Drop)]
 pub(crate) struct Output {
     buffered: OutputBuffer,
@@ -47,7 +47,7 @@ impl Output {
         self.append_after_flush(bytes, out);
     }
 
-    /// Appends `bytes` after all buffered bytes were written.
+    /// Writes all buffered bytes, then appends `bytes`.
     fn append_after_flush<W: Write>(&mut self, bytes: &[u8], out: &mut Watched<W>)
         ensures { Accepts W.contents self.old self.new out.old out.new bytes.now }
     {

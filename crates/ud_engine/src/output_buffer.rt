@@ -4,14 +4,13 @@ ghost use Rattle.std.specs.Prelude.{◌≡◌, ◌+◌, ◌≤◌, ◌++◌, [],
 
 use std::marker::Model;
 
-/// The capacity of the buffer. The parts that are printed for a chunk of `run` mostly leave in one
-/// write.
+/// The capacity of the buffer. The output for a chunk of `run` usually leaves in one write.
 pub(crate) const OUTPUT_BUFFER_BYTES: usize = 8_192;
 
 /// A buffer of at most `OUTPUT_BUFFER_BYTES` bytes. Clearing it leaves the array unchanged.
 #[derive(Drop)]
 pub(crate) struct OutputBuffer {
-    /// The first `len` bytes are the buffered ones.
+    /// The first `len` bytes are buffered.
     array: [u8; OUTPUT_BUFFER_BYTES],
     len: usize,
 }

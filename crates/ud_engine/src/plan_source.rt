@@ -1,4 +1,4 @@
-//! What an engine has its plan from.
+//! Where an engine's plan comes from.
 
 ghost use Rattle.std.specs.Prelude.{◌≡◌};
 ghost use Rattle.ud_args.specs.Plans.{PlanState};
@@ -9,7 +9,7 @@ use ud_model::Settings;
 
 /// A plan, or a reference to one.
 ///
-/// An engine that borrows its plan has the type parameter `&Plan`, and one that owns it `Plan`.
+/// An engine's type parameter is `&Plan` if it borrows its plan, and `Plan` if it owns it.
 pub trait PlanSource: Drop {
     /// The plan.
     ghost plan: { Self → PlanState };

@@ -1,9 +1,8 @@
 //! A run over a reader.
 //!
-//! `run` reads chunks into a buffer of its own, and feeds their whole lines to an engine until the
-//! text ends. The bytes of a line that a read cut wait there for the next read. It begins with an
-//! engine that buffers a short line only, and takes a buffer for the longest line when a line
-//! doesn't fit.
+//! `run` reads chunks into its own buffer, and feeds their whole lines to an engine until the text
+//! ends. The bytes of a line cut by a read wait there for the next read. It begins with an engine
+//! for short lines, and switches to a buffer for the longest line when a line doesn't fit.
 
 ghost use Rattle.std.specs.Prelude.{◌≡◌, ◌<◌, ◌≤◌, ℕ, List, Option, length, take, true, false};
 ghost use Rattle.std.specs.Prelude.{IfSome, IfNone, IfOk, IfErr, Err};
@@ -29,16 +28,16 @@ pub(crate) const CHUNK_BYTES: usize = 8_192;
 /// Prints the output for a text, or the names of its conditions, as the plan asks.
 ///
 /// Reads from `reader` in chunks of at most `CHUNK_BYTES`, and writes to `out` meanwhile. Returns
-/// whether the output for some line differs from the line; `false` if names are listed. Takes no
-/// memory, and doesn't flush `out`.
+/// whether some line's output differs from the line; `false` if names are listed. Takes no memory,
+/// and doesn't flush `out`.
 ///
 /// If neither stream fails, the appended bytes and the result are the one outcome of all bytes of
 /// `reader` up to its end. However the run ends, the output for all whole lines before the last
 /// chunk is written.
 ///
 /// # Errors
-/// - `Text` or `Section` if a line is faulty, after the output for the lines before it. No more is
-///   read then.
+/// - `Text` or `Section` if a line is faulty, after the output for the lines before it. Nothing
+///   more is read.
 /// - `Section` if the text ends in a comment or a section, after the output for all lines.
 /// - `Read` if a read fails, after the output for the whole lines before.
 /// - `Write` if a write fails.
@@ -80,8 +79,8 @@ pub fn run<R: Read, W: Write>(
 
 /// Continues the run with a buffer for the longest line.
 ///
-/// The state of `short` moves to a new engine. Its buffer is a local of this function alone, so
-/// that runs without a long line don't clear it.
+/// The state of `short` moves to a new engine. Its buffer is local to this function, so runs
+/// without a long line don't clear it.
 ///
 /// # Errors
 /// As `run`.
@@ -110,10 +109,10 @@ fn run_with_long_buffer<R: Read, W: Write>(
 
 /// Feeds the engine what `reader` gives until the text ends or a fault occurs.
 ///
-/// The bytes of a line that a read cut wait in the buffer, before those of the next read. So the
-/// engine is fed whole lines, and writes those that stay from the buffer, without a copy. Returns
-/// `None` if the engine can't take as many bytes as the buffer has, which never happens with a
-/// buffer for the longest line. No byte waits then.
+/// The bytes of a line cut by a read wait in the buffer, before those of the next read. So the
+/// engine is fed whole lines, and writes kept ones straight from the buffer. Returns `None` if the
+/// engine can't take as many bytes as the buffer has, which never happens with a buffer for the
+/// longest line. No byte then waits.
 ///
 /// # Errors
 /// As `run`.
@@ -153,10 +152,10 @@ fn pump<R: Read, W: Write, H: LineBuffer>(
 }
 
 /// Feeds the engine the whole lines of the first `end` bytes of the buffer. Moves the bytes after
-/// them to the buffer's beginning, and returns how many they are.
+/// them to the buffer's beginning, and returns their number.
 ///
-/// The engine is fed all bytes, and the result is 0, if a part of a line fills the buffer, if the
-/// engine has buffered a part of the line, or if the text may have no further line.
+/// Feeds the engine all bytes, and returns 0, if part of a line fills the buffer, if the engine has
+/// buffered part of the line, or if the text may have no further line.
 ///
 /// # Errors
 /// As `Engine::feed`.
@@ -201,7 +200,7 @@ fn feed_lines<W: Write, H: LineBuffer>(
     }
 }
 
-/// Feeds the engine the last bytes of the text, which have no newline, and ends the text.
+/// Feeds the engine the text's last bytes, which have no newline, and ends the text.
 ///
 /// # Errors
 /// As `run`.

@@ -1,4 +1,4 @@
--- Faults: the faults of the program, as the definitions have them.
+-- Faults: the program's faults, as faults of the definitions.
 --
 --   limit_of f   the fault of the definitions for a limit that the text exceeds
 --   fault_of f   the fault of the definitions for a fault of the sections

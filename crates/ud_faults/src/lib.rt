@@ -1,7 +1,7 @@
 //! Why a run ends before the end of its text, as data. Lines are numbered from 1.
 //!
-//! `specs/Faults.antt` has each of them as a fault of the definitions (ud_model,
-//! `sections.Faults`). The messages for them are in unifdef.
+//! `specs/Faults.antt` maps each to a fault of the definitions (ud_model, `sections.Faults`). The
+//! messages for them are in unifdef.
 #![tactic(auto)]
 
 mod run;

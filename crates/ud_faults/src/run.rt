@@ -4,12 +4,12 @@ use crate::sections::SectionFault;
 use crate::text::TextFault;
 use thiserror::Error;
 
-/// The reason why a run ends before the end of its text, or the fault at that end.
+/// The reason why a run ends before the end of its text, or the fault at its end.
 ///
 /// The texts of `Display` may change.
 #[derive(Clone, Copy, Debug, PartialEq, Eq, Error)]
 pub enum RunFault {
-    /// The text passes a limit.
+    /// The text exceeds a limit.
     #[error("the text passes a limit")]
     Text(TextFault),
     /// A line is misplaced among the sections, or the text ends in a section or in a comment.

@@ -18,7 +18,7 @@ pub enum SectionFault {
         /// The number of its line.
         line: u32,
     },
-    /// One more section is opened than may be open at once.
+    /// More sections are opened than may be open at once.
     TooManyLevels {
         /// The number of the line that opens it.
         line: u32,

@@ -3,12 +3,12 @@
 /// A limit that a text exceeds.
 #[derive(Clone, Copy, Debug, PartialEq, Eq)]
 pub enum TextFault {
-    /// A byte came for the line after the last one that the text may have.
+    /// A byte came after the last line that the text may have.
     TooManyLines {
         /// The number of that line.
         line: u32,
     },
-    /// A byte more came than a line may have, its ending counted.
+    /// A line has more bytes than it may have, its ending included.
     LineTooLong {
         /// The number of that line.
         line: u32,

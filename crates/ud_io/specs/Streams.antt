@@ -1,21 +1,21 @@
--- Streams: what becomes of bytes that are sent to a writer that keeps its own failure.
+-- Streams: what happens to bytes sent to a writer that records its failure.
 --
 --   Stream                          the contents of a writer, and how its calls ended
---   stream_of contents w            those of the writer `w`
---   TakesBy failed failed' old ..   what it took, by whether it had failed and has failed
+--   stream_of contents w            the stream of the writer `w`
+--   TakesBy failed failed' old ..   what it took, by whether it had failed and has now failed
 --   TakesAllBut old new bytes left  the same between two streams: all of `bytes` but `left`
 --   Sends old new bytes             all of `bytes` was written, or a prefix up to a failure
 --   Accepts contents buffered ..    bytes were taken, after those of a buffer
 --
 -- Example: after a write of "ab" that failed after the "a", the contents are one byte longer, and
--- the writer has failed. What is sent then is dropped.
+-- the writer has failed. Later bytes are dropped.
 use Rattle.std.specs.Prelude.{◌≡◌, ℕ, List, [], ◌++◌, Bool, true, false, Option}
 use Rattle.std.specs.Io.KnownBytes.{Keeps}
 use Rattle.ud_io.specs.Watched.{WatchedState, AppendsPrefix}
 use Rattle.ud_io.specs.Buffering.{AppendsAllBut}
 
 -- `Stream`: the contents of a writer, `None` if it doesn't report them, whether it has failed, and
--- whether a write was tried since the last flush that succeeded.
+-- whether a write was tried since the last successful flush.
 pub record Stream : Type 0 where
   pub contents : Option (List ℕ)
   pub failed : Bool
@@ -33,7 +33,7 @@ TakesBy false false old new bytes left = AppendsAllBut old new bytes left
 TakesBy false true old new bytes left = AppendsPrefix old new bytes
 TakesBy true failed old new bytes left = (failed ≡ true) × Keeps old new
 
--- `TakesAllBut old new bytes left`: `TakesBy` of these streams.
+-- `TakesAllBut old new bytes left`: `TakesBy` for these streams.
 abbrev pub TakesAllBut : Stream → Stream → List ℕ → List ℕ → Type 0
 TakesAllBut old new bytes left =
     TakesBy old.failed new.failed old.contents new.contents bytes left
@@ -45,7 +45,7 @@ pub record Sends (old new : Stream) (bytes : List ℕ) : Type 0 where
   pub fused : old.failed ≡ true → new ≡ old
 
 -- `Accepts contents buffered left out out' bytes`: `bytes` were appended after `buffered`, and
--- `left` is buffered now, unless the writer has failed.
+-- `left` is now buffered, unless the writer has failed.
 abbrev pub Accepts : {W : Type 0} → (W → Option (List ℕ)) → List ℕ → List ℕ → WatchedState W →
     WatchedState W → List ℕ → Type 0
 Accepts contents buffered left out out' bytes =

@@ -1,8 +1,8 @@
-//! Readers and writers that record a failure, and writing all of some bytes.
+//! Readers and writers that record a failure, and functions that write all of some bytes.
 //!
 //! `specs/Watched.antt` defines what one call reads or writes, `specs/Buffering.antt` which bytes
-//! are still on their way to a writer, and `specs/Streams.antt` what becomes of bytes that are sent
-//! to a writer, whether or not it has failed.
+//! are still on their way to a writer, and `specs/Streams.antt` what happens to bytes sent to a
+//! writer, whether or not it has failed.
 #![tactic(auto)]
 
 mod watched;

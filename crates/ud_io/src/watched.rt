@@ -1,7 +1,7 @@
 //! Readers and writers that record a failure.
 //!
 //! A recorded failure stays, so that a run can decide at its end whether every byte was read and
-//! written. No failed call is repeated by itself, not even an interrupted one.
+//! written. Failed calls aren't repeated automatically, not even interrupted ones.
 
 ghost use Rattle.std.specs.Prelude.{◌≡◌, true, false, is_none, not, if◌then◌else◌};
 ghost use Rattle.std.specs.Io.KnownBytes.{Keeps};
@@ -10,14 +10,14 @@ ghost use Rattle.ud_io.specs.Watched.{ReadsOnce, WritesOnce};
 use std::io::{Read, Write};
 use std::marker::Model;
 
-/// A reader or a writer that records whether a call of it has failed.
+/// A reader or a writer that records whether a call has failed.
 #[derive(Drop)]
 pub struct Watched<T> {
     /// The wrapped reader or writer.
     inner: T,
     /// A call has failed. Once true, it stays true.
     failed: bool,
-    /// A write was tried since the last flush that succeeded.
+    /// A write was tried since the last successful flush.
     unflushed: bool,
 }
 
@@ -34,7 +34,7 @@ impl<T> Model for Watched<T> {
 }
 
 impl<T> Watched<T> {
-    /// Wraps a reader or a writer of which no call has failed.
+    /// Wraps a reader or a writer with no failure recorded.
     pub fn new(inner: T) -> Watched<T>
         ensures inner { result.inner ≡ inner }
         ensures failed { result.failed ≡ false }
@@ -61,7 +61,7 @@ impl<T> Watched<T> {
         self.failed
     }
 
-    /// Returns whether a write was tried since the last flush that succeeded.
+    /// Returns whether a write was tried since the last successful flush.
     pub fn unflushed(&self) -> bool
         ensures { result ≡ self.now.unflushed }
     {
@@ -96,13 +96,13 @@ impl<R: Read> Watched<R> {
 }
 
 impl<W: Write> Watched<W> {
-    /// Writes a prefix of `bytes` by one call of the writer, even if `bytes` is empty.
+    /// Writes a prefix of `bytes` with one call of the writer, even if `bytes` is empty.
     ///
-    /// Returns the length of that prefix, which is 0 only if `bytes` is empty.
+    /// Returns the length of that prefix, 0 only if `bytes` is empty.
     ///
     /// # Errors
-    /// `None` if the write fails, even by an interruption, or if the writer takes none of at least
-    /// one byte. Nothing was written, and the writer is fused.
+    /// `None` if the write fails, even by an interruption, or if the writer takes no byte of a
+    /// nonempty `bytes`. Nothing was written, and the writer is fused.
     pub fn write(&mut self, bytes: &[u8]) -> Option<usize>
         requires not_failed { self.old.failed ≡ false }
         ensures once { WritesOnce (W.contents self.old.inner) (W.contents self.new.inner) result

@@ -1,4 +1,4 @@
-//! Writing all of some bytes, or as many as a writer takes before it fails.
+//! Writes all of some bytes, or as many as a writer takes before it fails.
 
 ghost use Rattle.std.specs.Prelude.{◌≡◌, [], false, not};
 ghost use Rattle.std.specs.List.{flat_map};
@@ -30,7 +30,7 @@ pub fn write_all<W: Write>(out: &mut Watched<W>, bytes: &[u8]) -> bool
     true
 }
 
-/// Writes all of `bytes`, unless a write has failed before.
+/// Writes all of `bytes`, unless a write has already failed.
 pub fn send<W: Write>(out: &mut Watched<W>, bytes: &[u8])
     ensures { Sends (stream_of W.contents out.old) (stream_of W.contents out.new) bytes.now }
 {

@@ -1,4 +1,4 @@
--- The table of symbols that the options set, and what it decides of a condition (C11 6.5, 6.10.1).
+-- The table of symbols that the options set, and how it decides a condition (C11 6.5, 6.10.1).
 pub mod Table
 pub mod Constants
 pub mod Tokens

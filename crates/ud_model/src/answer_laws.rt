@@ -29,8 +29,8 @@ use crate::output_laws::Preprocessing;
 /// A second run changes nothing.
 ///
 /// The arguments only decide conditions: none of -s, -S, -b, -l, -c, -n, -iD and -iU is given. The
-/// input has no fault, and no line of the output is too long. Then the answer to the same arguments
-/// and that output is the output itself, without a message, and with the status of a copy
+/// input has no fault, and no line of the output is too long. The answer to the same arguments and
+/// that output is then that output again, without a message, and with the status of a copy
 /// (unifdef(1)).
 pub fn law_answer_again()
     ensures { (args : List (List ℕ)) (input : List ℕ) (a : Answer) → Succeeds args input a →
@@ -38,23 +38,23 @@ pub fn law_answer_again()
         IsAnswer args a.output (copy_answer args a.output) }
 {}
 
-/// The lines that are selected, as the tool reads them, are the same of input and output.
+/// Input and output have the same selected lines, as the tool reads them.
 ///
 /// The arguments only decide conditions, and the input has no fault. Each symbol that the options
-/// don't name is any number, and each condition that is evaluated may be decided in any way that
-/// this allows. The lines selected of the output are then those selected of the input, byte by byte
-/// (C11 6.10.1p4, p6). Under `-t` each line is read by itself, as text without comments.
+/// don't name may be any number, and each evaluated condition may be decided in any way that this
+/// allows. The lines selected from the output are then those selected from the input, byte by byte
+/// (C11 6.10.1p4, p6). Under `-t` each line is read by itself, and comments are plain text.
 pub fn law_answer_reading_selects()
     ensures { (args : List (List ℕ)) (input : List ℕ) (a : Answer) → Succeeds args input a →
         IsPlain (options_of args) → SelectsAlike (options_of args) input a.output }
 {}
 
-/// A C compiler selects the same text of input and output, unless `-t` is given.
+/// A C compiler selects the same text from input and output, unless `-t` is given.
 ///
 /// The arguments only decide conditions, without `-t`, and the input has no fault. Each symbol that
-/// the options don't name is any number, and C may decide each condition that it evaluates in any
-/// way that this allows. Each line is read as C reads it. The lines that C selects of the output
-/// are then those that it selects of the input, byte by byte (C11 5.1.1.2, 6.10.1p4, p6).
+/// the options don't name may be any number, and C may decide each evaluated condition in any way
+/// that this allows. Each line is read as C reads it. C then selects the same lines from the output
+/// as from the input, byte by byte (C11 5.1.1.2, 6.10.1p4, p6).
 pub fn law_answer_selects()
     ensures readings { (args : List (List ℕ)) → IsPlainC (options_of args) →
         (text : List ℕ) (t : Tree Reading) → IsTreeOf (options_of args) text t →
@@ -67,11 +67,11 @@ pub fn law_answer_selects()
 /// A program stays the same, file by file and include by include, unless `-t` is given.
 ///
 /// The arguments only decide conditions, without `-t`. Each file of a tree is replaced by the
-/// answer to it, or stays as it is. A preprocessor goes through a file and those that it includes,
-/// and each line that it takes may change its state. It decides each condition in the state in
-/// which it is evaluated, in a way that C may if the options are true. Whatever state it can reach
-/// with the files, it can reach with their outputs, by the same lines in the same order (C11
-/// 5.1.1.2, 6.10.1p6, 6.10.2). If it has one choice at most each time, it reaches no other.
+/// answer to it, or left alone. A preprocessor goes through a file and the files it includes, and
+/// each line that it takes may change its state. It decides each condition in its current state, in
+/// a way that C may if the options are true. Whatever state it can reach with the files, it can
+/// reach with their outputs, by the same lines in the same order (C11 5.1.1.2, 6.10.1p6, 6.10.2).
+/// If it never has more than one choice, it reaches no other.
 pub fn law_answer_processed<P: Preprocessing>()
     ensures as_before { (args : List (List ℕ)) → IsPlainC (options_of args) →
         DecidesAsC (options_of args).table P.decides → (k : FileTree args P.File) (f : P.File)
@@ -89,19 +89,19 @@ pub fn law_answer_processed<P: Preprocessing>()
 /// After a run, the build may forget a symbol that no condition of the output names.
 ///
 /// The arguments only decide conditions, without `-t`, and the input has no fault. Compile the
-/// output with any other definition of that symbol, or with none. C may then decide the conditions
-/// of the output as it may decide those of the input with the options, and it selects the same
-/// lines, byte by byte (C11 6.10.1p4, p6).
+/// output with any other definition of that symbol, or with none. C may then decide the output's
+/// conditions as it may decide the input's with the options, and it selects the same lines, byte by
+/// byte (C11 6.10.1p4, p6).
 pub fn law_answer_symbol_is_gone()
     ensures { (args : List (List ℕ)) (input : List ℕ) (a : Answer) → Succeeds args input a →
         IsPlainC (options_of args) → (name : List ℕ) (u : List Argument) →
         SelectsWithout (options_of args) name u input a.output }
 {}
 
-/// Only dead lines go, and all of them do.
+/// Exactly the dead lines are removed.
 ///
 /// The arguments only decide conditions, and the input has no fault. A text line is live if some
-/// world selects it that agrees with the decided conditions. The text lines of the output are then
+/// world that agrees with the decided conditions selects it. The text lines of the output are then
 /// the live ones of the input, byte by byte and in order (unifdef(1)). Each line that C may select
 /// is live, so C selects no line that is removed (C11 6.10.1p4, p6). A line that stays is selected
 /// if C gives the unknown conditions the truths of such a world. Whether it may do so depends on
@@ -115,9 +115,9 @@ pub fn law_answer_only_dead()
 
 /// The status reports whether output and input differ.
 ///
-/// The arguments have none of -n, -s and -S, and the input has no fault. The status is then that of
-/// a text of which some line differs exactly if output and input are different bytes (unifdef(1)).
-/// Under `-x2` both statuses are 0.
+/// The arguments have none of -n, -s and -S, and the input has no fault. The status is then the one
+/// for changed lines exactly if output and input are different bytes (unifdef(1)). Under `-x2` both
+/// statuses are 0.
 pub fn law_answer_status()
     ensures { (args : List (List ℕ)) (input : List ℕ) (a : Answer) → Succeeds args input a →
         PrintsText (options_of args) → a.status
@@ -127,9 +127,9 @@ pub fn law_answer_status()
 /// A text may be processed part by part, unless `-n` is given.
 ///
 /// The first part has no fault. It is empty or ends in a newline, with no backslash before it
-/// unless `-t` is given. The output for both parts is then that for the first one, and that for the
-/// second one. The fault of the second part is that of both, as many lines later as the first one
-/// has. Some line differs if one of either part does (unifdef(1)).
+/// unless `-t` is given. The output for the whole is then the output for the first part, then that
+/// for the second. A fault of the second part is a fault of the whole, later by the lines of the
+/// first. Some line differs if a line of either part does (unifdef(1)).
 pub fn law_answer_in_parts()
     ensures outcome { (o : Options) (text more : List ℕ) (r s : Outcome) →
         MayBeParts o text more → HasOutcome o text r → r.fault ≡ None → HasOutcome o more s →

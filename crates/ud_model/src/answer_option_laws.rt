@@ -1,4 +1,4 @@
-//! Laws of options, stated for arguments and answers: what a user who types an option may rely on.
+//! Laws of options, stated for arguments and answers: what the user of an option may rely on.
 //!
 //! `option_laws` states them for options and outcomes. The clause `answer` of the tool carries them
 //! over to the program: an answer here is what the program writes and returns.
@@ -41,8 +41,8 @@ ghost use Rattle.ud_model.specs.declared.kind.Mode.{Mode};
 /// The list of `-s` is complete for arguments, too.
 ///
 /// `-s` before arguments without `-S` lists the names of an input without a fault. Other arguments
-/// have the same settings, and agree with these on each listed symbol and on each to which its
-/// value leads. Then both have the same answer (unifdef(1)).
+/// have the same settings, and agree with these on each listed symbol and on every symbol its value
+/// leads to. Both then have the same answer (unifdef(1)).
 pub fn law_answer_by_list()
     ensures lists { (args : List (List ℕ)) → has_flag (codes "S") (parsed_args args) ≡ false →
         options_of (codes "-s" ∷ args) ≡ with_listing (options_of args) }
@@ -53,10 +53,9 @@ pub fn law_answer_by_list()
 
 /// One more option changes nothing if its symbol isn't on the list of `-s`.
 ///
-/// The option is `-DX`, `-DX=VALUE` or `-UX`, anywhere among the options, first and last included.
-/// `-s` before the other arguments, which have no `-S`, lists the names of the input without a
-/// fault. X isn't on the list, and no symbol has the value X. Then the answer is the same
-/// (unifdef(1)).
+/// The option is `-DX`, `-DX=VALUE` or `-UX`, anywhere among the options, also first or last. `-s`
+/// before the other arguments, which have no `-S`, lists the names of the input without a fault. X
+/// isn't on the list, and no symbol has the value X. Then the answer is the same (unifdef(1)).
 pub fn law_answer_with_option()
     ensures { (args more : List (List ℕ)) (name input : List ℕ) (a : Answer) →
         AddsOption name args more → NeverCounts args input name → Succeeds args input a →
@@ -76,10 +75,10 @@ pub fn law_answer_in_place()
         AreBlankedBy (options_of args) js a.output }
 {}
 
-/// Each line that was read is printed by exactly one of a run and its run with `-c`.
+/// A run and the same run with `-c` print each line that was read exactly once between them.
 ///
 /// The arguments have none of `-s`, `-S`, `-b`, `-l`, `-c` and `-n`, and `-c` comes before them.
-/// The run without `-c` prints a line that stays, perhaps edited. The run with `-c` prints a line
+/// The run without `-c` prints the lines that stay, perhaps edited. The run with `-c` prints those
 /// that the other removes, unchanged. Both have the same message (unifdef(1)).
 pub fn law_answer_complement()
     ensures words { (args : List (List ℕ)) → options_of (codes "-c" ∷ args)
@@ -91,13 +90,12 @@ pub fn law_answer_complement()
         ShareLines js a.output c.output }
 {}
 
-/// Under `-K` each text line stays that stays without it.
+/// `-K` removes no further text line.
 ///
-/// `-K` comes before the other arguments. Line by line, as far as both runs read: a line that is no
-/// directive and is removed with `-K` is removed without it, too. A run reads up to its first
-/// fault, or to the end, and either run may have a fault that the other one hasn't. Without `-s`,
-/// `-S`, `-b`, `-l`, `-c` and `-n`, the output is the pieces of the lines that were read
-/// (unifdef(1)).
+/// `-K` comes before the other arguments. Line by line, as far as both runs read: a text line that
+/// is removed with `-K` is removed without it, too. A run reads up to its first fault, or to the
+/// end, and either run may have a fault that the other lacks. Without `-s`, `-S`, `-b`, `-l`, `-c`
+/// and `-n`, the output is the pieces of the lines that were read (unifdef(1)).
 pub fn law_answer_strict_keeps_text()
     ensures words { (args : List (List ℕ)) →
         options_of (codes "-K" ∷ args) ≡ under_strict (options_of args) }
@@ -115,11 +113,11 @@ pub fn law_answer_strict_keeps_text()
 ///
 /// The other arguments only decide conditions: none of `-s`, `-S`, `-b`, `-l`, `-c`, `-n`, `-iD`
 /// and `-iU`. The selected lines of the output are those of the input, but for the inserted ones.
-/// Under `-t` they are so as the tool reads them, without comments, and a compiler may select
-/// others. Counting on from line to line, and anew after each inserted `#line`, each line has its
-/// number in the input. Without `-t` a compiler counts so too, but for the input's own `#line`
-/// directives, which it obeys, and those in a group that it skips, which it ignores
-/// (C11 6.10.1p6, 6.10.4p3, unifdef(1)).
+/// Under `-t` this is as the tool reads them, with comments as plain text, and a compiler may
+/// select others. Counting on from line to line, and anew after each inserted `#line`, each line
+/// has its number in the input. Without `-t` a compiler counts alike, but for the input's own
+/// `#line` directives, which it obeys, and those in a group that it skips, which it ignores (C11
+/// 6.10.1p6, 6.10.4p3, unifdef(1)).
 pub fn law_answer_numbers()
     ensures renumbers { (args : List (List ℕ)) → usage_fault args ≡ None →
         KeepsNumbers args (codes "-n" ∷ args) }

@@ -25,7 +25,7 @@ pub fn is_digit(byte: u8) -> bool
     byte.is_ascii_digit()
 }
 
-/// Each letter, digit and underscore at its own index, and a period at every other one.
+/// The word bytes, each at its own index; a period fills every other index.
 static WORD_BYTES: [u8; 256] = *b"\
     ................................\
     ................0123456789......\
@@ -44,8 +44,7 @@ pub fn is_word_byte(byte: u8) -> bool
     WORD_BYTES[byte as usize] != b'.'
 }
 
-/// Returns whether `text` is an identifier: word bytes, at least one, of which the first is no
-/// digit.
+/// Returns whether `text` is an identifier: one or more word bytes, not beginning with a digit.
 pub fn is_identifier(text: &[u8]) -> bool
     ensures { result ≡ is_identifier text.now }
 {
@@ -94,7 +93,7 @@ pub fn skip_white(bytes: &[u8]) -> &[u8]
 
 /// Returns the length of the longest prefix that has only word bytes.
 ///
-/// Four bytes are read at a time, so that three instructions suffice for one.
+/// Reads four bytes at a time: each then takes three instructions.
 #[inline(always)]
 pub fn word_len(bytes: &[u8]) -> usize
     ensures bound { result ≤ length bytes.now }

@@ -7,6 +7,6 @@ pub enum Cond {
     Yes,
     /// The condition is false whatever the other symbols are.
     No,
-    /// The options don't decide the condition, or it isn't understood.
+    /// The options don't decide the condition, or its text isn't understood.
     Unknown,
 }

@@ -1,6 +1,6 @@
 //! The keywords of the directives that unifdef acts on (C11 6.10.1, C23 6.10).
 //!
-//! All code that looks for a keyword goes by this table, or is proved against its definition:
+//! All code that looks for a keyword uses this table, or is proved against its definition:
 //! `keywords` in `specs/sections/Directives.antt`. A new directive needs a row in both.
 
 ghost use Rattle.std.specs.Prelude.{◌≡◌, map};
@@ -28,7 +28,7 @@ pub fn kind_of(word: &[u8]) -> Option<Kind>
     kind_among(&KEYWORDS, word)
 }
 
-/// Returns the kind in the first of `rows` that has this word, or `None`.
+/// Returns the kind in the first of `rows` with this word, or `None`.
 fn kind_among(mut rows: &[(&[u8], Kind)], word: &[u8]) -> Option<Kind>
     ensures { result ≡ spec.kind_among (map (λ row. (row.0.now, row.1)) rows.entry.now) word.now }
 {
@@ -48,8 +48,8 @@ pub fn is_prefix_of_keyword(word: &[u8]) -> bool
     KEYWORDS.iter().any(|row| row.0.starts_with(word))
 }
 
-/// Returns whether the first byte begins a word that is no keyword and no prefix of one. `second`
-/// follows `first`, and needn't belong to the word.
+/// Returns whether a word that begins with `first` is neither a keyword nor a prefix of one.
+/// `second` follows `first`, and needn't belong to the word.
 ///
 /// Each keyword begins with `if`, `el` or `en`, so at most four comparisons decide. The table would
 /// take two for each row.

@@ -9,7 +9,7 @@ pub enum Mode {
     Plain,
 }
 
-/// The comment that is unclosed at a line's end (C11 6.4.9).
+/// The comment left open at a line's end (C11 6.4.9).
 #[derive(Clone, Copy, Debug, PartialEq, Eq)]
 pub enum CommentAt {
     /// No comment.

@@ -50,10 +50,10 @@ ghost use Rattle.ud_model.specs.conditions.CValues.{Number, number, IsCValue};
 ghost use Rattle.ud_model.specs.answer.OptionArguments.{IsOptionWord};
 ghost use Rattle.ud_model.specs.text.Prefixes.{IsPrefix};
 
-/// A text has lines in exactly one way.
+/// A text splits into lines in exactly one way.
 ///
-/// Line k has the number k, and its body and its ending are its bytes. A text that goes on has its
-/// whole lines and the rest in exactly one way, too.
+/// Line k has the number k, and its body and its ending are its bytes. A text that goes on splits
+/// into whole lines and a rest in exactly one way, too.
 pub fn law_lines()
     ensures exists { (text : List ℕ) → AreLines text (texts_of text) }
     ensures only { (text : List ℕ) (ls : List (List ℕ)) → AreLines text ls → ls ≡ texts_of text }
@@ -67,8 +67,8 @@ pub fn law_lines()
         (ls ≡ whole_lines text) × (rest ≡ partial_line text) }
 {}
 
-/// A spliced text has comments, literals and single bytes in exactly one way, and the computed
-/// cells are those of these lexemes.
+/// A spliced text splits into comments, literals and single bytes in exactly one way, and the
+/// computed cells are the cells of these lexemes.
 pub fn law_lexemes()
     ensures exists { (text : List ℕ) → (pieces : List Lexeme) × AreLexemes pieces text }
     ensures only { (text : List ℕ) (pieces others : List Lexeme) → AreLexemes pieces text →
@@ -80,7 +80,7 @@ pub fn law_lexemes()
         ≡ record { kind = kind; more = length bytes } }
 {}
 
-/// The end of a text lies in a comment or a literal exactly if the last lexeme is one that is open.
+/// The end of a text lies in a comment or a literal exactly if the last lexeme is open.
 ///
 /// So lines join the next one exactly if the last of them is spliced or the last lexeme is an open
 /// block comment, and the comment at a line's end is that lexeme (C11 5.1.1.2).
@@ -98,8 +98,8 @@ pub fn law_end_of_text()
         ((is_spliced l ≡ true) × LastIsOpen line_comment pieces) }
 {}
 
-/// A scan depends on the logical line alone: after a line that has an ending and doesn't join the
-/// next one, lines are scanned as if no line came before them.
+/// A scan depends on the logical line alone: after a line with an ending that doesn't join the next
+/// one, lines are scanned as if none came before them.
 pub fn law_scan_alone()
     ensures line { (before group : List Reading) (m : Mode) (l : Line) → EndsLogicalLine before →
         scan_after (before ++ group) m l ≡ scan_after group m l }
@@ -126,8 +126,8 @@ pub fn law_scans_stay()
         IsPrefix (readings_of ls) (readings_of (ls ++ more)) }
 {}
 
-/// The content of a line is read off its masked line, which is split in one way at most: white
-/// space, `#`, white space, a word and the rest (C11 6.10).
+/// The content of a line is that of its masked line, which splits in one way at most: white space,
+/// `#`, white space, a word and the rest (C11 6.10).
 pub fn law_directive()
     ensures parts { (masked : List ℕ) (p q : DirectiveParts) → AreParts p masked →
         AreParts q masked → p ≡ q }
@@ -143,8 +143,8 @@ pub fn law_one_tree()
     ensures { (t u : Tree Reading) → lines t ≡ lines u → t ≡ u }
 {}
 
-/// The verdict on a line depends only on the lines up to it: the table over a whole section agrees
-/// with the groups so far, and a longer text begins with the marks of the shorter one.
+/// The verdict on a line depends only on it and the lines before it: the table over a whole section
+/// agrees with the groups so far, and a longer text begins with the marks of the shorter one.
 pub fn law_marks_stay()
     ensures table { (t : Tree Reading) → marks_in true t ≡ marks_so_far true t }
     ensures stays { (t u : Tree Reading) (more : List (Item Reading)) → lines u ≡ lines t ++ more →
@@ -159,7 +159,7 @@ pub fn law_each_line()
     ensures levels { (t : Tree Reading) → length (levels t) ≡ length (lines t) }
 {}
 
-/// A line has one fault at most, and none if no case holds.
+/// A line has at most one fault, and none if no case holds.
 pub fn law_one_fault()
     ensures one { (xs : List (Item Reading)) (x : Item Reading) (f g : Fault) → FaultOf xs x f →
         FaultOf xs x g → f ≡ g }
@@ -167,8 +167,8 @@ pub fn law_one_fault()
         NoneHolds xs x cases → FaultOf xs x f → ⊥ }
 {}
 
-/// A fault of the text so far is the fault of every longer text, whether that goes on or has ended.
-/// The output before it is the same.
+/// A fault of the text so far is the fault of every longer text, whether it goes on or has ended,
+/// with the same output before it.
 pub fn law_fault_stays()
     ensures { (o : Options) (given more : List ℕ) (r : Outcome) → HasOutcomeSoFar o given r →
         (f : Fault) → r.fault ≡ Some f → HasOutcomeSoFar o (given ++ more) r ×
@@ -176,10 +176,10 @@ pub fn law_fault_stays()
 {}
 
 /// The reading and the output of a text so far are prefixes of those of every longer text, whether
-/// that goes on or has ended.
+/// it goes on or has ended.
 ///
-/// That is true of the items; of the pieces of the lines, whatever a line's piece is by the lines
-/// before it; and of the output, in each style and if names are listed.
+/// So are the items; the lines' pieces, whatever piece each line has after the lines before it; and
+/// the output, in each style and if names are listed.
 pub fn law_output_grows()
     ensures items_so_far { (o : Options) (given more : List ℕ) (xs ys : List (Item Reading))
         (t u : Tree Reading) (f g : Option Fault) → ReadsSoFar o given xs t f →
@@ -198,8 +198,8 @@ pub fn law_output_grows()
         IsPrefix r.output s.output }
 {}
 
-/// A text is read in exactly one way, as items with a tree, as far as its first fault. The items
-/// are the lines of the tree. A text that goes on is read in exactly one way, too.
+/// A text is read in exactly one way, as items with a tree, up to its first fault. The items are
+/// the lines of the tree. A text that goes on is read in exactly one way, too.
 pub fn law_one_reading()
     ensures exists { (o : Options) (input : List ℕ) →
         (xs : List (Item Reading)) × (t : Tree Reading) × (f : Option Fault) ×
@@ -219,8 +219,7 @@ pub fn law_one_reading()
         (t : Tree Reading) (f : Option Fault) → ReadsSoFar o given xs t f → lines t ≡ xs }
 {}
 
-/// A text has exactly one outcome, whether it has ended or goes on: that of the items as which it
-/// is read.
+/// A text has exactly one outcome, whether it has ended or goes on: that of its items.
 pub fn law_one_outcome()
     ensures exists { (o : Options) (input : List ℕ) → (r : Outcome) × HasOutcome o input r }
     ensures only { (o : Options) (input : List ℕ) (r s : Outcome) → HasOutcome o input r →
@@ -233,9 +232,9 @@ pub fn law_one_outcome()
 
 /// Each argument is parsed by itself, in order.
 ///
-/// After `--` each argument is an operand, and so is each from the first operand on. The letters of
-/// an argument give options, of which the last may wait for the next argument. Read letter by
-/// letter, as the code reads them, they give the same.
+/// After `--` every argument is an operand, and so is every argument after the first operand. An
+/// argument's letters give options, and the last may wait for the next argument. Reading letter by
+/// letter, as the code does, gives the same.
 pub fn law_arguments()
     ensures ended { (n : ℕ) (args : List (List ℕ)) →
         parsed_from n (codes "--" ∷ args) ≡ operands_from (suc n) args }
@@ -257,7 +256,7 @@ pub fn law_one_answer()
         IsAnswer args input b → a ≡ b }
 {}
 
-/// A text has one tree at most, and the computed tree is the one that it has (C11 6.5).
+/// A text has one expression tree at most, and the computed tree is that one (C11 6.5).
 pub fn law_one_expression()
     ensures only { (text : List ℕ) (e f : Expression) → IsWritten text e → IsWritten text f →
         e ≡ f }
@@ -267,8 +266,8 @@ pub fn law_one_expression()
         IsWritten text e }
 {}
 
-/// The condition and the names of an `#if` or `#elif` are those of the tree of its text. Without a
-/// tree, the condition is unknown and there are no names.
+/// The tree of the text of an `#if` or `#elif` gives its condition and its names. Without a tree,
+/// the condition is unknown and there are no names.
 pub fn law_expression_cond()
     ensures cond { (text : List ℕ) (e : Expression) (table : List Argument) (rules : Rules) →
         IsWritten text e → expression_cond text table rules ≡ tree_cond e table rules }
@@ -288,8 +287,7 @@ pub fn law_condition_by_entries()
         condition_of kind after table rules ≡ condition_of kind after other rules }
 {}
 
-/// The computed text to which a symbol resolves is the one to which it resolves, from name to name;
-/// there is no other.
+/// A symbol resolves, from name to name, to the computed text and to no other.
 pub fn law_symbol_end()
     ensures found { (table : List Argument) (n v : List ℕ) → ResolvesTo table n v →
         resolve table n ≡ Some v }
@@ -299,9 +297,9 @@ pub fn law_symbol_end()
 
 /// A known value is the C value, and a decided condition is true or false as in C.
 ///
-/// Suppose the value of an expression is known, with or without `strict`. Then each value that C
-/// may give the expression is this number, whatever the names are that the table leaves open (C11
-/// 6.10.1p4, 6.5).
+/// Suppose the value of an expression is known, with or without `strict`. Then C can give the
+/// expression only this number, whatever the names are that the table leaves open (C11 6.10.1p4,
+/// 6.5).
 pub fn law_known_stays()
     ensures value { (table : List Argument) (strict : Bool) (e : Expression) (n : ℤ) (c : Number) →
         value_of table strict e ≡ Some n → IsCValue table e c → number c ≡ n }

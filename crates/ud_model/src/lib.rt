@@ -1,4 +1,4 @@
-//! The definition of unifdef: the lines of a text, which of them are kept, and what is printed.
+//! The definition of unifdef: the lines of a text, which of them stay, and what is printed.
 //!
 //! The definitions are in `specs/`, a folder and a file for each subject.
 //! `specs/answer/Answer.antt` puts them together. This crate also has the plain types that the

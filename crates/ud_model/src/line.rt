@@ -4,8 +4,6 @@ ghost use Rattle.std.specs.Prelude.{IsTrue};
 ghost use Rattle.ud_model.specs.text.Lines.{is_ending};
 
 /// A line of a text: the bytes of its body, then those of its ending (POSIX XBD 3.206).
-///
-/// The line is borrowed: its bytes stand where the text is buffered.
 #[derive(Clone, Copy, Debug, PartialEq, Eq)]
 pub struct Line<'a> {
     /// The bytes of the line without its ending. A carriage return that no newline follows belongs
@@ -15,6 +13,6 @@ pub struct Line<'a> {
     pub ending: &'a [u8],
     /// The line's number in its text, from 1.
     pub number: u32,
-    /// The ending is one of these three.
+    /// `ending` is one of these three.
     pub ghost ended: { IsTrue (is_ending ending.now) },
 }

@@ -1,9 +1,9 @@
 //! The operators of an expression.
 
-/// An operator of a condition's expression (C11 6.5.3 to 6.5.14, without those that no constant
+/// An operator of a condition's expression (C11 6.5.3 to 6.5.14, except operators that no constant
 /// expression has).
 ///
-/// `Minus` is used between two operands and before one; `Not` and `Complement` only before one.
+/// `Minus` is binary or unary; `Not` and `Complement` are unary.
 #[derive(Clone, Copy, Debug, PartialEq, Eq)]
 pub enum Operator {
     /// `||`

@@ -1,4 +1,4 @@
-//! Laws of options: the guarantees on which a user of an option may rely.
+//! Laws of options: what the user of an option may rely on.
 
 ghost use Rattle.std.specs.Prelude.{◌≡◌, ◌≢◌, ◌∷◌, codes, ℕ, List, [], map, Option, Some, None};
 ghost use Rattle.std.specs.Prelude.{Bool, true, false, ◌||◌, ◌⊎◌, ℤ};
@@ -36,9 +36,9 @@ ghost use Rattle.ud_model.specs.declared.settings.Listing.{Listing};
 /// The list of `-s` is complete: it has every symbol that counts for the text.
 ///
 /// If `-s` lists the names of a text without a fault, only these symbols count: the listed ones,
-/// and those to which the value of a listed one leads. Options with the same settings and the same
+/// and those that the value of a listed one leads to. Options with the same settings and the same
 /// entry for each of them give the text the same outcome (unifdef(1)). If neither option is `-iD`
-/// or `-iU`, a list that was made with any other symbols serves, too, and the fault is the same.
+/// or `-iU`, a list made with any other symbols serves as well, and the fault is the same.
 pub fn law_list_is_complete()
     ensures listed { (o p : Options) (input : List ℕ) (l r : Outcome) →
         HasOutcome (with_listing o) input l → l.fault ≡ None → AreAlikeBy l.output o p →
@@ -54,7 +54,7 @@ pub fn law_list_is_complete()
 /// The last option that names a symbol counts.
 ///
 /// Options with the same settings that give each name the same last entry give a text the same
-/// outcome. It doesn't matter in which order the symbols are named, or how often (unifdef(1)).
+/// outcome. The order in which symbols are named doesn't matter, nor how often (unifdef(1)).
 pub fn law_last_option_counts()
     ensures { (o p : Options) (input : List ℕ) (r : Outcome) → p.settings ≡ o.settings →
         HaveSameEntries o.table p.table → HasOutcome o input r → HasOutcome p input r }
@@ -64,7 +64,7 @@ pub fn law_last_option_counts()
 /// in the input.
 ///
 /// Each line of the output has the number and the ending of the line at its position in the input.
-/// As its verdict demands, it is that line, its edited form, or its ending alone; under `-c`, too
+/// By the verdict it is that line, its edited form, or its ending alone, also under `-c`
 /// (unifdef(1)). A last line without an ending leaves no line if it is removed.
 pub fn law_lines_keep_their_place()
     ensures as_many { (o : Options) (input : List ℕ) (r : Outcome) → Blanks o →
@@ -76,8 +76,8 @@ pub fn law_lines_keep_their_place()
 
 /// A run and its complement print each line exactly once.
 ///
-/// The run with `-c` has the same fault. A line that was read is printed by the run without `-c` if
-/// it stays, as it is or edited. Else it is printed by the run with `-c`, as it is (unifdef(1)).
+/// The run with `-c` has the same fault. The run without `-c` prints each line read that stays, as
+/// it is or edited. The run with `-c` prints each other line read, as it is (unifdef(1)).
 pub fn law_complement()
     ensures fault { (o : Options) (input : List ℕ) (r s : Outcome) →
         RunsWithComplement o input r s → s.fault ≡ r.fault }
@@ -87,19 +87,18 @@ pub fn law_complement()
 
 /// Under `-n`, and under `-b`, each line can be traced to its number in the input.
 ///
-/// The lines that are inserted come between logical lines. Each is scanned by itself, as a `#line`
-/// or a blank line, and each other line is scanned as without these options. Counting on from line
-/// to line, and anew after each inserted `#line`, a line has its own number in the input
-/// (C11 6.10.4p3, unifdef(1)).
+/// Inserted lines come between logical lines. Each is scanned by itself, as a `#line` or a blank
+/// line, and each other line as without these options. Counting on from line to line, and anew
+/// after each inserted `#line`, a line has its own number in the input (C11 6.10.4p3, unifdef(1)).
 pub fn law_lines_are_counted()
     ensures { (o : Options) (input : List ℕ) (js : List Judged) (r s : Outcome) →
         AddsNumbers o input r s → JudgedAs o input js → CountsLines o js r.output s.output }
 {}
 
-/// Under `-K` no further condition is decided, and none in another way.
+/// `-K` decides no further condition, and none differently.
 ///
-/// A value that is known under `-K` is known without it, and is the same. A condition that is
-/// decided under `-K` is decided alike without it (unifdef(1)).
+/// A value known under `-K` is known without it, and is the same. A condition decided under `-K` is
+/// decided alike without it (unifdef(1)).
 pub fn law_strict_decides_less()
     ensures value { (table : List Argument) (e : Expression) (n : ℤ) →
         value_of table true e ≡ Some n → value_of table false e ≡ Some n }
@@ -110,10 +109,10 @@ pub fn law_strict_decides_less()
 
 /// The lines that `-n` and `-b` insert change no section.
 ///
-/// The tree of the output is that of the output without these options, with the inserted lines as
-/// text lines. Each other line has the same scan, and each condition is decided alike. If each
-/// opener has the same truth in both, the same lines are selected of both, but for the inserted
-/// ones (C11 6.10.1p6, unifdef(1)).
+/// The output has the tree that it has without these options, with the inserted lines as text
+/// lines. Each other line has the same scan, and each condition is decided alike. If each opener
+/// has the same truth in both, the same lines are selected from both, but for the inserted ones
+/// (C11 6.10.1p6, unifdef(1)).
 pub fn law_inserted_lines_change_no_section()
     ensures tree { (o : Options) (input : List ℕ) (r s : Outcome) → AddsNumbers o input r s →
         (us : Nodes Reading) → IsTreeOf o r.output (closed us) →
@@ -126,8 +125,8 @@ pub fn law_inserted_lines_change_no_section()
 /// Further symbols never reverse a condition.
 ///
 /// If further symbols are named, a condition that was decided is decided alike, or is unknown: a
-/// symbol's value may have a `u`, and an undefined symbol may be called. It is never decided the
-/// other way round (C11 6.10.1p4, unifdef(1)).
+/// symbol's value may have a `u`, and an undefined symbol may be used with arguments. It is never
+/// decided the other way round (C11 6.10.1p4, unifdef(1)).
 pub fn law_more_never_turns()
     ensures value { (t u : List Argument) → ExtendsTable t u →
         (strict : Bool) (e : Expression) (n : ℤ) → value_of t strict e ≡ Some n →

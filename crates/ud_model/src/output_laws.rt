@@ -1,4 +1,4 @@
-//! Laws of the output: the meaning of a text after it was pruned and printed.
+//! Laws of the output: the meaning of a text that was pruned and printed.
 
 ghost use Rattle.std.specs.Prelude.{◌≡◌, ◌↔◌, ℕ, List, map, not, true, false, Bool, bytes_eq, None};
 ghost use Rattle.ud_model.specs.text.Lines.{lines_of};
@@ -34,25 +34,25 @@ pub fn law_changed()
 {}
 
 /// Pruning keeps the selected lines: in a world that agrees with the decided conditions, the lines
-/// selected of the pruned nodes are those selected of the nodes (C11 6.10.1p6).
+/// selected from the pruned nodes are those selected from the nodes (C11 6.10.1p6).
 pub fn law_selected_tree()
     ensures { (w : World Reading) (ns : Nodes Reading) (ps : Nodes (Edited Reading)) →
         IsPruned ns ps → Agrees w ns → selected (λ e. w e.line) ps
         ≡ map (edited Verdict.Keep) (selected w ns) }
 {}
 
-/// Exactly the dead lines go: a text line of nodes stays if some world that agrees with the decided
-/// conditions selects it, and else it is removed (C11 6.10.1p6).
+/// Exactly the dead lines are removed: a text line stays if some world that agrees with the decided
+/// conditions selects it, and otherwise goes (C11 6.10.1p6).
 ///
-/// No line has the number of another. Such a world may give an unknown condition either truth,
+/// No two lines have the same number. Such a world may give an unknown condition either truth,
 /// whatever the condition says.
 pub fn law_only_dead_lines()
     ensures { (ns : Nodes Reading) → AreNumbered ns →
         AreLive ns (map (λ e. e.line) (text_lines_in (pruned_lines ns))) }
 {}
 
-/// The output is well nested: the lines that the marks leave of nodes, with edited directives, have
-/// exactly one tree whose sections are all closed (unifdef(1)).
+/// The output is well nested: the lines that the marks leave, with edited directives, have exactly
+/// one tree whose sections are all closed (unifdef(1)).
 pub fn law_printed()
     ensures exists { (ns : Nodes Reading) → (ps : Nodes (Edited Reading)) × IsPruned ns ps }
     ensures only { (ns : Nodes Reading) (ps qs : Nodes (Edited Reading)) → IsPruned ns ps →
@@ -68,8 +68,8 @@ pub fn law_pruned()
         IsPruned ns ps ↔ ArePruned ns ps }
 {}
 
-/// A text without a fault has a tree whose sections are all closed, and a text has one tree at most
-/// (C11 6.10).
+/// A text without a fault has a tree whose sections are all closed, and no text has two trees (C11
+/// 6.10).
 pub fn law_tree_of()
     ensures exists { (o : Options) (input : List ℕ) (r : Outcome) → HasOutcome o input r →
         r.fault ≡ None → (ns : Nodes Reading) × IsTreeOf o input (closed ns) }
@@ -80,8 +80,8 @@ pub fn law_tree_of()
 /// The output needs no further run of unifdef(1).
 ///
 /// The output has a tree whose sections are all closed: the pruned tree of the input, each line as
-/// it is printed. No opener with a condition in it is decided. Unless a line of the output is too
-/// long, a run over the output prints it unchanged, without a fault.
+/// it is printed. No opener of it has a decided condition. Unless a line of the output is too long,
+/// a run over the output prints it unchanged, without a fault.
 pub fn law_reread()
     ensures tree { (o : Options) (input : List ℕ) (r : Outcome) → IsClean o input r →
         (ns : Nodes Reading) → IsTreeOf o input (closed ns) →
@@ -96,8 +96,8 @@ pub fn law_reread()
 
 /// A world selects the same lines of input and output.
 ///
-/// Each opener of the output can be given the truth of the opener from which it comes. If the world
-/// agrees with the decided conditions of the input, both then have the same selected lines, byte by
+/// Each opener of the output can be given the truth of the opener it comes from. If the world
+/// agrees with the input's decided conditions, it then selects the same lines from both, byte by
 /// byte (C11 6.10.1p6).
 pub fn law_selected()
     ensures truths { (k : CleanRun) (w : World Reading) →
@@ -107,13 +107,13 @@ pub fn law_selected()
         selected_bytes v k.after ≡ selected_bytes w k.before }
 {}
 
-/// The lines that are selected, as the tool reads them, are the same of input and output.
+/// Input and output have the same selected lines, as the tool reads them.
 ///
-/// Each symbol that the options don't name is any number, and each condition that is evaluated may
-/// be decided in any way that this allows. The lines selected of the output are those selected of
+/// Each symbol that the options don't name may be any number, and each evaluated condition may be
+/// decided in any way that this allows. The lines selected from the output are those selected from
 /// the input, byte by byte (C11 6.10.1p4, p6). Each opener of the output has the very condition of
-/// the opener from which it comes. So the output may be decided as the input may. Each line is read
-/// in one mode: under `-t` in plain mode, in which comments and continuations are text.
+/// the opener it comes from. So the output may be decided as the input may. Each line is read in
+/// one mode: under `-t` in plain mode, where comments and continuations are text.
 pub fn law_reading_selects()
     ensures readings { (o : Options) → IsPlain o → (text : List ℕ) (t : Tree Reading) →
         IsTreeOf o text t → map (λ x. reading_of x) (lines t)
@@ -127,11 +127,11 @@ pub fn law_reading_selects()
         IsCPair k.options w k.before v k.after → IsCWorld k.options.table v k.after }
 {}
 
-/// A C compiler selects the same lines of input and output, unless `-t` is given.
+/// A C compiler selects the same lines from input and output, unless `-t` is given.
 ///
-/// Without `-t` each line is read in C mode, as C reads it. So what is selected is what C selects:
-/// this is `law_reading_selects` for a compiler. Under `-t` a compiler may select other lines, for
-/// it reads comments as such (C11 5.1.1.2, 6.10.1p4, p6).
+/// Without `-t` each line is read in C mode, as C reads it. This is `law_reading_selects` for a
+/// compiler. Under `-t` a compiler may select other lines, for it recognizes comments (C11 5.1.1.2,
+/// 6.10.1p4, p6).
 pub fn law_c_selects()
     ensures readings { (o : Options) → IsPlainC o → (text : List ℕ) (t : Tree Reading) →
         IsTreeOf o text t → map (λ x. reading_of x) (lines t) ≡ read_as Mode.C text }
@@ -147,9 +147,9 @@ pub fn law_c_selects()
 
 /// The build may forget a symbol that no condition names.
 ///
-/// No condition of the nodes has the name, and no symbol has it as its value. Let another table say
-/// of that name alone something else, or nothing. By either table C may then give the conditions
-/// the same truths, so it selects the same lines (C11 6.10.1p4, p6).
+/// No condition of the nodes has the name, and no symbol has it as its value. Let another table
+/// differ from this one on that name alone. C may then give the conditions the same truths by
+/// either table, so it selects the same lines (C11 6.10.1p4, p6).
 pub fn law_symbol_is_gone()
     ensures { (t u : List Argument) (name : List ℕ) (ns : Nodes Reading) → IsGone t name ns →
         DifferAtMostAt name t u → (w : World Reading) → IsCWorld t w ns ↔ IsCWorld u w ns }
@@ -158,7 +158,7 @@ pub fn law_symbol_is_gone()
 /// A preprocessor: what it may do in each state. It may have several choices, or none (C11 5.1.1.2,
 /// 6.10).
 pub trait Preprocessing {
-    /// All that is known between two lines: the macros, what was written, the open files.
+    /// All that a preprocessor knows between two lines: macros, text written, open files.
     type State;
     /// A file that a line may include.
     type File;
@@ -172,12 +172,12 @@ pub trait Preprocessing {
     ghost decides: { Self.State → Condition → Bool → Self.State → Type 0 };
 }
 
-/// A preprocessor processes the pruned files as it processes the files, include by include.
+/// A preprocessor treats the pruned files as it treats the files, include by include.
 ///
-/// A line may change the state or include a file, by the state that it is taken in. Each condition
-/// is decided in the state in which it is evaluated. Let these decisions agree with the decided
-/// conditions. Whatever state the files lead to, the pruned files then lead to it as well (C11
-/// 6.10.1p6, 6.10.2). A state may list the lines taken, so these are the same, in order.
+/// A line may change the state or include a file, depending on the state. Each condition is decided
+/// in the state where it is evaluated. Let these decisions agree with the decided conditions.
+/// Whatever state the files lead to, the pruned files then also lead to (C11 6.10.1p6, 6.10.2). A
+/// state may list the lines taken, so these are the same, in order.
 pub fn law_processed_tree<P: Preprocessing>()
     ensures { let p = over_readings P.takes P.enters P.leaves P.decides in
         (files : P.File → Nodes Reading) (outputs : P.File → Nodes (Edited Reading)) →

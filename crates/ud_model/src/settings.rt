@@ -1,4 +1,4 @@
-//! The options but for those that name symbols.
+//! The options other than those that name symbols.
 
 /// The list that is printed in place of the text.
 #[derive(Clone, Copy, Debug, PartialEq, Eq, Default)]
@@ -24,8 +24,7 @@ pub enum ExitMode {
     Two,
 }
 
-/// The options but for those that name symbols, as they were given (unifdef(1)). By default none
-/// was given.
+/// The options other than those that name symbols, as given (unifdef(1)). The default is none.
 #[derive(Clone, Copy, Debug, PartialEq, Eq, Default)]
 pub struct Settings {
     /// Strings, comments and continuations are ignored everywhere (`-t`).
@@ -34,9 +33,9 @@ pub struct Settings {
     pub constants: bool,
     /// `&&` and `||` are unknown if either operand is (`-K`).
     pub strict: bool,
-    /// Removed lines are blanked and not deleted (`-b`, `-l`).
+    /// Removed lines are blanked rather than deleted (`-b`, `-l`).
     pub blank: bool,
-    /// Lines that would be removed are kept, and the other way round (`-c`).
+    /// Lines that would be removed are kept, and vice versa (`-c`).
     pub complement: bool,
     /// A `#line` directive follows deleted lines (`-n`).
     pub renumber: bool,

@@ -3,7 +3,7 @@
 --   reading_at mode l scan n       the line `l` with this scan and the number `n`
 --   read_after mode before l       the line `l`, read after the readings `before`
 --   AreTexts rs                    none of the lines `rs` has a directive
---   HaveBytes bytes rs             the lines `rs` are those of the bytes
+--   HaveBytes bytes rs             the bytes split into the lines `rs`
 --   Walked mode text read ..       the lines `read` of a text were read
 --   len_of s                       how many bytes the stretch `s` has
 --   is_one_line s                  the stretch `s` is one line
@@ -11,8 +11,8 @@
 --   CanBeRead s                    the scanner can read the line of the stretch `s`
 --   IsNext mode whole read next ..   the stretch `next` has the lines after the lines `read`
 --
--- Example: a walk over `x;` newline `#if A` newline reads a text line at first. The next line is
--- read by the pass: only a pass needs the scan of it.
+-- Example: a walk over `x;` newline `#if A` newline first reads a text line. The pass reads the
+-- next line, since only the pass needs its scan.
 use Rattle.std.specs.Prelude.{◌≡◌, ℕ, ◌+◌, ◌<◌, ◌≤◌, List, [], ◌∷◌, ◌++◌, length, map, take}
 use Rattle.std.specs.Prelude.{Bool, true, false}
 use Rattle.std.specs.List.{concat}
@@ -35,8 +35,8 @@ use Rattle.ud_passes.specs.declared.walk.Stretch.TheVariants.{Texts, Fitting, To
 abbrev pub reading_at : Mode → Line → Scan → ℕ → Reading
 reading_at mode l scan n = record { line = record l { number = n }; mode = mode; scan = scan }
 
--- `read_after mode before l`: the line `l` as it is read after the readings `before`, with the
--- number that it has there.
+-- `read_after mode before l`: the line `l`, read after the readings `before`, with its number
+-- there.
 abbrev pub read_after : Mode → List Reading → Line → Reading
 read_after mode before l = reading_at mode l (scan_after before mode l) (1 + length before)
 
@@ -45,7 +45,7 @@ abbrev pub AreTexts : List Reading → Type 0
 AreTexts [] = Unit {0}
 AreTexts (r ∷ rs) = (content_of r.scan ≡ text) × AreTexts rs
 
--- `HaveBytes bytes rs`: the lines `rs` have together these bytes, and are the whole lines of these.
+-- `HaveBytes bytes rs`: the lines `rs` together are these bytes, split into whole lines.
 pub record HaveBytes (bytes : List ℕ) (rs : List Reading) : Type 0 where
   pub ends : AreWholeLines bytes
   pub first : ℕ
@@ -92,8 +92,8 @@ CanBeRead (Fitting line) =
     NoNewline line.body.now × (length (text_of (as_line line)) ≤ LINE_BYTES)
 
 -- `IsNext mode whole read next rest s`: after the lines `read`, the next lines are those of the
--- stretch, and the text after them is `rest`. A line that fits wasn't read yet: once a scanner
--- represents it, it was.
+-- stretch, and the text after them is `rest`. A line that fits isn't read yet: it is once a scanner
+-- represents it.
 abbrev pub IsNext : Mode → List ℕ → List Reading → Stretch → List ℕ → ScannerState → Type 0
 IsNext mode whole read (Texts bytes) rest s =
     (rs : List Reading) × AreTexts rs × HaveBytes bytes.now rs ×

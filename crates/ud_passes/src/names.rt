@@ -1,9 +1,9 @@
-//! The names on which the conditions of files depend, and the conditions that can't be listed.
+//! The names that the conditions of files depend on, and the conditions that can't be listed.
 //!
-//! `Names` keeps the lists of the files' names, and appends a table of how often each name occurs.
+//! `Names` keeps the files' lists of names, and appends a table of how often each name occurs.
 //! `specs/names/NameTables.antt` defines that table, and `UnlistedConditions.antt` which conditions
-//! of a text can't be listed. `RowViews.antt` and `UnlistedLines.antt` have what the code keeps of
-//! the rows, and of a text up to some line.
+//! of a text can't be listed. `RowViews.antt` and `UnlistedLines.antt` define what the code keeps
+//! of the rows, and of a text up to some line.
 
 ghost use Rattle.std.specs.Prelude.{◌≡◌, ◌+◌, ◌<◌, ◌^◌, ◌++◌, [], length, is_ok, IfOk, OnOk, OnErr};
 ghost use Rattle.std.specs.Prelude.{if◌then◌else◌};
@@ -24,19 +24,19 @@ mod texts;
 #[derive(Drop)]
 pub struct Names {
     alloc: Global,
-    /// The lists of the files' names, each of which is a line.
+    /// The files' lists of names, each name a line.
     list: Vec<u8>,
     /// The number of conditions that can't be listed.
     hidden: usize,
-    /// True if these conditions are listed and not only counted.
+    /// True if these conditions are listed, not only counted.
     lists_hidden: bool,
     /// A line for each of them: the file, the line's number, and the line.
     hidden_list: Vec<u8>,
 }
 
 impl Names {
-    /// Returns no names. `lists_hidden` says whether the conditions that can't be listed are shown
-    /// in a list of their own. Takes no memory; later calls take theirs from `alloc`.
+    /// Returns no names. `lists_hidden`: the conditions that can't be listed get a list of their
+    /// own. Takes no memory; later calls take theirs from `alloc`.
     pub fn new(alloc: Global, lists_hidden: bool) -> Names
         ensures list { result.list.items ≡ [] }
         ensures hidden { result.hidden ≡ 0 }
@@ -66,10 +66,10 @@ impl Names {
         self.hidden_list.as_slice()
     }
 
-    /// Adds the list of a file's names, each of which is a line.
+    /// Adds the list of a file's names, each a line.
     ///
     /// # Errors
-    /// Fails if memory runs out. Nothing was added then.
+    /// Fails if memory runs out. Then nothing was added.
     pub fn add(&mut self, list: &[u8]) -> Result<(), AllocError>
         ensures list { self.new.list.items ≡
             (if is_ok result then self.old.list.items ++ list.now else self.old.list.items) }
@@ -80,13 +80,12 @@ impl Names {
         self.list.extend_from_slice(list)
     }
 
-    /// Adds the conditions of a file's text that can't be listed. Its lines are read in this mode.
+    /// Adds the conditions of a file's text that can't be listed. Its lines are read in `mode`.
     ///
-    /// The text may have any length and any bytes. If there are more conditions than a `usize` can
-    /// count, they are counted up to that.
+    /// The text may have any length and any bytes. The count stops at the largest `usize`.
     ///
     /// # Errors
-    /// Fails if memory runs out. Nothing was added then.
+    /// Fails if memory runs out. Then nothing was added.
     pub fn add_hidden(&mut self, file: &[u8], text: &[u8], mode: Mode) -> Result<(), AllocError>
         ensures list { self.new.list.items ≡ self.old.list.items }
         ensures hidden { OnOk result
@@ -109,11 +108,11 @@ impl Names {
         Ok(())
     }
 
-    /// Appends a table of the names: a line for each name, most used first, with its number in 7
-    /// columns. Names with the same number ascend by their bytes.
+    /// Appends a table of the names: a line for each name, most used first, with its count in 7
+    /// columns. Names with the same count ascend by their bytes.
     ///
     /// # Errors
-    /// Fails if memory runs out. A part of the table may have been appended.
+    /// Fails if memory runs out. Part of the table may have been appended.
     pub fn append_to(&self, out: &mut Vec<u8>) -> Result<(), AllocError>
         ensures grows { Grows out.old.items out.new.items }
         ensures table { OnOk result
@@ -127,7 +126,7 @@ impl Names {
 /// listed.
 ///
 /// # Errors
-/// Fails if memory runs out. Nothing was appended then.
+/// Fails if memory runs out. Then nothing was appended.
 fn list_unlisted(
     alloc: Global,
     file: File<'_>,

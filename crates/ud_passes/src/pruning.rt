@@ -1,13 +1,13 @@
 //! A text without the operands of its conditions that the symbols decide.
 //!
 //! The pass goes over a text line by line. Text lines are copied many at once. An `#if` or `#elif`
-//! that joins no other line is edited if the edited line, read by itself, is the line that is
-//! meant; else it stays. Bytes are only removed.
+//! that joins no other line is edited if the edited line, by itself, is read as meant; else it
+//! stays. Bytes are only removed.
 //!
 //! ud_model defines the rest of a condition (`conditions.ResidualTexts`) and of a line
-//! (`output.SimplifiedTexts`). `specs/pruning/PrunedTexts.antt` defines the rest of a text of any
-//! lines. `Cells.antt`, `EditedLines.antt` and `Passing.antt` beside it have what the code keeps of
-//! a condition's text, of a line and of a text.
+//! (`output.SimplifiedTexts`). `specs/pruning/PrunedTexts.antt` defines the rest of a text with
+//! lines of any length. `Cells.antt`, `EditedLines.antt` and `Passing.antt` beside it define what
+//! the code keeps of a condition's text, of a line and of a text.
 
 mod cells;
 mod conditions;

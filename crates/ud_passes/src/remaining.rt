@@ -1,13 +1,13 @@
-//! What texts still say of a symbol of the options, as a list or counted: conditions that name it,
-//! definitions of it, and words after an `#else` or `#endif`.
+//! Where texts still mention a symbol of the options, listed or counted: conditions that name it,
+//! its definitions, and words after an `#else` or `#endif`.
 //!
 //! The search goes over a text line by line. Text lines are skipped many at once, up to one that
-//! may define a symbol. A directive of a section and a definition begin a mention, and the lines
-//! that its line joins go on with it. Where the mention ends, its words are looked up.
+//! may define a symbol. A conditional directive or a definition begins a mention, which goes on
+//! with the lines that its line joins. When the mention ends, its words are looked up.
 //!
 //! `specs/remaining/Mentions.antt` defines the mentions of a text, `Definitions.antt` which lines
-//! define a symbol, and `ListedNames.antt` which mentions name one. `Reasons.antt` has what the
-//! list says of a mention, `RemainingLists.antt` the list, and `Searches.antt` what a search keeps.
+//! define a symbol, and `ListedNames.antt` which mentions name one. `Reasons.antt` defines the
+//! reason for a mention, `RemainingLists.antt` the list, and `Searches.antt` what a search keeps.
 
 ghost use Rattle.std.specs.Prelude.{◌≡◌, List, [], OnOk, OnErr};
 ghost use Rattle.ud_model.specs.conditions.Table.{Argument};
@@ -81,14 +81,14 @@ impl Remaining {
         self.search.list.as_slice()
     }
 
-    /// Adds what a text says of the symbols. `name` is that of its file.
+    /// Adds a text's mentions of the symbols. `name` is the file's name.
     ///
     /// `text` may have any length and any bytes. A condition whose comment never closes ends with
     /// the text. A line over `LINE_BYTES` has no condition and no definition, and joins no other
     /// line.
     ///
     /// # Errors
-    /// Fails if memory runs out. Nothing is then added.
+    /// Fails if memory runs out. Then nothing was added.
     pub fn add(
         &mut self,
         name: &[u8],

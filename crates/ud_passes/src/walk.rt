@@ -1,7 +1,7 @@
-//! A walk over the lines of a text, as each pass makes it.
+//! A walk over the lines of a text, which every pass makes.
 //!
-//! Text lines are passed many at once. Another line that fits is left to the pass, which reads it
-//! by the walk's scanner: so the scan needs no place of its own.
+//! Text lines are skipped many at once. Any other line that fits is left to the pass, which reads
+//! it by the walk's scanner, so the scan needs no place of its own.
 //!
 //! What comes next is a `Stretch`. A further kind of stretch needs a case in `IsNext`.
 
@@ -23,11 +23,11 @@ pub(crate) type LineScanner = Scanner<GrowingBuffer>;
 /// The next lines of a text.
 #[derive(Clone, Copy)]
 pub(crate) enum Stretch<'t> {
-    /// Text lines, which were read.
+    /// Text lines, already read.
     Texts(&'t [u8]),
-    /// A line that fits, which is to be read.
+    /// A line that fits, still to be read.
     Fitting(Line<'t>),
-    /// A line over the limit, which was passed.
+    /// A line over the limit, which was skipped.
     TooLong(Line<'t>),
 }
 
@@ -36,11 +36,11 @@ pub(crate) enum Stretch<'t> {
 pub(crate) struct Walk<'t> {
     /// The text from here on.
     rest: &'t [u8],
-    /// The scanner of the lines before.
+    /// The scanner, after the lines before.
     pub(crate) scanner: LineScanner,
 }
 
-/// Returns how many lines text lines are.
+/// Returns the number of these text lines.
 pub(crate) fn lines_in(bytes: &[u8]) -> usize
     ensures count { result ≡ length (whole_lines bytes.now) }
     ensures few { result ≤ length bytes.now }
@@ -75,7 +75,7 @@ impl<'t> Walk<'t> {
         self.rest
     }
 
-    /// Takes the next lines: text lines if some come next, or else one line.
+    /// Takes the next lines: text lines if any come next, else one line.
     pub(crate) fn next(&mut self, mode: Mode) -> Stretch<'t>
         requires some { 0 < length self.old.rest.now }
         ensures some { 0 < len_of result }
@@ -88,8 +88,8 @@ impl<'t> Walk<'t> {
         self.next_within(mode, self.rest.len())
     }
 
-    /// Takes the next lines: text lines with together at most `most` bytes if some come next, or
-    /// else one line.
+    /// Takes the next lines: text lines of at most `most` bytes in all if any come next, else one
+    /// line.
     pub(crate) fn next_within(&mut self, mode: Mode, most: usize) -> Stretch<'t>
         requires some { 0 < length self.old.rest.now }
         ensures one { most ≡ 0 → is_one_line result ≡ true }
@@ -115,7 +115,7 @@ impl<'t> Walk<'t> {
         Stretch::Texts(bytes)
     }
 
-    /// Takes the next line, also if it is a text line.
+    /// Takes the next line, even if it is a text line.
     fn next_line(&mut self, mode: Mode) -> Stretch<'t>
         requires some { 0 < length self.old.rest.now }
         ensures one { is_one_line result ≡ true }

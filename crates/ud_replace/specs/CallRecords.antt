@@ -13,13 +13,13 @@ use Rattle.ud_replace.specs.Calls.{Call, was_read, asked, made, appended, given,
 use Rattle.ud_replace.specs.Calls.{renamed, overwrote, removed, walked}
 use Rattle.ud_replace.specs.Calls.{WalkCall, met, followed, listed}
 
--- `walk_call_of w`: the same call over the bytes to which `w` refers.
+-- `walk_call_of w`: the same call, with the bytes that `w` refers to.
 abbrev pub walk_call_of : FolderWalk → WalkCall
 walk_call_of (Met path answer) = met path.now answer
 walk_call_of (Followed path answer) = followed path.now answer
 walk_call_of (Listed folder names answer) = listed folder.now (map (λ n. n.items) names.now) answer
 
--- `call_of c`: the same call over the bytes to which `c` refers.
+-- `call_of c`: the same call, with the bytes that `c` refers to.
 abbrev pub call_of : FolderCall → Call
 call_of (Read name text answer) = was_read name.now text.now answer
 call_of (MayWrite name answer) = asked name.now answer

@@ -1,17 +1,17 @@
--- Calls: what is asked of a folder, and what it answers.
+-- Calls: the calls of a folder, and its answers.
 --
---   WalkCall   a call that a walk over folders makes, with its answer
+--   WalkCall   a call made by a walk over folders, with its answer
 --   Call       a call of a folder with its answer
 use Rattle.std.specs.Prelude.{ℕ, List, Bool, Option, Result}
 use Rattle.ud_replace.specs.declared.folder.CreateError.{CreateError}
 use Rattle.ud_replace.specs.declared.node.Lookup.{Lookup}
 use Rattle.ud_replace.specs.declared.stat.FileStat.{FileStat}
 
--- `WalkCall`: a call that a walk over folders makes, with its answer. Paths are bytes.
+-- `WalkCall`: a call made by a walk over folders, with its answer. Paths are bytes.
 pub data WalkCall : Type 0 where
-  -- `met path answer`: what has the path
+  -- `met path answer`: what is at the path
   met : List ℕ → Lookup → WalkCall
-  -- `followed path answer`: whether the path is that of a folder, or of a link to one
+  -- `followed path answer`: whether the path leads to a folder
   followed : List ℕ → Bool → WalkCall
   -- `listed folder names answer`: these are all the names in the folder, or some of them
   listed : List ℕ → List (List ℕ) → Bool → WalkCall
@@ -22,19 +22,19 @@ pub data Call : Type 0 where
   was_read : List ℕ → List ℕ → Option FileStat → Call
   -- `asked name answer`: whether the user may write into the file
   asked : List ℕ → Bool → Call
-  -- `made name answer`: an empty file was made, or not
+  -- `made name answer`: an empty file was created, or not
   made : List ℕ → Result Unit CreateError → Call
-  -- `appended name bytes answer`: that many first bytes of `bytes` were appended, or none
+  -- `appended name bytes answer`: so many first bytes of `bytes` were appended, or none
   appended : List ℕ → List ℕ → Option ℕ → Call
-  -- `given name like answer`: the file got the mode and the owner of `like`, or not
+  -- `given name like answer`: the file was given the mode and the owner of `like`, or not
   given : List ℕ → FileStat → Bool → Call
   -- `synced name answer`: the bytes of the file are on the disk, or not
   synced : List ℕ → Bool → Call
-  -- `looked name answer`: what is known of the file
+  -- `looked name answer`: the facts about the file
   looked : List ℕ → Option FileStat → Call
   -- `renamed from to answer`: the file `from` was renamed to `to`, or not
   renamed : List ℕ → List ℕ → Bool → Call
-  -- `overwrote name text answer`: the file has `text` now, or any bytes
+  -- `overwrote name text answer`: the file now has `text`, or else any bytes
   overwrote : List ℕ → List ℕ → Bool → Call
   -- `removed name answer`: the file was removed, or not
   removed : List ℕ → Bool → Call

@@ -1,11 +1,11 @@
--- Filling: the calls that make a file of some bytes, and rename it over another one.
+-- Filling: the calls that fill a file with some bytes, and rename it over another one.
 --
 --   Takes name old bytes new                   `name` took these bytes
 --   AppendsAll name bytes old new all          `name` took all of `bytes`, or the last call failed
 --   IsVersionOf stat seen                      `seen` and `stat` are of the same version of a file
 --   LooksAgain name stat old new same          a file was looked at again
 --   Confirms name text stat old new r          a file still has the text that was read
---   Fills name fresh before text stat old new r   `fresh` got `text`, and the name `name`
+--   Fills name fresh before text stat old new r   `fresh` got `text`, and was renamed to `name`
 --
 -- `old` and `new` are the calls before and after, the newest first.
 use Rattle.std.specs.Prelude.{◌≡◌, ℕ, ◌≤◌, List, [], ◌∷◌, ◌++◌, length, take, Bool, true, false}
@@ -24,26 +24,26 @@ pub data Takes (name : List ℕ) (old : List Call) : List ℕ → List Call → 
       Takes name old bytes calls → n ≤ length rest →
       Takes name old (bytes ++ take n rest) (appended name rest (Some n) ∷ calls)
 
--- `TakesNone answer`: a call that appends took no byte.
+-- `TakesNone answer`: an appending call took no byte.
 abbrev pub TakesNone : Option ℕ → Type 0
 TakesNone None = Unit {0}
 TakesNone (Some n) = n ≡ 0
 
--- `AppendsAll name bytes old new all`: the file took all of `bytes`. Or it took some first bytes of
--- them, and then a call with the others took none.
+-- `AppendsAll name bytes old new all`: the file took all of `bytes`. Or it took a prefix of them,
+-- and then a call with the rest took none.
 pub data AppendsAll (name bytes : List ℕ) (old new : List Call) : Bool → Type 0 where
   all : Takes name old bytes new → AppendsAll name bytes old new true
   stopped : (taken rest : List ℕ) (calls : List Call) (answer : Option ℕ) →
       bytes ≡ taken ++ rest → Takes name old taken calls → TakesNone answer →
       new ≡ appended name rest answer ∷ calls → AppendsAll name bytes old new false
 
--- `IsVersionOf stat seen`: a look found a file, whose version is that of `stat`.
+-- `IsVersionOf stat seen`: a look found a file with the version of `stat`.
 abbrev pub IsVersionOf : FileStat → Option FileStat → Type 0
 IsVersionOf stat None = ⊥
 IsVersionOf stat (Some seen) = seen.version ≡ stat.version
 
 -- `LooksAgain name stat old new same`: the file was looked at again, and `same` if its version is
--- that of `stat`.
+-- the one in `stat`.
 pub data LooksAgain (name : List ℕ) (stat : FileStat) (old new : List Call) : Bool → Type 0 where
   seen_same : (seen : Option FileStat) → IsVersionOf stat seen → new ≡ looked name seen ∷ old →
       LooksAgain name stat old new true
@@ -51,8 +51,8 @@ pub data LooksAgain (name : List ℕ) (stat : FileStat) (old new : List Call) : 
       LooksAgain name stat old new false
 
 -- `Confirms name text stat old new r`: the file was read again. It still had the bytes `text`, and
--- the mode, the owner and the links of `stat`. Then it was looked at, and it was the version that
--- was read again. Or one of these calls failed or found something else, and `r` is the error.
+-- the mode, the owner and the links of `stat`. Then a look found it to be the version that was read
+-- again. Or one of these calls failed or found something else, and `r` is the error.
 pub data Confirms (name text : List ℕ) (stat : FileStat) (old new : List Call) :
     Result Unit ReplaceError → Type 0 where
   confirmed : (seen : FileStat) → has_facts_of stat seen ≡ true →
@@ -71,9 +71,9 @@ pub data Confirms (name text : List ℕ) (stat : FileStat) (old new : List Call)
       Confirms name text stat old new (Err ChangedMeanwhile)
 
 -- `Fills name fresh before text stat old new r`: `fresh` took all of `text`, got the mode and owner
--- of `stat`, and its bytes reached the disk. Then `name` was confirmed to have the bytes `before`
--- still, and `fresh` was renamed to `name`, or the rename failed. Or one of the calls before failed
--- and was the last one, and `r` is the error.
+-- of `stat`, and its bytes reached the disk. Then `name` was confirmed to still have the bytes
+-- `before`, and `fresh` was renamed to `name`, or the rename failed. Or one of the calls before
+-- failed and was the last one, and `r` is the error.
 pub data Fills (name fresh before text : List ℕ) (stat : FileStat) (old new : List Call) :
     Result Bool ReplaceError → Type 0 where
   filled : (taken seen : List Call) → AppendsAll fresh text old taken true →

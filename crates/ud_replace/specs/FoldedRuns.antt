@@ -1,9 +1,9 @@
--- FoldedRuns: the run over a text whose directives over several lines are folded.
+-- FoldedRuns: the run over a text with directives over several lines folded.
 --
 --   RunsPruned o text old new ran      the output with pruned conditions was appended to `old`
 --   LeavesFolded o lines               no outcome of the folded text `lines` is taken
 --   RunsFolded o lines old new ran     the restored output for `lines` was appended to `old`
---   TriesFolded o lines old new ran    one of the two, for the folded text `lines`
+--   TriesFolded o lines old new ran    either of these, for the folded text `lines`
 --   FoldsOrStays o text old new ran    the output for `text` was appended so, or the text stays
 use Rattle.std.specs.Prelude.{◌≡◌, ℕ, List, ◌++◌, true, Option, Some, None}
 use Rattle.ud_model.specs.sections.Items.{Options}
@@ -13,7 +13,7 @@ use Rattle.ud_replace.specs.declared.text_plan.TextRun.{TextRun}
 use Rattle.ud_replace.specs.TextOutcomes.{TextOptions, pruned, comes_back, StaysUnfolded, RunsOver}
 
 -- `RunsPruned o text old new ran`: `text` has no fault, and the output of the run over it was
--- appended to `old` with pruned conditions. `ran` has whether it differs, and the edited
+-- appended to `old` with pruned conditions. `ran` has whether it differs, and the number of edited
 -- conditions.
 pub record RunsPruned (o : Options) (text old new : List ℕ) (ran : TextRun) : Type 0 where
   pub outcome : Outcome
@@ -40,7 +40,7 @@ pub record RunsFolded (o : Options) (lines old new : List ℕ) (ran : TextRun) :
   pub differs_is : ran.differs ≡ (pruned o outcome).differs
   pub edited_is : ran.edited ≡ (pruned o outcome).edited
 
--- `TriesFolded o lines old new ran`: this was appended for the folded text `lines`, or none of its
+-- `TriesFolded o lines old new ran`: `RunsFolded` for the folded text `lines`, or none of its
 -- outcomes is taken.
 abbrev pub TriesFolded : Options → List ℕ → List ℕ → List ℕ → Option TextRun → Type 0
 TriesFolded o lines old new None = LeavesFolded o lines

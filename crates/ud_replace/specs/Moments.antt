@@ -4,14 +4,14 @@
 --   after c f                       the files after a call
 --   content first calls             the files after all these calls
 --   IsTrueOf c f                    the answer of a call is true of the files before it
---   AreTrue first calls             the answers of all these calls are
---   EachCall P old new              `P` holds of each call since `old`, and of the calls before it
+--   AreTrue first calls             the answers of all these calls are true
+--   EachCall P old new              `P` holds for each call since `old`, with the calls before it
 --   HasOutput o bytes found         what is found is the output for these bytes
 --   OldOrNew o name first old calls each file has its old bytes, or the output for them
---   StaysOldOrNew o name first old new  that holds after each of these calls
---   touches c n                     a call may change the file of a name
+--   StaysOldOrNew o name first old new  `OldOrNew` after each of these calls
+--   touches c n                     a call may change the file with this name
 --   TookOutput o name fresh old calls   the whole output for a file was taken
---   TouchesFreshOnly ..             a call changes the fresh file alone, or it is the rename
+--   TouchesFreshOnly ..             a call changes only the fresh file, or it is the rename
 use Rattle.std.specs.Prelude.{◌≡◌, ◌⊎◌, ℕ, List, [], ◌∷◌, ◌++◌, take, Bool, true, false, ◌||◌}
 use Rattle.std.specs.Prelude.{Option, Some, None, Ok, Err, bytes_eq, if◌then◌else◌}
 use Rattle.std.specs.Prelude.{option_map}
@@ -21,12 +21,12 @@ use Rattle.ud_replace.specs.Calls.{renamed, overwrote, removed, walked}
 use Rattle.ud_replace.specs.Filling.{Takes, Confirms}
 use Rattle.ud_replace.specs.TextOutcomes.{TextOptions, TextOutcome, HasTextOutcome}
 
--- `Files`: the bytes of each file, by its name; `None` if none has it, or if a killed run left it.
+-- `Files`: the bytes of each file, by its name; `None` if none has it or a killed run left it.
 abbrev pub Files : Type 0
 Files = List ℕ → Option (List ℕ)
 
--- `after c f`: the files after the call `c` over the files `f`. Nothing is known of a file that was
--- half overwritten: no clause speaks of it, and here it counts as written.
+-- `after c f`: the files after the call `c` over the files `f`. Nothing is known about a half
+-- overwritten file: no clause is about it, and here it counts as written.
 abbrev pub after : Call → Files → Files
 after (was_read m text seen) f n = f n
 after (asked m may) f n = f n
@@ -46,13 +46,13 @@ after (removed m true) f n = if bytes_eq n m then None else f n
 after (removed m false) f n = f n
 after (walked w) f n = f n
 
--- `content first calls`: the files `first` after these calls, of which the newest comes first.
+-- `content first calls`: the files `first` after these calls, the newest first.
 abbrev pub content : Files → List Call → Files
 content first [] = first
 content first (c ∷ earlier) = after c (content first earlier)
 
 -- `IsTrueOf c f`: the answer of `c` is true of the files `f`: a file that was read had those bytes,
--- and a file that was made had a free name.
+-- and a file that was created had a free name.
 abbrev pub IsTrueOf : Call → Files → Type 0
 IsTrueOf (was_read m text (Some stat)) f = f m ≡ Some text
 IsTrueOf (was_read m text None) f = Unit {0}
@@ -73,7 +73,7 @@ abbrev pub AreTrue : Files → List Call → Type 0
 AreTrue first [] = Unit {0}
 AreTrue first (c ∷ earlier) = IsTrueOf c (content first earlier) × AreTrue first earlier
 
--- `EachCall P old new`: `P c earlier` holds of each call `c` since `old`, with all calls before it.
+-- `EachCall P old new`: `P c earlier` holds for each call `c` since `old` and all calls before it.
 pub data EachCall (P : Call → List Call → Type 0) (old : List Call) : List Call → Type 0 where
   no_call : EachCall P old old
   then_call : {c : Call} {calls : List Call} → EachCall P old calls → P c calls →
@@ -86,8 +86,8 @@ pub record HasOutput (o : TextOptions) (bytes : List ℕ) (found : Option (List 
   pub no_fault : outcome.fault ≡ None
   pub is_output : found ≡ Some outcome.output
 
--- `OldOrNew o name first old calls`: each file that there was after `old` has the same bytes after
--- `calls`; or it is that of `name`, and has the output for them.
+-- `OldOrNew o name first old calls`: each file that existed after `old` has the same bytes after
+-- `calls`; or it is `name`, and has the output for them.
 abbrev pub OldOrNew : TextOptions → List ℕ → Files → List Call → List Call → Type 0
 OldOrNew o name first old calls = (n bytes : List ℕ) → content first old n ≡ Some bytes →
     (content first calls n ≡ Some bytes)
@@ -99,7 +99,7 @@ abbrev pub StaysOldOrNew : TextOptions → List ℕ → Files → List Call → 
 StaysOldOrNew o name first old new =
     EachCall (λ c earlier. OldOrNew o name first old (c ∷ earlier)) old new
 
--- `touches c n`: the call `c` may change the file `n`, or what has that name.
+-- `touches c n`: the call `c` may change the file `n`, or which file has that name.
 abbrev pub touches : Call → List ℕ → Bool
 touches (was_read m text seen) n = false
 touches (asked m may) n = false
@@ -113,10 +113,10 @@ touches (overwrote m text ok) n = bytes_eq n m
 touches (removed m gone) n = bytes_eq n m
 touches (walked w) n = false
 
--- `TookOutput o name fresh old calls`: after `old`, `name` was read, and the user was found to be
--- allowed to write into it. Then `fresh` was made, and took all of the output for the bytes that
--- were read. It got the mode and owner of `name`, and its bytes reached the disk. At last `name`
--- was read again, and it still had the same bytes.
+-- `TookOutput o name fresh old calls`: after `old`, `name` was read, and the user was found to have
+-- write permission for it. Then `fresh` was created, and took all of the output for the bytes read.
+-- It got the mode and owner of `name`, and its bytes reached the disk. Finally `name` was read
+-- again, and it still had the same bytes.
 pub record TookOutput (o : TextOptions) (name fresh : List ℕ) (old calls : List Call) : Type 0 where
   pub text : List ℕ
   pub stat : FileStat
@@ -129,7 +129,7 @@ pub record TookOutput (o : TextOptions) (name fresh : List ℕ) (old calls : Lis
   pub confirms : Confirms name text stat (synced fresh true ∷ given fresh stat true ∷ taken) calls
       (Ok tt)
 
--- `TouchesFreshOnly o name fresh old c earlier`: after `earlier`, the call `c` touches no file but
+-- `TouchesFreshOnly o name fresh old c earlier`: after `earlier`, the call `c` touches only
 -- `fresh`. Or it is the rename of `fresh` to `name`, and `fresh` took the whole output.
 abbrev pub TouchesFreshOnly : TextOptions → List ℕ → List ℕ → List Call → Call → List Call → Type 0
 TouchesFreshOnly o name fresh old c earlier =

@@ -2,11 +2,11 @@
 --
 --   Overwrites name before text stat old new r           the output is written into the file
 --   Renames into name fresh before text stat old new r   a file with the output is renamed over it
---   Puts into name fresh before text stat old new r      one of the two
+--   Puts into name fresh before text stat old new r      either of these
 --   Judges o into name fresh text stat old new r         what follows once the file is read
 --   Replaces o into id name fresh old new r              all calls of `replace`, which returned `r`
 --   Keeps o into id name fresh old new r text output edited   the same calls, with the output
---   RenamesAt, PutsAt, JudgesAt, ReplacesAt, KeepsAt     the same of a `Target`
+--   RenamesAt, PutsAt, JudgesAt, ReplacesAt, KeepsAt     the same for a `Target`
 --
 -- `old` and `new` are the calls before and after, the newest first.
 use Rattle.std.specs.Prelude.{◌≡◌, ◌⊎◌, ℕ, ◌<◌, ◌≤◌, List, ◌∷◌, Bool, true, false}
@@ -30,8 +30,8 @@ use Rattle.ud_replace.specs.Stats.{is_of}
 use Rattle.ud_replace.specs.TextOutcomes.{TextOptions, TextOutcome, HasTextOutcome, IsOutputOf}
 use Rattle.ud_replace.specs.Filling.{Confirms, Fills}
 
--- `Overwrites name before text stat old new r`: the file was confirmed to have the bytes `before`
--- still. Then `text` was written into it. If that failed, its old bytes were.
+-- `Overwrites name before text stat old new r`: the file was confirmed to still have the bytes
+-- `before`. Then `text` was written into it; if that failed, its old bytes were.
 pub data Overwrites (name before text : List ℕ) (stat : FileStat) (old new : List Call) :
     Result Update ReplaceError → Type 0 where
   unconfirmed : (e : ReplaceError) → Confirms name before stat old new (Err e) →
@@ -46,8 +46,8 @@ pub data Overwrites (name before text : List ℕ) (stat : FileStat) (old new : L
       new ≡ overwrote name before false ∷ overwrote name text false ∷ seen →
       Overwrites name before text stat old new (Err HalfWritten)
 
--- `Renames into name fresh before text stat old new r`: the file `fresh` was made, was filled with
--- `text`, and was renamed to `name`. If that failed, `fresh` was removed. If the folder can't be
+-- `Renames into name fresh before text stat old new r`: the file `fresh` was created, filled with
+-- `text`, and renamed to `name`. If that failed, `fresh` was removed. If the folder can't be
 -- written, or the rename failed, the file is written into, but only if `into`.
 pub data Renames (into : Bool) (name fresh before text : List ℕ) (stat : FileStat)
     (old new : List Call) : Result Update ReplaceError → Type 0 where
@@ -75,8 +75,8 @@ pub data Renames (into : Bool) (name fresh before text : List ℕ) (stat : FileS
       Renames into name fresh before text stat old new r
 
 -- `Puts into name fresh before text stat old new r`: a file with several links is left alone,
--- unless `into`. Else, if the user may write into the file, one with one link is replaced by
--- another file, and one with several is written into.
+-- unless `into`. Else, if the user may write into the file, it is replaced by another file if it
+-- has one link, and written into if it has several.
 pub data Puts (into : Bool) (name fresh before text : List ℕ) (stat : FileStat)
     (old new : List Call) : Result Update ReplaceError → Type 0 where
   several : 1 < stat.links → into ≡ false → new ≡ old →
@@ -103,8 +103,8 @@ pub data Judges (o : TextOptions) (into : Bool) (name fresh text : List ℕ) (st
       a.fault ≡ None → a.differs ≡ true → Puts into name fresh text a.output stat old new r →
       Judges o into name fresh text stat old new r
 
--- `Replaces o into id name fresh old new r`: the file was read once, and it was the file `id`. The
--- rest goes by its text.
+-- `Replaces o into id name fresh old new r`: the file was read once, and it was the file `id`. Its
+-- text decides the rest.
 pub data Replaces (o : TextOptions) (into : Bool) (id : FileId) (name fresh : List ℕ)
     (old new : List Call) : Result Update ReplaceError → Type 0 where
   unread : (text : List ℕ) → new ≡ was_read name text None ∷ old →
@@ -117,8 +117,8 @@ pub data Replaces (o : TextOptions) (into : Bool) (id : FileId) (name fresh : Li
       Judges o into name fresh text stat (was_read name text (Some stat) ∷ old) new r →
       Replaces o into id name fresh old new r
 
--- `Keeps o into id name fresh old new r text output edited`: the file `id` was read once, and the
--- rest went by its `text`. `output` and `edited` are those of the outcome of this text.
+-- `Keeps o into id name fresh old new r text output edited`: the file `id` was read once, and its
+-- `text` decided the rest. `output` and `edited` are those of the outcome of this text.
 pub data Keeps (o : TextOptions) (into : Bool) (id : FileId) (name fresh : List ℕ)
     (old new : List Call) (r : Result Update ReplaceError) (text output : List ℕ) (edited : ℕ) :
     Type 0 where

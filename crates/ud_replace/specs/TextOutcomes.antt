@@ -1,15 +1,15 @@
--- TextOutcomes: the outcome of a text: that of the run over it and, if that is wanted, of the pass
--- over its output that removes the operands which the symbols decide.
+-- TextOutcomes: the outcome of a text: of the run over it and, if wanted, of the pass over its
+-- output that removes decided operands.
 --
 --   TextOptions               the options of the run, and whether its conditions are pruned
 --   IsPlanned plan o          `o` has the options of a plan
 --   TextOutcome               the output, the fault, whether it differs, and the edited conditions
---   unpruned a, pruned o a    the outcome of a run, as it is and with pruned conditions
+--   unpruned a, pruned o a    the outcome of a run, without and with pruned conditions
 --   may_fold s                a run with the settings `s` reads C, and counts no lines
 --   goes_back lines text      the folded text `lines` isn't `text`, and is restored to it
 --   comes_back bytes          the restored text is folded to `bytes`
---   IsFolded o text a         the output for `text` is that of the outcome `a` of the folded text
---   StaysUnfolded o text      the output for `text` is none of a folded text
+--   IsFolded o text a         the output for `text` comes from the outcome `a` of the folded text
+--   StaysUnfolded o text      the output for `text` doesn't come from the folded text
 --   folded o a                the outcome `a` of a folded text, restored and with pruned conditions
 --   HasTextOutcome o text a   `a` is the outcome of `text`
 --   TextRun                   what a run over a text returns
@@ -19,7 +19,7 @@
 --   IsOutputOf o text output edited   the output of the outcome of a text
 --
 -- Example: under `-UA`, the output for the line `#if A || X` is that line. If conditions are
--- pruned, it is `#if X`. For the lines `#if A || \` and `X` it is that too: they are read as one.
+-- pruned, it is `#if X`. The lines `#if A || \` and `X` are read as one, with the same output.
 use Rattle.std.specs.Prelude.{◌≡◌, ℕ, List, ◌++◌, Bool, true, false, ◌||◌, Option, None}
 use Rattle.std.specs.Prelude.{nat_lt, not, ◌&&◌, bytes_eq}
 use Rattle.ud_model.specs.sections.Faults.{Fault}
@@ -50,15 +50,15 @@ pub record IsPlanned (plan : TextPlan) (o : TextOptions) : Type 0 where
   pub table : TableRepresents plan.run.symbols o.run.table
   pub prunes : o.prunes ≡ plan.prunes
 
--- `TextOutcome`: the output for a text, the fault of the text if there is one, whether the output
--- differs, and how many of its conditions were edited.
+-- `TextOutcome`: the output for a text, its fault if any, whether the output differs, and how many
+-- of its conditions were edited.
 pub record TextOutcome : Type 0 where
   pub output : List ℕ
   pub fault : Option Fault
   pub differs : Bool
   pub edited : ℕ
 
--- `unpruned a`: the outcome `a` of a run as it is.
+-- `unpruned a`: the outcome `a` of a run, unpruned.
 abbrev pub unpruned : Outcome → TextOutcome
 unpruned a = record { output = a.output; fault = a.fault; differs = a.differs; edited = 0 }
 
@@ -80,7 +80,7 @@ may_fold s = not s.plain && not s.blank && not s.renumber
 abbrev pub goes_back : List ℕ → List ℕ → Bool
 goes_back lines text = not (bytes_eq lines text) && bytes_eq (restored_text lines) text
 
--- `comes_back bytes`: the text that is restored from `bytes` is folded to them.
+-- `comes_back bytes`: the text restored from `bytes` is folded to `bytes`.
 abbrev pub comes_back : List ℕ → Bool
 comes_back bytes = bytes_eq (folded_text (restored_text bytes)) bytes
 
@@ -104,8 +104,8 @@ abbrev pub folded : Options → Outcome → TextOutcome
 folded o a = record (pruned o a) { output = restored_text (pruned o a).output }
 
 -- `HasTextOutcome o text r`: `r` is the outcome of `text`. If `text` is folded, it is the outcome
--- of the folded text. Else it is the outcome of the run over `text`, with pruned conditions if they
--- are to be pruned and the text has no fault.
+-- of the folded text. Else it is the outcome of the run over `text`, with pruned conditions if
+-- pruning is on and the text has no fault.
 pub data HasTextOutcome (o : TextOptions) (text : List ℕ) : TextOutcome → Type 0 where
   as_run : {a : Outcome} → o.prunes ≡ false → HasOutcome o.run text a →
       HasTextOutcome o text (unpruned a)
@@ -126,7 +126,7 @@ pub record RunsOver (o : TextOptions) (text old new : List ℕ) (ran : TextRun) 
   pub edited_is : ran.edited ≡ outcome.edited
 
 -- `error_of f`: the error of a file, by the fault of a run over its text. The text and the output
--- are in memory, so other faults than the text's mean that memory couldn't be allocated.
+-- are in memory, so a fault other than the text's means that memory ran out.
 abbrev pub error_of : RunFault → ReplaceError
 error_of (TextFault f) = Text (TextFault f)
 error_of (Section f) = Text (Section f)
@@ -140,8 +140,8 @@ pub data FailsOver (o : TextOptions) (text : List ℕ) : ReplaceError → Type 0
       outcome.fault ≡ text_fault_of f → ¬ (outcome.fault ≡ None) → FailsOver o text (Text f)
   over_memory : FailsOver o text OutOfMemory
 
--- `IsOutputOf o text output edited`: `output` is that of the outcome of `text`, and `edited` is the
--- number of its conditions that were edited.
+-- `IsOutputOf o text output edited`: `output` is the output of the outcome of `text`, and `edited`
+-- is the number of its edited conditions.
 pub data IsOutputOf (o : TextOptions) (text output : List ℕ) (edited : ℕ) : Type 0 where
   output_of : (r : TextOutcome) → HasTextOutcome o text r → output ≡ r.output →
       edited ≡ r.edited → IsOutputOf o text output edited

@@ -1,10 +1,10 @@
-//! A call of a folder, as `History` takes it.
+//! A call of a folder, for a `History`.
 
 use crate::folder::CreateError;
 use crate::node::Lookup;
 use crate::stat::FileStat;
 
-/// A call that a walk over folders makes, with its answer.
+/// A call made by a walk over folders, with its answer.
 #[derive(Clone, Copy, Drop)]
 pub enum FolderWalk<'a> {
     /// The path was looked at.
@@ -12,7 +12,7 @@ pub enum FolderWalk<'a> {
         path: &'a [u8],
         answer: Lookup,
     },
-    /// The path was found to be that of a folder, or of a link to one, or not.
+    /// The path was found to lead to a folder, or not.
     Followed {
         path: &'a [u8],
         answer: bool,
@@ -34,23 +34,23 @@ pub enum FolderCall<'a> {
         text: &'a [u8],
         answer: Option<FileStat>,
     },
-    /// The user was found to be allowed to write into the file, or not.
+    /// The user was found to have write permission for the file, or not.
     MayWrite {
         name: &'a [u8],
         answer: bool,
     },
-    /// An empty file was made, or not.
+    /// An empty file was created, or not.
     Create {
         name: &'a [u8],
         answer: Result<(), CreateError>,
     },
-    /// That many first bytes of `bytes` were appended, or none.
+    /// So many first bytes of `bytes` were appended, or none.
     Append {
         name: &'a [u8],
         bytes: &'a [u8],
         answer: Option<usize>,
     },
-    /// A file got the mode and the owner of `like`, or not.
+    /// A file was given the mode and the owner of `like`, or not.
     SetModeAndOwner {
         name: &'a [u8],
         like: FileStat,
@@ -72,7 +72,7 @@ pub enum FolderCall<'a> {
         to: &'a [u8],
         answer: bool,
     },
-    /// A file has `text` now, or any bytes.
+    /// A file now has `text`, or else any bytes.
     Overwrite {
         name: &'a [u8],
         text: &'a [u8],

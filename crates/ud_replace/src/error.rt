@@ -1,4 +1,4 @@
-//! What became of a file.
+//! What happened to a file.
 
 use thiserror::Error;
 use ud_faults::RunFault;
@@ -6,9 +6,9 @@ use ud_faults::RunFault;
 /// The treatment of a file whose text has no fault.
 #[derive(Clone, Copy, Debug, PartialEq, Eq)]
 pub enum Update {
-    /// The output is the text itself, and nothing was done.
+    /// The output is the text itself, so nothing was done.
     Unchanged,
-    /// A file with the output has the name now.
+    /// A file with the output now has the name.
     Replaced,
     /// The output was written into the file.
     WrittenInto,
@@ -16,7 +16,7 @@ pub enum Update {
 
 /// The reason why a file wasn't replaced.
 ///
-/// The file has its old bytes, but for `HalfWritten`. The texts of `Display` may change.
+/// The file has its old bytes, except for `HalfWritten`. The texts of `Display` may change.
 #[derive(Clone, Copy, Debug, PartialEq, Eq, Error)]
 pub enum ReplaceError {
     /// The text has a fault.
@@ -41,18 +41,18 @@ pub enum ReplaceError {
     /// other links than when it was read.
     #[error("the file was changed meanwhile")]
     ChangedMeanwhile,
-    /// There is a file of the name for the new one: another run is at this file. Or it was killed,
-    /// which can't be known.
+    /// The new file's name is taken: another run is at work on this file, or was killed; which one
+    /// can't be known.
     #[error("another run is at the file")]
     Locked,
     /// The output couldn't be written.
     #[error("the file can't be written")]
     Write,
-    /// The new file couldn't be renamed over the file, and writing into it wasn't allowed.
+    /// The new file couldn't be renamed over the old one, and writing into that wasn't allowed.
     #[error("the file can't be replaced")]
     NotRenamed,
-    /// Neither the output nor then the old bytes could be written into the file, which may have a
-    /// part of either.
+    /// Neither the output nor, after that, the old bytes could be written into the file, which may
+    /// have parts of either.
     #[error("the file is half written")]
     HalfWritten,
 }

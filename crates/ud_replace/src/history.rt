@@ -7,9 +7,9 @@ ghost use Rattle.ud_replace.specs.Calls.{Call};
 use crate::call::FolderCall;
 use std::marker::Model;
 
-/// The calls of a folder with their answers. It takes no memory: only clauses read it.
+/// The calls of a folder with their answers. It takes no memory: only contracts read it.
 ///
-/// Nothing ties it to what the system was asked. A type that implements `Folder` appends each call
+/// Nothing ties it to the actual system calls. A type that implements `Folder` appends each call
 /// that it makes.
 #[derive(Drop)]
 pub struct History {

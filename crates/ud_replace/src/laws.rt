@@ -1,4 +1,4 @@
-//! What the calls of `replace` come to: functions without a body, whose contracts are theorems.
+//! What the calls of `replace` amount to: functions without a body whose contracts are theorems.
 
 ghost use Rattle.std.specs.Prelude.{◌≡◌, ◌∷◌, List, Result, Option, Some, ℕ, false};
 ghost use Rattle.ud_replace.specs.declared.error.Update.{Update};
@@ -10,9 +10,9 @@ ghost use Rattle.ud_replace.specs.Moments.{Files, AreTrue, EachCall, StaysOldOrN
 ghost use Rattle.ud_replace.specs.Moments.{TouchesFreshOnly};
 ghost use Rattle.ud_replace.specs.TextOutcomes.{TextOptions};
 
-/// Whatever a folder answers, no call but the rename touches a file other than `fresh`. The rename
-/// comes after `fresh` took the whole output and its bytes reached the disk, and after the file was
-/// read again with the same bytes. Writing into files isn't allowed here.
+/// Whatever a folder answers, only the rename touches a file other than `fresh`. The rename comes
+/// after `fresh` got the whole output and its bytes reached the disk, and after the file was read
+/// again with the same bytes. Writing into files isn't allowed here.
 pub fn law_one_rename()
     ensures { (o : TextOptions) (id : FileId) (name fresh : List ℕ) (old new : List Call)
         (r : Result Update ReplaceError) → Replaces o false id name fresh old new r →
@@ -20,7 +20,7 @@ pub fn law_one_rename()
 {}
 
 /// If all answers are true, each file has its old bytes or the whole output for them after each
-/// call. A process that is killed between two calls leaves such a state. Writing into files isn't
+/// call. So a process killed between two calls leaves such a state. Writing into files isn't
 /// allowed here.
 pub fn law_old_or_new()
     ensures { (o : TextOptions) (f : Files) (id : FileId) (name fresh : List ℕ)

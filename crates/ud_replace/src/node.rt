@@ -1,6 +1,6 @@
-//! What has a path, as a walk over folders sees it.
+//! What is at a path, as a walk over folders sees it.
 
-/// Which kind of thing has a path.
+/// The kind of thing at a path.
 #[derive(Clone, Copy, Debug, PartialEq, Eq)]
 pub enum NodeKind {
     /// A regular file.
@@ -13,34 +13,34 @@ pub enum NodeKind {
     Other,
 }
 
-/// Which file it is, whatever its name.
+/// The identity of a file, whatever its name.
 #[derive(Clone, Copy, Debug, PartialEq, Eq, PartialOrd, Ord)]
 pub struct FileId {
     /// The number of the device.
     pub device: u64,
     /// The number of the file on that device.
     pub inode: u64,
-    /// When the file was made, in nanoseconds since the beginning of 1970; 0 if that isn't known. A
-    /// file that is made later may get the number of one that is gone.
+    /// When the file was created, in nanoseconds since the beginning of 1970; 0 if unknown. A later
+    /// file may get the number of one that is gone.
     pub born: u64,
 }
 
-/// A file, a folder or anything else that has a path.
+/// A file, a folder or anything else at a path.
 #[derive(Clone, Copy, Debug, PartialEq, Eq)]
 pub struct Node {
     /// Its kind.
     pub kind: NodeKind,
-    /// Which file it is.
+    /// Its identity.
     pub id: FileId,
 }
 
 /// The answer to a look at a path.
 #[derive(Clone, Copy, Debug, PartialEq, Eq)]
 pub enum Lookup {
-    /// This has the path.
+    /// This is at the path.
     Present(Node),
-    /// Nothing has the path.
+    /// Nothing is at the path.
     Absent,
-    /// The look failed, so it isn't known what has the path.
+    /// The look failed, so what is at the path isn't known.
     Unknown,
 }

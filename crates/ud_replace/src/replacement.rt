@@ -1,4 +1,4 @@
-//! Replacing one file by the output for it.
+//! Replaces one file by the output for it.
 
 ghost use Rattle.std.specs.Prelude.{◌≡◌, ◌<◌, List, [], true, false, is_ok};
 ghost use Rattle.ud_replace.specs.Calls.{Call};
@@ -17,22 +17,22 @@ use crate::text_run::run_text;
 use std::alloc::Global;
 use ud_engine::Watched;
 
-/// A file that is to be replaced.
+/// A file to replace.
 #[derive(Clone, Copy)]
 pub struct Target<'a> {
     /// The file's name.
     pub name: &'a [u8],
-    /// Which file it is.
+    /// Its identity.
     pub id: FileId,
-    /// The name of the file that is made in the same folder. While it is taken, no other run that
-    /// uses the same name replaces the file.
+    /// The name of the file to create in the same folder. While it is taken, no other run that uses
+    /// the same name replaces the file.
     pub fresh: &'a [u8],
     /// True if the output may be written into a file that has several links, whose folder can't be
-    /// written, or over which no file can be renamed.
+    /// written, or that nothing can be renamed over.
     pub write_into: bool,
 }
 
-/// A file's text, and what was known of the file before it was read.
+/// A file's text, and the facts about the file from before it was read.
 #[derive(Clone, Copy)]
 struct Before<'a> {
     alloc: Global,
@@ -43,32 +43,32 @@ struct Before<'a> {
 /// Replaces a file by the output for it, as the plan asks.
 ///
 /// The file is read once. If its text has no fault and the output differs, the file `fresh` is
-/// made in the same folder. It takes the output, and the mode and the owner of the file, and its
-/// bytes are brought to the disk. Then the file is read again. If it still has the same bytes,
-/// `fresh` is renamed over it.
+/// created in the same folder. It gets the output, and the file's mode and owner, and its bytes are
+/// synced to disk. Then the file is read again. If it still has the same bytes, `fresh` is renamed
+/// over it.
 ///
-/// So the only call that touches the file is the rename, after every byte of the output reached the
-/// disk (`law_one_rename`). After each call the file has its old bytes or all of the new ones, if
-/// the answers are true (`law_old_or_new`). Bytes that another program writes into the file between
-/// the last look and the rename are lost.
+/// So only the rename touches the file, after every byte of the output has reached the disk
+/// (`law_one_rename`). After each call the file has its old bytes or all of the new ones, if the
+/// answers are true (`law_old_or_new`). Bytes that another program writes into the file between the
+/// last look and the rename are lost.
 ///
-/// If `write_into` is set, a file that can't be replaced is written into. These two laws don't hold
-/// for it.
+/// If `write_into` is set, a file that can't be replaced is written into. For such a file the two
+/// laws don't hold.
 ///
 /// If the plan lists names, nothing is replaced.
 ///
 /// # Errors
-/// No file is changed, and `fresh` is removed again. Only after `HalfWritten` the file may have any
+/// No file is changed, and `fresh` is removed again. Only after `HalfWritten` may the file have any
 /// bytes.
 ///
-/// - `Read` if the file can't be read, the first time or again, and `OutOfMemory` if memory for the
+/// - `Read` if the file can't be read, or read again, and `OutOfMemory` if memory for the
 ///   output can't be allocated.
 /// - `Text` if the text has a fault.
-/// - `SeveralLinks`, `FolderDenied` and `NotRenamed` if the file could only be written into, and
+/// - `SeveralLinks`, `FolderDenied` and `NotRenamed` if the file can only be written into, and
 ///   `write_into` isn't set.
 /// - `ReadOnly` if the user may not write into the file.
-/// - `Locked` if there is a file of the name `fresh`.
-/// - `ChangedMeanwhile` if the file isn't `id`, or if it isn't any more as it was read.
+/// - `Locked` if there is already a file `fresh`.
+/// - `ChangedMeanwhile` if the file isn't `id`, or has changed since it was read.
 /// - `Write` if another call fails.
 /// - `HalfWritten` if the file was to be written into, and neither the output nor then the old
 ///   bytes could be.
@@ -96,8 +96,8 @@ pub fn replace<F: Folder>(
 }
 
 /// Replaces a file as `replace` does. Leaves its text in `text` and the output for it in `out`,
-/// which are empty before, and in `edited` the number of conditions of the output that were edited.
-/// The output is that of the text that was read, also if the file is unchanged.
+/// which must be empty before, and in `edited` the number of edited conditions of the output. The
+/// output is for the text that was read, even if the file is unchanged.
 ///
 /// # Errors
 /// As `replace`. Then `text` and `out` may have any bytes, and `edited` any number.
@@ -138,7 +138,7 @@ pub fn replace_keeping<F: Folder>(
     }
 }
 
-/// Replaces a file whose text was read.
+/// Replaces a file whose text has been read.
 fn replace_text<F: Folder>(
     plan: &TextPlan,
     folder: &mut F,
@@ -244,11 +244,11 @@ fn rename_over<F: Folder>(
     }
 }
 
-/// Fills the file that was made with the output, and renames it over the file. Returns whether the
-/// rename was done.
+/// Fills the new file with the output, and renames it over the file. Returns whether the rename was
+/// done.
 ///
 /// # Errors
-/// As `confirm`. `Write` if the file that was made can't be filled.
+/// As `confirm`. `Write` if the new file can't be filled.
 fn fill<F: Folder>(
     folder: &mut F,
     target: &Target<'_>,
@@ -295,8 +295,8 @@ fn overwrite<F: Folder>(
     Err(ReplaceError::HalfWritten)
 }
 
-/// Reads a file again, and checks that it is as it was: its bytes are compared, since its times may
-/// be those of an older version, and since an overlay file system copies it when it is opened for
+/// Reads a file again, and checks that it is as it was. Compares its bytes, since its times may be
+/// those of an older version, and since an overlay file system copies it when it is opened for
 /// writing.
 ///
 /// # Errors
@@ -323,7 +323,7 @@ fn confirm<F: Folder>(folder: &mut F, name: &[u8], before: &Before<'_>) -> Resul
     }
 }
 
-/// Looks at a file again. Returns whether its version is that of `stat`.
+/// Looks at a file again. Returns whether its version is the one in `stat`.
 fn is_unchanged<F: Folder>(folder: &mut F, name: &[u8], stat: &FileStat) -> bool
     ensures { LooksAgain name.now stat.now (F.history folder.old) (F.history folder.new) result }
 {

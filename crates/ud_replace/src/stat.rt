@@ -5,7 +5,7 @@ ghost use Rattle.ud_replace.specs.Stats.{is_of, has_facts_of};
 
 use crate::node::FileId;
 
-/// A point of time.
+/// A point in time.
 #[derive(Clone, Copy, Debug, PartialEq, Eq)]
 pub struct FileTime {
     /// The seconds since the beginning of 1970, below 0 before that.
@@ -14,7 +14,7 @@ pub struct FileTime {
     pub nanoseconds: i64,
 }
 
-/// Which file it is, and in which state. Two equal ones are taken for the same bytes.
+/// The identity and the state of a file. Equal versions are taken to have the same bytes.
 #[derive(Clone, Copy, Debug, PartialEq, Eq)]
 pub struct FileVersion {
     /// The number of the device.
@@ -23,37 +23,36 @@ pub struct FileVersion {
     pub inode: u64,
     /// The number of bytes.
     pub size: u64,
-    /// When the bytes were changed last.
+    /// When the bytes last changed.
     pub modified: FileTime,
-    /// When the bytes, the mode, the owner or the links were changed last.
+    /// When the bytes, the mode, the owner or the links last changed.
     pub changed: FileTime,
 }
 
 /// The facts that a folder gives about a file.
 #[derive(Clone, Copy, Debug, PartialEq, Eq)]
 pub struct FileStat {
-    /// Which file it is, and in which state.
+    /// The identity and the state of the file.
     pub version: FileVersion,
     /// The number of names that the file has.
     pub links: u64,
     /// The permissions, as `chmod` takes them.
     pub mode: u32,
-    /// The number of the user to whom the file belongs.
+    /// The number of the user that owns the file.
     pub owner: u32,
-    /// The number of the group to which the file belongs.
+    /// The number of the file's group.
     pub group: u32,
 }
 
 impl FileStat {
-    /// Returns whether these are the facts about the file `id`, by its device and its number.
+    /// Returns whether these are the facts about the file `id`, by its device and number.
     pub fn is_of(&self, id: FileId) -> bool
         ensures { result ≡ is_of id self.now }
     {
         self.version.device == id.device && self.version.inode == id.inode
     }
 
-    /// Returns whether `seen` has the mode, the owner, the group and the number of links of these
-    /// facts.
+    /// Returns whether `seen` has the same mode, owner, group and number of links as these facts.
     pub fn has_facts_of(&self, seen: &FileStat) -> bool
         ensures { result ≡ has_facts_of self.now seen.now }
     {

@@ -1,4 +1,4 @@
-//! What is to be made of each text, and what was made of one.
+//! The options for each text, and the result for one.
 
 use ud_args::Plan;
 
@@ -7,7 +7,7 @@ use ud_args::Plan;
 pub struct TextPlan {
     /// The plan of the run over a text.
     pub run: Plan,
-    /// True if the operands that the symbols decide are removed from the conditions of the output.
+    /// True if decided operands are removed from the conditions of the output.
     pub prunes: bool,
 }
 
@@ -16,6 +16,6 @@ pub struct TextPlan {
 pub struct TextRun {
     /// True if the output differs.
     pub differs: bool,
-    /// The number of conditions of the output from which operands were removed.
+    /// The number of conditions of the output that lost operands.
     pub edited: usize,
 }

@@ -1,6 +1,6 @@
 //! The run over a text in memory, and the pass over its output.
 //!
-//! If conditions are to be pruned, the text is folded first, if it can be (`folded_run.rt`).
+//! If conditions are to be pruned, the text is first folded, if possible (`folded_run.rt`).
 
 ghost use Rattle.std.specs.Prelude.{◌≡◌, ◌++◌, true, false, MatchResult};
 ghost use Rattle.ud_args.specs.Plans.{ForOptionsOf};
@@ -150,7 +150,7 @@ fn run_unpruned(plan: &Plan, text: &[u8], out: &mut Watched<Vec<u8>>) -> Result<
     }
 }
 
-/// Returns the error of a file whose text was run over in memory.
+/// Returns the error of a file after a run over its text in memory.
 fn error_of(fault: RunFault) -> ReplaceError
     ensures { result ≡ error_of fault }
 {

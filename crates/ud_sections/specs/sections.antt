@@ -1,4 +1,4 @@
--- The open sections, and the decision about each line.
+-- The open sections, and the decision on each line.
 pub mod StepViews
 pub mod SectionStates
 pub mod OpenSections

@@ -1,4 +1,4 @@
-//! The directive of a line, as it is parsed.
+//! The directive of a line, as parsed.
 
 use crate::sections::Span;
 use ud_model::Kind;

@@ -1,12 +1,11 @@
 //! The sections of a text: from the scan of a line to its output.
 //!
 //! `directive` parses the directive of a scanned line. A `Machine` decides each line by the open
-//! sections, and a printer (`Show`) returns what to print for it. A `Lister` gives the names of
-//! conditions instead of the text.
+//! sections, and a printer (`Show`) returns what to print for it. A `Lister` lists the names of
+//! conditions instead.
 //!
-//! The definitions are those of ud_model; `Printing` of its specs/answer defines the output.
-//! `specs/sections/StepViews.antt` defines which line of the definitions a line and its step
-//! represent.
+//! ud_model has the definitions; `answer.Printing` defines the output.
+//! `specs/sections/StepViews.antt` relates a line and its step to a line of the definitions.
 #![tactic(auto)]
 
 mod directives;

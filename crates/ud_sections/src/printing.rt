@@ -1,11 +1,11 @@
-//! The output for each line: printers, and a lister of names in place of the text.
+//! The output for each line: printers, and a lister of names instead of the text.
 //!
 //! A printer implements `show.Show`: `delete`, `blank` and `renumber`, or `complement` of one of
-//! these. `printer` has the one that the settings ask for. It returns the `pieces` of a line. By
-//! `line_output` it also reports the output for lines that needn't be passed.
+//! these. `printer` chooses one by the settings. It returns the `pieces` of a line. Its
+//! `line_output` reports the output for lines that needn't be passed to it.
 //!
-//! A new printer needs an implementation of `Show`, whose two ghost items say what it represents
-//! and prints, and a variant of `Printer`.
+//! A new printer needs an implementation of `Show`, with two ghost items for what it represents and
+//! prints, and a variant of `Printer`.
 
 mod append_bytes;
 mod blank;

@@ -1,11 +1,11 @@
-//! Decides each line by the sections that are open before it: `machine.Machine`.
+//! Decides each line by the sections open before it: `machine.Machine`.
 //!
 //! `classify_line` finds the line's directive and decides its condition. `check` then returns the
 //! action for a line of that `line_kind`, or its fault, by the innermost open section. The action
-//! is the verdict and the change of the open sections. `open_section` has the record of an
-//! open section, and `section_state` its progress through its groups. A caller gets a `step`.
+//! is the verdict and the change of the open sections. `open_section` has the record of an open
+//! section, and `section_state` tracks its groups. Callers get a `step`.
 //!
-//! A new role of a directive needs a case of `LineKind`, and its action in `open_section`.
+//! A new role of directives needs a case in `LineKind`, and an action in `open_section`.
 
 mod check;
 mod classify_line;

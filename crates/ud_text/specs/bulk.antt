@@ -1,4 +1,4 @@
--- Many whole text lines that are read at once.
+-- Many whole text lines, read at once.
 pub mod BulkScanning
 pub mod BulkStates
 pub mod BulkLexemes

@@ -1,2 +1,2 @@
--- Searches of many bytes at a time.
+-- Searches over many bytes at a time.
 pub mod Searches

@@ -37,10 +37,10 @@ pub use line_buffer::{LineBuffer, LongLineBuffer, ShortLineBuffer};
 /// The number of bytes that are searched for a newline at once.
 const NEAR_WINDOW_BYTES: usize = 32;
 
-/// The prefix that was taken of a chunk.
+/// The prefix of a chunk that was taken.
 #[derive(Clone, Copy, Debug, PartialEq, Eq)]
 pub struct Taken {
-    /// The number of bytes taken: those up to the chunk's first newline, that one included, or all.
+    /// The number of bytes taken: up to and including the chunk's first newline, or all.
     pub used: usize,
     /// The last byte taken is a newline, so a whole line is buffered.
     pub whole: bool,
@@ -53,7 +53,7 @@ pub struct Lines<H: LineBuffer = LongLineBuffer> {
     buffer: H,
     /// The line has its newline, which is then the last buffered byte.
     is_whole: bool,
-    /// The number of lines consumed before the buffered one; at most `last`, and less if a byte is
+    /// The number of lines consumed before the buffered one; at most `last`, and fewer if a byte is
     /// buffered.
     consumed: u32,
     /// The text has ended.
@@ -87,8 +87,8 @@ impl<H: LineBuffer> Model for Lines<H> {
 }
 
 impl Lines<LongLineBuffer> {
-    /// Returns the lines of a text of which no byte was taken. The text may have `last_line` lines,
-    /// from 1 to `TEXT_LINES`. The buffer takes a line of any length.
+    /// Returns the lines of a text before its first byte. The text may have `last_line` lines, from
+    /// 1 to `TEXT_LINES`. The buffer takes a line of any length.
     pub fn new(last_line: u32) -> Lines<LongLineBuffer>
         requires low { 1 ≤ last_line }
         requires high { last_line ≤ TEXT_LINES }
@@ -107,8 +107,7 @@ impl Lines<LongLineBuffer> {
 }
 
 impl<H: LineBuffer> Lines<H> {
-    /// Returns the lines of a text of which no byte was taken, as `new` does, in a buffer of this
-    /// type.
+    /// Returns the lines of a text before its first byte, as `new` does, with an `H` as the buffer.
     pub fn with_buffer(last_line: u32) -> Lines<H>
         requires low { 1 ≤ last_line }
         requires high { last_line ≤ TEXT_LINES }
@@ -132,17 +131,16 @@ impl<H: LineBuffer> Lines<H> {
         }
     }
 
-    /// Appends `chunk` to the line up to its first newline, that one included.
+    /// Appends `chunk` to the line, up to and including its first newline.
     ///
-    /// `chunk` may have any bytes; nothing is taken of an empty one. If the buffer takes a line of
-    /// any length, `chunk` may have any length. Otherwise `chunk` has to fit after the buffered
-    /// bytes. No whole line may be buffered, and the text may not have ended. If the result is
-    /// `whole`, the line is complete: read it with `line`, then call `clear`. The rest of the chunk
-    /// is the next one to be taken.
+    /// `chunk` may be empty or have any bytes. It may have any length if the buffer takes a line of
+    /// any length; otherwise it has to fit after the buffered bytes. No whole line may be buffered,
+    /// and the text may not have ended. If the result is `whole`, the line is complete: read it
+    /// with `line`, then call `clear`. Take the rest of the chunk next.
     ///
     /// # Errors
-    /// In this order: `TooManyLines` at the first byte of a line after the last one that the text
-    /// may have; `LineTooLong` at the first byte of a line after `LINE_BYTES`, its ending counted.
+    /// In this order: `TooManyLines` at the first byte of a line past the last one that the text
+    /// may have; `LineTooLong` at the first byte of a line past `LINE_BYTES`, its ending included.
     /// No byte of the chunk is buffered. Every later `take` and `close` returns the same error,
     /// also for an empty chunk, until `reset` begins another text.
     ///
@@ -205,8 +203,8 @@ impl<H: LineBuffer> Lines<H> {
     /// `chunk` may have any length and any bytes. No whole line may be buffered, and the text may
     /// not have ended. The result is `None`, and nothing changes, in four cases: bytes of the line
     /// are buffered, an earlier call failed, `chunk` has no newline, or the line exceeds a limit.
-    /// Then `take` takes the chunk or returns the error. The rest of the chunk, after the line's
-    /// body and ending, is the next one to be taken.
+    /// Then `take` takes the chunk or returns the error. Continue with the rest of the chunk, after
+    /// the line's body and ending.
     ///
     /// Lines are those of POSIX XBD 3.206.
     pub fn whole_in<'a>(&mut self, chunk: &'a [u8]) -> Option<Line<'a>>
@@ -250,7 +248,7 @@ impl<H: LineBuffer> Lines<H> {
     /// Returns the next line, borrowed from `lines`, and consumes it.
     ///
     /// `lines` are whole lines that `consume` accepts, at least one. The result is that of
-    /// `whole_in`, which has to find out whether a line may be borrowed.
+    /// `whole_in`, without its checks.
     #[inline(always)]
     pub fn next_in<'a>(&mut self, lines: &'a [u8]) -> Line<'a>
         requires whole_lines { CanConsume self.old lines.now }
@@ -280,9 +278,9 @@ impl<H: LineBuffer> Lines<H> {
     /// Returns the length of a prefix of `chunk`, whole lines that `consume` accepts.
     ///
     /// `chunk` may have any length and any bytes. The result is 0 if bytes of a line are buffered,
-    /// if an earlier call failed, or if the text might have too many lines. That can be only if
-    /// fewer lines may come than `chunk` has bytes. Otherwise the prefix has all lines up to the
-    /// first that is too long or isn't whole. For that line, call `whole_in` or `take`.
+    /// if an earlier call failed, or if the text might get too many lines (only if `chunk` has more
+    /// bytes than lines may still come). Otherwise the prefix has all lines up to the first that is
+    /// too long or isn't whole. For that line, call `whole_in` or `take`.
     pub fn whole_lines_len(&self, chunk: &[u8]) -> usize
         ensures bound { result ≤ length chunk.now }
         ensures whole_lines { 0 < result → CanConsume self.now (take result chunk.now) }
@@ -300,8 +298,8 @@ impl<H: LineBuffer> Lines<H> {
         count
     }
 
-    /// Consumes these whole lines. Returns the number of the last line consumed. `whole_lines_len`
-    /// returns which lines may be consumed.
+    /// Consumes these whole lines. Returns the number of the last line consumed. See
+    /// `whole_lines_len` for which lines may be consumed.
     pub fn consume(&mut self, lines: &[u8]) -> u32
         requires whole_lines { CanConsume self.old lines.now }
         requires not_closed { self.old.closed ≡ false }
@@ -318,8 +316,8 @@ impl<H: LineBuffer> Lines<H> {
         self.consumed
     }
 
-    /// Returns how many more bytes fit, at most `most`. A buffer for a line of any length takes all
-    /// of them.
+    /// Returns how many more bytes fit, at most `most`. A buffer for a line of any length always
+    /// takes `most`.
     pub fn remaining_capacity(&self, most: usize) -> usize
         ensures bound { result ≤ most }
         ensures fits { HasCapacity H.CAPACITY self.now result }
@@ -332,8 +330,8 @@ impl<H: LineBuffer> Lines<H> {
         most.min(H::CAPACITY - self.buffer.as_slice().len())
     }
 
-    /// Returns whether the next byte begins a line that the text may have. No byte of a line is
-    /// buffered then.
+    /// Returns whether the next byte begins a line that the text may have; no byte is then
+    /// buffered.
     pub fn may_begin_line(&self) -> bool
         ensures { IsTrue result ↔
             ((self.now.held ≡ []) × (self.now.before < self.now.last_line)) }
@@ -341,7 +339,7 @@ impl<H: LineBuffer> Lines<H> {
         self.buffer.as_slice().is_empty() && self.consumed < self.last
     }
 
-    /// Converts into the lines with a buffer for a line of any length.
+    /// Converts to a buffer for a line of any length.
     pub fn into_long(self) -> Lines<LongLineBuffer>
         ensures { result ≡ self }
     {
@@ -357,7 +355,7 @@ impl<H: LineBuffer> Lines<H> {
         }
     }
 
-    /// Returns how many bytes of the line are buffered, its ending counted.
+    /// Returns how many bytes of the line are buffered, its ending included.
     pub fn held(&self) -> usize
         ensures value { result ≡ length self.now.held }
         ensures bound { result ≤ LINE_BYTES }
@@ -425,8 +423,8 @@ impl<H: LineBuffer> Lines<H> {
         Ok(!self.buffer.as_slice().is_empty())
     }
 
-    /// Resets to the beginning of a new text with the same limit, whatever was taken before. An
-    /// error of the text before is forgotten.
+    /// Resets to the beginning of a new text with the same limit, whatever was taken before. Clears
+    /// any error.
     pub fn reset(&mut self)
         ensures value { self.new ≡ record {
           held = [];
@@ -446,8 +444,8 @@ impl<H: LineBuffer> Lines<H> {
     }
 }
 
-/// Returns the position of the first newline, if one is near the beginning. Most lines of code and
-/// of directives are that short.
+/// Returns the position of the first newline, if it is near the beginning. Most lines are that
+/// short.
 #[inline(always)]
 fn find_newline_near(chunk: &[u8]) -> Option<usize>
     ensures { IfSome result (λ at. UpToNewline chunk.now (at + 1) true) }
@@ -475,8 +473,7 @@ fn find_newline(chunk: &[u8]) -> Option<usize>
     }
 }
 
-/// Returns the number of bytes up to the first newline, that one included, or of all if there is
-/// none.
+/// Returns the number of bytes up to and including the first newline, or of all if there is none.
 #[inline(always)]
 fn up_to_newline(chunk: &[u8]) -> Taken
     ensures { UpToNewline chunk.now result.used result.whole }
@@ -508,7 +505,7 @@ fn first_line(chunk: &[u8]) -> Option<&[u8]>
     }
 }
 
-/// Returns the first of some whole lines, with its ending.
+/// Returns the first of these whole lines, with its ending.
 #[inline(always)]
 fn first_of(lines: &[u8]) -> &[u8]
     requires whole { AreWholeLines lines.now }

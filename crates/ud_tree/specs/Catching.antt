@@ -1,11 +1,11 @@
--- Catching: the regular files that a walk takes, of those that it meets.
+-- Catching: which of the regular files that it meets a walk takes.
 --
 --   IsTaken w path id     a walk has found a file, or its patterns don't choose it
 --   Grows w v             a walk goes on with its patterns, and loses no file
 --   Catches old new w v   a part of a walk, which takes each regular file that it meets
 --
--- `w` and `v` are the walk before and after, and `old` and `new` the calls before and after, the
--- newest first.
+-- `w` and `v` are the walk before and after, and `old` and `new` are the calls before and after,
+-- the newest first.
 use Rattle.std.specs.Prelude.{◌≡◌, ◌⊎◌, ℕ, List, ◌++◌, map, string_bytes}
 use Rattle.std.specs.List.{All, Contains}
 use Rattle.ud_replace.specs.declared.node.FileId.{FileId}

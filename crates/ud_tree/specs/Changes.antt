@@ -1,10 +1,10 @@
--- Changes: what is shown of a file that is replaced.
+-- Changes: what is shown of a replaced file.
 --
 --   KeepsOne o into name old new r text output edited   a file was replaced, with this output
 --   KeepsAs plan into name old new r text output edited   the same for all options of a plan
---   ShowsChange shows name update text output shown   the diff of a file that was changed
+--   ShowsChange shows name update text output shown   the diff of a changed file
 --   ShowsUpdate plan into shows name old new r shown edits outputs   the same, by the result
---   ReplacesShowing plan into shows name old new result   both: it was replaced, and is shown
+--   ReplacesShowing plan into shows name old new result   both: the file was replaced, and is shown
 --
 -- `old` and `new` are the calls before and after, the newest first.
 use Rattle.std.specs.Prelude.{◌≡◌, ℕ, List, [], Bool, true, Result, Ok, Err}
@@ -22,8 +22,8 @@ use Rattle.ud_tree.specs.Paths.{fresh_name}
 use Rattle.ud_tree.specs.Runs.{FileResult, ReplacesOne, Output, made}
 
 -- `KeepsOne o into name old new r text output edited`: the file `name` was read as `text`, and was
--- replaced by the help of a new one, with the result `r`. `output` is the output for `text`, of
--- which `edited` conditions were edited.
+-- replaced with the help of a new one, with the result `r`. `output` is the output for `text`, with
+-- `edited` edited conditions.
 abbrev pub KeepsOne : TextOptions → Bool → List ℕ → List Call → List Call →
     Result Update ReplaceError → List ℕ → List ℕ → ℕ → Type 0
 KeepsOne o into name old new r text output edited =
@@ -35,17 +35,17 @@ abbrev pub KeepsAs : TextPlan → Bool → List ℕ → List Call → List Call 
 KeepsAs plan into name old new r text output edited =
     (o : TextOptions) → IsPlanned plan o → KeepsOne o into name old new r text output edited
 
--- `ShowsChange shows name update text output shown`: nothing is shown of the file `name`. Or its
--- diff is, which turns `text` into `output`; it is wanted, and the file was changed.
+-- `ShowsChange shows name update text output shown`: nothing is shown of the file `name`; or its
+-- diff, which turns `text` into `output`, is shown, since it is wanted and the file was changed.
 pub data ShowsChange (shows : Bool) (name : List ℕ) (update : Update) (text output : List ℕ) :
     List ℕ → Type 0 where
   nothing_shown : {shown : List ℕ} → shown ≡ [] → ShowsChange shows name update text output shown
   change_shown : {shown : List ℕ} → shows ≡ true → is_changed (fate_of (Ok update)) ≡ true →
       IsDiff name text output shown → ShowsChange shows name update text output shown
 
--- `ShowsUpdate plan into shows name old new r shown edits outputs`: nothing is shown of the file
--- `name` after an error, and there is no output. Else its diff is, as `ShowsChange` has it, with
--- the text that was read and its output, by which `edits` are.
+-- `ShowsUpdate plan into shows name old new r shown edits outputs`: after an error, nothing is
+-- shown of the file `name`, and there is no output. Else its diff is shown as `ShowsChange` says,
+-- with the text that was read and its output, which give `edits`.
 pub data ShowsUpdate (plan : TextPlan) (into shows : Bool) (name : List ℕ) (old new : List Call) :
     Result Update ReplaceError → List ℕ → Edits → List Output → Type 0 where
   after_error : {e : ReplaceError} → ShowsUpdate plan into shows name old new (Err e) [] no_edits []

@@ -1,23 +1,23 @@
--- Covering: what becomes of each path and each name that a walk meets, so that it misses none.
+-- Covering: what happens to each path and each name that a walk meets, so that it misses none.
 --
 --   IsFolderPath path folder      `folder` is `path`, with a slash at its end
 --   WasEntered calls folder       a folder was listed
---   IsDue calls folders path      a folder was listed, or waits for that
---   IsVersioned name              a name is that of a folder of version control, or of quilt
+--   IsDue calls folders path      a folder was listed, or is waiting
+--   IsVersioned name              a folder with this name belongs to version control or quilt
 --   Begins calls due has path     a path of the command line can be taken
---   Visits calls due told folder name   what became of a name in a folder
---   VisitsAll calls due told      so for each name of each folder that was listed
+--   Visits calls due told folder name   what happened to a name in a folder
+--   VisitsAll calls due told      `Visits` for each name in each listed folder
 --   IsIn found path id            a file was found
---   StandsIn files path id        a list of files has it, or one that stands for it
---   Gives calls has told path     what became of a path of the input
+--   StandsIn files path id        a list has this file, or the same one at another path
+--   Gives calls has told path     what happened to a path of the input
 --   own_path path                 a path, unless it is empty
 --   paths_after path text, paths_of text   the paths of the input
---   CoversPaths paths patterns old new has told   a whole walk from those of the command line
---   CoversInput paths old new has told   one from those of the input
---   MissesNone args text old new has told   one from the paths that the arguments name
+--   CoversPaths paths patterns old new has told   a whole walk from the command line's paths
+--   CoversInput paths old new has told   a whole walk from the input's paths
+--   MissesNone args text old new has told   a whole walk from the arguments' paths
 --
--- `calls` are those of a walk, the newest first. `due path` says that a folder was listed or waits
--- for that, `has path id` that a file was found, and `told` that the walk has a message.
+-- `calls` are the calls of a walk, the newest first. `due path` says that a folder was listed or is
+-- waiting, `has path id` that a file was found, and `told` that the walk has a message.
 use Rattle.std.specs.Prelude.{◌≡◌, ◌⊎◌, ℕ, List, [], ◌∷◌, ◌++◌, Bool, true, false, IsUtf8, codes}
 use Rattle.std.specs.Prelude.{string_bytes, map, length, ◌+◌, ◌<◌, ◌^◌, ◌==◌, if◌then◌else◌}
 use Rattle.std.specs.List.{All, Contains}
@@ -46,8 +46,8 @@ abbrev pub IsDue : List WalkCall → List (List ℕ) → List ℕ → Type 0
 IsDue calls folders path = (folder : List ℕ) × IsFolderPath path folder ×
     (WasEntered calls folder ⊎ Contains folders folder)
 
--- `IsVersioned name`: a folder of this name has earlier texts of files, and is left out. It is one
--- of version control, or of quilt.
+-- `IsVersioned name`: a folder of this name belongs to version control or quilt. It has earlier
+-- texts of files, and is left out.
 abbrev pub IsVersioned : List ℕ → Type 0
 IsVersioned name = (name ≡ codes ".git") ⊎ (name ≡ codes ".hg") ⊎ (name ≡ codes ".svn")
     ⊎ (name ≡ codes ".bzr") ⊎ (name ≡ codes "CVS") ⊎ (name ≡ codes ".pc")
@@ -72,7 +72,7 @@ pub data Visits (calls : List WalkCall) (due : List ℕ → Type 0) (told : Type
       ((node : Node) → answer ≡ Present node → node.kind ≡ Folder →
       IsVersioned name ⊎ due (folder ++ name)) → Visits calls due told folder name
 
--- `VisitsAll calls due told`: of each folder that was listed, each name was visited.
+-- `VisitsAll calls due told`: each name in each listed folder was visited.
 abbrev pub VisitsAll : List WalkCall → (List ℕ → Type 0) → Type 0 → Type 0
 VisitsAll calls due told = (folder : List ℕ) (names : List (List ℕ)) (answer : Bool) →
     Contains calls (listed folder names answer) → All (Visits calls due told folder) names
@@ -87,8 +87,8 @@ StandsIn files path id =
     (g : Found) × Contains files g × ((string_bytes g.path ≡ path) ⊎ (g.id ≡ id))
 
 -- `Gives calls has told path`: `path` isn't UTF-8, and a message says so. Or it was looked at, and
--- was found if it is a regular file. If it is something else than a file, a folder and a link, a
--- message says so.
+-- was found if it is a regular file. If it is neither a file nor a folder nor a link, a message
+-- says so.
 pub data Gives (calls : List WalkCall) (has : List ℕ → FileId → Type 0) (told : Type 0)
     (path : List ℕ) : Type 0 where
   no_path_text : ¬ (IsUtf8 path) → told → Gives calls has told path
@@ -114,9 +114,9 @@ abbrev pub paths_of : List ℕ → List (List ℕ)
 paths_of text = paths_after [] text
 
 -- `CoversPaths paths patterns old new has told`: since `old`, only calls of a walk were made. Each
--- of `paths` can be taken, and was found if it is a regular file. Of each folder that was listed,
--- each name was visited. Each folder that is due was listed, unless there were more calls than a
--- machine counts. Each regular file that was met was found, or the patterns don't choose it.
+-- of `paths` can be taken, and was found if it is a regular file. Each name in each listed folder
+-- was visited. Each folder that is due was listed, unless there were more calls than a machine
+-- counts. Each regular file met was found, or the patterns don't choose it.
 pub record CoversPaths (paths patterns : List (List ℕ)) (old new : List Call)
     (has : List ℕ → FileId → Type 0) (told : Type 0) : Type 0 where
   pub calls : List WalkCall
@@ -136,8 +136,8 @@ pub record CoversInput (paths : List (List ℕ)) (old new : List Call)
   pub are : new ≡ map walked calls ++ old
   pub gives : All (Gives calls has told) paths
 
--- `MissesNone args text old new has told`: the paths are those of the command line, and they are
--- covered. Or they are those of the input `text`, and each was given.
+-- `MissesNone args text old new has told`: the paths come from the command line, and are covered.
+-- Or they come from the input `text`, and each was given.
 pub data MissesNone (args : Arguments) (text : List ℕ) (old new : List Call)
     (has : List ℕ → FileId → Type 0) (told : Type 0) : Type 0 where
   misses_no_path : args.from_input ≡ false →

@@ -1,6 +1,6 @@
--- Fates: what became of a file, and the edits of its text.
+-- Fates: what happened to a file, and the edits of its text.
 --
---   fate_of r                what became of a file, by the result of replacing it
+--   fate_of r                the fate of a file, by the result of replacing it
 --   is_changed f, is_same f, is_faulty f   the file was changed, or wasn't, or has a fault
 --   no_edits                 there are no edits
 --   removed_by update text output   how many lines were removed
@@ -14,7 +14,7 @@ use Rattle.ud_tree.specs.declared.counts.Edits.{Edits}
 use Rattle.ud_tree.specs.declared.counts.Fate.{Fate}
 use Rattle.ud_tree.specs.declared.counts.Fate.TheVariants.{Changed, Same, Faulty}
 
--- `fate_of r`: what became of a file.
+-- `fate_of r`: the fate of a file.
 abbrev pub fate_of : Result Update ReplaceError → Fate
 fate_of (Ok Unchanged) = Same
 fate_of (Ok Replaced) = Changed
@@ -43,8 +43,8 @@ is_faulty Faulty = true
 abbrev pub no_edits : Edits
 no_edits = record { conditions = 0; lines = 0 }
 
--- `removed_by update text output`: how many lines, counted by their newlines, `output` has fewer
--- than `text`, if the file was changed.
+-- `removed_by update text output`: how many lines fewer `output` has than `text`, counted by
+-- newlines, if the file was changed.
 abbrev pub removed_by : Update → List ℕ → List ℕ → ℕ
 removed_by update text output = if is_changed (fate_of (Ok update))
     then length (whole_lines text) - length (whole_lines output) else 0

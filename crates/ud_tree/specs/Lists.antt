@@ -1,4 +1,4 @@
--- Lists: what the program keeps of the names of files.
+-- Lists: what the program keeps of the files' names.
 --
 --   Adds old new listed   what is listed of some files was added to `old`, which is then `new`
 --   ListsInto plan lists name calls calls' old new update   a file was read, and this was added
@@ -13,8 +13,8 @@ use Rattle.ud_replace.specs.Calls.{Call}
 use Rattle.ud_tree.specs.Runs.{Listed}
 use Rattle.ud_tree.specs.Shown.{ListsOne}
 
--- `Adds old new listed`: the names and the conditions were added. They are counted if their number
--- is one that a machine can count.
+-- `Adds old new listed`: the names and the conditions were added. They are counted if a machine can
+-- count them.
 pub record Adds (old new : Names) (listed : Listed) : Type 0 where
   pub names : new.list.items ≡ old.list.items ++ listed.names
   pub hidden : old.hidden + listed.hidden < 2 ^ 64 → new.hidden ≡ old.hidden + listed.hidden

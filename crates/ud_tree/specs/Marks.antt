@@ -1,4 +1,4 @@
--- Marks: a byte in place of the output for a line, which says what became of the line.
+-- Marks: a byte in place of a line's output, which says what happened to the line.
 --
 --   plain_piece blank j    what is printed for the judged line `j`
 --   mark_of blank j        the mark of the line
@@ -16,8 +16,8 @@ abbrev pub plain_piece : Bool → Judged → List ℕ
 plain_piece blank j = if is_removed j.verdict then (if blank then j.line.ending else [])
     else piece_by j.verdict j.keyword j.line
 
--- `mark_of blank j`: `-` for a line that is removed, `=` for one that is printed as it is, and `~`
--- for one in whose place another line is printed.
+-- `mark_of blank j`: `-` for a removed line, `=` for one that is printed as it is, and `~` for one
+-- that another line replaces.
 abbrev pub mark_of : Bool → Judged → ℕ
 mark_of blank j = if is_removed j.verdict && not blank then 45
     else (if bytes_eq (plain_piece blank j) (text_of j.line) then 61 else 126)

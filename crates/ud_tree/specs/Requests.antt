@@ -1,7 +1,7 @@
 -- Requests: what a command line asks for (unifdef-tree(1)).
 --
 --   task_of gs              the task
---   AreFitting gs           the options go together
+--   AreFitting gs           the options are compatible
 --   IsArgumentsOf gs args   the arguments of a run
 --   IsRequestOf gs r        the request
 --   IsFaultIn gs f          a fault of the command line
@@ -33,13 +33,12 @@ use Rattle.ud_tree.specs.declared.arguments.ArgumentFault.TheVariants.{PruningAn
 use Rattle.ud_tree.specs.declared.arguments.ArgumentFault.TheVariants.{OptionAfterPath, NoPath}
 use Rattle.ud_tree.specs.declared.arguments.ArgumentFault.TheVariants.{PathsAndInput, OutOfMemory}
 
--- `task_of gs`: nothing is replaced with `-n`, which shows what would change, and with `-s`, which
--- lists names.
+-- `task_of gs`: to show what would change with `-n`, to list names with `-s`, else to replace.
 abbrev pub task_of : List Parsed → Task
 task_of gs = if has_flag (codes "n") gs then Diff
     else if has_flag (codes "s") gs then Names else Replace
 
--- `AreFitting gs`: the options go together: `-s` with none of `-n`, `-d` and `-p`, and `-p` with
+-- `AreFitting gs`: the options are compatible: `-s` with none of `-n`, `-d` and `-p`, and `-p` with
 -- neither `-c` nor `-t`.
 pub record AreFitting (gs : List Parsed) : Type 0 where
   pub diff : has_flag (codes "s") gs ≡ true → has_flag (codes "n") gs ≡ false
@@ -49,8 +48,8 @@ pub record AreFitting (gs : List Parsed) : Type 0 where
   pub plain : has_flag (codes "p") gs ≡ true → has_flag (codes "t") gs ≡ false
 
 -- `IsArgumentsOf gs args`: `args` has what is given: the options of unifdef(1), each other option,
--- the patterns and the paths. `-r` asks for the conditions that still name a symbol, and beside
--- `-s` for those whose names can't be listed. The options go together. Paths are given, or else
+-- the patterns and the paths. `-r` asks for the conditions that still name a symbol or, with `-s`,
+-- for those whose names can't be listed. The options are compatible. Either paths are given, or
 -- `-0`.
 pub record IsArgumentsOf (gs : List Parsed) (args : Arguments) : Type 0 where
   pub fitting : AreFitting gs
@@ -71,7 +70,7 @@ pub record IsArgumentsOf (gs : List Parsed) (args : Arguments) : Type 0 where
   pub some_path : has_flag (codes "0") gs ≡ false → ¬ (paths_in gs ≡ [])
 
 -- `IsRequestOf gs r`: the words have no fault, and `r` is what they ask for: help with `-h`, the
--- version with `-V`, and else a run.
+-- version with `-V`, else a run.
 abbrev pub IsRequestOf : List Parsed → Request → Type 0
 IsRequestOf gs Help = (first_fault gs ≡ None) × (has_flag (codes "h") gs ≡ true)
 IsRequestOf gs Version = (first_fault gs ≡ None) × (has_flag (codes "h") gs ≡ false) ×
@@ -91,8 +90,8 @@ HasUsage gs f = args.first_fault (unifdef_args gs) ≡ Some f
 abbrev pub IsBadWord : (ℕ → UsageFault) → List Parsed → List ℕ → Type 0
 IsBadWord fault gs w = (n : ℕ) × HasUsage gs (fault n) × (w ≡ word_at n gs)
 
--- `IsFaultIn gs f`: `f` is the first fault of the words. Or it is that of two options that don't go
--- together, of the options of unifdef(1), or of the paths. Or memory ran out.
+-- `IsFaultIn gs f`: `f` is the first fault of the words. Or it is a fault of two incompatible
+-- options, of the options of unifdef(1), or of the paths. Or memory ran out.
 abbrev pub IsFaultIn : List Parsed → ArgumentFault → Type 0
 IsFaultIn gs (UnknownOption c) = (first_fault gs ≡ Some (unknown c)) ⊎
     HasUsage gs (unknown_option c)

@@ -1,18 +1,18 @@
--- Runs: what is asked for the files of a run, and what becomes of them.
+-- Runs: the calls for the files of a run, and the files' fates.
 --
---   ReadsOne name old new   a file was read, and nothing else was asked
+--   ReadsOne name old new   a file was read, and no other call was made
 --   ReplacesOne plan into name old new update   a file was replaced, or its name took no memory
 --   Listed, nothing_listed  what is listed of a file
 --   Output, made name bytes   the output for a file
---   FileResult              the result of a file, and what is written and listed of it
---   Unshown P name old new result   `P` holds of a file, of which nothing is written to the output
---   EachFile P old names new results   `P` holds of each file in turn, and nothing else was asked
+--   FileResult              the result of a file, and what is written and listed for it
+--   Unshown P name old new result   `P` holds for a file with nothing written to the output
+--   EachFile P old names new results   `P` holds for each file in turn, with no other call
 --   changed_in results, same_in results, faulty_in results   the numbers of each fate
 --   edited_in results, removed_in results   the numbers of edited conditions and removed lines
 --   CountsAre counts results   these are the counts
---   shown_of results        what is written of the files to the output
---   told_of results         what is written of the files to the error stream
---   listed_of results       what is listed of the files
+--   shown_of results        what is written for the files to the output
+--   told_of results         what is written for the files to the error stream
+--   listed_of results       what is listed for the files
 --   outputs_of results      the outputs for the files
 --   Counted P old names new counts shown told   each file in turn, with the numbers of each fate
 --   names_of files          the paths of the files that the walk found
@@ -37,14 +37,14 @@ use Rattle.ud_tree.specs.Fates.{fate_of, is_changed, is_same, is_faulty, no_edit
 use Rattle.ud_tree.specs.Messages.{IsTold}
 use Rattle.ud_tree.specs.Paths.{fresh_name}
 
--- `ReadsOne name old new`: the file `name` was read, and nothing else was asked.
+-- `ReadsOne name old new`: the file `name` was read, and no other call was made.
 pub data ReadsOne (name : List ℕ) (old new : List Call) : Type 0 where
   reads : (text : List ℕ) (answer : Option FileStat) → new ≡ was_read name text answer ∷ old →
       ReadsOne name old new
 
--- `ReplacesOne plan into name old new update`: the calls are those that replace the file `name`, by
--- the help of a new one, and `update` is their result. It is some file that the walk met. Or memory
--- for the new name couldn't be allocated, and nothing was asked.
+-- `ReplacesOne plan into name old new update`: the calls replace the file `name`, which the walk
+-- met, with the help of a new one, and `update` is their result. Or memory for the new name
+-- couldn't be allocated, and no call was made.
 pub data ReplacesOne (plan : TextPlan) (into : Bool) (name : List ℕ) (old new : List Call) :
     Result Update ReplaceError → Type 0 where
   replaces : (r : Result Update ReplaceError) (id : FileId) (fresh : List ℕ) →
@@ -73,9 +73,9 @@ pub record Output : Type 0 where
 abbrev pub made : List ℕ → List ℕ → List Output
 made name bytes = record { name = name; bytes = bytes } ∷ []
 
--- `FileResult`: the result of a file, the bytes that are written of it to the output and to the
--- error stream, the edits of its text, which were made or would be, what is listed of it, and the
--- output for it, of which there is none after an error.
+-- `FileResult`: the result of a file, the bytes written for it to the output and to the error
+-- stream, the edits of its text, made or only shown, what is listed for it, and the output for it
+-- (none after an error).
 pub record FileResult : Type 0 where
   pub update : Result Update ReplaceError
   pub shown : List ℕ
@@ -84,8 +84,8 @@ pub record FileResult : Type 0 where
   pub listed : Listed
   pub outputs : List Output
 
--- `Unshown P name old new result`: `P` holds of the file, its result, and what is listed of it.
--- Nothing else is written of it to the output. It has no output of its own, and no edits.
+-- `Unshown P name old new result`: `P` holds for the file, its result, and what is listed for it.
+-- Nothing is written for it to the output. It has no output of its own, and no edits.
 pub record Unshown
     (P : List ℕ → List Call → List Call → Result Update ReplaceError → Listed → Type 0)
     (name : List ℕ) (old new : List Call) (result : FileResult) : Type 0 where
@@ -94,9 +94,9 @@ pub record Unshown
   pub unedited : result.edits ≡ no_edits
   pub no_output : result.outputs ≡ []
 
--- `EachFile P old names new results`: `P name mid next result` holds of each file in turn, where
--- `mid` and `next` are the calls before and after it. Nothing else was asked. What goes to the
--- error stream is the message of the error of a file, and nothing of files without one.
+-- `EachFile P old names new results`: `P name mid next result` holds for each file in turn, where
+-- `mid` and `next` are the calls before and after it. No other call was made. Only the messages of
+-- the files' errors go to the error stream.
 pub data EachFile (P : List ℕ → List Call → List Call → FileResult → Type 0) (old : List Call) :
     List (List ℕ) → List Call → List FileResult → Type 0 where
   no_file : EachFile P old [] old []
@@ -125,8 +125,8 @@ edited_in results = sum_by (λ r. r.edits.conditions) results
 abbrev pub removed_in : List FileResult → ℕ
 removed_in results = sum_by (λ r. r.edits.lines) results
 
--- `CountsAre counts results`: `counts` has the number of each fate, and those of edited conditions
--- and removed lines if a machine can count these.
+-- `CountsAre counts results`: `counts` has the number of each fate, and of edited conditions and
+-- removed lines if a machine can count these.
 pub record CountsAre (counts : Counts) (results : List FileResult) : Type 0 where
   pub changed : counts.changed ≡ changed_in results
   pub unchanged : counts.unchanged ≡ same_in results
@@ -134,15 +134,15 @@ pub record CountsAre (counts : Counts) (results : List FileResult) : Type 0 wher
   pub edited : edited_in results < 2 ^ 64 → counts.edits.conditions ≡ edited_in results
   pub removed : removed_in results < 2 ^ 64 → counts.edits.lines ≡ removed_in results
 
--- `shown_of results`: what is written of the files to the output, in order.
+-- `shown_of results`: what is written for the files to the output, in order.
 abbrev pub shown_of : List FileResult → List ℕ
 shown_of results = flat_map (λ r. r.shown) results
 
--- `told_of results`: what is written of the files to the error stream, in order.
+-- `told_of results`: what is written for the files to the error stream, in order.
 abbrev pub told_of : List FileResult → List ℕ
 told_of results = flat_map (λ r. r.told) results
 
--- `listed_of results`: what is listed of the files, in order.
+-- `listed_of results`: what is listed for the files, in order.
 abbrev pub listed_of : List FileResult → Listed
 listed_of results = record {
   names = flat_map (λ r. r.listed.names) results;
@@ -154,8 +154,8 @@ listed_of results = record {
 abbrev pub outputs_of : List FileResult → List Output
 outputs_of results = flat_map (λ r. r.outputs) results
 
--- `Counted P old names new counts shown told`: `P` holds of each file in turn, and `counts` has the
--- numbers of their fates. `shown` and `told` are written of them.
+-- `Counted P old names new counts shown told`: `P` holds for each file in turn, and `counts` has
+-- the numbers of their fates. `shown` and `told` are written for them.
 pub record Counted (P : List ℕ → List Call → List Call → FileResult → Type 0) (old : List Call)
     (names : List (List ℕ)) (new : List Call) (counts : Counts) (shown told : List ℕ) :
     Type 0 where

@@ -1,4 +1,4 @@
--- Shown: what is shown or listed of a file whose output isn't put in its place.
+-- Shown: what is shown or listed for a file that isn't replaced.
 --
 --   WasRead name text stat old new   a file was read, and `text` are its bytes
 --   Fails o name calls calls' e      a file couldn't be read, or the run over its text failed
@@ -35,12 +35,12 @@ use Rattle.ud_tree.specs.declared.run_file.Ran.{Ran}
 use Rattle.ud_tree.specs.Fates.{no_edits, removed_by}
 use Rattle.ud_tree.specs.Runs.{FileResult, ReadsOne, Listed, Output, made}
 
--- `WasRead name text stat old new`: the file `name` was read, and nothing else was asked. Its bytes
--- are `text`, and `stat` was known of it before.
+-- `WasRead name text stat old new`: the file `name` was read, and no other call was made. Its bytes
+-- are `text`, and its facts before were `stat`.
 abbrev pub WasRead : List ℕ → List ℕ → FileStat → List Call → List Call → Type 0
 WasRead name text stat old new = new ≡ was_read name text (Some stat) ∷ old
 
--- `Fails o name calls calls' e`: the file `name` couldn't be read. Or it was read, and it wasn't
+-- `Fails o name calls calls' e`: the file `name` couldn't be read. Or it was read, but it wasn't
 -- the file that the walk met, its text has the fault of `e`, or memory couldn't be allocated.
 pub data Fails (o : TextOptions) (name : List ℕ) (calls calls' : List Call) :
     ReplaceError → Type 0 where
@@ -59,8 +59,8 @@ RunsFile plan name calls calls' output output' result = (o : TextOptions) → Is
     MatchResult result (λ ran. RunsOver o ran.text.items output output' ran.run)
     (Fails o name calls calls')
 
--- `HasDiff o name text diff edited`: `text` has no fault, and its output differs, of which `edited`
--- conditions are edited. `diff` turns the text into the output, and back.
+-- `HasDiff o name text diff edited`: `text` has no fault, and its output differs, with `edited`
+-- edited conditions. `diff` turns the text into the output, and back.
 pub record HasDiff (o : TextOptions) (name text diff : List ℕ) (edited : ℕ) : Type 0 where
   pub outcome : TextOutcome
   pub runs : HasTextOutcome o text outcome
@@ -69,10 +69,10 @@ pub record HasDiff (o : TextOptions) (name text diff : List ℕ) (edited : ℕ) 
   pub is_diff : IsDiff name text outcome.output diff
   pub edited_is : edited ≡ outcome.edited
 
--- `ShowsFile o into name calls calls' update shown edits outputs`: the file `name` was read. If
--- its output differs, its diff is shown, and the result is `Replaced`. If it doesn't, nothing is
--- shown, and the result is `Unchanged`. Nothing is shown either of a file with several links, which
--- a run leaves alone unless `into`, or if `Fails` is true of the error. Then there is no output.
+-- `ShowsFile o into name calls calls' update shown edits outputs`: the file `name` was read. If its
+-- output differs, its diff is shown, and the result is `Replaced`. If it doesn't, nothing is shown,
+-- and the result is `Unchanged`. Nothing is shown and there is no output for a file with several
+-- links, which a run leaves alone unless `into`, or if `Fails` is true of the error.
 pub data ShowsFile (o : TextOptions) (into : Bool) (name : List ℕ) (calls calls' : List Call) :
     Result Update ReplaceError → List ℕ → Edits → List Output → Type 0 where
   faulty : {e : ReplaceError} → Fails o name calls calls' e →
@@ -92,16 +92,16 @@ pub data ShowsFile (o : TextOptions) (into : Bool) (name : List ℕ) (calls call
       ShowsFile o into name calls calls' (Ok Replaced) diff edits (made name output)
 
 -- `ShowsOne plan into name calls calls' result`: the file `name` was read once. Its result, what is
--- shown of it, and its output, are those of the text that was read, for the options of the plan.
+-- shown for it, and its output come from the text read, by the options of the plan.
 pub record ShowsOne (plan : TextPlan) (into : Bool) (name : List ℕ) (calls calls' : List Call)
     (result : FileResult) : Type 0 where
   pub reads : ReadsOne name calls calls'
   pub shows : (o : TextOptions) → IsPlanned plan o →
       ShowsFile o into name calls calls' result.update result.shown result.edits result.outputs
 
--- `listed_by mode lists name text output`: what is listed of the file `name` with these bytes, by
--- the output for them: its names, and its conditions whose names can't be listed, which are counted
--- and, if `lists`, listed.
+-- `listed_by mode lists name text output`: what is listed for the file `name` with these bytes and
+-- this output: its names, and its conditions whose names can't be listed, which are counted and, if
+-- `lists`, listed.
 abbrev pub listed_by : Mode → Bool → List ℕ → List ℕ → List ℕ → Listed
 listed_by mode lists name text output = record {
   names = output;
@@ -123,8 +123,8 @@ pub data ListsFile (o : TextOptions) (mode : Mode) (lists : Bool) (name : List �
       (listed_by mode lists name text output)
 
 -- `ListsOne plan lists name calls calls' update listed`: the file `name` was read once. Its result,
--- and what is listed of it, are those of the text that was read, for the options of the plan. The
--- lines are read in the mode of the plan.
+-- and what is listed for it, come from the text read, by the options of the plan. The lines are
+-- read in the mode of the plan.
 pub record ListsOne (plan : TextPlan) (lists : Bool) (name : List ℕ) (calls calls' : List Call)
     (update : Result Update ReplaceError) (listed : Listed) : Type 0 where
   pub reads : ReadsOne name calls calls'

@@ -3,8 +3,8 @@
 --   tree_status task mode unheard faults changed   the status by the task, the exit mode and the
 --       counts
 --
--- unifdef-tree(1): 2 at any fault, and if a message couldn't be written. If names are listed, else
--- 0. Else the status by the exit mode, as of a single text, by whether some file changed.
+-- unifdef-tree(1): 2 after any fault, or if a message couldn't be written. Otherwise 0 if names are
+-- listed, else the status by the exit mode, as for a single text, by whether some file changed.
 use Rattle.std.specs.Prelude.{ℕ, Bool, ◌==◌, ◌&&◌, not, if◌then◌else◌, nat_lt}
 use Rattle.ud_model.specs.declared.settings.ExitMode.{ExitMode}
 use Rattle.ud_model.specs.answer.Answer.{status_by}
@@ -17,8 +17,8 @@ status_of Replace mode changed = status_by mode (nat_lt 0 changed)
 status_of Diff mode changed = status_by mode (nat_lt 0 changed)
 status_of Names mode changed = 0
 
--- `tree_status task mode unheard faults changed`: the status after this number of faults. `unheard`
--- says whether the error stream has failed.
+-- `tree_status task mode unheard faults changed`: the status after this number of faults.
+-- `unheard`: the error stream has failed.
 abbrev pub tree_status : Task → ExitMode → Bool → ℕ → ℕ → ℕ
 tree_status task mode unheard faults changed =
     if faults == 0 && not unheard then status_of task mode changed else 2

@@ -1,4 +1,4 @@
--- TreeDiffs: what a run writes that only shows what would change.
+-- TreeDiffs: the output of a run that only shows what would change.
 --
 --   ShowsAs o into name old new result   a file was read, and its diff is shown
 --   ShowsDiffs o run                     the diffs of the files of a run, in order
@@ -11,8 +11,8 @@ use Rattle.ud_tree.specs.Shown.{ShowsFile}
 use Rattle.ud_tree.specs.TreeRuns.{Run}
 use Rattle.ud_tree.specs.Walks.{WalksOnly, IsWalk}
 
--- `ShowsAs o into name old new result`: the file `name` was read, and what is shown of it is its
--- diff if a run would change it.
+-- `ShowsAs o into name old new result`: the file `name` was read, and its diff is shown if a run
+-- would change it.
 abbrev pub ShowsAs : TextOptions → Bool → List ℕ → List Call → List Call → FileResult → Type 0
 ShowsAs o into name old new result =
     ShowsFile o into name old new result.update result.shown result.edits result.outputs

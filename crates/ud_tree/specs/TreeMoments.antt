@@ -1,9 +1,9 @@
 -- TreeMoments: what the calls of a whole run do to the files.
 --
 --   TouchesNothing c earlier            a call touches no file
---   TouchesFreshOrNone o c earlier  a call touches no file, but for that of a replacement
+--   TouchesFreshOrNone o c earlier  a call touches no file, except in a replacement
 --   OldOrOutput o first old calls       each file has its old bytes, or the output for them
---   LeavesOldOrOutput o first old c earlier   each file has them after the call `c`
+--   LeavesOldOrOutput o first old c earlier   the same after the call `c`
 use Rattle.std.specs.Prelude.{◌≡◌, ◌⊎◌, ℕ, List, ◌∷◌, true, Some}
 use Rattle.ud_replace.specs.Calls.{Call}
 use Rattle.ud_replace.specs.Moments.{Files, content, HasOutput, touches, TouchesFreshOnly}
@@ -14,21 +14,21 @@ use Rattle.ud_tree.specs.Paths.{fresh_name}
 abbrev pub TouchesNothing : Call → List Call → Type 0
 TouchesNothing c earlier = (n : List ℕ) → ¬ (touches c n ≡ true)
 
--- `TouchesFreshOrNone o c earlier`: the call `c` touches no file. Or it is one that replaces
--- some file: it touches the new file beside that one alone, or it is the rename.
+-- `TouchesFreshOrNone o c earlier`: the call `c` touches no file. Or it belongs to a replacement:
+-- it touches only the new file, or it is the rename.
 abbrev pub TouchesFreshOrNone : TextOptions → Call → List Call → Type 0
 TouchesFreshOrNone o c earlier =
     TouchesNothing c earlier
     ⊎ ((name : List ℕ) × (start : List Call) ×
     TouchesFreshOnly o name (fresh_name name) start c earlier)
 
--- `OldOrOutput o first old calls`: each file that there was after `old` has the same bytes after
+-- `OldOrOutput o first old calls`: each file that existed after `old` has the same bytes after
 -- `calls`, or the output for them.
 abbrev pub OldOrOutput : TextOptions → Files → List Call → List Call → Type 0
 OldOrOutput o first old calls = (n bytes : List ℕ) → content first old n ≡ Some bytes →
     (content first calls n ≡ Some bytes) ⊎ HasOutput o bytes (content first calls n)
 
--- `LeavesOldOrOutput o first old c earlier`: after the call `c`, each file that there was after
--- `old` has its old bytes, or the output for them.
+-- `LeavesOldOrOutput o first old c earlier`: after the call `c`, each file that existed after `old`
+-- has its old bytes, or the output for them.
 abbrev pub LeavesOldOrOutput : TextOptions → Files → List Call → Call → List Call → Type 0
 LeavesOldOrOutput o first old c earlier = OldOrOutput o first old (c ∷ earlier)

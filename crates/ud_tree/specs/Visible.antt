@@ -1,7 +1,7 @@
 -- Visible: text in messages, without control bytes.
 --
 --   hex_digit d       the hexadecimal digit of a number below 16
---   visible_byte b    a byte, or how it is shown if it is a control byte
+--   visible_byte b    a byte, or its visible form if it is a control byte
 --   visible text      the text with each control byte shown
 --
 -- Example: a newline is shown as `\x0a`.

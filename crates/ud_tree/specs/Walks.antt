@@ -1,14 +1,14 @@
--- Walks: what a walk over folders asks for, and the files that it finds.
+-- Walks: the calls of a walk over folders, and the files that it finds.
 --
 --   WasMet calls f               a file was met as a regular file
 --   Finds old new before found   a part of a walk, with the files found before and after
 --   Adds before path id after    a file was found, or none
 --   AddsNode before path node after   a node was found, if it is a file
 --   IsBefore f g                 the path of `f` comes before that of `g`
---   IsOtherFile f g              `f` and `g` are not the same file
---   IsKept files f               a file that was found is kept
+--   IsOtherFile f g              `f` and `g` are different files
+--   IsKept files f               a found file is kept
 --   IsFileList found files       the files, each once and in order
---   Key, key_of id               a device, a number on it and a time, of a file
+--   Key, key_of id               a file's device, number on it and time
 --   key_cmp a b                  the order of keys
 --   IsMarked seen f              a set has a file's key
 --   HasKey files key             a file has a key
@@ -59,11 +59,11 @@ pub data AddsNode (before : List Found) (path : List ℕ) (node : Node) (after :
   no_node : after ≡ before → AddsNode before path node after
   file_node : node.kind ≡ File → Adds before path node.id after → AddsNode before path node after
 
--- `IsBefore f g`: the path of `f` comes before that of `g`, byte by byte.
+-- `IsBefore f g`: the path of `f` comes before the path of `g`, byte by byte.
 abbrev pub IsBefore : Found → Found → Type 0
 IsBefore f g = slice_cmp nat_cmp (string_bytes f.path) (string_bytes g.path) ≡ Less
 
--- `IsOtherFile f g`: `f` and `g` are not the same file.
+-- `IsOtherFile f g`: `f` and `g` are different files.
 abbrev pub IsOtherFile : Found → Found → Type 0
 IsOtherFile f g = ¬ (f.id ≡ g.id)
 
@@ -72,15 +72,15 @@ abbrev pub IsKept : List Found → Found → Type 0
 IsKept files f = (g : Found) × Contains files g ×
     ((string_bytes g.path ≡ string_bytes f.path) ⊎ (g.id ≡ f.id))
 
--- `IsFileList found files`: each of `files` was found, and each file that was found is kept. Their
--- paths ascend, and no two are the same file.
+-- `IsFileList found files`: each of `files` was found, and each file found is kept. Their paths
+-- ascend, and no two are the same file.
 pub record IsFileList (found files : List Found) : Type 0 where
   pub from : All (Contains found) files
   pub kept : All (IsKept files) found
   pub ascend : AllPairs IsBefore files
   pub once : AllPairs IsOtherFile files
 
--- A device, the number of a file on it, and the time at which that was made.
+-- A device, the number of a file on it, and the time when it was created.
 abbrev pub Key : Type 0
 Key = ℕ × ℕ × ℕ
 
@@ -101,7 +101,7 @@ abbrev pub HasKey : List Found → Key → Type 0
 HasKey files key = (f : Found) × Contains files f × (key_of f.id ≡ key)
 
 -- `ArePicked seen files`: the paths of the files ascend, no two are the same file, and `seen` has
--- each of them, and nothing else.
+-- the key of each, and no other.
 pub record ArePicked (seen : BTreeSet Key) (files : List Found) : Type 0 where
   pub ascend : AllPairs IsBefore files
   pub once : AllPairs IsOtherFile files

@@ -1,4 +1,4 @@
-//! The arguments of unifdef-tree(1), read as POSIX XBD 12.2 has it: options first, then paths.
+//! The arguments of unifdef-tree(1), by POSIX XBD 12.2: options first, then paths.
 
 ghost use Rattle.std.specs.Prelude.{◌≡◌, None, IfOk, IfErr, IfSome, IfNone, map, string_bytes};
 ghost use Rattle.ud_args.specs.ParsedArgs.{parsed};
@@ -20,7 +20,7 @@ pub enum Task {
     Replace,
     /// A diff shows what would change.
     Diff,
-    /// The names on which conditions depend are counted.
+    /// The names that conditions depend on are counted.
     Names,
 }
 
@@ -35,17 +35,17 @@ pub struct Arguments {
     pub paths: Vec<String>,
     /// The task.
     pub task: Task,
-    /// True if files are written into that can't be replaced.
+    /// True if files that can't be replaced are written into.
     pub write_into: bool,
-    /// True if the files' paths come from the input.
+    /// True if the paths of files come from the input.
     pub from_input: bool,
-    /// True if the last lines with the counts are left out.
+    /// True if the last lines, with the counts, are left out.
     pub quiet: bool,
-    /// True if the conditions are listed that still name a symbol.
+    /// True if the conditions that still name a symbol are listed.
     pub list_remaining: bool,
-    /// True if the conditions are listed whose names can't be.
+    /// True if the conditions whose names can't be listed are listed.
     pub list_hidden: bool,
-    /// True if the diff of each file that is changed is printed.
+    /// True if the diff of each changed file is printed.
     pub show_changes: bool,
     /// True if some option names a symbol.
     pub has_symbols: bool,
@@ -54,8 +54,7 @@ pub struct Arguments {
 impl Arguments {
     ghost use Rattle.std.specs.Prelude.{◌≡◌, ◌&&◌, ◌||◌, not};
 
-    /// Returns whether the conditions are searched that still name a symbol: those are listed or
-    /// counted.
+    /// Returns whether to search for conditions that still name a symbol, to list or count them.
     pub(crate) fn search_remaining(&self) -> bool
         ensures { result ≡ (self.now.has_symbols &&
             (self.now.list_remaining || not self.now.quiet)) }
@@ -98,7 +97,7 @@ pub enum ArgumentFault {
     PruningAndPlain,
     /// An option after the first path.
     OptionAfterPath(String),
-    /// Paths beside `-0`.
+    /// Paths together with `-0`.
     PathsAndInput,
     /// No path.
     NoPath,
@@ -106,12 +105,12 @@ pub enum ArgumentFault {
     OutOfMemory,
 }
 
-/// Returns what the arguments ask for. They are without the program's name.
+/// Returns what the arguments, without the program's name, ask for.
 ///
 /// # Errors
-/// The first fault of the words from left to right. Else options that don't go together, the first
-/// fault of the options of unifdef, or a fault of the paths. `OutOfMemory` if memory can't be
-/// allocated. Nothing was done.
+/// The first fault of the words from left to right. Else incompatible options, the first fault of
+/// the options of unifdef, or a fault of the paths. `OutOfMemory` if memory can't be allocated.
+/// Nothing was done.
 pub fn parse_arguments(alloc: Global, words: &[String]) -> Result<Request, ArgumentFault>
     ensures request { IfOk result (IsRequestOf (given_in (map string_bytes words.now))) }
     ensures fault { IfErr result (IsFaultIn (given_in (map string_bytes words.now))) }
@@ -148,7 +147,7 @@ fn request_of(alloc: Global, given: &[ParsedArg<'_>]) -> Result<Request, Argumen
     }
 }
 
-/// Returns the first fault of the words, if there is one.
+/// Returns the first fault of the words, if any.
 fn word_fault(alloc: Global, given: &[ParsedArg<'_>]) -> Option<ArgumentFault>
     ensures fault { IfSome result (IsFaultIn (parsed given.now)) }
     ensures right { IfNone result (first_fault (parsed given.now) ≡ None) }
@@ -172,7 +171,7 @@ fn word_fault(alloc: Global, given: &[ParsedArg<'_>]) -> Option<ArgumentFault>
     None
 }
 
-/// Returns the fault if some options don't go together.
+/// Returns the fault if some options are incompatible.
 fn clash(given: &[ParsedArg<'_>]) -> Option<ArgumentFault>
     ensures fault { IfSome result (IsFaultIn (parsed given.now)) }
     ensures fits { IfNone result (AreFitting (parsed given.now)) }
@@ -194,7 +193,7 @@ fn clash(given: &[ParsedArg<'_>]) -> Option<ArgumentFault>
     }
 }
 
-/// Returns the arguments of a run, whose options go together.
+/// Returns the arguments of a run, whose options are compatible.
 ///
 /// # Errors
 /// The first fault of the options of unifdef, or a fault of the paths. `OutOfMemory` if memory

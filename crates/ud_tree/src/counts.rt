@@ -1,22 +1,22 @@
-//! The numbers of files, by what became of them.
+//! The numbers of files, by their fates.
 
 /// The fate of a file.
 #[derive(Clone, Copy, Debug, PartialEq, Eq)]
 pub(crate) enum Fate {
-    /// It has the output now, or would have it.
+    /// It has the output now, or would get it.
     Changed,
-    /// The output is its text.
+    /// The output is its own text.
     Same,
     /// It was left as it is because of a fault.
     Faulty,
 }
 
-/// The numbers of edits, of the text of a file or of several.
+/// The numbers of edits, in one file or several.
 #[derive(Clone, Copy, Debug, PartialEq, Eq)]
 pub(crate) struct Edits {
-    /// The number of conditions of the output from which operands were removed.
+    /// The number of conditions of the output that lost operands.
     pub conditions: usize,
-    /// The number of lines, counted by their newlines, that the output has fewer than the text.
+    /// The number of lines, counted by newlines, that the output has fewer than the text.
     pub lines: usize,
 }
 
@@ -46,7 +46,7 @@ impl Edits {
     }
 }
 
-/// The numbers of files, by their fates, and of their edits.
+/// The numbers of files by their fates, and of their edits.
 #[derive(Clone, Copy, Debug, PartialEq, Eq)]
 pub(crate) struct Counts {
     pub changed: usize,

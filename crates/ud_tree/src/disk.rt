@@ -1,7 +1,7 @@
 //! The real tree: files of the operating system.
 //!
-//! Each method of `Folder` makes the call that it notes, on a name in the folder that was met there
-//! (`Folders`). Paths are UTF-8: the library opens no others, so any other name can't be read.
+//! Each method of `Folder` makes the call that it records, on a name in the folder that was met
+//! there (`Folders`). Paths are UTF-8: the library opens no others, so no other name can be read.
 
 ghost use Rattle.std.specs.Prelude.{◌≡◌, ◌∷◌, Some, None, MatchResult};
 ghost use Rattle.std.specs.Io.{WritesAtMost};
@@ -23,14 +23,14 @@ use ud_replace::{
     Lookup, Node, NodeKind,
 };
 
-/// The bits of a mode that say who may read, write and run a file.
+/// The bits of a mode that permit reading, writing and running a file.
 const ACCESS: u32 = 0o777;
 
 /// The bits of a mode that `chmod` sets.
 const MODE: u32 = 0o7777;
 
-/// The most bytes that are reserved before a file is read, and that are read before another look at
-/// its last line. A file that is larger, or says so, takes more as it is read.
+/// The most bytes reserved before a file is read, and read between two checks of its last line. A
+/// file that is larger, or claims to be, takes more as it is read.
 const BLOCK_BYTES: u64 = 16 << 20;
 
 /// A file that is open for reading and writing.
@@ -45,12 +45,12 @@ struct Opened<R: Files> {
 pub struct Disk<'r, R: Files> {
     files: &'r R,
     alloc: Global,
-    /// The file that `create` made, and that wasn't renamed or removed yet.
+    /// The file that `create` made, until it is renamed or removed.
     fresh: Option<R::File>,
-    /// The file that `may_write` opened. It is read again, and written into, without another look
-    /// at its path.
+    /// The file that `may_write` opened. It is read again, and written into, without looking at its
+    /// path again.
     opened: Option<Opened<R>>,
-    /// Why the last call failed that did.
+    /// The error of the last failed call.
     reason: Option<io::Error>,
     folders: Folders<R>,
     history: History,
@@ -70,12 +70,12 @@ impl<'r, R: Files> Disk<'r, R> {
         }
     }
 
-    /// Returns whether folders were found by their paths alone, since `/proc` isn't there.
+    /// Returns whether folders were found only by their paths, for lack of `/proc`.
     pub fn lacks_proc(&self) -> bool {
         self.folders.lacks_proc()
     }
 
-    /// Keeps the error of a call. Returns its value, if it has one.
+    /// Keeps the error of a call. Returns its value, if any.
     fn kept<T>(&mut self, answer: io::Result<T>) -> Option<T>
         ensures value { MatchResult answer (λ x. result ≡ Some x) (λ e. result ≡ None) }
         ensures calls { self.new.history.calls ≡ self.old.history.calls }
@@ -89,7 +89,7 @@ impl<'r, R: Files> Disk<'r, R> {
         }
     }
 
-    /// Notes a call of a walk.
+    /// Records a call of a walk.
     fn note(&mut self, walk: FolderWalk<'_>)
         ensures { self.new.history.calls ≡
             walked (walk_call_of walk.entry) ∷ self.old.history.calls }
@@ -124,18 +124,18 @@ fn stat_of(found: &Metadata) -> io::Result<FileStat> {
     })
 }
 
-/// Returns what is known of a regular file, without following a link.
+/// Returns the facts about a regular file, without following a link.
 fn look_at<R: Files>(files: &R, path: &str) -> io::Result<FileStat> {
     stat_of(&files.symlink_metadata(path)?)
 }
 
-/// Returns whether both are of the same file.
+/// Returns whether both describe the same file.
 fn same_file(one: &Metadata, other: &Metadata) -> bool {
     one.dev() == other.dev() && one.ino() == other.ino()
 }
 
-/// Reads a regular file, and returns what was known of it before. The file that was opened is the
-/// one that was looked at, also if its name is that of another file meanwhile.
+/// Reads a regular file, and returns the facts about it from before. The opened file is the one
+/// that was looked at, even if another file has its name by then.
 fn read_file<R: Files>(files: &R, path: &str, text: &mut Vec<u8>) -> io::Result<FileStat> {
     let found = files.symlink_metadata(path)?;
     let stat = stat_of(&found)?;
@@ -147,8 +147,8 @@ fn read_file<R: Files>(files: &R, path: &str, text: &mut Vec<u8>) -> io::Result<
     Ok(stat)
 }
 
-/// Reads what follows in a file. A file with a line over the limit is read no further once that is
-/// seen: most such files are no text, and may be larger than the memory.
+/// Reads the rest of a file. Stops once a line over the limit is found: most such files aren't
+/// text, and may be larger than memory.
 fn read_rest<F: Read>(file: &mut F, stat: &FileStat, text: &mut Vec<u8>) -> io::Result<()> {
     // Beside the file's bytes there is room to see that it has ended, so it takes two reads.
     let expected = stat.version.size.min(BLOCK_BYTES) as usize;
@@ -173,8 +173,8 @@ fn ends_in_long_line(text: &[u8]) -> bool {
     }
 }
 
-/// Does what `read_file` does with a file that was opened before. If another one has its name now,
-/// that one is opened. So a pipe that has the name isn't waited for.
+/// Does what `read_file` does, with a file that is open already. If another file has its name now,
+/// opens that one. So a pipe with that name isn't waited for.
 fn read_again<R: Files>(
     files: &R,
     path: &str,
@@ -194,8 +194,8 @@ fn read_again<R: Files>(
     Ok(stat)
 }
 
-/// Opens a regular file for writing, and leaves its bytes as they are. To open a pipe for writing
-/// alone would wait for a reader, so the file is opened for both.
+/// Opens a regular file for writing, and keeps its bytes. Opening a pipe only for writing would
+/// wait for a reader, so the file is opened for both.
 fn open_to_write<R: Files>(files: &R, path: &str) -> io::Result<R::File> {
     let found = files.symlink_metadata(path)?;
     let _ = stat_of(&found)?;
@@ -218,8 +218,8 @@ fn opened_at<R: Files>(files: &R, alloc: Global, path: &str, name: &[u8]) -> io:
     Ok(Opened { name: owned, file })
 }
 
-/// Makes an empty file, which only the user may read and write, and locks it. A file that a run
-/// left over under that name is removed first.
+/// Creates an empty file, which only the user may read and write, and locks it. A file left over by
+/// a run under that name is removed first.
 fn create_file<R: Files>(files: &R, path: &str) -> io::Result<R::File>
 where
     R::File: Lock,
@@ -239,7 +239,7 @@ where
     }
 }
 
-/// Makes a file where there is none, and locks it. A file system without locks does without.
+/// Creates a file where there is none, and locks it if the file system has locks.
 fn create_new<R: Files>(files: &R, path: &str) -> io::Result<R::File>
 where
     R::File: Lock,
@@ -256,7 +256,7 @@ where
     }
 }
 
-/// Opens and locks a file that a run left over. `None` if a run may be at it, or if that can't be
+/// Opens and locks a file left over by a run. `None` if a run may still use it, or if that can't be
 /// known.
 fn left_over<R: Files>(files: &R, path: &str) -> Option<R::File>
 where
@@ -275,7 +275,7 @@ where
     }
 }
 
-/// Writes some first bytes of `bytes`. Returns how many.
+/// Writes a prefix of `bytes`. Returns its length.
 fn write_some<W: Write>(file: &mut Option<W>, bytes: &[u8]) -> io::Result<usize>
     ensures { WritesAtMost result bytes.now }
 {
@@ -285,9 +285,9 @@ fn write_some<W: Write>(file: &mut Option<W>, bytes: &[u8]) -> io::Result<usize>
     }
 }
 
-/// Gives an open file the owner and the group of another one, or the group alone, as the user may.
-/// Then gives it that one's mode, but no other rights if the owner or the group is another one. No
-/// name is used, since another program may have put another file there.
+/// Gives an open file the owner and group of another one, or only the group, as the user may. Then
+/// gives it that one's mode, but no other rights if the owner or the group differs. No name is
+/// used, since another program may have put another file there.
 fn set_mode_and_owner<F: OpenFile + AsFd + Drop>(file: &F, like: &FileStat) -> io::Result<()> {
     let own = file.metadata()?;
     if own.uid() != like.owner || own.gid() != like.group {
@@ -313,7 +313,7 @@ fn overwrite_file<F: OpenFile + Write + Seek>(file: &mut F, text: &[u8]) -> io::
     file.sync_all()
 }
 
-/// Waits until the bytes of a file are on the disk.
+/// Waits until the bytes of a file are on disk.
 fn sync_file<F: OpenFile>(file: &Option<F>) -> io::Result<()> {
     match file {
         None => Err(io::Error::from(ErrorKind::NotFound)),
@@ -321,7 +321,7 @@ fn sync_file<F: OpenFile>(file: &Option<F>) -> io::Result<()> {
     }
 }
 
-/// Returns why no file was made.
+/// Returns why no file was created.
 fn create_error(error: &io::Error) -> CreateError {
     match error.kind() {
         ErrorKind::PermissionDenied | ErrorKind::ReadOnlyFilesystem => CreateError::Denied,
@@ -459,10 +459,10 @@ where
     }
 }
 
-/// Checks that a path is that of an open file. Another program may have put another file there.
+/// Checks that a path leads to an open file. Another program may have put another file there.
 ///
 /// # Errors
-/// Fails if it isn't, or if that can't be known.
+/// Fails if it doesn't, or if that can't be known.
 fn check_path<R: Files>(files: &R, open: &Option<R::File>, path: &str) -> io::Result<()> {
     let Some(file) = open else {
         return Err(io::Error::from(ErrorKind::NotFound));
@@ -506,7 +506,7 @@ where
     files.remove_file(path.as_str())
 }
 
-/// Returns what has a path, by the facts about it.
+/// Returns what is at a path, by the facts about it.
 fn node_of(found: &Metadata) -> Node {
     let kind = if found.is_file() {
         NodeKind::File
@@ -523,7 +523,7 @@ fn node_of(found: &Metadata) -> Node {
     }
 }
 
-/// Returns what has a path, without following a link. If it is a folder, that one was met.
+/// Returns what is at a path, without following a link. If it is a folder, records it as met.
 fn node_at<R: Files>(files: &R, folders: &mut Folders<R>, path: &str) -> io::Result<Node>
 where
     R::File: AsFd,
@@ -536,7 +536,7 @@ where
     Ok(node)
 }
 
-/// Returns whether a path leads to a folder. If so, that one was met.
+/// Returns whether a path leads to a folder. If so, records it as met.
 fn leads_to_folder<R: Files>(files: &R, folders: &mut Folders<R>, path: &str) -> io::Result<bool>
 where
     R::File: AsFd,
@@ -574,7 +574,7 @@ where
     Ok(())
 }
 
-/// Appends names, each of which ends in a NUL.
+/// Appends names, each ended by a NUL.
 fn append_names(alloc: Global, packed: &[u8], names: &mut Vec<Vec<u8>>) -> Result<(), AllocError> {
     for name in packed.split(|byte| *byte == 0) {
         if !name.is_empty() && name != b".".as_slice() && name != b"..".as_slice() {

@@ -1,9 +1,9 @@
-//! Folders as they were met: paths that lead into the same folder, whatever takes its place.
+//! Folders as they were met: paths keep leading into the same folder, whatever takes its place.
 //!
-//! Who owns a folder can put a link to another one in its place. So a folder is opened, compared
+//! A folder's owner can put a link to another one in its place. So a folder is opened, compared
 //! with the one that was met at its path, and kept open. A name in it is reached by the number of
 //! the open folder, through `/proc`. One folder is open at a time. To keep folders in another way,
-//! touch `open` and `entry_of` alone.
+//! change only `opened` and `entry_of`.
 
 use crate::paths::{folder, last_name};
 use std::alloc::Global;
@@ -21,23 +21,22 @@ use ud_replace::FileId;
 enum Met {
     /// This one was met.
     Is(FileId),
-    /// The user may not open it, so that it is found by its path alone.
+    /// The user may not open it, hence it is found only by its path.
     Closed,
 }
 
-/// The folders that were met, and the one that is open.
+/// The folders that were met, and the open one.
 #[derive(Drop)]
 pub(crate) struct Folders<R: Files> {
     alloc: Global,
     /// The folders by their paths, without a slash at the end.
     met: BTreeMap<String, Met>,
     open: Option<R::File>,
-    /// The path of the folder that was opened last, with a slash at its end; empty if there is
-    /// none.
+    /// The path of the last opened folder, with a slash at its end; empty if there is none.
     path: Vec<u8>,
-    /// The path by which that folder is reached, with a slash at its end.
+    /// The path that reaches that folder, with a slash at its end.
     entry: String,
-    /// True if `/proc` leads to open folders; `None` before that was tried.
+    /// True if `/proc` leads to open folders; `None` before that is tried.
     has_proc: Option<bool>,
 }
 
@@ -45,7 +44,7 @@ impl<R: Files> Folders<R>
 where
     R::File: AsFd,
 {
-    /// Remembers which folder has a path. The first one that was met there counts.
+    /// Remembers which folder is at a path. The first one met there counts.
     pub(crate) fn meet(&mut self, path: &str, id: FileId) -> io::Result<()> {
         let key = self.key(path)?;
         if self.met.get(&key).is_none() {
@@ -54,8 +53,8 @@ where
         Ok(())
     }
 
-    /// Returns a path that leads to a name in the folder that was met, whatever takes that one's
-    /// place. A folder that wasn't met is taken as it is now.
+    /// Returns a path that leads to a name in the folder that was met, whatever takes its place. A
+    /// folder that wasn't met is taken as it is now.
     pub(crate) fn place(&mut self, files: &R, name: &[u8]) -> io::Result<String> {
         let folder = folder(name);
         let last = last_name(name);
@@ -76,7 +75,7 @@ where
         Ok(String::from_str(self.alloc, self.entry.as_str())?)
     }
 
-    /// Makes a folder the one that was opened last.
+    /// Makes a folder the last opened one.
     fn enter(&mut self, files: &R, folder: &str) -> io::Result<()> {
         self.path.clear();
         self.open = None;
@@ -87,7 +86,7 @@ where
     }
 
     /// Opens a folder, and checks that it is the one that was met. `None` if none was met there and
-    /// the user may not open it: a folder of a given path need not be listed.
+    /// the user may not open it: the folder of a given path needn't be listed.
     fn opened(&mut self, files: &R, folder: &str) -> io::Result<Option<R::File>> {
         let key = self.key(folder)?;
         let met = self.met.get(&key).copied();
@@ -115,8 +114,8 @@ where
         Ok(Some(open))
     }
 
-    /// Returns the path by which the open folder is reached: by its number, or without `/proc` by
-    /// its own path.
+    /// Returns the path that reaches the open folder: by its number, or its own path without
+    /// `/proc`.
     fn entry_of(&mut self, files: &R, folder: &str) -> io::Result<String> {
         let Some(open) = &self.open else {
             return Ok(String::from_str(self.alloc, folder)?);
@@ -142,7 +141,7 @@ where
 }
 
 impl<R: Files> Folders<R> {
-    /// Returns what is known before any folder was met.
+    /// Returns the state before any folder is met.
     pub(crate) fn new(alloc: Global) -> Folders<R> {
         Folders {
             alloc,
@@ -168,17 +167,17 @@ pub(crate) fn text_of(name: &[u8]) -> io::Result<&str> {
     }
 }
 
-/// Returns the error of a file or folder that isn't the one that was expected under its name.
+/// Returns the error for a file or folder that isn't the one expected under its name.
 pub(crate) fn other_file() -> io::Error {
     io::Error::new(ErrorKind::ResourceBusy, "changed meanwhile")
 }
 
-/// Returns which file is open.
+/// Returns the identity of an open file.
 fn id_of<F: OpenFile>(open: &F) -> io::Result<FileId> {
     Ok(file_id(&open.metadata()?))
 }
 
-/// Returns which file it is, by the facts about it.
+/// Returns the identity of a file, by the facts about it.
 pub(crate) fn file_id(found: &Metadata) -> FileId {
     FileId {
         device: found.dev(),
@@ -187,7 +186,7 @@ pub(crate) fn file_id(found: &Metadata) -> FileId {
     }
 }
 
-/// Returns when a file was made, in nanoseconds since the beginning of 1970; 0 if that isn't known.
+/// Returns when a file was created, in nanoseconds since the beginning of 1970; 0 if unknown.
 fn born(found: &Metadata) -> u64 {
     let Ok(time) = found.created() else {
         return 0;
@@ -206,8 +205,8 @@ fn leads_to<R: Files>(files: &R, path: &str, open: &R::File) -> bool {
     }
 }
 
-/// Returns whether both are the same folder. An overlay file system copies a folder in which a file
-/// is made, and then its time is another one.
+/// Returns whether both are the same folder. An overlay file system copies a folder when a file is
+/// created in it, which changes its time.
 fn is_same(one: FileId, other: FileId) -> bool {
     one.device == other.device && one.inode == other.inode
 }

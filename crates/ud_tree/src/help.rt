@@ -34,7 +34,7 @@ const OPTIONS: [&[u8]; 23] = [
     b"  --            end of the options",
 ];
 
-/// Prints how the program is called, and a line for each option. Returns whether all of it was
+/// Prints how to call the program, and a line for each option. Returns whether all of it was
 /// written.
 pub fn print_help<W: Write>(out: &mut Watched<W>) -> bool
     ensures { result ≡ not out.new.failed }

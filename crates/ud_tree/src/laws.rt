@@ -1,4 +1,4 @@
-//! What the calls of a whole run come to: functions without a body, whose contracts are theorems.
+//! What the calls of a whole run amount to: functions without a body whose contracts are theorems.
 
 ghost use Rattle.std.specs.Prelude.{◌≡◌, ◌+◌, ◌<◌, ◌^◌, false, length};
 ghost use Rattle.ud_replace.specs.Moments.{Files, AreTrue, EachCall};
@@ -10,8 +10,8 @@ ghost use Rattle.ud_tree.specs.TreeMoments.{TouchesNothing, TouchesFreshOrNone};
 ghost use Rattle.ud_tree.specs.TreeMoments.{LeavesOldOrOutput};
 
 /// If the status isn't 2, the input of `-0` was read whole, the walk has no message, and no file
-/// has an error. The output hasn't failed and is flushed, and the error stream hasn't failed. The
-/// number of messages is taken to be one that a machine can count.
+/// has an error. The output hasn't failed and is flushed, and the error stream hasn't failed. This
+/// assumes that a machine can count the messages.
 pub fn law_run_status()
     ensures { (run : Run) → IsRun run → ¬ (run.ending.status ≡ 2) →
         length run.messages + 2 < 2 ^ 64 → IsClean run }
@@ -24,24 +24,24 @@ pub fn law_run_reads()
 {}
 
 /// A run that shows what would change writes the diffs of the files that would change, in the order
-/// of the files. Each diff turns the bytes that were read into the whole output for them, and back.
-/// Then come the conditions that still name a symbol, if they are to be listed.
+/// of the files. Each diff turns the bytes read into the whole output for them, and back. Then come
+/// the conditions that still name a symbol, if they are to be listed.
 pub fn law_run_shows()
     ensures { (o : TextOptions) (run : Run) → IsRun run → IsPlanned run.args.plan o →
         run.args.task ≡ Diff → ShowsDiffs o run }
 {}
 
-/// Whatever the answers are, no call of a run but the renames touches a file other than the new one
-/// of the file in hand. Each rename comes after that one took the whole output. Writing into files
-/// isn't allowed here.
+/// Whatever the answers are, only the renames of a run touch a file other than the current file's
+/// new one. Each rename comes after the new file got the whole output. Writing into files isn't
+/// allowed here.
 pub fn law_run_renames()
     ensures { (o : TextOptions) (run : Run) → IsRun run → IsPlanned run.args.plan o →
         run.args.write_into ≡ false → EachCall (TouchesFreshOrNone o) run.old run.new }
 {}
 
 /// If all answers are true, each file has its old bytes or the whole output for them after each
-/// call of a run. A process that is killed between two calls leaves such a state. Writing into
-/// files isn't allowed here.
+/// call of a run. So a process killed between two calls leaves such a state. Writing into files
+/// isn't allowed here.
 pub fn law_run_old_or_new()
     ensures { (o : TextOptions) (first : Files) (run : Run) → IsRun run →
         IsPlanned run.args.plan o → run.args.write_into ≡ false → AreTrue first run.new →

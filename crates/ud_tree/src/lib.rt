@@ -1,8 +1,8 @@
 //! unifdef-tree(1): unifdef over the files of a tree, in place.
 //!
 //! `parse_arguments` parses a command line. `find_files` walks over the folders, and `run_tree`
-//! has each file replaced by `ud_replace`, or shows what would change, or lists names. Both ask a
-//! `Tree`, of which `Disk` is the real one.
+//! replaces each file with `ud_replace`, shows what would change, or lists names. Both work on a
+//! `Tree`; `Disk` is the real one.
 #![tactic(auto)]
 
 mod arguments;

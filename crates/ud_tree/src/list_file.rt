@@ -14,7 +14,7 @@ use ud_replace::{ReplaceError, Update};
 /// Adds the names of a file to `names`, and its conditions whose names can't be listed. If its text
 /// has a fault, the names up to the fault count.
 ///
-/// Nothing is asked but that the file is read once.
+/// The only call reads the file, once.
 ///
 /// # Errors
 /// As `run_file`. `OutOfMemory` also if memory for the names can't be allocated.

@@ -1,12 +1,12 @@
-//! Locks on new files: whether the run that made one is still at it.
+//! Locks on new files, which show whether the run that made one still uses it.
 //!
-//! A run locks its new file as long as that is open, and the system unlocks it when the run ends,
-//! also by a signal. So a new file that nobody has locked is one that a run left over.
+//! A run locks its new file while that is open, and the system unlocks it when the run ends, even
+//! by a signal. So an unlocked new file was left over by a run.
 
 use std::fs::{File, TryLockError};
 use std::io;
 
-/// A file that is open, and that one run alone may lock.
+/// An open file that only one run at a time may lock.
 pub trait Lock {
     /// Locks the file until it is closed. Returns whether that was done: false if another run has
     /// locked it.

@@ -1,11 +1,11 @@
-//! A printer that says what became of each line.
+//! A printer that shows what happened to each line.
 
 use ud_model::Verdict;
 use ud_sections::{Pieces, Show, Step};
 use ud_text::Line;
 
-/// A printer that prints a mark in place of the output for each line, as `unified_diff` takes it:
-/// `=` if the line is printed as it is, `-` if nothing is printed, and `~` for another line.
+/// A printer that prints a mark instead of the output for each line, as `unified_diff` expects: `=`
+/// if the line is printed as it is, `-` if nothing is printed, and `~` for another line.
 #[derive(Drop)]
 pub(crate) struct Marked {
     /// True if removed lines are blanked.

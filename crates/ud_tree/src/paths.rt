@@ -10,11 +10,10 @@ use std::alloc::{AllocError, Global};
 /// The beginning of the name of each new file.
 pub(crate) const FRESH: &[u8] = b".unifdef-tree.";
 
-/// The longest name, in bytes, before which `FRESH` fits in a name of at most 255 bytes.
+/// The most bytes of a name that fits after `FRESH` in a name of at most 255 bytes.
 const LONGEST_END: usize = 240;
 
-/// Returns the number of bytes of a path up to its last slash, which is included; 0 if there is
-/// none.
+/// Returns the number of bytes of a path up to and including its last slash; 0 if there is none.
 #[tactic(auto, using(crate::proofs::PathLemmas::folder_len_slash, crate::proofs::PathLemmas::folder_len_other))]
 fn folder_len(path: &[u8]) -> usize
     ensures value { result ≡ folder_len path.now }
@@ -36,15 +35,15 @@ pub(crate) fn last_name(path: &[u8]) -> &[u8]
     &path[folder_len(path)..]
 }
 
-/// Returns whether a name is one of those that `fresh_name` gives.
+/// Returns whether a name is one that `fresh_name` gives.
 pub(crate) fn is_fresh(name: &[u8]) -> bool
     ensures { result ≡ is_fresh name.now }
 {
     name.starts_with(FRESH)
 }
 
-/// Returns what the name of a new file in the same folder ends in: the last name of a path, or
-/// `long` if no name could hold more bytes before it.
+/// Returns the end of the name of a new file in the same folder: the last name of a path, or `long`
+/// if that is too long for a name after `FRESH`.
 pub(crate) fn fresh_end(path: &[u8]) -> &[u8]
     ensures { result.now ≡ fresh_end path.now }
 {
@@ -78,8 +77,8 @@ pub(crate) fn folder_path(alloc: Global, path: &str) -> Result<String, AllocErro
     Ok(folder)
 }
 
-/// Returns the name of a new file in the same folder. It is always the same one, so that two runs
-/// can't replace one file at once.
+/// Returns the name of a new file in the same folder. It is always the same, so two runs can't
+/// replace a file at once.
 ///
 /// # Errors
 /// Fails if memory runs out.

@@ -1,7 +1,7 @@
-//! The patterns by which files are chosen: shell patterns of names, as `*.[ch]` (POSIX XCU 2.13).
+//! The patterns that choose files: shell patterns of names, such as `*.[ch]` (POSIX XCU 2.13).
 //!
-//! `specs/Patterns.antt` defines which names a pattern matches. `matches` decides that by the last
-//! `*` alone: once the parts before a `*` have matched, they need no other place.
+//! `specs/Patterns.antt` defines which names a pattern matches. `matches` goes back only to the
+//! last `*`: once the parts before a `*` have matched, no other place can help.
 
 ghost use Rattle.std.specs.Prelude.{◌≡◌, ◌↔◌, [], true, map, string_bytes};
 ghost use Rattle.ud_tree.specs.Choices.{IsChosen};
@@ -13,8 +13,8 @@ mod parts;
 use crate::paths::is_fresh;
 use crate::patterns::matching::{matches, matches_any};
 
-/// The patterns of a run without `-g`: sources and headers of C and C++, and those from which
-/// `configure` makes one.
+/// The patterns of a run without `-g`: sources and headers of C and C++, and the files that
+/// `configure` makes them from.
 const USUAL: [&[u8]; 18] = [
     b"*.[chCH]",
     b"*.cc",
@@ -36,8 +36,8 @@ const USUAL: [&[u8]; 18] = [
     b"*.hpp.in",
 ];
 
-/// Returns whether a file of this name is chosen by one of the patterns, or by the usual ones if
-/// there are none. A file that a run made beside another one never is.
+/// Returns whether one of the patterns, or of the usual ones if there are none, chooses a file of
+/// this name. A file that a run made beside another one is never chosen.
 pub(crate) fn chooses(patterns: &[String], name: &[u8]) -> bool
     ensures given { ¬ (patterns.now ≡ []) →
         (result ≡ true) ↔ IsChosen (map string_bytes patterns.now) name.now }
@@ -51,8 +51,8 @@ pub(crate) fn chooses(patterns: &[String], name: &[u8]) -> bool
     matches_any(patterns, name)
 }
 
-/// Returns whether a folder of this name is left out: those of version control and of quilt, which
-/// have earlier texts of files.
+/// Returns whether to leave out a folder of this name: one of version control or quilt, with
+/// earlier texts of files.
 pub(crate) fn is_left_out(name: &[u8]) -> bool
     ensures { (result ≡ true) ↔ IsVersioned name.now }
 {

@@ -1,4 +1,4 @@
-//! Reading a file, and running over its text.
+//! Reads a file, and runs over its text.
 
 ghost use Rattle.std.specs.Prelude.{◌≡◌, false, IfOk};
 ghost use Rattle.ud_tree.specs.Runs.{ReadsOne};
@@ -23,7 +23,7 @@ pub(crate) struct Ran {
 
 /// Reads a file, and runs over its text. Appends the output to `output`.
 ///
-/// Nothing is asked but that the file is read.
+/// The only call reads the file.
 ///
 /// # Errors
 /// - `Read` if the file can't be read.

@@ -1,4 +1,4 @@
-//! Writing what people read, with each control byte made visible.
+//! Writes text for people, with control bytes made visible.
 
 ghost use Rattle.std.specs.Prelude.{◌≡◌, ◌<◌, [], not, true, false};
 ghost use Rattle.std.specs.List.{flat_map};

@@ -1,4 +1,4 @@
-//! A tree of files, as far as the walk asks it.
+//! A tree of files, as far as a walk uses it.
 
 ghost use Rattle.std.specs.Prelude.{◌≡◌, [], ◌∷◌, map};
 ghost use Rattle.ud_replace.specs.Calls.{walked, met, followed, listed};
@@ -6,30 +6,30 @@ ghost use Rattle.ud_replace.specs.Calls.{walked, met, followed, listed};
 use std::io;
 use ud_replace::{Folder, Lookup};
 
-/// A tree of files and folders, each of which has a path.
+/// A tree of files and folders, each with a path.
 ///
 /// Each call appends itself with its answer to the history of `Folder`.
 pub trait Tree: Folder {
-    /// Returns what has a path, without following a link at its end.
+    /// Returns what is at a path, without following a link at its end.
     ///
     /// # Errors
     /// `Unknown` if the call fails.
     fn node(&mut self, path: &str) -> Lookup
         ensures { Self.history self.new ≡ walked (met path.now result) ∷ Self.history self.old };
 
-    /// Returns whether a path is that of a folder, or of a link to one.
+    /// Returns whether a path leads to a folder, perhaps by a link.
     fn leads_to_folder(&mut self, path: &str) -> bool
         ensures { Self.history self.new ≡
             walked (followed path.now result) ∷ Self.history self.old };
 
-    /// Appends the names in a folder to `names`, but for the folder itself and the one above.
-    /// Returns whether all names were appended.
+    /// Appends the names in a folder to `names`, without the folder itself and its parent. Returns
+    /// whether all names were appended.
     fn list(&mut self, folder: &str, names: &mut Vec<Vec<u8>>) -> bool
         requires empty { names.old.items ≡ [] }
         ensures noted { Self.history self.new ≡
             walked (listed folder.now (map (λ n. n.items) names.new.items) result)
             ∷ Self.history self.old };
 
-    /// Returns why the last call that failed did.
+    /// Returns why the last failed call failed.
     fn reason(&self) -> Option<io::Error>;
 }

@@ -12,14 +12,14 @@ use Rattle.ud_faults.specs.Faults.{limit_of, fault_of}
 use Rattle.ud_faults.specs.declared.run.RunFault.{RunFault}
 use Rattle.ud_faults.specs.declared.run.RunFault.TheVariants.{Text, Section, Read, Write}
 
--- `final_result ran flushed`: the result of a run that returned `ran`, after its output was
--- flushed, or the flush failed. A failed flush is a failed write, and changes no fault.
+-- `final_result ran flushed`: the result of a run that returned `ran`, after the flush of its
+-- output. A failed flush is a failed write, unless there is a fault already.
 abbrev pub final_result : Result Bool RunFault → Bool → Result Bool RunFault
 final_result (Ok differs) true = Ok differs
 final_result (Ok differs) false = Err Write
 final_result (Err f) flushed = Err f
 
--- `fault_message name f`: the message of the fault `f` in the input of this name.
+-- `fault_message name f`: the message of the fault `f` in the input with this name.
 abbrev pub fault_message : List ℕ → RunFault → List ℕ
 fault_message name (Text f) = message_of name (limit_of f)
 fault_message name (Section f) = message_of name (fault_of f)

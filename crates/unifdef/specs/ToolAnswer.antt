@@ -1,8 +1,8 @@
--- ToolAnswer: what a call of the tool gives, against the definitions' answers.
+-- ToolAnswer: what a call of the tool gives, compared with the definitions' answers.
 --
 --   Reports call message     the message was appended to the error stream
 --   Answers call a           output, message and status are those of `a`
---   AnswersSpec call input   they are those of the definitions' answer
+--   AnswersSpec call input   they are those of the definitions' answer to `input`
 --   ReportsOrAnswers call message   the message was reported, or that answer was given
 --   FailsForMemory call      memory for a symbol couldn't be allocated
 --   RefusesArgs call fault   the arguments' fault was reported, and nothing else was done
@@ -19,14 +19,14 @@ use Rattle.unifdef.specs.UsageMessages.{ReportsUsage}
 use Rattle.unifdef.specs.ToolCall.{Call}
 
 module _ {R W : Type 0} where
-  -- `Reports call message`: `message` was appended to the error stream, or a prefix of it if that
-  -- has failed.
+  -- `Reports call message`: `message` was appended to the error stream, or a prefix if that has
+  -- failed.
   abbrev pub Reports : Call R W → List ℕ → Type 0
   Reports call message =
       AppendsAllOrPrefix call.err_failed call.old_message call.new_message message
 
   -- `Answers call a`: the output of `a` was appended, its message was reported, and the status is
-  -- that of `a`.
+  -- the one of `a`.
   pub record Answers (call : Call R W) (a : Answer) : Type 0 where
     pub output : Appends call.old_output call.new_output a.output
     pub message : Reports call a.message
@@ -42,16 +42,16 @@ module _ {R W : Type 0} where
   ReportsOrAnswers call message =
       IfSome call.input (λ input. Reports call message ⊎ AnswersSpec call input)
 
-  -- `FailsForMemory call`: memory for a symbol of the arguments couldn't be allocated, and that was
-  -- reported. Nothing was read, and nothing was done with the output.
+  -- `FailsForMemory call`: memory for a symbol of the arguments couldn't be allocated, which was
+  -- reported. Nothing was read, and the output was left alone.
   pub record FailsForMemory (call : Call R W) : Type 0 where
     pub asked : StoresSymbol (parsed_args call.args)
     pub unread : call.new_reader ≡ call.old_reader
     pub unwritten : call.new_out ≡ call.old_out
     pub gave : Answers call memory_answer
 
-  -- `RefusesArgs call fault`: nothing was read, and nothing was done with the output. `fault` was
-  -- reported, or that memory for a symbol before it couldn't be allocated.
+  -- `RefusesArgs call fault`: nothing was read, and the output was left alone. `fault` was
+  -- reported, or that memory for an earlier symbol couldn't be allocated.
   pub record RefusesArgs (call : Call R W) (fault : UsageFault) : Type 0 where
     pub unread : call.new_reader ≡ call.old_reader
     pub unwritten : call.new_out ≡ call.old_out
@@ -68,7 +68,7 @@ module _ {R W : Type 0} where
   AnswersAsDefined call = call.new_reader.failed ≡ false → call.new_out.failed ≡ false →
       IfSome call.input (λ input. AnswersSpec call input ⊎ FailsForMemory call)
 
-  -- `LeavesFlushed call`: if nothing was unflushed before, nothing is now, or the output has
+  -- `LeavesFlushed call`: if nothing was unflushed before, nothing is now; or the output has
   -- failed.
   abbrev pub LeavesFlushed : Call R W → Type 0
   LeavesFlushed call = call.old_out.unflushed ≡ false → call.new_out.failed ≡ false →

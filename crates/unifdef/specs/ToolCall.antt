@@ -14,7 +14,7 @@ pub record Call (R W : Type 0) : Type 0 where
   pub new_reader : WatchedState R
   pub old_out : WatchedState W
   pub new_out : WatchedState W
-  -- The bytes that the reader gives, from before the call on, and from after it on.
+  -- The bytes that the reader gives from before the call on, and from after it on.
   pub input : Option (List ℕ)
   pub rest : Option (List ℕ)
   -- The contents of the output.
@@ -27,7 +27,7 @@ pub record Call (R W : Type 0) : Type 0 where
   pub status : ℕ
 
 -- `call_of remaining contents reported args reader reader' out out' err err' status`: the call with
--- these arguments, streams before and after it, and this status.
+-- these arguments, these streams before and after it, and this status.
 abbrev pub call_of : {R W E : Type 0} → (R → Option (List ℕ)) → (W → Option (List ℕ)) →
     (E → Option (List ℕ)) → List (List ℕ) → WatchedState R → WatchedState R → WatchedState W →
     WatchedState W → WatchedState E → WatchedState E → ℕ → Call R W

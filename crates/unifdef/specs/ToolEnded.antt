@@ -1,10 +1,10 @@
 -- ToolEnded: how the tool ended, whatever failed.
 --
---   is_read_error r, is_write_error r   the run returned `r` since a read, or a write, failed
---   ToolEnded call                      the end of a run and its flush, as it was reported
+--   is_read_error r, is_write_error r   the run returned `r` because a read (a write) failed
+--   ToolEnded call                      the reported end of a run and its flush
 --   EndsAsRun call                      `ToolEnded`, if the arguments have no fault
---   LagsAsRun call                      the output lags one read, if they have none
---   CallEnds call                       what the contract of `tool` says of how a call ends
+--   LagsAsRun call                      the output lags by at most one read, if they have none
+--   CallEnds call                       what the contract of `tool` says about how a call ends
 use Rattle.std.specs.Prelude.{◌≡◌, ◌⊎◌, Bool, true, false, not, ◌||◌, None, Result, Ok, Err}
 use Rattle.ud_model.specs.answer.CommandLine.{options_of, display_name, usage_fault}
 use Rattle.ud_faults.specs.declared.run.RunFault.{RunFault}
@@ -34,8 +34,8 @@ is_write_error (Err Write) = true
 module _ {R W : Type 0} where
   -- `ToolEnded call`: a run ended with `ran`, and then its output was flushed, or the flush failed.
   -- A failed flush is a failed write if the run had no fault, and changes nothing else. The reader
-  -- has failed if a read did, and the output if a write or the flush did. The message and the
-  -- status are those of this end.
+  -- has failed if a read did, and the output if a write or the flush did. Message and status report
+  -- this end.
   pub record ToolEnded (call : Call R W) : Type 0 where
     pub ran : Result Bool RunFault
     pub flushed : Bool
@@ -49,19 +49,19 @@ module _ {R W : Type 0} where
         result_status (options_of call.args).settings (final_result ran flushed)
 
   -- `EndsAsRun call`: however the run ends, and whether or not the streams report their contents,
-  -- the output goes with what was read, and the message and the status with why the run ended. Or
+  -- the output matches what was read, and the message and the status match why the run ended. Or
   -- memory for a symbol couldn't be allocated.
   abbrev pub EndsAsRun : Call R W → Type 0
   EndsAsRun call = usage_fault call.args ≡ None → ToolEnded call ⊎ FailsForMemory call
 
-  -- `LagsAsRun call`: however the run ends, the output for all that came before the last read is
+  -- `LagsAsRun call`: however the run ends, the output for all lines before the last read is
   -- written. Or memory for a symbol couldn't be allocated.
   abbrev pub LagsAsRun : Call R W → Type 0
   LagsAsRun call = usage_fault call.args ≡ None →
       LagsOneRead (options_of call.args) call.input call.rest call.old_output call.new_output
       ⊎ FailsForMemory call
 
-  -- `CallEnds call`: what the contract of `tool` says of how a call ends. Before the call, no
+  -- `CallEnds call`: what the contract of `tool` says about how a call ends. Before the call, no
   -- stream had failed.
   pub record CallEnds (call : Call R W) : Type 0 where
     pub reader_worked : call.old_reader.failed ≡ false

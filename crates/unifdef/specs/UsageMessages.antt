@@ -1,6 +1,6 @@
 -- UsageMessages: the messages of faults of the arguments.
 --
---   usage_text u                                  the message of this fault, or of lack of memory
+--   usage_text u                                  the message of this fault, or of a lack of memory
 --   ReportsUsage gs fault failed old new status   the fault was reported, with this status
 use Rattle.std.specs.Prelude.{◌≡◌, ◌⊎◌, ℕ, List, Bool, Option}
 use Rattle.ud_model.specs.answer.CommandLine.{ParsedArg, UsageFault, unknown_option}
@@ -14,7 +14,7 @@ use Rattle.ud_args.specs.declared.usage.Usage.TheVariants.{BadSymbol, BadMode, T
 use Rattle.ud_args.specs.declared.usage.Usage.TheVariants.{OutOfMemory}
 use Rattle.ud_io.specs.Watched.{AppendsAllOrPrefix}
 
--- `usage_text u`: the message of this fault of the arguments, or the message of lack of memory.
+-- `usage_text u`: the message of this fault of the arguments, or of a lack of memory.
 abbrev pub usage_text : Usage → List ℕ
 usage_text (UnknownOption letter) = usage_message (unknown_option letter)
 usage_text (MissingArgument letter) = usage_message (missing_argument letter)
@@ -24,8 +24,8 @@ usage_text TooManyFiles = usage_message too_many_files
 usage_text OutOfMemory = out_of_memory
 
 -- `ReportsUsage gs fault failed old new status`: `status` is 2, and the message of `fault` was
--- appended, or a prefix of it if `failed`. Or memory for a symbol before the fault couldn't be
--- allocated, and the message of that was.
+-- appended, or a prefix if `failed`. Or memory for a symbol before the fault couldn't be allocated,
+-- and the message about that was.
 pub record ReportsUsage (gs : List ParsedArg) (fault : UsageFault) (failed : Bool)
     (old new : Option (List ℕ)) (status : ℕ) : Type 0 where
   pub message : AppendsAllOrPrefix failed old new (usage_message fault) ⊎

@@ -1,5 +1,5 @@
-//! Laws: functions without a body whose contracts are theorems. They say what follows from the
-//! contract of `tool`.
+//! Laws: functions without a body whose contracts are theorems. They follow from the contract of
+//! `tool`.
 
 ghost use Rattle.std.specs.Prelude.{◌≡◌, true, false};
 ghost use Rattle.ud_model.specs.answer.CommandLine.{display_name};
@@ -8,10 +8,10 @@ ghost use Rattle.unifdef.specs.ToolCall.{Call};
 ghost use Rattle.unifdef.specs.ToolAnswer.{Reports, ReportsOrAnswers};
 ghost use Rattle.unifdef.specs.ToolEnded.{CallEnds};
 
-/// A call of `tool` after which a stream has failed has status 2 and says so.
+/// If a stream has failed after a call of `tool`, the status is 2 and a message says so.
 ///
-/// If only the flush failed, and the text has a fault, the message is that of the fault. The call
-/// then gives the definitions' answer.
+/// If only the flush failed, and the text has a fault, the message is the fault's. The call then
+/// gives the definitions' answer.
 pub fn law_failed_streams<R, W>()
     ensures read_status { (call : Call R W) → CallEnds call → call.new_reader.failed ≡ true →
         call.status ≡ 2 }

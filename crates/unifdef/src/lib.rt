@@ -4,17 +4,16 @@
 //! the output, and `diagnostics` reports errors and returns the exit status. For callers that have
 //! a text in chunks, this crate also exports parts of ud_args and ud_engine:
 //!
-//! - `plan` parses arguments, and fails where the program does (`Usage`). `input_of` returns which
+//! - `plan` parses arguments, and fails if the program would (`Usage`). `input_of` returns which
 //!   argument names the input.
-//! - `run` feeds a whole reader to the engine of a `Plan`, and writes the output to a writer. The
-//!   result is whether some line is printed otherwise than it is, or why the run ended early
+//! - `run` feeds a whole reader to the engine of a `Plan`, and writes the output to a writer. It
+//!   returns whether some line was printed differently, or why the run ended early
 //!   (`RunFault`).
 //! - `Engine` is fed chunk by chunk, and prints by any `Show` of ud_sections. Each `feed` writes
 //!   the output for the whole lines so far before it returns.
-//! - `Watched` wraps a reader or a writer, and records whether a call of it has failed.
+//! - `Watched` wraps a reader or a writer, and records whether a call has failed.
 //!
-//! Only `plan`, and with it `tool`, needs memory: that of the symbols. docs/LIBRARY.md has
-//! examples.
+//! Only `plan`, and so `tool`, needs memory, for the symbols. docs/LIBRARY.md has examples.
 #![tactic(auto)]
 
 mod diagnostics;

@@ -14,12 +14,12 @@ use ud_engine::{Watched, run};
 /// Runs unifdef(1): parses `args`, reads the text from `reader`, writes the output to `out` and
 /// errors to `err`, and returns the exit status.
 ///
-/// `args` excludes the program's name. The operand's file is the caller's to open (`input_of`).
-/// Messages name the input by the operand, or `stdin`. Lines and arguments count from 1.
+/// `args` excludes the program's name. The caller opens the operand's file (`input_of`). Messages
+/// name the input by the operand, or `stdin`. Lines and arguments count from 1.
 ///
-/// Only the symbols of the arguments need memory. Of the text, one line of at most `LINE_BYTES` is
-/// buffered, and the state of at most `OPEN_SECTIONS` open sections. The output is written chunk by
-/// chunk, as `run` of ud_engine does.
+/// Only the symbols of the arguments need memory. Of the text, the tool buffers one line of at most
+/// `LINE_BYTES`, and the state of at most `OPEN_SECTIONS` open sections. The output is written
+/// chunk by chunk, as `run` of ud_engine does.
 ///
 /// The definitions give exactly one answer to the arguments and an input (ud_model,
 /// `Answer.IsAnswer`). If memory suffices and neither `reader` nor `out` fails, the bytes appended
@@ -32,7 +32,7 @@ use ud_engine::{Watched, run};
 /// - The arguments have a fault, or memory for a symbol can't be allocated. Nothing was read, and
 ///   nothing was written to `out`.
 /// - The text has a fault. The output for the lines before it was written.
-/// - A read fails. The output for the whole lines that came before was written.
+/// - A read fails. The output for the whole lines before was written.
 /// - A write fails.
 /// - The flush fails after a run without a fault.
 ///

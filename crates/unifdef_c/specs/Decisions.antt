@@ -1,4 +1,4 @@
--- Decisions: what a call from C gives for one expression.
+-- Decisions: what a call from C returns for one expression.
 --
 --   IsDecision block text n       `n` says how the words of `block` decide the expression
 --   NamesAnswer text ..           the names of the expression were written, as far as they fit
@@ -45,7 +45,8 @@ as_int is.BadWords = negsuc 0
 as_int is.OutOfMemory = negsuc 1
 as_int is.TooLong = negsuc 2
 
--- `IsDecision block text n`: `n` is the number of how the words of `block` decide the expression.
+-- `IsDecision block text n`: `n` is the number of the decision of the words of `block` on the
+-- expression. A word that isn't UTF-8 is a fault, and so is an expression longer than a line.
 -- A word that isn't UTF-8 is a fault, and an expression may be longer than a line.
 pub data IsDecision (block text : List ℕ) : ℤ → Type 0 where
   by_args : (d : Decision) → AreUtf8 (words_of block) → length text ≤ LINE_BYTES →
@@ -59,7 +60,7 @@ pub data IsDecision (block text : List ℕ) : ℤ → Type 0 where
 abbrev pub names_block : List ℕ → List ℕ
 names_block text = block_of (names_of If text)
 
--- `WritesNames text block block' size' n`: what fits of the names was written, and their length.
+-- `WritesNames text block block' size' n`: what fits of the names, and their length, were written.
 pub record WritesNames (text block block' : List ℕ) (size' : ℕ) (n : ℤ) : Type 0 where
   pub fits : length text ≤ LINE_BYTES
   pub written : block' ≡ overwritten block (names_block text)

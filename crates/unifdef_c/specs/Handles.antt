@@ -1,7 +1,7 @@
 -- Handles: what a handle owns.
 --
 --   handle_owns alloc p s   a stream at `p` and the right to free it; nothing at null
---   stream_coded            how a ghost field has a stream
+--   stream_coded            the form of a stream in a ghost field
 use Rattle.std.specs.Prelude.{◌≡◌, Option, None, Some}
 use base.Fml.{Fml, ftrue, fex}
 use base.Stored.{Coded}
@@ -18,6 +18,6 @@ abbrev pub handle_owns : Global → Ptr → Option the_row.Denot → Fml
 handle_owns alloc p None = fex (p ≡ null_ptr) (λ _. ftrue)
 handle_owns alloc p (Some s) = box_owns (ghosts.dealloc_token alloc) the_row p s
 
--- `stream_coded`: how a ghost field has a stream, or none.
+-- `stream_coded`: the form in a ghost field of a stream, or of none.
 abbrev pub stream_coded : Coded (Option the_row.Denot)
 stream_coded = (option_row the_row).coded

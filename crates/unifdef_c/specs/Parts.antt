@@ -1,4 +1,4 @@
--- Parts: the parts of an answer, as the code has them.
+-- Parts: the parts of an answer, in the code's form.
 use Rattle.ud_model.specs.answer.Answer.{Answer}
 use Rattle.unifdef_c.specs.declared.hand_out.Parts.{Parts}
 

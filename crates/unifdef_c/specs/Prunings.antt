@@ -1,9 +1,9 @@
--- Prunings: what a call from C gives for a text without the operands that words decide.
+-- Prunings: what a call from C returns for a text without the operands that words decide.
 --
 --   IsPruned table rules text p   `p` is what a table leaves of the text
 --   IsPrunedBy args text p     `p` is what the arguments leave of the text
---   HandsOutPruned text ..     what fits of it was written
---   PruneAnswer block text ..  this, or nothing, since the words are bad or memory was refused
+--   HandsOutPruned text ..     the pruned text was written, as far as it fits
+--   PruneAnswer block text ..  this, or nothing: the words are bad, or memory was refused
 use Rattle.std.specs.Prelude.{◌≡◌, ◌==◌, ℕ, ℤ, pos, negsuc, List, length, Bool, not, nat_le}
 use Rattle.std.specs.Prelude.{None, if◌then◌else◌}
 use Rattle.ud_model.specs.answer.CommandLine.{usage_fault, options_of}
@@ -37,8 +37,8 @@ pub record IsPrunedBy (args : List (List ℕ)) (text : List ℕ) (p : Pruned) : 
   pub left : p.text.items ≡ text_left args text
   pub edited : p.edited ≡ some_edited args text
 
--- `HandsOutPruned text edited output output' size n`: what fits of `text` was written to `output`.
--- Its length is `size`, and `n` says whether it fits and was `edited`.
+-- `HandsOutPruned text edited output output' size n`: `text` was written to `output`, as far as it
+-- fits. Its length is `size`, and `n` says whether it fits and was `edited`.
 pub record HandsOutPruned (text : List ℕ) (edited : Bool) (output output' : List ℕ) (size : ℕ)
     (n : ℤ) : Type 0 where
   pub written : output' ≡ overwritten output text

@@ -1,10 +1,10 @@
--- StreamCalls: what the calls from C for a text that comes in chunks give.
+-- StreamCalls: what the calls from C do for a text that comes in chunks.
 --
 --   OpensStream block s        a stream before the first byte, by the words of a block
 --   HasBadWords block          the words have a fault, or one of them isn't UTF-8
 --   OpensHandle block h n      a handle was opened
 --   FeedsHandle h h' chunk n   the next chunk was processed
---   TakesHandle h h' ..        a part of the output was taken
+--   TakesHandle h h' ..        part of the output was taken
 --   Tells bytes status ..      a message was handed out
 --   TellsEnd name settings ..  the message of a result was handed out
 --   EndsHandle h h' ..         the text has ended
@@ -41,7 +41,7 @@ pub data OpensHandle (block : List ℕ) : Option Stream → ℤ → Type 0 where
   bad_words : HasBadWords block → OpensHandle block None (negsuc 0)
   no_memory : OpensHandle block None (negsuc 1)
 
--- `as_int fed`: the number of what a chunk did.
+-- `as_int fed`: the number for the effect of a chunk.
 abbrev pub as_int : Fed → ℤ
 as_int is.Accepted = pos 0
 as_int is.Faulty = pos 2
@@ -56,7 +56,7 @@ pub data FeedsHandle (chunk : List ℕ) : Option Stream → Option Stream → �
   is_closed : FeedsHandle chunk None None (negsuc 3)
 
 -- `TakesHandle buffer buffer' left count h h'`: what fits of the pending output of `h` was written
--- to `buffer` (`TakesStream`), and `left` bytes are still pending. A closed handle has no output.
+-- to `buffer` (`TakesStream`), and `left` bytes stay pending. A closed handle has no output.
 pub data TakesHandle (buffer buffer' : List ℕ) (left count : ℕ) : Option Stream → Option Stream →
     Type 0 where
   taken : (s t : Stream) → TakesStream s t buffer buffer' count → left ≡ length (pending t) →
@@ -64,8 +64,8 @@ pub data TakesHandle (buffer buffer' : List ℕ) (left count : ℕ) : Option Str
   is_closed : buffer' ≡ buffer → left ≡ 0 → count ≡ 0 →
       TakesHandle buffer buffer' left count None None
 
--- `Tells bytes status message message' size' n`: what fits of `bytes` was written to `message`,
--- `size'` is their length, and `n` is the status, or 3 if they don't fit.
+-- `Tells bytes status message message' size' n`: `bytes` were written to `message`, as far as they
+-- fit, `size'` is their length, and `n` is the status, or 3 if they don't fit.
 pub record Tells (bytes : List ℕ) (status : ℕ) (message message' : List ℕ) (size' n : ℕ) : Type 0
   where
     pub written : message' ≡ overwritten message bytes
@@ -73,8 +73,8 @@ pub record Tells (bytes : List ℕ) (status : ℕ) (message message' : List ℕ)
     pub returned : n ≡ if nat_le (length bytes) (length message) then status else 3
 
 -- `TellsEnd name settings r message message' size' n`: the message and the status of the result `r`
--- of a text that is named `name` were handed out. Or memory was refused, as it was before the error
--- `Write`, and those of refused memory were.
+-- of a text named `name` were handed out. Or memory was refused, as it was before the error
+-- `Write`, and the message and status for that were.
 pub data TellsEnd (name : List ℕ) (settings : Settings) (r : Result Bool RunFault)
     (message message' : List ℕ) (size' n : ℕ) : Type 0 where
   by_result : ¬ (r ≡ Err Write) →

@@ -1,10 +1,10 @@
 -- StreamCourses: the course of a text in chunks, from the first call to the last.
 --
 --   IsOf args s                   the stream belongs to these arguments, and its text goes on
---   GoesOn args text given s      it was fed `text`, without a fault, and `given` was taken
+--   GoesOn args text given s      it was fed `text`, without a fault, and gave `given`
 --   HasStopped args text given s f   it was fed `text`, which has the fault `f`
---   TakesOn given s more t        a part of what was pending was taken
---   IsAnswerOf args text given t r   what was taken and is pending is the answer's output
+--   TakesOn given s more t        part of the pending output was taken
+--   IsAnswerOf args text given t r   the output taken and pending is the answer's
 use Rattle.std.specs.Prelude.{◌≡◌, ◌≤◌, ℕ, List, [], ◌++◌, length, Bool, false, None, Some, Result}
 use Rattle.std.specs.Prelude.{Err, take}
 use Rattle.ud_model.specs.answer.CommandLine.{usage_fault, options_of, display_name}
@@ -25,14 +25,14 @@ pub record IsOf (args : List (List ℕ)) (s : Stream) : Type 0 where
   pub works : s.output.failed ≡ false
   pub within : s.taken ≤ length (output_of s)
 
--- `GoesOn args text given s`: the stream was fed `text`, which has no fault so far. What was taken,
--- `given`, and what is pending is the output for its whole lines.
+-- `GoesOn args text given s`: the stream was fed `text`, which has no fault so far. The output
+-- taken, `given`, and the pending output are the output for its whole lines.
 pub record GoesOn (args : List (List ℕ)) (text given : List ℕ) (s : Stream) : Type 0 where
   pub of : IsOf args s
   pub fed : InSession s (session (options_of args) text (given ++ pending s))
 
 -- `HasStopped args text given s f`: the stream was fed `text`, which has the fault `f`. However the
--- text goes on, what was taken and is pending is its output.
+-- text goes on, the output taken and pending is its output.
 pub record HasStopped (args : List (List ℕ)) (text given : List ℕ) (s : Stream) (f : RunFault) :
     Type 0 where
   pub of : IsOf args s
@@ -40,8 +40,8 @@ pub record HasStopped (args : List (List ℕ)) (text given : List ℕ) (s : Stre
   pub answers : (later : List ℕ) → RunAnswers (options_of args) (text ++ later) (Some [])
       (Some (given ++ pending s)) (Err f)
 
--- `TakesOn given s more t`: a part of the pending output of `s` was taken, which is `t` then.
--- `given` was taken before, and `more` with this part.
+-- `TakesOn given s more t`: part of the pending output of `s` was taken, which is then `t`. `given`
+-- was taken before, and `more` includes this part.
 pub record TakesOn (given : List ℕ) (s : Stream) (more : List ℕ) (t : Stream) : Type 0 where
   pub buffer : List ℕ
   pub buffer' : List ℕ
@@ -49,8 +49,8 @@ pub record TakesOn (given : List ℕ) (s : Stream) (more : List ℕ) (t : Stream
   pub takes : TakesStream s t buffer buffer' count
   pub more_is : more ≡ given ++ take count (pending s)
 
--- `IsAnswerOf args text given t r`: what was taken and is pending, with the message and the status
--- of the result `r`, is the one answer of the definitions to these arguments and this text.
+-- `IsAnswerOf args text given t r`: the output taken and pending, with the message and the status
+-- of the result `r`, is the definitions' one answer to these arguments and this text.
 abbrev pub IsAnswerOf : List (List ℕ) → List ℕ → List ℕ → Stream → Result Bool RunFault → Type 0
 IsAnswerOf args text given t r = IsAnswer args text (record {
   output = given ++ pending t;

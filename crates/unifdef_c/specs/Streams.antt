@@ -1,12 +1,12 @@
--- Streams: a text that comes in chunks, and its output, which is taken in parts.
+-- Streams: a text that comes in chunks, and its output, taken in parts.
 --
---   pending s                  the output that wasn't taken yet
+--   pending s                  the output not taken yet
 --   IsNewStream plan name s    a stream before the first byte, by a plan
 --   BeginsStream args s        the same, by arguments
 --   FeedsStream s t chunk fed  the next chunk was processed
---   TakesStream s t ..         a part of the output was taken
+--   TakesStream s t ..         part of the output was taken
 --   FinishesStream s t r       the text has ended
---   EndsStream s t r           the same, if it hadn't ended before
+--   EndsStream s t r           the same, unless it had ended before
 use Rattle.std.specs.Prelude.{◌≡◌, ◌⊎◌, ◌≤◌, ℕ, List, [], length, take, drop, Bool, true, false}
 use Rattle.std.specs.Prelude.{None, Some, Result, Ok, Err, IfSome}
 use Rattle.ud_model.specs.sections.Items.{Options}
@@ -24,11 +24,11 @@ use Rattle.unifdef_c.specs.declared.stream.Stream.{Stream}
 use Rattle.unifdef_c.specs.declared.stream.Fed.{Fed}
 use Rattle.unifdef_c.specs.declared.stream.Fed.TheVariants as is
 
--- `output_of s`: all output since it was last taken as a whole.
+-- `output_of s`: the output since all of it was last taken.
 abbrev pub output_of : Stream → List ℕ
 output_of s = s.output.inner.items
 
--- `pending s`: the output that wasn't taken yet.
+-- `pending s`: the output not taken yet.
 abbrev pub pending : Stream → List ℕ
 pending s = drop s.taken (output_of s)
 
@@ -42,7 +42,7 @@ session o text printed = record {
   printed = printed;
 }
 
--- `InSession s x`: the stream's engine was fed and has printed what `x` says.
+-- `InSession s x`: the stream's engine was fed and has printed what `x` records.
 abbrev pub InSession : Stream → Session → Type 0
 InSession s x = IsInSession printer_represents printer_piece s.engine x
 
@@ -71,7 +71,7 @@ pub record BeginsStream (args : List (List ℕ)) (s : Stream) : Type 0 where
   pub goes_on : s.ended ≡ None
 
 -- `FeedsEngine s t chunk r`: the engine of `s` was fed `chunk`, and the output for the lines that
--- end in it was appended; or that failed.
+-- end in it was appended; or feeding failed.
 pub record FeedsEngine (s t : Stream) (chunk : List ℕ) (r : Result (Unit {0}) RunFault) : Type 0
   where
     pub feeds : FeedsChunk printer_represents printer_piece (λ v. Some v.items) s.engine t.engine
@@ -82,7 +82,7 @@ pub record FeedsEngine (s t : Stream) (chunk : List ℕ) (r : Result (Unit {0}) 
         (t.output ≡ s.output))
     pub rest : t ≡ record s { engine = t.engine; output = t.output }
 
--- `fed_of r`: what a chunk did, if the engine returned `r`.
+-- `fed_of r`: the effect of a chunk, if the engine returned `r`.
 abbrev pub fed_of : Result (Unit {0}) RunFault → Fed
 fed_of (Ok done) = is.Accepted
 fed_of (Err (Text f)) = is.Faulty
@@ -100,8 +100,8 @@ pub data FeedsStream (s t : Stream) (chunk : List ℕ) : Fed → Type 0 where
   has_ended : (r : Result Bool RunFault) → s.ended ≡ Some r → t ≡ s →
       FeedsStream s t chunk is.Ended
 
--- `TakesStream s t buffer buffer' count`: what fits of the pending output was written to `buffer`,
--- `count` bytes. They are no longer pending. All else is unchanged.
+-- `TakesStream s t buffer buffer' count`: the pending output was written to `buffer`, as far as it
+-- fits: `count` bytes, no longer pending. All else is unchanged.
 pub record TakesStream (s t : Stream) (buffer buffer' : List ℕ) (count : ℕ) : Type 0 where
   pub written : buffer' ≡ overwritten buffer (pending s)
   pub counted : count ≡ length (take (length buffer) (pending s))
@@ -111,7 +111,7 @@ pub record TakesStream (s t : Stream) (buffer buffer' : List ℕ) (count : ℕ) 
   pub rest : t ≡ record s { output = t.output; taken = t.taken }
 
 -- `FinishesEngine s t r`: the text of the engine of `s` has ended with `r`, and the rest of the
--- output was appended; or that failed.
+-- output was appended; or ending it failed.
 pub record FinishesEngine (s t : Stream) (r : Result Bool RunFault) : Type 0 where
   pub finishes : (x : Session) → InSession s x →
       Finishes x t.output.failed (Some (output_of s)) (Some (output_of t)) r

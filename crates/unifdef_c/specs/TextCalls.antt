@@ -1,4 +1,4 @@
--- TextCalls: what a call from C gives for a text.
+-- TextCalls: what a call from C returns for a text.
 --
 --   IsTextAnswer block text a   `a` is the answer to the words of `block` and a text
 --   HandsOut a ..               `a` was handed to the caller, as far as it fits
@@ -13,8 +13,8 @@ abbrev pub words_answer : Answer
 words_answer =
     record { output = []; message = codes "unifdef: Cannot take arguments\n"; status = 2 }
 
--- `IsTextAnswer block text a`: `a` is the one answer of the definitions to the words of `block` and
--- this text, or that to words that aren't UTF-8. Or memory was refused.
+-- `IsTextAnswer block text a`: `a` is the definitions' one answer to the words of `block` and this
+-- text, or the answer to words that aren't UTF-8. Or memory was refused.
 pub data IsTextAnswer (block text : List ℕ) : Answer → Type 0 where
   answered : (a : Answer) → AreUtf8 (words_of block) → IsAnswer (words_of block) text a →
       IsTextAnswer block text a
@@ -33,9 +33,9 @@ status_if_fits a output message =
     then a.status
     else 3
 
--- `HandsOut a output output' message message' sizes status`: the answer `a` was handed out. What
--- fits of its output and its message was written, `sizes` has their lengths, and the status is that
--- of `a`, or 3 if they don't fit.
+-- `HandsOut a output output' message message' sizes status`: the answer `a` was handed out. Its
+-- output and message were written, as far as they fit, `sizes` has their lengths, and the status is
+-- that of `a`, or 3 if they don't fit.
 pub record HandsOut (a : Answer) (output output' message message' : List ℕ) (sizes : Sizes)
     (status : ℕ) : Type 0 where
   pub written : output' ≡ overwritten output a.output

@@ -1,8 +1,8 @@
--- Words: the arguments in a block of bytes, each of which a zero byte ends.
+-- Words: the arguments in a block of bytes, each ended by a zero byte.
 --
 --   words_of bytes   the words of a block
 --   block_of words   the block of these words
---   AreUtf8 words    each of them is UTF-8
+--   AreUtf8 words    each word is UTF-8
 use Rattle.std.specs.Prelude.{ℕ, List, [], ◌∷◌, ◌++◌, ◌==◌, if◌then◌else◌}
 use Rattle.std.specs.Str.{IsUtf8}
 
@@ -11,7 +11,7 @@ abbrev pub onto_first : ℕ → List (List ℕ) → List (List ℕ)
 onto_first b [] = (b ∷ []) ∷ []
 onto_first b (w ∷ ws) = (b ∷ w) ∷ ws
 
--- `words_of bytes`: the words of the block `bytes`. A zero byte ends each of them; the last one may
+-- `words_of bytes`: the words of the block `bytes`. A zero byte ends each word; the last one may
 -- lack it, if it isn't empty.
 abbrev pub words_of : List ℕ → List (List ℕ)
 words_of [] = []

@@ -8,7 +8,7 @@ ghost use Rattle.unifdef_c.specs.ArgsFaults.{IsArgsFault};
 
 use std::alloc::{AllocError, Global};
 
-/// Why words can't be taken as arguments.
+/// The reason why words aren't accepted as arguments.
 #[derive(Clone, Copy, Debug, PartialEq, Eq)]
 pub(crate) enum ArgsFault {
     /// A word isn't UTF-8.
@@ -30,7 +30,7 @@ impl From<AllocError> for ArgsFault {
 /// Returns the arguments in a block of words.
 ///
 /// # Errors
-/// `NotUtf8` if a word isn't UTF-8, `OutOfMemory` if memory for a word before can't be allocated.
+/// `NotUtf8` if a word isn't UTF-8, `OutOfMemory` if memory for an earlier word can't be allocated.
 pub(crate) fn parse_words(alloc: Global, words: &[u8]) -> Result<Vec<String>, ArgsFault>
     ensures ok { IfOk result (λ args. map string_bytes args.items ≡ words_of words.now) }
     ensures utf8 { IfOk result (λ args. AreUtf8 (words_of words.now)) }

@@ -1,4 +1,4 @@
-//! One condition, and the names of one.
+//! Decides one condition, and lists the names in one.
 
 ghost use Rattle.std.specs.Prelude.{◌≡◌, ◌≤◌, ◌++◌, ◌∷◌, [], ℕ, List, length, map, string_bytes};
 ghost use Rattle.std.specs.Prelude.{IfSome, true};
@@ -36,12 +36,12 @@ pub(crate) enum Decision {
     TooLong,
 }
 
-/// Decides the expression of an `#if` by the words of `words`.
+/// Decides the expression of an `#if` by the arguments in `words`.
 ///
 /// Returns 0 if the expression is false, 1 if it is true, and 2 if it is unknown.
 ///
 /// # Errors
-/// -1 if the words have a fault or one of them isn't UTF-8, -2 if memory is refused, and -3 if the
+/// -1 if the words have a fault or one isn't UTF-8, -2 if memory is refused, and -3 if the
 /// expression has more than `LINE_BYTES` bytes.
 #[unsafe(no_mangle)]
 pub extern "C" fn unifdef_condition(alloc: Global, words: &[u8], expression: &[u8]) -> i32
@@ -101,14 +101,14 @@ fn cond_by_plan(plan: &Plan, expression: &[u8]) -> Cond
     condition(Kind::If, expression, plan.symbols(), rules).cond
 }
 
-/// Lists the names in the expression of an `#if`, in their order, repeats included.
+/// Lists the names in the expression of an `#if`, in order and with repeats.
 ///
-/// Writes what fits of them to `block`, a zero byte after each, and their whole length to `size`.
-/// Returns 0, or 3 if they don't fit. An expression that can't be understood has none.
+/// Writes what fits of them to `block`, each with a zero byte after it, and their whole length to
+/// `size`. Returns 0, or 3 if they don't fit. An expression that can't be understood has none.
 ///
 /// # Errors
-/// -2 if memory is refused, and -3 if the expression has more than `LINE_BYTES` bytes. Nothing is
-/// written then.
+/// -2 if memory is refused, and -3 if the expression has more than `LINE_BYTES` bytes. Then nothing
+/// is written.
 #[unsafe(no_mangle)]
 pub extern "C" fn unifdef_names(
     alloc: Global,

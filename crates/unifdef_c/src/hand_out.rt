@@ -1,4 +1,4 @@
-//! Answers that are handed to C.
+//! Hands answers to C.
 
 ghost use Rattle.std.specs.Prelude.{◌≡◌};
 ghost use Rattle.unifdef_c.specs.TextCalls.{overwritten, HandsOut};
@@ -25,8 +25,8 @@ pub(crate) struct Parts<'a> {
     pub(crate) status: u8,
 }
 
-/// Writes what fits of an answer to `output` and `message`, and its lengths to `sizes`. Returns the
-/// status.
+/// Writes an answer to `output` and `message`, as far as it fits, and its lengths to `sizes`.
+/// Returns the status.
 pub(crate) fn hand_out(
     answer: Parts<'_>,
     output: &mut [u8],

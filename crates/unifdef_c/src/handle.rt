@@ -1,4 +1,4 @@
-//! What C keeps of a stream: a pointer that owns it, or null.
+//! What C keeps for a stream: a pointer that owns it, or null.
 
 ghost use Rattle.std.specs.Prelude.{◌≡◌, Option, None, Some, MatchOption};
 ghost use Rattle.unifdef_c.specs.declared.stream.Stream.{Stream as Streamed};
@@ -11,7 +11,7 @@ use std::marker::Model;
 use std::mem;
 use std::ptr::null_mut;
 
-/// A stream, or none if it is closed. In C this is a struct with one pointer, which is null then.
+/// A stream, or none if it is closed. In C this is a struct with one pointer, then null.
 #[repr(C)]
 pub struct Handle {
     at: *mut u8,

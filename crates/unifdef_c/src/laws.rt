@@ -1,5 +1,5 @@
-//! Laws: functions without a body whose contracts are theorems. They say what follows from the
-//! contracts of the calls for a stream.
+//! Laws: functions without a body whose contracts are theorems. They follow from the contracts of
+//! the calls for a stream.
 
 ghost use Rattle.std.specs.Prelude.{◌≡◌, ◌++◌, [], ℕ, List, Bool, Result, Err};
 ghost use Rattle.ud_faults.specs.declared.run.RunFault.{RunFault};
@@ -10,8 +10,8 @@ ghost use Rattle.unifdef_c.specs.declared.stream.Stream.{Stream};
 ghost use Rattle.unifdef_c.specs.declared.stream.Fed.{Fed};
 ghost use Rattle.unifdef_c.specs.declared.stream.Fed.TheVariants as is;
 
-/// A text that is fed to a stream in chunks, however it is cut, has the answer of the text as a
-/// whole, if no memory is refused. Its output is what is taken from the stream, in this order.
+/// A text fed to a stream in chunks, however it is cut, has the answer of the whole text, if no
+/// memory is refused. Its output is what is taken from the stream, in order.
 pub fn law_stream_answers()
     ensures begins { (args : List (List ℕ)) (s : Stream) → BeginsStream args s →
         GoesOn args [] [] s }

@@ -1,8 +1,8 @@
-//! unifdef(1) for C, and for whatever calls C.
+//! unifdef(1) for C, and for anything that calls C.
 //!
-//! Each exported function is declared and described in lib/unifdef.h. It takes numbers and slices,
-//! a slice as a pointer and a length, and writes only to what it is passed. Only a `Handle` keeps
-//! anything between calls: a `Stream`, for a text that comes in chunks.
+//! Each exported function is declared and described in lib/unifdef.h. It takes numbers and slices
+//! (a pointer and a length), and writes only to what it is passed. Only a `Handle` keeps anything
+//! between calls: a `Stream`, for a text that comes in chunks.
 #![tactic(auto)]
 
 mod args;

@@ -24,7 +24,7 @@ pub(crate) struct Pruned {
     pub(crate) edited: bool,
 }
 
-/// The reason that a text isn't pruned.
+/// The reason why a text isn't pruned.
 #[derive(Clone, Copy, Debug, PartialEq, Eq)]
 pub(crate) enum PruneFault {
     /// The words have a fault, or one of them isn't UTF-8.
@@ -33,14 +33,14 @@ pub(crate) enum PruneFault {
     OutOfMemory,
 }
 
-/// Removes the operands of conditions that the words of `words` decide.
+/// Removes the operands of conditions that the arguments in `words` decide.
 ///
-/// Writes what fits of the rest of the text to `output`, and its whole length to `size`. Returns 1
-/// if a condition was edited, 0 if none was, and 3 if the rest doesn't fit.
+/// Writes the rest of the text to `output`, as far as it fits, and its whole length to `size`.
+/// Returns 1 if a condition was edited, 0 if none was, and 3 if the rest doesn't fit.
 ///
 /// # Errors
-/// -1 if the words have a fault or one of them isn't UTF-8, and -2 if memory is refused. Nothing is
-/// written then.
+/// -1 if the words have a fault or one isn't UTF-8, and -2 if memory is refused. Then nothing is
+/// written.
 #[unsafe(no_mangle)]
 pub extern "C" fn unifdef_prune(
     alloc: Global,

@@ -29,7 +29,7 @@ impl<T, A: Allocator> RawBox<T, A> {
         RawBox { ptr, alloc }
     }
 
-    /// Returns the box again.
+    /// Returns the box.
     pub(crate) fn into_box(self) -> Box<T, A>
         ensures { result.value ≡ self.value }
     {

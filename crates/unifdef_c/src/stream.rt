@@ -1,4 +1,4 @@
-//! A text that comes in chunks: an engine, and the output that wasn't taken yet.
+//! A text that comes in chunks: an engine, and the output not taken yet.
 
 ghost use Rattle.std.specs.Prelude.{◌≡◌, ◌+◌, ◌^◌, ◌<◌, None, IfOk, IfErr, length, map};
 ghost use Rattle.std.specs.Prelude.{string_bytes};
@@ -13,14 +13,14 @@ use ud_engine::{EngineOf, RunFault, Watched};
 use ud_model::Settings;
 use ud_sections::Printer;
 
-/// An engine and its output, as a handle owns them.
+/// An engine and its output, which a handle owns.
 #[derive(Drop)]
 pub struct Stream {
     /// The engine, which owns its plan.
     pub(crate) engine: EngineOf<Plan, Printer>,
     /// The output since all of it was last taken.
     pub(crate) output: Watched<Vec<u8>>,
-    /// The number of bytes of the output that were taken.
+    /// The number of bytes of the output already taken.
     pub(crate) taken: usize,
     /// The input's name in messages.
     pub(crate) name: Vec<u8>,
@@ -30,7 +30,7 @@ pub struct Stream {
     pub(crate) ended: Option<Result<bool, RunFault>>,
 }
 
-/// The reason that no stream begins.
+/// The reason why no stream begins.
 #[derive(Clone, Copy, Debug, PartialEq, Eq)]
 pub(crate) enum BeginFault {
     /// The words have a fault, or one of them isn't UTF-8.
@@ -48,7 +48,7 @@ pub(crate) enum Fed {
     Faulty,
     /// Memory for the output can't be allocated.
     OutOfMemory,
-    /// The text has ended before.
+    /// The text had already ended.
     Ended,
 }
 
@@ -95,7 +95,7 @@ impl Stream {
         })
     }
 
-    /// Processes the next chunk. The output for every line that ends in it is appended.
+    /// Processes the next chunk. Appends the output for every line that ends in it.
     pub(crate) fn feed(&mut self, chunk: &[u8]) -> Fed
         ensures { FeedsStream self.old self.new chunk.now result }
     {
@@ -108,8 +108,8 @@ impl Stream {
         fed_of(self.engine.feed(chunk, &mut self.output))
     }
 
-    /// Ends the text: appends the output for its last line, if that has no newline. Returns the
-    /// result, and returns it again if the text has ended before.
+    /// Ends the text: appends the output for its last line, if it has no newline. Returns the
+    /// result, again if the text has already ended.
     pub(crate) fn end(&mut self) -> Result<bool, RunFault>
         ensures { EndsStream self.old self.new result }
     {
@@ -119,7 +119,7 @@ impl Stream {
         self.finish()
     }
 
-    /// Ends the text, which hasn't ended before.
+    /// Ends the text, which hasn't ended yet.
     fn finish(&mut self) -> Result<bool, RunFault>
         requires { self.old.ended ≡ None }
         ensures { FinishesStream self.old self.new result }
@@ -133,7 +133,7 @@ impl Stream {
         ended
     }
 
-    /// Returns the output that wasn't taken yet.
+    /// Returns the output not taken yet.
     pub(crate) fn pending(&self) -> &[u8]
         ensures value { result.now ≡ pending self.now }
         ensures bound { self.now.taken + length result.now < 2 ^ 64 }
@@ -146,8 +146,8 @@ impl Stream {
         }
     }
 
-    /// Writes what fits of the pending output to `buffer`, and returns how many bytes that were.
-    /// They aren't pending any more.
+    /// Writes the pending output to `buffer`, as far as it fits, and returns how many bytes were
+    /// written. They are no longer pending.
     pub(crate) fn take(&mut self, alloc: Global, buffer: &mut [u8]) -> usize
         ensures { TakesStream self.old self.new buffer.old buffer.new result }
     {
@@ -165,7 +165,7 @@ impl Stream {
     }
 }
 
-/// Returns what a chunk did, if the engine returned this.
+/// Returns the effect of a chunk, if the engine returned this.
 fn fed_of(returned: Result<(), RunFault>) -> Fed
     ensures { result ≡ fed_of returned }
 {

@@ -17,13 +17,13 @@ use ud_model::Settings;
 use unifdef::{EXIT_TROUBLE, report_result};
 
 /// Opens a stream: unifdef(1) over a text that comes in chunks. If `handle` is open, closes it
-/// before.
+/// first.
 ///
 /// `words` has the arguments, as for `unifdef_text`. Returns 0.
 ///
 /// # Errors
-/// -1 if the words have a fault or one of them isn't UTF-8, and -2 if memory is refused. `handle`
-/// is closed then.
+/// -1 if the words have a fault or one isn't UTF-8, and -2 if memory is refused. Then `handle` is
+/// closed.
 #[unsafe(no_mangle)]
 pub extern "C" fn unifdef_open(alloc: Global, handle: &mut Handle, words: &[u8]) -> i32
     ensures { OpensHandle words.now handle.new.stream result }
@@ -48,8 +48,8 @@ pub extern "C" fn unifdef_open(alloc: Global, handle: &mut Handle, words: &[u8])
 /// Returns 0.
 ///
 /// # Errors
-/// - 2 if the text has a fault. The output for what comes before it can be taken.
-/// - -2 if memory for the output is refused. A part of the output can be taken.
+/// - 2 if the text has a fault. The output for the text before it can be taken.
+/// - -2 if memory for the output is refused. Part of the output can be taken.
 /// - -4 if the stream is closed, or the text has ended.
 ///
 /// After 2 or -2, later calls return the same.
@@ -70,9 +70,9 @@ pub extern "C" fn unifdef_feed(alloc: Global, handle: &mut Handle, text: &[u8]) 
     }
 }
 
-/// Writes as much of the output as fits to `output`, and how much is left to `pending`.
+/// Writes as much of the output as fits to `output`, and the number of bytes left to `pending`.
 ///
-/// Returns how many bytes were written: 0 if nothing is left, or if the stream is closed.
+/// Returns how many bytes were written: 0 if none were left, or if the stream is closed.
 #[unsafe(no_mangle)]
 pub extern "C" fn unifdef_take(
     alloc: Global,
@@ -95,13 +95,13 @@ pub extern "C" fn unifdef_take(
 
 /// Ends the text. The rest of the output can then be taken.
 ///
-/// What fits of the message is written to `message`, and its whole length to `size`. Returns the
-/// exit status, or 3 if the message doesn't fit. A later call returns the same status and message,
-/// unless memory for the message is refused at one of the calls.
+/// The message is written to `message`, as far as it fits, and its whole length to `size`. Returns
+/// the exit status, or 3 if the message doesn't fit. A later call returns the same status and
+/// message, unless memory for the message is refused at one of the calls.
 ///
 /// # Errors
 /// The status is 2, with the program's message, if the text has a fault or memory was refused. It
-/// is -4 if the stream is closed. Nothing is written then.
+/// is -4 if the stream is closed; then nothing is written.
 #[unsafe(no_mangle)]
 pub extern "C" fn unifdef_finish(
     alloc: Global,
@@ -170,7 +170,7 @@ fn open_by_args(alloc: Global, args: &[String]) -> Result<Box<Stream>, BeginFaul
     }
 }
 
-/// Hands out the message of how a text has ended. Returns the exit status, or 3 if the message
+/// Hands out the message for the end of a text. Returns the exit status, or 3 if the message
 /// doesn't fit.
 fn tell_end(
     alloc: Global,
@@ -191,8 +191,8 @@ fn tell_end(
     tell(err.inner().as_slice(), status, message, size)
 }
 
-/// Writes what fits of `bytes` to `message`, and their length to `size`. Returns `status`, or 3 if
-/// they don't fit.
+/// Writes `bytes` to `message`, as far as they fit, and their length to `size`. Returns `status`,
+/// or 3 if they don't fit.
 fn tell(bytes: &[u8], status: u8, message: &mut [u8], size: &mut usize) -> u8
     ensures { Tells bytes.now status message.old message.new size.new result }
 {

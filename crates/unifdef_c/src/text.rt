@@ -1,4 +1,4 @@
-//! The whole tool over memory.
+//! The whole tool over a text in memory.
 
 ghost use Rattle.std.specs.Prelude.{◌≡◌, ℕ, pos, map, string_bytes};
 ghost use Rattle.ud_model.specs.answer.Answer.{memory_answer};
@@ -12,15 +12,15 @@ use unifdef::{EXIT_TROUBLE, tool};
 
 /// Runs unifdef(1) over a text in memory.
 ///
-/// `words` has the arguments, without the program's name. A zero byte ends each of them; the last
-/// one may lack it. What fits of the output and of the message is written to `output` and
-/// `message`, and their whole lengths to `sizes`. The rest of a buffer is unchanged.
+/// `words` has the arguments, without the program's name. A zero byte ends each; the last one may
+/// lack it. The output and the message are written to `output` and `message`, as far as they fit,
+/// and their whole lengths to `sizes`. The rest of a buffer is unchanged.
 ///
 /// Returns the exit status, or 3 if the output or the message is longer than its buffer.
 ///
 /// # Errors
-/// The status is 2, with the program's message, for a fault of the arguments or of the text. This
-/// also goes for memory that is refused, and for words that aren't UTF-8.
+/// The status is 2, with the program's message, for a fault of the arguments or of the text. The
+/// same goes for refused memory, and for words that aren't UTF-8.
 #[unsafe(no_mangle)]
 pub extern "C" fn unifdef_text(
     alloc: Global,

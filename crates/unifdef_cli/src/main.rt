@@ -1,7 +1,7 @@
 //! unifdef(1): removes preprocessor conditionals from C source.
 //!
-//! The tool itself is the library `unifdef`. This program passes it the arguments, the file that
-//! they name or standard input, and the standard streams.
+//! The tool itself is the library `unifdef`. This program passes it the arguments, the file they
+//! name (or standard input), and the standard streams.
 #![tactic(auto)]
 
 use std::alloc::AllocError;

@@ -17,7 +17,7 @@ pub(crate) struct Painter<W: Write + Drop> {
 }
 
 impl<W: Write + Drop> Painter<W> {
-    /// Returns a writer of the first line.
+    /// Returns a writer at the beginning of a line.
     pub(crate) fn new(out: W) -> Painter<W> {
         Painter {
             out,

@@ -1,9 +1,9 @@
 -- DefinedOperands: the name after `defined`, and what follows.
 -- `ud_model.specs.aids.Parsing` defines what a text means in a state.
 --
---   asked_name next          the name after a `defined`, by the token there
+--   asked_name next          the name after a `defined`, by the next token
 --   Asked m start text v r   in each state `start s`, `text` means the operand `v` and then `r`
---   IsAfterNot text rest     `rest` follows the `!` with which `text` begins
+--   IsAfterNot text rest     `rest` follows the leading `!` of `text`
 use Rattle.std.specs.Prelude.{◌≡◌, ℕ, ◌<◌, Bool, true, false, List, length, Option, Some, None}
 use Rattle.std.specs.Prelude.{option_map}
 use Rattle.ud_model.specs.text.Bytes.{skip_white}
@@ -22,7 +22,7 @@ abbrev pub after_paren : NextToken → Option (List ℕ)
 after_paren (found closing rest) = Some rest
 after_paren _ = None
 
--- `enclosed_name r`: the name, that it is in parentheses, and what follows the closing one
+-- `enclosed_name r`: the name, `true` for the parentheses, and what follows the closing one
 abbrev pub enclosed_name : Option (List ℕ × List ℕ) → Option (List ℕ × Bool × List ℕ)
 enclosed_name None = None
 enclosed_name (Some r) = option_map (λ rest. (r.0, true, rest)) (after_paren (next_token r.1))

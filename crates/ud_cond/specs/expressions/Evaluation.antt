@@ -1,7 +1,7 @@
 -- Evaluation: the value that is kept of an expression while it is read.
 -- A value is a number and three facts, as `ud_model.specs.conditions.Values` and
--- `ud_model.specs.conditions.Conditions` define them. Each comes from those of the parts, so no
--- tree is needed.
+-- `ud_model.specs.conditions.Conditions` define them. The value of an expression comes from the
+-- values of its parts, so no tree is needed.
 --
 --   value_meaning table strict u     the value of each part of an expression
 --   value_of_tree table strict u e   the value of a tree
@@ -75,7 +75,7 @@ module _ (table : List Argument) where
 abbrev pub unary_value_of : Bool → Operator → Value → Value
 unary_value_of u o a = record a { number = apply_unary u o a.number }
 
--- `binary_value_of strict u o a b`: the value of `a` and `b` with the operator `o` between them
+-- `binary_value_of strict u o a b`: the value of `o` between `a` and `b`
 abbrev pub binary_value_of : Bool → Bool → Operator → Value → Value → Value
 binary_value_of strict u o a b = record {
   number = apply_binary strict u o a.number b.number;
@@ -84,8 +84,8 @@ binary_value_of strict u o a b = record {
   calls_undefined = a.calls_undefined || b.calls_undefined;
 }
 
--- `value_meaning table strict u`: the value of each part of an expression, where `u` is whether
--- the whole expression has a `u`
+-- `value_meaning table strict u`: the value of each part of an expression. `u`: the whole
+-- expression has a `u`
 abbrev pub value_meaning : List Argument → Bool → Bool → Meaning Value
 value_meaning table strict u = record {
   constant = constant_value_of;
@@ -109,7 +109,7 @@ table_in s = rows_in s.symbols
 abbrev pub value_meaning_in : Scope → Meaning Value
 value_meaning_in s = value_meaning (table_in s) s.strict s.unsigned
 
--- `value_keeping`: a program keeps the values themselves, and notes nothing
+-- `value_keeping`: a program keeps the values themselves, and no notes
 abbrev pub value_keeping : Keeping Value Value (Unit {0})
 value_keeping = record { part = λ v n. v; flags = λ v. []; notes = λ n. None }
 

@@ -1,10 +1,10 @@
 -- Stacks: what is pending in an expression, as two stacks.
--- `ud_model.specs.aids.Parsing` has what is pending as one list of frames, and defines what a text
+-- `ud_model.specs.aids.Parsing` has one list of frames for what is pending, and defines what a text
 -- means in the state with that list.
 --
 --   Suffice bytes operands   stacks of such sizes suffice for a text
 --   frames ws vs             what is pending, by the two stacks
---   AreMatched ws vs         each left operand has its operator, and the other way round
+--   AreMatched ws vs         each left operand has its operator, and vice versa
 --   is_empty s               nothing is pending
 --   weight s                 the least number of bytes of the text that the frames take
 --   IsSettled j s            no operator on top binds at least as tightly as `j`
@@ -17,8 +17,8 @@ use Rattle.ud_model.specs.declared.limits.TheConstants.{LINE_BYTES}
 use Rattle.ud_cond.specs.declared.expressions.stacks.PendingOp.{PendingOp}
 use Rattle.ud_cond.specs.declared.expressions.stacks.PendingOp.TheVariants.{Binary, Prefix, Opening}
 
--- `Suffice bytes operands`: stacks of `bytes` operators and `operands` operands, at least half as
--- many, suffice for a text of `bytes` bytes, which is at most a line
+-- `Suffice bytes operands`: stacks of `bytes` operators and `operands` operands suffice for a text
+-- of `bytes` bytes, no longer than a line: there are at least half as many operands
 abbrev pub Suffice : ℕ → ℕ → Type 0
 Suffice bytes operands = (bytes ≤ LINE_BYTES) × (operands ≤ bytes) × (bytes ≤ 2 * operands)
 
@@ -56,8 +56,8 @@ abbrev pub popped : {A : Type 0} → Operator → Option A → Frame A
 popped o (Some a) = left o a
 popped o None = before o
 
--- `BindsAsTightly j o a`: the operator binds at least as tightly as precedence `j`, as each prefix
--- operator does; `a` is its left operand, if it has one
+-- `BindsAsTightly j o a`: the operator binds at least as tightly as precedence `j`, like every
+-- prefix operator; `a` is its left operand, if any
 abbrev pub BindsAsTightly : {A : Type 0} → ℕ → Operator → Option A → Type 0
 BindsAsTightly j o (Some a) = j ≤ precedence o
 BindsAsTightly j o None = Unit {0}

@@ -1,8 +1,8 @@
 -- TwoSlots: what is pending in an expression with few pending operators, as two slots.
--- `ud_model.specs.aids.Parsing` has what is pending as one list of frames.
+-- `ud_model.specs.aids.Parsing` has one list of frames for what is pending.
 --
 --   operand_in p         the left operand in a slot
---   pending_in p s       what is pending in a slot, before the frames that are pending longer
+--   pending_in p s       what is pending in a slot, before older frames
 --   pending_in_slots f   what is pending in both slots
 use Rattle.std.specs.Prelude.{List, [], ◌∷◌, false, Option, Some, None}
 use Rattle.ud_model.specs.aids.Parsing.{Frame, left}
@@ -25,7 +25,7 @@ operand_in p = record {
   calls_undefined = false;
 }
 
--- `pending_in p s`: what is pending in the slot, before the frames `s`, which are pending longer
+-- `pending_in p s`: what is pending in the slot, before the older frames `s`
 abbrev pub pending_in : PendingSlot → List (Frame Value) → List (Frame Value)
 pending_in p s = pending_by p.operator (operand_in p) s
 

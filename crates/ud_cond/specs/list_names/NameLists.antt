@@ -1,16 +1,16 @@
--- NameLists: the names of a text, token by token.
--- `ud_model.specs.conditions.Names` defines the names of a tree. A text that has a tree has the
--- same names, in the order of its tokens.
+-- NameLists: the names in a text, token by token.
+-- `ud_model.specs.conditions.Names` defines the names of a tree. A text with a tree has the same
+-- names, in the order of its tokens.
 --
---   name_in_token t              the name that a token is, if it is one
+--   name_in_token t              the name that a token is, if any
 --   names_in_text text           the names of a text that consists of tokens
---   names_remaining alone text   one name, if there is one, and then those of a text
+--   names_remaining alone text   one name, if any, and then the names of a text
 use Rattle.std.specs.Prelude.{ℕ, List, [], ◌∷◌, ◌++◌, Option, Some, None}
 use Rattle.std.specs.Option.{option_to_list}
 use Rattle.ud_model.specs.conditions.Tokens.{Token, name}
 use Rattle.ud_model.specs.aids.Parsing.{tokens_of}
 
--- `name_in_token t`: the name that the token is, if it is one
+-- `name_in_token t`: the name that the token is, if any
 abbrev pub name_in_token : Token → Option (List ℕ)
 name_in_token (name n arguments) = Some n
 name_in_token _ = None
@@ -29,6 +29,6 @@ names_in_all (Some ts) = names_in_tokens ts
 abbrev pub names_in_text : List ℕ → List (List ℕ)
 names_in_text text = names_in_all (tokens_of text)
 
--- `names_remaining alone text`: the name `alone`, if there is one, and then those of the text
+-- `names_remaining alone text`: the name `alone`, if any, and then the names of the text
 abbrev pub names_remaining : Option (List ℕ) → List ℕ → List (List ℕ)
 names_remaining alone text = option_to_list alone ++ names_in_text text

@@ -1,5 +1,5 @@
--- Paths: where the paths from name to name lead, as far as they were followed.
--- `ud_model.specs.conditions.Symbols` defines the text to which a name resolves.
+-- Paths: where paths from name to name lead, as far as they were followed.
+-- `ud_model.specs.conditions.Symbols` defines the text that a name resolves to.
 --
 --   LeadsTo rows n steps path   the path of the name leads there, after so many steps
 --   AllLead rows steps paths    the path of each row's name does
@@ -10,8 +10,8 @@ use Rattle.ud_cond.specs.symbols.SymbolTable.{name_at, no_row}
 use Rattle.ud_cond.specs.declared.symbols.paths.Path.{Path}
 use Rattle.ud_cond.specs.declared.symbols.paths.Path.TheVariants.{Text, Name, Nothing}
 
--- `LeadsTo rows n steps path`: the name `n` resolves to the text of a row, or to nothing. Or after
--- at least `steps` steps its path has reached the name of a row.
+-- `LeadsTo rows n steps path`: the name `n` resolves to the text of a row, or to nothing. Or its
+-- path has reached the name of a row after at least `steps` steps.
 abbrev pub LeadsTo : List Argument → List ℕ → ℕ → Path → Type 0
 LeadsTo rows n steps (Text i) =
     (i < length rows) × (resolve rows n ≡ (get_or rows i no_row).entry.value)
@@ -19,8 +19,8 @@ LeadsTo rows n steps (Name i) = (i < length rows) × ((taken : ℕ) × (steps �
     ((k : ℕ) → resolve_within (taken + k) rows n ≡ resolve_within k rows (name_at rows i)))
 LeadsTo rows n steps Nothing = resolve rows n ≡ None
 
--- `AllLead rows steps paths`: the name of each row has its path in `paths`, as far as there are
--- paths (`LeadsTo`).
+-- `AllLead rows steps paths`: the name of each row leads to its path in `paths`, as far as `paths`
+-- goes.
 abbrev pub AllLead : List Argument → ℕ → List Path → Type 0
 AllLead rows steps paths = (i : ℕ) → i < length paths →
     LeadsTo rows (name_at rows i) steps (get_or paths i Nothing)

@@ -1,13 +1,13 @@
 -- SymbolTable: the calls that a table of symbols represents, and the order of its rows.
--- `ud_model.specs.conditions.Table` defines what a list of calls says of a name.
+-- `ud_model.specs.conditions.Table` defines the entry that a list of calls gives a name.
 -- (unifdef(1), `-D`, `-U`, `-iD`, `-iU`)
 --
 --   TableRepresents table calls   the table represents the accepted calls so far
---   SetsEntry old new a           the new table has the entry of `a`, and else those of the old one
+--   SetsEntry old new a           the new table is the old one with the entry of `a`
 --   name_cmp m n                  the order of names
 --   AreSorted rows                the rows are sorted, so no two have the same name
---   IsRowOf rows i name           row `i` is that of the name
---   IsGapFor rows i name          position `i` is where a row of the name is to be inserted
+--   IsRowOf rows i name           row `i` is the name's
+--   IsGapFor rows i name          position `i` is where to insert a row for the name
 use Rattle.std.specs.Prelude.{◌≡◌, ℕ, ◌<◌, ◌≤◌, List, [], length, get_or, None, Some, bytes_eq}
 use Rattle.std.specs.Prelude.{false, if◌then◌else◌}
 use Rattle.std.specs.Ordering.{nat_cmp, ordering_then}
@@ -17,8 +17,8 @@ use Rattle.std.specs.Cmp.Lexicographic.{slice_cmp}
 use Rattle.ud_model.specs.conditions.Table.{Argument, entry_in}
 use Rattle.ud_cond.specs.symbols.Keys.{key_of}
 
--- `TableRepresents table calls`: each name has the entry in the table that the accepted calls so
--- far give it
+-- `TableRepresents table calls`: the table gives each name the entry that the accepted calls so far
+-- give it
 abbrev pub TableRepresents : List Argument → List Argument → Type 0
 TableRepresents table calls = (name : List ℕ) → entry_in table name ≡ entry_in calls name
 
@@ -36,7 +36,7 @@ same_key_cmp m n = ordering_then (nat_cmp (length m) (length n)) (slice_cmp nat_
 abbrev pub name_cmp : List ℕ → List ℕ → Ordering
 name_cmp m n = ordering_then (nat_cmp (key_of m) (key_of n)) (same_key_cmp m n)
 
--- `no_row`: the row that is read where there is none
+-- `no_row`: a placeholder where there is no row
 abbrev pub no_row : Argument
 no_row = record { name = []; entry = record { value = None; ignoring = false } }
 
@@ -49,13 +49,13 @@ abbrev pub AreSorted : List Argument → Type 0
 AreSorted rows = (i j : ℕ) → i < j → j < length rows →
     name_cmp (name_at rows i) (name_at rows j) ≡ Less
 
--- `IsRowOf rows i name`: row `i` is that of the name
+-- `IsRowOf rows i name`: row `i` is the name's
 pub record IsRowOf (rows : List Argument) (i : ℕ) (name : List ℕ) : Type 0 where
   pub within : i < length rows
   pub named : name_at rows i ≡ name
 
--- `IsGapFor rows i name`: the name comes after those of the rows before position `i`, and before
--- those of the rows from there on
+-- `IsGapFor rows i name`: the name comes after the names of the rows before position `i`, and
+-- before all others
 pub record IsGapFor (rows : List Argument) (i : ℕ) (name : List ℕ) : Type 0 where
   pub within : i ≤ length rows
   pub after : (k : ℕ) → k < i → name_cmp (name_at rows k) name ≡ Less

@@ -40,7 +40,7 @@ const UNSIGNED: [&[u8]; 18] = [
     b"LU", b"llu", b"llU", b"LLu", b"LLU",
 ];
 
-/// The suffixes without a `u` or `U`; the first is empty.
+/// The suffixes without a `u` or `U`, the empty one included.
 const SIGNED: [&[u8]; 5] = [b"", b"l", b"L", b"ll", b"LL"];
 
 /// Returns whether a byte is a digit of a base.
@@ -174,7 +174,7 @@ fn digit_value(digit: u8) -> u8
     }
 }
 
-/// Returns a base as a number.
+/// Returns the number of a base.
 fn radix(base: Base) -> u64
     ensures { result ≡ base_of base }
 {

@@ -1,4 +1,4 @@
-//! The evaluation of any expression: `reader` reads it, and the value of each part is kept.
+//! The evaluation of any expression, by a reader that keeps the value of each part.
 
 ghost use Rattle.std.specs.Prelude.{◌≡◌, ◌≤◌, [], length};
 ghost use Rattle.ud_model.specs.aids.Parsing as spec;

@@ -1,8 +1,8 @@
 //! The fast path: evaluates an expression that needs at most two pending operators.
 //!
-//! Most expressions have no parentheses but those after `defined`, and few pending operators.
-//! Such an expression is read with two slots and no stacks. `reader` reads every other one, from
-//! its beginning.
+//! Most expressions have parentheses only after `defined`, and few pending operators.
+//! Such an expression is read with two slots and no stacks. `reader` reads all others, from the
+//! beginning.
 
 ghost use Rattle.std.specs.Prelude.{◌≡◌, ◌∷◌, [], ℕ, List, IfSome, OnSome, IsTrue, Some, false};
 ghost use Rattle.ud_model.specs.conditions.Tokens as tokens;
@@ -25,7 +25,7 @@ use crate::expressions::values::{
 use ud_model::Operator;
 use ud_model::bytes::skip_white;
 
-/// The two slots of the operators that are pending.
+/// The two slots for pending operators.
 #[derive(Clone, Copy)]
 pub(crate) struct TwoSlots {
     /// The operator that takes its right operand first.
@@ -178,7 +178,7 @@ fn after_not(text: &[u8]) -> Option<&[u8]>
     }
 }
 
-/// Evaluates a `defined` by the name after it, in parentheses or not. Returns what follows.
+/// Evaluates a `defined` by the name after it, which may be in parentheses. Returns what follows.
 #[inline(always)]
 fn defined_operand<'a>(scope: &Scope<'_>, text: &'a [u8], value: &mut Value) -> Option<&'a [u8]>
     ensures { IfSome result (λ rest. Asked (value_meaning_in scope.now) spec.asks text.now value.new
@@ -189,8 +189,7 @@ fn defined_operand<'a>(scope: &Scope<'_>, text: &'a [u8], value: &mut Value) -> 
     Some(rest)
 }
 
-/// Evaluates the leading operand if no operator and no white space stands before it. Returns what
-/// follows it.
+/// Evaluates the leading operand if no operator or white space precedes it. Returns what follows.
 #[inline(always)]
 fn primary_operand<'a>(scope: &Scope<'_>, text: &'a [u8], value: &mut Value) -> Option<&'a [u8]>
     ensures { (whole : List ℕ) → skip_white whole ≡ text.now → IfSome result (λ rest.
@@ -214,7 +213,7 @@ fn primary_operand<'a>(scope: &Scope<'_>, text: &'a [u8], value: &mut Value) -> 
     }
 }
 
-/// Evaluates the leading operand after at most one `!`. Returns what follows it.
+/// Evaluates the leading operand after at most one `!`. Returns what follows.
 #[inline(always)]
 fn operand<'a>(scope: &Scope<'_>, text: &'a [u8], value: &mut Value) -> Option<&'a [u8]>
     ensures { IfSome result (λ rest. Asked (value_meaning_in scope.now) spec.needs text.now
@@ -229,7 +228,7 @@ fn operand<'a>(scope: &Scope<'_>, text: &'a [u8], value: &mut Value) -> Option<&
     Some(rest)
 }
 
-/// Evaluates the leading operand after at most one `!`. Returns what follows it, unless the operand
+/// Evaluates the leading operand after at most one `!`. Returns what follows, unless the operand
 /// has a `u` or is an undefined symbol with arguments.
 #[inline(always)]
 fn kept_operand<'a>(scope: &Scope<'_>, text: &'a [u8], value: &mut Value) -> Option<&'a [u8]>

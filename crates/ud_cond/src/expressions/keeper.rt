@@ -1,4 +1,4 @@
-//! What a reader of expressions keeps of their parts.
+//! What a reader of expressions keeps of each part.
 
 ghost use Rattle.std.specs.Prelude.{◌≡◌, ◌≤◌, ◌<◌, ◌+◌, ◌++◌, ◌∷◌, [], List, Bool, true};
 ghost use Rattle.ud_model.specs.aids.Parsing.{Meaning};
@@ -10,7 +10,7 @@ use ud_model::Operator;
 
 /// A meaning of the parts of an expression, in a form that a program keeps while it reads a text.
 pub(crate) trait Keeper {
-    /// A part, as it is kept.
+    /// A kept part.
     type Part: Default + Drop;
     /// Notes on the tokens so far.
     type Notes;
@@ -42,7 +42,7 @@ pub(crate) trait Keeper {
             notes.old result notes.new }
         ensures long { count Self.keeping notes.new ≤ count Self.keeping notes.old + 1 };
 
-    /// Returns the part of a `defined` and a name, which is in parentheses or not.
+    /// Returns the part of a `defined` and a name, which may be in parentheses.
     fn asked(&self, name: &[u8], enclosed: bool, notes: &mut Self::Notes) -> Self::Part
         requires fits { count Self.keeping notes.old + spec.tokens_asked enclosed ≤ LINE_BYTES }
         ensures kept { Appends Self.keeping ((Self.meaning self.now).is_defined name.now enclosed)
@@ -50,13 +50,13 @@ pub(crate) trait Keeper {
         ensures long { count Self.keeping notes.new ≤
             count Self.keeping notes.old + spec.tokens_asked enclosed };
 
-    /// Returns the part of a prefix operator and its operand, the last one.
+    /// Returns the part of a prefix operator and the last operand.
     fn unary(&self, operator: Operator, operand: Self::Part, notes: &mut Self::Notes) -> Self::Part
         ensures kept { TakesOne Self.keeping ((Self.meaning self.now).unary operator) operand
             notes.old result notes.new }
         ensures long { count Self.keeping notes.new ≤ count Self.keeping notes.old };
 
-    /// Returns the part of an operator and its operands, the last two.
+    /// Returns the part of an operator and the last two operands.
     fn binary(
         &self,
         operator: Operator,
@@ -68,7 +68,7 @@ pub(crate) trait Keeper {
             notes.old result notes.new }
         ensures long { count Self.keeping notes.new ≤ count Self.keeping notes.old };
 
-    /// Returns the part of parentheses around the last operand. The closing one has just come.
+    /// Returns the part of parentheses around the last operand. The `)` has just come.
     fn parens(&self, inside: Self::Part, notes: &mut Self::Notes) -> Self::Part
         requires fits { count Self.keeping notes.old < LINE_BYTES }
         ensures kept { TakesOne Self.keeping (Self.meaning self.now).parens inside

@@ -1,4 +1,4 @@
-//! Values as they lie in the stacks of a long expression, which then take a third less memory.
+//! Values packed for the stacks of a long expression, which saves a third of their memory.
 
 ghost use Rattle.std.specs.Prelude.{◌≡◌};
 
@@ -12,7 +12,7 @@ pub(crate) struct PackedValue {
     number: i64,
     /// `true` if the number is known.
     is_known: bool,
-    /// `true` if a constant in the operand, or one to which a symbol in it resolves, has a `u`.
+    /// `true` if a constant in the operand, or one that a symbol in it resolves to, has a `u`.
     has_u: bool,
     /// `true` if the operand names a symbol of the table.
     is_listed: bool,

@@ -6,8 +6,8 @@ ghost use Rattle.ud_model.specs.conditions.Expressions.{precedence};
 
 use ud_model::Operator;
 
-/// A slot for an operator and its left operand, which are pending until the right one comes. The
-/// operand has no `u`, and is no undefined symbol with arguments.
+/// A slot for an operator and its left operand, pending until the right one comes. The operand has
+/// no `u`, and isn't an undefined symbol with arguments.
 #[derive(Clone, Copy)]
 pub(crate) struct PendingSlot {
     /// The pending operator, if any.
@@ -18,7 +18,7 @@ pub(crate) struct PendingSlot {
     pub(crate) number: Option<i64>,
     /// `true` if its left operand names a symbol of the table.
     pub(crate) listed: bool,
-    /// The precedence is that of the operator.
+    /// `tightness` is the precedence of the operator.
     pub ghost tight: { IfSome operator (λ o. tightness ≡ precedence o) } by { Prim.hlevel props },
 }
 

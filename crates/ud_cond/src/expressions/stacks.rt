@@ -1,9 +1,8 @@
 //! Two stacks of fixed size for what is pending in an expression: operators, and left operands.
 //!
-//! Each pending parenthesis and prefix operator has a byte of the text, and each left operand
-//! with its operator has two. So it suffices to have as many operators as the text has bytes,
-//! and half as many operands. Stacks for the longest line are costly to clear, so a short text has
-//! short ones.
+//! Each pending parenthesis or prefix operator takes up a byte of the text, and each left operand
+//! with its operator takes two. So as many operators as the text has bytes suffice, and half as
+//! many operands. Stacks for the longest line are costly to clear, so a short text gets short ones.
 
 ghost use Rattle.std.specs.Prelude.{◌≡◌, ◌≤◌, ◌+◌, ◌∷◌, [], IfSome, IfNone, IsTrue, false};
 ghost use Rattle.ud_model.specs.aids.Parsing.{left, before, paren};

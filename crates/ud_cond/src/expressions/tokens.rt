@@ -54,7 +54,7 @@ pub(crate) fn skip_bytes(count: usize, text: &[u8]) -> &[u8]
     text.get(count..).unwrap_or(&[])
 }
 
-/// Returns what follows the `)` that closes a parenthesis. `text` begins inside the parenthesis.
+/// Returns what follows the `)` that closes a parenthesis. `text` begins inside it.
 fn after_matching_paren(text: &[u8]) -> Option<&[u8]>
     ensures { option_map (λ rest. rest.now) result ≡ spec.after_matching_paren 0 text.now }
 {
@@ -134,7 +134,7 @@ fn word_token<'a>(word: &'a [u8], rest: &'a [u8]) -> NextToken<'a>
     }
 }
 
-/// Returns the operator of two bytes if the second one follows, else the operator of one byte.
+/// Returns the two-byte operator if its second byte follows, else the one-byte operator.
 #[inline(always)]
 fn one_or_two_bytes<'a>(
     second: u8,
@@ -151,7 +151,7 @@ fn one_or_two_bytes<'a>(
     }
 }
 
-/// Returns an operator as the token, with the text after it.
+/// Returns an operator as a token, with the text after it.
 #[inline(always)]
 fn single(operator: Operator, rest: &[u8]) -> NextToken<'_>
     ensures { as_next result ≡ spec.found (spec.operator operator) rest.now }
@@ -186,8 +186,8 @@ fn punctuator(byte: u8, rest: &[u8]) -> NextToken<'_>
 
 /// Returns the leading token of a text, and the text after it.
 ///
-/// `text` may have any length and any bytes. It is that of an expression without its comments (C11
-/// 6.4).
+/// `text` may have any length and any bytes. It is the text of an expression, with comments as
+/// spaces (C11 6.4).
 #[tactic(auto, unfolding(ud_model::specs::conditions::Tokens::next_token))]
 #[inline(always)]
 pub fn next_token(text: &[u8]) -> NextToken<'_>

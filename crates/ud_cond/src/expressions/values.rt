@@ -22,7 +22,7 @@ use ud_model::bytes::is_identifier;
 pub(crate) struct Value {
     /// The number; `None` if it is unknown.
     pub(crate) number: Option<i64>,
-    /// `true` if a constant in the part, or one to which a symbol in the part resolves, has a `u`.
+    /// `true` if a constant in the part, or one that a symbol in the part resolves to, has a `u`.
     pub(crate) unsigned: bool,
     /// `true` if the part names a symbol of the table.
     pub(crate) listed: bool,
@@ -62,7 +62,7 @@ impl Scope<'_> {
         }
     }
 
-    /// Resolves `name`: returns the text at which its value ends.
+    /// Resolves `name`: returns the text that its value ends at.
     #[tactic(auto, unfolding(ud_model::specs::conditions::Symbols::resolve))]
     fn resolve<'a>(&'a self, name: &'a [u8]) -> Option<&'a [u8]>
         ensures { option_map (λ v. v.now) result ≡ resolve (table_in self.now) name.now }
@@ -71,7 +71,7 @@ impl Scope<'_> {
     }
 }
 
-/// A value before it is set: nothing is known of it.
+/// A value before it is set.
 pub(crate) const NO_VALUE: Value = Value {
     number: None,
     unsigned: false,
@@ -96,7 +96,7 @@ pub(crate) fn constant(word: &[u8], value: &mut Value)
     value.unsigned = has_u(word);
 }
 
-/// Returns the number of the text to which a symbol resolves: a constant, or a `-` and a constant.
+/// Returns the number of a text that a symbol resolves to: a constant, or a `-` and a constant.
 fn text_value(unsigned: bool, text: &[u8]) -> Option<i64>
     ensures { result ≡ spec.text_value unsigned text.now }
 {

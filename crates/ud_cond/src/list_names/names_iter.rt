@@ -15,7 +15,7 @@ use std::marker::Model;
 pub struct Names<'a> {
     /// A name that comes before the others.
     alone: Option<&'a [u8]>,
-    /// A text that consists of tokens. Its names come next.
+    /// A text that consists of tokens, whose names come next.
     rest: &'a [u8],
 }
 

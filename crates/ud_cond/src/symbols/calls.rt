@@ -11,13 +11,12 @@ use std::alloc::Global;
 use std::marker::Model;
 use ud_model::bytes::is_name;
 
-/// The most rows that aren't sorted: it costs less to move them as they are inserted.
+/// The most rows that aren't sorted: moving them on insertion costs less.
 const FEW_ROWS: usize = 64;
 
-/// Calls for a table of symbols, each of which defines or undefines a name.
+/// Calls for a table of symbols, each defining or undefining a name.
 ///
-/// A table that is made of them at once takes each new row after all others, in whatever order the
-/// calls come.
+/// A table made of them at once appends each new row at its end, whatever the order of the calls.
 #[derive(Drop)]
 pub struct SymbolCalls {
     /// The allocator that memory comes from.
@@ -73,10 +72,10 @@ impl SymbolCalls {
         }
     }
 
-    /// Returns the table after these calls, with its paths cached.
+    /// Returns the table after these calls, with paths cached.
     ///
     /// # Errors
-    /// `OutOfMemory` if an allocation fails, which never happens without a call.
+    /// `OutOfMemory` if an allocation fails; never without any call.
     pub fn into_symbols(self) -> Result<Symbols, SymbolFault>
         ensures ok { IfOk result (λ table. TableRepresents table self) }
         ensures fault { IfErr result (λ u. (u ≡ SymbolFault.OutOfMemory) × (self ≡ [] → ⊥)) }
@@ -94,7 +93,7 @@ impl SymbolCalls {
     }
 }
 
-/// Sorts rows by their names, unless they are few. Rows of one name keep their order.
+/// Sorts rows by name, unless there are few. Rows of the same name keep their order.
 ///
 /// # Errors
 /// `OutOfMemory` if an allocation fails.

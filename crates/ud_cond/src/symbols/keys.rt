@@ -1,15 +1,15 @@
-//! The keys of names: numbers by which most names differ.
+//! The keys of names: numbers in which most names differ.
 
 ghost use Rattle.std.specs.Prelude.{◌≡◌, slice_index, IsTrue, bytes_eq, true};
 ghost use Rattle.ud_cond.specs.symbols.Keys as spec;
 
-/// The number of bytes of a name that its key is made of.
+/// The number of bytes of a name that form its key.
 pub(crate) const KEY_BYTES: usize = 8;
 
 /// Returns the key of a name: its last bytes as one number, since names often begin alike.
 ///
 /// The first of these bytes counts most. So names that are numbered, or sorted by their last bytes,
-/// have rising keys, and each of their rows is added after all others.
+/// have rising keys, and each new row goes at the end.
 #[inline(always)]
 pub(crate) fn key_of(name: &[u8]) -> u64
     ensures { result ≡ spec.key_of name.now }
@@ -20,8 +20,8 @@ pub(crate) fn key_of(name: &[u8]) -> u64
     key_in(&name[name.len() - KEY_BYTES..])
 }
 
-/// Returns the first bytes of a text as one number, in which the first byte counts most. Missing
-/// bytes count as 0.
+/// Returns the first bytes of a text as one number. The first byte counts most; missing bytes count
+/// as 0.
 #[inline(always)]
 fn key_in(bytes: &[u8]) -> u64
     ensures { result ≡ spec.key_in bytes.now }

@@ -6,17 +6,17 @@ ghost use Rattle.ud_cond.specs.symbols.NameFilters as spec;
 /// The number of slots.
 const FILTER_SLOTS: usize = 2048;
 
-/// The number of slots that one word has a bit for.
+/// The number of slots, one bit each, in a word.
 pub(crate) const WORD_SLOTS: usize = 64;
 
 /// The number of words.
 const FILTER_WORDS: usize = FILTER_SLOTS / WORD_SLOTS;
 
-/// The number that a key is multiplied by. It is odd and its bits are spread, so all bytes of
-/// a key count in the middle bits of the product.
+/// The number that a key is multiplied by. It is odd and its bits are spread, so every byte of a
+/// key affects the middle bits of the product.
 const HASH_MULTIPLIER: u64 = 0x9e37_79b9_7f4a_7c15;
 
-/// The number of bits of the product below those that select the slot.
+/// The number of bits of the product below the ones that select the slot.
 const LOW_BITS: u32 = 52;
 
 /// A filter of names (a Bloom filter with one hash). A name's key selects its slot, so several

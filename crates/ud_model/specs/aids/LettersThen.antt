@@ -1,13 +1,13 @@
--- Letters, and then: the options of an argument's letters, followed by what comes after them. It is
--- the form in which code reads them, letter by letter. By law_arguments it is what
--- `letters_give` and `given_next` say.
+-- Letters, and then: the options of an argument's letters, followed by what comes after them. Code
+-- reads them in this form, letter by letter. By law_arguments it agrees with `letters_give` and
+-- `given_next`.
 use Rattle.std.specs.Prelude.{ℕ, List, [], ◌∷◌, encode_utf8_all, if◌then◌else◌}
 use Rattle.ud_model.specs.answer.CommandLine.{ParsedArg, flag, option, unknown, is_flag}
 use Rattle.ud_model.specs.answer.CommandLine.{takes_argument}
 
 -- `parsed_option c number letters next rest`: the option `c`, and what follows it. Its
--- option-argument is `letters`, which are the rest of the argument with this number; then comes
--- `rest`. If there are no letters, `next` has the option with the next argument.
+-- option-argument is `letters`, the rest of the argument with this number; then comes `rest`. If
+-- there are no letters, `next` has the option with the next argument.
 abbrev pub parsed_option : ℕ → ℕ → List ℕ → List ParsedArg → List ParsedArg → List ParsedArg
 parsed_option c number [] next rest = next
 parsed_option c number (l ∷ ls) next rest = option c number (encode_utf8_all (l ∷ ls)) ∷ rest

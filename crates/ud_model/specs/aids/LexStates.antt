@@ -1,4 +1,4 @@
--- LexStates: the lexer's state after a text, by which the lexemes of a longer text are found.
+-- LexStates: the lexer's state after a text, which is enough to go on lexing from there.
 -- C11 5.1.1.2, phase 3, a byte at a time.
 --
 --   LexState                                  the state of the lexer after a text
@@ -10,11 +10,11 @@
 --   masked_byte, stays_white, opens_comment   the byte as it is shown; the line is still white; a
 --                                             comment begins
 --
--- The lexemes of a text are settled as it is read, but for a slash at its end, which may begin a
+-- The lexemes of a text are settled as it is read, except for a slash at its end, which may begin a
 -- comment.
 --
--- Example: after `a/` the lexer is at a slash, and after `a/*` in a block comment, which the slash
--- now belongs to.
+-- Example: after `a/` the lexer is at a slash, and after `a/*` in a block comment, where the slash
+-- now belongs.
 use Rattle.std.specs.Prelude.{◌≡◌, ◌≤◌, ℕ, ◌==◌, List, [], ◌∷◌, ◌++◌, length, map, drop, Bool, true}
 use Rattle.std.specs.Prelude.{false, ◌&&◌, ◌||◌, if◌then◌else◌}
 use Rattle.ud_model.specs.text.Bytes.{newline, slash, star, backslash, space, is_quote, is_white}
@@ -40,7 +40,7 @@ pub data LexState : Type 0 where
   at_backslash : ℕ → LexState
 
 -- `cells_after state rest`: the cells of `rest` after a text that ends in this state. A slash at
--- which the text ends counts with them.
+-- the end of the text counts with them.
 unfoldable pub cells_after : LexState → List ℕ → List Cell
 cells_after in_text rest = lex_from single 0 rest
 cells_after at_slash rest = lex_from single 0 (slash ∷ rest)
@@ -115,7 +115,7 @@ stays_white in_line white b = if b == newline then true else white
 stays_white (in_literal quote) white b = if b == newline then true else white && is_white b
 stays_white (at_backslash quote) white b = if b == newline then true else white && is_white b
 
--- `kind_in_state state`: the kind of lexeme that a text with this state ends in.
+-- `kind_in_state state`: the kind of lexeme in which a text with this state ends.
 abbrev pub kind_in_state : LexState → LexemeKind
 kind_in_state in_text = single
 kind_in_state at_slash = single
@@ -155,8 +155,8 @@ blank_last (x ∷ y ∷ rest) = x ∷ blank_last (y ∷ rest)
 unfoldable pub mask : List ℕ → List ℕ
 mask text = map shown (lex text)
 
--- `Masks n text place white masked`: the lexer is in the state `place` after `text`, and `masked`
--- is how the text is shown after its first `n` bytes.
+-- `Masks n text place white masked`: the lexer is in the state `place` after `text`, and after its
+-- first `n` bytes the text is shown as `masked`.
 pub record Masks (n : ℕ) (text : List ℕ) (place : LexState) (white : Bool) (masked : List ℕ) : Type
     0 where
   pub reads : LexesTo text place white

@@ -5,10 +5,10 @@
 --   Meaning A            the meaning of each node of a tree, in any type
 --   meaning m e          the meaning of a tree
 --   Below k s            the pending operators are looser than precedence `k`
---   reads m s text       the meaning of a text in a state, without a tree
+--   reads m s text       the meaning of a text, read from a state, without a tree
 --
 -- Tokens are read one at a time, with the operators that wait for their operands. Since the meaning
--- is a parameter, a program that keeps no tree reads by the same steps.
+-- is a parameter, a program without a tree takes the same steps.
 use Rattle.std.specs.Prelude.{ℕ, zero, suc, ◌<◌, ◌≤◌, leb, Bool, true, false, if◌then◌else◌, List}
 use Rattle.std.specs.Prelude.{[], ◌∷◌, length, Option, Some, None, option_map}
 use Rattle.ud_model.specs.conditions.Tokens.{Token, number, name, defined, operator, opening}
@@ -45,9 +45,9 @@ pub data Frame (A : Type 0) : Type 0 where
   -- An open parenthesis.
   paren : Frame A
 
--- `Below k s`: the pending operators of the stack `s` are looser than precedence `k`. So none of
--- them takes an operand that an operator of this precedence follows. A parenthesis hides what is
--- outside it.
+-- `Below k s`: the pending operators of the stack `s` are looser than precedence `k`, so none of
+-- them takes an operand before an operator of this precedence. A parenthesis hides what is outside
+-- it.
 abbrev pub Below : {A : Type 0} → ℕ → List (Frame A) → Type 0
 Below k [] = Unit {0}
 Below k (left o a ∷ s) = precedence o < k
@@ -56,7 +56,7 @@ Below k (paren ∷ s) = Unit {0}
 
 -- The state of the parser.
 pub data ParseState (A : Type 0) : Type 0 where
-  -- An operand has to come, for this stack.
+  -- An operand must come next.
   needs : List (Frame A) → ParseState A
   -- An operand has come.
   has : A → List (Frame A) → ParseState A
@@ -122,13 +122,13 @@ module _ {A : Type 0} (m : Meaning A) where
   finish (has x s) = alone (reduce 0 x s)
   finish _ = None
 
-  -- `parse_tokens s ts`: the meaning of the tokens up to the state `s` and then `ts`.
+  -- `parse_tokens s ts`: the meaning of the tokens up to the state `s`, followed by `ts`.
   abbrev pub parse_tokens : ParseState A → List Token → Option A
   parse_tokens s [] = finish s
   parse_tokens s (t ∷ ts) = parse_tokens (step s t) ts
 
--- `prepend_token f next`: the token `next` and those that `f` finds after it; None if one can't be
--- read.
+-- `prepend_token f next`: the token `next` and the ones that `f` finds after it; None if one can't
+-- be read.
 abbrev pub prepend_token : (List ℕ → Option (List Token)) → NextToken → Option (List Token)
 prepend_token f at_end = Some []
 prepend_token f unreadable = None
@@ -139,11 +139,11 @@ abbrev pub tokens_in : ℕ → List ℕ → Option (List Token)
 tokens_in zero text = None
 tokens_in (suc n) text = prepend_token (λ rest. tokens_in n rest) (next_token text)
 
--- `tokens_of text`: the tokens of `text`, if they reach to its end. Each has a byte at least.
+-- `tokens_of text`: the tokens of `text`, if they reach its end. Each has at least one byte.
 unfoldable pub tokens_of : List ℕ → Option (List Token)
 tokens_of text = tokens_in (suc (length text)) text
 
--- `parse_all_tokens m s tokens`: the meaning of the tokens, if there are such.
+-- `parse_all_tokens m s tokens`: the meaning of the tokens, if there are any.
 abbrev pub parse_all_tokens : {A : Type 0} → Meaning A → ParseState A → Option (List Token) →
     Option A
 parse_all_tokens m s None = None
@@ -153,7 +153,7 @@ parse_all_tokens m s (Some ts) = parse_tokens m s ts
 unfoldable pub reads : {A : Type 0} → Meaning A → ParseState A → List ℕ → Option A
 reads m s text = parse_all_tokens m s (tokens_of text)
 
--- The meaning by which each node means itself.
+-- The meaning in which each node means itself.
 abbrev pub itself : Meaning Expression
 itself = record {
   constant = constant;

@@ -1,8 +1,8 @@
--- So far: the marks of a text's lines, by the groups up to each line. The table over the whole
--- section agrees with them.
+-- So far: the marks of a text's lines, by the groups up to each line. They agree with the table
+-- over the whole section.
 --
--- The condition of no later group changes an opener's verdict, so a line's mark is the same in
--- every longer text.
+-- No later group's condition changes an opener's verdict, so a line's mark is the same in every
+-- longer text.
 use Rattle.std.specs.Prelude.{List, [], ◌∷◌, ◌++◌, Bool, not, ◌&&◌, if◌then◌else◌}
 use Rattle.ud_model.specs.declared.cond.Cond.{Cond}
 use Rattle.ud_model.specs.declared.cond.Cond.TheVariants.{Yes}

@@ -2,10 +2,10 @@
 -- definitions meet here.
 --
 --   Answer                  output, message and status
---   IsAnswer args input a   `a` is the answer to these arguments and this input; there is one and
---                           no other
+--   IsAnswer args input a   `a` is the answer to these arguments and this input; there is
+--                           exactly one
 --   Succeeds args input a   it is that answer, and reports no fault
---   JudgesAs args input js  the arguments have no fault, and the lines of the input these verdicts
+--   JudgesAs args input js  the arguments have no fault, and judge the lines of the input as `js`
 --   copy_answer args text   the answer of a run that copies this text
 --
 -- The arguments are parsed (CommandLine). The input is split into lines (Lines). Each line is
@@ -58,7 +58,7 @@ abbrev pub message_or_none : List ℕ → Option Fault → List ℕ
 message_or_none name (Some f) = message_of name f
 message_or_none name None = []
 
--- `usage_answer f`: the answer to arguments with the fault `f`. Nothing is read.
+-- `usage_answer f`: the answer to arguments with the fault `f`. No input is read.
 abbrev pub usage_answer : UsageFault → Answer
 usage_answer f = record { output = []; message = usage_message f; status = 2 }
 

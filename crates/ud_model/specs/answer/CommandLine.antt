@@ -6,11 +6,11 @@
 --   parsed_args args           the options, operands and wrong letters of the arguments, in reading
 --                              order
 --   letters_give number ls     the options of the letters of the argument with this number, and the
---                              option that waits for the next argument, if one does
+--                              option that waits for the next argument, if any
 --   parse_symbol c argument    the symbol in an option-argument of `-D`, `-U` or `-i`, if it is
 --                              valid
 --   parse_exit_mode argument   the exit mode in an option-argument of `-x`, if it is valid
---   usage_fault args           the first fault of the arguments in reading order, if there is one
+--   usage_fault args           the first fault of the arguments in reading order, if any
 --   options_of args            the settings, and the option-arguments that name symbols
 --   operand_of args            the operand's index, counted from 0; `display_name` is the input's
 --                              name in messages
@@ -19,7 +19,7 @@
 --   usage_message fault        the message of a fault
 --
 -- An argument is the bytes of a text in UTF-8, and its letters are the characters of that text. An
--- argument that starts with `-` and is longer has letters of options. A letter's option-argument is
+-- argument that starts with `-` and isn't `-` has letters of options. A letter's option-argument is
 -- the rest of its argument after it, or the whole next argument if nothing is left. `--` ends the
 -- options, and so does the first operand. Every argument after either is an operand.
 --
@@ -111,8 +111,8 @@ abbrev pub is_operand : List ℕ → Bool
 is_operand arg = bytes_eq (option_letters arg) []
 
 -- `given_next waits n args`: the parsed arguments from the index `n` on, if no operand and no `--`
--- came before, and this option waits for its option-argument. An argument gives its options, and
--- then come the arguments after it.
+-- came before, and this option waits for its option-argument. An argument gives its options, then
+-- come the arguments after it.
 abbrev pub given_next : Option ℕ → ℕ → List (List ℕ) → List ParsedArg
 given_next None n [] = []
 given_next (Some c) n [] = lacking c ∷ []
@@ -142,8 +142,8 @@ parsed_by n letters args =
 abbrev pub parsed_args : List (List ℕ) → List ParsedArg
 parsed_args args = parsed_from 0 args
 
--- `symbol_named name value ignoring`: the symbol with this name and this entry, if the name is
--- valid. A name is an identifier other than `defined`.
+-- `symbol_named name value ignoring`: the symbol with this name and this entry, if the name is an
+-- identifier other than `defined`.
 abbrev pub symbol_named : List ℕ → Option (List ℕ) → Bool → Option Argument
 symbol_named name value ignoring =
     if is_name name then Some (record {
@@ -224,7 +224,7 @@ abbrev pub fault_or : Option UsageFault → Option UsageFault → Option UsageFa
 fault_or None later = later
 fault_or (Some f) later = Some f
 
--- `first_fault args`: the first fault of the parsed arguments, if there is one.
+-- `first_fault args`: the first fault of the parsed arguments, if any.
 abbrev pub first_fault : List ParsedArg → Option UsageFault
 first_fault [] = None
 first_fault (flag c ∷ gs) = first_fault gs
@@ -234,7 +234,7 @@ first_fault (operand n w ∷ gs) = fault_after_operand gs
 first_fault (unknown c ∷ gs) = Some (unknown_option c)
 first_fault (lacking c ∷ gs) = Some (missing_argument c)
 
--- `usage_fault args`: the first fault of the arguments, if there is one.
+-- `usage_fault args`: the first fault of the arguments, if any.
 abbrev pub usage_fault : List (List ℕ) → Option UsageFault
 usage_fault args = first_fault (parsed_args args)
 
@@ -253,13 +253,13 @@ listing_by true names = Depths
 listing_by false true = Names
 listing_by false false = Off
 
--- `mode_or earlier mode`: `mode` if there is one, else `earlier`.
+-- `mode_or earlier mode`: `mode`, or `earlier` if there is none.
 abbrev pub mode_or : ExitMode → Option ExitMode → ExitMode
 mode_or earlier None = earlier
 mode_or earlier (Some mode) = mode
 
 -- `mode_from mode args`: the exit mode after these arguments, if `mode` is the one before. The last
--- option `-x` counts.
+-- `-x` counts.
 abbrev pub mode_from : ExitMode → List ParsedArg → ExitMode
 mode_from mode [] = mode
 mode_from mode (flag c ∷ gs) = mode_from mode gs
@@ -304,7 +304,7 @@ pub record Operand : Type 0 where
   pub index : ℕ
   pub name : List ℕ
 
--- `operand_in args`: the first operand, if there is one.
+-- `operand_in args`: the first operand, if any.
 abbrev pub operand_in : List ParsedArg → Option Operand
 operand_in [] = None
 operand_in (flag c ∷ gs) = operand_in gs
@@ -318,7 +318,7 @@ abbrev pub operand_index : Option Operand → Option ℕ
 operand_index None = None
 operand_index (Some o) = Some o.index
 
--- `operand_of args`: the index of the first operand, if there is one.
+-- `operand_of args`: the index of the first operand, if any.
 abbrev pub operand_of : List (List ℕ) → Option ℕ
 operand_of args = operand_index (operand_in (parsed_args args))
 

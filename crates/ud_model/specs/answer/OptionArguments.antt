@@ -7,7 +7,7 @@
 --   AddsSymbol before name w   w names the symbol, and is read as an option after `before`
 --   AddsOption name args more  `more` are `args`, with such an option anywhere among the options
 --
--- Example: `-k`, `-D`, `A`, `-bUB` are options. `-k`, `-D` are not, since `-D` lacks its argument,
+-- Example: `-k`, `-D`, `A`, `-bUB` are options. `-k`, `-D` aren't, since `-D` lacks its argument;
 -- nor are `-k`, `a.c`.
 use Rattle.std.specs.Prelude.{◌≡◌, ℕ, List, [], ◌∷◌, ◌++◌, true, false, Some, None}
 use Rattle.std.specs.Prelude.{bytes_eq, codes, IsUtf8}

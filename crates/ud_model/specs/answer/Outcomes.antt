@@ -2,11 +2,11 @@
 --
 --   ReadsAs o input xs t f      a text that has ended is read as the items `xs` with the tree `t`,
 --                               up to the fault `f` or to its end
---   ReadsSoFar o given xs t f   a text that goes on is read so: its whole lines count, and of the
---                               rest its limits alone
+--   ReadsSoFar o given xs t f   the same for a text that goes on: its whole lines count, and the
+--                               rest only for its limits
 --   JudgedAs o input js         `js` are the lines of a text that has ended, up to its first fault,
 --                               with their verdicts
---   Outcome                     the output, the fault if there is one, and whether some line
+--   Outcome                     the output, the fault if any, and whether some line
 --                               differs
 --   outcome_of s xs t f         the outcome of these items with this tree and this fault under the
 --                               settings `s`
@@ -50,7 +50,7 @@ pub record HasNoFault (o : Options) (ls : List Line) (xs : List (Item Reading)) 
 
 -- `ReadsAs o input xs t f`: a text that has ended is read as the items `xs` with the tree `t`.
 -- These are the lines before its first faulty line, which has the fault `f`; or all lines, and then
--- `f` is the fault of the end, if there is one. How they are printed is left open.
+-- `f` is the fault of the end, if any. How they are printed is left open.
 pub data ReadsAs (o : Options) (input : List ℕ) : List (Item Reading) → Tree Reading →
     Option Fault → Type 0 where
   stops : (xs : List (Item Reading)) (t : Tree Reading) (f : Fault) →
@@ -58,7 +58,7 @@ pub data ReadsAs (o : Options) (input : List ℕ) : List (Item Reading) → Tree
   ends : (xs : List (Item Reading)) (t : Tree Reading) → HasNoFault o (lines_of input) xs t →
       ReadsAs o input xs t (end_fault xs t)
 
--- `JudgedAs o input js`: `js` are the lines as which the text is read, with their verdicts.
+-- `JudgedAs o input js`: the text is read as the lines `js`, with their verdicts.
 pub data JudgedAs (o : Options) (input : List ℕ) : List Judged → Type 0 where
   judged_as : {xs : List (Item Reading)} {t : Tree Reading} {f : Option Fault} →
       ReadsAs o input xs t f → JudgedAs o input (judged_lines xs (marks t))
@@ -71,12 +71,12 @@ lines_so_far given = numbered_from 1 (whole_lines given)
 abbrev pub line_so_far : List ℕ → Line
 line_so_far given = line_at (suc (length (whole_lines given))) (partial_line given)
 
--- `IsLimit c`: in the case `c` a limit is broken.
+-- `IsLimit c`: the case `c` is that a limit is exceeded.
 pub data IsLimit : Case → Type 0 where
   by_lines : IsLimit past_last
   by_bytes : IsLimit too_long
 
--- `RestBreaks o given xs t f`: the rest after the whole lines breaks a limit, with the fault `f`.
+-- `RestBreaks o given xs t f`: the rest after the whole lines exceeds a limit, with the fault `f`.
 pub record RestBreaks (o : Options) (given : List ℕ) (xs : List (Item Reading)) (t : Tree Reading)
     (f : Fault) : Type 0 where
   pub some : (partial_line given ≡ []) → ⊥
@@ -84,7 +84,7 @@ pub record RestBreaks (o : Options) (given : List ℕ) (xs : List (Item Reading)
   pub limit : IsLimit fault.which
 
 -- `ReadsSoFar o given xs t f`: a text that goes on is read as the items `xs` with the tree `t`. No
--- line is faulty so far and the rest breaks no limit, or `f` is the fault.
+-- line is faulty so far and the rest exceeds no limit, or `f` is the fault.
 pub data ReadsSoFar (o : Options) (given : List ℕ) : List (Item Reading) → Tree Reading →
     Option Fault → Type 0 where
   stops : (xs : List (Item Reading)) (t : Tree Reading) (f : Fault) →
@@ -122,14 +122,12 @@ outcome_of s xs t f = record {
       differs_by s.listing s xs t;
 }
 
--- `HasOutcome o input r`: `r` is the outcome of a text that has ended: that of the items as which
--- it is read.
+-- `HasOutcome o input r`: `r` is the outcome of the items of `input`, a text that has ended.
 pub data HasOutcome (o : Options) (input : List ℕ) : Outcome → Type 0 where
   ran_as : {xs : List (Item Reading)} {t : Tree Reading} {f : Option Fault} →
       ReadsAs o input xs t f → HasOutcome o input (outcome_of o.settings xs t f)
 
--- `HasOutcomeSoFar o given r`: `r` is the outcome of a text that goes on: that of the items as
--- which it is read.
+-- `HasOutcomeSoFar o given r`: `r` is the outcome of the items of `given`, a text that goes on.
 pub data HasOutcomeSoFar (o : Options) (given : List ℕ) : Outcome → Type 0 where
   came_as : {xs : List (Item Reading)} {t : Tree Reading} {f : Option Fault} →
       ReadsSoFar o given xs t f → HasOutcomeSoFar o given (outcome_of o.settings xs t f)

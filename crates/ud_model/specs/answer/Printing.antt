@@ -12,8 +12,8 @@
 --
 -- The piece of a line is what is printed for it.
 --
--- Example: for a line `x` after a removed one, `#line 5` and the line are printed under `-n`, 5
--- being its number.
+-- Example: under `-n`, a line `x` with the number 5 after a removed line is printed as `#line 5`
+-- and `x`.
 use Rattle.std.specs.Prelude.{ℕ, ◌+◌, ◌==◌, List, [], ◌∷◌, ◌++◌, take, drop, map, Bool, false, not}
 use Rattle.std.specs.Prelude.{◌&&◌, ◌||◌, bytes_eq, codes, decimal, if◌then◌else◌}
 use Rattle.std.specs.List.{concat}
@@ -42,7 +42,7 @@ by_length len a b c = if len == 7 then a else if len == 8 then b else c
 
 -- `opener_keyword len`: the replacement of a keyword of this length in a directive that becomes the
 -- first of its section. `elifdef` becomes `ifdef`, `elifndef` becomes `ifndef`, and any other
--- keyword `if`, each with two spaces for the bytes that are lost.
+-- keyword `if`, each followed by two spaces for the lost bytes.
 abbrev pub opener_keyword : ℕ → List ℕ
 opener_keyword len = by_length len (codes "ifdef  ") (codes "ifndef  ") (codes "if  ")
 
@@ -63,8 +63,8 @@ pub record Judged : Type 0 where
   pub verdict : Verdict
   pub keyword : Span
 
--- The style in which lines are printed: removed ones blanked (`-b`), kept and removed ones
--- exchanged (`-c`), numbers inserted (`-n`).
+-- The style in which lines are printed: removed ones blanked (`-b`), kept and removed ones swapped
+-- (`-c`), numbers inserted (`-n`).
 pub record Style : Type 0 where
   pub blank : Bool
   pub complement : Bool
@@ -86,7 +86,7 @@ complement_verdict v = if is_removed v then Keep else Remove
 abbrev pub complemented : Judged → Judged
 complemented j = record j { verdict = complement_verdict j.verdict }
 
--- `last_removed js`: the last of these lines is removed.
+-- `last_removed js`: the last line of `js` is removed.
 abbrev pub last_removed : List Judged → Bool
 last_removed [] = false
 last_removed (j ∷ []) = is_removed j.verdict
@@ -110,19 +110,18 @@ piece_alone blank j =
     else piece_by j.verdict j.keyword j.line
 
 -- `is_numbered style before j`: a `#line` comes before `j`: under `-n`, if `j` isn't removed and
--- the line before it is. If lines are blanked, none comes.
+-- the line before it is, unless lines are blanked.
 abbrev pub is_numbered : Style → List Judged → Judged → Bool
 is_numbered style before j = style.renumber && not style.blank && last_removed before &&
     not (is_removed j.verdict)
 
 -- `uncomplemented_piece style before j`: the piece of `j` after the lines `before`, by the verdicts
--- as they are.
+-- without `-c`.
 abbrev pub uncomplemented_piece : Style → List Judged → Judged → List ℕ
 uncomplemented_piece style before j =
     (if is_numbered style before j then number_line j.line else []) ++ piece_alone style.blank j
 
--- `piece_after style before j`: the piece of `j` after the lines `before`. `-c` counts before all
--- else.
+-- `piece_after style before j`: the piece of `j` after the lines `before`. `-c` is applied first.
 abbrev pub piece_after : Style → List Judged → Judged → List ℕ
 piece_after style before j =
     if style.complement then uncomplemented_piece style (map complemented before) (complemented j)

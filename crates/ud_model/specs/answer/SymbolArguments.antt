@@ -1,8 +1,8 @@
 -- SymbolArguments: the name and the value of a symbol in an option-argument.
 -- unifdef(1), `-D`, `-U`, `-i`.
 --
---   name_before_equals a   the bytes before the first `=`; `value_after_equals a` are those after
---                          it
+--   name_before_equals a   the bytes before the first `=`; `value_after_equals a` the ones
+--                          after it
 --   is_name n              `n` may be a symbol's name
 --   value_or_one v         the value of a symbol that is defined
 use Rattle.std.specs.Prelude.{ℕ, List, [], ◌∷◌, Bool, not, ◌&&◌, ◌==◌, Option, Some, None, bytes_eq}
@@ -14,7 +14,7 @@ abbrev pub name_before_equals : List ℕ → List ℕ
 name_before_equals [] = []
 name_before_equals (b ∷ bs) = if b == equals_sign then [] else b ∷ name_before_equals bs
 
--- `value_after_equals a`: the bytes of `a` after its first `=`, if there is one.
+-- `value_after_equals a`: the bytes of `a` after its first `=`, if any.
 abbrev pub value_after_equals : List ℕ → Option (List ℕ)
 value_after_equals [] = None
 value_after_equals (b ∷ bs) = if b == equals_sign then Some bs else value_after_equals bs

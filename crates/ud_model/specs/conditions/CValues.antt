@@ -3,7 +3,7 @@
 -- C11 6.10.1p4: all signed integers have the type intmax_t and all unsigned ones uintmax_t, here of
 -- 64 bits in two's complement. 6.5 and 6.3.1.8 for the operators.
 --
---   Number                a number of one of the two types; `number` is the number alone
+--   Number                a number of one of the two types; `number x` is the number alone
 --   IsConstantValue w c   the constant `w` has the value `c` (6.4.4.1p5)
 --   GivesUnary o x c      an operator before the operand `x` may give `c`
 --   Gives o x y c         an operator between two operands may give `c`, `&&` and `||` aside
@@ -11,10 +11,10 @@
 --                         has a `u`
 --   IsCValue table e c    the expression `e` may have the value `c`
 --
--- A name whose value the table decides has this value, in the type of the constant to which it
--- resolves. Each other name may be any number of either type, and another one at each of its uses.
--- `defined` and an unlisted name is 0 or 1. No value is related if C gives none: a divisor of 0, a
--- signed result out of range, a constant without a type.
+-- A name whose value the table decides has this value, in the type of the constant it resolves to.
+-- Every other name may be any number of either type, a different one at each use. `defined` and an
+-- unlisted name is 0 or 1. Where C gives no value there is none: a divisor of 0, a signed result
+-- out of range, a constant without a type.
 --
 -- Example: with A undefined and X unlisted, `A && X` can only be 0, and `X - X` can be any number.
 use Rattle.std.specs.Prelude.{◌≡◌, ◌≢◌, ℕ, ◌+◌, ◌-◌, ◌*◌, ◌/◌, ◌%◌, ◌^◌, ◌<◌, ◌≤◌, Bool, true}
@@ -58,8 +58,7 @@ abbrev pub as_unsigned : Number → ℕ
 as_unsigned (signed z) = cast_unsigned w64 z
 as_unsigned (unsigned n) = n
 
--- `IsTruth Holds c`: `c` is 1 if the fact `Holds` is true, and 0 if it isn't (6.5.3.3p5, 6.5.8p6,
--- 6.5.9p3).
+-- `IsTruth Holds c`: `c` is 1 if `Holds` is true, and 0 if it isn't (6.5.3.3p5, 6.5.8p6, 6.5.9p3).
 abbrev pub IsTruth : Type 0 → Number → Type 0
 IsTruth Holds c = (Holds × (c ≡ signed (pos 1))) ⊎ ((Holds → ⊥) × (c ≡ signed (pos 0)))
 
@@ -67,8 +66,7 @@ IsTruth Holds c = (Holds × (c ≡ signed (pos 1))) ⊎ ((Holds → ⊥) × (c �
 abbrev pub IsZero : Number → Type 0
 IsZero x = number x ≡ pos 0
 
--- `IsResult z c`: `c` is the result `z` in intmax_t. Out of the range of this type there is none
--- (6.5p5).
+-- `IsResult z c`: `c` is the result `z` in intmax_t. A `z` out of range gives no result (6.5p5).
 abbrev pub IsResult : ℤ → Number → Type 0
 IsResult z c = FitsSigned w64 z × (c ≡ signed z)
 
@@ -130,8 +128,8 @@ GivesUnary Complement (signed a) c = c ≡ signed (cast_signed w64 (2 ^ 64 - 1 -
 GivesUnary Complement (unsigned a) c = c ≡ unsigned (2 ^ 64 - 1 - a)
 GivesUnary _ x c = ⊥
 
--- `IsConstantValue w c`: the constant `w` has the value `c`. It has the type uintmax_t with a `u`,
--- or if only this type holds it and it isn't decimal (6.4.4.1p5).
+-- `IsConstantValue w c`: the constant `w` has the value `c`. Its type is uintmax_t if it has a `u`,
+-- or if it isn't decimal and only fits this type (6.4.4.1p5).
 pub data IsConstantValue (w : List ℕ) : Number → Type 0 where
   plain : has_u w ≡ false → constant_number w < 2 ^ 63 →
       IsConstantValue w (signed (pos (constant_number w)))

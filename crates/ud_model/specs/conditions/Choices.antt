@@ -1,11 +1,11 @@
--- Choices: a number for each use of a name in an expression, and the value of the expression by
--- these numbers.
+-- Choices: a number for each use of a name in an expression, and the value that these numbers give
+-- the expression.
 -- C11 6.10.1p4, 6.5: whatever the macros are, each use of one in a condition has a number, or the
 -- condition has no value.
 --
 --   Choice e              a number for each operand that is a name in the tree `e`, and whether the
 --                         name after each `defined` is defined
---   IsAllowed table m     the numbers of the names that the table decides are those of the table
+--   IsAllowed table m     names that the table decides have the table's numbers
 --   HasValue e m c        by the choice `m` the tree `e` has the value `c`
 --   stay m                the choice `m` for the uses that are left (Residuals)
 --
@@ -36,8 +36,8 @@ pub data Choice : Expression → Type 0 where
   for_parens : {a : Expression} → Choice a → Choice (parens a)
 
 module _ (table : List Argument) where
-  -- `IsAllowed m`: each number is in range, and those of the names that the table decides are as
-  -- the table has them. Each other one is free.
+  -- `IsAllowed m`: each number is in range, and the names that the table decides have the table's
+  -- numbers. All others are free.
   abbrev pub IsAllowed : {e : Expression} → Choice e → Type 0
   IsAllowed for_constant = Unit {0}
   IsAllowed (for_name {n = n} c) = IsInRange c × ((z : ℤ) →
@@ -47,8 +47,8 @@ module _ (table : List Argument) where
   IsAllowed (for_binary m k) = IsAllowed m × IsAllowed k
   IsAllowed (for_parens m) = IsAllowed m
 
--- `HasValue e m c`: by the choice `m` the tree `e` has the value `c`. It has no value if C gives it
--- none.
+-- `HasValue e m c`: by the choice `m` the tree `e` has the value `c`. If C gives it no value, it
+-- has none.
 pub data HasValue : (e : Expression) → Choice e → Number → Type 0 where
   of_constant : {w : List ℕ} {c : Number} → IsConstantValue w c →
       HasValue (constant w) for_constant c

@@ -3,9 +3,9 @@
 --
 --   Decision                                  a condition, and whether its section is plain text
 --   tree_cond e table rules                   the condition of the tree of an `#if` or `#elif`
---   expression_cond after table rules         the condition of its text; a text without a tree is
+--   expression_cond after table rules         the condition of a text; without a tree it is
 --                                             unknown
---   decision_by_test test after table rules   the decision on a text by the test that it is for
+--   decision_by_test test after table rules   the decision on a text by its test
 --   condition_of kind after table rules       the decision on the text after a keyword
 --   decision_on scan d table rules            the decision on a directive in its line
 --
@@ -29,7 +29,7 @@ use Rattle.ud_model.specs.declared.kind.Role.TheVariants.{IfGroup, ElifGroup, El
 use Rattle.ud_model.specs.declared.kind.Test.{Test}
 use Rattle.ud_model.specs.declared.kind.Test.TheVariants.{Nonzero, Defined, Undefined, Nothing}
 
--- A decision on a directive: its condition, and whether its section is plain text.
+-- The decision on a directive: its condition, and whether its section is plain text.
 pub record Decision : Type 0 where
   pub cond : Cond
   pub ignoring : Bool
@@ -52,8 +52,7 @@ without_strict rules = record rules { strict = false }
 abbrev pub undecided : Decision
 undecided = record { cond = Unknown; ignoring = false }
 
--- `sole_name after`: the identifier that `after` consists of, but for white space around it, or
--- None.
+-- `sole_name after`: the identifier that is all of `after`, white space around it aside, or None.
 abbrev pub sole_name : List ℕ → Option (List ℕ)
 sole_name after =
     if is_identifier (leading_word (skip_white after)) && are_white (skip_word (skip_white after))
@@ -68,8 +67,7 @@ ifdef_by (Some e) = record { cond = defined_by e.value; ignoring = e.ignoring }
     defined_by None = No
     defined_by (Some value) = Yes
 
--- `ifdef_decision name table`: the decision on an `#ifdef` of `name`, or undecided if its text is
--- no name.
+-- `ifdef_decision name table`: the decision on an `#ifdef` of `name`, or undecided without a name.
 abbrev pub ifdef_decision : Option (List ℕ) → List Argument → Decision
 ifdef_decision None table = undecided
 ifdef_decision (Some name) table = ifdef_by (entry_in table name)
@@ -86,11 +84,11 @@ undefined_by None = false
 undefined_by (Some e) = not (is_some e.value)
 
 module _ (table : List Argument) where
-  -- `is_listed n`: an argument of the table names `n`.
+  -- `is_listed n`: some argument of the table names `n`.
   abbrev pub is_listed : List ℕ → Bool
   is_listed n = is_some (entry_in table n)
 
-  -- `mentions_listed e`: a name that the table lists is in `e`, as an operand or after `defined`.
+  -- `mentions_listed e`: `e` has a listed name, as an operand or after `defined`.
   abbrev pub mentions_listed : Expression → Bool
   mentions_listed (constant w) = false
   mentions_listed (named n arguments) = is_listed n
@@ -99,7 +97,7 @@ module _ (table : List Argument) where
   mentions_listed (binary o a b) = mentions_listed a || mentions_listed b
   mentions_listed (parens a) = mentions_listed a
 
-  -- `calls_undefined e`: a name that the table undefines is in `e` with arguments.
+  -- `calls_undefined e`: `e` has a name with arguments that the table undefines.
   abbrev pub calls_undefined : Expression → Bool
   calls_undefined (constant w) = false
   calls_undefined (named n arguments) = arguments && undefined_by (entry_in table n)
@@ -108,7 +106,7 @@ module _ (table : List Argument) where
   calls_undefined (binary o a b) = calls_undefined a || calls_undefined b
   calls_undefined (parens a) = calls_undefined a
 
--- `truth_of value`: no if the value is 0, yes if it is another known number, else unknown.
+-- `truth_of value`: no if the value is 0, yes if it is any other known number, else unknown.
 abbrev pub truth_of : Option ℤ → Cond
 truth_of None = Unknown
 truth_of (Some z) = if is_zero z then No else Yes

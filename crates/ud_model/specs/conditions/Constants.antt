@@ -1,7 +1,7 @@
 -- Constants: the integer constants, and their numbers.
 -- C11 6.4.4.1. A word is a text of word bytes alone.
 --
---   constant_parts w    a word as the digits of a base and the suffix after them
+--   constant_parts w    the digits of a word, in their base, and its suffix
 --   suffix_sign s       whether a suffix has a `u`; None if `s` is no suffix
 --   is_constant w       the word is an integer constant
 --   has_u w             the word is a constant with a `u` or `U`
@@ -29,8 +29,8 @@ pub record ConstantParts : Type 0 where
   pub digits : List ℕ
   pub suffix : List ℕ
 
--- `split_digits is_one base w`: `w` split after its longest prefix of digits, which are the bytes
--- that `is_one` accepts.
+-- `split_digits is_one base w`: `w` split after its longest prefix of digits, the bytes that
+-- `is_one` accepts.
 abbrev pub split_digits : (ℕ → Bool) → ℕ → List ℕ → ConstantParts
 split_digits is_one base w = record {
   base = base;
@@ -79,7 +79,7 @@ suffix_sign s =
     else None
 
 -- `constant_sign p`: true if `p` is a constant with a `u`, false if it is one without, else None. A
--- constant has a digit at least.
+-- constant has at least one digit.
 abbrev pub constant_sign : ConstantParts → Option Bool
 constant_sign p = if nat_le 1 (length p.digits) then suffix_sign p.suffix else None
 

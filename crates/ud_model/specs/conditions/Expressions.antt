@@ -1,6 +1,6 @@
 -- Expressions: the trees of texts that are expressions.
--- C11 6.5 and 6.10.1p1. Each operator has a precedence, of which 1 is the loosest. Operators of one
--- precedence take their operands from the left.
+-- C11 6.5 and 6.10.1p1. Each operator has a precedence; 1 is the loosest. Operators of the same
+-- precedence associate to the left.
 --
 --   Expression          a tree of operands and operators; parentheses are a node of their own
 --   spelling e          the tokens of a tree
@@ -71,7 +71,7 @@ spelling (parens a) = opening ∷ spelling a ++ closing ∷ []
 
 -- `HasPrecedence k e`: the tree `e` has precedence `k` or a tighter one. The left operand of an
 -- operator is at least as tight as the operator, and the right one is tighter. The operand of a
--- prefix operator is tighter than each operator between two operands.
+-- prefix operator is tighter than any binary operator.
 abbrev pub HasPrecedence : ℕ → Expression → Type 0
 HasPrecedence k (constant w) = Unit {0}
 HasPrecedence k (named n arguments) = Unit {0}

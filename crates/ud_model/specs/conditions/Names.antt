@@ -1,9 +1,9 @@
--- Names: the names of a condition, as they are listed.
+-- Names: the names in a condition, as listed.
 -- unifdef(1), `-s` and `-S`.
 --
 --   names_in e            the names of a tree: of each operand and each `defined`, in order and
 --                         with repeats
---   names_by test after   the names of a text by the test that it is for, if it is understood
+--   names_by test after   the names of a text by its test, if it is understood
 --   names_of kind after   the names of the text after a keyword
 --   names_on d            the names of a directive; a broken one has none
 --
@@ -38,7 +38,7 @@ abbrev pub name_alone : Option (List ℕ) → List (List ℕ)
 name_alone None = []
 name_alone (Some name) = name ∷ []
 
--- `names_by test after`: the names of the text `after`, by the test that it is for.
+-- `names_by test after`: the names of the text `after`, by its test.
 abbrev pub names_by : Test → List ℕ → List (List ℕ)
 names_by Nonzero after = names_in_tree (expression_of after)
 names_by Defined after = name_alone (sole_name after)

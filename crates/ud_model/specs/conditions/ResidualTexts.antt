@@ -1,17 +1,17 @@
--- Residual texts: the text of a condition without the tokens of the operands that are removed.
+-- Residual texts: the text of a condition without the tokens of its removed operands.
 --
 --   keeps e                  for each token of the tree `e` whether it is left (Residuals)
 --   chosen flags xs          the members of `xs` whose flag is true
 --   left_cells flags cells   the cells of the text of a condition that are left by these flags
 --   simplified_cells cells   the cells that are left, or the text itself if it must stay
 --
--- White space after an operand belongs to the token after it, and other white space to the token
--- before it, at first the keyword. It is removed with that token, but stays if a comment is in it.
--- So each comment stays, and nothing is added or moved.
+-- White space after an operand belongs to the token after it, other white space to the token (or
+-- keyword) before it. It is removed with that token, but stays if it has a comment. So each comment
+-- stays, and nothing is added or moved.
 --
--- The text stays if it isn't understood, or if it is decided. It stays if the rest would be
--- decided, would begin with a word byte next to the keyword, or wouldn't be read as the tokens that
--- are left. And it stays if it has a quote: without it, the text after it could be a comment.
+-- The text stays if it isn't understood, if it is decided, or if it has a quote: without the quote,
+-- the text after it could be a comment. It also stays if the rest would be decided, would begin
+-- with a word byte next to the keyword, or wouldn't be read as the tokens that are left.
 --
 -- Example: with A undefined, ` A || X // c` and ` X || A // c` both become ` X // c`.
 use Rattle.std.specs.Prelude.{ℕ, ◌-◌, List, [], ◌∷◌, ◌++◌, length, map, take, drop, Bool, true}
@@ -49,7 +49,7 @@ abbrev pub all_flags : Bool → Expression → List Bool
 all_flags f e = map (λ t. f) (spelling e)
 
 -- `joined_flags b d e f xs ys`: the flags of an operator between `e` and `f`, whose flags are `xs`
--- and `ys`. Only the right operand is left if `b`, only the left one if `d`, else both are.
+-- and `ys`. Only the right operand is left if `b`, only the left one if `d`, else both.
 abbrev pub joined_flags : Bool → Bool → Expression → Expression → List Bool → List Bool → List Bool
 joined_flags b d e f xs ys =
     if b then all_flags false e ++ false ∷ ys
@@ -79,7 +79,7 @@ ends_operand (name n arguments) = true
 ends_operand closing = true
 ends_operand _ = false
 
--- `gap_left stays gap`: white space that stays, or that a comment is in.
+-- `gap_left stays gap`: the white space `gap` if `stays` or if a comment is in it, else nothing.
 abbrev pub gap_left : Bool → List Cell → List Cell
 gap_left stays gap = if stays || not (are_white (map (λ (c : Cell). c.byte) gap)) then gap else []
 
@@ -91,8 +91,8 @@ cells_before rest cells = take (length cells - length rest) cells
 abbrev pub cells_after : List ℕ → List Cell → List Cell
 cells_after rest cells = drop (length cells - length rest) cells
 
--- `token_left f further rest o cells`: the token that `cells` begin with, if `f`, and the part of
--- the text `rest` that `further` leaves. The token ends an operand if `o`.
+-- `token_left f further rest o cells`: the first token of `cells`, if `f`, and the part of the text
+-- `rest` that `further` leaves. The token ends an operand if `o`.
 abbrev pub token_left : Bool → (Bool → List Cell → List Cell) → List ℕ → Bool → List Cell →
     List Cell
 token_left f further rest o cells =
@@ -162,7 +162,7 @@ same_tokens (t ∷ ts) (u ∷ us) = same_token t u && same_tokens ts us
 same_tokens [] (u ∷ us) = false
 same_tokens (t ∷ ts) [] = false
 
--- `are_tokens found ts`: these tokens were found.
+-- `are_tokens found ts`: exactly these tokens were found.
 abbrev pub are_tokens : Option (List Token) → List Token → Bool
 are_tokens None ts = false
 are_tokens (Some us) ts = same_tokens us ts

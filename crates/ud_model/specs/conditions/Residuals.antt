@@ -3,14 +3,14 @@
 -- truth of a whole condition (6.10.1p6).
 --
 --   Residual        a condition, and the expression that is left for it
---   operands e      the operands of the tree: the trees that `&&`, `||` and `!` outside other
---                   operators join
+--   operands e      the operands of the tree: what its `&&`, `||` and `!` join, unless they are
+--                   inside an operand of another operator
 --   residual e      the tree `e` without each operand that the table decides, and without its
 --                   operator, unless the operand decides that operator's value
---   simplified e    the residual of a whole condition, or `e` itself if the residual is decided
+--   simplified e    the residual of a whole condition, or `e` itself if that is decided
 --
--- An operand is decided as an `#if` with nothing but the operand would be. Nothing is added, and
--- nothing moves.
+-- An operand is decided as an `#if` of the operand alone would be. Nothing is added, and nothing
+-- moves.
 --
 -- Example: with A undefined, `A || X` leaves `X`, `!A && (A || defined X)` leaves `defined X`, and
 -- `A + X > 2` stays.
@@ -32,7 +32,7 @@ pub record Residual : Type 0 where
   -- The operator `&&` or `||` at the top of the expression was removed, with one of its operands.
   pub lost : Bool
 
--- `is_unit o c`: beside an operand with the condition `c` the other operand of `o` decides.
+-- `is_unit o c`: beside an operand with the condition `c` the other one alone decides `o`.
 abbrev pub is_unit : Operator → Cond → Bool
 is_unit And Yes = true
 is_unit Or No = true
@@ -50,7 +50,7 @@ is_unknown Unknown = true
 is_unknown _ = false
 
 -- `settled strict o c d`: the condition of `o` between operands with the conditions `c` and `d`,
--- none of which is a unit. Under `strict` one operand decides nothing if the other is unknown.
+-- neither of which is a unit. Under `strict` one operand decides nothing if the other is unknown.
 abbrev pub settled : Bool → Operator → Cond → Cond → Cond
 settled strict o c d =
     if settles o c && not (strict && is_unknown d) then c
@@ -72,8 +72,8 @@ joined strict o x y =
 abbrev pub negated : Residual → Residual
 negated x = record { cond = negate x.cond; tree = unary Not x.tree; lost = false }
 
--- `stands_alone e`: the tree needs no parentheses, whatever stands around it, and whatever text a
--- macro in it is. That is a `defined`, parentheses, or either after a prefix operator.
+-- `stands_alone e`: the tree needs no parentheses, whatever surrounds it, and whatever text a macro
+-- in it expands to. Such a tree is a `defined`, parentheses, or either after a prefix operator.
 abbrev pub stands_alone : Expression → Bool
 stands_alone (is_defined n parentheses) = true
 stands_alone (parens a) = true
@@ -81,7 +81,7 @@ stands_alone (unary o a) = stands_alone a
 stands_alone _ = false
 
 -- `enclosed x`: the residual of parentheses around an expression with the residual `x`. The
--- parentheses are removed if the operator in them was, and they aren't needed.
+-- parentheses are removed if the operator in them was and they aren't needed.
 abbrev pub enclosed : Residual → Residual
 enclosed x =
     if x.lost && stands_alone x.tree then x
@@ -114,8 +114,8 @@ module _ (table : List Argument) (rules : Rules) where
   abbrev pub simplified : Expression → Expression
   simplified e = if is_undecided (residual e) then (residual e).tree else e
 
--- `operands e`: the operands of the tree, in order: what its `&&`, `||` and `!` join, apart from
--- those inside an operand of another operator.
+-- `operands e`: the operands of the tree, in order: what its `&&`, `||` and `!` join, unless they
+-- are inside an operand of another operator.
 abbrev pub operands : Expression → List Expression
 operands (unary Not a) = operands a
 operands (binary And a b) = operands a ++ operands b

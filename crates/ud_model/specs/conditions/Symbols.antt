@@ -1,13 +1,12 @@
--- Symbols: the text to which the value of a defined name resolves.
+-- Symbols: the text that a defined name resolves to.
 -- unifdef(1); C11 6.10.3.4: a name in a macro's replacement is replaced again.
 --
---   defined_text table n   the text as which the table defines a name, if it does
+--   defined_text table n   the text that the table gives a name, if it defines it
 --   ResolvesTo table n v   from name to name, `v` is the first text that is no identifier
---   resolve table n        the text to which `n` resolves, if it does, computed
+--   resolve table n        the text that `n` resolves to, if any, computed
 --
 -- A path from name to name that never ends is a cycle. It has more steps than the table has
--- arguments. A name on a cycle resolves to nothing, and neither does one that leads to a name that
--- isn't defined.
+-- arguments. A name that leads to a cycle or to an undefined name resolves to nothing.
 --
 -- Example: with A as B and B as 5, A resolves to 5. With A as B and B as A, it resolves to nothing.
 use Rattle.std.specs.Prelude.{◌≡◌, ℕ, zero, suc, List, length, true, false, Option, Some, None}
@@ -20,7 +19,7 @@ abbrev pub text_in : Option Entry → Option (List ℕ)
 text_in None = None
 text_in (Some e) = e.value
 
--- `defined_text table n`: the text as which `table` defines the name `n`, if it does.
+-- `defined_text table n`: the text that `table` gives the name `n`, if it defines it.
 abbrev pub defined_text : List Argument → List ℕ → Option (List ℕ)
 defined_text table n = text_in (entry_in table n)
 
@@ -32,18 +31,18 @@ pub data ResolvesTo (table : List Argument) : List ℕ → List ℕ → Type 0 w
   by_name : (n m v : List ℕ) → defined_text table n ≡ Some m → is_identifier m ≡ true →
       ResolvesTo table m v → ResolvesTo table n v
 
--- `on_text further text`: the end of the path that has reached `text`. A text that is no identifier
--- is the end itself; from an identifier, `further` goes on.
+-- `on_text further text`: the end of the path that has reached `text`: `text` itself if it is no
+-- identifier, else what `further` finds.
 abbrev pub on_text : (List ℕ → Option (List ℕ)) → Option (List ℕ) → Option (List ℕ)
 on_text further None = None
 on_text further (Some v) = if is_identifier v then further v else Some v
 
--- `resolve_within k table n`: the text to which `n` resolves in at most `k` steps, if it does.
+-- `resolve_within k table n`: the text that `n` resolves to in at most `k` steps, if any.
 abbrev pub resolve_within : ℕ → List Argument → List ℕ → Option (List ℕ)
 resolve_within zero table n = None
 resolve_within (suc k) table n = on_text (λ v. resolve_within k table v) (defined_text table n)
 
--- `resolve table n`: the text to which `n` resolves, if it does. No path that ends has more steps
--- than the table has arguments.
+-- `resolve table n`: the text that `n` resolves to, if any. No path that ends has more steps than
+-- the table has arguments.
 unfoldable pub resolve : List Argument → List ℕ → Option (List ℕ)
 resolve table n = resolve_within (length table) table n

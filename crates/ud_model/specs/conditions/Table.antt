@@ -3,7 +3,7 @@
 --
 --   Argument              an option-argument: it defines a name with a value, or undefines it; the
 --                         sections of an ignoring one are plain text
---   entry_in table name   the entry of the last argument that names `name`, if one does
+--   entry_in table name   the entry of the last argument that names `name`, if any
 --   HaveSameEntries t u   both tables have the same entry for each name
 use Rattle.std.specs.Prelude.{◌≡◌, ℕ, List, [], ◌∷◌, Bool, Option, Some, None, bytes_eq}
 use Rattle.std.specs.Prelude.{if◌then◌else◌}
@@ -20,14 +20,14 @@ pub record Argument : Type 0 where
   pub entry : Entry
 
 -- `entry_from earlier arguments name`: the entry of `name` after these arguments, if `earlier` is
--- its entry after those before them.
+-- its entry before them.
 abbrev pub entry_from : Option Entry → List Argument → List ℕ → Option Entry
 entry_from earlier [] name = earlier
 entry_from earlier (a ∷ more) name =
     entry_from (if bytes_eq a.name name then Some a.entry else earlier) more name
 
--- `entry_in table name`: the entry of the last argument in `table` that names `name`. It is None if
--- the name is unlisted.
+-- `entry_in table name`: the entry of the last argument in `table` that names `name`. None if the
+-- name is unlisted.
 abbrev pub entry_in : List Argument → List ℕ → Option Entry
 entry_in table name = entry_from None table name
 

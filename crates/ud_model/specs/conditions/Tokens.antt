@@ -4,13 +4,13 @@
 --
 --   Token               a constant, a name with or without arguments, `defined`, an operator, a
 --                       parenthesis
---   next_token text     the first token of `text` and the rest, or that there is none, or that it
+--   next_token text     the first token of `text` and the rest; or that there is none, or that it
 --                       can't be read
 --   AreTokens text ts   `ts` are the tokens of `text`, from its beginning to its end
 --
--- A name's arguments are the bytes from a `(` after the name to the `)` that matches it. Only these
--- two bytes count in them, and no tokens are read there. C reads two minus signs as one token, and
--- `0xE-9` as one too; both are unreadable here.
+-- A name's arguments are the bytes from a `(` after the name to the matching `)`. Only parentheses
+-- count in them, and no tokens are read there. C reads two minus signs as one token, and `0xE-9` as
+-- one too; both are unreadable here.
 --
 -- Example: ` F(X)>0` is the name F with arguments, the operator `>` and the constant 0.
 use Rattle.std.specs.Prelude.{◌≡◌, ℕ, zero, suc, ◌-◌, ◌==◌, List, [], ◌∷◌, length, drop}
@@ -46,8 +46,8 @@ pub data NextToken : Type 0 where
   -- A token, and the text after it.
   found : Token → List ℕ → NextToken
 
--- `after_matching_paren n text`: the rest of `text` after the `)` that closes a parenthesis, inside
--- which `n` more are open. It is None if `text` doesn't close it.
+-- `after_matching_paren n text`: the rest of `text` after the `)` that closes a parenthesis with
+-- `n` more open inside it. None if `text` doesn't close it.
 abbrev pub after_matching_paren : ℕ → List ℕ → Option (List ℕ)
 after_matching_paren n [] = None
 after_matching_paren zero (b ∷ text) =

@@ -9,12 +9,12 @@
 --   name_value table u n          the value of a name as an operand
 --   defined_value table n         the value of `defined` and a name
 --   number_of table strict u e    the value of a tree, with that least number
---   has_unsigned table e          a constant of the tree, or one to which an operand's name
---                                 resolves, has a `u`
+--   has_unsigned table e          a constant of the tree, or one that an operand's name
+--                                 resolves to, has a `u`
 --   value_of table strict e       the value of an expression
 --
 -- The least number is -2^63, or 0 if the expression has a `u`. A result out of this range is
--- unknown: C gives no value there, or another one than whole numbers do. Under `strict`, `&&` and
+-- unknown: C gives no value there, or not the one that whole numbers give. Under `strict`, `&&` and
 -- `||` are unknown if an operand is.
 --
 -- Example: with A as 5, `-A / 2` is -2, `~A < 0u` is unknown, and `X && !A` is 0 unless `strict`.
@@ -132,8 +132,8 @@ abbrev pub negated_value : Bool → Option ℤ → Option ℤ
 negated_value u None = None
 negated_value u (Some z) = fit u (neg_ℤ z)
 
--- `text_value u text`: the value of a text to which a symbol resolves. It is known for a constant,
--- or a `-` and a constant, and nothing else.
+-- `text_value u text`: the value of a text that a symbol resolves to. Only a constant, or a `-` and
+-- a constant, has a known value.
 abbrev pub text_value : Bool → List ℕ → Option ℤ
 text_value u [] = None
 text_value u (b ∷ w) =
@@ -145,7 +145,7 @@ abbrev pub text_has_u : List ℕ → Bool
 text_has_u [] = false
 text_has_u (b ∷ w) = if b == 45 then has_u w else has_u (b ∷ w)
 
--- `end_value u end`: the value of the text to which a name resolves, if it does.
+-- `end_value u end`: the value of the text that a name resolves to, if any.
 abbrev pub end_value : Bool → Option (List ℕ) → Option ℤ
 end_value u None = None
 end_value u (Some text) = text_value u text
@@ -171,7 +171,7 @@ abbrev pub end_has_u : Option (List ℕ) → Bool
 end_has_u None = false
 end_has_u (Some text) = text_has_u text
 
--- `name_has_u table n`: the constant to which `n` resolves has a `u`.
+-- `name_has_u table n`: the constant that `n` resolves to has a `u`.
 unfoldable pub name_has_u : List Argument → List ℕ → Bool
 name_has_u table n = end_has_u (resolve table n)
 
@@ -197,8 +197,7 @@ module _ (table : List Argument) where
       apply_binary strict u o (number_of strict u a) (number_of strict u b)
   number_of strict u (parens a) = number_of strict u a
 
-  -- `has_unsigned e`: a constant of `e`, or one to which a name of `e` resolves as an operand, has
-  -- a `u`.
+  -- `has_unsigned e`: a constant of `e`, or one that an operand's name resolves to, has a `u`.
   abbrev pub has_unsigned : Expression → Bool
   has_unsigned (constant w) = has_u w
   has_unsigned (named n arguments) = name_has_u table n

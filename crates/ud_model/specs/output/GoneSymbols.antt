@@ -1,15 +1,15 @@
--- Gone symbols: names that no condition of a text has any more.
+-- Gone symbols: names that no condition of a text has any longer.
 -- C11 6.10.1p4.
 --
 --   names_in_conditions ns   the names in the conditions of nodes, in order and with repeats
---   IsGone table name ns     no condition of nodes has the name, and no symbol has it as its value
---   SelectsWithout o name u input output   what C selects of the input by the options `o`, it
---                            selects of the output by the table `u`
+--   IsGone table name ns     no condition of the nodes has the name, and no symbol the value `name`
+--   SelectsWithout o name u input output   what C selects from the input by the options `o`,
+--                            it selects from the output by the table `u`
 --
--- A condition that goes on on the next line, or that isn't understood, has no names here: C may
--- find it true or false.
+-- A condition that continues on the next line, or isn't understood, has no names here: C may find
+-- it true or false.
 --
--- Example: from `#if X`, `a`, `#endif` VMS is gone, under `-DX=VMS` it isn't.
+-- Example: VMS is gone from `#if X`, `a`, `#endif`, but not under `-DX=VMS`.
 use Rattle.std.specs.Prelude.{◌≡◌, ℕ, List}
 use Rattle.std.specs.List.{Contains, flat_map}
 use Rattle.ud_model.specs.text.Scans.{Reading}
@@ -26,15 +26,15 @@ use Rattle.ud_model.specs.output.ListedNames.{IsNoValue, DifferAtMostAt}
 abbrev pub names_in_conditions : Nodes Reading → List (List ℕ)
 names_in_conditions ns = flat_map (λ r. names_in_tree (condition_in r)) (openers ns)
 
--- `IsGone table name ns`: no condition of the nodes has the name `name`, and no symbol has it as
--- its value.
+-- `IsGone table name ns`: no condition of the nodes has the name, and no symbol has it as its
+-- value.
 pub record IsGone (table : List Argument) (name : List ℕ) (ns : Nodes Reading) : Type 0 where
   pub unnamed : Contains (names_in_conditions ns) name → ⊥
   pub no_value : IsNoValue table name
 
 -- `SelectsWithout o name u input output`: if `name` is gone from the output, and the table `u`
--- differs from that of the options there at most, C may decide the output by `u` as it may decide
--- the input by the options. The lines selected of both texts are the same then, byte by byte.
+-- differs from the options' table there at most, C may decide the output by `u` as it may decide
+-- the input by the options. It then selects the same lines from both texts, byte by byte.
 abbrev pub SelectsWithout : Options → List ℕ → List Argument → List ℕ → List ℕ → Type 0
 SelectsWithout o name u input output = (ns us : Nodes Reading) → IsTreeOf o input (closed ns) →
     IsTreeOf o output (closed us) → IsGone o.table name us → DifferAtMostAt name o.table u →

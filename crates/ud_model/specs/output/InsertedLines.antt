@@ -4,21 +4,21 @@
 --
 --   with_blank_renumber b n o   the same options, with `-b` and `-n` or without
 --   KeepsNumbers args more      `more` mean what `args` mean, with `-b`, `-n` or both
---   AddsNumbers o input r s     `s` is the outcome with `-b`, `-n` or both, and `r` that without
+--   AddsNumbers o input r s     `s` is the outcome with `-b`, `-n` or both, `r` the one without
 --   AnswersNumbered args more input a c
---                               `c` is the answer with `-b`, `-n` or both, and `a` that without
+--                               `c` is the answer with `-b`, `-n` or both, and `a` the one without
 --   read_as mode text           the lines of a text, each read in this mode
 --   IsLone s                    the line is scanned by itself: nothing joins it to its neighbours,
 --                               and it lies in no comment
 --   IsPrinted j r s             `r` and `s` are the output for the judged line `j`: the same bytes
---                               with the same scan
+--                               and the same scan
 --   Counted js rs ss n          `rs` is the output for the judged lines without `-b` and `-n`, and
 --                               `ss` the output with one of them, both as they are read. Counting
 --                               on in `ss`, and anew after each inserted `#line`, each line of
 --                               `rs` has its own number in the input. The next line would have the
 --                               number `n`.
 --   CountsLines o js text numbered
---                               the same of two texts
+--                               so are the lines of both texts counted
 --
 -- Example: under `-n -UA` the output for `x`, `#ifdef A`, `y`, `#endif`, `z` is `x`, `#line 5`,
 -- `z`, and `z` has the number 5.
@@ -62,8 +62,8 @@ pub record AddsNumbers (o : Options) (input : List ℕ) (r s : Outcome) : Type 0
   pub runs : HasOutcome o input r
   pub numbered : HasOutcome (with_blank_renumber blank renumber o) input s
 
--- `AnswersNumbered args more input a c`: `a` is the answer to plain arguments, and `c` that to the
--- arguments `more`, which add `-b`, `-n` or both.
+-- `AnswersNumbered args more input a c`: `a` is the answer to plain arguments, and `c` the answer
+-- to the arguments `more`, which add `-b`, `-n` or both.
 pub record AnswersNumbered (args more : List (List ℕ)) (input : List ℕ) (a c : Answer) : Type 0
   where
     pub plain : IsPlain (options_of args)
@@ -108,7 +108,7 @@ pub record IsPrinted (j : Judged) (r s : Reading) : Type 0 where
 -- input. The next line would have the number `n`.
 pub data Counted : List Judged → List Reading → List Reading → ℕ → Type 0 where
   no_line : Counted [] [] [] 1
-  -- A removed line, for which nothing is printed.
+  -- A removed line, not printed.
   goes : {js : List Judged} {rs ss : List Reading} {n : ℕ} → Counted js rs ss n → (j : Judged) →
       is_removed j.verdict ≡ true → Counted (js ++ j ∷ []) rs ss n
   -- A removed line that is blanked.

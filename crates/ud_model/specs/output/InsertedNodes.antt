@@ -1,6 +1,6 @@
 -- Inserted nodes: the tree of an output under `-b` or `-n`, beside the tree of the output without
 -- them.
--- C11 6.10: a blank line and a `#line` begin no section, and end none.
+-- C11 6.10: a blank line or a `#line` neither begins nor ends a section.
 --
 --   IsSame r s                both lines have the same bytes and the same scan
 --   IsInserted d              a blank line by itself, or a `#line`
@@ -82,8 +82,8 @@ HasTreeWithInserted o output us =
     (vs : Nodes Reading) × IsTreeOf o output (closed vs) × NodesWithInserted us vs
 
 -- `SelectsWithInserted o text us v ls`: `text` has a tree of the nodes `us` with lines inserted. If
--- each of its openers has the truth that `v` gives it in `us`, C selects lines of the bytes `ls`,
--- with lines inserted.
+-- each of its openers has the truth that `v` gives it in `us`, C selects lines with the bytes `ls`,
+-- and inserted lines.
 pub record SelectsWithInserted (o : Options) (text : List ℕ) (us : Nodes Reading)
     (v : World Reading) (ls : List (List ℕ)) : Type 0 where
   pub nodes : Nodes Reading

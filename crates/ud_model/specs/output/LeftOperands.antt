@@ -2,11 +2,11 @@
 --
 --   HasNoUnit table rules e   no operand of `&&` in the tree `e` is true, and none of `||` is false
 --   IsReduced table rules e   this holds, and without `-K` each operand of the tree is unknown
---   MayStay table rules r d   why the condition of the directive `d` on the line `r` may keep
---                             operands that are decided
+--   MayStay table rules r d   a reason why the condition of the directive `d` on the line `r`
+--                             may keep decided operands
 --
--- An operand is decided as an `#if` with nothing but the operand would be. So a name of the table
--- is left in an operand that is unknown by itself, with `-K` beside an operand that decides its
+-- An operand is decided as an `#if` of the operand alone would be. So a name of the table is left
+-- only in an operand that is unknown by itself, with `-K` beside an operand that decides its
 -- operator, or in a condition that may stay.
 --
 -- Example: with A undefined, `A + X` is unknown by itself, and `#if!A||X` may stay.
@@ -26,7 +26,7 @@ use Rattle.ud_model.specs.declared.operator.Operator.{Operator}
 use Rattle.ud_model.specs.declared.operator.Operator.TheVariants.{Or, And, Not}
 
 module _ (table : List Argument) (rules : Rules) where
-  -- `IsNoUnit o e`: beside the operand `e` of `o` the other operand doesn't decide alone.
+  -- `IsNoUnit o e`: beside the operand `e`, the other operand doesn't decide `o` alone.
   abbrev pub IsNoUnit : Operator → Expression → Type 0
   IsNoUnit o e = is_unit o (residual table rules e).cond ≡ false
 
@@ -53,12 +53,12 @@ module _ (table : List Argument) (rules : Rules) where
     -- The condition is decided.
     decided : (e : Expression) → expression_of d.after ≡ Some e →
         is_unknown (tree_cond e table rules) ≡ false → MayStay r d
-    -- The rest would be decided, as where a `u` hides a negative number.
+    -- The rest would be decided, for example because a `u` hid a negative number.
     rest_decided : (e : Expression) → expression_of d.after ≡ Some e →
         is_undecided table rules (residual table rules e) ≡ false → MayStay r d
     -- The rest would begin with a word byte next to the keyword, or have other tokens.
     rest_misread : (e : Expression) → expression_of d.after ≡ Some e →
         is_read table rules e (left_cells (keeps table rules e) (condition_cells r.line d))
         ≡ false → MayStay r d
-    -- The edited line, read by itself, isn't the line that is meant.
+    -- The edited line, read by itself, isn't read as meant.
     line_misread : is_read_alone table rules r.line d ≡ false → MayStay r d

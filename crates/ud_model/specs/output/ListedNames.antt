@@ -1,13 +1,13 @@
 -- ListedNames: the symbols that count for a text, by the list of its names.
 -- unifdef(1), `-s`.
 --
---   with_listing o           the same options, but that names are listed (`-s`)
+--   with_listing o           the same options, with names listed (`-s`)
 --   IsListed n list          the list has the line `n`
---   LeadsTo table n m        `m` is the name `n`, or the value of a name to which `n` leads
---   AgreeOnListed list t u   both tables have the same entry for each name to which a listed one
---                            leads
+--   LeadsTo table n m        `m` is the name `n`, or the value of a name that `n` leads to
+--   AgreeOnListed list t u   both tables have the same entry for each name that a listed one
+--                            leads to
 --   AreAlikeBy list o p      both options have the same settings, and tables that agree so
---   AreAlikeArgs list as bs  the same of arguments
+--   AreAlikeArgs list as bs  both lists of arguments have such options
 --   ListsNames args input l  `-s` before the arguments lists the names of an input
 --   IsNoValue table n        no symbol has the name `n` as its value
 --   NeverCounts args input n the name isn't on that list, and no symbol has it as its value
@@ -40,14 +40,14 @@ abbrev pub IsListed : List ℕ → List ℕ → Type 0
 IsListed n list = (before : List ℕ) × (later : List ℕ) × (partial_line before ≡ []) ×
     (list ≡ before ++ n ++ newline ∷ later)
 
--- `LeadsTo table n m`: `m` is `n`, or a name from which the value of `n` is taken.
+-- `LeadsTo table n m`: `m` is `n`, or the value of `n` is a name that leads to `m`.
 pub data LeadsTo (table : List Argument) : List ℕ → List ℕ → Type 0 where
   itself : (n : List ℕ) → LeadsTo table n n
   by_value : (n v m : List ℕ) → defined_text table n ≡ Some v → is_identifier v ≡ true →
       LeadsTo table v m → LeadsTo table n m
 
--- `AgreeOnListed list t u`: the tables have the same entry for each listed name, and for each to
--- which it leads.
+-- `AgreeOnListed list t u`: the tables have the same entry for each listed name, and for each name
+-- that it leads to.
 abbrev pub AgreeOnListed : List ℕ → List Argument → List Argument → Type 0
 AgreeOnListed list t u = (n m : List ℕ) → IsListed n list → LeadsTo t n m →
     entry_in t m ≡ entry_in u m
@@ -63,8 +63,8 @@ pub record AreAlikeArgs (list : List ℕ) (args more : List (List ℕ)) : Type 0
   pub no_fault : usage_fault more ≡ None
   pub alike : AreAlikeBy list (options_of args) (options_of more)
 
--- `ServesAsLister q o`: `q` are the settings of `o` with `-s`, and any symbols. Neither makes
--- sections plain text.
+-- `ServesAsLister q o`: `q` has the settings of `o` with `-s`, and any symbols. Neither `q` nor `o`
+-- makes sections plain text.
 pub record ServesAsLister (q o : Options) : Type 0 where
   pub settings : q.settings ≡ listing_settings o.settings
   pub lister : NoneIgnores q.table

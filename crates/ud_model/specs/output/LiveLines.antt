@@ -1,4 +1,4 @@
--- Live lines: the text lines that some way to decide the undecided conditions selects. The others
+-- Live lines: the text lines that some way of deciding the undecided conditions selects. The others
 -- are dead.
 -- C11 6.10.1p6, unifdef(1).
 --
@@ -11,9 +11,9 @@
 --   SelectsLive o t      each line of the text `t` that C may select is live
 --
 -- Such a world may give an unknown condition either truth, whatever the condition says. C may know
--- more: of `#if 0` the lines are live unless -k decides it, though C selects none of them.
+-- more: the lines of `#if 0` are live unless -k decides it, though C selects none.
 --
--- Example: of `#if A`, `a`, `#elif X`, `b`, `#else`, `c`, `#endif` with A undefined, `b` and `c`
+-- Example: in `#if A`, `a`, `#elif X`, `b`, `#else`, `c`, `#endif` with A undefined, `b` and `c`
 -- are live. With A defined only `a` is.
 use Rattle.std.specs.Prelude.{◌≡◌, ℕ, List, [], ◌∷◌, ◌++◌, map}
 use Rattle.std.specs.List.{Contains}

@@ -1,23 +1,23 @@
 -- Presumed lines: the numbers that C gives the lines of an output under `-n` or `-b`.
 -- C11 6.10.4p2: a line's number is one greater than the number of newlines before it.
 -- C11 6.10.4p3: a `#line` with digits gives the next line their number, at most 2147483647.
--- C11 6.10.1p6: of a group that is skipped no `#line` is obeyed.
+-- C11 6.10.1p6: no `#line` in a skipped group is obeyed.
 -- C11 6.10.8.1: `__LINE__` is the line's presumed number.
 --
 --   line_operand scan          the text after `# line`, if the line begins so
 --   HasNoLineDirective mode t  no line of the text `t` begins with `# line`
---   GivesNumber n r            the line `r` is a `#line` by which the next line has the number `n`
+--   GivesNumber n r            the line `r` is a `#line` that gives the next line the number `n`
 --   Presumed                   a line that C processes, with its presumed number, and whether C has
 --                              skipped no `#line` since the last one that it obeyed
 --   Presumes ls ps sure n      of the lines `ls` C processes those of `ps`, with these numbers. The
 --                              next line has the number `n`; `sure` means that C has skipped no
 --                              `#line` since the last one that it obeyed
---   ArePresumed mode t ls      of the text `t` C processes the lines `ls`, and numbers them
+--   ArePresumed mode t ls      C processes the lines `ls` of the text `t`, and numbers them
 --   HaveOwnNumbers ps          each line has its own number in the text as its presumed number
---   IsLineFor js r n           `r` is what is printed for the line `n` of the input, which has the
+--   IsLineFor js r n           `r` is printed for the line `n` of the input, which has the
 --                              judged lines `js`
---   HaveInputNumbers js ps     each line, unless it is inserted or a `#line` was skipped so, is
---                              printed for the line of the input that has its presumed number
+--   HaveInputNumbers js ps     each sure line that isn't inserted is printed for the line of
+--                              the input that has its presumed number
 --
 -- Example: under `-n -UA` the output for `#if X`, `#ifdef A`, `#endif`, `y`, `#endif`, `z` is
 -- `#if X`, `#line 4`, `y`, `#endif`, `z`. If X isn't 0, `z` has the number 6. Else C skips the
@@ -36,16 +36,16 @@ use Rattle.ud_model.specs.output.InsertedLines.{read_as}
 use Rattle.ud_model.specs.output.InsertedNodes.{IsInserted}
 use Rattle.ud_model.specs.declared.kind.Mode.{Mode}
 
--- `after_line rest`: the text after the word `line` and white space, if `rest` begins with that
--- word, white space before it. `rest` follows the `#`, if there is one.
+-- `after_line rest`: the text after the word `line` and white space, if `rest` begins with white
+-- space and that word. `rest` follows the `#`, if any.
 abbrev pub after_line : Option (List ℕ) → Option (List ℕ)
 after_line None = None
 after_line (Some rest) =
     if bytes_eq (leading_word (skip_white rest)) (codes "line")
     then Some (skip_white (skip_word (skip_white rest))) else None
 
--- `line_operand scan`: the text after `# line` and white space, if the line begins so, and its
--- logical line does.
+-- `line_operand scan`: the text after `# line` and white space, if both the line and its logical
+-- line begin so.
 abbrev pub line_operand : Scan → Option (List ℕ)
 line_operand scan = if scan.fresh then after_line (skip_white_and_hash scan.masked) else None
 
@@ -71,15 +71,15 @@ pub record Presumed : Type 0 where
   pub number : ℕ
   pub sure : Bool
 
--- `Presumes ls ps sure n`: of the lines `ls` C processes those of `ps`. The next line has the
--- number `n`, and is sure if `sure` is true.
+-- `Presumes ls ps sure n`: among the lines `ls`, C processes those of `ps`. The next line has the
+-- number `n`, and is sure if `sure`.
 pub data Presumes : List Reading → List Presumed → Bool → ℕ → Type 0 where
   no_lines : Presumes [] [] true 1
-  -- A line that C skips, or a directive of a section.
+  -- A line that C skips, or a conditional directive.
   passes : {ls : List Reading} {ps : List Presumed} {sure : Bool} {n : ℕ} →
       Presumes ls ps sure n → (r : Reading) →
       Presumes (ls ++ r ∷ []) ps (sure && not (is_some (line_operand r.scan))) (suc n)
-  -- A line that C processes, and that is no `#line`.
+  -- A line other than `#line` that C processes.
   processes : {ls : List Reading} {ps : List Presumed} {sure : Bool} {n : ℕ} →
       Presumes ls ps sure n → (r : Reading) → line_operand r.scan ≡ None →
       Presumes (ls ++ r ∷ []) (ps ++ record { line = r; number = n; sure = sure } ∷ []) sure (suc n)
@@ -88,8 +88,8 @@ pub data Presumes : List Reading → List Presumed → Bool → ℕ → Type 0 w
       Presumes ls ps sure n → (r : Reading) → (m : ℕ) → GivesNumber m r →
       Presumes (ls ++ r ∷ []) (ps ++ record { line = r; number = n; sure = sure } ∷ []) true m
 
--- `ArePresumed mode text ls`: of the lines of `text`, each read in this mode, C processes the lines
--- `ls`, and gives each a number.
+-- `ArePresumed mode text ls`: among the lines of `text`, each read in this mode, C processes the
+-- lines `ls` and numbers them.
 pub record ArePresumed (mode : Mode) (text : List ℕ) (ls : List Reading) : Type 0 where
   pub lines : List Presumed
   pub sure : Bool
@@ -102,12 +102,12 @@ pub record HasOwnNumber (p : Presumed) : Type 0 where
   pub sure : p.sure ≡ true
   pub number : p.number ≡ p.line.line.number
 
--- `HaveOwnNumbers ps`: so is each of `ps`.
+-- `HaveOwnNumbers ps`: each of `ps` has its own number.
 abbrev pub HaveOwnNumbers : List Presumed → Type 0
 HaveOwnNumbers [] = Unit {0}
 HaveOwnNumbers (p ∷ ps) = HasOwnNumber p × HaveOwnNumbers ps
 
--- `IsLineFor js r n`: `r` is what is printed for the line of `js` that has the number `n`.
+-- `IsLineFor js r n`: `r` is printed for the line of `js` with the number `n`.
 pub record IsLineFor (js : List Judged) (r : Reading) (n : ℕ) : Type 0 where
   pub judged : Judged
   pub before : List Judged
@@ -117,12 +117,12 @@ pub record IsLineFor (js : List Judged) (r : Reading) (n : ℕ) : Type 0 where
   pub stays : is_removed judged.verdict ≡ false
   pub bytes : text_of r.line ≡ piece_by judged.verdict judged.keyword judged.line
 
--- `HasInputNumber js p`: if `p` is sure, it is an inserted line, or is printed for the line of `js`
--- that has its presumed number.
+-- `HasInputNumber js p`: if `p` is sure, it is inserted, or is printed for the line of `js` that
+-- has its presumed number.
 abbrev pub HasInputNumber : List Judged → Presumed → Type 0
 HasInputNumber js p = p.sure ≡ true → IsInserted p.line ⊎ IsLineFor js p.line p.number
 
--- `HaveInputNumbers js ps`: so is each of `ps`.
+-- `HaveInputNumbers js ps`: each of `ps` has its input number.
 abbrev pub HaveInputNumbers : List Judged → List Presumed → Type 0
 HaveInputNumbers js [] = Unit {0}
 HaveInputNumbers js (p ∷ ps) = HasInputNumber js p × HaveInputNumbers js ps

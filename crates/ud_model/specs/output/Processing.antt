@@ -1,35 +1,35 @@
--- Processing: what a preprocessor does with the files of a tree, in which lines change its state.
+-- Processing: what a preprocessor does with the files of a tree, whose lines change its state.
 -- C11 5.1.1.2, 6.10, 6.10.1p6, 6.10.2, 6.10.3.
 --
---   Condition                  a condition as a directive has it
+--   Condition                  the condition of a directive, as written
 --   condition_on r             the condition of the directive on the line `r`
---   expression_written c       the expression that the condition `c` is, if it ends on its line
+--   expression_written c       the expression that the condition `c` means, if it ends on its line
 --   Preprocessor S F L         what a preprocessor with the states `S` may do at lines `L`, which
 --                              may include the files `F`
 --   Processes p files ns s t   from the state `s`, `p` processes the nodes `ns`, and ends in `t`
 --   over_readings takes ..     the preprocessor with these choices over lines that were read
 --   DecidesAsC table decides   each condition is decided as C may
---   HasOneChoice p             `p` has one choice at most in each state, as a program has
---   agreeing p                 `p` with those decisions alone that agree with the decided
+--   HasOneChoice p             `p` has at most one choice in each state, like a program
+--   agreeing p                 `p` with only the decisions that agree with the decided
 --                              conditions
 --   of_origin p                `p` over the lines of an output, each taken as the line that it
 --                              comes from
 --
--- A state has all that a preprocessor knows: its macros, the open files, what it has written. So
--- what it does at a line may depend on each line before, in this file and in others. A file may be
--- processed several times, also by its own lines. Where a preprocessor stops, as at `#error`, or
--- in a state in which the options aren't true, it has no choice, and nothing is processed.
+-- A state has all that a preprocessor knows: its macros, the open files, the text written. So what
+-- it does at a line may depend on every line before, in this file and in others. A file may be
+-- processed several times, and may include itself. A preprocessor that stops, as at `#error`, or
+-- whose state contradicts the options, has no choice, and nothing is processed.
 --
--- A text line is given with its scan. So a preprocessor knows what of the line is a comment. If the
--- line isn't fresh, and no text before it goes on, it belongs to a directive and means nothing.
+-- A text line comes with its scan, so a preprocessor knows what is a comment. If the line isn't
+-- fresh, and no text before it goes on, it belongs to a directive and means nothing.
 --
--- To evaluate a condition that ends on its line changes nothing. So this isn't about `__COUNTER__`
--- in a condition. A condition that goes on is given by its first line alone. A state may have the
--- truths of such conditions, those found and those to come. No line is given its number, so this
--- isn't about `__LINE__`.
+-- Evaluating a condition that ends on its line changes nothing, so `__COUNTER__` in a condition is
+-- left out. A condition that continues is given by its first line alone; a state may have the
+-- truths of such conditions, past and future. Lines come without numbers, so `__LINE__` is left
+-- out.
 --
--- Example: of `#define A 1`, `#if A`, `x`, `#endif` the first line leads to a state in which the
--- condition is true, and there `x` is taken.
+-- Example: in `#define A 1`, `#if A`, `x`, `#endif` the first line leads to a state where the
+-- condition is true, and `x` is taken.
 use Rattle.std.specs.Prelude.{◌≡◌, ℕ, List, [], Bool, true, false, Option, None, if◌then◌else◌}
 use Rattle.ud_model.specs.text.Bytes.{skip_white}
 use Rattle.ud_model.specs.text.Scans.{Scan, Reading}
@@ -48,14 +48,14 @@ use Rattle.ud_model.specs.output.CSelection.{condition_by_test, MayBe}
 use Rattle.ud_model.specs.declared.kind.Test.{Test}
 use Rattle.ud_model.specs.declared.kind.Test.TheVariants.{Nothing}
 
--- A condition as a directive has it: its test, the masked text after the keyword, without white
--- space before it, and whether it goes on on the next line.
+-- The condition of a directive, as written: its test, the masked text after the keyword and white
+-- space, and whether it continues on the next line.
 pub record Condition : Type 0 where
   pub test : Test
   pub text : List ℕ
   pub goes_on : Bool
 
--- `no_condition`: that of a line without a condition.
+-- `no_condition`: the condition of a line that has none.
 abbrev pub no_condition : Condition
 no_condition = record { test = Nothing; text = []; goes_on = false }
 
@@ -74,8 +74,8 @@ condition_with scan (directive d) = condition_of_test (test_of d.kind) d.after s
 abbrev pub condition_on : Reading → Condition
 condition_on r = condition_with r.scan (content_of r.scan)
 
--- `expression_written c`: the expression that the condition `c` is. It isn't known if the condition
--- goes on on the next line.
+-- `expression_written c`: the expression that the condition `c` means; None if it continues on the
+-- next line.
 abbrev pub expression_written : Condition → Option Expression
 expression_written c = if c.goes_on then None else condition_by_test c.test c.text
 
@@ -87,10 +87,10 @@ pub record Preprocessor (S F L : Type 0) : Type 1 where
   -- `enters s l f t`: in the state `s` the text line `l` includes the file `f`, which begins in
   -- the state `t`.
   pub enters : S → L → F → S → Type 0
-  -- `leaves s t`: after the end of an included file, in the state `s`, it goes on in `t`.
+  -- `leaves s t`: at the end of an included file, it goes from the state `s` on in `t`.
   pub leaves : S → S → Type 0
-  -- `decides s o b t`: in the state `s` the condition of the opener `o` may be `b`, and evaluating
-  -- it leads to the state `t`.
+  -- `decides s o b t`: in the state `s` the condition of the opener `o` may be `b`, which leads to
+  -- the state `t`.
   pub decides : S → Opener L → Bool → S → Type 0
 
 -- `NoneTrue p es s t`: the conditions of these groups, evaluated in order, are each false, and lead
@@ -115,8 +115,8 @@ mutual
         Processes p files ns s t → ProcessesOne p files gs t u →
         Processes p files (section ns gs e) s u
 
-  -- `ProcessesOne p files gs s t`: the one group of a section that is processed, if there is one,
-  -- leads from `s` to `t`. The group of `#else` is processed if no condition is true.
+  -- `ProcessesOne p files gs s t`: the group of a section that is processed, if any, leads from `s`
+  -- to `t`. The group of `#else` is processed if no condition is true.
   pub data ProcessesOne {S F L : Type 0} (p : Preprocessor S F L) (files : F → Nodes L) :
       Groups L → S → S → Type 0 where
     no_group : {es : Elifs L} {s t : S} → NoneTrue p es s t →
@@ -140,15 +140,15 @@ mutual
         NoneTrue p es s t → p.decides t o true u → Processes p files ns u v →
         ProcessesTrue p files (elif es o ns) s v
 
--- `AgreesAs c b s t`: a condition that is decided as `c` has the truth `b`, and the state after it,
--- `t`, is the state before it, `s`.
+-- `AgreesAs c b s t`: a condition that is decided as `c` has the truth `b`, and leaves the state
+-- `s` as it is: `t` is `s`.
 abbrev pub AgreesAs : {S : Type 0} → Cond → Bool → S → S → Type 0
 AgreesAs Yes b s t = (b ≡ true) × (s ≡ t)
 AgreesAs No b s t = (b ≡ false) × (s ≡ t)
 AgreesAs Unknown b s t = Unit {0}
 
 -- `over_readings takes enters leaves decides`: the preprocessor with these choices over lines that
--- were read. A text line is its bytes and its scan, and an opener is its condition.
+-- were read. It is given a text line's bytes and scan, and an opener's condition.
 abbrev pub over_readings : {S F : Type 0} → (S → List ℕ → Scan → S → Type 0) →
     (S → List ℕ → Scan → F → S → Type 0) → (S → S → Type 0) → (S → Condition → Bool → S → Type 0) →
     Preprocessor S F Reading
@@ -159,14 +159,14 @@ over_readings takes enters leaves decides = record {
   decides = λ s o b t. decides s (condition_on o.line) b t;
 }
 
--- `DecidesAsC table decides`: each truth that a condition may have is one that C may give it, as
--- the symbols of the table are; and to evaluate a condition that ends on its line changes nothing.
+-- `DecidesAsC table decides`: each truth that a condition may have is one that C may give it by the
+-- table, and evaluating a condition that ends on its line changes nothing.
 abbrev pub DecidesAsC : {S : Type 0} → List Argument → (S → Condition → Bool → S → Type 0) →
     Type 0
 DecidesAsC {S} table decides = (s : S) (c : Condition) (b : Bool) (t : S) → decides s c b t →
     MayBe table (expression_written c) b × (c.goes_on ≡ false → s ≡ t)
 
--- `HasOneChoice p`: in each state `p` has one choice at most for each line, condition and end of a
+-- `HasOneChoice p`: in each state `p` has at most one choice for each line, condition and end of a
 -- file.
 pub record HasOneChoice {S F L : Type 0} (p : Preprocessor S F L) : Type 0 where
   pub one_step : (s : S) (l : L) (t u : S) → p.takes s l t → p.takes s l u → t ≡ u
@@ -177,7 +177,7 @@ pub record HasOneChoice {S F L : Type 0} (p : Preprocessor S F L) : Type 0 where
   pub one_truth : (s : S) (o : Opener L) (b c : Bool) (t u : S) → p.decides s o b t →
       p.decides s o c u → (b ≡ c) × (t ≡ u)
 
--- `agreeing p`: `p` with those decisions alone that agree with the decided conditions.
+-- `agreeing p`: `p` with only the decisions that agree with the decided conditions.
 abbrev pub agreeing : {S F L : Type 0} → Preprocessor S F L → Preprocessor S F L
 agreeing p = record {
   takes = p.takes;

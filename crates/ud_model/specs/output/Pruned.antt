@@ -1,18 +1,18 @@
 -- The pruned tree: the output for a text whose sections are all closed, as a tree.
 -- unifdef(1): the output has the lines that the table of verdicts keeps, with edited directives.
 --
---   Edited L          a line of the output: the line that it comes from, and the verdict on that
+--   Edited L          a line of the output: the line it comes from, and the verdict on that line
 --   printed xs ms     the output for these lines with these marks: a removed line is left out, and
 --                     an edited one is another directive
 --   pruned_lines ns   the output for the nodes, line by line
 --   IsPruned ns ps    `ps` are the pruned nodes: the tree of these lines
---   ArePruned ns ps   the same, said of sections and groups in place of lines
---   EachLine T P ns   each text line satisfies `T`, and each opener but an `#else` satisfies `P`
+--   ArePruned ns ps   the same in terms of sections and groups, not lines
+--   EachLine T P ns   each text line satisfies `T`, and each opener but `#else` satisfies `P`
 --   IsUndecided ns    each condition but that of an `#else` is unknown
 --
 -- All else follows from the table (Pruning). A section that gives way leaves the nodes of its first
--- kept group, if there is one. Each other section keeps its kept groups in order, each opener with
--- its verdict (law_pruned). Nodes have exactly one pruned tree (law_printed).
+-- kept group, if any. Each other section keeps its kept groups in order, each opener with its
+-- verdict (law_pruned). Nodes have exactly one pruned tree (law_printed).
 --
 -- Example: of `#if X`, `#elif defined A`, `#elif Y`, `#else`, `#endif` under -DA three lines are
 -- left: an `#if X`, an `#else` from the second line and an `#endif` from the third.
@@ -29,7 +29,7 @@ use Rattle.ud_model.specs.sections.Pruning.{Part, an_if, an_elif, an_else, Mark,
 use Rattle.ud_model.specs.sections.Pruning.{gives_way, opener_verdict, endif_verdict}
 use Rattle.ud_model.specs.sections.Pruning.{conds_of_elifs, conds_of_groups}
 
--- A line of the output: the line that it comes from, and the verdict on that.
+-- A line of the output: the line it comes from, and the verdict on that line.
 pub record Edited (L : Type 0) : Type 0 where
   pub line : L
   pub verdict : Verdict
@@ -114,8 +114,8 @@ module _ {L : Type 0} where
   others_left all (g ∷ gs) =
       (if is_kept_group g then [] else left_of all g) ++ others_left all gs
 
-  -- `IsEndif all gs e k`: of the openers of the groups that aren't kept, and of the `#endif` on the
-  -- line `e`, the table leaves one line, which is the `#endif` on the line `k`.
+  -- `IsEndif all gs e k`: among the openers of the groups that aren't kept, and the `#endif` on the
+  -- line `e`, the table leaves one line, the `#endif` on the line `k`.
   abbrev pub IsEndif : List Cond → List (Group L) → L → Edited L → Type 0
   IsEndif all gs e k =
       others_left all gs ++ kept_line (endif_verdict all) (endif_line e) ≡ endif_line k ∷ []
@@ -166,18 +166,18 @@ module _ {L : Type 0} (T : L → Type 0) (P : Opener L → Type 0) where
     EachLine (text ns l) = EachLine ns × T l
     EachLine (section ns gs e) = EachLine ns × GroupLines gs
 
-    -- `GroupLines T P gs`: the same of the lines in the groups.
+    -- `GroupLines T P gs`: the same for the groups, with their openers.
     pub GroupLines : Groups L → Type 0
     GroupLines (conditional es) = ElifLines es
     GroupLines (otherwise es l ns) = ElifLines es × EachLine ns
 
-    -- `ElifLines T P es`: the same of these groups, with their openers.
+    -- `ElifLines T P es`: the same for these groups, with their openers.
     pub ElifLines : Elifs L → Type 0
     ElifLines (first o ns) = P o × EachLine ns
     ElifLines (elif es o ns) = ElifLines es × P o × EachLine ns
 
 module _ {L : Type 0} where
-  -- `Any l`: there is the line `l`.
+  -- `Any l`: true of every line `l`.
   abbrev pub Any : L → Type 0
   Any l = Unit {0}
 

@@ -4,19 +4,19 @@
 --   IsPlain o             the options change nothing about how lines are printed, and no symbol
 --                         makes its sections plain text
 --   IsPlainC o            such options without `-t`
---   AreRead o xs t        the items `xs` have the tree `t`, and each line was read in the mode that
---                         the lines before it give
+--   AreRead o xs t        the items `xs` have the tree `t`, and each line was read in the
+--                         mode that the lines before it give
 --   IsTreeOf o text t     `t` is the tree of the text
 --   IsClean o input r     a run without a fault, under plain options
 --   CleanRun              such a run, with the trees of its input and its output
 --   line_bytes l          a line of the input or output, with its ending
 --   selected_bytes w ns   the lines that are selected in a world, with their endings
 --   edited_bytes e        the output for a line of the pruned tree
---   KeepsTruths w b v a   each opener of the output `a` has in `v` the truth that the opener from
---                         which it comes has in `w`
+--   KeepsTruths w b v a   each opener of the output `a` has in `v` the truth that the opener
+--                         it comes from has in `w`
 --
--- Example: of `#if X`, `#elif defined A`, `#endif` under -DA the output's one opener with a
--- condition is `#if X`, which comes from the first line.
+-- Example: under -DA the output for `#if X`, `#elif defined A`, `#endif` has one opener with a
+-- condition, `#if X`, which comes from the first line.
 use Rattle.std.specs.Prelude.{◌≡◌, ◌≤◌, ℕ, List, [], ◌∷◌, ◌++◌, length, map, false, None}
 use Rattle.ud_model.specs.text.Lines.{Line, text_of, lines_of}
 use Rattle.ud_model.specs.text.Scans.{Reading}
@@ -104,8 +104,8 @@ selected_bytes w ns = map line_bytes (selected w ns)
 abbrev pub edited_bytes : Edited Reading → List ℕ
 edited_bytes e = piece_by e.verdict (keyword_in (content_of e.line.scan)) e.line.line
 
--- `KeepsTruths w before v after`: each opener of the output has in `v` the truth that the opener
--- from which it comes has in `w`.
+-- `KeepsTruths w before v after`: each opener of the output has in `v` the truth that the opener it
+-- comes from has in `w`.
 abbrev pub KeepsTruths : World Reading → Nodes Reading → World Reading → Nodes Reading → Type 0
 KeepsTruths w before v after =
     map v (openers after) ≡ map (λ e. w e.line) (openers_in (pruned_lines before))

@@ -1,12 +1,12 @@
 -- SharedLines: how a run and the run with `-c` share the lines of a text.
--- unifdef(1), `-c`: lines that would be removed are kept, and the other way round.
+-- unifdef(1), `-c`: lines that would be removed are kept, and vice versa.
 --
 --   OnlyDecides o       none of `-s`, `-S`, `-b`, `-l`, `-c` and `-n` is given
 --   with_complement o   the same options, and `-c`
 --   RunsWithComplement o input r s
---                       `s` is the outcome with `-c`, and `r` that without
+--                       `s` is the outcome with `-c`, and `r` the one without
 --   AnswersWithComplement args input a c
---                       the same of arguments and answers
+--                       the same for arguments and answers
 --   ShareLines js a b   each of the judged lines is printed once: in `a`, as its verdict demands,
 --                       if it isn't removed; else in `b`, unchanged
 --
@@ -22,7 +22,7 @@ use Rattle.ud_model.specs.answer.Outcomes.{Outcome, HasOutcome}
 use Rattle.ud_model.specs.answer.Answer.{Answer, IsAnswer}
 use Rattle.ud_model.specs.declared.settings.Listing.TheVariants.{Off}
 
--- `OnlyDecides o`: `o` has none of `-s`, `-S`, `-b`, `-l`, `-c` and `-n`
+-- `OnlyDecides o`: `o` has none of `-s`, `-S`, `-b`, `-l`, `-c` and `-n`.
 pub record OnlyDecides (o : Options) : Type 0 where
   pub unlisted : o.settings.listing ≡ Off
   pub unblanked : o.settings.blank ≡ false
@@ -45,7 +45,7 @@ pub record RunsWithComplement (o : Options) (input : List ℕ) (r s : Outcome) :
   pub complement : HasOutcome (with_complement o) input s
 
 -- `AnswersWithComplement args input a c`: `a` is the answer to arguments that only decide, and `c`
--- that to `-c` and these arguments.
+-- the answer to `-c` and these arguments.
 pub record AnswersWithComplement (args : List (List ℕ)) (input : List ℕ) (a c : Answer) : Type 0
   where
     pub decides : OnlyDecides (options_of args)

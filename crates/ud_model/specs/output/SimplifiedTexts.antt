@@ -6,10 +6,10 @@
 --   simplified_line r       this line, or the line that was read
 --   simplified_text bytes   the text of such lines
 --
--- A line stays unless it has an `#if` or an `#elif`, joins no other line, and has an ending. And it
--- stays unless the edited line, read by itself, joins no other line and has the same directive, the
--- same ending, and exactly the cells that are left after the keyword. Without the operands, a
--- carriage return may precede the newline, for example.
+-- A line changes only if it has an `#if` or an `#elif`, joins no other line, and has an ending. And
+-- the edited line, read by itself, must join no other line and have the same directive, the same
+-- ending, and exactly the cells that are left after the keyword. For example, removing operands may
+-- put a carriage return before the newline.
 --
 -- An edited line keeps its number, so both texts have the same count of lines.
 --
@@ -53,7 +53,7 @@ has_condition kind after (directive d) = same_if kind d.kind && bytes_eq d.after
 has_condition kind after cut_keyword = false
 has_condition kind after text = false
 
--- `keeps_ending k`: the ending of the bytes of the line `k` is its own.
+-- `keeps_ending k`: the bytes of the line `k`, read as a line, have the ending of `k`.
 abbrev pub keeps_ending : Line → Bool
 keeps_ending k = bytes_eq (ending_of (text_of k)) k.ending
 
@@ -79,7 +79,7 @@ module _ (table : List Argument) (rules : Rules) where
   is_read_back l d scan = not scan.joins_after &&
       has_condition d.kind (map shown (left_cells_of l d)) (content_of scan)
 
-  -- `is_read_alone l d`: the edited line, read by itself, is the line that is meant.
+  -- `is_read_alone l d`: the edited line, read by itself, is read as meant.
   abbrev pub is_read_alone : Line → Directive → Bool
   is_read_alone l d = keeps_ending (left_line l d) &&
       is_read_back l d (scan_after_run [] (left_line l d))

@@ -1,13 +1,13 @@
--- Simplified trees: the tree of a text whose conditions lack the decided operands, and the truths
--- that C gives both texts.
+-- Simplified trees: the tree of a text without the decided operands, and the truths that C gives
+-- both texts.
 -- C11 6.10.1p4, p6.
 --
 --   IsChosen table e b            by some numbers for the uses of the open names, C finds the
 --                                 condition `e` to be `b`
---   IsChosenWorld table w ns      so does C for each condition that it evaluates in the world `w`
+--   IsChosenWorld table w ns      each condition that C evaluates in the world `w` is so
 --   LineSimplified l k            `k` has the condition of the line `l`, or its residual
 --   NodesSimplified w v ns us     `us` are the nodes `ns` with such openers, and `v` gives each
---                                 opener the truth that `w` gives the one from which it comes
+--                                 opener the truth that `w` gives the one it comes from
 use Rattle.std.specs.Prelude.{◌≡◌, Bool, Option, Some, None, List}
 use Rattle.ud_model.specs.text.Scans.{Reading}
 use Rattle.ud_model.specs.conditions.Table.{Argument}
@@ -21,14 +21,14 @@ use Rattle.ud_model.specs.sections.Tree.{conditional, otherwise, first, elif}
 use Rattle.ud_model.specs.output.Worlds.{World, EachReached}
 use Rattle.ud_model.specs.output.CSelection.{condition_in, HasTruth}
 
--- `IsChosen table e b`: by some numbers for its uses of names, as the table has them, the condition
--- `e` is `b`. A condition that isn't understood may be either.
+-- `IsChosen table e b`: by some numbers for its uses of names that agree with the table, the
+-- condition `e` is `b`. A condition that isn't understood may be either.
 abbrev pub IsChosen : List Argument → Option Expression → Bool → Type 0
 IsChosen table None b = Unit {0}
 IsChosen table (Some e) b = (m : Choice e) × IsAllowed table m × (c : Number) × HasValue e m c ×
     HasTruth b c
 
--- `IsChosenWorld table w ns`: each condition that is evaluated in the world `w` has there a truth
+-- `IsChosenWorld table w ns`: each condition that is evaluated in the world `w` has a truth there
 -- that some numbers give it.
 abbrev pub IsChosenWorld : List Argument → World Reading → Nodes Reading → Type 0
 IsChosenWorld table w ns = EachReached w (λ o. IsChosen table (condition_in o.line) (w o.line)) ns

@@ -1,18 +1,18 @@
--- Strict lines: the lines that are read under `-K`, beside those that are read without it.
+-- Strict lines: the lines read under `-K`, beside the lines read without it.
 -- unifdef(1), `-K`: `&&` and `||` are unknown if either operand is, so fewer lines are removed.
 --
 --   under_strict o        the same options, and `-K`
 --   IsText j              the judged line is no directive
---   KeepsAsMuch j k       `k` is the line `j` under `-K`: text that isn't removed as `j` isn't
---                         removed as `k`
+--   KeepsAsMuch j k       `k` is the line `j` under `-K`: if it is text that stays in
+--                         `j`, it stays in `k`
 --   KeepAsMuch js ks      line by line, as far as both lists go
 --   pieces_of js          the output for judged lines under options that only decide
 --
 -- A list ends before the first fault of its run, and each run may have one where the other has
--- none. Directives may be edited in the one run and removed in the other.
+-- none. Directives may be edited in one run and removed in the other.
 --
--- Example: under `-DA` the line `x` in `#if X || A`, `#else`, `x`, `#endif` is removed without `-K`
--- alone. Of `#if X && 0`, `#elif A`, `#else`, `x`, `#endif` it is removed in both.
+-- Example: under `-DA` the line `x` in `#if X || A`, `#else`, `x`, `#endif` is removed only without
+-- `-K`. In `#if X && 0`, `#elif A`, `#else`, `x`, `#endif` it is removed in both.
 use Rattle.std.specs.Prelude.{◌≡◌, ℕ, List, [], ◌∷◌, map, true}
 use Rattle.std.specs.List.{concat}
 use Rattle.ud_model.specs.sections.Pruning.{is_removed}
@@ -27,8 +27,8 @@ under_strict o = record { settings = record o.settings { strict = true }; table 
 abbrev pub IsText : Judged → Type 0
 IsText j = j.keyword.len ≡ 0
 
--- `KeepsAsMuch j k`: `k` is the line `j`, and if it is text that is removed as `k`, it is removed
--- as `j`.
+-- `KeepsAsMuch j k`: `k` is the line `j`, and if it is text that is removed in `k`, it is removed
+-- in `j`.
 pub record KeepsAsMuch (j k : Judged) : Type 0 where
   pub line : k.line ≡ j.line
   pub keyword : k.keyword ≡ j.keyword

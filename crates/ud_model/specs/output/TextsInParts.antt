@@ -1,9 +1,9 @@
--- Texts in parts: the outcome of a text that has two parts, by the outcomes of its parts.
+-- Texts in parts: the outcome of a text in two parts, by the outcomes of the parts.
 --
---   fault_later n f          the fault `f` of lines before which `n` lines come
+--   fault_later n f          the fault `f`, `n` lines later
 --   in_parts n r s           the outcome `r` of `n` lines, and then the outcome `s`
 --   MayBeParts o text more   `text` and then `more` may be processed one after another
---   AnswersBoth a b c        the answer `c` is what the answers `a` and `b` are together
+--   AnswersBoth a b c        the answer `c` combines the answers `a` and `b`
 --
 -- Example: a line `x` and then a misplaced `#else` have the output `x`, and the fault is at line 2.
 use Rattle.std.specs.Prelude.{◌≡◌, ◌≤◌, ℕ, ◌+◌, List, [], ◌++◌, length, true, false, ◌||◌}
@@ -31,7 +31,7 @@ fault_later n (too_many_levels line) = too_many_levels (n + line)
 fault_later n (eof_in_comment line) = eof_in_comment (n + line)
 fault_later n (premature_eof line if_line) = premature_eof (n + line) (n + if_line)
 
--- `fault_if_later n f`: the fault `f`, if there is one, `n` lines later.
+-- `fault_if_later n f`: the fault `f`, if any, `n` lines later.
 abbrev pub fault_if_later : ℕ → Option Fault → Option Fault
 fault_if_later n None = None
 fault_if_later n (Some f) = Some (fault_later n f)
@@ -54,7 +54,7 @@ pub record MayBeParts (o : Options) (text more : List ℕ) : Type 0 where
   pub fits : length (lines_of (text ++ more)) ≤ TEXT_LINES
 
 -- `AnswersBoth a b c`: the answer `c` has the output of `a` and then that of `b`. If `b` reports a
--- fault, so does `c`. If both have one status, that is the status of `c`.
+-- fault, so does `c`. If both have the same status, so does `c`.
 pub record AnswersBoth (a b c : Answer) : Type 0 where
   pub output : c.output ≡ a.output ++ b.output
   pub fails : b.status ≡ 2 → c.status ≡ 2

@@ -1,16 +1,16 @@
--- Worlds: the text lines that a compiler sees, if it decides each condition in some way.
--- C11 6.10.1p6: of a section the first group whose condition is true is processed, else the group
--- of `#else`. No condition after a true one is evaluated, and none in a group that is skipped.
+-- Worlds: the text lines that a compiler sees if it decides each condition in some way.
+-- C11 6.10.1p6: a section's first group whose condition is true is processed, else the group of
+-- `#else`. No condition after a true one is evaluated, and none in a group that is skipped.
 --
 --   World L               the truth of each opener with a condition, by its line
 --   selected w ns         the text lines that are processed in the world `w`, in order
 --   EachReached w Is ns   each opener whose condition is evaluated in the world `w` satisfies `Is`
---   Agrees w ns           of the openers that are reached, each Yes is true in the world and each
+--   Agrees w ns           among the openers reached, each Yes is true in the world and each
 --                         No false
 --   openers ns            the lines of the openers with a condition, in order
---   openers_in xs         the same, among the lines `xs`
+--   openers_in xs         these lines among the lines `xs`
 --
--- Example: of `#if X`, `a`, `#elif Y`, `b`, `#else`, `c`, `#endif` the line `a` is selected in a
+-- Example: in `#if X`, `a`, `#elif Y`, `b`, `#else`, `c`, `#endif` the line `a` is selected in a
 -- world in which X is true, and Y isn't reached. In any other world `b` or `c` is selected.
 use Rattle.std.specs.Prelude.{◌≡◌, List, [], ◌∷◌, ◌++◌, Bool, true, false, Option, Some, None}
 use Rattle.ud_model.specs.declared.cond.Cond.{Cond}
@@ -24,12 +24,12 @@ use Rattle.ud_model.specs.sections.Tree as tree
 abbrev pub World : Type 0 → Type 0
 World L = L → Bool
 
--- `or_else first later`: `first` if it is there, else `later`.
+-- `or_else first later`: `first` if it is present, else `later`.
 abbrev pub or_else : {X : Type 0} → Option X → Option X → Option X
 or_else None later = later
 or_else (Some x) later = Some x
 
--- `lines_or first others`: the lines `first` if they are there, else `others`.
+-- `lines_or first others`: the lines `first` if present, else `others`.
 abbrev pub lines_or : {L : Type 0} → Option (List L) → List L → List L
 lines_or None others = others
 lines_or (Some ls) others = ls
@@ -47,7 +47,7 @@ module _ {L : Type 0} (w : World L) where
     selected (tree.text ns l) = selected ns ++ l ∷ []
     selected (section ns gs e) = selected ns ++ selected_groups gs
 
-    -- `selected_groups w gs`: the text lines of the one group that is processed, if there is one.
+    -- `selected_groups w gs`: the text lines of the group that is processed, if any.
     pub selected_groups : Groups L → List L
     selected_groups (conditional es) = lines_or (selected_elifs es) []
     selected_groups (otherwise es l ns) = lines_or (selected_elifs es) (selected ns)
@@ -84,7 +84,7 @@ module _ {L : Type 0} (w : World L) (Is : Opener L → Type 0) where
         (selected_elifs w es ≡ None → Is o × (w o.line ≡ true → EachReached ns))
 
 module _ {L : Type 0} (w : World L) where
-  -- `AgreesWith w cond l`: the world `w` has the truth of a decided condition for the line `l`.
+  -- `AgreesWith w cond l`: in the world `w` the line `l` has the truth of its decided condition.
   abbrev pub AgreesWith : Cond → L → Type 0
   AgreesWith Yes l = w l ≡ true
   AgreesWith No l = w l ≡ false

@@ -2,12 +2,12 @@
 -- C11 6.10.
 --
 --   AreParts p masked        `p` are the parts of this masked line
---   IsSplitKeyword scan p    the keyword of a line with these parts may go on in the next line
+--   IsSplitKeyword scan p    the keyword of a line with these parts may continue on the next line
 --   HasSplitKeyword scan     a line with this scan has such parts
 --   HasDirective scan d      a line with this scan has the directive `d`
 --
--- A masked line has at most one split, and none if `#` doesn't come first after white space. The
--- content of a line (`content_of`) is read off these parts (law_directive).
+-- A masked line has at most one split, and none unless `#` is its first byte that isn't white
+-- space. These parts give the content of a line (`content_of`, law_directive).
 --
 -- Example: the parts of `  # ifdef A` are two spaces, one space, `ifdef` and ` A`.
 use Rattle.std.specs.Prelude.{◌≡◌, ◌≢◌, ℕ, suc, ◌+◌, List, [], ◌∷◌, ◌++◌, length, Bool, true, false}
@@ -28,13 +28,13 @@ pub record DirectiveParts : Type 0 where
   pub word : List ℕ
   pub rest : List ℕ
 
--- `first_is p text`: the first byte of `text` is such a byte.
+-- `first_is p text`: `p` accepts the first byte of `text`.
 abbrev pub first_is : (ℕ → Bool) → List ℕ → Bool
 first_is p [] = false
 first_is p (b ∷ bs) = p b
 
--- `AreParts p masked`: `p` are the parts of `masked`. Neither white space nor the word could be
--- longer.
+-- `AreParts p masked`: `p` are the parts of `masked`. White space and the word are as long as they
+-- can be.
 pub record AreParts (p : DirectiveParts) (masked : List ℕ) : Type 0 where
   pub joined : masked ≡ p.white ++ number_sign ∷ (p.gap ++ (p.word ++ p.rest))
   pub white : are_white p.white ≡ true
@@ -43,7 +43,7 @@ pub record AreParts (p : DirectiveParts) (masked : List ℕ) : Type 0 where
   pub gap_ends : first_is is_white (p.word ++ p.rest) ≡ false
   pub word_ends : first_is is_word_byte p.rest ≡ false
 
--- `EndsInKeyword scan p`: the masked line ends where the keyword may go on.
+-- `EndsInKeyword scan p`: the masked line ends where the keyword may continue.
 pub data EndsInKeyword (scan : Scan) (p : DirectiveParts) : Type 0 where
   -- Nothing follows the `#` and the white space.
   nothing_follows : p.word ≡ [] → p.rest ≡ [] → EndsInKeyword scan p
@@ -54,16 +54,16 @@ pub data EndsInKeyword (scan : Scan) (p : DirectiveParts) : Type 0 where
   word_follows : p.word ≢ [] → p.rest ≡ [] → is_prefix_of_keyword p.word ≡ true →
       is_continued_outside_comment scan ≡ true → EndsInKeyword scan p
 
--- `IsSplitKeyword scan p`: the keyword of a line with these parts may go on in the next line, so it
--- can't be known.
+-- `IsSplitKeyword scan p`: the keyword of a line with these parts may continue on the next line, so
+-- it can't be known.
 pub record IsSplitKeyword (scan : Scan) (p : DirectiveParts) : Type 0 where
   pub fresh : scan.fresh ≡ true
   pub joins : scan.joins_after ≡ true
-  -- No line comment goes on in the next line.
+  -- No line comment continues on the next line.
   pub no_line_comment : is_in_line scan.comment ≡ false
   pub ends : EndsInKeyword scan p
 
--- `HasSplitKeyword scan`: a line with this scan has a keyword that may go on in the next line.
+-- `HasSplitKeyword scan`: a line with this scan has a keyword that may continue on the next line.
 pub record HasSplitKeyword (scan : Scan) : Type 0 where
   pub parts : DirectiveParts
   pub are : AreParts parts scan.masked

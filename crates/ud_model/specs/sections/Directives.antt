@@ -1,4 +1,4 @@
--- Directives: the directive that a scan has, if it has one.
+-- Directives: the directive that a scan has, if any.
 -- C11 6.10, C23 6.10: a directive is a line whose first byte that isn't white space is `#`.
 --
 --   content_of scan   a cut keyword, else a directive, else text
@@ -31,7 +31,7 @@ pub record Span : Type 0 where
   pub at : ℕ
   pub len : ℕ
 
--- A directive that controls sections, as its line has it.
+-- A directive that controls sections, as it is on its line.
 pub record Directive : Type 0 where
   pub kind : Kind
   pub keyword : Span
@@ -42,8 +42,7 @@ pub record Directive : Type 0 where
 
 -- The content of a line, as far as sections go.
 pub data Content : Type 0 where
-  -- A keyword that goes on after a continuation, so it can't be known whether the line has a
-  -- directive.
+  -- A keyword that a continuation cuts, so it can't be known whether the line has a directive.
   cut_keyword : Content
   directive : Directive → Content
   text : Content
@@ -88,15 +87,15 @@ kind_among (row ∷ rows) word = if bytes_eq word row.0 then Some row.1 else kin
 abbrev pub kind_of : List ℕ → Option Kind
 kind_of word = kind_among keywords word
 
--- `may_begin keyword a b`: `keyword` begins with the byte `a`, and with `a` and `b` if `b` is in a
--- word. One of fewer than two bytes may begin with any.
+-- `may_begin keyword a b`: `keyword` begins with the byte `a`, and with `a` and `b` if `b` is a
+-- word byte. A keyword of fewer than two bytes may begin with any.
 abbrev pub may_begin : List ℕ → ℕ → ℕ → Bool
 may_begin [] a b = true
 may_begin (x ∷ []) a b = true
 may_begin (x ∷ y ∷ more) a b = (a == x) && (b == y || not (is_word_byte b))
 
--- `is_no_keyword a b`: a word begins with the byte `a`, before `b`, and no keyword begins so. No
--- keyword begins with `x`, nor with `ix`, but one does with `if`, and with `i` before a space.
+-- `is_no_keyword a b`: a word begins with the byte `a`, before `b`, and no keyword may begin so. No
+-- keyword begins with `x` or `ix`, but one may with `if`, or with `i` before a space.
 abbrev pub is_no_keyword : ℕ → ℕ → Bool
 is_no_keyword a b =
     is_word_byte a && not (list_any (λ (row : List ℕ × Kind). may_begin row.0 a b) keywords)
@@ -111,13 +110,13 @@ skip_hash (b ∷ bs) = if b == 35 then Some bs else None
 abbrev pub skip_white_and_hash : List ℕ → Option (List ℕ)
 skip_white_and_hash masked = skip_hash (skip_white masked)
 
--- `is_outside c`: no comment is unclosed.
+-- `is_outside c`: no comment is open.
 abbrev pub is_outside : CommentAt → Bool
 is_outside Outside = true
 is_outside InLine = false
 is_outside InBlock = false
 
--- `is_in_line c`: a line comment is unclosed.
+-- `is_in_line c`: a line comment is open.
 abbrev pub is_in_line : CommentAt → Bool
 is_in_line Outside = false
 is_in_line InLine = true
@@ -146,7 +145,7 @@ may_split_keyword scan (b ∷ bs) = is_continued_outside_comment scan &&
     (bytes_eq (b ∷ bs) (47 ∷ []) || is_keyword_prefix (b ∷ bs))
 
 -- `has_split_keyword scan rest`: the line is fresh and joins the next one, and the keyword in
--- `rest` can't be known. `rest` follows the `#`, if there is one.
+-- `rest` can't be known. `rest` follows the `#`, if any.
 abbrev pub has_split_keyword : Scan → Option (List ℕ) → Bool
 has_split_keyword scan None = false
 has_split_keyword scan (Some rest) =

@@ -5,10 +5,10 @@
 --   Fault                 a fault with its line
 --   Case                  the cases in which a line is faulty, in the order in which they are
 --                         checked
---   Holds xs x c          the line `x`, after the lines `xs`, is faulty in the case `c`
+--   Holds xs x c          the case `c` holds for the line `x` after the lines `xs`
 --   FaultOf xs x f        `f` is the line's fault: that of the first case that holds
---   AreFaultless o xs t   none of these lines is faulty; `t` is their tree, and each was read in
---                         the mode that the lines before give
+--   AreFaultless o xs t   no line is faulty; `t` is their tree, and each was read in the
+--                         mode that the lines before give
 --   end_fault xs t        the fault of a text that ends after these lines
 --
 -- The verdicts are those of the text up to the line; no later line changes them.
@@ -116,7 +116,7 @@ abbrev pub MarksWith : List (Item Reading) → Item Reading → List Mark → Ma
 MarksWith xs x before m = (t : Tree Reading) × (lines t ≡ xs ++ x ∷ []) ×
     (marks t ≡ before ++ m ∷ [])
 
--- `Holds xs x c`: the line `x`, after the lines `xs`, is faulty in the case `c`.
+-- `Holds xs x c`: the case `c` holds for the line `x` after the lines `xs`.
 abbrev pub Holds : List (Item Reading) → Item Reading → Case → Type 0
 Holds xs x past_last = TEXT_LINES < (line_of x).number
 Holds xs x too_long = LINE_BYTES < length (text_of (line_of x))
@@ -131,8 +131,8 @@ abbrev pub NoneHolds : List (Item Reading) → Item Reading → List Case → Ty
 NoneHolds xs x [] = Unit {0}
 NoneHolds xs x (c ∷ cs) = (¬ Holds xs x c) × NoneHolds xs x cs
 
--- `misplaced_fault x`: the fault of a directive out of its place, which each directive has of its
--- own. Text and `#if` are never out of place.
+-- `misplaced_fault x`: the fault of a misplaced `#elif`, `#else` or `#endif`, each with its own.
+-- Text and `#if` are never misplaced.
 abbrev pub misplaced_fault : Item Reading → Option Fault
 misplaced_fault (text_line r) = None
 misplaced_fault (if_line o) = None
@@ -172,20 +172,20 @@ last_number [] = 0
 last_number (x ∷ []) = (line_of x).number
 last_number (x ∷ y ∷ ys) = last_number (y ∷ ys)
 
--- `is_in_block c`: a block comment is unclosed.
+-- `is_in_block c`: a block comment is open.
 abbrev pub is_in_block : CommentAt → Bool
 is_in_block Outside = false
 is_in_block InLine = false
 is_in_block InBlock = true
 
--- `ends_in_comment xs`: a block comment is unclosed at the end of the last line.
+-- `ends_in_comment xs`: a block comment is open at the end of the last line.
 abbrev pub ends_in_comment : List (Item Reading) → Bool
 ends_in_comment [] = false
 ends_in_comment (x ∷ []) = is_in_block (reading_of x).scan.comment
 ends_in_comment (x ∷ y ∷ ys) = ends_in_comment (y ∷ ys)
 
 -- `end_by unclosed last o`: the fault of a text that ends with the line `last`: in a comment if
--- `unclosed`, else in the section that `o` opens, if there is one.
+-- `unclosed`, else in the section that `o` opens, if any.
 abbrev pub end_by : Bool → ℕ → Option (Opener Reading) → Option Fault
 end_by true last o = Some (eof_in_comment last)
 end_by false last (Some o) = Some (premature_eof last o.line.line.number)

@@ -4,13 +4,13 @@
 --
 --   Options              the options of a command line: the settings, and the arguments that name
 --                        symbols
---   item_of o r          the item of a line, as it is read: a text line, or a directive with its
+--   item_of o r          the item of a line as read: a text line, or a directive with its
 --                        condition
 --   mode_after o t       the mode of the line after a text with this tree
 --   next_item o xs t l   the item of the line `l` after the lines `xs`, whose tree is `t`
 --
--- A line is read in plain mode under `-t`, and if an ignoring section is open before it. So the
--- section's `#endif` is read in plain mode. The line after that isn't, as far as the section goes.
+-- A line is read in plain mode under `-t`, and if an ignoring section is open before it. So that
+-- section's `#endif` is read in plain mode, and the section doesn't affect the line after it.
 use Rattle.std.specs.Prelude.{List, map, Bool, true, false, ◌||◌}
 use Rattle.ud_model.specs.text.Lines.{Line}
 use Rattle.ud_model.specs.text.Scans.{Reading}
@@ -48,14 +48,14 @@ directive_item r ElseGroup d = else_line r
 directive_item r EndifLine d = endif_line r
 
 -- `item_by o r content`: the item of the line `r` with this content. A line with a cut keyword is
--- faulty, and counts as text until then.
+-- faulty; here it counts as text.
 abbrev pub item_by : Options → Reading → Content → Item Reading
 item_by o r cut_keyword = text_line r
 item_by o r text = text_line r
 item_by o r (directive d) = directive_item r (role_of d.kind)
     (decision_on r.scan d o.table (rules_of o.settings))
 
--- `item_of o r`: the item of the line `r`, as it is read.
+-- `item_of o r`: the item of the line `r` as read.
 abbrev pub item_of : Options → Reading → Item Reading
 item_of o r = item_by o r (content_of r.scan)
 

@@ -1,8 +1,8 @@
 -- Pruning: the lines of a tree that are kept, and how its directives are edited.
 -- unifdef(1), with edits that keep the output well nested.
 --
---   Mark                                  a line's verdict, and whether all groups around the line
---                                         are kept, or around the section of a directive
+--   Mark                                  a line's verdict, and whether all groups around it (or
+--                                         around a directive's section) are kept
 --   OpenerPosition                        the position of an opener in its section
 --   opener_position all before c          the position of an opener
 --   verdict_in_position position part     the table of verdicts, for an opener whose section lies
@@ -12,8 +12,8 @@
 --   marks t                               the marks of a text's lines, in order
 --
 -- `all` are the conditions of the section's groups, `before` those of the groups before the
--- opener's own, and `c` is its own. An `#else` counts as true. The first true group is the last one
--- that is kept. The kept groups are those that aren't false and don't come after it.
+-- opener's own, and `c` is its own. An `#else` counts as true. No group after the first true one is
+-- kept; of the others, all that aren't false are.
 --
 -- Example: of `#if X`, `#elif defined A`, `#elif Y`, `#else`, `#endif` under -DA the verdicts are
 -- Keep, ToElse, ToEndif, Remove, Remove.
@@ -106,7 +106,7 @@ opener_position all before c =
     else if ends_with_first_true before then next_after
     else further_on
 
--- `edited_elif v part`: an `#elif` has the verdict `v`, and another opener stays.
+-- `edited_elif v part`: the verdict `v` for an `#elif`; any other opener stays.
 abbrev pub edited_elif : Verdict → Part → Verdict
 edited_elif v an_if = Keep
 edited_elif v an_elif = v
@@ -158,8 +158,8 @@ is_removed ToIf = false
 is_removed ToElse = false
 is_removed ToEndif = false
 
--- A line's mark: its verdict, and whether all groups around the line are kept, or around the
--- section of a directive.
+-- A line's mark: its verdict, and whether all groups around it (or around a directive's section)
+-- are kept.
 pub record Mark : Type 0 where
   pub kept : Bool
   pub verdict : Verdict
@@ -239,6 +239,6 @@ module _ {L : Type 0} where
       (marks_of_nodes kept ns ++ marks_of_head kept (conds_of_head h) h) ++
       marks_in (kept && is_inside_kept h) t
 
-  -- `marks t`: the marks of the lines of a text that no group is around.
+  -- `marks t`: the marks of the lines of a text that is in no group.
   abbrev pub marks : Tree L → List Mark
   marks t = marks_in true t

@@ -1,7 +1,7 @@
 -- Trees: a text as nested sections.
 -- C11 6.10, the grammar of group-part and if-section.
 --
---   Item L            a line among the sections: a text line or a directive; `L` is the type of
+--   Item L            a line by its part in sections: text or a directive; `L` is the type of
 --                     lines
 --   Nodes L           the text lines and whole sections of a text or a group, in order
 --   Groups L          the groups of a section: an opener and the nodes after it, group for group
@@ -12,8 +12,7 @@
 --   depth t           the number of sections that are open at the end of the text
 --   with_lines f ns   the same nodes with another line in place of each
 --
--- Each type is written from left to right, so a longer text adds to the end: nodes and then a line,
--- groups and then a group.
+-- Each type grows at its end, as a text does: nodes and then a line, groups and then a group.
 use Rattle.std.specs.Prelude.{◌≡◌, ℕ, suc, List, [], ◌∷◌, ◌++◌, Bool, false, ◌||◌, Option, Some}
 use Rattle.std.specs.Prelude.{None}
 use Rattle.ud_model.specs.declared.cond.Cond.{Cond}
@@ -59,7 +58,7 @@ pub data Head (L : Type 0) : Type 0 where
   elif_head : Elifs L → Opener L → Head L
   else_head : Elifs L → L → Head L
 
--- A text so far: nodes, and the section that is still open, if there is one.
+-- A text so far: nodes, and the section that is still open, if any.
 pub data Tree (L : Type 0) : Type 0 where
   closed : Nodes L → Tree L
   -- Nodes, then a section without its `#endif`, whose last group goes on to the end of the text.
@@ -116,12 +115,12 @@ module _ {L : Type 0} where
   opener_of_head (elif_head es o) = opener_of_elifs es
   opener_of_head (else_head es l) = opener_of_elifs es
 
-  -- `is_ignoring t`: an ignoring section is open, which is one whose first directive is ignoring.
+  -- `is_ignoring t`: an ignoring section is open: one whose first directive is ignoring.
   abbrev pub is_ignoring : Tree L → Bool
   is_ignoring (closed ns) = false
   is_ignoring (open_section ns h t) = (opener_of_head h).ignoring || is_ignoring t
 
-  -- `innermost t`: the first directive of the innermost open section, if there is one.
+  -- `innermost t`: the first directive of the innermost open section, if any.
   abbrev pub innermost : Tree L → Option (Opener L)
   innermost (closed ns) = None
   innermost (open_section ns h (closed b)) = Some (opener_of_head h)

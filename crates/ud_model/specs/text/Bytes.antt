@@ -42,7 +42,7 @@ star = 42
 abbrev pub space : ℕ
 space = 32
 
--- The hyphen `-`, which begins an argument with options.
+-- The hyphen `-`, which begins an argument that has options.
 abbrev pub hyphen : ℕ
 hyphen = 45
 

@@ -2,15 +2,15 @@
 -- C11 5.1.1.2, phase 3, and 6.4.9.
 --
 --   IsLexeme bytes rest kind   `bytes` is a lexeme of this kind if the text goes on with `rest`
---   AreLexemes pieces text     `pieces` are the lexemes of `text`, from left to right
---   LastIsOpen kind pieces     the last of them has this kind, and no end of its own
+--   AreLexemes pieces text     `pieces` are the lexemes of `text`, in order
+--   LastIsOpen kind pieces     the last of them has this kind, and is open
 --   cells_of pieces            each byte of the lexemes with the kind of its lexeme
 --   lexeme_at b rest           the extent of the lexeme that begins with `b` before `rest`,
 --                              computed
 --   lex text                   the cells of `text`, computed; a text has lexemes in one way
 --   shown cell                 the byte, or a space if it lies in a comment
 --   open_line [] cells         the cells of the logical line that the text ends with
---   kind_at_end text           the kind of lexeme that the end of the text lies in
+--   kind_at_end text           the kind of lexeme at the end of the text
 --
 -- A block comment that is never closed runs to the end of the text. A literal without its closing
 -- quote ends before the newline, and so does a line comment. A newline inside a block comment
@@ -79,7 +79,7 @@ pub data IsLexeme (bytes rest : List ℕ) : LexemeKind → Type 0 where
   open_at_backslash : (quote : ℕ) (inside : List ℕ) → is_quote quote ≡ true →
       bytes ≡ quote ∷ (inside ++ backslash ∷ []) → IsLiteralBody quote inside → IsLineEnd rest →
       IsLexeme bytes rest literal
-  -- A byte at which neither a comment nor a literal begins.
+  -- A byte that begins neither a comment nor a literal.
   single_byte : (b : ℕ) → bytes ≡ b ∷ [] → is_quote b ≡ false →
       ((b == slash) && (starts_with_byte star rest || starts_with_byte slash rest)) ≡ false →
       IsLexeme bytes rest single
@@ -91,13 +91,13 @@ AreLexemes [] text = text ≡ []
 AreLexemes (p ∷ pieces) text = (rest : List ℕ) × (text ≡ p.bytes ++ rest) ×
     IsLexeme p.bytes rest p.kind × AreLexemes pieces rest
 
--- `IsOpen bytes kind`: a lexeme of this kind with these bytes has no end of its own. So if a text
--- ends with it, the end of the text lies in it.
+-- `IsOpen bytes kind`: a lexeme of this kind with these bytes has no end of its own: a text that
+-- ends with it ends inside it.
 pub data IsOpen (bytes : List ℕ) : LexemeKind → Type 0 where
   -- A block comment without its `*/`.
   unclosed_comment : (inside : List ℕ) → bytes ≡ slash ∷ star ∷ inside → NoClose inside →
       IsOpen bytes block_comment
-  -- Each line comment, for a newline isn't part of it.
+  -- Every line comment, since the newline isn't part of it.
   each_line_comment : (inside : List ℕ) → bytes ≡ slash ∷ slash ∷ inside → NoNewline inside →
       IsOpen bytes line_comment
   -- A literal without its closing quote.
@@ -130,7 +130,7 @@ cells_of [] = []
 cells_of (p ∷ pieces) = cells_in p.kind p.bytes ++ cells_of pieces
 
 -- `comment_size text`: how many bytes of `text` belong to the block comment whose `/*` is before
--- it. They end with the first `*/`, or are all.
+-- it. They end with the first `*/`, or with the text.
 abbrev pub comment_size : List ℕ → ℕ
 comment_size [] = 0
 comment_size (a ∷ rest) =
@@ -138,14 +138,14 @@ comment_size (a ∷ rest) =
     else suc (comment_size rest)
 
 -- `line_comment_size text`: how many bytes of `text` belong to the line comment whose `//` is
--- before it. They end before the newline, or are all.
+-- before it. They end before the newline, or with the text.
 abbrev pub line_comment_size : List ℕ → ℕ
 line_comment_size [] = 0
 line_comment_size (a ∷ rest) = if a == newline then 0 else suc (line_comment_size rest)
 
 -- `literal_size quote behind_backslash text`: how many bytes of `text` belong to the literal whose
--- opening quote is before it. They end with the same quote, or before the newline, or are all. An
--- escaped quote doesn't count: `behind_backslash` means that the first byte is escaped.
+-- opening quote is before it. They end with the same quote, before the newline, or with the text.
+-- An escaped quote doesn't count: `behind_backslash` means that the first byte is escaped.
 abbrev pub literal_size : ℕ → Bool → List ℕ → ℕ
 literal_size quote behind_backslash [] = 0
 literal_size quote true (a ∷ rest) = if a == newline then 0 else suc (literal_size quote false rest)
@@ -160,7 +160,7 @@ pub record Extent : Type 0 where
   pub more : ℕ
 
 -- `lexeme_at a rest`: the extent of the lexeme that begins with `a`, if the text goes on with
--- `rest`. It is the first of these that fits.
+-- `rest`. The first case that fits counts.
 unfoldable pub lexeme_at : ℕ → List ℕ → Extent
 lexeme_at a rest =
     if (a == slash) && starts_with_byte star rest

@@ -1,4 +1,4 @@
--- LineViews: lines and scans of the program as the definitions have them.
+-- LineViews: the program's lines and scans in the form of the definitions.
 --
 --   as_line line   the line with its body, its ending and its number
 --   as_scan scan   the scan
@@ -9,11 +9,11 @@ use Rattle.ud_model.specs.text.Scans.{Scan as LineScan}
 use Rattle.ud_model.specs.declared.line.Line.{Line}
 use Rattle.ud_model.specs.declared.scan.Scan.{Scan}
 
--- `as_line line`: the line with its body, its ending and its number
+-- `as_line line`: the line with its body, its ending and its number.
 abbrev pub as_line : Line → TextLine
 as_line line = record { body = line.body.now; ending = line.ending.now; number = line.number }
 
--- `as_scan scan`: the scan with the values of its fields
+-- `as_scan scan`: the scan with the values of its fields.
 abbrev pub as_scan : Scan → LineScan
 as_scan scan = record {
   masked = scan.masked.now;

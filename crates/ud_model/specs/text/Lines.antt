@@ -1,7 +1,7 @@
 -- Lines: a text as its lines. A line ends with its newline (POSIX XBD 3.206); a carriage return
 -- before the newline belongs to the line's ending.
 --
---   AreLines text ls           `ls` are the lines of `text`: `texts_of text`, and no others
+--   AreLines text ls           `ls` are the lines of `text`: `texts_of text` and no others
 --   AreSplitLines text parts   `parts` are its whole lines and the rest: `split_lines text`, and no
 --                              others
 --   whole_lines text           the lines of a text that hasn't ended: those that have their newline
@@ -28,7 +28,7 @@ IsWhole line = (prefix : List ℕ) × NoNewline prefix × (line ≡ prefix ++ ne
 abbrev pub IsUnterminated : List ℕ → Type 0
 IsUnterminated line = (line ≢ []) × NoNewline line
 
--- `AreFormed ls`: each line is whole, but perhaps the last one, which may be unterminated.
+-- `AreFormed ls`: each line is whole, except that the last one may be unterminated.
 abbrev pub AreFormed : List (List ℕ) → Type 0
 AreFormed [] = Unit {0}
 AreFormed (l ∷ []) = IsWhole l ⊎ IsUnterminated l

@@ -1,23 +1,23 @@
--- Other lines: texts that differ in lines that join no neighbour.
+-- Other lines: texts that differ only in lines that join no neighbour.
 --
 --   StandsAlone before l        the line `l` after these readings joins neither the line before it
 --                               nor the next one
---   AreReadAlike before after   the readings `after` are those `before` with other such lines
+--   AreReadAlike before after   the readings `after` are `before` with other such lines
 use Rattle.std.specs.Prelude.{◌≡◌, ◌≢◌, List, [], ◌⊎◌, false}
 use Rattle.ud_model.specs.text.Lines.{Line}
 use Rattle.ud_model.specs.text.Scans.{Reading}
 use Rattle.ud_model.specs.text.Scanning.{scan_after, with_next, EndsLogicalLine}
 use Rattle.ud_model.specs.declared.kind.Mode.TheVariants.{C}
 
--- `StandsAlone before l`: the line `l`, which has an ending, joins no line. No line precedes it, or
--- a logical line ends before it.
+-- `StandsAlone before l`: the line `l` has an ending and joins no line. No line precedes it, or a
+-- logical line ends before it.
 pub record StandsAlone (before : List Reading) (l : Line) : Type 0 where
   pub begins : (before ≡ []) ⊎ EndsLogicalLine before
   pub alone : (scan_after [] C l).joins_after ≡ false
   pub has_ending : l.ending ≢ []
 
--- `AreReadAlike before after`: line for line, both texts have the same line, or each another one
--- that stands alone. All lines are read in C mode.
+-- `AreReadAlike before after`: line for line, both texts have the same line, or different ones that
+-- stand alone. All lines are read in C mode.
 pub data AreReadAlike : List Reading → List Reading → Type 0 where
   no_lines : AreReadAlike [] []
   same_line : {before after : List Reading} → AreReadAlike before after → (l : Line) →

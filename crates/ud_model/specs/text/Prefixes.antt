@@ -1,4 +1,4 @@
--- Prefixes: a list that begins with another.
+-- Prefixes: lists that begin with another list.
 --
 --   IsPrefix xs ys   `ys` begins with `xs`
 --

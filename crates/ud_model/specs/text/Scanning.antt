@@ -3,18 +3,18 @@
 --
 --   joins lines                   the last of the lines joins the one after it, by a splice or a
 --                                 comment
---   comment_at spliced kind       the comment that is unclosed at the end of a line
+--   comment_at spliced kind       the comment left open at the end of a line
 --   scan_after_run run line       the scan of a line in C mode after a C run
 --   scan_after before mode line   the scan of a line in this mode after these readings
 --   c_comment_after before line   the comment at the end of a line that is read in C mode
---   next_reading before mode l    that line with its mode and its scan
---   with_next before mode l       the readings before, and the line's
---   EndsLogicalLine readings      their last line has an ending and doesn't join the next one
+--   next_reading before mode l    the reading of the line, with its mode and its scan
+--   with_next before mode l       the readings before, and the reading of the line
+--   EndsLogicalLine readings      the last line has an ending and doesn't join the next one
 --   readings_of lines             the readings of these lines, each in its mode
 --   content_cells run line        the cells of a line's content after a C run
 --
--- Later lines never change a scan. A `/` before a splice is a single byte as long as the next line
--- isn't read. It may turn out to begin a comment once that line is.
+-- Later lines never change a scan. A `/` before a splice is a single byte until the next line is
+-- read. It may then turn out to begin a comment.
 --
 -- Example: after the line `/\`, which isn't blank, the line `* c */ #ifdef A` is shown as seven
 -- spaces and `#ifdef A`. It is fresh, for the `/` before it has become the first byte of a comment.
@@ -46,8 +46,8 @@ is_block single = false
 unfoldable pub joins : List Line → Bool
 joins lines = last_is_spliced lines || is_block (kind_at_end (spliced_text lines))
 
--- `comment_at spliced kind`: the comment that is unclosed at the end of a line that ends in a
--- lexeme of this kind. A line comment goes on only if the line is spliced.
+-- `comment_at spliced kind`: the comment left open at the end of a line that ends in a lexeme of
+-- this kind. A line comment continues only if the line is spliced.
 abbrev pub comment_at : Bool → LexemeKind → CommentAt
 comment_at spliced block_comment = InBlock
 comment_at spliced line_comment = if spliced then InLine else Outside
@@ -87,12 +87,12 @@ abbrev pub next_reading : List Reading → Mode → Line → Reading
 next_reading before mode line =
     record { line = line; mode = mode; scan = scan_after before mode line }
 
--- `with_next before mode line`: the readings `before`, and that of `line` in this mode.
+-- `with_next before mode line`: the readings `before`, and the one of `line` in this mode.
 abbrev pub with_next : List Reading → Mode → Line → List Reading
 with_next before mode line = before ++ next_reading before mode line ∷ []
 
--- `c_comment_after before line`: the comment that is unclosed at the end of `line`, which is read
--- in C mode after `before`.
+-- `c_comment_after before line`: the comment left open at the end of `line`, which is read in C
+-- mode after `before`.
 abbrev pub c_comment_after : List Reading → Line → CommentAt
 c_comment_after before line = (scan_after before C line).comment
 

@@ -19,10 +19,10 @@ use Rattle.ud_model.specs.declared.kind.CommentAt.TheVariants.{Outside}
 
 -- The scan of a line: the masked line, and how the line is joined to its neighbours.
 pub record Scan : Type 0 where
-  -- The body without a splice's backslash, each byte of a comment replaced by a space.
+  -- The body without a splice's backslash, each byte of a comment shown as a space.
   pub masked : List ℕ
-  -- Only white space precedes the line on its logical line: the masked bytes that lie on earlier
-  -- lines are white.
+  -- Only white space precedes the line on its logical line: its masked bytes on earlier lines are
+  -- white.
   pub fresh : Bool
   -- The line before joins this one, by a splice or a comment.
   pub joins_before : Bool
@@ -30,7 +30,7 @@ pub record Scan : Type 0 where
   pub joins_after : Bool
   -- The line ends in a backslash that deletes its ending.
   pub spliced : Bool
-  -- The comment that is unclosed at the line's end, if there is one.
+  -- The comment left open at the line's end, if any.
   pub comment : CommentAt
 
 -- A line, the mode in which it is read, and its scan.

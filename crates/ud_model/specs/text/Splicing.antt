@@ -1,4 +1,4 @@
--- Splicing: the text that lines read in C mode form when their splices are deleted.
+-- Splicing: the text that lines in C mode form when their splices are deleted.
 -- C11 5.1.1.2, phase 2.
 --
 --   is_spliced line         the line ends in a backslash that deletes its ending
@@ -8,7 +8,7 @@
 --   c_run_of readings       the C run: the lines in C mode after the last one in plain mode
 --   last_is_spliced lines   the last of the lines is spliced
 --
--- A line counts by its body and its ending alone, never by its number.
+-- Only a line's body and ending count, never its number.
 --
 -- Example: the lines `a\` and `b`, each with a newline, form the text `ab` with one newline.
 use Rattle.std.specs.Prelude.{ℕ, ◌-◌, ◌==◌, nat_eq, List, [], ◌∷◌, ◌++◌, length, take, Bool, false}

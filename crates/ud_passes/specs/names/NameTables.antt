@@ -1,13 +1,13 @@
 -- NameTables: how often each name of a list occurs, as a table.
 -- unifdef(1), `-s`; uniq(1), `-c`.
 --
---   names_in list          the lines of a list, each of which is a name
+--   names_in list          the lines of a list, each a name
 --   count_of name names    how often a name occurs
 --   NameCount              a row of the table: a name, and how often it occurs
---   row_cmp                the order of the rows: a greater number comes first, then the names
---                          ascend by their bytes
+--   row_cmp                the order of the rows: greater counts first, then the names
+--                          ascending by their bytes
 --   IsTable names rows     the table: a row for each name, in this order
---   table_text rows        the rows as they are printed, each a line
+--   table_text rows        the rows as printed, each a line
 --   Tabulates names old new   the table of the names was appended
 --
 -- Example: the table of the lines `A`, `B`, `C` and `B` has the rows 2 of B, 1 of A and 1 of C. The
@@ -25,11 +25,11 @@ use Rattle.ud_model.specs.text.Lines.{Line, lines_of}
 abbrev pub body_of : Line → List ℕ
 body_of l = l.body
 
--- `names_in list`: the names of a list, each of which is a line.
+-- `names_in list`: the names of a list, each a line.
 abbrev pub names_in : List ℕ → List (List ℕ)
 names_in list = map body_of (lines_of list)
 
--- `count_of name names`: how often `name` is one of `names`.
+-- `count_of name names`: how often `names` has `name`.
 abbrev pub count_of : List ℕ → List (List ℕ) → ℕ
 count_of name names = count_by (λ n. bytes_eq n name) names
 
@@ -38,8 +38,8 @@ pub record NameCount : Type 0 where
   pub count : ℕ
   pub name : List ℕ
 
--- `row_cmp a b`: which of the two rows comes first: that with the greater number; of rows with the
--- same number, that whose name comes first by its bytes.
+-- `row_cmp a b`: which of the two rows comes first: the one with the greater count; for equal
+-- counts, the one whose name comes first by its bytes.
 abbrev pub row_cmp : NameCount → NameCount → Ordering
 row_cmp a b = ordering_then (nat_cmp b.count a.count) (slice_cmp nat_cmp a.name b.name)
 
@@ -47,14 +47,14 @@ row_cmp a b = ordering_then (nat_cmp b.count a.count) (slice_cmp nat_cmp a.name 
 abbrev pub rows_with : List ℕ → List NameCount → ℕ
 rows_with name rows = count_by (λ r. bytes_eq r.name name) rows
 
--- `IsTable names rows`: the rows are the table of `names`. Each row says how often its name occurs.
--- There is one row for each name that occurs, and none for another one. They are in order.
+-- `IsTable names rows`: the rows are the table of `names`. Each row has the count of its name.
+-- There is one row for each name that occurs, and no other row. The rows are in order.
 pub record IsTable (names : List (List ℕ)) (rows : List NameCount) : Type 0 where
   pub counts : All (λ r. r.count ≡ count_of r.name names) rows
   pub once : (name : List ℕ) → rows_with name rows ≡ min 1 (count_of name names)
   pub ordered : IsSorted row_cmp rows
 
--- `row_line r`: the line of a row: the number in at least 7 columns, a space, and the name.
+-- `row_line r`: the line of a row: the count in at least 7 columns, a space, and the name.
 abbrev pub row_line : NameCount → List ℕ
 row_line r = replicate (7 - length (decimal r.count)) 32 ++ decimal r.count ++ codes " " ++
     r.name ++ codes "\n"

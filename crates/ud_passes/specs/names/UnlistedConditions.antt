@@ -8,10 +8,10 @@
 --   unlisted_text file mode bytes   the list of them
 --
 -- A condition can't be listed if a continuation cuts its directive, or if its text isn't
--- understood. An expression of constants alone is understood, and has no names. The lines of the
--- text are all read in one mode. A line over the limit is a fault of its text, and doesn't count.
+-- understood. An expression of only constants is understood, and has no names. All lines of the
+-- text are read in one mode. A line over the limit is a fault of its text, and doesn't count.
 --
--- Example: of `#if A`, `#elif B \` and `#endif` in the file `f.c`, the list is the line
+-- Example: for `#if A`, `#elif B \` and `#endif` in the file `f.c`, the list is the line
 -- `f.c:2: #elif B \`.
 use Rattle.std.specs.Prelude.{ℕ, List, Bool, true, false, not, ◌&&◌, ◌||◌, is_some}
 use Rattle.std.specs.List.{filter, flat_map}
@@ -33,16 +33,16 @@ has_condition Defined = true
 has_condition Undefined = true
 has_condition Nothing = false
 
--- `is_understood test after`: the text `after` is understood, by the test that it is for: it is one
--- expression, or one name.
+-- `is_understood test after`: the text `after` is understood by this test: it is one expression, or
+-- one name.
 abbrev pub is_understood : Test → List ℕ → Bool
 is_understood Nonzero after = is_some (expression_of after)
 is_understood Defined after = is_some (sole_name after)
 is_understood Undefined after = is_some (sole_name after)
 is_understood Nothing after = true
 
--- `is_unlisted d`: the directive `d` has a condition whose names can't be listed, since a
--- continuation cuts it, or since it isn't understood.
+-- `is_unlisted d`: the directive `d` has a condition whose names can't be listed, because a
+-- continuation cuts it, or because it isn't understood.
 abbrev pub is_unlisted : Directive → Bool
 is_unlisted d = has_condition (test_of d.kind) &&
     (d.broken || not (is_understood (test_of d.kind) d.after))
@@ -61,7 +61,7 @@ is_unlisted_line r = fits r.line && has_unlisted (content_of r.scan)
 abbrev pub unlisted_in : Mode → List ℕ → List Reading
 unlisted_in mode bytes = filter is_unlisted_line (read_as mode bytes)
 
--- `unlisted_line file r`: the line `r` of this file as it is listed.
+-- `unlisted_line file r`: the line `r` of this file, as listed.
 abbrev pub unlisted_line : List ℕ → Reading → List ℕ
 unlisted_line file r = numbered_line file r.line.number r.line.body
 

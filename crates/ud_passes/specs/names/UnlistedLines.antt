@@ -1,6 +1,6 @@
 -- UnlistedLines: what the code knows of a text up to some line.
 --
---   listed_text lists file rs    the list of those of the lines `rs` that can't be listed, if it is
+--   listed_text lists file rs    the list of the lines among `rs` that can't be listed, if it is
 --                                asked for
 --   Listed file text ..          these of the lines so far were counted, and appended
 use Rattle.std.specs.Prelude.{◌≡◌, ℕ, ◌+◌, List, [], ◌++◌, length, Bool, true, if◌then◌else◌}
@@ -12,14 +12,14 @@ use Rattle.ud_passes.specs.declared.names.texts.File.{File}
 use Rattle.ud_passes.specs.declared.names.texts.Found.{Found}
 use Rattle.ud_passes.specs.declared.walk.Walk.{Walk}
 
--- `listed_text lists file rs`: the list of those of the lines `rs` of the file whose condition
--- can't be listed. Without `lists` there is none.
+-- `listed_text lists file rs`: the list of the lines among `rs` whose condition can't be listed.
+-- Without `lists` there is none.
 abbrev pub listed_text : Bool → List ℕ → List Reading → List ℕ
 listed_text lists file rs =
     if lists then flat_map (unlisted_line file) (filter is_unlisted_line rs) else []
 
--- `Listed file text start found walk out`: the conditions before the place of the walk were
--- counted. The list of them was appended to `start`, if it is asked for.
+-- `Listed file text start found walk out`: the conditions before the walk's place were counted.
+-- Their list was appended to `start`, if it is asked for.
 pub record Listed (file : File) (text start : List ℕ) (found : Found) (walk : Walk)
     (out : List ℕ) : Type 0 where
   pub read : List Reading

@@ -1,8 +1,8 @@
 -- Cells: what the code keeps of the cells of a condition's text.
 --
 --   AreCells cells bytes shown          the cells have these bytes, and are shown so
---   SameLeft before shown xs after ys   the text so far and then the cells `xs` are the longer text
---                                       and then the cells `ys`
+--   SameLeft before shown xs after ys   the text so far with the cells `xs` after it is the longer
+--                                       text with the cells `ys` after it
 --   IsUnknownResidual table rules text flags
 --                                       the residual of the text is unknown, and has the tokens
 --                                       with these flags
@@ -26,8 +26,8 @@ pub record AreCells (cells : List Cell) (bytes masked : List ℕ) : Type 0 where
   pub bytes_are : map byte_of cells ≡ bytes
   pub shown_are : map shown cells ≡ masked
 
--- `SameLeft bytes masked xs more longer ys`: bytes and masked bytes, each with those of the cells
--- `xs`, are `more` and `longer`, each with those of `ys`.
+-- `SameLeft bytes masked xs more longer ys`: `bytes` and `masked`, each followed by the bytes of
+-- the cells `xs`, are `more` and `longer`, each followed by the bytes of `ys`.
 pub record SameLeft (bytes masked : List ℕ) (xs : List Cell) (more longer : List ℕ)
     (ys : List Cell) : Type 0 where
   pub bytes_are : bytes ++ map byte_of xs ≡ more ++ map byte_of ys
@@ -42,8 +42,8 @@ pub record IsUnknownResidual (table : List Argument) (rules : Rules) (text : Lis
   pub unknown : (residual table rules tree).cond ≡ Unknown
   pub kept : flags ≡ keeps table rules tree
 
--- `IsFound found left cells bytes masked`: these are the bytes of `left` if it was found, else all
--- cells are left.
+-- `IsFound found left cells bytes masked`: if found, `left` has these bytes; else all cells are
+-- left.
 abbrev pub IsFound : Bool → List Cell → List Cell → List ℕ → List ℕ → Type 0
 IsFound true left cells bytes masked = AreCells left bytes masked
 IsFound false left cells bytes masked = left ≡ cells

@@ -1,7 +1,7 @@
 -- Edited lines: what the code knows of a line that it edits.
 --
---   c_reading l scan             the line `l` as it is read in C mode, with this scan
---   IsScannedAlone scan l        the line is scanned as the first of a text, unless the line before
+--   c_reading l scan             the line `l`, read in C mode with this scan
+--   IsScannedAlone scan l        the line is scanned like a text's first, unless the line before
 --                                joins it
 --   is_meant kind text scan      a line with this scan joins no next line, and has this condition
 --   IsCondition l d              the line `l` alone has the directive `d`
@@ -23,11 +23,11 @@ use Rattle.ud_model.specs.output.SimplifiedTexts.{is_read_alone}
 use Rattle.ud_model.specs.declared.kind.Kind.{Kind}
 use Rattle.ud_model.specs.declared.kind.Mode.TheVariants.{C}
 
--- `c_reading l scan`: the line `l` as it is read in C mode, with this scan.
+-- `c_reading l scan`: the line `l`, read in C mode with this scan.
 abbrev pub c_reading : Line → Scan → Reading
 c_reading l scan = record { line = l; mode = C; scan = scan }
 
--- `IsScannedAlone scan l`: unless the line before joins the line `l`, its scan is that of the first
+-- `IsScannedAlone scan l`: unless the line before joins the line `l`, `l` is scanned like the first
 -- line of a text.
 abbrev pub IsScannedAlone : Scan → Line → Type 0
 IsScannedAlone scan l = scan.joins_before ≡ false → scan ≡ scan_after [] C l
@@ -52,7 +52,7 @@ abbrev pub line_if_read : List Argument → Rules → Line → Directive → Lin
 line_if_read table rules l d =
     if is_read_alone table rules l d then left_line table rules l d else l
 
--- `IsEditedTo edited pruned l bytes`: the line `l` was edited to `bytes`, which are other ones, or
+-- `IsEditedTo edited pruned l bytes`: the line `l` was edited to `bytes`, which differ from it, or
 -- it stays.
 abbrev pub IsEditedTo : Bool → List ℕ → Line → List ℕ → Type 0
 IsEditedTo true pruned l bytes = (pruned ≡ bytes) × (bytes_eq bytes (text_of l) ≡ false)

@@ -24,8 +24,8 @@ IsPrunedNext table rules before l edited old new = IsScannedAlone (scan_after be
     (new ≡ old ++ pruned_bytes table rules (next_reading before C l)) ×
     (edited ≡ is_edited table rules (next_reading before C l))
 
--- `Pruned table rules text start count walk out`: the rest of the lines before the place of the
--- walk was appended to `start`, and `count` of them were edited.
+-- `Pruned table rules text start count walk out`: the rest of the lines before the walk's place was
+-- appended to `start`, and `count` of them were edited.
 pub record Pruned (table : List Argument) (rules : Rules) (text start : List ℕ) (count : ℕ)
     (walk : Walk) (out : List ℕ) : Type 0 where
   pub read : List Reading

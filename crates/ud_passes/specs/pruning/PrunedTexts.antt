@@ -1,12 +1,12 @@
--- Pruned texts: the rest of a text of any lines.
+-- Pruned texts: the rest of a text with lines of any length.
 --
 --   pruned_line r        the simplified line, or the line itself if it is too long
 --   pruned_text bytes    the text of such lines
---   edited_count bytes   how many of them have other bytes than the line of the text
+--   edited_count bytes   how many of them differ from the line of the text
 --
--- A line over the limit stays. So the pruned text of a text whose lines fit is the simplified text.
+-- A line over the limit stays. So if all lines fit, the pruned text is the simplified text.
 --
--- Example: with A undefined, `#if A || X` becomes `#if X`, which is one edited line.
+-- Example: with A undefined, `#if A || X` becomes `#if X`: one edited line.
 use Rattle.std.specs.Prelude.{ℕ, suc, List, [], ◌∷◌, map, Bool, not, if◌then◌else◌}
 use Rattle.std.specs.Prelude.{bytes_eq}
 use Rattle.std.specs.List.{concat}
@@ -32,15 +32,15 @@ module _ (table : List Argument) (rules : Rules) where
   abbrev pub pruned_text : List ℕ → List ℕ
   pruned_text bytes = concat (map pruned_bytes (read_as C bytes))
 
-  -- `is_edited r`: the pruned line has other bytes than the line.
+  -- `is_edited r`: the pruned line differs from the line.
   abbrev pub is_edited : Reading → Bool
   is_edited r = not (bytes_eq (pruned_bytes r) (text_of r.line))
 
-  -- `edited_among rs`: how many of these lines are edited.
+  -- `edited_among rs`: the number of edited lines among `rs`.
   abbrev pub edited_among : List Reading → ℕ
   edited_among [] = 0
   edited_among (r ∷ rs) = if is_edited r then suc (edited_among rs) else edited_among rs
 
-  -- `edited_count bytes`: how many lines of the text are edited.
+  -- `edited_count bytes`: the number of edited lines of the text.
   abbrev pub edited_count : List ℕ → ℕ
   edited_count bytes = edited_among (read_as C bytes)

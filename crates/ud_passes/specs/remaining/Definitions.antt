@@ -1,16 +1,16 @@
--- Definitions: the lines of the source that define a symbol of the options, or undefine it.
+-- Definitions: the lines of the source that define or undefine a symbol of the options.
 -- C11 6.10.3 and 6.10.3.5.
 --
 --   is_definer word          the word is `define` or `undef`
---   defines_after table t    the text `t` begins with such a word, and with a listed name after it
+--   defines_after table t    the text `t` begins with such a word and then a listed name
 --   defines table t          the text `t` begins with `#` and these
---   is_definition table r    the line `r` defines a listed symbol, or undefines it
+--   is_definition table r    the line `r` defines or undefines a listed symbol
 --   IsClear table n t        none of the first `n` bytes of `t` is a `#` before such words
 --
--- White space may come before each of them, and no comment. So the words are in the line as it is
--- and in the masked line: a definition in a comment is none.
+-- White space may precede each of them, but no comment. So the words are in the line itself and in
+-- the masked line: a definition in a comment doesn't count.
 --
--- Example: if the table lists A, ` # define A(x) x` is a definition of it, and `#define AB` is not.
+-- Example: if the table lists A, ` # define A(x) x` is a definition of it, and `#define AB` isn't.
 use Rattle.std.specs.Prelude.{◌≡◌, ℕ, zero, suc, ◌==◌, List, [], ◌∷◌, Bool, false, ◌&&◌, ◌||◌}
 use Rattle.std.specs.Prelude.{Option, Some, None, bytes_eq, codes}
 use Rattle.ud_model.specs.text.Bytes.{number_sign, skip_white, leading_word, skip_word}
@@ -24,8 +24,8 @@ abbrev pub is_definer : List ℕ → Bool
 is_definer word = bytes_eq word (codes "define") || bytes_eq word (codes "undef")
 
 module _ (table : List Argument) where
-  -- `defines_by t`: the text `t` begins with `define` or `undef`, and with a name after it that the
-  -- table lists.
+  -- `defines_by t`: the text `t` begins with `define` or `undef`, and then a name that the table
+  -- lists.
   abbrev pub defines_by : List ℕ → Bool
   defines_by t =
       is_definer (leading_word t) && is_listed table (leading_word (skip_white (skip_word t)))
@@ -34,7 +34,7 @@ module _ (table : List Argument) where
   abbrev pub defines_after : List ℕ → Bool
   defines_after t = defines_by (skip_white t)
 
-  -- `defines_if rest`: there is a text `rest` that begins so.
+  -- `defines_if rest`: there is a text `rest`, and it begins so.
   abbrev pub defines_if : Option (List ℕ) → Bool
   defines_if None = false
   defines_if (Some rest) = defines_after rest
@@ -44,7 +44,7 @@ module _ (table : List Argument) where
   defines t = defines_if (skip_white_and_hash t)
 
   -- `is_definition r`: only white space precedes the line `r` on its logical line, and the line
-  -- begins so, as it is and masked.
+  -- begins so, unmasked and masked.
   abbrev pub is_definition : Reading → Bool
   is_definition r = r.scan.fresh && (defines r.scan.masked && defines r.line.body)
 

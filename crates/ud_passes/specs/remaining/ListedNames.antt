@@ -4,9 +4,9 @@
 --   has_listed table in_word text   a word of the text is a name that the table lists
 --   names_listed table m            the mention `m` has such a name
 --
--- A word is a longest run of word bytes. So `VMS2` isn't the word `VMS`, and neither is `0VMS`.
+-- A word is a longest run of word bytes. So neither `VMS2` nor `0VMS` is the word `VMS`.
 --
--- Example: if the table lists A, ` defined(A)` has its name, and ` AB || x.a` has not.
+-- Example: if the table lists A, ` defined(A)` has its name, and ` AB || x.a` doesn't.
 use Rattle.std.specs.Prelude.{ℕ, List, [], ◌∷◌, Bool, true, false, ◌&&◌, ◌||◌}
 use Rattle.ud_model.specs.text.Bytes.{is_word_byte, leading_word}
 use Rattle.ud_model.specs.conditions.Table.{Argument}
@@ -24,8 +24,8 @@ module _ (table : List Argument) where
   has_listed false (b ∷ bs) = (is_word_byte b && is_listed table (leading_word (b ∷ bs))) ||
       has_listed (is_word_byte b) bs
 
-  -- `names_by class after`: a mention of this class, with the text `after`, has such a name. Each
-  -- definition has.
+  -- `names_by class after`: a mention of this class, with the text `after`, has such a name. Every
+  -- definition does.
   abbrev pub names_by : Class → List ℕ → Bool
   names_by Definition after = true
   names_by class after = has_listed false after

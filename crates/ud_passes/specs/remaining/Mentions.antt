@@ -3,18 +3,18 @@
 --
 --   Mention                          a condition, a definition of a listed symbol, or an `#else` or
 --                                    `#endif`, and what follows its keyword
---   mention_on table r               the mention that begins on the line `r`, if there is one
+--   mention_on table r               the mention that begins on the line `r`, if any
 --   joined_text goes_on rs           the masked text of the first of the lines `rs`, as far as each
 --                                    one joins the next
 --   mentions_in table inside rs      the mentions of the lines `rs`
 --   mentions_of table mode bytes     the mentions of a text
 --
 -- In a condition a comment is shown as spaces. After an `#else` or `#endif` it is shown as it is,
--- as far as the line goes. A mention whose comment never closes ends with the text. A line over the
--- limit has no mention, adds nothing to one, and joins no other line.
+-- up to the end of the line. A mention whose comment never closes ends with the text. A line over
+-- the limit has no mention, adds nothing to one, and joins no other line.
 --
--- Example: `#if A \` and `|| B /* c */` are one condition with the text ` A || B        `, which
--- has the number and the body of its first line.
+-- Example: `#if A \` and `|| B /* c */` are one condition with the text ` A || B        `, and the
+-- number and body of its first line.
 use Rattle.std.specs.Prelude.{ℕ, ◌-◌, List, [], ◌∷◌, ◌++◌, length, drop, Bool, true, false, ◌&&◌}
 use Rattle.std.specs.Prelude.{Option, Some, None, if◌then◌else◌}
 use Rattle.ud_model.specs.text.Scans.{Reading, is_spanning}
@@ -33,7 +33,7 @@ use Rattle.ud_passes.specs.declared.remaining.mentions.Class.TheVariants.{Closin
 
 -- A line that may name a symbol.
 pub record Mention : Type 0 where
-  -- The number and the body of the line on which it begins.
+  -- The number and the body of the line it begins on.
   pub number : ℕ
   pub body : List ℕ
   -- That line is joined to a neighbour.
@@ -48,8 +48,8 @@ class_of Else = Closing
 class_of Endif = Closing
 class_of kind = Condition kind
 
--- `shown_after r d class`: what follows the keyword of the directive `d`, which has this class, on
--- the line `r`.
+-- `shown_after r d class`: what follows the keyword of the directive `d` of this class on the line
+-- `r`.
 abbrev pub shown_after : Reading → Directive → Class → List ℕ
 shown_after r d Closing = drop (length r.scan.masked - length d.after) r.line.body
 shown_after r d class = d.after
@@ -83,8 +83,8 @@ mention_at r class after = record {
 abbrev pub with_text : Mention → List ℕ → Mention
 with_text m more = record m { after = m.after ++ more }
 
--- `begun found more inside others`: a mention that was found, with the text `more` and the mentions
--- `inside` after it. If none was, the mentions `others`.
+-- `begun found more inside others`: the mention `found` with the text `more`, then the mentions
+-- `inside`; or the mentions `others` if none was found.
 abbrev pub begun : Option Mention → List ℕ → List Mention → List Mention → List Mention
 begun None more inside others = others
 begun (Some m) more inside others = with_text m more ∷ inside
@@ -101,8 +101,8 @@ module _ (table : List Argument) where
   abbrev pub mention_on : Reading → Option Mention
   mention_on r = if fits r.line then mention_by r (content_of r.scan) else None
 
-  -- `mentions_in inside rs`: the mentions of the lines `rs`. `inside`: the line before them is of a
-  -- mention, and joins them. A logical line has one mention at most.
+  -- `mentions_in inside rs`: the mentions of the lines `rs`. `inside`: the line before them belongs
+  -- to a mention, and joins them. A logical line has at most one mention.
   abbrev pub mentions_in : Bool → List Reading → List Mention
   mentions_in inside [] = []
   mentions_in true (r ∷ rs) = mentions_in (joins_next r) rs

@@ -1,16 +1,16 @@
--- Reasons: why a condition stays that names a symbol of the options, though operands are removed.
--- `ud_model.specs.output.LeftOperands` has the law of which these are the cases.
+-- Reasons: why a condition that names a symbol of the options stays, though operands are removed.
+-- These are the cases of the law in `ud_model.specs.output.LeftOperands`.
 --
 --   why_stays table rules kind m   the reason of the condition `m`
---   reason_of table listing m      the reason that the list has for the mention `m`, if it has one
+--   reason_of table listing m      the reason that the list gives for the mention `m`, if any
 --   phrase reason                  the reason in words
---   reason_text reason             the same before the text of a line, if there is one
+--   reason_text reason             the same before the text of a line, if any
 --
--- The first reason that holds counts. A condition of which no operand can be removed, and which
--- names no listed symbol as an operand, names one among the arguments of a call.
+-- The first reason that applies counts. A condition from which no operand can be removed, and which
+-- names no listed symbol as an operand, names one in the arguments of a call.
 --
--- Example: with A undefined, `#if F(A)` stays for its arguments, `#if A + X` since an operand is
--- unknown, and `#if!A||X` since its rest would be `#ifX`.
+-- Example: with A undefined, `#if F(A)` stays for its arguments, `#if A + X` because an operand is
+-- unknown, and `#if!A||X` because its rest would be `#ifX`.
 use Rattle.std.specs.Prelude.{ℕ, List, [], ◌++◌, length, Bool, not, ◌||◌, leb, Option, Some, None}
 use Rattle.std.specs.Prelude.{codes, if◌then◌else◌}
 use Rattle.std.specs.List.{list_any}
@@ -59,14 +59,14 @@ module _ (table : List Argument) (rules : Rules) where
       else InArguments
 
   -- `why_unknown test after`: the reason of an unknown condition, by its test. An `#ifdef` with a
-  -- word that is listed would be decided if it were understood.
+  -- listed word would be decided if it were understood.
   abbrev pub why_unknown : Test → List ℕ → Reason
   why_unknown Nonzero after = why_tree (expression_of after)
   why_unknown Defined after = NotUnderstood
   why_unknown Undefined after = NotUnderstood
   why_unknown Nothing after = NotUnderstood
 
-  -- `why_stays kind m`: why the condition `m` stays, whose directive has this kind, if one of its
+  -- `why_stays kind m`: why the condition `m` of a directive of this kind stays, if one of its
   -- words is listed.
   abbrev pub why_stays : Kind → Mention → Reason
   why_stays kind m =
@@ -75,8 +75,8 @@ module _ (table : List Argument) (rules : Rules) where
       then why_unknown (test_of kind) m.after
       else Decided
 
--- `reason_by table class listing m`: the reason that the list has for the mention `m`, which has
--- this class.
+-- `reason_by table class listing m`: the reason that the list gives for the mention `m` of this
+-- class.
 abbrev pub reason_by : List Argument → Class → Listing → Mention → Option Reason
 reason_by table Definition listing m = Some SourceDefines
 reason_by table Closing listing m = Some InComment
@@ -84,7 +84,7 @@ reason_by table (Condition kind) (Explained rules) m =
     Some (why_stays table (as_rules rules) kind m)
 reason_by table (Condition kind) listing m = None
 
--- `reason_of table listing m`: the reason that the list has for the mention `m`, if it has one.
+-- `reason_of table listing m`: the reason that the list gives for the mention `m`, if any.
 abbrev pub reason_of : List Argument → Listing → Mention → Option Reason
 reason_of table listing m = reason_by table m.class listing m
 
@@ -99,7 +99,7 @@ phrase UnknownOperand = codes "an operand is unknown"
 phrase SourceDefines = codes "the source defines it"
 phrase InComment = codes "a comment names it"
 
--- `reason_text reason`: the reason in words before the text of a line, if there is one.
+-- `reason_text reason`: the reason in words before the text of a line, if any.
 abbrev pub reason_text : Option Reason → List ℕ
 reason_text None = []
 reason_text (Some reason) = phrase reason ++ codes ": "

@@ -2,9 +2,9 @@
 --
 --   line_of table listing name m        the line of the list for a mention of the file `name`
 --   remaining_text table listing ..     the list of a file's text
---   remaining_count table mode bytes    how many conditions it has
---   defined_count table mode bytes      how many definitions it has
---   AddsAll table mode name text ..     those of a text were counted, and listed
+--   remaining_count table mode bytes    the number of its conditions
+--   defined_count table mode bytes      the number of its definitions
+--   AddsAll table mode name text ..     the mentions of a text were counted, and listed
 --
 -- Example: if the table lists A, the list of `x.c` with the lines `int x;`, `#if A + X` and `#endif
 -- // A` has the line `x.c:2: #if A + X`, or with reasons `x.c:2: an operand is unknown: #if A + X`.
@@ -41,11 +41,11 @@ module _ (table : List Argument) where
   line_of listing name m = place_at name m.number ++ reason_text (reason_of table listing m) ++
       m.body ++ newline ∷ []
 
-  -- `lines_for listing name ms`: the lines for those of the mentions that name a listed symbol.
+  -- `lines_for listing name ms`: the lines for the mentions that name a listed symbol.
   abbrev pub lines_for : Listing → List ℕ → List Mention → List ℕ
   lines_for listing name ms = flat_map (line_of listing name) (filter (names_listed table) ms)
 
-  -- `named_count ms`: how many of the mentions are conditions that name a listed symbol.
+  -- `named_count ms`: the number of mentions that are conditions and name a listed symbol.
   abbrev pub named_count : List Mention → ℕ
   named_count ms = length (filter (λ m. is_condition m.class && names_listed table m) ms)
 
@@ -53,19 +53,19 @@ module _ (table : List Argument) where
   abbrev pub remaining_text : Listing → Mode → List ℕ → List ℕ → List ℕ
   remaining_text listing mode name bytes = lines_for listing name (mentions_of table mode bytes)
 
-  -- `remaining_count mode bytes`: how many conditions of the text name a listed symbol.
+  -- `remaining_count mode bytes`: the number of conditions of the text that name a listed symbol.
   abbrev pub remaining_count : Mode → List ℕ → ℕ
   remaining_count mode bytes = named_count (mentions_of table mode bytes)
 
--- `defining_count ms`: how many of the mentions are definitions.
+-- `defining_count ms`: the number of mentions that are definitions.
 abbrev pub defining_count : List Mention → ℕ
 defining_count ms = length (filter (λ m. is_defining m.class) ms)
 
--- `defined_count table mode bytes`: how many lines of the text define a listed symbol.
+-- `defined_count table mode bytes`: the number of lines of the text that define a listed symbol.
 abbrev pub defined_count : List Argument → Mode → List ℕ → ℕ
 defined_count table mode bytes = defining_count (mentions_of table mode bytes)
 
--- The numbers of the conditions and the definitions of some texts, and the list.
+-- The numbers of conditions and definitions in some texts, and the list.
 pub record RemainingState : Type 0 where
   pub listing : Listing
   pub count : ℕ

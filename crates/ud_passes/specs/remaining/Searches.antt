@@ -2,12 +2,12 @@
 --
 --   as_mention b after           the mention that has begun, with the text `after`
 --   begun_as b after             the same, if one has begun
---   taken table p r              the mention `p` with the text of the line `r`, or else the one
+--   taken table p r              the mention `p` with the text of the line `r`, or the one
 --                                that begins there
---   rest_from table p goes_on rs the mention `p`, which may go on, and those of the lines `rs`
---   ended p                      the mention `p`, which ended
+--   rest_from table p goes_on rs the mention `p`, which may go on, and the mentions of `rs`
+--   ended p                      the ended mention `p`
 --   IsTaken table p r q goes_on  `q` is the mention after the line `r`
---   Appends table .. ms          those of the mentions `ms` that name a listed symbol were counted
+--   Appends table .. ms          the mentions among `ms` that name a listed symbol were counted
 --                                and appended
 --   EndsLine table ..            a line was taken, and its mention goes on or was appended
 --   Searched table ..            the text before a place was searched
@@ -48,30 +48,30 @@ ended None = []
 ended (Some m) = m ∷ []
 
 module _ (table : List Argument) where
-  -- `extended p r`: the mention `p` with the text of the line `r`, which fits, or else the mention
-  -- that begins on it.
+  -- `extended p r`: the mention `p` with the text of the line `r`, which fits; or the mention that
+  -- begins there.
   abbrev pub extended : Option Mention → Reading → Option Mention
   extended None r = mention_by table r (content_of r.scan)
   extended (Some m) r = Some (with_text m r.scan.masked)
 
-  -- `taken p r`: the same of a line that may be too long.
+  -- `taken p r`: the same for a line that may be too long.
   abbrev pub taken : Option Mention → Reading → Option Mention
   taken None r = mention_on table r
   taken (Some m) r = Some (with_text m (masked_of r))
 
-  -- `rest_from p goes_on rs`: the mention `p`, with the text of those of the lines `rs` that join
-  -- it if it goes on, and the other mentions of the lines.
+  -- `rest_from p goes_on rs`: the mention `p`, with the text of the lines among `rs` that continue
+  -- it if it goes on, and the other mentions of `rs`.
   abbrev pub rest_from : Option Mention → Bool → List Reading → List Mention
   rest_from None goes_on rs = mentions_in table false rs
   rest_from (Some m) goes_on rs =
       with_text m (joined_text goes_on rs) ∷ mentions_in table goes_on rs
 
-  -- `IsTaken p r q goes_on`: the line `r` was taken after the mention `p`, which is then `q`. The
-  -- line goes on with the next one or not.
+  -- `IsTaken p r q goes_on`: the line `r` was taken after the mention `p`, which is then `q`.
+  -- `goes_on`: the line joins the next one.
   abbrev pub IsTaken : Option Mention → Reading → Option Mention → Bool → Type 0
   IsTaken p r q goes_on = (q ≡ taken p r) × (goes_on ≡ joins_next r)
 
--- `Appends table name ms old new`: those of the mentions `ms` of the file `name` that name a listed
+-- `Appends table name ms old new`: the mentions among `ms` of the file `name` that name a listed
 -- symbol were appended. Conditions and definitions were counted, unless their count is at its
 -- limit.
 pub record Appends (table : List Argument) (name : List ℕ) (ms : List Mention)
@@ -83,20 +83,20 @@ pub record Appends (table : List Argument) (name : List ℕ) (ms : List Mention)
       new.defined ≡ old.defined + defining_count ms
   pub listing_is : new.listing ≡ old.listing
 
--- `EndsLine table name p goes_on old new q`: a line with the mention `p` was taken, which goes on
--- or not. If it goes on, `q` is this mention. Else the mention was appended, and `q` is none.
+-- `EndsLine table name p goes_on old new q`: a line with the mention `p` was taken. If it goes on,
+-- `q` is this mention. Else the mention was appended, and `q` is none.
 abbrev pub EndsLine : List Argument → List ℕ → Option Mention → Bool → Search → Search →
     Option Mention → Type 0
 EndsLine table name p true old new q = Appends table name [] old new × (q ≡ p)
 EndsLine table name p false old new q = Appends table name (ended p) old new × (q ≡ None)
 
--- `IsClearTo table until t`: no `#` in the text `t`, but for its last `until` bytes, has a
+-- `IsClearTo table until t`: no `#` in the text `t`, except in its last `until` bytes, has a
 -- definition after it.
 abbrev pub IsClearTo : List Argument → ℕ → List ℕ → Type 0
 IsClearTo table until t = IsClear table (length t - until) t
 
--- `Searched table mode name text start now place walk`: the text before the place of the walk was
--- searched. `start` is what was there before.
+-- `Searched table mode name text start now place walk`: the text before the walk's place was
+-- searched. `start` is the search before it.
 pub record Searched (table : List Argument) (mode : Mode) (name text : List ℕ)
     (start now : Search) (place : Place) (walk : Walk) : Type 0 where
   pub read : List Reading

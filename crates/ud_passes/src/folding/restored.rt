@@ -17,7 +17,7 @@ use std::alloc::AllocError;
 use ud_model::{Line, Mode};
 use ud_text::Scanner;
 
-/// Appends the bytes that a byte stands for, which is masked so, in a line with this ending.
+/// Appends the bytes that a byte with this masked form represents, in a line with this ending.
 ///
 /// # Errors
 /// Fails if memory runs out.
@@ -36,7 +36,7 @@ fn append_byte(ending: &[u8], byte: u8, masked: u8, out: &mut Vec<u8>) -> Result
     out.extend_from_slice(ending)
 }
 
-/// Appends the lines that a body stands for, which is masked so, without the last ending.
+/// Appends the lines that a body represents if it is masked so, without the last ending.
 ///
 /// # Errors
 /// Fails if memory runs out.
@@ -58,7 +58,7 @@ fn append_body(
     Ok(())
 }
 
-/// Appends the lines that a line stands for, by its scan as the first line of a text.
+/// Appends the lines that a line represents, by its scan as the first line of a text.
 ///
 /// # Errors
 /// Fails if memory runs out.
@@ -80,7 +80,7 @@ fn append_restored_line(line: &Line<'_>, out: &mut Vec<u8>) -> Result<(), AllocE
     Ok(())
 }
 
-/// Takes the next line, and appends the lines that it stands for.
+/// Takes the next line, and appends the lines that it represents.
 ///
 /// # Errors
 /// Fails if memory runs out.
@@ -103,10 +103,10 @@ fn step(walk: &mut Walk<'_>, out: &mut Vec<u8>) -> Result<(), AllocError>
     Ok(())
 }
 
-/// Appends a restored text, as `restore`.
+/// Appends a restored text, as `restore` does.
 ///
 /// # Errors
-/// Fails if memory runs out. `out` has then perhaps more bytes.
+/// Fails if memory runs out. `out` may then have more bytes.
 fn append_restored(text: &[u8], out: &mut Vec<u8>) -> Result<(), AllocError>
     ensures grows { Grows out.old.items out.new.items }
     ensures restored { OnOk result (out.new.items ≡ out.old.items ++ restored_text text.now) }
@@ -122,7 +122,7 @@ fn append_restored(text: &[u8], out: &mut Vec<u8>) -> Result<(), AllocError>
 ///
 /// `text` may have any length and any bytes. A vertical tab outside comments becomes a splice: a
 /// backslash and the line's ending. One in a comment becomes the ending. A line over `LINE_BYTES`
-/// stays. `out` may have any bytes, which stay before those of the text.
+/// stays. `out` may have any bytes, which stay.
 ///
 /// # Errors
 /// Fails if memory runs out. `out` is then as before.

@@ -1,4 +1,4 @@
-//! Whether the one line that lines form is read as they are.
+//! Whether the single line that lines form is read like them.
 
 ghost use Rattle.std.specs.Prelude.{◌≡◌, ◌≤◌, [], length, not, true, ◌&&◌, IfOk};
 ghost use Rattle.ud_model.specs.text.Lines.{Line as TextLine, NoNewline, text_of, is_ending};
@@ -17,10 +17,10 @@ use ud_model::{LINE_BYTES, Line, Mode, Scan};
 use ud_sections::directive;
 use ud_text::{Scanner, line_in};
 
-/// The vertical tab, which stands for a newline that continues a directive.
+/// The vertical tab, which represents a newline that continues a directive.
 pub(crate) const VERTICAL_TAB: u8 = 11;
 
-/// Returns whether bytes have a vertical tab.
+/// Returns whether there is a vertical tab among the bytes.
 pub(crate) fn has_tab(bytes: &[u8]) -> bool
     ensures { result ≡ spec.has_tab bytes.now }
 {
@@ -41,7 +41,7 @@ fn is_blank(byte: u8) -> bool
     matches!(byte, b' ' | b'\t' | 12 | b'\r')
 }
 
-/// Returns whether other white space, or the line's end, is beside each vertical tab.
+/// Returns whether each vertical tab is next to other white space or the line's end.
 fn tabs_are_beside(shown: &[u8]) -> bool
     ensures { result ≡ tabs_are_beside true shown.now }
 {
@@ -63,7 +63,7 @@ fn tabs_are_beside(shown: &[u8]) -> bool
     true
 }
 
-/// Returns whether masked bytes have no quote, and white space beside each vertical tab.
+/// Returns whether masked bytes have no quote, and white space next to each vertical tab.
 fn are_apart(shown: &[u8]) -> bool
     ensures { result ≡ (spec.has_no_quote shown.now && tabs_are_beside true shown.now) }
 {
@@ -71,7 +71,7 @@ fn are_apart(shown: &[u8]) -> bool
 }
 
 /// Returns whether a line with this scan is a directive that joins no next line, with these masked
-/// bytes. They have no quote, and white space beside each vertical tab.
+/// bytes. They have no quote, and white space next to each vertical tab.
 fn is_shown_as(scan: &Scan<'_>, shown: &[u8]) -> bool
     ensures { result ≡ is_shown_as (as_scan scan.now) shown.now }
 {
@@ -99,7 +99,7 @@ fn is_shown(alloc: Global, line: &Line<'_>, shown: &[u8]) -> Result<bool, AllocE
     Ok(is_shown_as(&scan, shown))
 }
 
-/// Returns whether bytes are a line with this ending, which fits and is shown so by itself.
+/// Returns whether bytes are a line with this ending that fits and, by itself, is shown so.
 ///
 /// # Errors
 /// Fails if memory runs out.

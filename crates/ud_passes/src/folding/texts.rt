@@ -24,7 +24,7 @@ use crate::walk::{LineScanner, Stretch, Walk};
 use std::alloc::AllocError;
 use ud_model::{Line, Mode};
 
-/// Reads a line, and takes it after the lines that go on.
+/// Reads a line, and takes it after the pending lines.
 ///
 /// # Errors
 /// Fails if memory runs out.
@@ -51,7 +51,7 @@ fn take<'t>(
     logical.take(begun, line, &scan, out)
 }
 
-/// Returns how many bytes of text lines may be passed at once: none if a directive goes on.
+/// Returns how many bytes of text lines may be skipped at once: none while a directive goes on.
 fn passable_len(begun: Option<Last<'_>>) -> usize
     ensures { is_some begun.entry ≡ true → result ≡ 0 }
 {
@@ -61,7 +61,7 @@ fn passable_len(begun: Option<Last<'_>>) -> usize
     }
 }
 
-/// Takes the next lines after those that go on.
+/// Takes the next lines after the pending ones.
 ///
 /// # Errors
 /// Fails if memory runs out.
@@ -95,10 +95,10 @@ fn step<'t>(
     }
 }
 
-/// Appends a folded text without a vertical tab, as `fold`.
+/// Appends a text without a vertical tab folded, as `fold` does.
 ///
 /// # Errors
-/// Fails if memory runs out. `out` has then perhaps more bytes.
+/// Fails if memory runs out. `out` may then have more bytes.
 fn append_lines(text: &[u8], out: &mut Vec<u8>) -> Result<(), AllocError>
     ensures grows { Grows out.old.items out.new.items }
     ensures folded { OnOk result
@@ -115,10 +115,10 @@ fn append_lines(text: &[u8], out: &mut Vec<u8>) -> Result<(), AllocError>
     Ok(())
 }
 
-/// Appends a folded text, as `fold`.
+/// Appends a folded text, as `fold` does.
 ///
 /// # Errors
-/// Fails if memory runs out. `out` has then perhaps more bytes.
+/// Fails if memory runs out. `out` may then have more bytes.
 fn append_folded(text: &[u8], out: &mut Vec<u8>) -> Result<(), AllocError>
     ensures grows { Grows out.old.items out.new.items }
     ensures folded { OnOk result (out.new.items ≡ out.old.items ++ folded_text text.now) }
@@ -129,13 +129,11 @@ fn append_folded(text: &[u8], out: &mut Vec<u8>) -> Result<(), AllocError>
     append_lines(text, out)
 }
 
-/// Appends a text to `out`, with one line in place of each conditional directive over several
-/// lines.
+/// Appends a text to `out`, with each conditional directive on one line.
 ///
-/// `text` may have any length and any bytes. A vertical tab stands for each newline that continues
-/// the directive. A directive that wouldn't be read as its lines stays, and so does a text that has
-/// a vertical tab. `out` may have any bytes, which stay before those of the text. The text is read
-/// in C mode.
+/// `text` may have any length and any bytes. A vertical tab replaces each newline that continues a
+/// directive. A directive that wouldn't be read like its lines stays, and so does a text that has a
+/// vertical tab. `out` may have any bytes, which stay. The text is read in C mode.
 ///
 /// (C11 5.1.1.2, phases 2 and 3, and 6.10p5)
 ///

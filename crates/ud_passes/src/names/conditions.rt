@@ -24,7 +24,7 @@ fn has_name(kind: Kind, text: &[u8]) -> bool
     names(kind, text).next().is_some()
 }
 
-/// Returns whether a text is one expression, by reading it without a symbol.
+/// Returns whether a text is one expression, by reading it without symbols.
 #[inline(never)]
 fn reads_as_expression(alloc: Global, text: &[u8]) -> bool
     requires fits { length text.now ≤ LINE_BYTES }
@@ -50,7 +50,7 @@ fn is_expression(alloc: Global, text: &[u8]) -> bool
     reads_as_expression(alloc, text)
 }
 
-/// Returns whether the text after a keyword is understood, by the test that it is for.
+/// Returns whether the text after a keyword of this kind is understood.
 fn is_understood(alloc: Global, kind: Kind, text: &[u8]) -> bool
     requires fits { length text.now ≤ LINE_BYTES }
     ensures { result ≡ is_understood (test_of kind) text.now }

@@ -17,19 +17,19 @@ use std::alloc::{AllocError, Global};
 use std::cmp::Ordering;
 use ud_text::line_in;
 
-/// How wide the numbers of the table are, as those of `uniq -c`.
+/// The width of the table's counts, like in `uniq -c`.
 const WIDTH: usize = 7;
 
 /// A row of the table.
 #[derive(Clone, Copy)]
 pub(crate) struct Row<'a> {
-    /// How often the name occurs.
+    /// The number of times that the name occurs.
     count: usize,
     /// The name.
     name: &'a [u8],
 }
 
-/// Returns the names of a list, each of which is a line.
+/// Returns the names of a list, each a line.
 ///
 /// # Errors
 /// Fails if memory runs out.
@@ -46,7 +46,7 @@ fn names_in(alloc: Global, list: &[u8]) -> Result<Vec<&[u8]>, AllocError>
     Ok(names)
 }
 
-/// Returns how many names are `name` before the first other one.
+/// Returns how many names are `name` before the first different one.
 fn leading(names: &[&[u8]], name: &[u8]) -> usize
     ensures within { result ≤ length names.now }
     ensures same { (k : ℕ) → k < result → (d : _) →
@@ -62,7 +62,7 @@ fn leading(names: &[&[u8]], name: &[u8]) -> usize
     names.len()
 }
 
-/// Returns a row for each of the names, which are sorted.
+/// Returns a row for each name. The names are sorted.
 ///
 /// # Errors
 /// Fails if memory runs out.
@@ -154,7 +154,7 @@ fn append_rows(rows: &[Row<'_>], out: &mut Vec<u8>) -> Result<(), AllocError>
 /// Appends the table of the names of a list.
 ///
 /// # Errors
-/// Fails if memory runs out. A part of the table may have been appended.
+/// Fails if memory runs out. Part of the table may have been appended.
 pub(crate) fn append_table(alloc: Global, list: &[u8], out: &mut Vec<u8>) -> Result<(), AllocError>
     ensures grows { Grows out.old.items out.new.items }
     ensures table { OnOk result (Tabulates (names_in list.now) out.old.items out.new.items) }

@@ -23,16 +23,16 @@ use ud_model::{Line, Mode};
 #[derive(Clone, Copy)]
 pub(crate) struct File<'a> {
     pub(crate) name: &'a [u8],
-    /// The mode in which its lines are read.
+    /// The mode for reading its lines.
     pub(crate) mode: Mode,
     /// True if the conditions are listed, too.
     pub(crate) lists: bool,
 }
 
-/// The conditions that were found so far.
+/// The conditions found so far.
 #[derive(Clone, Copy)]
 struct Found {
-    /// The number of them.
+    /// Their number.
     count: usize,
     /// The number of the next line, if the conditions are listed.
     number: usize,
@@ -62,7 +62,7 @@ fn read_line(
 }
 
 impl<'a> File<'a> {
-    /// Returns how many lines text lines are, if they are counted.
+    /// Returns the number of these text lines, if lines are counted.
     fn lines_in(self, bytes: &[u8]) -> usize
         ensures count { self.entry.lists ≡ true → result ≡ length (whole_lines bytes.now) }
         ensures few { result ≤ length bytes.now }
@@ -142,7 +142,7 @@ impl<'a> File<'a> {
     /// listed.
     ///
     /// # Errors
-    /// Fails if memory runs out. A part of the list may have been appended.
+    /// Fails if memory runs out. Part of the list may have been appended.
     pub(crate) fn append_unlisted(
         self,
         alloc: Global,

@@ -1,6 +1,6 @@
-//! The text of a condition, as it is and as it is shown.
+//! The text of a condition, with its masked form.
 //!
-//! Both are kept side by side: each byte of a comment is shown as a space.
+//! Both are kept side by side. Each byte of a comment is shown as a space.
 
 ghost use Rattle.std.specs.Prelude.{◌≡◌, ◌++◌, List, [], take, drop, OnOk, if◌then◌else◌};
 ghost use Rattle.ud_model.specs.text.Lexemes.{Cell};
@@ -8,7 +8,7 @@ ghost use Rattle.ud_passes.specs.pruning.Cells.{AreCells};
 
 use std::alloc::{AllocError, Global};
 
-/// Bytes of a condition's text, and how they are shown.
+/// Bytes of a condition's text, and their masked form.
 #[derive(Clone, Copy)]
 pub(crate) struct CellBytes<'a> {
     /// The bytes.
@@ -17,7 +17,7 @@ pub(crate) struct CellBytes<'a> {
     pub(crate) shown: &'a [u8],
 }
 
-/// The text that is left of a condition.
+/// The rest of a condition's text.
 #[derive(Drop)]
 pub(crate) struct LeftText {
     /// Its bytes.
@@ -26,7 +26,7 @@ pub(crate) struct LeftText {
     pub(crate) shown: Vec<u8>,
 }
 
-/// Splits bytes after the first `count`, or at their end if they are fewer.
+/// Splits bytes after the first `count`, or at their end if there are fewer.
 pub(crate) fn split_bytes(bytes: &[u8], count: usize) -> (&[u8], &[u8])
     ensures front { result.0.now ≡ take count bytes.now }
     ensures back { result.1.now ≡ drop count bytes.now }
@@ -49,7 +49,7 @@ impl<'a> CellBytes<'a> {
         }
     }
 
-    /// Splits the bytes after the first `count`, or at their end if they are fewer.
+    /// Splits the bytes after the first `count`, or at their end if there are fewer.
     pub(crate) fn split_at(self, count: usize) -> (CellBytes<'a>, CellBytes<'a>)
         ensures front { (cells : List Cell) →
             AreCells cells self.entry.bytes.now self.entry.shown.now →

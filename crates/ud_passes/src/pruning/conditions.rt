@@ -1,7 +1,7 @@
 //! The rest of a condition.
 //!
-//! `residual` gives a flag for each token, by which the text that is left is copied. It takes the
-//! place of the text if it has the tokens that are left, and is as undecided as they are.
+//! `residual` gives a flag for each token, and the flags decide what is copied. The copy replaces
+//! the text if it has exactly the tokens that are left, and is still unknown.
 
 ghost use Rattle.std.specs.Prelude.{◌≡◌, ◌≤◌, ◌&&◌, List, length, map, true, false, Some, IfOk};
 ghost use Rattle.std.specs.Prelude.{IsTrue};
@@ -67,7 +67,7 @@ fn is_read(text: &[u8], flags: &[bool], left: &[u8]) -> bool
     has_tokens(text, flags, left)
 }
 
-/// Returns whether the rest of a text is read so, and is unknown.
+/// Returns whether the rest of a text has the tokens with a true flag, and is unknown.
 fn may_stand(text: &[u8], flags: &[bool], left: &[u8], symbols: &Symbols, rules: Rules) -> bool
     requires fits { length left.now ≤ LINE_BYTES }
     ensures { (calls : List Argument) → TableRepresents symbols.now calls → (e : Expression) →
@@ -83,7 +83,7 @@ fn may_stand(text: &[u8], flags: &[bool], left: &[u8], symbols: &Symbols, rules:
 }
 
 impl LeftCondition {
-    /// Returns nothing.
+    /// Returns an empty rest.
     pub(crate) fn new(alloc: Global) -> LeftCondition {
         LeftCondition {
             flags: TokenFlags::new(),
@@ -106,8 +106,8 @@ impl LeftCondition {
         }
     }
 
-    /// Finds the rest of the text of an `#if` or `#elif` without a quote. Returns whether it
-    /// may take the text's place.
+    /// Finds the rest of the text of an `#if` or `#elif` without a quote. Returns whether it may
+    /// replace the text.
     ///
     /// # Errors
     /// Fails if memory runs out.

@@ -1,7 +1,7 @@
 //! The rest of a condition's text by the flags of its tokens.
 //!
 //! White space after an operand belongs to the token after it, other white space to the token
-//! before it. It stays or goes with that token, but stays if a comment is in it
+//! before it. It stays or goes with that token, but stays if it has a comment
 //! (`ud_model.specs.conditions.ResidualTexts.left_from`).
 
 ghost use Rattle.std.specs.Prelude.{◌≡◌, ◌≤◌, ◌+◌, ◌||◌, ◌∷◌, ◌++◌, List, Bool, [], length, not};
@@ -43,7 +43,7 @@ fn ends_operand(token: Token<'_>) -> bool
     }
 }
 
-/// Returns whether white space before a token stays. `flag` is whether the token does.
+/// Returns whether white space before a token stays. `flag`: the token stays.
 fn gap_stays(place: Place<'_>, flag: bool, gap: &[u8]) -> bool
     ensures { result ≡ ((if place.entry.operand then flag else place.entry.stays) ||
         not (are_white gap.now)) }
@@ -52,8 +52,8 @@ fn gap_stays(place: Place<'_>, flag: bool, gap: &[u8]) -> bool
     stays || !are_white(gap)
 }
 
-/// Appends the rest of the first token of a text and of the white space before it. `flag` is
-/// whether the token stays. Returns the place after it. A text without a token stays.
+/// Appends the rest of the first token of a text and the white space before it. `flag`: the token
+/// stays. Returns the place after it. A text without a token stays.
 ///
 /// # Errors
 /// Fails if memory runs out.

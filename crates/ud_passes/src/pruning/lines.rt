@@ -1,7 +1,7 @@
 //! The rest of a line.
 //!
-//! The condition of an `#if` or `#elif` that joins no other line is edited. The edited line is then
-//! read by itself. It takes the line's place only if it is the line that is meant.
+//! The condition of an `#if` or `#elif` that joins no other line is edited. The edited line
+//! replaces the line only if, by itself, it is read as meant.
 
 ghost use Rattle.std.specs.Prelude.{◌≡◌, ◌≤◌, ◌+◌, List, [], false, length, map, IfOk, IfSome};
 ghost use Rattle.std.specs.Prelude.{IfNone};
@@ -35,7 +35,7 @@ use ud_model::{Kind, Line, Mode, Scan};
 use ud_sections::{Cut, Directive, directive};
 use ud_text::{Scanner, line_in};
 
-/// An editor of lines, with the last line that it edited.
+/// An editor of lines, with the last edited line.
 #[derive(Drop)]
 pub(crate) struct LineEditor {
     condition: LeftCondition,
@@ -119,8 +119,8 @@ fn is_meant(alloc: Global, line: &Line<'_>, kind: Kind, text: &[u8]) -> Result<b
     Ok(is_condition(directive(&scan), kind, text))
 }
 
-/// Returns whether the bytes of an edited line take the place of the line: they are other ones, and
-/// are read as the directive of this kind with this text.
+/// Returns whether the bytes of an edited line replace the line: they differ from it, and are read
+/// as the directive of this kind with this text.
 ///
 /// # Errors
 /// Fails if memory runs out.
@@ -160,8 +160,8 @@ impl LineEditor {
         }
     }
 
-    /// Edits a line with this scan. Returns whether `bytes` has then other bytes, which take the
-    /// line's place.
+    /// Edits a line with this scan. Returns whether `bytes` then has other bytes, which replace the
+    /// line.
     ///
     /// # Errors
     /// Fails if memory runs out.
@@ -194,8 +194,8 @@ impl LineEditor {
         self.edit_condition(line, &found, symbols, rules)
     }
 
-    /// Edits a line with this `#if` or `#elif`. Returns whether `bytes` has then other bytes, which
-    /// take the line's place.
+    /// Edits a line with this `#if` or `#elif`. Returns whether `bytes` then has other bytes, which
+    /// replace the line.
     ///
     /// # Errors
     /// Fails if memory runs out.

@@ -22,7 +22,7 @@ use std::alloc::AllocError;
 use ud_cond::{Rules, Symbols};
 use ud_model::{Line, Mode};
 
-/// Appends the bytes of an edited line, or those of the line if it stays.
+/// Appends the bytes of an edited line, or of the line if it stays.
 ///
 /// # Errors
 /// Fails if memory runs out.
@@ -79,8 +79,8 @@ fn one_if(edited: bool) -> usize
     if edited { 1 } else { 0 }
 }
 
-/// Takes the next lines, and appends the rest of them. Returns how many lines were edited, of which
-/// `count` are before these.
+/// Takes the next lines, and appends the rest of them. Returns how many lines were edited so far;
+/// `count` is the number before these lines.
 ///
 /// # Errors
 /// Fails if memory runs out.
@@ -148,9 +148,9 @@ fn append_pruned(
 /// Appends a text to `out` without the operands of its conditions that the symbols decide. Returns
 /// how many conditions were edited.
 ///
-/// `text` may have any length and any bytes. A line over `LINE_BYTES` stays, and so do a condition
-/// over several lines and one that isn't understood. Bytes are only removed. `out` may have any
-/// bytes, which stay before those of the text. The text is read in C mode.
+/// `text` may have any length and any bytes. A line over `LINE_BYTES` stays, and so does a
+/// condition that spans lines or isn't understood. Bytes are only removed. `out` may have any
+/// bytes, which stay. The text is read in C mode.
 ///
 /// (C11 6.5.13p3, 6.5.14p3, 6.10.1)
 ///

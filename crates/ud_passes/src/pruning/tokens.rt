@@ -70,8 +70,7 @@ fn after_token<'a>(text: &'a [u8], token: Token<'_>) -> Option<&'a [u8]>
     }
 }
 
-/// Returns what follows a token in a text that begins with it if it stays. `flag` is whether it
-/// stays.
+/// Returns what follows this token at the beginning of `left`; `left` itself if `flag` is false.
 fn after_left<'a>(left: &'a [u8], flag: bool, token: Token<'_>) -> Option<&'a [u8]>
     ensures some { IfSome result (λ rest. (flags : List Bool) (tokens : List SpecToken) →
         are_tokens (tokens_of left.now) (chosen (flag ∷ flags) (as_token token.entry ∷ tokens)) ≡
@@ -87,7 +86,7 @@ fn after_left<'a>(left: &'a [u8], flag: bool, token: Token<'_>) -> Option<&'a [u
     }
 }
 
-/// Returns whether a text has no token, and is white space.
+/// Returns whether a text is white space, without a token.
 fn has_no_token(text: &[u8]) -> bool
     ensures { result ≡ are_tokens (tokens_of text.now) [] }
 {

@@ -8,7 +8,7 @@ use crate::lines::{append_body, append_place};
 use crate::remaining::reasons::Reason;
 use std::alloc::AllocError;
 
-/// Appends the line of the list for a mention, with the reason if there is one.
+/// Appends the line of the list for a mention, with the reason if any.
 ///
 /// # Errors
 /// Fails if memory runs out.

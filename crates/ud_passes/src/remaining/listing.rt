@@ -2,13 +2,13 @@
 
 use ud_cond::Rules;
 
-/// The result of a search for what texts say of the symbols.
+/// The result of a search for mentions of the symbols.
 #[derive(Clone, Copy)]
 pub enum Listing {
     /// The numbers of conditions and definitions.
     Counted,
     /// These numbers, and a line for each mention.
     Listed,
-    /// The same. The line of a condition has the reason why it stays under these rules.
+    /// These numbers and lines, with the reason why each condition stays under these rules.
     Explained(Rules),
 }

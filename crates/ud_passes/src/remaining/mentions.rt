@@ -31,7 +31,7 @@ pub(crate) enum Class {
 /// A mention whose logical line may go on, without its text.
 #[derive(Clone, Copy)]
 pub(crate) struct Begun<'t> {
-    /// The number of the line on which it begins.
+    /// The number of the line it begins on.
     pub(crate) number: usize,
     /// The body of that line.
     pub(crate) body: &'t [u8],
@@ -51,7 +51,7 @@ fn class_of(kind: Kind) -> Class
     }
 }
 
-/// Returns what follows the keyword of a directive: masked, or as it is at the end of a group.
+/// Returns what follows the keyword of a directive: masked, but as it is at the end of a group.
 fn shown_after<'a>(
     scan: &Scan<'_>,
     line: &Line<'a>,
@@ -69,7 +69,7 @@ fn shown_after<'a>(
     found.after
 }
 
-/// Returns whether a line defines a symbol, or undefines it.
+/// Returns whether a line defines or undefines a symbol.
 fn is_definition(scan: &Scan<'_>, line: &Line<'_>, symbols: &Symbols) -> bool
     ensures { (calls : List Argument) → TableRepresents symbols.now calls →
         (mode : Mode) (n : ℕ) → result ≡
@@ -91,7 +91,7 @@ fn begun_on<'t>(scan: &Scan<'_>, line: &Line<'t>, number: usize, class: Class) -
     }
 }
 
-/// Begins a mention on a line, if there is one.
+/// Begins the mention on a line, if any.
 ///
 /// # Errors
 /// Fails if memory runs out.
@@ -124,8 +124,8 @@ fn begin<'t>(
     }
 }
 
-/// Takes a line that fits: as a part of the mention that has begun, or else as the line on which
-/// one may begin. `after` is the text of that mention.
+/// Takes a line that fits: as part of the mention that has begun, or else as a line that may begin
+/// one. `after` is the mention's text.
 ///
 /// # Errors
 /// Fails if memory runs out.

@@ -1,4 +1,4 @@
-//! The names of a text that symbols have.
+//! The names in a text that symbols have.
 
 ghost use Rattle.std.specs.Prelude.{◌≡◌, ◌≤◌, List, ℕ, false, length};
 ghost use Rattle.std.specs.List.{list_any};

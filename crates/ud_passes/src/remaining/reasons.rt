@@ -1,4 +1,4 @@
-//! What the list says of a mention: why a condition stays, or what else names the symbol.
+//! The reason in the list for a mention: why a condition stays, or what else names the symbol.
 
 ghost use Rattle.std.specs.Prelude.{◌≡◌, ◌≤◌, List, length, not};
 ghost use Rattle.std.specs.List.{list_any};
@@ -19,25 +19,25 @@ use crate::remaining::names::has_listed_operand;
 use ud_cond::{Rules, Symbols, TokenFlags, condition, residual};
 use ud_model::{Cond, Kind, LINE_BYTES, Test};
 
-/// Why a condition stays that names a symbol, though operands that are decided are removed. Or what
-/// else names a symbol.
+/// The reason why a condition that names a symbol stays, although decided operands are removed; or
+/// what else names a symbol.
 #[derive(Clone, Copy)]
 pub(crate) enum Reason {
     /// It is on several lines.
     SeveralLines,
-    /// Unifdef decides it when it is read as C, but didn't read it so.
+    /// Read as C, the condition is decided, but unifdef didn't read it so.
     Decided,
     /// It isn't understood.
     NotUnderstood,
-    /// The rest of it would be read as something else.
+    /// The rest of the condition would be misread.
     Misread,
-    /// It names symbols among the arguments of calls alone.
+    /// It names symbols only in the arguments of calls.
     InArguments,
-    /// It has an operand that is unknown.
+    /// It has an unknown operand.
     UnknownOperand,
-    /// It is no condition, but a definition in the source.
+    /// It isn't a condition but a definition in the source.
     SourceDefines,
-    /// It is no condition, but what follows an `#else` or `#endif`.
+    /// It isn't a condition but follows an `#else` or `#endif`.
     InComment,
 }
 
@@ -75,8 +75,8 @@ fn has_false(flags: &[bool]) -> bool
     flags.iter().any(|flag| !*flag)
 }
 
-/// Returns why an unknown `#if` or `#elif` stays. The flags are a local of this function, so that
-/// no other one clears their memory.
+/// Returns why an unknown `#if` or `#elif` stays. The flags are local to this function, so no other
+/// one clears their memory.
 #[inline(never)]
 fn why_expression(text: &[u8], symbols: &Symbols, rules: Rules) -> Reason
     requires fits { length text.now ≤ LINE_BYTES }
@@ -109,7 +109,7 @@ fn why_unknown(kind: Kind, text: &[u8], symbols: &Symbols, rules: Rules) -> Reas
     }
 }
 
-/// Returns why a condition stays that names a symbol.
+/// Returns why a condition that names a symbol stays.
 fn why_stays(kind: Kind, begun: &Begun<'_>, after: &[u8], symbols: &Symbols, rules: Rules) -> Reason
     ensures { (calls : List Argument) → TableRepresents symbols.now calls →
         result ≡ spec.why_stays calls (as_rules rules) kind (as_mention begun.now after.now) }
@@ -124,7 +124,7 @@ fn why_stays(kind: Kind, begun: &Begun<'_>, after: &[u8], symbols: &Symbols, rul
     }
 }
 
-/// Returns the reason that the list has for a mention, if it has one.
+/// Returns the reason that the list gives for a mention, if any.
 pub(crate) fn reason_of(
     begun: &Begun<'_>,
     after: &[u8],

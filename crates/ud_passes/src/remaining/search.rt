@@ -29,7 +29,7 @@ use std::alloc::{AllocError, Global};
 use ud_cond::Symbols;
 use ud_model::{Line, Mode};
 
-/// A search for the mentions of texts that name a symbol, and those that were found.
+/// A search for mentions that name a symbol, and those found so far.
 #[derive(Drop)]
 pub(crate) struct Search {
     pub(crate) listing: Listing,
@@ -39,31 +39,31 @@ pub(crate) struct Search {
     pub(crate) defined: usize,
     /// A line for each mention: the file, the line's number, and its text.
     pub(crate) list: Vec<u8>,
-    /// The text of the current mention, with that of the lines that its line joins.
+    /// The text of the current mention, joined lines included.
     after: Vec<u8>,
 }
 
-/// A place of a search, at the beginning of a line.
+/// A position of a search, at the beginning of a line.
 #[derive(Clone, Copy)]
 struct Place<'t> {
     /// The number of the next line.
     number: usize,
-    /// The mention that goes on with the next line, if there is one.
+    /// The mention that goes on with the next line, if any.
     begun: Option<Begun<'t>>,
-    /// The text has no definition from here on, but perhaps in its last bytes: so many.
+    /// From here on, only the last `until` bytes of the text may have a definition.
     until: usize,
 }
 
 /// A line that was read.
 #[derive(Clone, Copy)]
 struct Taken<'t> {
-    /// The mention that has begun before the line or on it, if there is one.
+    /// The mention that began on the line or before it, if any.
     begun: Option<Begun<'t>>,
     /// The line joins the next one.
     goes_on: bool,
 }
 
-/// Reads a line, and takes its text if it is of a mention. `after` is the text of that mention.
+/// Reads a line, and takes its text if it belongs to a mention, whose text is `after`.
 ///
 /// # Errors
 /// Fails if memory runs out.
@@ -105,8 +105,8 @@ fn names_listed(symbols: &Symbols, class: Class, after: &[u8]) -> bool
     }
 }
 
-/// Returns up to how many bytes before its end the text of a walk has no definition, if `until` is
-/// one such number.
+/// Returns how many last bytes of a walk's text may have a definition, given such a number,
+/// `until`, from before.
 fn clear_until(symbols: &Symbols, walk: &Walk<'_>, until: usize) -> usize
     ensures { (calls : List Argument) → TableRepresents symbols.now calls →
         IsClearTo calls until walk.now.rest.now → IsClearTo calls result walk.now.rest.now }
@@ -118,8 +118,8 @@ fn clear_until(symbols: &Symbols, walk: &Walk<'_>, until: usize) -> usize
     rest.len() - clear_len(symbols, rest)
 }
 
-/// Returns how many bytes of text lines may be passed at once: none if a mention goes on, or else
-/// those before the last `until` ones.
+/// Returns how many bytes of text lines may be skipped at once: none if a mention goes on, else all
+/// before the last `until`.
 fn passable_len(place: Place<'_>, walk: &Walk<'_>, until: usize) -> usize
     ensures begun { is_some place.entry.begun ≡ true → result ≡ 0 }
     ensures clear { result ≤ length walk.now.rest.now - until }
@@ -131,7 +131,7 @@ fn passable_len(place: Place<'_>, walk: &Walk<'_>, until: usize) -> usize
 }
 
 impl Search {
-    /// Returns a search that has found no mentions.
+    /// Returns a search that has found no mention.
     pub(crate) fn new(alloc: Global, listing: Listing) -> Search
         ensures none { result.count ≡ 0 }
         ensures undefined { result.defined ≡ 0 }

@@ -2,7 +2,7 @@
 --
 --   IsLeadingKeyword keyword rest   the first word of `rest` is `keyword`
 --
--- Example: `if x` begins with `if`, which has two bytes, and the space and `x` follow it.
+-- Example: `if x` begins with `if`, two bytes, followed by the space and `x`.
 use Rattle.std.specs.Prelude.{◌≡◌, ◌≤◌, ℕ, List, length, drop, Some}
 use Rattle.ud_model.specs.text.Bytes.{leading_word, skip_word}
 use Rattle.ud_model.specs.sections.Directives.{kind_of}

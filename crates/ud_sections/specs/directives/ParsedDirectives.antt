@@ -1,9 +1,9 @@
--- ParsedDirectives: the directive that the program finds on a line, as the definitions have it.
+-- ParsedDirectives: the directive that the program finds on a line, as a value of the definitions.
 --
 --   content_found found   a cut keyword, else a directive, else text
---   IsWithinScan found n  a directive that was found is within the `n` masked bytes of its line
+--   IsWithinScan found n  a directive found lies within the `n` masked bytes of its line
 --
--- Example: a line on which the program finds no directive is text.
+-- Example: a line where the program finds no directive is text.
 use Rattle.std.specs.Prelude.{◌≡◌, ◌+◌, ℕ, length, Option, Some, None, Result, Ok, Err}
 use Rattle.std.specs.Prelude.{IfOk, IfSome}
 use Rattle.ud_model.specs.sections.Directives.{Content, cut_keyword, text}
@@ -12,7 +12,7 @@ use Rattle.ud_sections.specs.declared.directives.Directive.{Directive}
 use Rattle.ud_sections.specs.declared.directives.Cut.{Cut}
 use Rattle.ud_sections.specs.sections.StepViews.{as_span}
 
--- `as_directive d`: a directive of the program, as the definitions have it.
+-- `as_directive d`: the program's directive, as one of the definitions.
 abbrev pub as_directive : Directive → model.Directive
 as_directive d = record {
   kind = d.kind;
@@ -32,8 +32,8 @@ abbrev pub content_found : Result (Option Directive) Cut → Content
 content_found (Ok found) = directive_or_text found
 content_found (Err cut) = cut_keyword
 
--- `IsWithinScan found n`: if a directive was found, its keyword and what follows end the `n` masked
--- bytes of its line.
+-- `IsWithinScan found n`: if a directive was found, its keyword and what follows are at the end of
+-- the `n` masked bytes of its line.
 abbrev pub IsWithinScan : Result (Option Directive) Cut → ℕ → Type 0
 IsWithinScan found n =
     IfOk found (λ o. IfSome o (λ d. d.keyword.at + d.keyword.len + length d.after.now ≡ n))

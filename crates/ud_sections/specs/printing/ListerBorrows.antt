@@ -1,11 +1,11 @@
--- ListerBorrows: a lister after the borrow of its prefix ends.
+-- ListerBorrows: a lister once the borrow of its prefix has ended.
 --
---   StaysSame lister   the lister lists names with their depths, or without, as before
+--   StaysSame lister   as before, the lister lists names with or without depths
 use Rattle.std.specs.Prelude.{◌≡◌, Bool}
 use Rattle.std.specs.Borrow.{MutBor, Fml}
 use Rattle.std.specs.Io.BufRead.{Rests}
 use Rattle.ud_sections.specs.contracts.printing.lister.Lister.{the_row}
 
--- `StaysSame lister`: the borrowed lister is given back as it was.
+-- `StaysSame lister`: the borrow leaves the lister as it was.
 abbrev pub StaysSame : MutBor Bool → Fml
 StaysSame lister = Rests the_row lister (λ new. new ≡ lister.now)

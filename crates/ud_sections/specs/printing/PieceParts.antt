@@ -11,6 +11,6 @@ concatenated p = flat_map (λ s. s.now) (take p.count p.slices)
 abbrev pub count_of : Pieces → ℕ
 count_of p = p.count
 
--- `is_unchanged p`: `p` records that its concatenated parts are the line itself.
+-- `is_unchanged p`: according to `p`, its parts make up the line itself.
 abbrev pub is_unchanged : Pieces → Bool
 is_unchanged p = p.same

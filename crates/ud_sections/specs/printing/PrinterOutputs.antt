@@ -1,13 +1,13 @@
 -- PrinterOutputs: the output for the next line, by its verdict, and a printer after a line.
 --
---   GotLine given piece given' piece' j          a printer got the line `j`, and prints as before
+--   GotLine given piece given' piece' j          a printer was given `j`, and prints as before
 --   judged_text verdict l                        a text line with this verdict
 --   PrintsOne given piece verdict own            for the next line `l`, `own l` is printed
 --   GivesLineOutput given piece verdict output   `output` is the output for the next line
 --
--- `given` relates a printer to the lines that it got, and `piece` is what it prints for a line
--- after others. A printer that gives the output for a line needn't get it, and stays as it is. So
--- the output for the line after it is known too, and for any number of lines with one verdict.
+-- `given` relates a printer to the lines it was given, and `piece` is what it prints for a line
+-- after others. A printer that reports a line's output needn't be given the line, and stays as it
+-- is. So that output is known for any number of lines with one verdict.
 --
 -- Example: for kept lines after a kept line, the lines themselves are printed, also under `-n`.
 use Rattle.std.specs.Prelude.{◌≡◌, ℕ, List, [], ◌∷◌, ◌++◌}
@@ -22,16 +22,16 @@ use Rattle.ud_sections.specs.declared.printing.line_output.LineOutput.TheVariant
 abbrev pub judged_text : Verdict → Line → Judged
 judged_text verdict l = record { line = l; verdict = verdict; keyword = record { at = 0; len = 0 } }
 
--- `GotLine given piece given' piece' j`: a printer, of which `given` and `piece` are true before
--- and `given'` and `piece'` after, got the line `j` in between. It prints by the same definition.
+-- `GotLine given piece given' piece' j`: a printer with `given` and `piece` before and `given'` and
+-- `piece'` after was given the line `j` in between. Its definition stays.
 abbrev pub GotLine : (List Judged → Type 0) → (List Judged → Judged → List ℕ) →
     (List Judged → Type 0) → (List Judged → Judged → List ℕ) → Judged → Type 0
 GotLine given piece given' piece' j =
     ((before : List Judged) → given before → given' (before ++ j ∷ []))
     × ((before : List Judged) (k : Judged) → piece' before k ≡ piece before k)
 
--- `PrintsOne given piece verdict own`: whatever lines the printer got, and whatever line `l` with
--- this verdict comes next, `own l` is printed for it. The unchanged printer represents it too.
+-- `PrintsOne given piece verdict own`: whatever lines the printer was given, and whatever line `l`
+-- with this verdict comes next, it prints `own l`. The unchanged printer represents it too.
 abbrev pub PrintsOne : (List Judged → Type 0) → (List Judged → Judged → List ℕ) → Verdict →
     (Line → List ℕ) → Type 0
 PrintsOne given piece verdict own =

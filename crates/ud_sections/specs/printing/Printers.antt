@@ -1,10 +1,10 @@
 -- Printers: what the printer for the options represents, and what it prints.
 --
---   printer_represents printer before   the printer got the lines `before`
+--   printer_represents printer before   the printer was given the lines `before`
 --   printer_piece printer before j      what it prints for the line `j` after these
 --
--- Example: for `-c -n` it is the complement of `Renumber`. It represents lines if its `Renumber`
--- represents their complements.
+-- Example: for `-c -n` the printer is the complement of a `Renumber`. It represents lines if the
+-- `Renumber` represents their complements.
 use Rattle.std.specs.Prelude.{List, ℕ, map}
 use Rattle.ud_model.specs.answer.Printing.{Judged, plain_style, piece_after, complemented}
 use Rattle.ud_sections.specs.printing.Styles.{blank_style, renumber_style, delete_represents}
@@ -16,7 +16,7 @@ use Rattle.ud_sections.specs.declared.printing.printer.Printer.TheVariants.{Comp
 use Rattle.ud_sections.specs.declared.printing.printer.Printer.TheVariants.{ComplementBlanks}
 use Rattle.ud_sections.specs.declared.printing.printer.Printer.TheVariants.{ComplementRenumbers}
 
--- `printer_represents printer before`: the printer got the lines `before`.
+-- `printer_represents printer before`: the printer was given the lines `before`.
 abbrev pub printer_represents : Printer → List Judged → Type 0
 printer_represents (Deletes p) before = delete_represents p before
 printer_represents (Blanks p) before = blank_represents p before

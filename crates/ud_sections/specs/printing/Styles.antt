@@ -1,8 +1,8 @@
 -- Styles: the style of each printer, and what the printer represents.
 --
 --   blank_style, renumber_style        the styles of `Blank` and `Renumber`
---   delete_represents printer before   the printer got the lines `before`; also for the others
---   inner_of complement                the printer of which this is the complement
+--   delete_represents printer before   the printer was given the lines `before`; so for the others
+--   inner_of complement                the printer that this one complements
 --
 -- `Delete` has the style without options, `plain_style`.
 use Rattle.std.specs.Prelude.{◌≡◌, List, true, false}
@@ -20,17 +20,17 @@ blank_style = record { blank = true; complement = false; renumber = false }
 abbrev pub renumber_style : Style
 renumber_style = record { blank = false; complement = false; renumber = true }
 
--- `delete_represents printer before`: the printer got the lines `before`. A line's piece depends on
--- that line alone.
+-- `delete_represents printer before`: the printer was given the lines `before`. A line's piece
+-- depends on that line alone.
 abbrev pub delete_represents : Delete → List Judged → Type 0
 delete_represents printer before = Unit {0}
 
--- `blank_represents printer before`: the printer got the lines `before`, and keeps nothing of them.
+-- `blank_represents printer before`: the printer was given the lines `before`, and keeps none.
 abbrev pub blank_represents : Blank → List Judged → Type 0
 blank_represents printer before = Unit {0}
 
--- `renumber_represents printer before`: the printer got the lines `before`. A line's piece depends
--- on whether the line before is removed.
+-- `renumber_represents printer before`: the printer was given the lines `before`. A line's piece
+-- depends on whether the line before is removed.
 abbrev pub renumber_represents : Renumber → List Judged → Type 0
 renumber_represents printer before = printer.removed ≡ last_removed before
 

@@ -1,9 +1,9 @@
 -- Actions: the action of a line, by the innermost open section.
 --
 --   act plain section kind n   the action of a line of this kind and number, or `None`
---   Applies change old new     the change makes `new` of the open sections `old`
+--   Applies change old new     the change turns the open sections `old` into `new`
 --
--- `plain` is whether text outside all sections is plain, and `section` is the innermost open one.
+-- `plain`: text outside all sections is plain. `section` is the innermost open one.
 use Rattle.std.specs.Prelude.{◌≡◌, ℕ, List, [], ◌∷◌, ◌++◌, Bool, true, not, ◌||◌}
 use Rattle.std.specs.Prelude.{if◌then◌else◌, Option, Some, None}
 use Rattle.ud_model.specs.declared.cond.Cond.{Cond}
@@ -22,7 +22,7 @@ use Rattle.ud_sections.specs.sections.SectionStates.{opener_verdict_in, endif_ve
 use Rattle.ud_sections.specs.sections.SectionStates.{is_kept_in, is_in_removed, new_state}
 use Rattle.ud_sections.specs.sections.OpenSections.{new_section, section_with_group}
 
--- `kept_at section`: the text in `section` is in a kept place; outside all sections it is.
+-- `kept_at section`: the text in `section` is in a kept place, as it is outside all sections.
 abbrev pub kept_at : Option OpenSection → Bool
 kept_at None = true
 kept_at (Some l) = is_kept_in l.state
@@ -36,8 +36,8 @@ plain_at plain (Some l) = l.ignoring
 abbrev pub text_action : Bool → Action
 text_action kept = record { verdict = if kept then Keep else Remove; kept = kept; change = Stay }
 
--- `if_action kept plain c ignoring n`: a section's first directive, on line `n`, opens it. The
--- verdict is that of the first opener of a section in this place.
+-- `if_action kept plain c ignoring n`: a section's first directive, on line `n`, opens it. Its
+-- verdict is that of a section's first opener in this place.
 abbrev pub if_action : Bool → Bool → Cond → Bool → ℕ → Action
 if_action kept plain c ignoring n = record {
   verdict = opener_verdict_in (new_state kept) table.an_if c;
@@ -77,7 +77,7 @@ act plain (Some l) (Elif c) n = opener_action l table.an_elif c
 act plain (Some l) Else n = opener_action l table.an_else Yes
 act plain (Some l) Endif n = Some (endif_action l)
 
--- `Applies change old new`: the change makes the open sections `new` of `old`.
+-- `Applies change old new`: the change turns the open sections `old` into `new`.
 abbrev pub Applies : StackOp → List OpenSection → List OpenSection → Type 0
 Applies Stay old new = new ≡ old
 Applies (Push l) old new = new ≡ old ++ l ∷ []

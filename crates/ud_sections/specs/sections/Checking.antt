@@ -39,7 +39,7 @@ opens_section (Replace l) = false
 opens_section Pop = false
 
 -- `is_obfuscated_by removed s a`: `s` is a directive that spans lines and would have to be edited
--- or removed. `removed` is whether the line before is removed.
+-- or removed. `removed`: the line before was removed.
 abbrev pub is_obfuscated_by : Bool → ClassifiedLine → Action → Bool
 is_obfuscated_by removed s a =
     is_directive_kind s.kind && s.spans && a.kept &&
@@ -53,8 +53,8 @@ misplaced_fault_by (Elif c) n = InappropriateElif n
 misplaced_fault_by Else n = InappropriateElse n
 misplaced_fault_by Endif n = InappropriateEndif n
 
--- `checked_action before s n action`: the action, or the first fault. The order is a misplaced
--- directive (`action` is `None`), one section too many, an obfuscated directive.
+-- `checked_action before s n action`: the action, or the first fault: a misplaced directive
+-- (`action` is `None`), then one section too many, then an obfuscated directive.
 abbrev pub checked_action : LineContext → ClassifiedLine → ℕ → Option Action →
     Result Action SectionFault
 checked_action b s n None = Err (misplaced_fault_by s.kind n)

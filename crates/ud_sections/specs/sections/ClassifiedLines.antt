@@ -2,7 +2,7 @@
 --
 --   line_kind_in role d             the kind of a directive with this role and decision
 --   directive_kind scan d table rules   the kind of this directive
---   classified scan table rules c   the classified line of a scan that carries `c`
+--   classified scan table rules c   the classified line with this scan and content
 --   item_kind x                     the kind of an item
 use Rattle.std.specs.Prelude.{List, Result, Ok, Err}
 use Rattle.ud_model.specs.text.Scans.{Scan, Reading, is_spanning}
@@ -20,7 +20,7 @@ use Rattle.ud_sections.specs.declared.sections.line_kind.LineKind.TheVariants.{T
 use Rattle.ud_sections.specs.declared.sections.line_kind.LineKind.TheVariants.{Endif}
 use Rattle.ud_sections.specs.declared.sections.step.Span.{Span}
 
--- `line_kind_in role d`: the kind of a directive with this role, with what is decided of it.
+-- `line_kind_in role d`: the kind of a directive with this role and this decision.
 abbrev pub line_kind_in : Role → Decision → LineKind
 line_kind_in IfGroup d = If d.cond d.ignoring
 line_kind_in ElifGroup d = Elif d.cond
@@ -31,7 +31,7 @@ line_kind_in EndifLine d = Endif
 abbrev pub directive_kind : Scan → Directive → List Argument → Rules → LineKind
 directive_kind scan d table rules = line_kind_in (role_of d.kind) (decision_on scan d table rules)
 
--- `span_of s`: a span of the definitions, as the program has it.
+-- `span_of s`: the program's form of a span.
 abbrev pub span_of : TextSpan → Span
 span_of s = record { at = s.at; len = s.len }
 

@@ -3,19 +3,19 @@
 --   MachineRepresents m o xs t      the machine has read the items `xs` under these options
 --   ComesNext o xs t scan l table   the line `l` with this scan comes next
 --   StepsLine m o xs t l step       the machine has read `l` too, with this step
---   StepsNext m new scan l table result    it did, whatever it had read
+--   StepsNext m new scan l table result    so it has, whatever it had read
 --   FindsFault m scan l table result       an error is the fault of `l`
---   IsMachineStep m new scan line table result   what a step is to its callers
+--   IsMachineStep m new scan line table result   what callers may know of a step
 --   AreTextLines o mode xs rs       the lines `rs` after the items `xs` are text
 --   StepsText m o xs t rs verdict   the machine has read these text lines too
---   StepsOverText m new last verdict       it did, whatever it had read
---   HasEndFault m in_comment fault         the fault at the end of what it read
---   machine_fault m                 the fault of the machine, if it has one
+--   StepsOverText m new last verdict       so it has, whatever it had read
+--   HasEndFault m in_comment fault         the fault if the text ends here
+--   machine_fault m                 the machine's fault, if any
 --   machine_with_fault m f          the machine with this fault
---   end_fault_of result             the fault at the end of a text, if it has one
+--   end_fault_of result             the fault at the end of a text, if any
 --
--- `MachineRepresents` implies that no line is faulty, so the items are those of the definitions. If
--- a line is faulty, the machine still represents the lines before that one.
+-- `MachineRepresents` implies that no line is faulty, so the items are as the definitions have
+-- them. If a line is faulty, the machine still represents the lines before it.
 --
 -- Example: a machine that has read only `#if X` has one open section, and that line wasn't text.
 use Rattle.std.specs.Prelude.{◌≡◌, ℕ, List, [], ◌∷◌, ◌++◌, map, Bool, true, Option, Some, None}
@@ -55,14 +55,14 @@ pub record MachineRepresents (m : Machine) (o : Options) (xs : List (Item Readin
   pub last : m.last ≡ last_number xs
 
 -- `ComesNext o xs t scan l table`: `l` comes after `xs`, and `scan` is its scan in the mode that
--- these give. `table` gives every name the meaning that the options give it.
+-- they give. `table` gives every name the same entry as the options.
 pub record ComesNext (o : Options) (xs : List (Item Reading)) (t : Tree Reading) (scan : Scan)
     (l : Line) (table : List Argument) : Type 0 where
   pub scanned : scan ≡ scan_after (map reading_of xs) (mode_after o t) l
   pub represents : TableRepresents table o.table
 
--- `StepsLine m o xs t l step`: the machine has read `l` after `xs`. The step has the verdict of its
--- mark, which is the last one, and the span of its keyword.
+-- `StepsLine m o xs t l step`: the machine has read `l` after `xs`. The step has the verdict of the
+-- last mark, and the span of its keyword.
 pub record StepsLine (m : Machine) (o : Options) (xs : List (Item Reading)) (t : Tree Reading)
     (l : Line) (step : Step) : Type 0 where
   pub tree : Tree Reading
@@ -72,8 +72,8 @@ pub record StepsLine (m : Machine) (o : Options) (xs : List (Item Reading)) (t :
   pub decided : record { line = l; verdict = step.verdict; keyword = as_span step.keyword } ≡
       judged_line (next_item o xs t l) mark
 
--- `AreTextLines o mode xs rs`: the lines `rs` are text within the limits, as they are read in this
--- mode, one after another, after the items `xs`.
+-- `AreTextLines o mode xs rs`: read in this mode in order after the items `xs`, the lines `rs` are
+-- text within the limits.
 abbrev pub AreTextLines : Options → Mode → List (Item Reading) → List Reading → Type 0
 AreTextLines o mode xs [] = Unit {0}
 AreTextLines o mode xs (r ∷ rs) =
@@ -91,8 +91,7 @@ pub record StepsText (m : Machine) (o : Options) (xs : List (Item Reading)) (t :
   pub verdict_is : verdict ≡ mark.verdict
 
 -- `StepsOverText m new last verdict`: whatever items `m` has read, if text lines come next, at
--- least one, and the last of them has the number `last`, then `new` has read them too, each with
--- this verdict.
+-- least one and up to the number `last`, then `new` has read them too, each with this verdict.
 abbrev pub StepsOverText : Machine → Machine → ℕ → Verdict → Type 0
 StepsOverText m new last verdict =
     (o : Options) → (xs : List (Item Reading)) → (t : Tree Reading) →
@@ -100,7 +99,7 @@ StepsOverText m new last verdict =
     AreTextLines o (mode_after o t) xs (r ∷ rs) →
     last ≡ last_number (xs ++ map text_line (r ∷ rs)) → StepsText new o xs t (r ∷ rs) verdict
 
--- `machine_fault m`: the fault after which the machine is fused, if it has one.
+-- `machine_fault m`: the fault after which the machine is fused, if any.
 abbrev pub machine_fault : Machine → Option SectionFault
 machine_fault m = m.fault
 
@@ -131,9 +130,9 @@ FindsFault m scan l table result =
     IfErr result (λ f. FaultOf xs (next_item o xs t l) (fault_of f))
 
 -- `IsMachineStep m new scan line table result`: the machine `m` was given the next line, which has
--- this scan, and is now `new`. If it stepped, it had no fault and has none, and the keyword of a
--- directive that is edited is in the line. Else it has represented the lines before, and still
--- does, and it has the fault: the one that it had, or that of the line.
+-- this scan, and is now `new`. If it stepped, it had no fault and has none, and an edited
+-- directive's keyword is in the line. Else it still represents the lines before, and it has a
+-- fault: its old one, or the line's.
 pub record IsMachineStep (m new : Machine) (scan : Scan) (line : TheLine) (table : List Argument)
     (result : Result Step SectionFault) : Type 0 where
   pub represents : StepsNext m new scan (as_line line) table result
@@ -146,7 +145,7 @@ pub record IsMachineStep (m new : Machine) (scan : Scan) (line : TheLine) (table
   pub fused : (f : SectionFault) → machine_fault m ≡ Some f → result ≡ Err f
 
 -- `HasEndFault m in_comment fault`: whatever items `m` has read, if it has no fault, and
--- `in_comment` is whether they end in a comment, then `fault` is that of the text's end.
+-- `in_comment` says whether they end in a comment, then `fault` is the fault of the text's end.
 abbrev pub HasEndFault : Machine → Bool → Option Fault → Type 0
 HasEndFault m in_comment fault =
     (o : Options) → (xs : List (Item Reading)) → (t : Tree Reading) →

@@ -5,8 +5,7 @@
 --   section_at d kept plain t       the innermost open section, or `d` if none is open
 --   last_or d ls                    the last of `ls`, or `d` if there is none
 --
--- `kept` is whether the section or the text is in a kept place, and `plain` whether it is plain
--- text.
+-- `kept`: the section or the text is in a kept place. `plain`: it is plain text.
 use Rattle.std.specs.Prelude.{ℕ, List, [], ◌∷◌, Bool, true, false, ◌||◌, ◌&&◌, Option, Some}
 use Rattle.ud_model.specs.declared.cond.Cond.{Cond}
 use Rattle.ud_model.specs.text.Scans.{Reading}
@@ -19,7 +18,7 @@ use Rattle.ud_sections.specs.sections.SectionStates.{new_state, next_section_sta
 use Rattle.ud_sections.specs.sections.SectionStates.{section_state_after}
 
 -- `new_section kept ignoring n`: a section before its first group, with its first directive on line
--- `n`. `ignoring` is whether the section is plain text.
+-- `n`. `ignoring`: the section is plain text.
 abbrev pub new_section : Bool → Bool → ℕ → OpenSection
 new_section kept ignoring n = record {
   state = new_state kept;

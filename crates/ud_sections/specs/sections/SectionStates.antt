@@ -28,14 +28,13 @@ use Rattle.ud_sections.specs.declared.sections.section_state.SectionState.TheVar
 use Rattle.ud_sections.specs.declared.sections.section_state.SectionState.TheVariants.{LastTrue}
 use Rattle.ud_sections.specs.declared.sections.section_state.SectionState.TheVariants.{AfterTrue}
 
--- `part_of part`: a directive that opens a group, as the definitions have it.
+-- `part_of part`: a directive that opens a group, as one of the definitions.
 abbrev pub part_of : Part → table.Part
 part_of AnIf = table.an_if
 part_of AnElif = table.an_elif
 part_of AnElse = table.an_else
 
--- `new_state kept`: the state before the first group; `kept` is whether the section is in a kept
--- place.
+-- `new_state kept`: the state before the first group. `kept`: the section is in a kept place.
 abbrev pub new_state : Bool → SectionState
 new_state true = NoneKept
 new_state false = InRemoved

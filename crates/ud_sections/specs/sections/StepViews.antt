@@ -1,9 +1,9 @@
--- StepViews: lines and their steps, as the definitions have them.
+-- StepViews: lines and their steps, as values of the definitions.
 --
 --   judged_step line step    the line with its verdict and the span of its keyword
---   HoldsKeyword step line   a directive that is edited has its keyword in its line's body
+--   HoldsKeyword step line   an edited directive has its keyword in its line's body
 --
--- Example: a kept text line becomes that line with Keep and a keyword of 0 bytes at 0.
+-- Example: a kept text line becomes that line with Keep and an empty keyword at 0.
 use Rattle.std.specs.Prelude.{ℕ, ◌+◌, ◌≤◌, List, length}
 use Rattle.ud_model.specs.sections.Directives.{Span as TextSpan}
 use Rattle.ud_model.specs.answer.Printing.{Judged}
@@ -14,7 +14,7 @@ use Rattle.ud_model.specs.text.LineViews.{as_line}
 use Rattle.ud_sections.specs.declared.sections.step.Span.{Span}
 use Rattle.ud_sections.specs.declared.sections.step.Step.{Step}
 
--- `as_span s`: a span in a line's body, as the definitions have it.
+-- `as_span s`: a span in a line's body, as one of the definitions.
 abbrev pub as_span : Span → TextSpan
 as_span s = record { at = s.at; len = s.len }
 
@@ -27,8 +27,8 @@ judged_step line step = record {
       as_span step.keyword;
 }
 
--- `KeywordIsWithin verdict keyword body`: a directive with this verdict has its keyword's span in
--- `body`, if the directive is edited.
+-- `KeywordIsWithin verdict keyword body`: if this verdict edits the directive, the span of its
+-- keyword is in `body`.
 abbrev pub KeywordIsWithin : Verdict → Span → List ℕ → Type 0
 KeywordIsWithin Keep keyword body = Unit {0}
 KeywordIsWithin Remove keyword body = Unit {0}
@@ -36,6 +36,6 @@ KeywordIsWithin ToIf keyword body = keyword.at + keyword.len ≤ length body
 KeywordIsWithin ToElse keyword body = keyword.at + keyword.len ≤ length body
 KeywordIsWithin ToEndif keyword body = keyword.at + keyword.len ≤ length body
 
--- `HoldsKeyword step line`: a directive that is edited has its keyword in its line's body.
+-- `HoldsKeyword step line`: an edited directive has its keyword in its line's body.
 abbrev pub HoldsKeyword : Step → Line → Type 0
 HoldsKeyword step line = KeywordIsWithin step.verdict step.keyword line.body.now

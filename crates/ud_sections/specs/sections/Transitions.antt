@@ -1,10 +1,10 @@
--- Transitions: the transition of the machine for the next line.
+-- Transitions: the machine's transition for the next line.
 --
 --   context_of m               the context of the next line
 --   text_verdict m             the verdict of the next line, if it is text
 --   text_policy_of m           the mode of the next line, and its verdict if it is text
 --   transition_of before n s   the transition of the classified line `s` of number `n`
---   IsTransition m scan table n result   the result is the transition of the line of this scan
+--   IsTransition m scan table n result   the result is the transition of the line with this scan
 use Rattle.std.specs.Prelude.{◌≡◌, ℕ, List, length, Result, Ok, Err}
 use Rattle.ud_model.specs.text.Scans.{Scan}
 use Rattle.ud_model.specs.sections.Directives.{content_of}
@@ -27,7 +27,7 @@ use Rattle.ud_sections.specs.sections.StackOps.{innermost_of}
 use Rattle.ud_sections.specs.sections.ClassifiedLines.{classified}
 use Rattle.ud_sections.specs.sections.Checking.{checked_by}
 
--- `context_of m`: the context of the next line, which is what the lines before it decide.
+-- `context_of m`: the context of the next line: what the lines before it decide.
 abbrev pub context_of : Machine → LineContext
 context_of m = record {
   enclosing = record { section = innermost_of m.open_sections.items; plain = m.settings.plain };
@@ -35,19 +35,19 @@ context_of m = record {
   removed = m.removed;
 }
 
--- `text_verdict m`: a text line is kept or removed by the innermost open section.
+-- `text_verdict m`: the verdict of a text line, by the innermost open section.
 abbrev pub text_verdict : Machine → Verdict
 text_verdict m = (text_action (kept_at (innermost_of m.open_sections.items))).verdict
 
--- `text_policy_of m`: mode and verdict of a text line, by the innermost open section.
+-- `text_policy_of m`: the mode and verdict of a text line, by the innermost open section.
 abbrev pub text_policy_of : Machine → TextPolicy
 text_policy_of m = record {
   mode = mode_by (plain_at m.settings.plain (innermost_of m.open_sections.items));
   verdict = text_verdict m;
 }
 
--- `transition_with keyword result`: the transition with this action and the keyword's span, or the
--- same fault.
+-- `transition_with keyword result`: the transition with this action and keyword span, or the same
+-- fault.
 abbrev pub transition_with : Span → Result Action SectionFault → Result Transition SectionFault
 transition_with keyword (Ok a) =
     Ok (record { step = record { verdict = a.verdict; keyword = keyword }; change = a.change })

@@ -1,7 +1,7 @@
 //! The keyword that a text begins with (C11 6.10.1, C23 6.10).
 //!
-//! The table of keywords is that of `ud_model::keywords`. `common_keyword` is a fast test for most
-//! of them, and is proved to agree with it.
+//! `ud_model::keywords` has the table of keywords. `common_keyword` is a fast test for most of
+//! them, proved to agree with the table.
 
 ghost use Rattle.std.specs.Prelude.{◌≡◌, [], IfSome, IfNone, None};
 ghost use Rattle.ud_model.specs.text.Bytes.{leading_word, skip_word};
@@ -35,8 +35,8 @@ pub(crate) fn leading_keyword(rest: &[u8]) -> Option<Keyword>
     Some(Keyword { kind, len })
 }
 
-/// Returns the keyword that `rest` begins with, if it is one of those that most directives have.
-/// Compares byte by byte, without a search for the end of the word.
+/// Returns the keyword that `rest` begins with, if it is a common one. Compares byte by byte,
+/// without a search for the end of the word.
 #[inline(always)]
 fn common_keyword(rest: &[u8]) -> Option<Keyword>
     ensures { IfSome result (λ k. IsLeadingKeyword k rest.now) }

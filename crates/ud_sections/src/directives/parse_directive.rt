@@ -21,11 +21,11 @@ use ud_model::{CommentAt, Scan};
 /// Parses the directive of a scanned line, or returns `None` if it is a text line.
 ///
 /// A line with a directive is fresh. Its masked bytes are white space, `#`, white space, and a
-/// longest run of word bytes that is one of the keywords (C11 6.10, C23 6.10).
+/// longest run of word bytes that is a keyword (C11 6.10, C23 6.10).
 ///
 /// # Errors
-/// The line is continued, and its keyword can't be known. After the `#` there is only white space,
-/// or a continuation cuts the line after a single `/` or after what may become a keyword.
+/// `Cut` if the line is continued and its keyword can't be known: after the `#` there is only white
+/// space, or a continuation cuts the line after a single `/` or a word that may become a keyword.
 #[inline(always)]
 pub fn directive<'a>(scan: &Scan<'a>) -> Result<Option<Directive<'a>>, Cut>
     ensures value { content_found result ≡ content_of (as_scan scan.now) }
@@ -39,7 +39,7 @@ pub fn directive<'a>(scan: &Scan<'a>) -> Result<Option<Directive<'a>>, Cut>
 }
 
 /// Returns what follows the `#` of a line, or `None` if the line is certainly text. Such a line
-/// isn't fresh, or its first byte that isn't white space is no `#`.
+/// isn't fresh, or its first byte after white space is no `#`.
 #[inline(always)]
 fn after_hash<'a>(scan: &Scan<'a>) -> Option<&'a [u8]>
     ensures none { IfNone result (content_of (as_scan scan.now) ≡ text) }
@@ -53,7 +53,7 @@ fn after_hash<'a>(scan: &Scan<'a>) -> Option<&'a [u8]>
     }
 }
 
-/// Parses the directive of a line. `after` follows the `#` of the line.
+/// Parses the directive of a line. `after` follows its `#`.
 ///
 /// # Errors
 /// The errors of `directive`.
@@ -70,7 +70,7 @@ fn directive_after_hash<'a>(scan: &Scan<'a>, after: &'a [u8]) -> Result<Option<D
     Ok(parse_after_hash(scan, after))
 }
 
-/// Returns what follows the `#`, if one comes first but for white space. Most begin their line.
+/// Returns what follows the `#`, if one comes first after white space. Most begin their line.
 #[inline(always)]
 fn skip_hash(masked: &[u8]) -> Option<&[u8]>
     ensures { MatchOption result (skip_white_and_hash masked.now ≡ None)
@@ -107,8 +107,8 @@ fn has_split_keyword(scan: &Scan<'_>, after: &[u8]) -> bool
         && may_split_keyword(is_continued_outside_comment(scan), skip_white(after))
 }
 
-/// Returns whether the keyword can't be known if the line has no more of it than `rest`. `cut_off`
-/// is whether a continuation cuts the line outside comments.
+/// Returns whether the keyword can't be known if the line has only `rest` of it. `cut_off`: a
+/// continuation cuts the line outside comments.
 #[inline(never)]
 fn may_split_keyword(cut_off: bool, rest: &[u8]) -> bool
     ensures { (scan : LineScan) → cut_off ≡ is_continued_outside_comment scan →
@@ -124,7 +124,7 @@ fn is_continued_outside_comment(scan: &Scan<'_>) -> bool
     scan.spliced && scan.comment == CommentAt::Outside
 }
 
-/// Returns whether `text` is a nonempty run of word bytes that begins a keyword.
+/// Returns whether `text` is a nonempty run of word bytes that a keyword begins with.
 fn is_keyword_prefix(text: &[u8]) -> bool
     ensures { result ≡ is_keyword_prefix text.now }
 {

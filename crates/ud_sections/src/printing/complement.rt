@@ -1,4 +1,4 @@
-//! A printer of the lines that would be removed.
+//! A printer of the lines that another would remove.
 
 ghost use Rattle.std.specs.Prelude.{◌≡◌};
 ghost use Rattle.ud_model.specs.answer.Printing.{complement_verdict};
@@ -19,7 +19,7 @@ impl<S: Show> Complement<S> {
     ghost use Rattle.std.specs.Prelude.{◌≡◌};
     ghost use Rattle.ud_sections.specs.printing.Styles.{inner_of};
 
-    /// Creates the complement of a printer that is at the beginning of a text.
+    /// Creates the complement of a printer at the beginning of a text.
     pub fn new(inner: S) -> Complement<S>
         ensures { inner_of result ≡ inner }
     {

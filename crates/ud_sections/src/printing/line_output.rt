@@ -9,6 +9,6 @@ pub enum LineOutput {
     Nothing,
     /// The line's ending.
     Ending,
-    /// The verdict doesn't decide: the line is to be passed.
+    /// The verdict doesn't decide: pass the line to `pieces`.
     Parts,
 }

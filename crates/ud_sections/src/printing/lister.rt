@@ -1,4 +1,4 @@
-//! A lister of the names of conditions, which are printed instead of the text.
+//! A lister of the names of conditions, printed instead of the text.
 
 ghost use Rattle.std.specs.Prelude.{◌≡◌, ◌+◌, ◌≤◌, ◌++◌, length, Bool, IfOk, IfSome};
 ghost use Rattle.ud_sections.specs.directives.ParsedDirectives.{content_found};
@@ -42,7 +42,7 @@ impl Lister {
     ghost use Rattle.ud_model.specs.text.LineViews.{as_scan};
     ghost use Rattle.ud_sections.specs.printing.ListerBorrows.{StaysSame};
 
-    /// Creates a lister. Each name follows its depth if `depths`, and else has no prefix.
+    /// Creates a lister. Each name follows its depth if `depths`, or else has no prefix.
     pub fn new(depths: bool) -> Lister
         ensures { result ≡ depths }
     {

@@ -9,12 +9,12 @@ ghost use Rattle.ud_model.specs.text.LineViews.{as_line};
 use crate::sections::{Span, Step};
 use ud_model::{Line, Verdict};
 
-/// The output for a line: at most five parts, to be written one after the other.
+/// The output for a line: at most five parts, to be written in order.
 ///
 /// The parts are borrowed from the line and from the printer.
 #[derive(Drop)]
 pub struct Pieces<'a> {
-    /// The parts, of which only the first `count` are used.
+    /// The parts; only the first `count` are used.
     slices: [&'a [u8]; 5],
     count: usize,
     same: bool,
@@ -22,8 +22,8 @@ pub struct Pieces<'a> {
 }
 
 /// Returns what replaces a keyword of this length in a directive that becomes the first one of its
-/// section. It is `ifdef` for `elifdef`, `ifndef` for `elifndef`, and else `if`, each with two
-/// spaces for the bytes that are lost.
+/// section: `ifdef` for `elifdef`, `ifndef` for `elifndef`, else `if`, each followed by two spaces
+/// for the lost bytes.
 fn opener_keyword<'a>(len: usize) -> &'a [u8]
     ensures { result.now ≡ opener_keyword len }
 {
@@ -58,7 +58,7 @@ impl<'a> Pieces<'a> {
         }
     }
 
-    /// Creates the output for a line that is printed as it is.
+    /// Creates the output for an unchanged line.
     #[inline(always)]
     fn whole(line: &Line<'a>) -> Pieces<'a>
         ensures parts { concatenated result ≡ text_of (as_line line.now) }
@@ -73,8 +73,7 @@ impl<'a> Pieces<'a> {
         }
     }
 
-    /// Creates the output for a line by its step alone, with `blank` in place of a line that is
-    /// removed.
+    /// Creates the output for a line by its step alone, with `blank` in place of a removed line.
     #[inline(always)]
     pub fn for_line(line: &Line<'a>, step: Step, blank: &'a [u8]) -> Pieces<'a>
         requires keyword { HoldsKeyword step line.now }
@@ -133,8 +132,7 @@ impl<'a> Pieces<'a> {
         }
     }
 
-    /// Prepends `first` to these parts, which are at most four. The result is printed in place of
-    /// `line`.
+    /// Prepends `first` to these parts, at most four. The result is printed in place of `line`.
     pub fn prepend(self, first: &'a [u8], line: &Line<'_>) -> Pieces<'a>
         requires has_space { count_of self ≤ 4 }
         ensures parts { concatenated result ≡ first.now ++ concatenated self.entry }

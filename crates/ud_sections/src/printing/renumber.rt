@@ -16,13 +16,13 @@ use ud_model::{Line, Verdict};
 /// The maximum length of a `#line` directive: its keyword, a space, ten digits and an ending.
 const NUMBER_LINE_BYTES: usize = 18;
 
-/// A printer that deletes removed lines, and prints a `#line` with its own number before a line
-/// after them (unifdef(1), `-n`; C11 6.10.4).
+/// A printer that deletes removed lines, and numbers the line after them by a `#line` (unifdef(1),
+/// `-n`; C11 6.10.4).
 #[derive(Drop)]
 pub struct Renumber {
-    /// The line before is removed.
+    /// The previous line was removed.
     removed: bool,
-    /// The last `#line` that was printed.
+    /// The last printed `#line`.
     number_line: ArrayVec<u8, NUMBER_LINE_BYTES>,
 }
 

@@ -1,8 +1,7 @@
 //! The trait of printers.
 //!
 //! A new printer implements `Show`: its definition as `piece`, what it represents as `represents`,
-//! and `pieces`. A `line_output` of its own lets callers print lines, one or many, without passing
-//! them.
+//! and `pieces`. Its own `line_output` lets callers print lines, one or many, without passing them.
 
 ghost use Rattle.std.specs.Prelude.{◌≡◌, List, [], ◌∷◌, ◌++◌, bytes_eq, ℕ};
 ghost use Rattle.std.specs.Borrow.{sem};
@@ -21,18 +20,17 @@ use ud_model::{Line, Verdict};
 
 /// A printer: gets each line in order with its step, and returns what to print for it.
 ///
-/// The law: for any list of lines and steps, the pieces of each line are those that the printer's
-/// definition gives for that list. A printer represents the lines that it got so far, and `pieces`
-/// adds one.
+/// The law: for any list of lines and steps, each line's pieces are what the printer's definition
+/// gives. A printer represents the lines it has been given, and `pieces` adds one.
 pub trait Show: Drop {
-    /// The printer has got these lines.
+    /// The printer was given these lines.
     ghost represents: { Self → List Judged → Type 0 };
 
     /// The printer's definition: the output for a line after others. It never changes.
     ghost piece: { Self → List Judged → Judged → List ℕ };
 
-    /// Returns what to print for the next line. A directive that is edited has its keyword in the
-    /// line's body.
+    /// Returns what to print for the next line. An edited directive has its keyword in the line's
+    /// body.
     fn pieces<'a>(&'a mut self, line: &Line<'a>, step: Step) -> Pieces<'a>
         requires keyword { HoldsKeyword step line.now }
         ensures parts { (before : List Judged) → represents self.old before →
@@ -43,9 +41,9 @@ pub trait Show: Drop {
             GotLine (represents self.entry.now) (piece self.entry.now) (represents new)
             (piece new) (judged_step line.now step))) };
 
-    /// Returns what to print for the next line if it has this verdict. If the result is not
-    /// `Parts`, the line needn't be passed: the printer represents it too, unchanged. So the result
-    /// is that of each further line with this verdict, however many come.
+    /// Returns what to print for the next line if it has this verdict. Unless the result is
+    /// `Parts`, the line needn't be passed: the unchanged printer represents it too. So the result
+    /// is also right for any number of further lines with this verdict.
     fn line_output(&self, verdict: Verdict) -> LineOutput
         ensures line_output { GivesLineOutput (represents self.now) (piece self.now) verdict
             result }

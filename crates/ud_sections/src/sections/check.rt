@@ -19,14 +19,14 @@ pub(crate) struct LineContext {
     pub enclosing: Enclosing,
     /// The number of open sections.
     pub depth: usize,
-    /// The line before is removed.
+    /// The previous line was removed.
     pub removed: bool,
 }
 
 /// Checks a line against the open sections, and returns its action.
 ///
 /// # Errors
-/// The line is faulty. The first of these cases decides:
+/// If the line is faulty, by the first of these cases:
 ///
 /// - It is a misplaced directive.
 /// - It opens one section too many.
@@ -62,7 +62,7 @@ fn opens_section(change: StackOp) -> bool
 }
 
 /// Returns whether the line is a directive that spans lines and would have to be edited or removed.
-/// `removed` is whether the line before it is removed.
+/// `removed`: the line before it was removed.
 fn is_obfuscated(removed: bool, classified: ClassifiedLine, action: Action) -> bool
     ensures { result ≡ is_obfuscated_by removed classified action }
 {
@@ -82,8 +82,8 @@ fn is_directive(kind: LineKind) -> bool
     }
 }
 
-/// Returns whether a directive with this verdict keeps what follows its keyword, and what it is
-/// joined to.
+/// Returns whether a directive with this verdict keeps what follows its keyword, joined lines
+/// included.
 fn keeps_rest(verdict: Verdict) -> bool
     ensures { result ≡ keeps_rest verdict }
 {

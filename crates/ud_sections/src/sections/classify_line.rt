@@ -32,7 +32,7 @@ pub(crate) struct ClassifiedLine {
     pub joins_before: bool,
 }
 
-/// Classifies a line of this kind, whose directive has its keyword there.
+/// Classifies a line of this kind, whose directive has its keyword at `keyword`.
 #[inline(always)]
 pub(crate) fn classify(scan: &Scan<'_>, keyword: Span, kind: LineKind) -> ClassifiedLine
     ensures { result ≡ classified_with (as_scan scan.now) (as_span keyword) kind }
@@ -52,8 +52,8 @@ fn joins_a_neighbor(scan: &Scan<'_>) -> bool
     scan.joins_before || scan.joins_after
 }
 
-/// Returns what the symbols decide of a line's directive. A broken directive is undecided. One that
-/// joins the next line opens no section that is plain text.
+/// Returns the symbols' decision on a line's directive. A broken directive is undecided. One that
+/// joins the next line makes no section plain text.
 #[inline(always)]
 fn condition_on(
     scan: &Scan<'_>,
@@ -79,7 +79,7 @@ fn condition_on(
     }
 }
 
-/// Returns the rules by which the settings have expressions evaluated.
+/// Returns the rules that the settings give for expressions.
 fn rules_of(settings: Settings) -> Rules
     ensures { as_rules result ≡ rules_of settings }
 {
@@ -89,8 +89,8 @@ fn rules_of(settings: Settings) -> Rules
     }
 }
 
-/// Returns the kind of a line's directive among the sections, with what the symbols decide of it.
-/// Only a condition is evaluated.
+/// Returns the kind of a line's directive among the sections, with the symbols' decision on it.
+/// Evaluates the text only if it is a condition.
 #[inline(always)]
 pub(crate) fn line_kind_of(
     scan: &Scan<'_>,

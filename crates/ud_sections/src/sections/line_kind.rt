@@ -2,7 +2,7 @@
 
 use ud_model::Cond;
 
-/// The kind of a line among the sections, with what the symbols decide of its condition.
+/// The kind of a line among the sections, with the decision on its condition.
 #[derive(Clone, Copy)]
 pub(crate) enum LineKind {
     /// A text line.

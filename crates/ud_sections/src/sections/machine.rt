@@ -1,10 +1,10 @@
 //! A machine that decides the lines of a text in order.
 //!
 //! A machine buffers no line and allocates no memory. For each open section it keeps a
-//! `SectionState` and a few facts; of the lines only the last one's number, and whether that line
-//! was removed. The module `check` decides a line, after all its faults, and only then do the open
-//! sections change. `specs/sections/MachineState.antt` defines what a machine represents: a list of
-//! lines and their tree.
+//! `SectionState` and a few facts; for the lines, only the last one's number and whether it was
+//! removed. The open sections change only after the module `check` has found no fault and decided
+//! the line. `specs/sections/MachineState.antt` defines what a machine represents: a list of lines
+//! and their tree.
 
 ghost use Rattle.std.specs.Prelude.{◌≡◌, ◌≤◌, ◌<◌, ◌+◌, [], List, length, IsTrue, IfOk};
 ghost use Rattle.std.specs.Prelude.{None, Some, Ok};
@@ -36,7 +36,7 @@ use ud_cond::Symbols;
 use ud_faults::SectionFault;
 use ud_model::{Line, Mode, OPEN_SECTIONS, Scan, Settings, Verdict};
 
-/// The step of a line, and the line's change of the open sections.
+/// The step of a line, and its change of the open sections.
 #[derive(Clone, Copy)]
 struct Transition {
     /// The step.
@@ -45,10 +45,10 @@ struct Transition {
     change: StackOp,
 }
 
-/// A machine that decides lines in order: each is kept, removed, or kept as another directive.
+/// A machine that decides lines in order: each is kept, removed, or turned into another directive.
 #[derive(Drop)]
 pub struct Machine {
-    /// The settings by which lines are read.
+    /// The settings for reading lines.
     settings: Settings,
     /// The open sections, the outermost first.
     open_sections: ArrayVec<OpenSection, OPEN_SECTIONS>,
@@ -56,7 +56,7 @@ pub struct Machine {
     removed: bool,
     /// The number of the last line, 0 before the first one.
     last: u32,
-    /// The error of a failed `step`, after which the machine is fused.
+    /// The error that a failed `step` returned; the machine is then fused.
     fault: Option<SectionFault>,
 }
 
@@ -86,7 +86,7 @@ impl Machine {
         }
     }
 
-    /// Returns the mode in which the next line is to be scanned.
+    /// Returns the mode to scan the next line in.
     pub fn mode(&self) -> Mode
         ensures { (o : Options) → (xs : List (Item Reading)) → (t : Tree Reading) →
             MachineRepresents self.now o xs t → result ≡ mode_after o t }
@@ -103,7 +103,7 @@ impl Machine {
         self.open_sections.len()
     }
 
-    /// Returns how the next line is read, and what becomes of it if it is text.
+    /// Returns how to scan the next line, and its verdict if it is text.
     pub fn text_policy(&self) -> TextPolicy
         ensures value { result ≡ text_policy_of self.now }
         ensures fits { array_vec_len self.now.open_sections ≤ OPEN_SECTIONS }
@@ -117,12 +117,12 @@ impl Machine {
 
     /// Decides the next line. Later lines never change the decision.
     ///
-    /// `scan` is the scan of the line after the lines before it, in the mode that `mode` returns.
-    /// The line's number and length are within the limits of a text. `symbols` must give the same
-    /// result for every name at each call.
+    /// `scan` is the scan of the line after all lines before it, in the mode that `mode` returns.
+    /// The line's number and length must be within the limits of a text. `symbols` must give every
+    /// name the same entry at each call.
     ///
     /// # Errors
-    /// The line is faulty. The first of these cases decides:
+    /// If the line is faulty, by the first of these cases:
     ///
     /// - The keyword of its directive can't be known.
     /// - It is a misplaced directive.
@@ -160,7 +160,7 @@ impl Machine {
     }
 
     /// Decides the next line, as `step` does. `content` is what `directive` returns for `scan`. So
-    /// a caller that needs it too doesn't parse the line again.
+    /// a caller that needs it needn't parse the line twice.
     ///
     /// # Errors
     /// As `step`.
@@ -201,10 +201,10 @@ impl Machine {
         }
     }
 
-    /// Checks the end of the text. `in_comment` is whether the text ends in a block comment.
+    /// Checks the end of the text. `in_comment`: the text ends in a block comment.
     ///
     /// # Errors
-    /// The error of a failed `step`, again. Else the text ends in a block comment, or else in a
+    /// The error of a failed `step` again; else if the text ends in a block comment, or else in a
     /// section.
     pub fn finish(&self, in_comment: bool) -> Result<(), SectionFault>
         ensures value { HasEndFault self.now in_comment (end_fault_of result) }
@@ -216,8 +216,7 @@ impl Machine {
         self.end_fault(in_comment)
     }
 
-    /// Reads all lines up to the one of number `last`, at least one, and all of them text. Returns
-    /// the verdict of them all.
+    /// Reads all lines up to number `last`, at least one, all of them text. Returns their verdict.
     pub fn step_text(&mut self, last: u32) -> Verdict
         ensures value { StepsOverText self.old self.new last result }
         ensures verdict { result ≡ text_verdict self.old }
@@ -227,7 +226,7 @@ impl Machine {
         self.note_text(last)
     }
 
-    /// Records text lines, of which the last has number `last`, and returns their verdict.
+    /// Records text lines up to number `last`, and returns their verdict.
     fn note_text(&mut self, last: u32) -> Verdict
         ensures value { result ≡ text_verdict self.old }
         ensures rest { self.new ≡ record self.old { removed = is_removed result; last = last } }

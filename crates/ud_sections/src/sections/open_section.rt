@@ -14,7 +14,7 @@ use ud_model::{Cond, Mode, Verdict};
 /// An open section.
 #[derive(Clone, Copy)]
 pub(crate) struct OpenSection {
-    /// The state that its groups so far have led to.
+    /// The state after its groups so far.
     pub state: SectionState,
     /// Its last group is opened by an `#else`.
     pub else_seen: bool,
@@ -31,7 +31,7 @@ pub(crate) enum StackOp {
     Stay,
     /// The line opens this section.
     Push(OpenSection),
-    /// The line opens another group of the innermost section, which is this one then.
+    /// The line opens another group of the innermost section, which becomes this one.
     Replace(OpenSection),
     /// The line ends the innermost section.
     Pop,
@@ -42,7 +42,7 @@ pub(crate) enum StackOp {
 pub(crate) struct Action {
     /// The verdict.
     pub verdict: Verdict,
-    /// The line, or the section of a directive, is in a kept place.
+    /// The line (or a directive's section) is in a kept place.
     pub kept: bool,
     /// The change of the open sections.
     pub change: StackOp,

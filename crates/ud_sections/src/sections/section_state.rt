@@ -1,6 +1,6 @@
 //! The state of a section: what the conditions of its groups so far decide.
 //!
-//! `SectionState::next_group` is the table by which unifdef edits a section's directives.
+//! `SectionState::next_group` is unifdef's table for editing a section's directives.
 
 ghost use Rattle.std.specs.Prelude.{◌≡◌};
 ghost use Rattle.ud_model.specs.sections.Pruning.{first_kept_verdict, first_true_verdict};
@@ -21,8 +21,8 @@ pub(crate) enum Part {
     AnElse,
 }
 
-/// The state of a section: what the conditions of its groups so far decide of its last group and of
-/// those that follow.
+/// The state of a section: what the conditions of its groups so far decide about its last group and
+/// later ones.
 #[derive(Clone, Copy, PartialEq, Eq)]
 pub(crate) enum SectionState {
     /// The section is in a removed place.
@@ -31,19 +31,19 @@ pub(crate) enum SectionState {
     NoneKept,
     /// The last group is true, and all groups before it are false. The directives are removed.
     OnlyTrue,
-    /// No group is true, and the last one is unknown, and so kept.
+    /// No group is true; the last one is unknown, hence kept.
     LastUnknown,
-    /// No group is true, an earlier one is unknown, and so kept, and the last one is false.
+    /// No group is true; the last one is false, and an earlier one is unknown, hence kept.
     LastFalse,
-    /// After an unknown group, the last one is the first that is true.
+    /// After an unknown group, the last one is the first true one.
     LastTrue,
     /// The first true group has ended.
     AfterTrue,
 }
 
 impl SectionState {
-    /// Returns the state before the first group of a section. `kept` is whether the section is in a
-    /// kept place.
+    /// Returns the state before the first group of a section. `kept`: the section is in a kept
+    /// place.
     pub(crate) fn new(kept: bool) -> SectionState
         ensures { result ≡ new_state kept }
     {

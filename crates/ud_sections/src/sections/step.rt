@@ -14,7 +14,7 @@ pub struct Span {
 /// The decision on a line.
 #[derive(Clone, Copy, Debug, PartialEq, Eq)]
 pub struct Step {
-    /// The verdict: the line is kept, removed, or kept as another directive.
+    /// The verdict: the line is kept, removed, or turned into another directive.
     pub verdict: Verdict,
     /// The span of its directive's keyword in the body; 0 and 0 for a text line.
     pub keyword: Span,

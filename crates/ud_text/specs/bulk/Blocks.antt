@@ -1,4 +1,4 @@
--- Blocks: 64 bytes that are looked at once, with a bit for each significant one.
+-- Blocks: 64 bytes that are examined at once, with a bit for each significant one.
 --
 --   significant_bits bytes   the bit mask of the significant bytes
 --   IsBlock row bytes        the block `row` lies within the bytes, and has their bits
@@ -15,7 +15,7 @@ abbrev pub significant_bits : List ℕ → ℕ
 significant_bits bytes = mask_l (map is_significant bytes)
 
 -- `IsBlock row bytes`: the block `row` begins within `bytes`, and has the bits of its 64 bytes. If
--- a bit is set, all of them are there.
+-- a bit is set, the block is full.
 pub record IsBlock (row : Block) (bytes : List ℕ) : Type 0 where
   pub within : row.begin ≤ length bytes
   pub whole : (row.bits ≡ 0 → ⊥) → row.begin + 64 ≤ length bytes

@@ -7,13 +7,13 @@
 --   LastLineStarts bytes n        the last line of the bytes begins after the first `n` of them
 --   CodeLexeme white bytes        the bytes lead from outside comments and literals to outside
 --                                 them, and have no comment
---   LineLexeme white bytes        the bytes lead from there to the beginning of a line
+--   LineLexeme white bytes        the bytes lead from outside them to the beginning of a line
 --   may_splice a b                a newline after these two bytes may end a splice
 --   IsSplice bytes                a backslash and the ending of a line
---   IsWhiteAfter bytes begins v   `v` is whether the logical line is white after the bytes
+--   IsWhiteAfter bytes begins v   `v`: the logical line is white after the bytes
 --
--- Each of these runs but a splice is read without a stop, and none has a newline in a block comment
--- (`BulkStates.HasNoStop`, `BulkStates.NoNewlineInBlock`).
+-- Each of these runs except a splice is read without a stop, and none has a newline in a block
+-- comment (`BulkStates.HasNoStop`, `BulkStates.NoNewlineInBlock`).
 --
 -- Example: `"a\"b"` is a `CodeLexeme`, and `// a` with its newline a `LineLexeme`.
 use Rattle.std.specs.Prelude.{◌≡◌, ◌≤◌, ℕ, ◌==◌, List, [], ◌∷◌, ◌++◌, length, take, drop, Bool}
@@ -49,13 +49,13 @@ NoStarPair [] = Unit {0}
 NoStarPair (a ∷ []) = Unit {0}
 NoStarPair (a ∷ b ∷ bytes) = (is_star_pair a b ≡ false) × NoStarPair (b ∷ bytes)
 
--- `IsLineStart bytes`: a line begins after `bytes`, which end with a newline or are none
+-- `IsLineStart bytes`: a line begins after `bytes`, which end with a newline or are empty
 pub data IsLineStart : List ℕ → Type 0 where
   at_start : IsLineStart []
   after_newline : (prefix : List ℕ) → IsLineStart (prefix ++ newline ∷ [])
 
--- `LastLineStarts bytes n`: the last line of `bytes` begins after the first `n` of them; at their
--- end, if they end a line
+-- `LastLineStarts bytes n`: the last line of `bytes` begins after the first `n` of them, or at the
+-- end if the bytes end a line
 pub record LastLineStarts (bytes : List ℕ) (n : ℕ) : Type 0 where
   pub within : n ≤ length bytes
   pub begins : IsLineStart (take n bytes)
@@ -82,7 +82,7 @@ pub record LineLexeme (white : Bool) (bytes : List ℕ) : Type 0 where
   pub quiet : HasNoStop (code_state white) bytes
   pub no_newline : NoNewlineInBlock (code_state white) bytes
 
--- `may_splice a b`: a newline may end a splice, if `a` and `b` come directly before it
+-- `may_splice a b`: a newline directly after `a` and `b` may end a splice
 abbrev pub may_splice : ℕ → ℕ → Bool
 may_splice a b = (b == backslash) ||
     ((b == carriage_return) && ((a == backslash) || (a == carriage_return)))
@@ -92,8 +92,8 @@ pub data IsSplice : List ℕ → Type 0 where
   splice_newline : IsSplice (backslash ∷ newline ∷ [])
   splice_return_feed : IsSplice (backslash ∷ carriage_return ∷ newline ∷ [])
 
--- `IsWhiteAfter bytes begins v`: `v` is whether the logical line is white after `bytes`, which have
--- no comment, as looking back shows. If all of them are white, `v` is `begins`, as before them.
+-- `IsWhiteAfter bytes begins v`: by looking back, `v` is whether the logical line is white after
+-- `bytes`, which have no comment. If they are all white, `v` is `begins`, as before them.
 pub data IsWhiteAfter (bytes : List ℕ) (begins : Bool) : Bool → Type 0 where
   all_white : are_white bytes ≡ true → IsWhiteAfter bytes begins begins
   new_line : (prefix rest : List ℕ) → bytes ≡ prefix ++ newline ∷ rest → are_white rest ≡ true →

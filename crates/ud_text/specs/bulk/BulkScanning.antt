@@ -3,13 +3,12 @@
 --   lines_in_mode mode n lines          the lines, numbered from `n` on, each in this mode
 --   HaveNoDirective mode before lines   read in this mode after these readings, no line has a
 --                                       directive or a split keyword
---   AreWholeLines bytes                 the bytes end with a newline, or there are none
+--   AreWholeLines bytes                 the bytes end with a newline, or are empty
 --   ArePlainText bytes                  the bytes are whole lines, all text in plain mode
 --   SkipsText mode old new bytes        whatever readings `old` represents, `new` represents them
 --                                       and those of the bytes' lines; these are text
 --
--- A line counts by its bytes alone, never by its number, so the relations hold whatever the
--- numbers.
+-- Only a line's bytes count, never its number, so the relations hold whatever the numbers are.
 --
 -- Example: a scanner that skips `a` newline `/* b` newline in C mode represents two more readings,
 -- and the next line begins in a block comment.
@@ -38,7 +37,7 @@ HaveNoDirective mode before (line ∷ lines) =
     (content_of (scan_after before mode line) ≡ text) ×
     HaveNoDirective mode (before ++ next_reading before mode line ∷ []) lines
 
--- `AreWholeLines bytes`: the bytes end with a newline, or there are none
+-- `AreWholeLines bytes`: the bytes end with a newline, or are empty
 abbrev pub AreWholeLines : List ℕ → Type 0
 AreWholeLines bytes = partial_line bytes ≡ []
 

@@ -5,22 +5,22 @@
 --                                  whether a newline next is spliced
 --   next_bulk_state s b            the state after one more byte
 --   bulk_state_after s bytes       the state after these bytes
---   is_other_word bytes            the first word, after white space, is no keyword
---   HasNoStop s bytes              read from `s`, no splice counts and no `#` may belong to a
+--   is_other_word bytes            the first word, after white space, can't be a keyword
+--   HasNoStop s bytes              read from `s`, no splice matters and no `#` may belong to a
 --                                  directive
 --   NoNewlineInBlock s bytes       read from `s`, no newline is in a block comment
 --   line_state state white         the state at the beginning of a line
 --   can_start state                whole lines can be read from there
 --   scanner_state_at state white   the scanner's state for a line that begins there
---   Skipped start bytes now        the bytes are whole lines, all text, and lead from `start` to
+--   Skipped start bytes now        the bytes are whole lines, all text, leading from `start` to
 --                                  `now`
 --
 -- `LexStates` defines the state after a spliced text; these definitions take the bytes as they are
--- in their lines. Both agree as long as no byte stops the reading: a carriage return before a
--- newline changes neither state nor whiteness, and nor does a splice in a block comment. A splice
--- that would change them is a stop. Lines that such a splice joins are skipped one after another:
--- outside comments and literals, on a logical line that isn't white, the next line begins in the
--- state in which the text ends.
+-- in their lines. Both agree as long as no byte stops the reading: neither a carriage return before
+-- a newline nor a splice in a block comment changes state or whiteness. A splice that would change
+-- them is a stop. Lines that such a splice joins are skipped one after another: outside comments
+-- and literals, on a logical line that isn't white, the next line begins in the state that the text
+-- ends in.
 --
 -- Example: `x /* c` with its newline leads from `code_state true` without a stop to
 -- `block_state false`.
@@ -38,14 +38,14 @@ use Rattle.ud_text.specs.bulk.BulkScanning.{AreWholeLines, SkipsText}
 
 -- `BulkState`: the state after bytes of whole lines
 pub record BulkState : Type 0 where
-  -- the lexer's state, and whether the last logical line is white but for a slash at the end
+  -- the lexer's state, and whether the last logical line is white except for a slash at the end
   pub state : LexState
   pub white : Bool
-  -- a newline next would belong to a splice that counts
+  -- a newline next would belong to a splice that matters
   pub spliced : Bool
 
--- `ignores_splice state`: a splice here counts for nothing: the state is as before without the
--- splice's bytes, and with them
+-- `ignores_splice state`: a splice here doesn't matter: the state stays as it is, with or without
+-- the splice's bytes
 abbrev pub ignores_splice : LexState → Bool
 ignores_splice in_block = true
 ignores_splice in_text = false
@@ -65,9 +65,8 @@ shows_hash in_line = false
 shows_hash (in_literal quote) = true
 shows_hash (at_backslash quote) = true
 
--- `spliced_after state spliced b`: a newline after `b` belongs to a splice that counts. `state` is
--- the lexer's state before `b`, and `spliced`: a newline in place of `b` would belong to such a
--- splice.
+-- `spliced_after state spliced b`: a newline after `b` belongs to a splice that matters. `state` is
+-- the lexer's state before `b`. `spliced`: a newline in place of `b` would belong to such a splice.
 abbrev pub spliced_after : LexState → Bool → ℕ → Bool
 spliced_after state spliced b =
     if b == backslash then not (ignores_splice state)
@@ -87,18 +86,18 @@ abbrev pub bulk_state_after : BulkState → List ℕ → BulkState
 bulk_state_after s [] = s
 bulk_state_after s (b ∷ bytes) = bulk_state_after (next_bulk_state s b) bytes
 
--- `starts_with_no_keyword bytes`: a word that is no keyword comes first
+-- `starts_with_no_keyword bytes`: a word other than a keyword comes first
 abbrev pub starts_with_no_keyword : List ℕ → Bool
 starts_with_no_keyword [] = false
 starts_with_no_keyword (a ∷ []) = false
 starts_with_no_keyword (a ∷ b ∷ bytes) = is_no_keyword a b
 
--- `is_other_word bytes`: a word that is no keyword comes first, but for white space
+-- `is_other_word bytes`: a word other than a keyword comes first, after white space
 abbrev pub is_other_word : List ℕ → Bool
 is_other_word bytes = starts_with_no_keyword (skip_white bytes)
 
--- `stops_bulk s b rest`: `b`, which `rest` follows, is a newline of a splice that counts, or a `#`
--- that may belong to a directive
+-- `stops_bulk s b rest`: `b`, before `rest`, is a newline of a splice that matters, or a `#` that
+-- may belong to a directive
 abbrev pub stops_bulk : BulkState → ℕ → List ℕ → Bool
 stops_bulk s b rest =
     if b == newline then s.spliced
@@ -159,7 +158,7 @@ abbrev pub scanner_state_at : LexState → Bool → ScannerState
 scanner_state_at state white =
     record { state = state; white = white; joins = continues_line state white }
 
--- `AtLine s`: the state is one at the beginning of a line
+-- `AtLine s`: `s` is a state at the beginning of a line
 pub record AtLine (s : BulkState) : Type 0 where
   pub is : s ≡ line_state s.state s.white
   pub starts : can_start s.state ≡ true

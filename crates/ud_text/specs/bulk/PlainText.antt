@@ -1,5 +1,4 @@
--- PlainText: bytes of whole lines as plain mode reads them, where only a `#` may begin a directive
--- (C11 6.10).
+-- PlainText: whole lines in plain mode, where only a `#` may begin a directive (C11 6.10).
 --
 --   is_white_past white b             the line is white after `b`
 --   is_white_past_all white bytes     the line is white after these bytes
@@ -8,14 +7,14 @@
 --
 -- `white`: the line is white so far, before the byte or the bytes.
 --
--- Example: of `a #if` none may begin a directive, if the line is white before it or not. Of ` #if`
--- the `#` may, if the line is white before it.
+-- Example: no byte of `a #if` may begin a directive, whatever comes before it. In ` #if` the `#`
+-- may, if the line is white before it.
 use Rattle.std.specs.Prelude.{◌≡◌, ℕ, ◌==◌, List, [], ◌∷◌, Bool, false, not, ◌&&◌, ◌||◌}
 use Rattle.ud_model.specs.text.Bytes.{newline, number_sign, is_white}
 use Rattle.ud_text.specs.bulk.BulkStates.{is_other_word}
 
--- `is_white_past white b`: after `b` the line is white: `b` ends a line, or is white as all before
--- it
+-- `is_white_past white b`: after `b` the line is white: `b` ends a line, or is white like all
+-- before it
 abbrev pub is_white_past : Bool → ℕ → Bool
 is_white_past white b = (b == newline) || (white && is_white b)
 
@@ -24,8 +23,8 @@ abbrev pub is_white_past_all : Bool → List ℕ → Bool
 is_white_past_all white [] = white
 is_white_past_all white (b ∷ bytes) = is_white_past_all (is_white_past white b) bytes
 
--- `begins_directive white b rest`: `b` is the first byte of its line after white space, a `#`, and
--- no word that is no keyword follows it
+-- `begins_directive white b rest`: `b` is a `#`, the first byte of its line after white space, and
+-- what follows may be a keyword
 abbrev pub begins_directive : Bool → ℕ → List ℕ → Bool
 begins_directive white b rest = (b == number_sign) && (white && not (is_other_word rest))
 

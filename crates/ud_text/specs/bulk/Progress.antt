@@ -11,10 +11,10 @@
 --   InBlock start bytes line at white     as `ReadTo` a `LineStart`, in a block comment
 --   Steps bytes p result                  a step reads on, or stops at the beginning of a line
 --
--- Two positions move on together: `at`, up to which the bytes are read, and `line`, the last
--- beginning of a line for which the state was kept. `line` may be many lines late, since every line
--- begun after it begins a logical line outside comments. It catches up when the reading stops, a
--- block comment begins or a splice joins lines.
+-- Two positions advance: `at`, up to which the bytes are read, and `line`, the last beginning of a
+-- line with a known state. `line` may be many lines behind, since every later line begins a logical
+-- line outside comments. It catches up when the reading stops, a block comment begins or a splice
+-- joins lines.
 --
 -- Example: in `a` newline `b /* c` with `at` before the `/`, `line` may be 0 or 2.
 use Rattle.std.specs.Prelude.{◌≡◌, ◌≤◌, ℕ, ◌+◌, List, ◌++◌, length, take, Bool, Result, MatchResult}

@@ -1,4 +1,4 @@
--- Borrowing: a whole line with which a chunk begins, so that it needn't be buffered.
+-- Borrowing: a whole line at the beginning of a chunk, which needn't be buffered.
 -- POSIX XBD 3.206: a line ends with its newline.
 --
 --   CanBorrow lines chunk used   the first `used` bytes of the chunk are the next line of the text,

@@ -1,4 +1,4 @@
--- Consuming: many whole lines that are consumed at once, without a buffer.
+-- Consuming: many whole lines, consumed at once without a buffer.
 -- POSIX XBD 3.206: a line ends with its newline.
 --
 --   is_newline b             the byte ends a line

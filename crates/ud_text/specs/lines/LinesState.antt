@@ -4,7 +4,7 @@
 --   LinesRepresent lines text       `text` was taken so far: the consumed lines, and the buffered
 --                                   bytes
 --   UpToNewline chunk used whole    the chunk has `used` bytes up to its first newline
---   BreaksLimit lines chunk fault   the chunk exceeds this limit
+--   BreaksLimit lines chunk fault   the chunk exceeds a limit, with this fault
 --   HasCapacity room lines left     `left` more bytes fit after the buffered ones
 --   IsComplete lines                a line can be read
 --   IsLastLine text line            the line is the last one of the text
@@ -40,7 +40,7 @@ pub record LinesRepresent (lines : LinesState) (text : List ℕ) : Type 0 where
   pub count : lines.before ≡ length consumed
 
 -- `UpToNewline chunk used whole`: the first `used` bytes of `chunk` end with its first newline if
--- `whole`; if not, they are all of `chunk`, which has no newline
+-- `whole`; otherwise they are all of `chunk`, which has no newline
 pub record UpToNewline (chunk : List ℕ) (used : ℕ) (whole : Bool) : Type 0 where
   pub within : used ≤ length chunk
   pub all : whole ≡ false → (used ≡ length chunk) × NoNewline chunk
@@ -64,7 +64,7 @@ BreaksLimit lines chunk (LineTooLong line) =
     (LINE_BYTES < length lines.held + used))
 
 -- `HasCapacity room lines left`: `left` more bytes fit after the buffered ones, in a buffer of
--- `room` bytes. If the buffer takes a line of any length, any number fits that the line may have.
+-- `room` bytes. If the buffer takes a line of any length, any number that the line may have fits.
 abbrev pub HasCapacity : ℕ → LinesState → ℕ → Type 0
 HasCapacity room lines left = room < LINE_BYTES → length lines.held + left ≤ room
 
@@ -81,8 +81,8 @@ IsLineOf body ending number line = record { body = body; ending = ending; number
 abbrev pub IsLastLine : List ℕ → Line → Type 0
 IsLastLine text line = (earlier : List Line) × (lines_of text ≡ earlier ++ line ∷ [])
 
--- `Closes old new result`: the text has ended, and `result` is whether bytes are buffered: those of
--- its last line. Or `result` is the error after which the lines are fused, and nothing changes.
+-- `Closes old new result`: the text has ended, and `result` is whether bytes of its last line are
+-- buffered. Or `result` is the error after which the lines are fused, and nothing changes.
 abbrev pub Closes : LinesState → LinesState → Result Bool TextFault → Type 0
 Closes old new result = MatchResult result
     (λ last. (old.fault ≡ None) × (new ≡ record old { closed = true })

@@ -28,7 +28,7 @@ abbrev pub grown_items : GrowingBuffer → List ℕ
 grown_items buffer = items_of buffer.masked
 
 -- `GrownScansLine scanner mode line result`: if the scanner represents some readings and didn't
--- fail, it then represents these and the line's
+-- fail, it then represents these and the line's reading
 abbrev pub GrownScansLine : {T E : Type 0} → MutBor ScannerState → Mode → TextLine → Result T E →
     Fml
 GrownScansLine scanner mode line result =

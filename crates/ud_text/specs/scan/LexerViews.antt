@@ -1,4 +1,4 @@
--- LexerViews: the lexer's states and what it masks, as the definitions have them.
+-- LexerViews: the lexer's states and what it masks, in terms of the definitions.
 --
 --   lex_state_of state         the lexer's state
 --   shown_in borrowed masked   the masked bytes: the borrowed ones or, if there are none, `masked`
@@ -31,13 +31,13 @@ shown_in None masked = masked
 shown_in (Some bytes) masked = bytes.now
 
 -- `MasksMore old masked bytes new longer`: the lexer `old`, after a text whose line is masked as
--- `masked`, reads `bytes`. Then it is `new`, and the line is masked as `longer`.
+-- `masked`, reads `bytes`. It is then `new`, and the line is masked as `longer`.
 abbrev pub MasksMore : Lexer → List ℕ → List ℕ → Lexer → List ℕ → Type 0
 MasksMore old masked bytes new longer =
     (n : ℕ) → (text : List ℕ) → Masks n text (lex_state_of old.state) old.white masked →
     Masks n (text ++ bytes) (lex_state_of new.state) new.white longer
 
--- `MasksContent old content new masked`: the lexer `old` reads the content of a line. Then it is
+-- `MasksContent old content new masked`: the lexer `old` reads the content of a line. It is then
 -- `new`, and the content is masked as `masked`.
 abbrev pub MasksContent : Lexer → List ℕ → Lexer → List ℕ → Type 0
 MasksContent old content new masked =

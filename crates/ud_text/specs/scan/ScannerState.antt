@@ -3,14 +3,14 @@
 --   ScannerState                          the state that is carried from line to line
 --   ScannerRepresents scan_state before   the state represents these readings: the lines so far,
 --                                         each in its mode and with its scan
---   ends_in_block readings                a block comment is unclosed at the end of the last
+--   ends_in_block readings                a block comment is open at the end of the last
 --                                         reading
 --   ReadsNext mode old line new           the state `new` represents one more reading than `old`
---   IsNextScan mode old line scan         the scan is that of the next line
+--   IsNextScan mode old line scan         `scan` is the scan of the next line
 --   StaysAfter state line                 the state represents one more reading, in each mode
---   IsScanOf state line scan              the scan is that of the next line, in each mode
+--   IsScanOf state line scan              `scan` is the scan of the next line, in each mode
 --
--- The scanner's clauses state all of `ScannerRepresents` that a reader needs. A new scanner
+-- The scanner's contracts say all that a caller needs of `ScannerRepresents`. A new scanner
 -- represents no readings. A scanner that reads a line represents one more reading, and returns the
 -- scan of the line after the readings.
 --
@@ -30,7 +30,7 @@ use Rattle.ud_text.specs.scan.LexerViews.{lex_state_of}
 use Rattle.ud_text.specs.declared.scan.scanner.ScanState.{ScanState}
 use Rattle.ud_text.specs.declared.scan.scanner.LineFlags.{LineFlags}
 
--- `ends_in_block readings`: a block comment is unclosed at the end of the last of these readings
+-- `ends_in_block readings`: a block comment is open at the end of the last of these readings
 abbrev pub ends_in_block : List Reading → Bool
 ends_in_block [] = false
 ends_in_block (r ∷ []) = is_in_block r.scan.comment
@@ -39,7 +39,7 @@ ends_in_block (r ∷ q ∷ readings) = ends_in_block (q ∷ readings)
 -- `ScannerState`: the state that is carried from line to line
 pub record ScannerState : Type 0 where
   -- the lexer's state after the spliced text of the C run, and whether its last logical line is
-  -- white but for a slash at the end
+  -- white except for a slash at the end
   pub state : TextPlace
   pub white : Bool
   -- the last line of the C run joins the next one
@@ -75,29 +75,29 @@ scan_with masked facts = record {
   comment = facts.comment;
 }
 
--- `ReadsNext mode old line new`: if `old` represents some readings, `new` represents them and that
--- of the line, read in this mode
+-- `ReadsNext mode old line new`: if `old` represents some readings, `new` represents them and the
+-- line's reading in this mode
 abbrev pub ReadsNext : Mode → ScanState → Line → ScanState → Type 0
 ReadsNext mode old line new =
     (before : List Reading) → ScannerRepresents (scanner_state_of old) before →
     ScannerRepresents (scanner_state_of new) (before ++ next_reading before mode line ∷ [])
 
--- `IsNextScan mode old line scan`: after readings that `old` represents, the scan is that of the
--- line, read in this mode
+-- `IsNextScan mode old line scan`: after readings that `old` represents, `scan` is the scan of the
+-- line in this mode
 abbrev pub IsNextScan : Mode → ScanState → Line → LineScan → Type 0
 IsNextScan mode old line scan =
     (before : List Reading) → ScannerRepresents (scanner_state_of old) before →
     scan ≡ scan_after before mode line
 
--- `StaysAfter state line`: if `state` represents some readings, it represents them and that of the
--- line, in whatever mode the line is read
+-- `StaysAfter state line`: if `state` represents some readings, it also represents them and the
+-- line's reading in any mode
 abbrev pub StaysAfter : ScannerState → Line → Type 0
 StaysAfter state line =
     (mode : Mode) → (before : List Reading) → ScannerRepresents state before →
     ScannerRepresents state (before ++ next_reading before mode line ∷ [])
 
--- `IsScanOf state line scan`: after readings that `state` represents, the scan is that of the line,
--- in whatever mode the line is read
+-- `IsScanOf state line scan`: after readings that `state` represents, `scan` is the scan of the
+-- line in any mode
 abbrev pub IsScanOf : ScannerState → Line → LineScan → Type 0
 IsScanOf state line scan =
     (mode : Mode) → (before : List Reading) → ScannerRepresents state before →

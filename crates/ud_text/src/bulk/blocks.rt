@@ -1,7 +1,7 @@
-//! Blocks of 64 bytes, of which all significant bytes are found at once.
+//! Blocks of 64 bytes, whose significant bytes are all found at once.
 //!
-//! The bit mask of the current block is kept. So the next significant byte of a block costs one bit
-//! scan, and no further look at its bytes.
+//! The bit mask of the current block is kept, so the next significant byte in it costs one bit
+//! scan.
 
 ghost use Rattle.std.specs.Prelude.{◌≡◌, ◌≤◌, ◌+◌, length, take, drop};
 ghost use Rattle.std.specs.List.{position_or_len};
@@ -14,9 +14,8 @@ use std::simd::prelude::*;
 /// The number of bytes of a block.
 const BLOCK_BYTES: usize = 64;
 
-/// The significant byte of each low nibble, of which there is at most one. A nibble without one has
-/// a byte with another low nibble, which never matches. The 16 entries are repeated four times,
-/// once for each part of a block.
+/// The significant byte with each low nibble; no nibble has two. A nibble without one has a byte
+/// with another low nibble, which never matches. The 16 entries repeat for each quarter of a block.
 const BY_LOW_NIBBLE: [u8; BLOCK_BYTES] = [
     1, 0, b'"', b'#', 0, 0, 0, b'\'', 0, 0, 0, 0, b'\\', 0, 0, b'/', 1, 0, b'"', b'#', 0, 0, 0,
     b'\'', 0, 0, 0, 0, b'\\', 0, 0, b'/', 1, 0, b'"', b'#', 0, 0, 0, b'\'', 0, 0, 0, 0, b'\\', 0,
@@ -26,9 +25,9 @@ const BY_LOW_NIBBLE: [u8; BLOCK_BYTES] = [
 /// The significant bytes of a block, as a bit mask.
 #[derive(Clone, Copy)]
 pub(crate) struct Block {
-    /// The position of the block's first byte. At the end of the bytes there is no block.
+    /// The position of the block's first byte. No block begins at the end of the bytes.
     begin: usize,
-    /// A bit for each byte of the block, the lowest for the first.
+    /// One bit for each byte of the block, the lowest for the first byte.
     bits: u64,
 }
 
@@ -57,7 +56,7 @@ fn block_bits(bytes: &[u8], at: usize) -> u64
 }
 
 /// Returns the position of the first significant byte from `begin` on, and its block. The position
-/// is `bytes.len()` if there is none. The last bytes, if they fill no block, have none.
+/// is `bytes.len()` if there is none. Bytes after the last full block have no block.
 #[inline(always)]
 fn significant_from(bytes: &[u8], begin: usize) -> (usize, Block)
     requires within { begin ≤ length bytes.now }

@@ -1,7 +1,7 @@
-//! Decides whether a `#` may belong to a directive, by the bytes before it and after it.
+//! Decides whether a `#` may belong to a directive, by the bytes around it.
 //!
-//! The `#` belongs to none if a word that is no keyword follows, or if its logical line isn't white
-//! before it (C11 6.10).
+//! It doesn't if a word other than a keyword follows, or if its logical line isn't white before it
+//! (C11 6.10).
 
 ghost use Rattle.std.specs.Prelude.{◌≡◌, ◌≤◌, ◌<◌, ◌-◌, length, take, drop, slice_index, true};
 ghost use Rattle.std.specs.Prelude.{false, IfSome};
@@ -13,8 +13,8 @@ use crate::searching::is_significant;
 use ud_model::bytes::{is_white, skip_white};
 use ud_model::keywords::is_no_keyword;
 
-/// Returns whether the first word, after white space, is no keyword, as its first two bytes show.
-/// So a `#` before it belongs to no directive.
+/// Returns whether the first two bytes of the first word, after white space, rule out a keyword. A
+/// `#` before it then belongs to no directive.
 pub fn is_other_word(bytes: &[u8]) -> bool
     ensures { result ≡ is_other_word bytes.now }
 {
@@ -24,8 +24,8 @@ pub fn is_other_word(bytes: &[u8]) -> bool
     }
 }
 
-/// Returns how many leading bytes show that the first word is no keyword: the white space before
-/// the word, and two of its bytes. None of these bytes is significant.
+/// Returns how many leading bytes rule out a keyword: the white space before the first word, and
+/// two bytes of it. None of these bytes is significant.
 pub(crate) fn other_word_len(bytes: &[u8]) -> Option<usize>
     ensures bound { IfSome result (λ n. n ≤ length bytes.now) }
     ensures plain { IfSome result (λ n. NoSignificant (take n bytes.now)) }
@@ -41,7 +41,7 @@ pub(crate) fn other_word_len(bytes: &[u8]) -> Option<usize>
     None
 }
 
-/// Returns the position at which the trailing white space begins.
+/// Returns the position where the trailing white space begins.
 fn trailing_white_start(bytes: &[u8]) -> usize
     ensures bound { result ≤ length bytes.now }
     ensures white { are_white (drop result bytes.now) ≡ true }

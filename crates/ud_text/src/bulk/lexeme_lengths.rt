@@ -1,6 +1,6 @@
-//! Lengths of what is read in one go outside block comments, each begun by a significant byte.
+//! Lengths of what is read at once outside block comments, each begun by a significant byte.
 //!
-//! A lexeme ends on the line on which it begins. The result is `None` if its end isn't among the
+//! A lexeme ends on the line where it begins. The result is `None` if its end isn't among the
 //! bytes, or if a backslash may belong to a splice: the line is then read by itself.
 
 ghost use Rattle.std.specs.Prelude.{◌≡◌, ◌≤◌, ◌<◌, ◌-◌, Bool, [], ◌∷◌, length, take, true};
@@ -87,8 +87,8 @@ pub(crate) fn splice_len(rest: &[u8]) -> Option<usize>
     }
 }
 
-/// Returns the length of a literal with this quote, up to the quote that closes it, or else with
-/// the newline of its line (C11 6.4.4.4 and 6.4.5). `None` if that newline may belong to a splice.
+/// Returns the length of a literal with this quote, up to its closing quote, or else with the
+/// newline of its line (C11 6.4.4.4 and 6.4.5). `None` if that newline may belong to a splice.
 pub(crate) fn literal_len(rest: &[u8], quote: u8) -> Option<usize>
     requires some { 0 < length rest.now }
     requires first { slice_index rest.now 0 ≡ quote }
@@ -125,24 +125,22 @@ pub(crate) fn literal_len(rest: &[u8], quote: u8) -> Option<usize>
     None
 }
 
-/// Returns whether a newline may end a splice, if these two bytes come directly before it.
+/// Returns whether a newline directly after these two bytes may end a splice.
 fn may_splice(first: u8, second: u8) -> bool
     ensures { result ≡ may_splice first second }
 {
     second == b'\\' || second == b'\r' && (first == b'\\' || first == b'\r')
 }
 
-/// The most slashes that `quoted_line_len` passes over, but for those that begin a block comment.
-/// Each is a search of its own.
+/// The most slashes that `quoted_line_len` skips, except those that begin a block comment. Each
+/// costs a search of its own.
 const MOST_SLASHES: usize = 2;
 
 /// Returns the length of the rest of a line with its newline, which begins with a quote outside
-/// comments and literals. Whatever its literals and comments are, the next line begins outside
-/// them.
+/// comments and literals. The next line begins outside them, too.
 ///
-/// That isn't known if a block comment may be open at the newline, if the newline may belong to a
-/// splice, or if too many slashes come before it. Then `Err` has the position up to which the line
-/// was looked at.
+/// `Err` if a block comment may be open at the newline, if the newline may belong to a splice, or
+/// if too many slashes come before it. It has the position up to which the line was searched.
 pub(crate) fn quoted_line_len(rest: &[u8]) -> Result<usize, usize>
     requires some { 0 < length rest.now }
     requires first { is_quote (slice_index rest.now 0) ≡ true }

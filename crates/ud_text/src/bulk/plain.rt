@@ -1,8 +1,8 @@
 //! Skips many whole text lines at once in plain mode.
 //!
-//! A line without a `#` is text in plain mode. So is one whose first byte after white space is no
-//! `#`, and one with a `#` and a word that is no keyword. So the bytes are read from one `#` to the
-//! next, and a line is looked for only at the end.
+//! In plain mode a line is text if its first byte after white space is no `#`, or if a word other
+//! than a keyword follows that `#`. So the bytes are read from one `#` to the next, and line
+//! boundaries are looked for only at the end.
 
 ghost use Rattle.std.specs.Prelude.{◌≡◌, ◌≤◌, ◌<◌, ◌+◌, length, take, drop, true};
 ghost use Rattle.ud_text.specs.bulk.BulkScanning.{ArePlainText};
@@ -13,7 +13,7 @@ use crate::bulk::hash_sign::{is_line_white_after, other_word_len};
 use crate::searching::last_line_start;
 use memchr::memchr;
 
-/// Returns the number of bytes before the first `#`, or of all.
+/// Returns the number of bytes before the first `#`, or of all bytes.
 fn before_hash_len(bytes: &[u8]) -> usize
     ensures bound { result ≤ length bytes.now }
     ensures plain { NoHash (take result bytes.now) }
@@ -24,8 +24,8 @@ fn before_hash_len(bytes: &[u8]) -> usize
     }
 }
 
-/// Returns how many bytes from `at` on show that the `#` there begins no directive: a word that is
-/// no keyword follows it, or its line isn't white before it. Returns 0 if they don't show it.
+/// Returns how many bytes from `at` on show that the `#` there begins no directive: a word other
+/// than a keyword follows it, or its line isn't white before it. Returns 0 if none do.
 fn other_hash_len(lines: &[u8], at: usize) -> usize
     requires within { at < length lines.now }
     ensures bound { at + result ≤ length lines.now }
@@ -42,7 +42,7 @@ fn other_hash_len(lines: &[u8], at: usize) -> usize
     1
 }
 
-/// Returns the number of bytes before the first that may begin a directive, or of all.
+/// Returns the number of bytes before the first one that may begin a directive, or of all bytes.
 fn before_directive_len(lines: &[u8]) -> usize
     ensures bound { result ≤ length lines.now }
     ensures text { NoneBeginsDirective true (take result lines.now) }
@@ -62,7 +62,7 @@ fn before_directive_len(lines: &[u8]) -> usize
     at
 }
 
-/// Returns the length of the leading whole lines that show that they have no directive.
+/// Returns the length of the leading whole lines that clearly have no directive.
 pub(crate) fn plain_text_len(lines: &[u8]) -> usize
     ensures bound { result ≤ length lines.now }
     ensures text { ArePlainText (take result lines.now) }

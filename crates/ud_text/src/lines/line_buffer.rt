@@ -12,9 +12,9 @@ pub const SHORT_LINE_BUFFER_BYTES: usize = 8_192;
 
 /// A buffer for the bytes of one line: an array of some capacity.
 ///
-/// What buffers a line has the type of its buffer as a parameter, and not its capacity. An engine
-/// has a printer beside the buffer. With a number as the capacity, a caller that is generic over
-/// its printer would have to show that both together have a countable size.
+/// Types that buffer a line take the buffer's type as a parameter, not its capacity. An engine has
+/// a printer beside the buffer. With a number as the capacity, a caller generic over its printer
+/// would have to show that both together have a countable size.
 pub trait LineBuffer: Drop {
     /// The buffered bytes.
     ghost items: { Self → List ℕ };
@@ -34,7 +34,7 @@ pub trait LineBuffer: Drop {
         requires { length (items self.old) < CAPACITY }
         ensures { items self.new ≡ items self.old ++ byte ∷ [] };
 
-    /// Removes and returns the last byte, if there is one.
+    /// Removes and returns the last byte, if any.
     fn pop(&mut self) -> Option<u8>
         ensures items { items self.old ≡ items self.new ++ option_to_list result }
         ensures variant { IsSome result ↔ (0 < length (items self.old)) };

@@ -1,4 +1,4 @@
-//! Counts newlines, and finds how far the whole lines go that fit.
+//! Counts newlines, and finds how far whole lines within the limit go.
 
 ghost use Rattle.std.specs.Prelude.{◌≡◌, ◌≤◌, ◌<◌, ◌+◌, ℕ, length, take, drop, true};
 ghost use Rattle.std.specs.List.{count_by};
@@ -34,7 +34,7 @@ fn add_newlines(counts: u8x64, bytes: &[u8], at: usize) -> u8x64
     counts.strict_add(found.select(u8x64::splat(1), u8x64::splat(0)))
 }
 
-/// Returns how many of the `N` bytes from `at` on are newlines.
+/// Returns the number of newlines among the `N` bytes from `at` on.
 #[inline(always)]
 fn newlines_in_lanes<const N: usize>(bytes: &[u8], at: usize) -> usize
     requires few { N ≤ 64 }
@@ -46,7 +46,7 @@ fn newlines_in_lanes<const N: usize>(bytes: &[u8], at: usize) -> usize
     lanes.simd_eq(Simd::splat(b'\n')).to_bitmask().count_ones() as usize
 }
 
-/// Returns how many of a few bytes are newlines.
+/// Returns the number of newlines among a few bytes.
 fn newlines_one_by_one(bytes: &[u8]) -> usize
     ensures value { result ≡ count_by is_newline bytes.now }
     ensures bound { result ≤ length bytes.now }
@@ -63,7 +63,7 @@ struct NewlineCount {
     at: usize,
 }
 
-/// Counts the newlines, `N` bytes after `N`. The last bytes, fewer than `N`, are left out.
+/// Counts the newlines, `N` bytes at a time. The last bytes, fewer than `N`, are left out.
 #[inline(always)]
 fn newlines_by_lanes<const N: usize>(bytes: &[u8]) -> NewlineCount
     requires some { 0 < N }

@@ -1,7 +1,7 @@
-//! A scanner of lines that are mostly short. It takes memory for the first long one.
+//! A scanner of lines that are mostly short. It takes memory at the first long one.
 //!
-//! A `Scanner` whose buffer holds the longest line clears that buffer once. Where many texts are
-//! scanned, each with a scanner of its own, that would cost more than most texts.
+//! A `Scanner` whose buffer holds the longest line clears that buffer once. With a scanner for each
+//! of many texts, that would cost more than most of the texts.
 
 ghost use Rattle.std.specs.Prelude.{◌≡◌, ◌≤◌, List, [], length, IfOk};
 ghost use Rattle.std.specs.Borrow.{sem};
@@ -34,7 +34,7 @@ enum Masked {
     Long(Box<LongLineBuffer>),
 }
 
-/// A buffer for a masked line, which takes memory for the first long one.
+/// A buffer for a masked line, which takes memory at the first long one.
 #[derive(Drop)]
 pub struct GrowingBuffer {
     masked: Masked,

@@ -2,7 +2,7 @@
 //!
 //! The text is read a byte at a time, and the state after it is carried from byte to byte. A slash
 //! is shown as a slash until the next byte begins a comment with it. Runs of bytes that leave the
-//! state unchanged are read at once: outside comments and literals, and within comments.
+//! state unchanged, outside comments and literals or within comments, are read at once.
 
 ghost use Rattle.std.specs.Prelude.{◌≡◌, ◌≤◌, ◌<◌, ◌+◌, ◌&&◌, ℕ, List, [], ◌∷◌, ◌++◌, length, take};
 ghost use Rattle.std.specs.Prelude.{replicate};
@@ -43,8 +43,8 @@ pub(crate) enum LexState {
 pub(crate) struct Lexer {
     /// The state after the text.
     pub(crate) state: LexState,
-    /// All that is shown of the text's last logical line is white space, but for a slash at its end
-    /// that may begin a comment.
+    /// The text's last logical line shows only white space, except for a slash at its end that may
+    /// begin a comment.
     pub(crate) white: bool,
 }
 
@@ -108,7 +108,7 @@ pub(crate) fn opens_comment(state: LexState, byte: u8) -> bool
     }
 }
 
-/// Returns the byte that shows `byte`, as long as nothing follows it.
+/// Returns `byte` as it is shown while nothing follows it.
 fn masked_byte(state: LexState, byte: u8) -> u8
     ensures { result ≡ masked_byte (lex_state_of state) byte }
 {
@@ -246,9 +246,9 @@ fn mask_content<H: LineBuffer>(lexer: Lexer, content: &[u8], masked: &mut H) -> 
     inside
 }
 
-/// Reads the content of a line. The content is shown unchanged, and borrowed, if the text before it
-/// ends outside comments and literals and it has no mark. Otherwise it is appended to `masked` as
-/// it is shown.
+/// Reads the content of a line. If the text before it ends outside comments and literals and it has
+/// no mark, it is shown unchanged, and borrowed. Otherwise it is appended to `masked` as it is
+/// shown.
 #[inline(always)]
 pub(crate) fn mask_or_borrow<'a, H: LineBuffer>(
     lexer: Lexer,
@@ -272,7 +272,7 @@ pub(crate) fn mask_or_borrow<'a, H: LineBuffer>(
     (mask_content(lexer, content, masked), None)
 }
 
-/// The most bytes of a line that are masked at once if nothing reads them.
+/// The most bytes of a line that are masked at once by `pass_content`.
 const PIECE_BYTES: usize = 64;
 
 /// Reads the content of a line of any length, without showing it.

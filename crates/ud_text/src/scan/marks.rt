@@ -1,4 +1,4 @@
-//! Marks: the bytes at which a comment, a literal or a splice may begin or end.
+//! Marks: the bytes where a comment, a literal or a splice may begin or end.
 
 ghost use Rattle.std.specs.Prelude.{◌≡◌};
 ghost use Rattle.std.specs.List.{position_or_len};

@@ -1,4 +1,4 @@
-//! Matching a name against a pattern.
+//! Matches a name against a pattern.
 
 ghost use Rattle.std.specs.Prelude.{◌≡◌, ◌<◌, ◌≤◌, ◌∷◌, ◌↔◌, true, length};
 ghost use Rattle.std.specs.Prelude.{map, string_bytes};
@@ -7,7 +7,7 @@ ghost use Rattle.ud_tree.specs.PatternPlaces.{Reaches, IsShorter, StopsAt};
 
 use crate::patterns::parts::after_part;
 
-/// The place up to which the parts of a pattern match the bytes of a name.
+/// The progress in matching the parts of a pattern with the bytes of a name.
 #[derive(Clone, Copy)]
 pub(crate) enum Progress<'a> {
     /// Up to the end of both, or not.
@@ -39,10 +39,10 @@ pub(crate) fn matches_any(patterns: &[String], name: &[u8]) -> bool
     false
 }
 
-/// Returns whether the pattern that follows a `*` matches some end of a name.
+/// Returns whether the pattern after a `*` matches some end of a name.
 ///
-/// Once its parts up to the next `*` match somewhere, they need no later place: what the next `*`
-/// leaves of the name there is an end of what it leaves here.
+/// Once its parts up to the next `*` match somewhere, no later place can help: the next `*` can
+/// skip to whatever would follow there.
 fn matches_later(pattern: &[u8], name: &[u8]) -> bool
     ensures { (result ≡ true) ↔ Matches (42 ∷ pattern.now) name.now }
 {
@@ -82,8 +82,7 @@ fn match_parts<'a>(pattern: &'a [u8], name: &'a [u8]) -> Progress<'a>
     stop(parts, bytes)
 }
 
-/// Returns how far the parts match where no part matches the next byte of the name, or none is
-/// left.
+/// Returns how far the parts match if no part matches the next byte of the name, or none is left.
 fn stop<'a>(pattern: &'a [u8], name: &'a [u8]) -> Progress<'a>
     ensures { StopsAt pattern.now name.now result }
 {

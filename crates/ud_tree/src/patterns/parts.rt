@@ -27,7 +27,7 @@ pub(crate) fn after_part(pattern: &[u8], byte: u8) -> Option<&[u8]>
     }
 }
 
-/// Returns the pattern after the byte that follows a backslash, if that is this byte.
+/// Returns the pattern after the byte that follows a backslash, if it is this byte.
 fn after_backslash(rest: &[u8], byte: u8) -> Option<&[u8]>
     ensures { option_map (λ r. r.now) result ≡ after_backslash rest.now byte }
 {
@@ -39,8 +39,8 @@ fn after_backslash(rest: &[u8], byte: u8) -> Option<&[u8]>
     }
 }
 
-/// Returns the pattern after a set, if the set has this byte. `rest` is what follows its bracket,
-/// which is a byte if the set has no end.
+/// Returns the pattern after a set, if the set has this byte. `rest` follows its bracket, which is
+/// an ordinary byte if the set has no end.
 fn after_set(rest: &[u8], byte: u8) -> Option<&[u8]>
     ensures { option_map (λ r. r.now) result ≡ after_set (set_after rest.now byte) rest.now byte }
 {

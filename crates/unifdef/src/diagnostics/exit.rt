@@ -11,7 +11,7 @@ use ud_faults::RunFault;
 use ud_io::Watched;
 use ud_model::{ExitMode, Listing, Settings};
 
-/// The status of a fault, of any kind.
+/// The status of any fault.
 pub const EXIT_TROUBLE: u8 = 2;
 
 /// Returns the result of the run after the flush: a failed flush is `Write`, unless the run has
@@ -25,7 +25,7 @@ pub fn final_result(ran: Result<bool, RunFault>, flushed: bool) -> Result<bool, 
     }
 }
 
-/// Writes the message of a run's fault, if there is one, and returns the exit status.
+/// Writes the message of a run's fault, if any, and returns the exit status.
 pub fn report_result<E: Write>(
     err: &mut Watched<E>,
     name: &[u8],
@@ -46,8 +46,7 @@ pub fn report_result<E: Write>(
     }
 }
 
-/// Returns the status of a text without a fault. If names are listed, the status is 0 in every
-/// mode.
+/// Returns the status of a text without a fault. If names are listed, it is 0 in every mode.
 fn status_under(settings: Settings, differs: bool) -> u8
     ensures { result ≡ status_under settings.listing settings.exit_mode differs }
 {
@@ -57,8 +56,8 @@ fn status_under(settings: Settings, differs: bool) -> u8
     }
 }
 
-/// Returns the status by the exit mode, if there is no fault. `differs` says whether the output for
-/// the text differs from it, or for some text of several.
+/// Returns the status by the exit mode, if there is no fault. `differs`: the output for the text
+/// (or for one of several) differs from it.
 pub fn status_by(mode: ExitMode, differs: bool) -> u8
     ensures { result ≡ status_by mode differs }
 {

@@ -1,4 +1,4 @@
-//! The message of each fault, which ends in a newline, and is written only to the error stream.
+//! The message of each fault. It ends in a newline, and is written only to the error stream.
 
 ghost use Rattle.std.specs.Prelude.{◌≡◌, false};
 ghost use Rattle.ud_model.specs.answer.Messages.{about, about_line, message_of};
@@ -12,7 +12,7 @@ use std::io::Write;
 use ud_faults::{RunFault, SectionFault, TextFault};
 use ud_io::{Watched, send_parts};
 
-/// Reports why a run ended. If a write fails, a prefix of the message was written.
+/// Reports why a run ended. If a write fails, only a prefix of the message was written.
 pub(crate) fn report_fault<E: Write>(err: &mut Watched<E>, name: &[u8], fault: RunFault)
     requires not_failed { err.old.failed ≡ false }
     ensures { AppendsAllOrPrefix err.new.failed (E.contents err.old.inner)

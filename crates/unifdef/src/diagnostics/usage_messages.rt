@@ -9,7 +9,7 @@ use std::io::Write;
 use ud_args::Usage;
 use ud_io::{Watched, send_parts, write_all};
 
-/// Reports a fault of the arguments, or that memory couldn't be allocated. If a write fails, a
+/// Reports a fault of the arguments, or that memory couldn't be allocated. If a write fails, only a
 /// prefix of the message was written.
 pub fn report_usage<E: Write>(err: &mut Watched<E>, usage: Usage)
     requires not_failed { err.old.failed ≡ false }
@@ -47,7 +47,7 @@ fn report_letter<E: Write>(err: &mut Watched<E>, before: &[u8], letter: char, af
     send_parts(err, &[before, bytes, after]);
 }
 
-/// Writes a message that ends in the number of an argument, after `text`.
+/// Writes `text` and the number of an argument as a message.
 fn report_number<E: Write>(err: &mut Watched<E>, text: &[u8], word: usize)
     requires not_failed { err.old.failed ≡ false }
     ensures { AppendsAllOrPrefix err.new.failed (E.contents err.old.inner)
