@@ -1,11 +1,11 @@
 //! Skips many whole text lines at once in C mode.
 //!
 //! The bytes are read from one significant byte to the next: `/`, a quote, a backslash or `#`. At
-//! anything unusual the reading stops at the beginning of that line. So each way to continue is a
-//! step of its own, and a step that isn't sure may stop.
+//! anything unusual, reading stops at the beginning of that line. So each way to continue is a step
+//! of its own, and a step may stop when in doubt.
 //!
-//! Most bytes are read by the fast path. It doesn't always know the line at which it stops. Then
-//! the steps below read the bytes anew, and keep the last line at each comment. A step that stops
+//! The fast path reads most bytes, but doesn't always know the line where it stops. Then the steps
+//! below read the bytes again, keeping track of the last line at each comment. A step that stops
 //! returns `Err` with the beginning of its line.
 //!
 //! A new kind of lexeme needs a function in lexeme_lengths.rt and its lemma.
@@ -21,8 +21,9 @@ ghost use Rattle.ud_text.specs.bulk.Progress.{InBlock, LeavesBlock, Steps};
 ghost use Rattle.ud_text.specs.scan.LexerViews.{lex_state_of};
 
 use crate::scan::lexer::{LexState, Lexer};
-use crate::searching::{find_star_pair, last_line_start};
+use crate::searching::last_line_start;
 use blocks::{Block, next_significant, no_block};
+use fast_path::find_star_pair;
 use hash_sign::{is_line_white_after, other_word_len};
 use lexeme_lengths::{lexeme_len, line_comment_len, splice_len};
 
@@ -35,7 +36,7 @@ pub(crate) mod plain;
 /// The beginning of a line.
 #[derive(Clone, Copy)]
 pub(crate) struct LineStart {
-    /// The position of the line's first byte. The lines before it are text.
+    /// The position of the line's first byte. All lines before it are text.
     pub(crate) at: usize,
     /// The lexer at that position.
     pub(crate) lexer: Lexer,
@@ -49,14 +50,14 @@ struct Progress {
     line: LineStart,
     /// A position from which on no comment begins.
     base: usize,
-    /// The logical line is white at `base`.
+    /// At `base` the logical line is white so far.
     begins: bool,
     /// The position up to which the bytes are read.
     at: usize,
 }
 
-/// Returns the last line that begins at or before `at`. Each line begun after `line` begins a
-/// logical line outside comments.
+/// Returns the last line that begins at or before `at`. Each line after `line` begins a logical
+/// line outside comments.
 fn last_line(lines: &[u8], line: LineStart, at: usize) -> LineStart
     requires order { line.at ≤ at }
     requires within { at ≤ length lines.now }
@@ -111,7 +112,7 @@ fn last_line_in_block(
 }
 
 /// Skips the rest of the block comment in which `at` lies. Stops if `lines` doesn't close the
-/// comment, or if a splice may stand between its star and its slash.
+/// comment, or if a splice may separate its star and slash.
 fn skip_to_block_end(
     lines: &[u8],
     line: LineStart,
@@ -124,18 +125,14 @@ fn skip_to_block_end(
     ensures bound { IfErr result (λ stop. stop.at ≤ length lines.now) }
     ensures read { LeavesBlock lines.now line at white result }
 {
-    let rest = &lines[at..];
-    let count = find_star_pair(rest);
-    let last = last_line_in_block(lines, line, at, white, count);
-    if count >= rest.len() {
-        return Err(last);
-    }
-    if rest[count + 1] == b'/' {
+    let (pair, closes, _) = find_star_pair(lines, no_block(lines), at);
+    let last = last_line_in_block(lines, line, at, white, pair - at);
+    if closes {
         return Ok(Progress {
             line: last,
-            base: at + count + 2,
+            base: pair + 2,
             begins: white,
-            at: at + count + 2,
+            at: pair + 2,
         });
     }
     Err(last)
@@ -218,7 +215,7 @@ fn text_step(lines: &[u8], p: Progress) -> Result<Progress, LineStart>
 }
 
 /// Skips a splice of `count` bytes: the next line continues the logical line. Stops if the logical
-/// line is white so far.
+/// line is still white.
 fn splice_step(lines: &[u8], p: Progress, count: usize) -> Result<Progress, LineStart>
     requires order { InOrder p lines.now }
     requires some { (0 < count) × (count ≤ length (drop p.at lines.now)) }
@@ -279,7 +276,7 @@ fn plain_step(lines: &[u8], row: Block, p: Progress) -> (Block, Progress)
     (row, Progress { at, ..p })
 }
 
-/// Skips text lines from `begun` on. Returns the beginning of the line at which the skip stops.
+/// Skips text lines from `begun` on. Returns the beginning of the line where the skip stops.
 fn skip_text_from(lines: &[u8], begun: Progress) -> LineStart
     requires order { InOrder begun lines.now }
     ensures bound { result.at ≤ length lines.now }
@@ -328,8 +325,8 @@ fn skip_again(lexer: Lexer, lines: &[u8]) -> LineStart
     }
 }
 
-/// Skips text lines, the first of which begins where `lexer` is. Returns the beginning of the first
-/// line that isn't skipped.
+/// Skips text lines, from the state of `lexer` on. Returns the beginning of the first line that
+/// isn't skipped.
 pub(crate) fn skip_text_lines(lexer: Lexer, lines: &[u8]) -> LineStart
     requires starts { can_start (lex_state_of lexer.state) ≡ true }
     ensures bound { result.at ≤ length lines.now }

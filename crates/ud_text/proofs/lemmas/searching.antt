@@ -1,5 +1,4 @@
 -- Lemmas on searches of many bytes at a time.
 pub mod MarkLemmas
 pub mod SimdLemmas
-pub mod SignificantLemmas
-pub mod PairLemmas
+pub mod ByteLemmas

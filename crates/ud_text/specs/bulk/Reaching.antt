@@ -2,19 +2,15 @@
 --
 --   Reached start bytes p        the bytes before `p.at` are read, outside comments and literals
 --   InReach p bytes              its positions are in order
---   ClosesAt bytes at end        the first star pair closes a block comment
 --   GoesOn bytes p result        a step reads on, or stops
 --
--- Unlike a `Progress`, a `Reach` names no line: some line was begun at or before its base.
-use Rattle.std.specs.Prelude.{◌≡◌, ◌≤◌, ◌<◌, ℕ, ◌+◌, ◌-◌, List, [], ◌∷◌, length, take, drop, get_or}
-use Rattle.std.specs.Prelude.{Bool, true, false, Option, IfSome}
-use Rattle.ud_model.specs.text.Bytes.{slash, star}
+-- Unlike a `Progress`, a `Reach` names no line: some line begins at or before its base.
+use Rattle.std.specs.Prelude.{◌≡◌, ◌≤◌, ℕ, List, length, Bool, true, Option, IfSome}
 use Rattle.ud_text.specs.bulk.BulkStates.{BulkState}
-use Rattle.ud_text.specs.bulk.BulkLexemes.{is_star_pair}
 use Rattle.ud_text.specs.bulk.Progress.{ReadOutside}
 use Rattle.ud_text.specs.declared.bulk.fast_path.Reach.{Reach}
 
--- `Reached start bytes p`: the bytes before `p.at` are read, which lies outside comments and
+-- `Reached start bytes p`: the bytes before `p.at` are read, `p.at` lies outside comments and
 -- literals, and no comment begins from `p.base` on. If `p.at_line_start`, a line begins at
 -- `p.base`, and `p.begins` is whether its logical line is white there.
 pub record Reached (start : BulkState) (bytes : List ℕ) (p : Reach) : Type 0 where
@@ -27,15 +23,6 @@ pub record Reached (start : BulkState) (bytes : List ℕ) (p : Reach) : Type 0 w
 -- `InReach p bytes`: the positions of `p` are in order, and lie within `bytes`.
 abbrev pub InReach : Reach → List ℕ → Type 0
 InReach p bytes = (p.base ≤ p.at) × (p.at ≤ length bytes)
-
--- `ClosesAt bytes at end`: the first star pair from `at` on is a star and a slash, which end at
--- `end`.
-pub record ClosesAt (bytes : List ℕ) (at end : ℕ) : Type 0 where
-  pub order : at + 2 ≤ end
-  pub within : end ≤ length bytes
-  pub none : (k : ℕ) → at ≤ k → k + 1 < end - 1 →
-      is_star_pair (get_or bytes k 0) (get_or bytes (k + 1) 0) ≡ false
-  pub pair : take 2 (drop (end - 2) bytes) ≡ star ∷ slash ∷ []
 
 -- `GoesOn bytes p result`: a step from `p` reads on to the result, or stops.
 abbrev pub GoesOn : List ℕ → Reach → Option Reach → Type 0

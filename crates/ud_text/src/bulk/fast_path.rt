@@ -1,11 +1,11 @@
-//! Skips many whole text lines with one search, that for the next significant byte.
+//! Skips many whole text lines with a single search: for the next significant byte.
 //!
 //! The end of a block comment is found by the same search, as a slash after a star. So a comment
-//! costs no search of its own, and no look back for its white space and its line. Only a stop on a
-//! line on which a comment ends needs what is left out. The result is then `None`, and `skip_again`
-//! of bulk.rt reads the bytes anew.
+//! costs no search of its own, and its white space and its line aren't looked up. Only a stop on a
+//! line where a comment ends would need them. The result is then `None`, and `skip_again` of
+//! bulk.rt reads the bytes again.
 //!
-//! From a quote on, the rest of a line is mostly read at once, whatever its literals are.
+//! After a quote, the rest of the line is usually read at once, whatever literals it has.
 //!
 //! A new kind of lexeme is a step here and one in bulk.rt.
 
@@ -15,9 +15,9 @@ ghost use Rattle.std.specs.Prelude.{false, IfSome};
 ghost use Rattle.ud_model.specs.text.Bytes.{slash, star, number_sign, is_quote};
 ghost use Rattle.ud_text.specs.bulk.BulkStates.{BulkState, can_start};
 ghost use Rattle.ud_text.specs.bulk.Blocks.{IsBlock};
-ghost use Rattle.ud_text.specs.bulk.BulkLexemes.{is_star_pair, IsSplice};
+ghost use Rattle.ud_text.specs.bulk.BulkLexemes.{is_star_pair, IsSplice, NoStarPair};
 ghost use Rattle.ud_text.specs.bulk.Progress.{SkippedBy, ReadTo, bulk_state_of};
-ghost use Rattle.ud_text.specs.bulk.Reaching.{Reached, InReach, ClosesAt, GoesOn};
+ghost use Rattle.ud_text.specs.bulk.Reaching.{Reached, InReach, GoesOn};
 ghost use Rattle.ud_text.specs.scan.LexerViews.{lex_state_of};
 
 use crate::bulk::LineStart;
@@ -29,8 +29,8 @@ use crate::bulk::lexeme_lengths::{
 use crate::scan::lexer::{LexState, Lexer};
 use crate::searching::{is_star_pair, last_line_start};
 
-/// The number of bytes after a splice in which no quote is looked at with the rest of its line. The
-/// line mostly ends in a splice too.
+/// For this many bytes after a splice, literals are read one at a time, as the line often ends in a
+/// splice too.
 const SPLICED_BYTES: usize = 64;
 
 /// A position that a skip has reached. The bytes before `at` are read, and `at` lies outside
@@ -39,14 +39,14 @@ const SPLICED_BYTES: usize = 64;
 struct Reach {
     /// A position from which on no comment begins.
     base: usize,
-    /// A line begins at `base`. Otherwise a block comment ends there.
+    /// A line begins at `base`. If not, a block comment ends there.
     at_line_start: bool,
     /// The logical line is white at `base`, if a line begins there.
     begins: bool,
     /// The position up to which the bytes are read.
     at: usize,
-    /// A position before which no quote is looked at with the rest of its line. It limits what a
-    /// line costs, and says nothing of the bytes.
+    /// Before this position literals are read one at a time. It limits what a line costs, and means
+    /// nothing for the bytes.
     searched: usize,
 }
 
@@ -95,34 +95,34 @@ fn ends_pair(lines: &[u8], at: usize, end: usize) -> bool
     is_star_pair(lines[end - 1], lines[end])
 }
 
-/// Returns the end of the block comment in which `at` lies, and its block. `row` is the block found
-/// before.
+/// Returns the position of the first star pair from `at` on, whether it closes a block comment, and
+/// its block. The position is `lines.len()` if there is none. `row` is the block found before.
 ///
-/// There is no end if `lines` doesn't close the comment, or if a splice may stand between its star
-/// and its slash.
+/// A star before a slash closes a block comment. A star before a backslash may do so, since a
+/// splice may stand between star and slash (C11 6.4.9).
 #[inline(always)]
-fn block_end(lines: &[u8], row: Block, at: usize) -> (Option<usize>, Block)
+pub(crate) fn find_star_pair(lines: &[u8], row: Block, at: usize) -> (usize, bool, Block)
     requires within { at ≤ length lines.now }
     requires row { IsBlock row lines.now }
-    ensures row { IsBlock result.1 lines.now }
-    ensures closes { IfSome result.0 (λ end. ClosesAt lines.now at end) }
+    ensures row { IsBlock result.2 lines.now }
+    ensures order { (at ≤ result.0) × (result.0 ≤ length lines.now) }
+    ensures none { NoStarPair (take (result.0 - at) (drop at lines.now)) }
+    ensures fits { result.1 ≡ true → result.0 + 2 ≤ length lines.now }
+    ensures closes { result.1 ≡ true → take 2 (drop result.0 lines.now) ≡ star ∷ slash ∷ [] }
 {
     let (mut end, mut row) = next_significant(lines, row, at);
     while end < lines.len() {
         if ends_pair(lines, at, end) {
-            if lines[end] == b'/' {
-                return (Some(end + 1), row);
-            }
-            return (None, row);
+            return (end - 1, lines[end] == b'/', row);
         }
         let (further, later) = next_significant(lines, row, end + 1);
         end = further;
         row = later;
     }
-    (None, row)
+    (end, false, row)
 }
 
-/// Returns whether the logical line may be white before `p.at`. It isn't known of a line on which a
+/// Returns whether the logical line may be white before `p.at`. That isn't known for a line where a
 /// comment ends.
 #[inline(always)]
 fn may_be_white(lines: &[u8], p: Reach) -> bool
@@ -236,8 +236,8 @@ fn literal_step(lines: &[u8], p: Reach) -> Option<Reach>
     })
 }
 
-/// Skips the rest of the line, from a quote on. Skips the literal alone if the line may end in a
-/// block comment or in a splice.
+/// Skips the rest of the line, from a quote on. If the line may end in a block comment or a splice,
+/// skips only the literal.
 #[inline(always)]
 fn quote_step(lines: &[u8], p: Reach) -> Option<Reach>
     requires order { InReach p lines.now }
@@ -267,7 +267,7 @@ fn quote_step(lines: &[u8], p: Reach) -> Option<Reach>
     }
 }
 
-/// Skips what a significant byte begins, but for a block comment.
+/// Skips what a significant byte begins, except a block comment.
 #[inline(always)]
 fn code_step(lines: &[u8], p: Reach) -> Option<Reach>
     requires order { InReach p lines.now }
@@ -289,7 +289,8 @@ fn code_step(lines: &[u8], p: Reach) -> Option<Reach>
     }
 }
 
-/// Skips a block comment, as far as `block_end` finds its end.
+/// Skips a block comment. Stops if `lines` doesn't close it, or if a splice may stand between its
+/// star and its slash.
 #[inline(always)]
 fn block_step(lines: &[u8], row: Block, p: Reach) -> (Option<Reach>, Block)
     requires order { InReach p lines.now }
@@ -300,18 +301,18 @@ fn block_step(lines: &[u8], row: Block, p: Reach) -> (Option<Reach>, Block)
     ensures further { IfSome result.0 (λ q. InReach q lines.now × (p.at < q.at)) }
     ensures read { GoesOn lines.now p result.0 }
 {
-    let (end, last) = block_end(lines, row, p.at + 2);
-    let Some(end) = end else {
-        return (None, last);
-    };
-    let next = Reach {
-        base: end,
-        at_line_start: false,
-        begins: false,
-        at: end,
-        ..p
-    };
-    (Some(next), last)
+    let (pair, closes, last) = find_star_pair(lines, row, p.at + 2);
+    if closes {
+        let next = Reach {
+            base: pair + 2,
+            at_line_start: false,
+            begins: false,
+            at: pair + 2,
+            ..p
+        };
+        return (Some(next), last);
+    }
+    (None, last)
 }
 
 /// Skips what a significant byte begins.
@@ -332,7 +333,7 @@ fn step(lines: &[u8], row: Block, p: Reach) -> (Option<Reach>, Block)
     }
 }
 
-/// Skips text lines from `begun` on. Returns the beginning of the line at which the skip stops.
+/// Skips text lines from `begun` on. Returns the beginning of the line where the skip stops.
 fn skip_text_from(lines: &[u8], row: Block, begun: Reach) -> Option<LineStart>
     requires order { InReach begun lines.now }
     requires row { IsBlock row lines.now }
@@ -355,8 +356,8 @@ fn skip_text_from(lines: &[u8], row: Block, begun: Reach) -> Option<LineStart>
     last_line(lines, p)
 }
 
-/// Skips text lines, the first of which begins where `lexer` is. Returns the beginning of the first
-/// line that isn't skipped; `None` if that isn't known.
+/// Skips text lines, from the state of `lexer` on. Returns the beginning of the first line that
+/// isn't skipped; `None` if that isn't known.
 pub(crate) fn skip_text_lines(lexer: Lexer, lines: &[u8]) -> Option<LineStart>
     requires starts { can_start (lex_state_of lexer.state) ≡ true }
     ensures bound { IfSome result (λ line. line.at ≤ length lines.now) }
@@ -374,18 +375,18 @@ pub(crate) fn skip_text_lines(lexer: Lexer, lines: &[u8]) -> Option<LineStart>
             skip_text_from(lines, no_block(lines), begun)
         }
         LexState::Block => {
-            let (end, row) = block_end(lines, no_block(lines), 0);
-            let Some(end) = end else {
-                return None;
-            };
-            let begun = Reach {
-                base: end,
-                at_line_start: false,
-                begins: false,
-                at: end,
-                searched: 0,
-            };
-            skip_text_from(lines, row, begun)
+            let (pair, closes, row) = find_star_pair(lines, no_block(lines), 0);
+            if closes {
+                let begun = Reach {
+                    base: pair + 2,
+                    at_line_start: false,
+                    begins: false,
+                    at: pair + 2,
+                    searched: 0,
+                };
+                return skip_text_from(lines, row, begun);
+            }
+            None
         }
         _ => None,
     }

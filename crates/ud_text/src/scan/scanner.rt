@@ -1,9 +1,9 @@
 //! Scans the lines of a text, each in its mode.
 //!
-//! A scanner buffers no line but the last one as it is masked, and not even that one if it is
-//! masked unchanged: its bytes are then borrowed. Of the lines before, a scanner carries three
-//! things: the lexer's state after their spliced text, whether the last logical line is white, and
-//! whether the last line joins the next one.
+//! A scanner buffers only the last line, masked, and not even that one if masking leaves it
+//! unchanged: its bytes are then borrowed. From line to line, a scanner carries three things: the
+//! lexer's state after their spliced text, whether the last logical line is white, and whether the
+//! last line joins the next one.
 
 ghost use Rattle.std.specs.Prelude.{◌≡◌, ◌≤◌, ◌||◌, ℕ, List, [], ◌∷◌, ◌++◌, length, true, false};
 ghost use Rattle.std.specs.Prelude.{take, IfSome, OnSome};
@@ -41,8 +41,7 @@ use ud_model::{CommentAt, Line, Mode, Scan};
 /// The state that is carried from line to line.
 #[derive(Clone, Copy)]
 pub(crate) struct ScanState {
-    /// The lexer after the spliced text: that of the lines in C mode after the last one in plain
-    /// mode.
+    /// The lexer after the spliced text of the lines in C mode after the last one in plain mode.
     pub(crate) lexer: Lexer,
     /// The last of these lines joins the next one.
     joins: bool,
@@ -51,7 +50,7 @@ pub(crate) struct ScanState {
 /// The scan of a line without its masked bytes.
 #[derive(Clone, Copy)]
 pub(crate) struct LineFlags {
-    /// The masked bytes of the logical line on earlier lines are white space.
+    /// On earlier lines, this logical line has only white masked bytes.
     pub(crate) fresh: bool,
     /// The line before joins this one.
     pub(crate) joins_before: bool,
@@ -59,7 +58,7 @@ pub(crate) struct LineFlags {
     pub(crate) joins_after: bool,
     /// The line ends in a backslash that deletes its ending.
     pub(crate) spliced: bool,
-    /// The comment that is unclosed at the line's end, if any.
+    /// The comment left open at the line's end, if any.
     pub(crate) comment: CommentAt,
 }
 
@@ -81,7 +80,7 @@ pub(crate) struct ScannedLine<'a> {
 pub struct Scanner<H = LongLineBuffer> {
     /// The state after the lines so far.
     pub(crate) scan_state: ScanState,
-    /// The last line as it is masked, if its own bytes weren't borrowed.
+    /// The last line, masked, if its own bytes weren't borrowed.
     pub(crate) masked: H,
 }
 
@@ -146,7 +145,7 @@ fn end_line(line: &Line<'_>, spliced: bool, inside: Lexer) -> Lexer
     }
 }
 
-/// Returns the comment that is unclosed at the end of a line, if the lexer is in `state` there.
+/// Returns the comment left open at the end of a line where the lexer is in `state`.
 fn comment_at(spliced: bool, state: LexState) -> CommentAt
     ensures { result ≡ comment_at spliced (kind_in_state (lex_state_of state)) }
 {
@@ -217,8 +216,8 @@ fn pass_line(mode: Mode, scan_state: ScanState, line: &Line<'_>) -> ScanState
     }
 }
 
-/// Returns whether the body has no mark. `#endif` and `#else`, with one of which every other
-/// section ends, are known by their bytes alone.
+/// Returns whether the body has no mark. The most common directives, `#endif` and `#else`, are
+/// recognized without a search.
 #[inline(always)]
 fn has_no_mark(body: &[u8]) -> bool
     ensures { result ≡ true → position_or_len is_mark body.now ≡ length body.now }
@@ -229,9 +228,9 @@ fn has_no_mark(body: &[u8]) -> bool
     }
 }
 
-/// Scans a line in C mode that is masked unchanged, and after which the state is the initial one.
+/// Scans a line in C mode that masking leaves unchanged, and that leads to the initial state.
 /// Returns `None` if that isn't known at once: the text before the line ends in a comment or a
-/// literal, the line has a mark, or the line has no ending.
+/// literal, or the line has a mark or no ending.
 #[inline(always)]
 fn scan_without_marks<'a>(scan_state: ScanState, line: &Line<'a>) -> Option<ScannedLine<'a>>
     requires one_line { NoNewline line.now.body.now }
@@ -264,7 +263,7 @@ fn scan_without_marks<'a>(scan_state: ScanState, line: &Line<'a>) -> Option<Scan
     })
 }
 
-/// Scans a line in plain mode, in which it is masked unchanged.
+/// Scans a line in plain mode, where masking leaves it unchanged.
 #[inline(always)]
 fn scan_plain<'a>(line: &Line<'a>) -> ScannedLine<'a>
     ensures represents { (before : List Reading) →
@@ -349,8 +348,8 @@ fn continues_line(lexer: Lexer) -> bool
 }
 
 /// Returns whether many lines can be skipped from this state. The next line then begins a logical
-/// line, or continues a block comment or, outside comments and literals, a logical line that isn't
-/// white.
+/// line, continues a block comment, or continues a logical line that isn't white, outside comments
+/// and literals.
 fn can_skip_text(scan_state: ScanState) -> bool
     ensures starts { result ≡ true → can_start (lex_state_of scan_state.lexer.state) ≡ true }
     ensures joins { result ≡ true →
@@ -422,23 +421,16 @@ impl Scanner<LongLineBuffer> {
     pub fn new() -> Scanner<LongLineBuffer>
         ensures { ScannerRepresents result [] }
     {
-        Scanner::with_buffer()
+        Scanner::over(LongLineBuffer::new())
     }
 }
 
 impl<H: LineBuffer> Scanner<H> {
-    /// Returns a scanner that has read no line, as `new` does, whose buffer is an `H`.
-    pub fn with_buffer() -> Scanner<H>
-        ensures { ScannerRepresents result [] }
-    {
-        Scanner::over(H::new())
-    }
-
     /// Reads the next line of the text, and returns its scan. Later lines never change the scan.
     ///
-    /// The line's body fits in an `H`, and none of its bytes is a newline. In plain mode the line
-    /// is masked unchanged, and the next line in C mode starts afresh. In C mode each masked byte
-    /// has the index that it has in the body (C11 5.1.1.2, phases 2 and 3, and 6.4.9).
+    /// The line's body fits in an `H`, and none of its bytes is a newline. In plain mode masking
+    /// leaves the line unchanged, and the next line in C mode starts afresh. In C mode each masked
+    /// byte keeps its index in the body (C11 5.1.1.2, phases 2 and 3, and 6.4.9).
     ///
     /// # Examples
     /// ```rust
@@ -472,7 +464,7 @@ impl<H: LineBuffer> Scanner<H> {
 }
 
 impl Scanner<()> {
-    /// Returns a scanner that has read no line, without a buffer. It reads by `read_into`.
+    /// Returns a scanner that has read no line, without a buffer. Read with `read_into`.
     pub fn bare() -> Scanner<()>
         ensures { ScannerRepresents result [] }
     {
@@ -527,11 +519,11 @@ impl<H> Scanner<H> {
         self.scan_state = pass_line(mode, self.scan_state, line);
     }
 
-    /// Returns the scan of the next line, if the scanner needs no change for it: nothing is carried
-    /// from the lines before, and the line has an ending and no mark (`first_mark`).
+    /// Returns the scan of the next line, if the scanner needs no change for it: no state is
+    /// carried from the lines before, and the line has an ending and no mark (`first_mark`).
     ///
-    /// The line is then masked unchanged, in either mode. The scanner represents one more reading,
-    /// as after `read`. If the result is `None`, call `read`.
+    /// Masking then leaves the line unchanged, in either mode. The scanner represents one more
+    /// reading, as after `read`. If the result is `None`, call `read`.
     #[inline(always)]
     pub fn read_unmarked<'a>(&self, line: &Line<'a>) -> Option<Scan<'a>>
         requires one_line { NoNewline line.now.body.now }
@@ -562,9 +554,9 @@ impl<H> Scanner<H> {
     /// `lines` may have any length and any bytes, and may end in the middle of a line. Limits
     /// aren't checked: a line may have more than `LINE_BYTES`, and lines aren't counted. The
     /// scanner then represents one more reading in this mode for each skipped line, as after
-    /// `read`, whatever their numbers. No skipped line has a directive or a split keyword (C11
-    /// 5.1.1.2, phases 2 and 3, 6.4.9 and 6.10). How many lines are skipped isn't promised: if the
-    /// result is less than all lines, read the next one with `read`.
+    /// `read`, whatever its number. No skipped line has a directive or a split keyword (C11
+    /// 5.1.1.2, phases 2 and 3, 6.4.9 and 6.10). It may skip fewer lines than it could: read the
+    /// next one with `read`.
     pub fn skip_text(&mut self, mode: Mode, lines: &[u8]) -> usize
         ensures bound { result ≤ length lines.now }
         ensures ends { AreWholeLines (take result lines.now) }
@@ -575,8 +567,8 @@ impl<H> Scanner<H> {
         count
     }
 
-    /// Returns whether a block comment is unclosed at the end of the last line; `false` if no line
-    /// was read.
+    /// Returns whether a block comment is open at the end of the last line; `false` if no line was
+    /// read.
     pub fn in_comment(&self) -> bool
         ensures { (before : List Reading) → ScannerRepresents self.now before →
             result ≡ ends_in_block before }
@@ -586,7 +578,7 @@ impl<H> Scanner<H> {
 }
 
 /// States that the carried state decides the scan of the next line. If the state represents two
-/// lists of readings, each line has the same scan after both.
+/// lists of readings, any line has the same scan after both.
 pub fn law_same_scans()
     ensures { (s : ScannerState) (before others : List Reading) (m : Mode) (l : TextLine) →
         ScannerRepresents s before → ScannerRepresents s others →

@@ -1,8 +1,7 @@
 //! Searches over many bytes at a time.
 //!
-//! Each returns what a search byte by byte would return. So many lanes are compared at once; at the
-//! end the last of them overlap those before. The number of lanes is a choice of speed alone: a
-//! search for a byte that is near takes few.
+//! Each returns what a search byte by byte would. `N` lanes are compared at once; the last ones
+//! overlap those before. The number of lanes affects speed only: a search for a near byte uses few.
 
 ghost use Rattle.std.specs.Prelude.{◌≡◌, ◌≤◌, ◌<◌, ◌+◌, length, take, drop};
 ghost use Rattle.std.specs.List.{position_or_len};
@@ -23,7 +22,7 @@ fn is_one_of(byte: u8, set: ByteSet) -> bool
 
 /// Returns the position of the lowest set bit, or `lanes` if none is set.
 #[inline(always)]
-pub(crate) fn lowest_set_bit(bits: u64, lanes: usize) -> usize
+fn lowest_set_bit(bits: u64, lanes: usize) -> usize
     ensures { result ≡ lowest_set_bit bits lanes }
 {
     if bits == 0 {
@@ -73,8 +72,8 @@ fn find_by_lanes<const N: usize>(bytes: &[u8], set: ByteSet) -> usize
     last + find_in_lanes::<N>(bytes, last, set)
 }
 
-/// Returns the position of the first byte of `set`, or `bytes.len()` if there is none. Few lanes
-/// are taken, for a byte that is near.
+/// Returns the position of the first byte of `set`, or `bytes.len()` if there is none. Uses few
+/// lanes, for a byte that is near.
 #[inline(always)]
 pub(crate) fn find_near(bytes: &[u8], set: ByteSet) -> usize
     ensures value { result ≡ position_or_len (is_one_of set) bytes.now }

@@ -1,19 +1,13 @@
--- By the byte after the star.
-use Rattle.std.proofs.Common.{arith}
+-- By the star pair.
 use Rattle.ud_text.proofs.lemmas.bulk.ProgressLemmas.{passed_of}
-use Rattle.ud_text.proofs.lemmas.bulk.StepLemmas.{closed_read, free_front}
+use Rattle.ud_text.proofs.lemmas.bulk.BlockLemmas.{block_closed}
 use Rattle.ud_text.proofs.bulk.skip_to_block_end.Goals as goal
-
-pub last_line_in_block-last-requires-clause-inside : goal.last_line_in_block-last-requires-clause-inside
-last_line_in_block-last-requires-clause-inside c = free_front c.args.lines.now c.args.at c.find_star_pair-count.result c.find_star_pair-count.ensures.before
-
-pub returns-then-count-rest-clause-read : goal.returns-then-count-rest-clause-read
-returns-then-count-rest-clause-read c = λ start r. passed_of (c.last_line_in_block-last.ensures.read start r).1
 
 pub returns-clause-read : goal.returns-clause-read
 returns-clause-read c = λ start r. passed_of (c.last_line_in_block-last.ensures.read start r).1
 
-pub returns-then-rest-count-eq47-clause-read : goal.returns-then-rest-count-eq47-clause-read
-returns-then-rest-count-eq47-clause-read c = λ start r.
-    closed_read c.args.at c.find_star_pair-count.result (c.last_line_in_block-last.ensures.read start r).0 c.args.white (c.last_line_in_block-last.ensures.read start r).1
-    (c.find_star_pair-count.ensures.whole (omega arith)) (c.find_star_pair-count.ensures.found (omega arith)) c.if-rest-count-eq47.true
+pub returns-then-closes-clause-read : goal.returns-then-closes-clause-read
+returns-then-closes-clause-read c = λ start r.
+    let inside = c.last_line_in_block-last.ensures.read start r in
+    block_closed c.args.at c.find_star_pair-pair.result.0 inside.0 c.args.white c.find_star_pair-pair.ensures.order.0 inside.1
+    (c.find_star_pair-pair.ensures.closes c.if-closes.true)

@@ -1,5 +1,5 @@
 -- Blocks: the next significant byte by the remaining bits of a block.
-use Rattle.std.proofs.Common.{◌≡◌, ℕ, zero, suc, ◌+◌, ◌-◌, ◌*◌, ◌/◌, ◌%◌, ◌^◌, ◌<◌, ◌≤◌, Bool, true, false, not, cond, List, [], ◌∷◌, map, length, take, drop, min, refl, sym, ap, ◌∙◌, inl, inr, arith}
+use Rattle.std.proofs.Common.{◌≡◌, ℕ, zero, suc, ◌+◌, ◌-◌, ◌*◌, ◌/◌, ◌%◌, ◌^◌, ◌<◌, ◌≤◌, Bool, cond, List, [], ◌∷◌, map, length, take, drop, min, refl, sym, ap, ◌∙◌, inl, inr, arith}
 use Rattle.std.specs.Int.{w64, trailing_zeros}
 use Rattle.std.specs.List.{position_or_len, drop-map}
 use Rattle.std.proofs.lemmas.Bool.{cases_lt}
@@ -16,8 +16,7 @@ use Rattle.ud_text.proofs.lemmas.searching.SimdLemmas.{search_take, search_drop,
 use Rattle.ud_text.proofs.lemmas.bulk.StepLemmas.{drop_both}
 
 half : (b : Bool) (n : ℕ) → (cond b 1 0 + 2 * n) / 2 ≡ n
-half true n = omega arith
-half false n = omega arith
+half b n = grind arith
 
 -- the bits shifted out are those of the first bytes
 mask_rest : (ms : List Bool) (k : ℕ) → mask_l ms / 2 ^ k ≡ mask_l (drop k ms)
@@ -41,11 +40,7 @@ rest_bits bytes begin at h k =
 
 none_set : (xs : List ℕ) → length xs ≤ position_or_len is_significant xs → significant_bits xs ≡ 0
 none_set [] h = refl
-none_set (x ∷ xs) h = by_test (is_significant x) (position_or_len is_significant xs) (none_set xs) h
-  where
-    by_test : (b : Bool) (m : ℕ) → (length xs ≤ m → significant_bits xs ≡ 0) → suc (length xs) ≤ cond (not b) (1 + m) 0 → cond b 1 0 + 2 * significant_bits xs ≡ 0
-    by_test true m f h = absurd (omega arith)
-    by_test false m f h = let e : significant_bits xs ≡ 0 = f (omega arith) in omega (arith, e)
+none_set (x ∷ xs) h = grind (arith, cond, none_set xs)
 
 module _ (bytes : List ℕ) (at n : ℕ) (few : n ≤ 64) (room : at + n ≤ length bytes) (bits : ℕ) (is : bits ≡ significant_bits (take n (drop at bytes))) where
   long : length (take n (drop at bytes)) ≡ n
@@ -56,32 +51,16 @@ module _ (bytes : List ℕ) (at n : ℕ) (few : n ≤ 64) (room : at + n ≤ len
 
   -- the lowest bit is that of the first significant byte
   pub row_found : (bits ≡ 0 → ⊥) → at + trailing_zeros w64 bits ≡ at + position_or_len is_significant (drop at bytes)
-  row_found some =
-      let set : 0 < significant_bits (take n (drop at bytes)) = omega (arith, some, is) in
-      let zeros : trailing_zeros w64 bits ≡ position_or_len is_significant (take n (drop at bytes)) =
-      ap (λ (m : ℕ). trailing_zeros w64 m) is ∙ trailing_mask_l is_significant 64 (take n (drop at bytes)) (omega (arith, long)) set in
-      let here : position_or_len is_significant (take n (drop at bytes)) < n = by_cases (position_or_len is_significant (take n (drop at bytes))) refl set in
-      omega (arith, zeros, among, here)
-    where
-      by_cases : (m : ℕ) → m ≡ position_or_len is_significant (take n (drop at bytes)) → 0 < significant_bits (take n (drop at bytes)) → m < n
-      by_cases m e set = elim (cases_lt m n) [
-        | inl h ↦ h
-        | inr h ↦ let z : significant_bits (take n (drop at bytes)) ≡ 0 = none_set (take n (drop at bytes)) (omega (arith, long, h, e)) in absurd (omega (arith, z, set))
-      ]
+  row_found h = grind (arith, trailing_mask_l, long, among, cases_lt, none_set)
 
   -- there is no significant byte, if no bit is set
   pub row_empty : bits ≡ 0 → n ≤ position_or_len is_significant (drop at bytes)
-  row_empty none =
-      let all : position_or_len is_significant (take n (drop at bytes)) ≡ length (take n (drop at bytes)) = leading_from_mask_l is_significant (take n (drop at bytes)) (sym is ∙ none) in
-      omega (arith, all, among, long)
+  row_empty h = grind (arith, leading_from_mask_l, among, long)
 
 -- the first significant byte comes after bytes that aren't significant
 pub row_later : (bytes : List ℕ) (at n : ℕ) → n ≤ position_or_len is_significant (drop at bytes) →
     at + position_or_len is_significant (drop at bytes) ≡ at + n + position_or_len is_significant (drop (at + n) bytes)
-row_later bytes at n h =
-    let e : position_or_len is_significant (drop at bytes) ≡ n + position_or_len is_significant (drop n (drop at bytes)) = search_drop is_significant n (drop at bytes) h in
-    let f : position_or_len is_significant (drop n (drop at bytes)) ≡ position_or_len is_significant (drop (at + n) bytes) = ap (λ (l : List ℕ). position_or_len is_significant l) (sym (drop_both bytes at n)) in
-    omega (arith, e, f)
+row_later bytes at n h = grind (arith, search_drop, drop_both)
 
 -- a position that is found lies within the bytes, or at their end
 pub row_bound : (bytes : List ℕ) (at next : ℕ) → at ≤ length bytes → next ≡ at + position_or_len is_significant (drop at bytes) → next ≤ length bytes
@@ -98,9 +77,7 @@ module _ (bytes : List ℕ) (begin at bits : ℕ) (is : bits ≡ significant_bit
   -- the lowest of the remaining bits of a block
   pub left_found : (bits / 2 ^ (at - begin) ≡ 0 → ⊥) →
       at + trailing_zeros w64 (bits / 2 ^ (at - begin)) ≡ at + position_or_len is_significant (drop at bytes)
-  left_found some =
-      let room : begin + 64 ≤ length bytes = whole (some_bit some) in
-      row_found bytes at (begin + 64 - at) (omega arith) (omega arith) (bits / 2 ^ (at - begin)) left some
+  left_found h = grind (arith, some_bit, row_found, left)
 
   none_left : bits / 2 ^ (at - begin) ≡ 0 → begin + 64 ≤ length bytes → (end : ℕ) → end ≡ begin + 64 →
       end + position_or_len is_significant (drop end bytes) ≡ at + position_or_len is_significant (drop at bytes)
@@ -134,7 +111,4 @@ pub record IsShift (at begin : ℕ) : Type 0 where
 
 pub shift_in_block : (at begin : ℕ) → at < 18446744073709551616 → begin + 64 < 18446744073709551616 →
     (at + (18446744073709551616 - begin)) % 18446744073709551616 < 64 → IsShift at begin
-shift_in_block at begin fits room near = elim (cases_lt at begin) [
-  | inl before ↦ absurd (let same : (at + (18446744073709551616 - begin)) % 18446744073709551616 ≡ at + (18446744073709551616 - begin) = omega arith in omega (arith, near, same))
-  | inr behind ↦ record { low = omega arith; high = omega arith; is = omega arith }
-]
+shift_in_block at begin h k l = grind arith

@@ -1,15 +1,15 @@
 -- Plain text: runs of bytes without a significant one, and the beginnings of lines.
-use Rattle.std.proofs.Common.{◌≡◌, ℕ, zero, suc, ◌+◌, ◌<◌, ◌==◌, List, [], ◌∷◌, ◌++◌, length, take, drop, get_or, Bool, true, false, not, cond, ◌&&◌, ◌||◌, if◌then◌else◌, refl, sym, ◌∙◌, ap, subst, arith, one-add}
+use Rattle.std.proofs.Common.{◌≡◌, ℕ, zero, suc, ◌+◌, ◌<◌, ◌==◌, List, [], ◌∷◌, ◌++◌, length, take, drop, get_or, Bool, false, not, cond, ◌||◌, refl, sym, ◌∙◌, ap, subst, arith}
 use Rattle.std.specs.List.{position_or_len}
 use Rattle.std.proofs.lemmas.Bool.{eqb-true}
 use Rattle.std.proofs.lemmas.List.{take_more, take_all}
 use Rattle.memchr.specs.Find.{Nowhere, NoneAfter, Passes, is_byte}
-use Rattle.ud_model.specs.text.Bytes.{is_quote, slash, number_sign, newline, carriage_return, backslash}
+use Rattle.ud_model.specs.text.Bytes.{is_quote, slash, number_sign, newline, backslash}
 use Rattle.ud_model.specs.text.Lines.{NoNewline, split_lines, SplitLines}
-use Rattle.ud_model.specs.aids.LexStates.{LexState, in_text, at_slash, in_literal, stays_white}
+use Rattle.ud_model.specs.aids.LexStates.{LexState, in_text, stays_white}
 use Rattle.ud_model.proofs.text.LinesLemmas.{split_lines-append-line}
 use Rattle.ud_text.specs.bulk.BulkScanning.{AreWholeLines}
-use Rattle.ud_text.specs.bulk.BulkStates.{next_bulk_state, BulkState, code_state, stops_bulk, NoNewlineInBlock, bulk_state_after, is_other_word, HasNoStop}
+use Rattle.ud_text.specs.bulk.BulkStates.{next_bulk_state, BulkState, code_state, stops_bulk, NoNewlineInBlock, bulk_state_after, HasNoStop}
 use Rattle.ud_text.proofs.lemmas.lines.NewlineLemmas.{no_newline_front}
 use Rattle.ud_text.specs.bulk.BulkLexemes.{after_newline, NoSignificant, at_start, NoComment, LastLineStarts, CodeLexeme, is_significant, IsLineStart}
 use Rattle.std.proofs.Math.Bool.{and-false}
@@ -38,35 +38,17 @@ begins_ends _ at_start = refl
 begins_ends _ (after_newline prefix) = ap (λ (q : SplitLines). q.rest) (split_lines-append-line prefix [] tt)
 
 or4 : (a b c d : Bool) → (a || b || c || d) ≡ false → (a ≡ false) × (b ≡ false) × (c ≡ false) × (d ≡ false)
-or4 false false false false e = (refl, refl, refl, refl)
-or4 true b c d e = cc
-or4 false true c d e = cc
-or4 false false true d e = cc
-or4 false false false true e = cc
+or4 a b c d h = grind arith
 
 -- the bytes that an insignificant byte isn't
 pub not_special : (b : ℕ) → is_significant b ≡ false → ((b == slash) ≡ false) × (is_quote b ≡ false) × ((b == backslash) ≡ false) × ((b == number_sign) ≡ false)
 not_special b e = or4 (b == slash) (is_quote b) (b == backslash) (b == number_sign) e
 
 step_plain : (b : ℕ) (white : Bool) → is_significant b ≡ false → next_bulk_state (code_state white) b ≡ code_state (stays_white in_text white b)
-step_plain b white e = by_tests (b == slash) (is_quote b) (b == backslash) (b == carriage_return) (not_special b e).0 (not_special b e).1 (not_special b e).2
-  where
-    by_tests : (s q t r : Bool) → s ≡ false → q ≡ false → t ≡ false →
-        ◌≡◌ {A = BulkState} (record { state = if s then at_slash else if q then in_literal b else in_text; white = stays_white in_text white b; spliced = if t then true else if r then false else false })
-        (code_state (stays_white in_text white b))
-    by_tests false false false true f g h = refl
-    by_tests false false false false f g h = refl
-    by_tests true q t r f g h = cc
-    by_tests false true t r f g h = cc
-    by_tests false false true r f g h = cc
+step_plain b white h = grind arith
 
 stops_plain : (b : ℕ) (white : Bool) (rest : List ℕ) → is_significant b ≡ false → stops_bulk (code_state white) b rest ≡ false
-stops_plain b white rest e = by_tests (b == newline) (b == number_sign) (not_special b e).3
-  where
-    by_tests : (f n : Bool) → n ≡ false → (if f then false else if n then white && not (is_other_word rest) else false) ≡ false
-    by_tests true n g = refl
-    by_tests false false g = refl
-    by_tests false true g = cc
+stops_plain b white rest h = grind arith
 
 -- plain text leads from outside comments and literals to outside them
 pub plain_read : (bytes : List ℕ) (white : Bool) → NoSignificant bytes → CodeLexeme white bytes
@@ -89,5 +71,4 @@ no_special_before [] = tt
 no_special_before (b ∷ bytes) = by_special (is_significant b) (position_or_len is_significant bytes) refl (no_special_before bytes)
   where
     by_special : (t : Bool) (n : ℕ) → is_significant b ≡ t → NoSignificant (take n bytes) → NoSignificant (take (cond (not t) (1 + n) 0) (b ∷ bytes))
-    by_special true n e h = tt
-    by_special false n e h = let P : ℕ → Type 0 = λ k. NoSignificant (take k (b ∷ bytes)) in subst P (sym (one-add n)) (e, h)
+    by_special t n h k = grind arith

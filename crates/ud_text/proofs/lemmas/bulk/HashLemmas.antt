@@ -1,7 +1,6 @@
 -- Lines in which no `#` begins a directive, read in plain mode.
 use Rattle.std.proofs.Common.{◌≡◌, ℕ, zero, suc, ◌<◌, ◌≤◌, ◌+◌, ◌==◌, Bool, true, false, not, ◌&&◌, ◌||◌, if◌then◌else◌, List, [], ◌∷◌, ◌++◌, length, take, drop, get_or, Some, None, refl, sym, ◌∙◌, ap, subst, append_assoc, ne_eqb, arith}
 use Rattle.std.specs.List.{concat}
-use Rattle.std.proofs.lemmas.Bool.{eqb-true}
 use Rattle.std.proofs.lemmas.List.{take-take, take-append-drop}
 use Rattle.std.proofs.Math.Seq.{take-add, drop-cons}
 use Rattle.memchr.specs.Find.{Nowhere, Passes, is_byte}
@@ -20,7 +19,7 @@ use Rattle.ud_text.specs.bulk.PlainText.{is_white_past, is_white_past_all, NoneB
 use Rattle.ud_text.proofs.lemmas.scan.ScannerLemmas.{represents_plain}
 use Rattle.ud_text.proofs.lemmas.bulk.BulkPlainLemmas.{begins_ends, not_special}
 use Rattle.ud_text.proofs.lemmas.bulk.QuietLemmas.{other-append, other-feed}
-use Rattle.ud_text.proofs.lemmas.bulk.QuietLineLemmas.{ended_lines, IsFeed, one, two, whole_ending, body_one_line, feed_length}
+use Rattle.ud_text.proofs.lemmas.bulk.QuietLineLemmas.{ended_lines, IsFeed, whole_ending, body_one_line, feed_length}
 use Rattle.ud_text.proofs.lemmas.bulk.TextLemmas.{Unsigned, no_sign, other_sign, text_unsigned, IsOther, NoWord, other_word, other_sure, word_front, word_is_plain, white_other, is_no_keyword-first}
 
 -- bytes have no `#`, if a search finds none among them
@@ -33,8 +32,7 @@ no_hash_front (b ∷ bs) (suc n) none = (
 )
   where
     by_test : (t : Bool) → (b == 35) ≡ t → (b == 35) ≡ false
-    by_test true e = absurd (none 0 (omega arith) (omega arith) e)
-    by_test false e = e
+    by_test t h = grind arith
 
 -- none of the bytes without a `#` begins a directive
 pub hashless_none : (white : Bool) (bytes : List ℕ) → NoHash bytes → NoneBeginsDirective white bytes
@@ -43,44 +41,31 @@ hashless_none white (b ∷ bytes) h = (ap (λ (t : Bool). t && (white && not (is
 
 insignificant_none : (white : Bool) (bytes : List ℕ) → NoSignificant bytes → NoneBeginsDirective white bytes
 insignificant_none white [] h = tt
-insignificant_none white (b ∷ bytes) h =
-    (ap (λ (t : Bool). t && (white && not (is_other_word bytes))) (not_special b h.0).3, insignificant_none (is_white_past white b) bytes h.1)
+insignificant_none white (b ∷ bytes) h = grind (arith, not_special, insignificant_none (is_white_past white b) bytes h.1)
 
 -- whether a byte begins a directive, when more bytes follow
 begins_more : (s w o p : Bool) → (o ≡ true → p ≡ true) → (s && (w && not o)) ≡ false → (s && (w && not p)) ≡ false
-begins_more false w o p f e = refl
-begins_more true false o p f e = refl
-begins_more true true true p f e = ap not (f refl)
-begins_more true true false p f e = cc
+begins_more s w o p h k = grind arith
 
 -- two runs, none of whose bytes begins a directive, one after the other
 pub none-append : (white : Bool) (p q : List ℕ) → NoneBeginsDirective white p → NoneBeginsDirective (is_white_past_all white p) q → NoneBeginsDirective white (p ++ q)
 none-append white [] q h k = k
-none-append white (b ∷ p) q h k =
-    (begins_more (b == number_sign) white (is_other_word p) (is_other_word (p ++ q)) (other-append p q) h.0, none-append (is_white_past white b) p q h.1 k)
+none-append white (b ∷ p) q h k = grind (arith, begins_more, other-append, none-append (is_white_past white b) p q h.1 k)
 
 -- a run is cut at a newline: nothing after it counts before it, and a line begins after it
 none-feed : (white : Bool) (p q : List ℕ) → NoneBeginsDirective white (p ++ newline ∷ q) → NoneBeginsDirective white (p ++ newline ∷ []) × NoneBeginsDirective true q
 none-feed white [] q h = ((refl, tt), h.1)
-none-feed white (b ∷ p) q h =
-    let more : NoneBeginsDirective (is_white_past white b) (p ++ newline ∷ []) × NoneBeginsDirective true q = none-feed (is_white_past white b) p q h.1 in
-    ((ap (λ (o : Bool). (b == number_sign) && (white && not o)) (sym (other-feed p q)) ∙ h.0, more.0), more.1)
+none-feed white (b ∷ p) q h = grind (arith, other-feed, none-feed (is_white_past white b) p q h.1)
 
 past_append : (white : Bool) (p q : List ℕ) → is_white_past_all white (p ++ q) ≡ is_white_past_all (is_white_past_all white p) q
 past_append white [] q = refl
 past_append white (b ∷ p) q = past_append (is_white_past white b) p q
 
 white_no_feed : (b : ℕ) → is_white b ≡ true → (b == newline) ≡ false
-white_no_feed b w = by_test (b == newline) refl
-  where
-    by_test : (t : Bool) → (b == newline) ≡ t → t ≡ false
-    by_test false e = refl
-    by_test true e = let h : is_white newline ≡ true = subst (λ (n : ℕ). is_white n ≡ true) (eqb-true b newline e) w in cc
+white_no_feed b h = grind arith
 
 and_both : (a b : Bool) → (a && b) ≡ true → (a ≡ true) × (b ≡ true)
-and_both true true e = (refl, refl)
-and_both true false e = cc
-and_both false b e = cc
+and_both a b h = grind arith
 
 -- a line that isn't white stays so over white space
 black_stays : (bytes : List ℕ) → are_white bytes ≡ true → is_white_past_all false bytes ≡ false
@@ -93,53 +78,25 @@ black_stays (b ∷ bytes) w =
 looked_black : (bytes : List ℕ) (begins v : Bool) → IsWhiteAfter bytes begins v → begins ≡ true → v ≡ false → is_white_past_all true bytes ≡ false
 looked_black bytes begins _ (all_white w) e f = cc
 looked_black bytes begins _ (new_line prefix rest is w) e f = cc
-looked_black bytes begins _ (black prefix b rest is w n r) e f =
-    ap (λ (l : List ℕ). is_white_past_all true l) is ∙ past_append true prefix (b ∷ rest)
-    ∙ ap (λ (t : Bool). is_white_past_all t rest) (by_tests (b == newline) (is_white b) (is_white_past_all true prefix) n w) ∙ black_stays rest r
-  where
-    by_tests : (t u v : Bool) → t ≡ false → u ≡ false → (t || (v && u)) ≡ false
-    by_tests false false true g h = refl
-    by_tests false false false g h = refl
-    by_tests true u v g h = cc
-    by_tests false true v g h = cc
+looked_black bytes begins _ (black prefix b rest is w n r) e f = grind (arith, past_append, black_stays)
 
 first_of : (lines : List ℕ) (at n : ℕ) → at < length lines → take (1 + n) (drop at lines) ≡ get_or lines at 0 ∷ take n (drop (at + 1) lines)
-first_of lines at n h =
-    let e : 1 + n ≡ suc n = omega arith in
-    let f : suc at ≡ at + 1 = omega arith in
-    ap (λ (k : ℕ). take k (drop at lines)) e ∙ ap (take (suc n)) (drop-cons lines at 0 h)
-    ∙ ap (λ (k : ℕ). get_or lines at 0 ∷ take n (drop k lines)) f
+first_of lines at n h = grind (arith, drop-cons)
 
 -- a byte that a word follows that is no keyword begins no directive, and nor does that word
 pub before_word_none : (white : Bool) (lines : List ℕ) (at n : ℕ) → at < length lines → NoSignificant (take n (drop (at + 1) lines)) →
     is_other_word (take n (drop (at + 1) lines)) ≡ true → NoneBeginsDirective white (take (1 + n) (drop at lines))
-before_word_none white lines at n h none other =
-    subst (NoneBeginsDirective white) (sym (first_of lines at n h)) (
-      by_tests (get_or lines at 0 == number_sign) white (is_other_word (take n (drop (at + 1) lines))) other,
-      insignificant_none (is_white_past white (get_or lines at 0)) (take n (drop (at + 1) lines)) none,
-    )
-  where
-    by_tests : (s w o : Bool) → o ≡ true → (s && (w && not o)) ≡ false
-    by_tests false w o e = refl
-    by_tests true false o e = refl
-    by_tests true true true e = refl
-    by_tests true true false e = cc
+before_word_none white lines at n h none other = grind (arith, first_of, insignificant_none)
 
 -- a byte begins no directive, if its line isn't white before it
 pub black_none : (lines : List ℕ) (at : ℕ) → at < length lines → IsWhiteAfter (take at lines) true false →
     NoneBeginsDirective (is_white_past_all true (take at lines)) (take 1 (drop at lines))
-black_none lines at h back =
-    subst (NoneBeginsDirective (is_white_past_all true (take at lines))) (sym (first_of lines at 0 h))
-    (ap (λ (w : Bool). (get_or lines at 0 == number_sign) && (w && not (is_other_word []))) (looked_black (take at lines) true false back refl refl) ∙ by_test (get_or lines at 0 == number_sign), tt)
-  where
-    by_test : (s : Bool) → (s && false) ≡ false
-    by_test true = refl
-    by_test false = refl
+black_none lines at h k = grind (arith, first_of, looked_black)
 
 -- the bytes before a position, and those that follow it
 pub none_more : (lines : List ℕ) (at count : ℕ) → NoneBeginsDirective true (take at lines) → NoneBeginsDirective (is_white_past_all true (take at lines)) (take count (drop at lines)) →
     NoneBeginsDirective true (take (at + count) lines)
-none_more lines at count h k = subst (NoneBeginsDirective true) (sym (take-add at count lines)) (none-append true (take at lines) (take count (drop at lines)) h k)
+none_more lines at count h k = grind (arith, take-add, none-append)
 
 word_other : (b : ℕ) (bytes tail : List ℕ) → starts_with_no_keyword (b ∷ (bytes ++ tail)) ≡ true → NoWord tail → IsOther (b ∷ bytes)
 word_other b [] [] e n = cc
@@ -178,22 +135,19 @@ plain_unsigned [] tail o h f n = no_sign
 plain_unsigned (b ∷ bytes) tail o h f n = by_white (is_white b) refl (λ k. plain_unsigned bytes tail o.1 k f n)
   where
     is_other : (a : Bool) → not a ≡ false → a ≡ true
-    is_other true e = refl
-    is_other false e = cc
+    is_other a h = grind arith
 
     by_sign : (t : Bool) → (b == number_sign) ≡ t → Unsigned (if t then Some bytes else None)
     by_sign false e = no_sign
-    by_sign true e = other_sign bytes (name_other bytes tail (is_other (is_other_word (bytes ++ tail)) (ap (λ (t : Bool). t && not (is_other_word (bytes ++ tail))) (sym e) ∙ h.0)) f n)
+    by_sign true e = grind (arith, other_sign, name_other, is_other)
 
     by_white : (t : Bool) → is_white b ≡ t → (NoneBeginsDirective true (bytes ++ tail) → Unsigned (skip_white_and_hash bytes)) →
         Unsigned (skip_hash (if t then skip_white bytes else b ∷ bytes))
-    by_white true w more =
-        more (subst (λ (t : Bool). NoneBeginsDirective t (bytes ++ tail)) (ap (λ (t : Bool). t || is_white b) (ne_eqb b newline o.0) ∙ w) h.1)
+    by_white true w more = grind (arith, ne_eqb)
     by_white false w more = by_sign (b == number_sign) refl
 
 feed_names : (e : List ℕ) → IsFeed e → (is_other_word e ≡ false) × NoWord e
-feed_names _ one = (refl, refl)
-feed_names _ two = (refl, refl)
+feed_names e h = grind arith
 
 -- a whole line that begins no directive shows no `#` of one
 line_unsigned : (n : ℕ) (l : List ℕ) → IsWhole l → NoneBeginsDirective true l → Unsigned (skip_white_and_hash (line_at n l).body)
@@ -215,10 +169,7 @@ lines_text (l ∷ ls) n before whole h =
     )
 
 none_text : (bytes : List ℕ) → AreWholeLines bytes → NoneBeginsDirective true bytes → ArePlainText bytes
-none_text bytes ends h = record {
-  ends = ends;
-  texts = λ n before. lines_text (whole_lines bytes) n before (are_whole bytes) (subst (NoneBeginsDirective true) (ended_lines bytes ends) h);
-}
+none_text bytes h k = grind (arith, lines_text, are_whole, ended_lines)
 
 -- the lines before the last one of bytes that begin no directive are text
 pub lines_before : (bytes : List ℕ) (n : ℕ) → NoneBeginsDirective true bytes → LastLineStarts bytes n → ArePlainText (take n bytes)

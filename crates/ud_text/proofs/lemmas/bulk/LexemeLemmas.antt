@@ -1,9 +1,9 @@
 -- Lexemes: where a slash, a backslash, a `#`, a literal and a line comment lead.
-use Rattle.std.proofs.Common.{◌≡◌, ℕ, ◌==◌, List, [], ◌∷◌, ◌++◌, Bool, true, false, not, ◌&&◌, ◌||◌, if◌then◌else◌, ◌⊎◌, inl, inr, refl, sym, ◌∙◌, ap, subst, ne_eqb, suc, zero, length, get_or, arith}
+use Rattle.std.proofs.Common.{◌≡◌, ℕ, ◌==◌, List, [], ◌∷◌, ◌++◌, Bool, true, false, not, ◌&&◌, ◌||◌, if◌then◌else◌, ◌⊎◌, refl, sym, ◌∙◌, ap, subst, ne_eqb, suc, zero, length, get_or, arith}
 use Rattle.std.proofs.lemmas.Bool.{eqb-true}
 use Rattle.ud_model.specs.text.Bytes.{is_quote, slash, number_sign, newline, carriage_return, star, backslash}
 use Rattle.ud_model.specs.aids.LexStates.{LexState, in_text, at_slash, in_line, in_literal, at_backslash, stays_white}
-use Rattle.ud_text.specs.bulk.BulkStates.{next_bulk_state, BulkState, code_state, stops_bulk, NoNewlineInBlock, bulk_state_after, shows_hash, spliced_after, is_other_word, HasNoStop}
+use Rattle.ud_text.specs.bulk.BulkStates.{next_bulk_state, BulkState, code_state, stops_bulk, NoNewlineInBlock, bulk_state_after, spliced_after, is_other_word, HasNoStop}
 use Rattle.ud_text.proofs.lemmas.bulk.QuietLemmas.{bulk_state_after-append, HasNoStop-append, NoNewlineInBlock-append}
 use Rattle.ud_text.proofs.lemmas.bulk.BulkPlainLemmas.{not_special, plain_read}
 use Rattle.ud_model.specs.text.Lines.{NoNewline}
@@ -38,24 +38,10 @@ slash_read x white e f =
     }
   where
     by_return : (r v : Bool) → ◌≡◌ {A = BulkState} (record { state = in_text; white = v; spliced = if r then false else false }) (code_state v)
-    by_return true v = refl
-    by_return false v = refl
+    by_return r v = grind arith
 
     by_feed : (t : Bool) → (if t then false else false) ≡ false
-    by_feed true = refl
-    by_feed false = refl
-
--- a backslash that belongs to no splice, and the byte after it
-pub backslash_read : (x : ℕ) (white : Bool) → is_significant x ≡ false → (x == newline) ≡ false → (x == carriage_return) ≡ false → CodeLexeme white (backslash ∷ x ∷ [])
-backslash_read x white e f g =
-    let n : ((x == slash) ≡ false) × (is_quote x ≡ false) × ((x == backslash) ≡ false) × ((x == number_sign) ≡ false) = not_special x e in
-    record {
-      now_white = stays_white in_text (white && false) x;
-      leads = rw (n.0, n.1, n.2, g) refl;
-      quiet = (refl, (rw (f, n.3) refl, tt));
-      no_newline = (refl, (and-false (x == newline), tt));
-      no_comment = (refl, (refl, tt));
-    }
+    by_feed t = grind arith
 
 -- a `#` that belongs to no directive, and the plain text after it
 pub sign_read : (bytes : List ℕ) (white : Bool) → NoSignificant bytes → (is_other_word bytes ≡ true) ⊎ (white ≡ false) → CodeLexeme white (number_sign ∷ bytes)
@@ -70,15 +56,10 @@ sign_read bytes white h why =
     }
   where
     by_reason : (is_other_word bytes ≡ true) ⊎ (white ≡ false) → (white && not (is_other_word bytes)) ≡ false
-    by_reason (inl e) = ap (λ (o : Bool). white && not o) e ∙ and-false white
-    by_reason (inr e) = ap (λ (o : Bool). o && not (is_other_word bytes)) e
+    by_reason h = grind arith
 
 stops_white : (p : LexState) (c : Bool) (b : ℕ) (rest : List ℕ) → (b == newline) ≡ false → stops_bulk (record { state = p; white = false; spliced = c }) b rest ≡ false
-stops_white p c b rest e = rw e (by_sign (b == number_sign) p)
-  where
-    by_sign : (t : Bool) (p : LexState) → (if t then (shows_hash p && false) && not (is_other_word rest) else false) ≡ false
-    by_sign true p = ap (λ (o : Bool). o && not (is_other_word rest)) (and-false (shows_hash p))
-    by_sign false p = refl
+stops_white p c b rest h = grind arith
 
 -- one more byte of a literal
 pub literal_byte : (white : Bool) (q : ℕ) (bytes : List ℕ) (b : ℕ) → LiteralFront white q bytes → (b == newline) ≡ false → (b == q) ≡ false → (b == backslash) ≡ false →
@@ -114,12 +95,7 @@ literal_pair white q bytes b r k e =
     }
   where
     skips : next_bulk_state (record { state = in_literal q; white = false; spliced = r.spliced }) backslash ≡ record { state = at_backslash q; white = false; spliced = true }
-    skips = by_quote (backslash == q) refl
-      where
-        by_quote : (t : Bool) → (backslash == q) ≡ t → ◌≡◌ {A = BulkState} (record { state = if t then in_text else at_backslash q; white = false; spliced = true })
-            (record { state = at_backslash q; white = false; spliced = true })
-        by_quote true f = let g : is_quote backslash ≡ true = subst (λ (n : ℕ). is_quote n ≡ true) (sym (eqb-true backslash q f)) k in cc
-        by_quote false f = refl
+    skips = grind arith
 
 -- the quote that closes a literal
 pub literal_closed : (white : Bool) (q : ℕ) (bytes : List ℕ) → LiteralFront white q bytes → is_quote q ≡ true → CodeLexeme white (bytes ++ q ∷ [])
@@ -137,14 +113,11 @@ literal_closed white q bytes r k = by_quote (q == 34) (q == 39) refl refl k
         }) r
 
     by_quote : (t u : Bool) → (q == 34) ≡ t → (q == 39) ≡ u → (t || u) ≡ true → CodeLexeme white (bytes ++ q ∷ [])
-    by_quote true u f g h = closed 34 (eqb-true q 34 f) refl refl refl refl
-    by_quote false true f g h = closed 39 (eqb-true q 39 g) refl refl refl refl
-    by_quote false false f g h = cc
+    by_quote t u h k l = grind (arith, closed, eqb-true)
 
 -- after a byte that may begin no splice, a newline isn't spliced
 pub literal_unspliced : (white : Bool) (q : ℕ) (bytes : List ℕ) (b : ℕ) (r : LiteralFront white q (bytes ++ b ∷ [])) → (b == backslash) ≡ false → (b == carriage_return) ≡ false → r.spliced ≡ false
-literal_unspliced white q bytes b r e f =
-    sym (ap (λ (s : BulkState). s.spliced) r.leads) ∙ ap (λ (s : BulkState). s.spliced) (bulk_state_after-append (code_state white) bytes (b ∷ [])) ∙ rw (e, f) refl
+literal_unspliced white q bytes b r h k = grind (arith, bulk_state_after-append)
 
 -- the newline that ends a literal
 pub literal_line : (white : Bool) (q : ℕ) (bytes : List ℕ) (r : LiteralFront white q bytes) → r.spliced ≡ false → CodeLexeme white (bytes ++ newline ∷ [])
@@ -180,63 +153,26 @@ last_return : (c : Bool) (bytes : List ℕ) (n : ℕ) → length bytes ≡ suc (
 unfolding spliced_by
 last_return c [] n e f g h = absurd (omega arith)
 last_return c (a ∷ []) n e f g h = absurd (omega arith)
-last_return c (a ∷ b ∷ []) zero e f g h = rw (f, g, h) (by_return (b == carriage_return))
-  where
-    by_return : (t : Bool) → (if t then false else false) ≡ false
-    by_return true = refl
-    by_return false = refl
+last_return c (a ∷ b ∷ []) zero e f g h = grind arith
 last_return c (a ∷ b ∷ []) (suc n) e f g h = absurd (omega arith)
 last_return c (a ∷ b ∷ d ∷ bytes) zero e f g h = absurd (omega arith)
 last_return c (a ∷ b ∷ d ∷ bytes) (suc n) e f g h = last_return (spliced_after in_line c a) (b ∷ d ∷ bytes) n (omega arith) f g h
 
 or_parts : (a b : Bool) → (a || b) ≡ false → (a ≡ false) × (b ≡ false)
-or_parts false false e = (refl, refl)
-or_parts true b e = cc
-or_parts false true e = cc
+or_parts a b h = grind arith
 
 -- no splice ends after bytes whose last two allow none
 pub unspliced : (bytes : List ℕ) (n : ℕ) → length bytes ≡ suc (suc n) → may_splice (get_or bytes n 0) (get_or bytes (suc n) 0) ≡ false → spliced_by false bytes ≡ false
-unspliced bytes n e f =
-    by_return (get_or bytes (suc n) 0 == carriage_return) refl
-    (or_parts (get_or bytes (suc n) 0 == backslash)
-    ((get_or bytes (suc n) 0 == carriage_return) && ((get_or bytes n 0 == backslash) || (get_or bytes n 0 == carriage_return))) f)
-  where
-    by_return : (t : Bool) → (get_or bytes (suc n) 0 == carriage_return) ≡ t →
-        ((get_or bytes (suc n) 0 == backslash) ≡ false) × ((t && ((get_or bytes n 0 == backslash) || (get_or bytes n 0 == carriage_return))) ≡ false) → spliced_by false bytes ≡ false
-    by_return false g h = last_clear false bytes (suc n) e h.0 g
-    by_return true g h =
-        let p : ((get_or bytes n 0 == backslash) ≡ false) × ((get_or bytes n 0 == carriage_return) ≡ false) = or_parts (get_or bytes n 0 == backslash) (get_or bytes n 0 == carriage_return) h.1 in
-        last_return false bytes n e p.0 p.1 h.0
+unspliced bytes n h k = grind (arith, or_parts, last_clear, last_return)
 
 line_on : (bytes : List ℕ) (white c : Bool) → NoNewline bytes →
     (bulk_state_after (line_comment white c) bytes ≡ line_comment white (spliced_by c bytes)) × HasNoStop (line_comment white c) bytes × NoNewlineInBlock (line_comment white c) bytes
 unfolding spliced_by
 line_on [] white c h = (refl, tt, tt)
-line_on (b ∷ bytes) white c h =
-    let other : (b == newline) ≡ false = ne_eqb b newline h.0 in
-    let there : next_bulk_state (line_comment white c) b ≡ line_comment white (spliced_after in_line c b) = rw other refl in
-    let more : (bulk_state_after (line_comment white (spliced_after in_line c b)) bytes ≡ line_comment white (spliced_by (spliced_after in_line c b) bytes))
-    × HasNoStop (line_comment white (spliced_after in_line c b)) bytes × NoNewlineInBlock (line_comment white (spliced_after in_line c b)) bytes =
-    line_on bytes white (spliced_after in_line c b) h.1 in (
-      ap (λ (s : BulkState). bulk_state_after s bytes) there ∙ more.0,
-      (rw other (by_sign (b == number_sign)), subst (λ (s : BulkState). HasNoStop s bytes) (sym there) more.1),
-      (and-false (b == newline), subst (λ (s : BulkState). NoNewlineInBlock s bytes) (sym there) more.2),
-    )
-  where
-    by_sign : (t : Bool) → (if t then false else false) ≡ false
-    by_sign true = refl
-    by_sign false = refl
+line_on (b ∷ bytes) white c h = grind (arith, ne_eqb, and-false, line_on bytes white (spliced_after in_line c b) h.1)
 
 -- a line comment with its newline
 pub line_comment_read : (bytes : List ℕ) (white : Bool) → NoNewline bytes → spliced_by false (slash ∷ slash ∷ bytes) ≡ false →
     LineLexeme white (slash ∷ slash ∷ (bytes ++ newline ∷ []))
 unfolding spliced_by
-line_comment_read bytes white h e =
-    let on : (bulk_state_after (line_comment white false) bytes ≡ line_comment white (spliced_by false bytes)) × HasNoStop (line_comment white false) bytes × NoNewlineInBlock (line_comment white false) bytes =
-    line_on bytes white false h in
-    let leads : bulk_state_after (line_comment white false) bytes ≡ line_comment white false = on.0 ∙ ap (λ (c : Bool). line_comment white c) e in
-    record {
-      leads = bulk_state_after-append (line_comment white false) bytes (newline ∷ []) ∙ ap (λ (s : BulkState). bulk_state_after s (newline ∷ [])) leads;
-      quiet = (refl, (refl, HasNoStop-append (line_comment white false) bytes (newline ∷ []) on.1 (subst (λ (s : BulkState). HasNoStop s (newline ∷ [])) (sym leads) (refl, tt))));
-      no_newline = (refl, (refl, NoNewlineInBlock-append (line_comment white false) bytes (newline ∷ []) on.2 (subst (λ (s : BulkState). NoNewlineInBlock s (newline ∷ [])) (sym leads) (refl, tt))));
-    }
+line_comment_read bytes white h e = grind (arith, line_on, bulk_state_after-append, HasNoStop-append, NoNewlineInBlock-append)

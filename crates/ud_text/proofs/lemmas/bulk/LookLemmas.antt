@@ -1,13 +1,11 @@
 -- Looks: looking back over white space shows whether the logical line is white.
-use Rattle.std.proofs.Common.{◌≡◌, ℕ, ◌==◌, List, [], ◌∷◌, ◌++◌, Bool, true, false, ◌&&◌, ◌||◌, if◌then◌else◌, ◌⊎◌, inl, inr, refl, sym, ◌∙◌, ap, subst}
-use Rattle.std.proofs.lemmas.Bool.{eqb-true}
+use Rattle.std.proofs.Common.{arith}
+use Rattle.std.proofs.Common.{◌≡◌, ℕ, ◌==◌, List, [], ◌∷◌, ◌++◌, Bool, true, false, ◌&&◌, if◌then◌else◌, ◌⊎◌, inl, inr, refl, sym, ◌∙◌, ap, subst}
 use Rattle.ud_model.specs.text.Bytes.{is_quote, is_white, are_white, slash, newline, carriage_return, star, backslash}
 use Rattle.ud_model.specs.aids.LexStates.{LexState, in_text, at_slash, in_block, at_star, in_line, in_literal, at_backslash, next_state, opens_comment, stays_white}
 use Rattle.ud_text.specs.bulk.BulkStates.{next_bulk_state, BulkState, code_state, bulk_state_after}
 use Rattle.ud_text.proofs.lemmas.bulk.QuietLemmas.{bulk_state_after-append}
-use Rattle.ud_text.proofs.lemmas.bulk.TextLemmas.{Class, class_of, a_slash, a_sign, a_white, a_quote, another}
 use Rattle.ud_text.specs.bulk.BulkLexemes.{black, NoComment, all_white, IsWhiteAfter, new_line}
-use Rattle.std.proofs.Math.Bool.{and-false}
 
 -- `outside w`: the lexer state `w` is outside comments
 abbrev pub outside : LexState → Bool
@@ -20,78 +18,20 @@ outside (in_literal q) = true
 outside (at_backslash q) = true
 
 outside_next : (w : LexState) (b : ℕ) → outside w ≡ true → opens_comment w b ≡ false → outside (next_state w b) ≡ true
-outside_next in_text b e f = by_tests (b == slash) (is_quote b)
-  where
-    by_tests : (s q : Bool) → outside (if s then at_slash else if q then in_literal b else in_text) ≡ true
-    by_tests true q = refl
-    by_tests false true = refl
-    by_tests false false = refl
-outside_next at_slash b e f = by_tests (b == star) (b == slash) (is_quote b) f
-  where
-    by_tests : (t s q : Bool) → (t || s) ≡ false → outside (if t then in_block else if s then in_line else if q then in_literal b else in_text) ≡ true
-    by_tests true s q g = cc
-    by_tests false true q g = cc
-    by_tests false false true g = refl
-    by_tests false false false g = refl
-outside_next in_block b e f = cc
-outside_next at_star b e f = cc
-outside_next in_line b e f = cc
-outside_next (in_literal q) b e f = by_tests (b == newline) (b == q) (b == backslash)
-  where
-    by_tests : (t c s : Bool) → outside (if t then in_text else if c then in_text else if s then at_backslash q else in_literal q) ≡ true
-    by_tests true c s = refl
-    by_tests false true s = refl
-    by_tests false false true = refl
-    by_tests false false false = refl
-outside_next (at_backslash q) b e f = by_feed (b == newline)
-  where
-    by_feed : (t : Bool) → outside (if t then in_text else in_literal q) ≡ true
-    by_feed true = refl
-    by_feed false = refl
+outside_next w b h k = grind arith
 
 outside_on : (s : BulkState) (p q : List ℕ) → outside s.state ≡ true → NoComment s.state (p ++ q) → (outside (bulk_state_after s p).state ≡ true) × NoComment (bulk_state_after s p).state q
 outside_on s [] q e h = (e, h)
 outside_on s (b ∷ p) q e h = outside_on (next_bulk_state s b) p q (outside_next s.state b e h.0) h.1
 
 feed_step : (s : BulkState) → outside s.state ≡ true → next_bulk_state s newline ≡ code_state true
-feed_step s e = by_place s.state e
-  where
-    by_place : (w : LexState) → outside w ≡ true → ◌≡◌ {A = BulkState} (record { state = next_state w newline; white = stays_white w s.white newline; spliced = false }) (code_state true)
-    by_place in_text e = refl
-    by_place at_slash e = refl
-    by_place in_block e = cc
-    by_place at_star e = cc
-    by_place in_line e = cc
-    by_place (in_literal q) e = refl
-    by_place (at_backslash q) e = refl
+feed_step s h = grind arith
 
 white_parts : (b : ℕ) → is_white b ≡ true → ((b == slash) ≡ false) × (is_quote b ≡ false) × ((b == newline) ≡ false) × ((b == star) ≡ false) × ((b == backslash) ≡ false)
-white_parts b w = by_class b (class_of b) w
-  where
-    star_other : (b : ℕ) → is_white b ≡ true → ((b == star) ≡ false) × ((b == backslash) ≡ false)
-    star_other b w = (other star refl, other backslash refl)
-      where
-        other : (n : ℕ) → is_white n ≡ false → (b == n) ≡ false
-        other n e = by_eq (b == n) refl
-          where
-            by_eq : (t : Bool) → (b == n) ≡ t → t ≡ false
-            by_eq true f = let g : is_white n ≡ true = subst (λ (m : ℕ). is_white m ≡ true) (eqb-true b n f) w in cc
-            by_eq false f = refl
-
-    by_class : (b : ℕ) → Class b → is_white b ≡ true → ((b == slash) ≡ false) × (is_quote b ≡ false) × ((b == newline) ≡ false) × ((b == star) ≡ false) × ((b == backslash) ≡ false)
-    by_class _ a_slash w = cc
-    by_class _ a_sign w = cc
-    by_class _ (a_white b w e q s i n) _ = (e, q, i, (star_other b w).0, (star_other b w).1)
-    by_class _ (a_quote b q w e s i n) v = cc
-    by_class _ (another b w e q s) v = cc
+white_parts b h = grind arith
 
 white_tests : (b : ℕ) (bytes : List ℕ) → (is_white b && are_white bytes) ≡ true → (is_white b ≡ true) × (are_white bytes ≡ true)
-white_tests b bytes e = by_tests (is_white b) (are_white bytes) e
-  where
-    by_tests : (s t : Bool) → (s && t) ≡ true → (s ≡ true) × (t ≡ true)
-    by_tests true true e = (refl, refl)
-    by_tests true false e = cc
-    by_tests false t e = cc
+white_tests b bytes h = grind arith
 
 -- white space leaves a white line white
 white_on : (bytes : List ℕ) → are_white bytes ≡ true → bulk_state_after (code_state true) bytes ≡ code_state true
@@ -102,29 +42,13 @@ white_on (b ∷ bytes) e =
     ap (λ (s : BulkState). bulk_state_after s bytes) (stays p.0 p.1 p.2 p.4 w.0) ∙ white_on bytes w.1
   where
     by_return : (r : Bool) → ◌≡◌ {A = BulkState} (record { state = in_text; white = true; spliced = if r then false else false }) (code_state true)
-    by_return true = refl
-    by_return false = refl
+    by_return r = grind arith
 
     stays : (b == slash) ≡ false → is_quote b ≡ false → (b == newline) ≡ false → (b == backslash) ≡ false → is_white b ≡ true → next_bulk_state (code_state true) b ≡ code_state true
     stays e q i t w = rw (e, q, i, t, w) (by_return (b == carriage_return))
 
 pub white_false : (w : LexState) (b : ℕ) → (b == newline) ≡ false → stays_white w false b ≡ false
-white_false in_text b e = rw e (by_slash (b == slash))
-  where
-    by_slash : (t : Bool) → (if t then false else false) ≡ false
-    by_slash true = refl
-    by_slash false = refl
-white_false at_slash b e = rw e (by_tests (b == star) (b == slash))
-  where
-    by_tests : (t s : Bool) → (if t then false else if s then false else false) ≡ false
-    by_tests true s = refl
-    by_tests false true = refl
-    by_tests false false = refl
-white_false in_block b e = refl
-white_false at_star b e = refl
-white_false in_line b e = rw e refl
-white_false (in_literal q) b e = rw e refl
-white_false (at_backslash q) b e = rw e refl
+white_false w b h = grind arith
 
 -- a line that isn't white stays so
 black_on : (bytes : List ℕ) (s : BulkState) → s.white ≡ false → are_white bytes ≡ true → (bulk_state_after s bytes).white ≡ false
@@ -137,31 +61,12 @@ black_on (b ∷ bytes) s e h =
 -- comment
 black_step : (w : LexState) (white : Bool) (b : ℕ) → outside w ≡ true → opens_comment w b ≡ false → is_white b ≡ false → (b == newline) ≡ false →
     (stays_white w white b ≡ false) ⊎ (next_state w b ≡ at_slash)
-black_step in_text white b o f w i = by_slash (b == slash) refl
-  where
-    by_slash : (t : Bool) → (b == slash) ≡ t → (stays_white in_text white b ≡ false) ⊎ (next_state in_text b ≡ at_slash)
-    by_slash true e = inr (rw e refl)
-    by_slash false e = inl (rw (e, i, w) (and-false white))
-black_step at_slash white b o f w i = inl (by_tests (b == star) (b == slash) f (b == newline) i)
-  where
-    by_tests : (t s : Bool) → (t || s) ≡ false → (n : Bool) → n ≡ false → (if t then white else if s then white else if n then true else false) ≡ false
-    by_tests true s g n k = cc
-    by_tests false true g n k = cc
-    by_tests false false g true k = cc
-    by_tests false false g false k = refl
-black_step in_block white b o f w i = cc
-black_step at_star white b o f w i = cc
-black_step in_line white b o f w i = cc
-black_step (in_literal q) white b o f w i = inl (rw (i, w) (and-false white))
-black_step (at_backslash q) white b o f w i = inl (rw (i, w) (and-false white))
+black_step w white b h k l m = grind arith
 
 -- white space after a slash makes the slash a byte of the line
 slash_on : (bytes : List ℕ) (s : BulkState) (u : Bool) → s.state ≡ at_slash → are_white bytes ≡ true → bulk_state_after s bytes ≡ code_state u → u ≡ false
 slash_on [] s u p h e = let q : at_slash ≡ in_text = sym p ∙ ap (λ (t : BulkState). t.state) e in cc
-slash_on (b ∷ bytes) s u p h e =
-    let w : (is_white b ≡ true) × (are_white bytes ≡ true) = white_tests b bytes h in
-    let n : ((b == slash) ≡ false) × (is_quote b ≡ false) × ((b == newline) ≡ false) × ((b == star) ≡ false) × ((b == backslash) ≡ false) = white_parts b w.0 in
-    sym (ap (λ (t : BulkState). t.white) e) ∙ black_on bytes (next_bulk_state s b) (ap (λ (v : LexState). stays_white v s.white b) p ∙ rw (n.3, n.0, n.2) refl) w.1
+slash_on (b ∷ bytes) s u p h e = grind (arith, white_tests, white_parts, black_on)
 
 -- white space leaves a line as it is, white or not
 white_stays : (plain : List ℕ) (base : Bool) → are_white plain ≡ true → (bulk_state_after (code_state base) plain).white ≡ base

@@ -8,7 +8,7 @@ use lib.Lanes.{zip2}
 use Rattle.ud_text.specs.bulk.BulkLexemes.{is_significant}
 use Rattle.ud_text.specs.declared.bulk.blocks.TheConstants.{BY_LOW_NIBBLE}
 use Rattle.ud_text.proofs.lemmas.searching.SimdLemmas.{lane}
-use Rattle.ud_text.proofs.lemmas.searching.SignificantLemmas.{AreBytes, all_below, one_below, agree, agree_same}
+use Rattle.ud_text.proofs.lemmas.searching.ByteLemmas.{AreBytes, all_below, one_below, agree, agree_same}
 
 -- the low nibbles are positions in the table
 pub low_ok : (v : List ℕ) → length v ≡ 64 → SwzOk w8 16 64 0 (zip2 bit_and v (replicate 64 15))

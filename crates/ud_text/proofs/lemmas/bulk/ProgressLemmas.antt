@@ -2,7 +2,7 @@
 use Rattle.std.proofs.Common.{◌≡◌, ℕ, ◌+◌, ◌-◌, ◌<◌, ◌≤◌, List, [], ◌∷◌, ◌++◌, length, take, drop, Bool, true, false, refl, sym, ◌∙◌, ap, subst, append_assoc, append-nil, arith, length-append}
 use Rattle.std.proofs.lemmas.List.{take-append-drop, length-take-le}
 use Rattle.ud_model.specs.text.Scanning.{is_block}
-use Rattle.ud_model.specs.aids.LexStates.{LexState, in_text, at_slash, in_block, at_star, in_line, in_literal, at_backslash, next_state, stays_white, kind_in_state}
+use Rattle.ud_model.specs.aids.LexStates.{kind_in_state}
 use Rattle.ud_text.specs.bulk.BulkStates.{next_bulk_state, BulkState, code_state, NoNewlineInBlock, bulk_state_after, Skipped, HasNoStop, AtLine}
 use Rattle.ud_text.proofs.lemmas.bulk.QuietLemmas.{bulk_state_after-append, HasNoStop-append, HasNoStop-feed, NoNewlineInBlock-append, NoNewlineInBlock-rest}
 use Rattle.ud_text.proofs.lemmas.bulk.QuietLineLemmas.{passed_none, passed_quiet, Skipped-append}
@@ -25,16 +25,7 @@ begins-append p q h = subst IsLineStart (append_assoc p q (newline ∷ [])) (aft
 
 pub feed_open : (s : BulkState) → is_block (kind_in_state s.state) ≡ false →
     next_bulk_state s newline ≡ code_state true
-feed_open s e = by_place s.state e
-  where
-    by_place : (w : LexState) → is_block (kind_in_state w) ≡ false → ◌≡◌ {A = BulkState} (record { state = next_state w newline; white = stays_white w s.white newline; spliced = false }) (code_state true)
-    by_place in_text e = refl
-    by_place at_slash e = refl
-    by_place in_block e = cc
-    by_place at_star e = cc
-    by_place in_line e = refl
-    by_place (in_literal q) e = refl
-    by_place (at_backslash q) e = refl
+feed_open s h = grind arith
 
 module _ {start : BulkState} {bytes : List ℕ} {line : ℕ} {kept : BulkState} {at : ℕ} {now : BulkState}
     (r : ReadTo start bytes line kept at now) where
@@ -45,13 +36,11 @@ module _ {start : BulkState} {bytes : List ℕ} {line : ℕ} {kept : BulkState} 
 
   -- the bytes from the beginning of the line up to the position
   pub mid_of : take (at - line) (drop line bytes) ≡ r.mid
-  mid_of = ap (λ (l : List ℕ). take (at - line) l) (ap (λ (l : List ℕ). drop line l) r.is ∙ drop_front r.prefix (r.mid ++ r.rest) line r.line_is)
-      ∙ take_front r.mid r.rest (at - line) (let e : at ≡ length r.prefix + length r.mid = r.at_is in let f : line ≡ length r.prefix = r.line_is in omega arith)
+  mid_of = grind (arith, drop_front, take_front)
 
   -- the lines before that beginning are skipped
   pub passed_of : Skipped start (take line bytes) kept
-  passed_of = subst (λ (l : List ℕ). Skipped start l kept)
-      (sym (ap (λ (l : List ℕ). take line l) r.is ∙ take_front r.prefix (r.mid ++ r.rest) line r.line_is)) r.passed
+  passed_of = grind (arith, take_front)
 
   -- further bytes are read
   pub read_on : (k : ℕ) (run : List ℕ) → run ≡ take k (drop at bytes) → k ≤ length (drop at bytes) → HasNoStop now run → NoNewlineInBlock now run →
@@ -106,9 +95,7 @@ module _ {start : BulkState} {bytes : List ℕ} {line : ℕ} {kept : BulkState} 
   -- what is read, from the beginning of the last line
   pub settled : (n : ℕ) → LastLineStarts (take (at - line) (drop line bytes)) n → 0 < n → ReadTo start bytes (line + n) (code_state true) at now
   unfolding mid_of
-  settled n h k =
-      let l : LastLineStarts r.mid n = subst (λ (x : List ℕ). LastLineStarts x n) mid_of h in
-      settled_at n (take n r.mid) l.begins refl l.within k
+  settled n h k = grind (arith, mid_of, settled_at)
 
   -- a splice on a logical line that isn't white ends a line
   pub read_splice : now ≡ code_state false → (k : ℕ) → k ≤ length (drop at bytes) → IsSplice (take k (drop at bytes)) →
@@ -184,8 +171,7 @@ module _ {start : BulkState} {bytes : List ℕ} {line : ℕ} {kept : BulkState} 
     (r : ReadOutside start bytes line kept base begins at) where
   -- the state to which the bytes after the base lead
   pub plain_leads : bulk_state_after (code_state begins) r.plain ≡ code_state r.now_white
-  plain_leads = ap (λ (s : BulkState). bulk_state_after s r.plain) (sym r.base_leads) ∙ sym (bulk_state_after-append kept r.before r.plain)
-      ∙ ap (λ (l : List ℕ). bulk_state_after kept l) (sym r.mid_is) ∙ r.so_far.leads
+  plain_leads = grind (arith, bulk_state_after-append)
 
   -- the bytes after the base
   pub plain_of : take (at - base) (drop base bytes) ≡ r.plain

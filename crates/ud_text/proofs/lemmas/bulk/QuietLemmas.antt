@@ -1,7 +1,8 @@
 -- Quiet runs: bytes that are read without a stop, one run after another, and cut at a newline.
-use Rattle.std.proofs.Common.{◌≡◌, ℕ, ◌==◌, List, [], ◌∷◌, ◌++◌, Bool, true, false, not, ◌&&◌, if◌then◌else◌, refl, sym, ◌∙◌, ap}
-use Rattle.ud_model.specs.text.Bytes.{is_white, skip_white, newline, number_sign}
-use Rattle.ud_text.specs.bulk.BulkStates.{next_bulk_state, stops_bulk, NoNewlineInBlock, bulk_state_after, BulkState, shows_hash, HasNoStop, is_other_word, starts_with_no_keyword}
+use Rattle.std.proofs.Common.{arith}
+use Rattle.std.proofs.Common.{◌≡◌, ℕ, List, [], ◌∷◌, ◌++◌, Bool, true, false, if◌then◌else◌, refl}
+use Rattle.ud_model.specs.text.Bytes.{is_white, skip_white, newline}
+use Rattle.ud_text.specs.bulk.BulkStates.{next_bulk_state, stops_bulk, NoNewlineInBlock, bulk_state_after, BulkState, HasNoStop, is_other_word, starts_with_no_keyword}
 use Rattle.ud_model.proofs.text.ScanLaws.{place_after, white_after}
 
 -- bytes lead on from the state to which the bytes before them lead
@@ -19,31 +20,16 @@ pub bulk_state_after-white : (s : BulkState) (p : List ℕ) → (bulk_state_afte
 bulk_state_after-white s [] = refl
 bulk_state_after-white s (b ∷ p) = bulk_state_after-white (next_bulk_state s b) p
 
-starts_with_no_keyword-append : (p q : List ℕ) → starts_with_no_keyword p ≡ true → starts_with_no_keyword (p ++ q) ≡ true
-starts_with_no_keyword-append [] q e = cc
-starts_with_no_keyword-append (a ∷ []) q e = cc
-starts_with_no_keyword-append (a ∷ b ∷ p) q e = e
-
 -- a word that is no keyword stays one with further bytes
 pub other-append : (p q : List ℕ) → is_other_word p ≡ true → is_other_word (p ++ q) ≡ true
 other-append [] q e = cc
 other-append (a ∷ p) q e = by_white (other-append p q) (is_white a) e
   where
     by_white : (is_other_word p ≡ true → is_other_word (p ++ q) ≡ true) → (t : Bool) → starts_with_no_keyword (if t then skip_white p else a ∷ p) ≡ true → starts_with_no_keyword (if t then skip_white (p ++ q) else a ∷ (p ++ q)) ≡ true
-    by_white more true f = more f
-    by_white more false f = starts_with_no_keyword-append (a ∷ p) q f
+    by_white h t k = grind arith
 
 stops_bulk-append : (s : BulkState) (b : ℕ) (p q : List ℕ) → stops_bulk s b p ≡ false → stops_bulk s b (p ++ q) ≡ false
-stops_bulk-append s b p q e = by_tests (b == newline) (b == number_sign) (shows_hash s.state) s.white (is_other_word p) refl e
-  where
-    by_tests : (f n o w k : Bool) → is_other_word p ≡ k → (if f then s.spliced else if n then o && w && not k else false) ≡ false →
-        (if f then s.spliced else if n then o && w && not (is_other_word (p ++ q)) else false) ≡ false
-    by_tests true n o w k i h = h
-    by_tests false false o w k i h = refl
-    by_tests false true false w k i h = refl
-    by_tests false true true false k i h = refl
-    by_tests false true true true true i h = ap not (other-append p q i)
-    by_tests false true true true false i h = cc
+stops_bulk-append s b p q h = grind (arith, other-append)
 
 -- two runs without a stop, one after the other, have none
 pub HasNoStop-append : (s : BulkState) (p q : List ℕ) → HasNoStop s p → HasNoStop (bulk_state_after s p) q → HasNoStop s (p ++ q)
@@ -61,15 +47,12 @@ other-feed (a ∷ p) q = by_white (other-feed p q) (is_white a)
     rest_is (c ∷ r) = refl
 
     by_white : is_other_word (p ++ newline ∷ q) ≡ is_other_word (p ++ newline ∷ []) → (t : Bool) → starts_with_no_keyword (if t then skip_white (p ++ newline ∷ q) else a ∷ (p ++ newline ∷ q)) ≡ starts_with_no_keyword (if t then skip_white (p ++ newline ∷ []) else a ∷ (p ++ newline ∷ []))
-    by_white more true = more
-    by_white more false = rest_is p
+    by_white h t = grind (arith, rest_is)
 
 -- a run without a stop has none up to a newline, and none after it: nothing after a newline counts
 pub HasNoStop-feed : (s : BulkState) (p q : List ℕ) → HasNoStop s (p ++ newline ∷ q) → HasNoStop s (p ++ newline ∷ []) × HasNoStop (bulk_state_after s (p ++ newline ∷ [])) q
 HasNoStop-feed s [] q h = ((h.0, tt), h.1)
-HasNoStop-feed s (b ∷ p) q h =
-    let more : HasNoStop (next_bulk_state s b) (p ++ newline ∷ []) × HasNoStop (bulk_state_after (next_bulk_state s b) (p ++ newline ∷ [])) q = HasNoStop-feed (next_bulk_state s b) p q h.1 in
-    ((ap (λ (o : Bool). if b == newline then s.spliced else if b == number_sign then shows_hash s.state && s.white && not o else false) (sym (other-feed p q)) ∙ h.0, more.0), more.1)
+HasNoStop-feed s (b ∷ p) q h = grind (arith, other-feed, HasNoStop-feed (next_bulk_state s b) p q h.1)
 
 -- what follows a prefix of a run without a stop has none
 pub HasNoStop-rest : (s : BulkState) (p q : List ℕ) → HasNoStop s (p ++ q) → HasNoStop (bulk_state_after s p) q

@@ -1,6 +1,6 @@
 -- Quiet lines: a whole line that is read without a stop is text, and what is carried from it; many
 -- of them at once.
-use Rattle.std.proofs.Common.{◌≡◌, ◌≤◌, ℕ, suc, ◌+◌, ◌-◌, ◌==◌, nat_eq, List, [], ◌∷◌, ◌++◌, length, take, Bool, true, false, not, ◌&&◌, ◌||◌, if◌then◌else◌, refl, sym, ◌∙◌, ap, subst, append_assoc, append-nil, arith, length-append}
+use Rattle.std.proofs.Common.{◌≡◌, ◌≤◌, ℕ, suc, ◌+◌, ◌-◌, nat_eq, List, [], ◌∷◌, ◌++◌, length, take, Bool, true, false, not, ◌&&◌, ◌||◌, if◌then◌else◌, refl, sym, ◌∙◌, ap, subst, append_assoc, append-nil, arith, length-append}
 use Rattle.std.specs.List.{concat, ends_with}
 use Rattle.std.proofs.lemmas.Bool.Decides.{Decides-eqb}
 use Rattle.std.proofs.lemmas.Slice.Eq.{ends_is}
@@ -9,7 +9,7 @@ use Rattle.ud_model.specs.text.Lines.{NoNewline, IsWhole, ending_of, Line, line_
 use Rattle.ud_model.specs.text.Scans.{Scan, Reading}
 use Rattle.ud_model.specs.text.Splicing.{is_spliced, is_empty, content, stays_open, spliced_text, c_run_of}
 use Rattle.ud_model.specs.text.Scanning.{is_block, comment_at, scan_after, next_reading, readings_after}
-use Rattle.ud_model.specs.aids.LexStates.{LexState, in_text, at_slash, in_block, at_star, in_line, in_literal, at_backslash, next_state, stays_white, kind_in_state, fresh_at, state_after_line, white_after_line, Masks}
+use Rattle.ud_model.specs.aids.LexStates.{LexState, in_text, at_slash, in_block, at_star, in_line, in_literal, at_backslash, next_state, kind_in_state, fresh_at, state_after_line, white_after_line, Masks}
 use Rattle.ud_model.specs.sections.Directives.{content_of, text, skip_white_and_hash}
 use Rattle.ud_model.specs.declared.kind.Mode.{Mode}
 use Rattle.ud_model.specs.declared.kind.Mode.TheVariants.{C}
@@ -18,8 +18,8 @@ use Rattle.ud_model.proofs.text.ScanLaws.{place_after, white_after, masked_after
 use Rattle.ud_model.proofs.text.ScanLemmas.{Masks-start}
 use Rattle.ud_text.specs.scan.ScannerState.{ScannerState, ScannerRepresents}
 use Rattle.ud_text.specs.bulk.BulkScanning.{lines_in_mode, HaveNoDirective, AreWholeLines, SkipsText}
-use Rattle.ud_text.specs.bulk.BulkStates.{line_state, BulkState, bulk_state_after, next_bulk_state, is_other_word, Skipped, HasNoStop, can_start, ignores_splice, continues_line, scanner_state_at, AtLine}
-use Rattle.ud_text.specs.bulk.BulkLexemes.{IsLineStart, at_start, after_newline}
+use Rattle.ud_text.specs.bulk.BulkStates.{line_state, BulkState, bulk_state_after, next_bulk_state, is_other_word, Skipped, HasNoStop, can_start, continues_line, scanner_state_at, AtLine}
+use Rattle.ud_text.specs.bulk.BulkLexemes.{IsLineStart, at_start}
 use Rattle.ud_text.proofs.lemmas.bulk.BulkPlainLemmas.{begins_ends}
 use Rattle.ud_text.proofs.lemmas.lines.ConsumeLemmas.{lines_joined, ends_joined}
 use Rattle.ud_text.proofs.lemmas.scan.MaskLemmas.{no_newline-take}
@@ -27,7 +27,6 @@ use Rattle.ud_text.proofs.lemmas.scan.ScannerLemmas.{scan_carried, represents_co
 use Rattle.ud_text.proofs.lemmas.bulk.QuietLemmas.{bulk_state_after-append, bulk_state_after-place, bulk_state_after-white, HasNoStop-feed, HasNoStop-rest}
 use Rattle.ud_text.proofs.lemmas.bulk.TextLemmas.{Unsigned, text_not_fresh, text_unsigned, unsigned, NoWord}
 use Rattle.ud_model.specs.text.Bytes.{newline, carriage_return, backslash}
-use Rattle.std.proofs.Math.Bool.{or-false}
 
 -- `IsTail spliced tail`: what follows a line's content, by whether the line is spliced
 pub data IsTail : Bool → List ℕ → Type 0 where
@@ -60,14 +59,10 @@ whole_ending l (prefix, none, is) =
     by_tests false false e = cc
 
 pub feed_length : (e : List ℕ) → IsFeed e → 1 ≤ length e
-feed_length _ one = omega arith
-feed_length _ two = omega arith
+feed_length e h = grind arith
 
 pub body_one_line : (l : List ℕ) (k : ℕ) → IsWhole l → 1 ≤ k → NoNewline (take (length l - k) l)
-body_one_line l k (prefix, none, is) h =
-    subst (λ (x : List ℕ). NoNewline (take (length x - k) x)) (sym is)
-    (subst NoNewline (sym (take-append-le (length (prefix ++ newline ∷ []) - k) prefix (newline ∷ []) (omega (arith, length-append prefix (newline ∷ [])))))
-    (no_newline-take (length (prefix ++ newline ∷ []) - k) prefix none))
+body_one_line l k h m = grind (arith, take-append-le, length-append, no_newline-take)
 
 body_split : (line : Line) → line.body ≡ content line ++ (if is_spliced line then backslash ∷ [] else [])
 body_split line = by_splice (ends_with nat_eq line.body (backslash ∷ [])) (not (is_empty line.ending))
@@ -75,16 +70,10 @@ body_split line = by_splice (ends_with nat_eq line.body (backslash ∷ [])) (not
   where
     by_splice : (s e : Bool) → (s ≡ true → line.body ≡ take (length line.body - 1) line.body ++ backslash ∷ []) →
         line.body ≡ (if s && e then take (length line.body - 1) line.body else line.body) ++ (if s && e then backslash ∷ [] else [])
-    by_splice true true h = h refl
-    by_splice true false h = sym (append-nil line.body)
-    by_splice false e h = sym (append-nil line.body)
+    by_splice s e h = grind (arith, append-nil)
 
 feed_closes : (line : Line) → IsFeed line.ending → stays_open line ≡ is_spliced line
-feed_closes line f = by_ending line.ending f (is_spliced line)
-  where
-    by_ending : (e : List ℕ) → IsFeed e → (s : Bool) → (s || is_empty e) ≡ s
-    by_ending _ one s = or-false s
-    by_ending _ two s = or-false s
+feed_closes line h = grind arith
 
 tail_kind : (s : Bool) (e : List ℕ) → IsFeed e → IsTail s ((if s then backslash ∷ [] else []) ++ e)
 tail_kind true _ one = splice_newline
@@ -106,49 +95,8 @@ shape_of n l whole =
       one_line = no_newline-content line (body_one_line l (length (ending_of l)) whole (feed_length (ending_of l) f));
     }
 
-cr_place : (v : LexState) → next_state (next_state v carriage_return) newline ≡ next_state v newline
-cr_place in_text = refl
-cr_place at_slash = refl
-cr_place in_block = refl
-cr_place at_star = refl
-cr_place in_line = refl
-cr_place (in_literal q) = by_quote (carriage_return == q)
-  where
-    by_quote : (t : Bool) → next_state (if t then in_text else in_literal q) newline ≡ in_text
-    by_quote true = refl
-    by_quote false = refl
-cr_place (at_backslash q) = refl
-
-cr_white : (v : LexState) (white : Bool) → stays_white (next_state v carriage_return) (stays_white v white carriage_return) newline ≡ stays_white v white newline
-cr_white in_text white = refl
-cr_white at_slash white = refl
-cr_white in_block white = refl
-cr_white at_star white = refl
-cr_white in_line white = refl
-cr_white (in_literal q) white = by_quote (carriage_return == q)
-  where
-    by_quote : (t : Bool) → stays_white (if t then in_text else in_literal q) (white && true) newline ≡ true
-    by_quote true = refl
-    by_quote false = refl
-cr_white (at_backslash q) white = refl
-
 starts_after : (v : LexState) → can_start (next_state v newline) ≡ true
-starts_after in_text = refl
-starts_after at_slash = refl
-starts_after in_block = refl
-starts_after at_star = refl
-starts_after in_line = refl
-starts_after (in_literal q) = refl
-starts_after (at_backslash q) = refl
-
-feed_white : (v : LexState) (white : Bool) → is_block (kind_in_state (next_state v newline)) ≡ false → stays_white v white newline ≡ true
-feed_white in_text white e = refl
-feed_white at_slash white e = refl
-feed_white in_block white e = cc
-feed_white at_star white e = cc
-feed_white in_line white e = refl
-feed_white (in_literal q) white e = refl
-feed_white (at_backslash q) white e = refl
+starts_after v = grind arith
 
 -- `Leads v white spliced now`: the state after a line is that of the definitions, by the state
 -- after its content and whether it is spliced
@@ -160,43 +108,12 @@ pub record Leads (v : LexState) (white : Bool) (spliced : Bool) (now : BulkState
   pub in_comment : spliced ≡ true → now.state ≡ in_block
   pub begins_white : is_block (kind_in_state now.state) ≡ false → now.white ≡ true
 
-leads_spliced : (v : LexState) (white c : Bool) → not (ignores_splice v) ≡ false → Leads v white true (bulk_state_after (record { state = v; white = white; spliced = c }) (backslash ∷ newline ∷ []))
-leads_spliced in_block white c h = record { state = refl; white_is = refl; unspliced = refl; begins = refl; in_comment = λ e. refl; begins_white = λ e. cc }
-leads_spliced in_text white c h = cc
-leads_spliced at_slash white c h = cc
-leads_spliced at_star white c h = cc
-leads_spliced in_line white c h = cc
-leads_spliced (in_literal q) white c h = cc
-leads_spliced (at_backslash q) white c h = cc
-
-leads_spliced_return : (v : LexState) (white c : Bool) → not (ignores_splice v) ≡ false → Leads v white true (bulk_state_after (record { state = v; white = white; spliced = c }) (backslash ∷ carriage_return ∷ newline ∷ []))
-leads_spliced_return in_block white c h = record { state = refl; white_is = refl; unspliced = refl; begins = refl; in_comment = λ e. refl; begins_white = λ e. cc }
-leads_spliced_return in_text white c h = cc
-leads_spliced_return at_slash white c h = cc
-leads_spliced_return at_star white c h = cc
-leads_spliced_return in_line white c h = cc
-leads_spliced_return (in_literal q) white c h = cc
-leads_spliced_return (at_backslash q) white c h = cc
-
 tail_leads : (s : BulkState) (spliced : Bool) (tail : List ℕ) → IsTail spliced tail → HasNoStop s tail → Leads s.state s.white spliced (bulk_state_after s tail)
-tail_leads s _ _ feed q = record { state = refl; white_is = refl; unspliced = refl; begins = starts_after s.state; in_comment = λ e. cc; begins_white = feed_white s.state s.white }
-tail_leads s _ _ return_feed q = record {
-  state = cr_place s.state;
-  white_is = cr_white s.state s.white;
-  unspliced = refl;
-  begins = starts_after (next_state s.state carriage_return);
-  in_comment = λ e. cc;
-  begins_white = feed_white (next_state s.state carriage_return) (stays_white s.state s.white carriage_return);
-}
-tail_leads s _ _ splice_newline q = leads_spliced s.state s.white s.spliced q.1.0
-tail_leads s _ _ splice_return_feed q = leads_spliced_return s.state s.white s.spliced q.1.1.0
+tail_leads s spliced tail h k = grind arith
 
 -- a tail ends the line's word
 tail_names : (spliced : Bool) (tail : List ℕ) → IsTail spliced tail → (is_other_word tail ≡ false) × NoWord tail
-tail_names _ _ feed = (refl, refl)
-tail_names _ _ return_feed = (refl, refl)
-tail_names _ _ splice_newline = (refl, refl)
-tail_names _ _ splice_return_feed = (refl, refl)
+tail_names spliced tail h = grind arith
 
 -- `QuietLine w white before line now`: a line that is read without a stop is text, and leads to the
 -- state `now`
@@ -226,13 +143,7 @@ module _ (w : LexState) (white : Bool) (before : List Reading) (line : Line) (ca
   scanned = scan_carried (scanner_state_at w white) before line (masked_after w [] (content line)) (place_after w (content line)) (white_after w white (content line)) carried shown
 
   not_fresh : (p : LexState) → can_start p ≡ true → fresh_at p white (content line) ≡ white
-  not_fresh in_text e = refl
-  not_fresh in_block e = refl
-  not_fresh at_slash e = cc
-  not_fresh at_star e = cc
-  not_fresh in_line e = cc
-  not_fresh (in_literal q) e = cc
-  not_fresh (at_backslash q) e = cc
+  not_fresh p h = grind arith
 
   sign : (p : LexState) (tail : List ℕ) → can_start p ≡ true → NoNewline (content line) → is_other_word tail ≡ false → NoWord tail →
       HasNoStop (line_state p true) (content line ++ tail) → Unsigned (skip_white_and_hash (masked_after p [] (content line)))
@@ -247,11 +158,7 @@ module _ (w : LexState) (white : Bool) (before : List Reading) (line : Line) (ca
   -- the line is text, if its content is read without a stop and no word continues after it
   pub line_is_text : (tail : List ℕ) → can_start w ≡ true → NoNewline (content line) → is_other_word tail ≡ false → NoWord tail →
       HasNoStop (line_state w white) (content line ++ tail) → content_of (scan_after before C line) ≡ text
-  line_is_text tail at o f n q = ap content_of scanned ∙ by_white white refl
-    where
-      by_white : (u : Bool) → white ≡ u → content_of scan_is ≡ text
-      by_white false e = text_not_fresh scan_is (not_fresh w at ∙ e)
-      by_white true e = text_unsigned scan_is (sign w tail at o f n (subst (λ (u : Bool). HasNoStop (line_state w u) (content line ++ tail)) e q))
+  line_is_text tail at o f n q = grind (arith, scanned, text_not_fresh, not_fresh, text_unsigned, sign)
 
 module _ (w : LexState) (white : Bool) (before : List Reading) (line : Line) (bytes : List ℕ) (shape : Shape line bytes)
     (at : can_start w ≡ true) (quiet : HasNoStop (line_state w white) bytes) (carried : ScannerRepresents (scanner_state_at w white) before) where
@@ -273,15 +180,10 @@ module _ (w : LexState) (white : Bool) (before : List Reading) (line : Line) (by
   place_now = led.state ∙ ap (λ (o : Bool). state_after_line o (place_after w (content line))) (sym shape.closes)
 
   white_now : (bulk_state_after (line_state w white) bytes).white ≡ white_after_line (stays_open line) (place_after w (content line)) (white_after w white (content line))
-  white_now = led.white_is ∙ ap (λ (o : Bool). white_after_line o (place_after w (content line)) (white_after w white (content line))) (sym shape.closes)
+  white_now = grind (arith, led, place_after, white_after)
 
   joins_now : (s : Bool) (p : LexState) (u : Bool) → (s ≡ true → p ≡ in_block) → (is_block (kind_in_state p) ≡ false → u ≡ true) → continues_line p u ≡ (s || is_block (kind_in_state p))
-  joins_now true p u h k = ap (λ (x : LexState). is_block (kind_in_state x) || not u) (h refl)
-  joins_now false p u h k = by_block (is_block (kind_in_state p)) k
-    where
-      by_block : (b : Bool) → (b ≡ false → u ≡ true) → (b || not u) ≡ b
-      by_block true m = refl
-      by_block false m = ap not (m refl)
+  joins_now s p u h k = grind arith
 
   line_stands : ScannerRepresents (scanner_state_at (bulk_state_after (line_state w white) bytes).state (bulk_state_after (line_state w white) bytes).white) (before ++ next_reading before C line ∷ [])
   line_stands =
@@ -350,9 +252,7 @@ feed_at_line : (s : BulkState) → AtLine (next_bulk_state s newline)
 feed_at_line s = record { is = refl; starts = starts_after s.state }
 
 begins_at_line : (start : BulkState) (bytes : List ℕ) → AtLine start → IsLineStart bytes → AtLine (bulk_state_after start bytes)
-begins_at_line start _ at at_start = at
-begins_at_line start _ at (after_newline prefix) =
-    subst AtLine (sym (bulk_state_after-append start prefix (newline ∷ []))) (feed_at_line (bulk_state_after start prefix))
+begins_at_line start bytes h k = grind (arith, bulk_state_after-append, feed_at_line)
 
 quiet_passes : (w : LexState) (white : Bool) (bytes : List ℕ) → can_start w ≡ true → AreWholeLines bytes → HasNoStop (line_state w white) bytes →
     SkipsText C (scanner_state_at w white) (scanner_state_at (bulk_state_after (line_state w white) bytes).state (bulk_state_after (line_state w white) bytes).white) bytes
@@ -368,24 +268,16 @@ quiet_passes w white bytes at ends quiet =
 
 -- whole lines that are read without a stop are skipped
 pub passed_quiet : (start : BulkState) (bytes : List ℕ) → AtLine start → IsLineStart bytes → HasNoStop start bytes → Skipped start bytes (bulk_state_after start bytes)
-passed_quiet start bytes at b quiet = record {
-  ends = begins_ends bytes b;
-  skips = subst (λ (s : BulkState). SkipsText C (scanner_state_at start.state start.white) (scanner_state_at (bulk_state_after s bytes).state (bulk_state_after s bytes).white) bytes) (sym at.is)
-      (quiet_passes start.state start.white bytes at.starts (begins_ends bytes b) (subst (λ (s : BulkState). HasNoStop s bytes) at.is quiet));
-  at_line = begins_at_line start bytes at b;
-}
+passed_quiet start bytes at b quiet = grind (arith, begins_ends, quiet_passes, begins_at_line)
 
 stands_append : (mode : Mode) (n : ℕ) (before : List Reading) (ls ms : List (List ℕ)) →
     readings_after before (lines_in_mode mode n (ls ++ ms)) ≡ readings_after (readings_after before (lines_in_mode mode n ls)) (lines_in_mode mode (n + length ls) ms)
-stands_append mode n before [] ms = let e : n ≡ n + length {A = List ℕ} [] = omega arith in ap (λ (k : ℕ). readings_after before (lines_in_mode mode k ms)) e
-stands_append mode n before (l ∷ ls) ms =
-    let e : suc n + length ls ≡ n + length (l ∷ ls) = omega arith in
-    stands_append mode (suc n) (before ++ next_reading before mode (line_at n l) ∷ []) ls ms
-    ∙ ap (λ (k : ℕ). readings_after (readings_after before (lines_in_mode mode n (l ∷ ls))) (lines_in_mode mode k ms)) e
+stands_append mode n before [] ms = grind arith
+stands_append mode n before (l ∷ ls) ms = grind (arith, stands_append mode (suc n) (before ++ next_reading before mode (line_at n l) ∷ []) ls ms)
 
 pub texts_append : (mode : Mode) (n : ℕ) (before : List Reading) (ls ms : List (List ℕ)) → HaveNoDirective mode before (numbered_from n ls) →
     HaveNoDirective mode (readings_after before (lines_in_mode mode n ls)) (numbered_from (n + length ls) ms) → HaveNoDirective mode before (numbered_from n (ls ++ ms))
-texts_append mode n before [] ms h k = let e : n + length {A = List ℕ} [] ≡ n = omega arith in subst (λ (m : ℕ). HaveNoDirective mode before (numbered_from m ms)) e k
+texts_append mode n before [] ms h k = grind arith
 texts_append mode n before (l ∷ ls) ms h k =
     let e : n + length (l ∷ ls) ≡ suc n + length ls = omega arith in (
       h.0,
@@ -396,30 +288,13 @@ texts_append mode n before (l ∷ ls) ms h k =
 -- lines are skipped one after another
 pub passes_append : (mode : Mode) (old mid new : ScannerState) (p q : List ℕ) → AreWholeLines p → SkipsText mode old mid p → SkipsText mode mid new q →
     SkipsText mode old new (p ++ q)
-passes_append mode old mid new p q ends h k =
-    let is : whole_lines (p ++ q) ≡ whole_lines p ++ whole_lines q = lines_joined p q ends in
-    record {
-      represents = λ n before c.
-          subst (λ (ls : List (List ℕ)). ScannerRepresents new (readings_after before (lines_in_mode mode n ls))) (sym is)
-          (subst (ScannerRepresents new) (sym (stands_append mode n before (whole_lines p) (whole_lines q)))
-          (k.represents (n + length (whole_lines p)) (readings_after before (lines_in_mode mode n (whole_lines p))) (h.represents n before c)));
-      texts = λ n before c.
-          subst (λ (ls : List (List ℕ)). HaveNoDirective mode before (numbered_from n ls)) (sym is)
-          (texts_append mode n before (whole_lines p) (whole_lines q) (h.texts n before c)
-          (k.texts (n + length (whole_lines p)) (readings_after before (lines_in_mode mode n (whole_lines p))) (h.represents n before c)));
-    }
+passes_append mode old mid new p q h k l = grind (arith, lines_joined, stands_append, texts_append)
 
 pub Skipped-append : {start now later : BulkState} (p q : List ℕ) → Skipped start p now → Skipped now q later → Skipped start (p ++ q) later
-Skipped-append {start} {now} {later} p q h k = record {
-  ends = ends_joined p q h.ends ∙ k.ends;
-  skips = passes_append C (scanner_state_at start.state start.white) (scanner_state_at now.state now.white) (scanner_state_at later.state later.white) p q h.ends h.skips k.skips;
-  at_line = k.at_line;
-}
+Skipped-append p q h k = grind (arith, ends_joined, passes_append)
 
 -- lines are skipped in the states that the program carries
 pub passes_run : (w : LexState) (white j : Bool) (bytes : List ℕ) (now : LexState) (now_white k : Bool) → j ≡ continues_line w white → k ≡ continues_line now now_white →
     Skipped (line_state w white) bytes (line_state now now_white) →
     SkipsText C (record { state = w; white = white; joins = j }) (record { state = now; white = now_white; joins = k }) bytes
-passes_run w white j bytes now now_white k e f p =
-    subst (λ (x : Bool). SkipsText C (record { state = w; white = white; joins = x }) (record { state = now; white = now_white; joins = k }) bytes) (sym e)
-    (subst (λ (x : Bool). SkipsText C (scanner_state_at w white) (record { state = now; white = now_white; joins = x }) bytes) (sym f) p.skips)
+passes_run w white j bytes now now_white k h l m = grind arith

@@ -11,14 +11,13 @@ use Rattle.ud_model.specs.aids.LexStates.{LexState, in_text}
 use Rattle.ud_text.specs.bulk.BulkStates.{line_state, BulkState, code_state, block_state, inside_state, is_other_word, Skipped}
 use Rattle.ud_text.specs.bulk.BulkLexemes.{CodeLexeme, LineLexeme, IsSplice, IsWhiteAfter, all_white, new_line, black, LastLineStarts, IsLineStart, at_start, after_newline, NoStarPair, NoSignificant, is_significant, is_star_pair}
 use Rattle.ud_text.specs.bulk.Progress.{ReadTo, ReadOutside}
-use Rattle.ud_text.specs.bulk.Reaching.{Reached, ClosesAt}
+use Rattle.ud_text.specs.bulk.Reaching.{Reached}
 use Rattle.ud_text.specs.declared.bulk.fast_path.Reach.{Reach}
 use Rattle.ud_text.proofs.lemmas.bulk.BulkPlainLemmas.{not_special}
 use Rattle.ud_text.proofs.lemmas.bulk.ProgressLemmas.{read_base, read_text, read_on, read_splice, plain_of, passed_of, settled, settled_at, begins-append}
-use Rattle.ud_text.proofs.lemmas.searching.PairLemmas.{none_before}
 use Rattle.ud_text.proofs.lemmas.bulk.LexemeLemmas.{sign_read}
-use Rattle.ud_text.proofs.lemmas.bulk.BlockLemmas.{block_same, block_later, block_opened, block_closed}
-use Rattle.ud_text.proofs.lemmas.bulk.StepLemmas.{two_at, pair_is, start_read, text_step_read, plain_step_read, looked, sign_step_read}
+use Rattle.ud_text.proofs.lemmas.bulk.BlockLemmas.{block_same, block_later, block_opened, block_closed, both_there}
+use Rattle.ud_text.proofs.lemmas.bulk.StepLemmas.{two_are, start_read, text_step_read, plain_step_read, looked, sign_step_read}
 
 -- Each list of bytes has a last line.
 pub last_line_of : (l : List ℕ) → (n : ℕ) × LastLineStarts l n
@@ -73,8 +72,7 @@ take_past [] q n = let e : 0 + n ≡ n = omega arith in ap (λ (k : ℕ). take k
 take_past (x ∷ p) q n = let e : suc (length p) + n ≡ suc (length p + n) = omega arith in ap (λ (k : ℕ). take k (x ∷ (p ++ q))) e ∙ ap (λ (l : List ℕ). x ∷ l) (take_past p q n)
 
 begins_after : (p : List ℕ) (n : ℕ) (q m : List ℕ) → m ≡ take n q → n ≤ length q → 0 < n → IsLineStart m → IsLineStart (p ++ take n q)
-begins_after p n q _ e h z at_start = absurd (let f : 0 ≡ n = ap length e ∙ length-take-le n q h in omega (arith, f, z))
-begins_after p n q _ e h z (after_newline x) = subst (λ (m : List ℕ). IsLineStart (p ++ m)) e (begins-append p x (after_newline x))
+begins_after p n q m h k l o = grind (arith, length-take-le, begins-append)
 
 is_none : (l : List ℕ) → length l ≡ 0 → l ≡ []
 is_none [] e = refl
@@ -86,8 +84,7 @@ sign_alone_black {bytes = bytes} {at = at} r first e =
     read_text r 1 (some (drop at bytes) first) (subst (λ (l : List ℕ). CodeLexeme r.now_white l) (sym first) (sign_read [] r.now_white tt (inr e)))
   where
     some : (l : List ℕ) → take 1 l ≡ number_sign ∷ [] → 1 ≤ length l
-    some [] e = cc
-    some (x ∷ l) e = omega arith
+    some l h = grind arith
 
 -- `moved p at`: the position `at`, with the base of `p`
 abbrev pub moved : Reach → ℕ → Reach
@@ -110,50 +107,21 @@ at_base base at_line_start begins searched = record {
 }
 
 -- The bytes up to the end of a block comment are read.
-pub reach_close : {start : BulkState} {bytes : List ℕ} {line : ℕ} {kept : BulkState} {at : ℕ} {u : Bool} → ReadTo start bytes line kept at (block_state u) →
-    (end : ℕ) → ClosesAt bytes at end → (searched : ℕ) →
-    Reached start bytes (at_base end false false searched)
-reach_close {start = start} {bytes = bytes} {at = at} {u = u} r end c searched =
-    by_line (last_line_of (take count (drop at bytes))).0
-    (last_line_of (take count (drop at bytes))).1
+pub reach_close : {start : BulkState} {bytes : List ℕ} {line : ℕ} {kept : BulkState} {u : Bool} (at : ℕ) → ReadTo start bytes line kept at (block_state u) →
+    (pair : ℕ) → at ≤ pair → NoStarPair (take (pair - at) (drop at bytes)) → take 2 (drop pair bytes) ≡ star ∷ slash ∷ [] → (searched : ℕ) →
+    Reached start bytes (at_base (pair + 2) false false searched)
+reach_close {start = start} {bytes = bytes} {u = u} at r pair h free closing searched =
+    by_line (last_line_of (take (pair - at) (drop at bytes))).0 (last_line_of (take (pair - at) (drop at bytes))).1
   where
-    count : ℕ
-    count = end - 2 - at
+    fits : pair - at ≤ length (drop at bytes)
+    fits = let some : 2 ≤ length (drop pair bytes) = both_there (drop pair bytes) closing in omega (arith, some, length-drop pair bytes, length-drop at bytes)
 
-    there : at + count ≡ end - 2
-    there = let o : at + 2 ≤ end = c.order in omega (arith, o)
+    closed : (l : ℕ) (s : BulkState) (b : Bool) → ReadTo start bytes l s (at + (pair - at)) (inside_state b u) → Reached start bytes (at_base (pair + 2) false false searched)
+    closed l s b x = record { line = l; kept = s; begins = u; read = block_closed at pair b u h x closing; at_line_start = λ e. cc }
 
-    then_end : at + count + 2 ≡ end
-    then_end = let o : at + 2 ≤ end = c.order in omega (arith, o)
-
-    fits : count ≤ length (drop at bytes)
-    fits = let o : at + 2 ≤ end = c.order in let w : end ≤ length bytes = c.within in omega (arith, o, w, length-drop at bytes)
-
-    by_count : (n : ℕ) → n ≡ count → NoStarPair (take n (drop at bytes))
-    by_count zero e = tt
-    by_count (suc n) e = none_before (drop at bytes) n (λ k low high.
-        let o : at + 2 ≤ end = c.order in
-        let next : at + (k + 1) ≡ at + k + 1 = omega arith in
-        ap (λ (b : ℕ). is_star_pair b (get_or (drop at bytes) (k + 1) 0)) (get_or-drop at bytes k 0)
-        ∙ ap (λ (b : ℕ). is_star_pair (get_or bytes (at + k) 0) b) (get_or-drop at bytes (k + 1) 0 ∙ ap (λ (n : ℕ). get_or bytes n 0) next)
-        ∙ c.none (at + k) (omega arith) (omega (arith, e, low, o)))
-
-    free : NoStarPair (take count (drop at bytes))
-    free = by_count count refl
-
-    closed : (l : ℕ) (s : BulkState) (b : Bool) → ReadTo start bytes l s (at + count)
-        (inside_state b u) → Reached start bytes (at_base end false false searched)
-    closed l s b x =
-        let o : at + 2 ≤ end = c.order in
-        let w : end ≤ length bytes = c.within in
-        let out : ReadOutside start bytes l s (at + count + 2) u (at + count + 2) =
-        block_closed b u x (omega (arith, length-drop (at + count) bytes, there, w, o)) (sym (ap (λ (n : ℕ). take 2 (drop n bytes)) there ∙ c.pair)) in
-        record { line = l; kept = s; begins = u; read = subst (λ (n : ℕ). ReadOutside start bytes l s n u n) then_end out; at_line_start = λ e. cc }
-
-    by_line : (n : ℕ) → LastLineStarts (take count (drop at bytes)) n →
-        Reached start bytes (at_base end false false searched)
-    by_line zero h = closed _ _ _ (block_same r count fits free h.one_line)
-    by_line (suc n) h = closed _ _ _ (block_later r count fits free (suc n) h (omega arith))
+    by_line : (n : ℕ) → LastLineStarts (take (pair - at) (drop at bytes)) n → Reached start bytes (at_base (pair + 2) false false searched)
+    by_line zero l = closed _ _ _ (block_same r (pair - at) fits free l.one_line)
+    by_line (suc n) l = closed _ _ _ (block_later r (pair - at) fits free (suc n) l (omega arith))
 
 module _ {start : BulkState} {bytes : List ℕ} {p : Reach} (r : Reached start bytes p) where
   -- Bytes without a comment are read.
@@ -165,13 +133,13 @@ module _ {start : BulkState} {bytes : List ℕ} {p : Reach} (r : Reached start b
   -- Plain text is read, up to the next significant byte.
   pub reach_plain : (next : ℕ) → next ≡ p.at + position_or_len is_significant (drop p.at bytes) →
       Reached start bytes (moved p next)
-  reach_plain next e = record { line = r.line; kept = r.kept; begins = r.begins; read = plain_step_read r.read next e; at_line_start = r.at_line_start }
+  reach_plain next e = grind (arith, plain_step_read)
 
   -- A `#` that belongs to no directive is read, with plain bytes after it.
   pub reach_sign : take 1 (drop p.at bytes) ≡ number_sign ∷ [] → (k : ℕ) → k ≤ length (drop (p.at + 1) bytes) → NoSignificant (take k (drop (p.at + 1) bytes)) →
       is_other_word (take k (drop (p.at + 1) bytes)) ≡ true →
       Reached start bytes (moved p (p.at + 1 + k))
-  reach_sign first k h none other = record { line = r.line; kept = r.kept; begins = r.begins; read = sign_step_read r.read first k h none (inl other); at_line_start = r.at_line_start }
+  reach_sign first k h none other = grind (arith, sign_step_read)
 
   -- Such a `#` is read alone.
   pub reach_sign_alone : take 1 (drop p.at bytes) ≡ number_sign ∷ [] → r.read.now_white ≡ false →
@@ -218,20 +186,14 @@ module _ {start : BulkState} {bytes : List ℕ} {p : Reach} (r : Reached start b
       }
 
   -- A block comment is read.
-  pub reach_block : 2 ≤ length (drop p.at bytes) → take 2 (drop p.at bytes) ≡ slash ∷ star ∷ [] → (end : ℕ) → ClosesAt bytes (p.at + 2) end →
-      Reached start bytes (at_base end false false p.searched)
-  reach_block h e end c = reach_close (block_opened r.read.now_white r.read.so_far h (sym e)) end c
-      p.searched
+  pub reach_block : 2 ≤ length (drop p.at bytes) → take 2 (drop p.at bytes) ≡ slash ∷ star ∷ [] → (pair : ℕ) → p.at + 2 ≤ pair →
+      NoStarPair (take (pair - (p.at + 2)) (drop (p.at + 2) bytes)) → take 2 (drop pair bytes) ≡ star ∷ slash ∷ [] →
+      Reached start bytes (at_base (pair + 2) false false p.searched)
+  reach_block h e pair low free closing = reach_close (p.at + 2) (block_opened r.read.now_white r.read.so_far h (sym e)) pair low free closing p.searched
 
   -- Which quotes are looked at says nothing of the bytes.
   pub reach_searched : (searched : ℕ) → Reached start bytes (record p { searched = searched })
-  reach_searched searched = record {
-    line = r.line;
-    kept = r.kept;
-    begins = r.begins;
-    read = r.read;
-    at_line_start = r.at_line_start;
-  }
+  reach_searched searched = grind arith
 
   turned : (l : List ℕ) (a v : Bool) → IsWhiteAfter l a v → v ≡ false → (a ≡ false → r.begins ≡ false) → IsWhiteAfter l r.begins false
   turned l a _ (all_white w) e f = subst (λ (u : Bool). IsWhiteAfter l r.begins u) (f e) (all_white w)
@@ -277,32 +239,37 @@ none_on bytes at from end e h k low high = elim (cases_lt (k + 1) from) [
 ]
   where
     by_tests : (t s q : Bool) → s ≡ false → q ≡ false → (t && (s || q)) ≡ false
-    by_tests true false false e f = refl
-    by_tests false s q e f = refl
-    by_tests true true q e f = cc
-    by_tests true false true e f = cc
+    by_tests t s q h k = grind arith
 
 -- No star pair ends up to a significant byte, if none ends with it.
 pub none_past : (bytes : List ℕ) (at end : ℕ) → ((k : ℕ) → at ≤ k → k + 1 < end → is_star_pair (get_or bytes k 0) (get_or bytes (k + 1) 0) ≡ false) →
     (at < end → is_star_pair (get_or bytes (end - 1) 0) (get_or bytes end 0) ≡ false) →
     (k : ℕ) → at ≤ k → k + 1 < end + 1 → is_star_pair (get_or bytes k 0) (get_or bytes (k + 1) 0) ≡ false
-none_past bytes at end h f k low high = elim (cases_lt (k + 1) end) [
-  | inl i ↦ h k low i
-  | inr i ↦
-      let last : end - 1 ≡ k = omega (arith, i, high) in
-      let next : end ≡ k + 1 = omega (arith, i, high) in
-      ap (λ (n : ℕ). is_star_pair (get_or bytes n 0) (get_or bytes (k + 1) 0)) (sym last) ∙ ap (λ (n : ℕ). is_star_pair (get_or bytes (end - 1) 0) (get_or bytes n 0)) (sym next) ∙ f (omega (arith, i, low, high))
-]
+none_past bytes at end h l k m o = grind arith
+
+pub none_before : (bytes : List ℕ) (n : ℕ) → ((k : ℕ) → k < n → k + 1 < length bytes → is_star_pair (get_or bytes k 0) (get_or bytes (k + 1) 0) ≡ false) → NoStarPair (take (suc n) bytes)
+none_before [] n h = tt
+none_before (a ∷ []) zero h = tt
+none_before (a ∷ []) (suc n) h = tt
+none_before (a ∷ b ∷ bytes) zero h = tt
+none_before (a ∷ b ∷ bytes) (suc n) h = (
+  h 0 (omega arith) (omega arith),
+  none_before (b ∷ bytes) n (λ k low high.
+      let more : suc (k + 1) ≡ suc k + 1 = omega arith in
+      ap (λ (m : ℕ). is_star_pair (get_or (b ∷ bytes) k 0) (get_or (a ∷ b ∷ bytes) m 0)) more ∙ h (suc k) (omega arith) (omega arith)),
+)
+
+-- Bytes between two positions have no star pair, if none ends there.
+pub none_between : (bytes : List ℕ) (at end : ℕ) → ((k : ℕ) → at ≤ k → k + 1 < end → is_star_pair (get_or bytes k 0) (get_or bytes (k + 1) 0) ≡ false) →
+    NoStarPair (take (end - at) (drop at bytes))
+none_between bytes at end h = grind (arith, none_before, get_or-drop)
+
+two_at : (l : List ℕ) (n a b : ℕ) → n + 1 < length l → get_or l n 0 ≡ a → get_or l (suc n) 0 ≡ b → take 2 (drop n l) ≡ a ∷ b ∷ []
+two_at [] n a b h e f = absurd (omega arith)
+two_at (x ∷ l) zero a b h e f = two_are (x ∷ l) a b (omega arith) e f
+two_at (x ∷ l) (suc n) a b h e f = two_at l n a b (omega arith) e f
 
 -- A star pair that ends with a slash closes a comment.
-pub closes : (bytes : List ℕ) (at end : ℕ) → at < end → end < length bytes → ((k : ℕ) → at ≤ k → k + 1 < end → is_star_pair (get_or bytes k 0) (get_or bytes (k + 1) 0) ≡ false) →
-    is_star_pair (get_or bytes (end - 1) 0) (get_or bytes end 0) ≡ true → get_or bytes end 0 ≡ slash → ClosesAt bytes at (end + 1)
-closes bytes at end low high h f e = record {
-  order = omega (arith, low);
-  within = omega (arith, high);
-  none = λ k i j. h k i (omega (arith, j));
-  pair = (let last : end + 1 - 2 ≡ end - 1 = omega (arith, low) in
-      let next : suc (end - 1) ≡ end = omega (arith, low) in
-      ap (λ (n : ℕ). take 2 (drop n bytes)) last
-      ∙ two_at bytes (end - 1) star slash (omega (arith, low, high)) (pair_is (get_or bytes (end - 1) 0) (get_or bytes end 0) f) (ap (λ (n : ℕ). get_or bytes n 0) next ∙ e));
-}
+pub closes_there : (bytes : List ℕ) (end : ℕ) → 0 < end → end < length bytes → is_star_pair (get_or bytes (end - 1) 0) (get_or bytes end 0) ≡ true →
+    (get_or bytes end 0 == slash) ≡ true → take 2 (drop (end - 1) bytes) ≡ star ∷ slash ∷ []
+closes_there bytes end low high h e = grind (arith, two_at, eqb-true)

@@ -1,10 +1,10 @@
 -- Splices: a line that a backslash at its end joins to the next one, outside comments and literals.
-use Rattle.std.proofs.Common.{◌≡◌, ◌≢◌, ℕ, ◌-◌, ◌⊎◌, inl, inr, nat_eq, List, [], ◌∷◌, ◌++◌, length, take, drop, Bool, true, false, not, ◌&&◌, ◌||◌, if◌then◌else◌, refl, sym, ◌∙◌, ap, subst, append_assoc, append-nil, arith, length-append}
+use Rattle.std.proofs.Common.{◌≡◌, ◌≢◌, ℕ, ◌-◌, ◌⊎◌, inl, inr, nat_eq, List, [], ◌∷◌, ◌++◌, length, take, drop, Bool, true, false, not, ◌||◌, if◌then◌else◌, refl, sym, ◌∙◌, ap, subst, append_assoc, append-nil, arith, length-append}
 use Rattle.std.specs.List.{ends_with}
 use Rattle.std.proofs.lemmas.Bool.{cases_eq}
 use Rattle.std.proofs.Math.Seq.{drop-append_seam, take-append_seam}
 use Rattle.ud_model.specs.text.Bytes.{newline, carriage_return, backslash}
-use Rattle.ud_model.specs.text.Lines.{NoNewline, ending_of, Line, SplitLines, line_at, numbered_from, whole_lines, split_lines}
+use Rattle.ud_model.specs.text.Lines.{NoNewline, ending_of, SplitLines, line_at, numbered_from, whole_lines, split_lines}
 use Rattle.ud_model.specs.text.Scans.{Reading}
 use Rattle.ud_model.specs.text.Splicing.{is_spliced, is_empty, content, stays_open}
 use Rattle.ud_model.specs.text.Scanning.{next_reading, readings_after}
@@ -39,26 +39,7 @@ module _ (cont : List ℕ) (n : ℕ) where
     pub content_is : content (line_at n l) ≡ cont
 
   with_body : (l e : List ℕ) → ending_of l ≡ e → take (length l - length e) l ≡ cont ++ backslash ∷ [] → not (is_empty e) ≡ true → IsJoined l
-  with_body l e f g h =
-      let line : Line = line_at n l in
-      let body_is : line.body ≡ cont ++ backslash ∷ [] = ap (λ (x : List ℕ). take (length l - length x) l) f ∙ g in
-      let ends : ends_with nat_eq line.body (backslash ∷ []) ≡ true =
-      ap (λ (b : List ℕ). ends_with nat_eq b (backslash ∷ [])) body_is ∙ at_end in
-      let some : not (is_empty line.ending) ≡ true = ap (λ (x : List ℕ). not (is_empty x)) f ∙ h in
-      let both : is_spliced line ≡ true = both_true (ends_with nat_eq line.body (backslash ∷ [])) (not (is_empty line.ending)) ends some in
-      record {
-        spliced = both;
-        content_is = ap (λ (t : Bool). if t then take (length line.body - 1) line.body else line.body) both
-            ∙ ap (λ (b : List ℕ). take (length b - 1) b) body_is ∙ front_of cont (backslash ∷ []) 1 refl;
-      }
-    where
-      at_end : ends_with nat_eq (cont ++ backslash ∷ []) (backslash ∷ []) ≡ true
-      at_end = rw (end_of cont (backslash ∷ []) 1 refl) refl
-
-      both_true : (a b : Bool) → a ≡ true → b ≡ true → (a && b) ≡ true
-      both_true true true e f = refl
-      both_true true false e f = cc
-      both_true false b e f = cc
+  with_body l e f g h = grind (arith, nat_eq, front_of, end_of)
 
   joined_feed : IsJoined (cont ++ backslash ∷ newline ∷ [])
   joined_feed =
@@ -106,10 +87,10 @@ module _ (w : LexState) (white : Bool) (cont : List ℕ) (at : can_start w ≡ t
     open_is = ap (λ (t : Bool). t || is_empty (line_at n (cont ++ s)).ending) joins.spliced
 
     place_is : place_after w (content (line_at n (cont ++ s))) ≡ in_text
-    place_is = ap (λ (x : List ℕ). place_after w x) joins.content_is ∙ sym (bulk_state_after-place (line_state w white) cont) ∙ ap (λ (t : BulkState). t.state) leads
+    place_is = grind (arith, place_after, joins, bulk_state_after-place)
 
     white_is : white_after w white (content (line_at n (cont ++ s))) ≡ false
-    white_is = ap (λ (x : List ℕ). white_after w white x) joins.content_is ∙ sym (bulk_state_after-white (line_state w white) cont) ∙ ap (λ (t : BulkState). t.white) leads
+    white_is = grind (arith, white_after, joins, bulk_state_after-white)
 
     spliced_stands : ScannerRepresents (scanner_state_at in_text false) (before ++ next_reading before C (line_at n (cont ++ s)) ∷ [])
     spliced_stands =
@@ -137,7 +118,7 @@ module _ (w : LexState) (white : Bool) (cont : List ℕ) (at : can_start w ≡ t
       }
 
   pub passed_line : Skipped (line_state w white) (cont ++ s) (code_state false)
-  passed_line = record { ends = ap (λ (q : SplitLines). q.rest) (one_line cont s none splice); skips = spliced_passes; at_line = record { is = refl; starts = refl } }
+  passed_line = grind (arith, one_line, spliced_passes)
 
 -- `Cut bytes`: bytes as their whole lines and the last line
 record Cut (bytes : List ℕ) : Type 0 where

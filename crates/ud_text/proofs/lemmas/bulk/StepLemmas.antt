@@ -1,10 +1,10 @@
 -- Steps: what one step of the program reads, by the positions and slices that the step has.
 use Rattle.std.proofs.Common.{◌≡◌, ℕ, zero, suc, ◌+◌, ◌-◌, ◌<◌, ◌≤◌, ◌==◌, List, [], ◌∷◌, ◌++◌}
-use Rattle.std.proofs.Common.{length, take, drop, get_or, Bool, true, false, ◌&&◌, ◌||◌, ◌⊎◌, inl}
+use Rattle.std.proofs.Common.{length, take, drop, get_or, Bool, true, false, ◌||◌, ◌⊎◌}
 use Rattle.std.proofs.Common.{inr, refl, sym, ◌∙◌, ap, ap₂, subst, append_assoc, arith}
 use Rattle.std.specs.List.{position_or_len}
 use Rattle.std.proofs.lemmas.Bool.{eqb-true}
-use Rattle.std.proofs.lemmas.List.{take_more, take_rest, take-append-drop, take-take, get_or-drop, get_or-take, length-take-le}
+use Rattle.std.proofs.lemmas.List.{take_more, take_rest, take-append-drop, get_or-drop, get_or-take, length-take-le}
 use Rattle.std.proofs.lemmas.List.Sums.{fails_before_first, passes_at_first}
 use Rattle.std.proofs.Math.ListN.{length-drop}
 use Rattle.std.proofs.Math.Seq.{drop-cons, drop-nil}
@@ -14,20 +14,18 @@ use Rattle.ud_model.specs.aids.LexStates.{LexState, in_text, in_block}
 use Rattle.ud_text.specs.bulk.BulkStates.{line_state, BulkState, code_state, is_other_word, inside_state, block_state}
 use Rattle.ud_text.proofs.lemmas.searching.MarkLemmas.{position_or_len-bound}
 use Rattle.ud_text.proofs.lemmas.bulk.BulkPlainLemmas.{plain_read, no_special_before}
-use Rattle.ud_text.proofs.lemmas.bulk.LexemeLemmas.{slash_read, backslash_read, sign_read, literal_byte, literal_pair, literal_closed, literal_unspliced, literal_line, line_comment_read, LiteralFront, spliced_by, unspliced}
+use Rattle.ud_text.proofs.lemmas.bulk.LexemeLemmas.{slash_read, sign_read, literal_byte, literal_pair, literal_closed, literal_unspliced, literal_line, line_comment_read, LiteralFront, spliced_by, unspliced}
 use Rattle.ud_text.proofs.lemmas.bulk.LookLemmas.{shows_white}
 use Rattle.ud_text.proofs.lemmas.bulk.ProgressLemmas.{read_text, read_line, plain_of, plain_leads, read_none, read_start, read_base, read_splice}
-use Rattle.ud_text.proofs.lemmas.bulk.BlockLemmas.{pair_front, block_same, block_later, block_opened, block_closed}
-use Rattle.ud_text.specs.bulk.BulkLexemes.{black, NoStarPair, NoSignificant, is_star_pair, LineLexeme, all_white, LastLineStarts, CodeLexeme, is_significant, IsWhiteAfter, new_line, IsSplice, may_splice}
+use Rattle.ud_text.proofs.lemmas.bulk.BlockLemmas.{block_same, block_later, block_opened}
+use Rattle.ud_text.specs.bulk.BulkLexemes.{black, NoStarPair, NoSignificant, LineLexeme, all_white, LastLineStarts, CodeLexeme, is_significant, IsWhiteAfter, new_line, IsSplice, may_splice}
 use Rattle.ud_text.specs.bulk.Progress.{ReadTo, ReadOutside}
 use Rattle.ud_text.specs.searching.Searches.{is_one_of}
 
 take_two : (l : List ℕ) → 2 ≤ length l → take 2 l ≡ get_or l 0 0 ∷ get_or l 1 0 ∷ []
-take_two [] h = absurd (omega arith)
-take_two (a ∷ []) h = absurd (omega arith)
-take_two (a ∷ b ∷ l) h = refl
+take_two l h = grind arith
 
-two_are : (l : List ℕ) (a b : ℕ) → 2 ≤ length l → get_or l 0 0 ≡ a → get_or l 1 0 ≡ b → take 2 l ≡ a ∷ b ∷ []
+pub two_are : (l : List ℕ) (a b : ℕ) → 2 ≤ length l → get_or l 0 0 ≡ a → get_or l 1 0 ≡ b → take 2 l ≡ a ∷ b ∷ []
 two_are l a b h e f = take_two l h ∙ ap₂ (λ (x y : ℕ). x ∷ y ∷ []) e f
 
 -- the bytes begin with a slash that begins no comment, and the byte after it
@@ -38,7 +36,7 @@ slash_spans l b h e i f g white = subst (λ (x : List ℕ). CodeLexeme white x) 
 -- the bytes begin with a backslash that belongs to no splice, and the byte after it
 pub backslash_spans : (l : List ℕ) (b : ℕ) → 2 ≤ length l → get_or l 0 0 ≡ backslash → b ≡ get_or l 1 0 → is_significant b ≡ false →
     (b == newline) ≡ false → (b == carriage_return) ≡ false → (white : Bool) → CodeLexeme white (take 2 l)
-backslash_spans l b h e i f g k white = subst (λ (x : List ℕ). CodeLexeme white x) (sym (two_are l backslash b h e (sym i))) (backslash_read b white f g k)
+backslash_spans l b h k m o p q white = grind arith
 
 -- one more byte of a literal
 pub literal_more : (l : List ℕ) (q at : ℕ) → at < length l → (get_or l at 0 == newline) ≡ false → (get_or l at 0 == q) ≡ false → (get_or l at 0 == backslash) ≡ false →
@@ -55,10 +53,7 @@ take_more_two l at h =
 -- a backslash of a literal, and the byte that it escapes
 pub literal_two : (l : List ℕ) (q at : ℕ) → at + 1 < length l → is_quote q ≡ true → (get_or l at 0 == backslash) ≡ true → (get_or l (at + 1) 0 == newline) ≡ false →
     (white : Bool) → LiteralFront white q (take at l) → LiteralFront white q (take (at + 2) l)
-literal_two l q at h k e f white r =
-    subst (λ (x : List ℕ). LiteralFront white q x)
-    (sym (take_more_two l at h ∙ ap (λ (n : ℕ). take at l ++ n ∷ get_or l (at + 1) 0 ∷ []) (eqb-true (get_or l at 0) backslash e)))
-    (literal_pair white q (take at l) (get_or l (at + 1) 0) r k f)
+literal_two l q at h k e f white r = grind (arith, LiteralFront, take_more_two, eqb-true, literal_pair)
 
 -- the quote that closes a literal
 pub literal_ends : (l : List ℕ) (q at : ℕ) → at < length l → is_quote q ≡ true → (get_or l at 0 == q) ≡ true → (white : Bool) → LiteralFront white q (take at l) →
@@ -78,16 +73,10 @@ literal_line_ends l q at z h n e f white r =
     (literal_line white q (take (at - 1) l ++ get_or l (at - 1) 0 ∷ []) s (literal_unspliced white q (take (at - 1) l) (get_or l (at - 1) 0) s e f))
 
 others_fail : (a b c : Bool) → ((((a || b) || c) || c) || c) ≡ false → (a ≡ false) × (b ≡ false) × (c ≡ false)
-others_fail true b c h = cc
-others_fail false true c h = cc
-others_fail false false true h = cc
-others_fail false false false h = (refl, refl, refl)
+others_fail a b c h = grind arith
 
 second_passes : (a b c : Bool) → ((((a || b) || c) || c) || c) ≡ true → a ≡ false → c ≡ false → b ≡ true
-second_passes true b c h f g = cc
-second_passes false true c h f g = refl
-second_passes false false true h f g = cc
-second_passes false false false h f g = cc
+second_passes a b c h k l = grind arith
 
 -- `ends_run q b`: a search in a literal stops at `b`: the quote `q`, a backslash or a newline
 abbrev pub ends_run : ℕ → ℕ → Bool
@@ -98,7 +87,7 @@ module _ (l : List ℕ) (q at count : ℕ) (is : count ≡ position_or_len (ends
   found = is ∙ ap (λ (x : List ℕ). position_or_len (ends_run q) x) (take_rest l at)
 
   fails : (k : ℕ) → k < count → ends_run q (get_or l (at + k) 0) ≡ false
-  fails k h = subst (λ (b : ℕ). ends_run q b ≡ false) (get_or-drop at l k 0) (fails_before_first (ends_run q) (drop at l) k 0 (omega (arith, found)))
+  fails k h = grind (arith, get_or-drop, fails_before_first, found)
 
   run_more : (white : Bool) → LiteralFront white q (take at l) → (j : ℕ) → j ≤ count → LiteralFront white q (take (at + j) l)
   run_more white r zero h = let same : at ≡ at + 0 = omega arith in subst (λ (n : ℕ). LiteralFront white q (take n l)) same r
@@ -116,12 +105,7 @@ module _ (l : List ℕ) (q at count : ℕ) (is : count ≡ position_or_len (ends
   -- a backslash comes next, if neither the quote nor a newline does
   pub literal_backslash : at + count < length l → (get_or l (at + count) 0 == newline) ≡ false → (get_or l (at + count) 0 == q) ≡ false →
       (get_or l (at + count) 0 == backslash) ≡ true
-  literal_backslash h f g =
-      let short : position_or_len (ends_run q) (drop at l) < length (drop at l) = omega (arith, found, length-drop at l) in
-      let stop : ends_run q (get_or (drop at l) count 0) ≡ true =
-      ap (λ (n : ℕ). ends_run q (get_or (drop at l) n 0)) found ∙ passes_at_first (ends_run q) (drop at l) 0 short in
-      second_passes (get_or l (at + count) 0 == q) (get_or l (at + count) 0 == backslash) (get_or l (at + count) 0 == newline)
-      (subst (λ (b : ℕ). ends_run q b ≡ true) (get_or-drop at l count 0) stop) g f
+  literal_backslash h k m = grind (arith, found, length-drop, passes_at_first, second_passes, get_or-drop)
 
 -- the byte that a search found after the first two
 pub feed_there : (l : List ℕ) (k : ℕ) → (get_or (take (length l - 2) (drop 2 l)) k 0 == newline) ≡ true → get_or l (2 + k) 0 ≡ newline
@@ -143,9 +127,7 @@ comment_spans (a ∷ b ∷ l) k e f h g m white =
     prefix n m e = ap (λ (x : ℕ). take x (a ∷ b ∷ l)) e
 
     is : take (2 + k + 1) (a ∷ b ∷ l) ≡ slash ∷ slash ∷ (take k l ++ newline ∷ [])
-    is = prefix (2 + k + 1) (k + 1) (omega arith)
-        ∙ ap (λ (x : List ℕ). a ∷ b ∷ x) (take_more l k 0 (omega arith) ∙ ap (λ (n : ℕ). take k l ++ n ∷ []) (sym (there (2 + k) k (omega arith)) ∙ g))
-        ∙ (let x : a ≡ slash = cc in let y : b ≡ slash = cc in cc)
+    is = grind (arith, prefix, take_more, there)
 
     the_front : take (suc (suc k)) (a ∷ b ∷ l) ≡ slash ∷ slash ∷ take k l
     the_front = let x : a ≡ slash = cc in let y : b ≡ slash = cc in ap₂ (λ (i j : ℕ). i ∷ j ∷ take k l) x y
@@ -165,10 +147,7 @@ pub shows_found : (bytes : List ℕ) (at : ℕ) (begins : Bool) → 0 < at → a
 shows_found bytes at begins z h w k = by_feed (get_or bytes (at - 1) 0 == newline) refl
   where
     split : bytes ≡ take (at - 1) bytes ++ get_or bytes (at - 1) 0 ∷ drop at bytes
-    split =
-        let next : suc (at - 1) ≡ at = omega arith in
-        sym (take-append-drop (at - 1) bytes)
-        ∙ ap (λ (x : List ℕ). take (at - 1) bytes ++ x) (drop-cons bytes (at - 1) 0 (omega arith) ∙ ap (λ (n : ℕ). get_or bytes (at - 1) 0 ∷ drop n bytes) next)
+    split = grind (arith, take-append-drop, drop-cons)
 
     by_feed : (t : Bool) → (get_or bytes (at - 1) 0 == newline) ≡ t → IsWhiteAfter bytes begins t
     by_feed true e = new_line (take (at - 1) bytes) (drop at bytes) (split ∙ ap (λ (n : ℕ). take (at - 1) bytes ++ n ∷ drop at bytes) (eqb-true (get_or bytes (at - 1) 0) newline e)) w
@@ -180,21 +159,8 @@ drop_both l zero m = let e : 0 + m ≡ m = omega arith in ap (λ (k : ℕ). drop
 drop_both [] (suc n) m = drop-nil (suc n + m) ∙ sym (drop-nil m)
 drop_both (x ∷ l) (suc n) m = let e : suc n + m ≡ suc (n + m) = omega arith in ap (λ (k : ℕ). drop k (x ∷ l)) e ∙ drop_both l n m
 
-pub two_at : (l : List ℕ) (n a b : ℕ) → n + 1 < length l → get_or l n 0 ≡ a → get_or l (suc n) 0 ≡ b → take 2 (drop n l) ≡ a ∷ b ∷ []
-two_at [] n a b h e f = absurd (omega arith)
-two_at (x ∷ l) zero a b h e f = two_are (x ∷ l) a b (omega arith) e f
-two_at (x ∷ l) (suc n) a b h e f = two_at l n a b (omega arith) e f
-
 sign_take : (l : List ℕ) (k : ℕ) → take 1 l ≡ number_sign ∷ [] → take (suc k) l ≡ number_sign ∷ take k (drop 1 l)
-sign_take [] k e = cc
-sign_take (a ∷ l) k e = let f : a ≡ number_sign = cc in ap (λ (n : ℕ). n ∷ take k l) f
-
-pub pair_is : (a b : ℕ) → is_star_pair a b ≡ true → a ≡ star
-pair_is a b e = by_star (a == star) refl e
-  where
-    by_star : (t : Bool) → (a == star) ≡ t → (t && ((b == slash) || (b == backslash))) ≡ true → a ≡ star
-    by_star true f g = eqb-true a star f
-    by_star false f g = cc
+sign_take l k h = grind arith
 
 module _ {start : BulkState} {bytes : List ℕ} {line : ℕ} {kept : BulkState} {base : ℕ} {begins : Bool} {at : ℕ}
     (r : ReadOutside start bytes line kept base begins at) where
@@ -227,8 +193,7 @@ module _ {start : BulkState} {bytes : List ℕ} {line : ℕ} {kept : BulkState} 
   -- the beginning of a block comment
   pub block_begun : (v : Bool) → IsWhiteAfter (take (at - base) (drop base bytes)) begins v → 2 ≤ length (drop at bytes) → take 2 (drop at bytes) ≡ slash ∷ star ∷ [] →
       ReadTo start bytes line kept (at + 2) (block_state v)
-  block_begun v scanned h e =
-      block_opened v (subst (λ (u : Bool). ReadTo start bytes line kept at (code_state u)) (looked v scanned) r.so_far) h (sym e)
+  block_begun v scanned h e = grind (arith, block_opened, looked)
 
   -- a splice on a logical line that isn't white
   pub splice_step_read : IsWhiteAfter (take (at - base) (drop base bytes)) begins false → (k : ℕ) → k ≤ length (drop at bytes) → IsSplice (take k (drop at bytes)) →
@@ -252,12 +217,10 @@ module _ {start : BulkState} {bytes : List ℕ} {line : ℕ} {kept : BulkState} 
     where
       by_reason : (is_other_word (take k (drop (at + 1) bytes)) ≡ true) ⊎ IsWhiteAfter (take (at - base) (drop base bytes)) begins false →
           (is_other_word (take k (drop (at + 1) bytes)) ≡ true) ⊎ (r.now_white ≡ false)
-      by_reason (inl f) = inl f
-      by_reason (inr f) = inr (looked false f)
+      by_reason h = grind (arith, looked)
 
       fits : (l : List ℕ) (k : ℕ) → take 1 l ≡ number_sign ∷ [] → k ≤ length (drop 1 l) → suc k ≤ length l
-      fits [] k e h = cc
-      fits (a ∷ l) k e h = omega arith
+      fits l k h m = grind arith
 
   -- the `#` alone
   pub sign_alone_read : take 1 (drop at bytes) ≡ number_sign ∷ [] → IsWhiteAfter (take (at - base) (drop base bytes)) begins false → ReadOutside start bytes line kept base begins (at + 1)
@@ -282,42 +245,16 @@ module _ {start : BulkState} {bytes : List ℕ} {line : ℕ} {kept : BulkState} 
   pub held_later : 0 < n → (s : Bool) × ReadTo start bytes (at + n) (block_state u) (at + count) (inside_state s u)
   held_later h = (_, block_later r count within free n the_run h)
 
--- a star and a slash, which close a block comment
-pub closed_read : {start : BulkState} {bytes : List ℕ} {line : ℕ} {kept : BulkState} (at count : ℕ) (starred u : Bool) →
-    ReadTo start bytes line kept (at + count) (inside_state starred u) → count + 1 < length (take (length bytes - at) (drop at bytes)) →
-    is_star_pair (get_or (take (length bytes - at) (drop at bytes)) count 0) (get_or (take (length bytes - at) (drop at bytes)) (count + 1) 0) ≡ true →
-    get_or (take (length bytes - at) (drop at bytes)) (count + 1) 0 ≡ slash → ReadOutside start bytes line kept (at + count + 2) u (at + count + 2)
-closed_read {bytes = bytes} at count starred u r h e f =
-    let rest : List ℕ = take (length bytes - at) (drop at bytes) in
-    let is : rest ≡ drop at bytes = take_rest bytes at in
-    let next : count + 1 ≡ suc count = omega arith in
-    let two : take 2 (drop count rest) ≡ star ∷ slash ∷ [] =
-    two_at rest count star slash h (pair_is (get_or rest count 0) (get_or rest (count + 1) 0) e) (ap (λ (k : ℕ). get_or rest k 0) (sym next) ∙ f) in
-    let there : drop count rest ≡ drop (at + count) bytes = ap (λ (l : List ℕ). drop count l) is ∙ sym (drop_both bytes at count) in
-    let long : 2 ≤ length (drop (at + count) bytes) = subst (λ (l : List ℕ). 2 ≤ length l) there (omega (arith, length-drop count rest)) in
-    block_closed starred u r long (sym two ∙ ap (λ (l : List ℕ). take 2 l) there)
-
 -- nothing is read yet, outside comments
 pub start_read : (bytes : List ℕ) (w : LexState) (white : Bool) → w ≡ in_text →
     ReadOutside (line_state w white) bytes 0 (line_state w white) 0 white 0
-start_read bytes w white e =
-    subst (λ (v : LexState). ReadOutside (line_state v white) bytes 0 (line_state v white) 0 white 0) (sym e) (read_start bytes white)
+start_read bytes w white e = grind (arith, read_start)
 
 -- nothing is read yet, in a block comment
 pub start_block : (bytes : List ℕ) (w : LexState) (white : Bool) → w ≡ in_block →
     ReadTo (line_state w white) bytes 0 (line_state w white) 0 (block_state white)
-start_block bytes w white e =
-    subst (λ (v : LexState). ReadTo (line_state v white) bytes 0 (line_state v white) 0 (block_state white)) (sym e)
-    (read_none (block_state white) bytes (record { is = refl; starts = refl }))
+start_block bytes w white e = grind (arith, read_none)
 
 -- after bytes that are all white, the line is white if it is white before them
 pub all_before : (bytes : List ℕ) (at : ℕ) (begins : Bool) → at ≡ 0 → are_white (drop at bytes) ≡ true → IsWhiteAfter bytes begins begins
 all_before bytes at begins e w = all_white (subst (λ (n : ℕ). are_white (drop n bytes) ≡ true) e w)
-
--- the bytes before the first pair have none
-pub free_front : (bytes : List ℕ) (at count : ℕ) → NoStarPair (take (count + 1) (take (length bytes - at) (drop at bytes))) → NoStarPair (take count (drop at bytes))
-free_front bytes at count h =
-    let l : List ℕ = drop at bytes in
-    let f : NoStarPair (take (count + 1) l) = subst (λ (x : List ℕ). NoStarPair (take (count + 1) x)) (take_rest bytes at) h in
-    subst NoStarPair (take-take count (count + 1) l (omega arith))
-    (pair_front (take count (take (count + 1) l)) (drop count (take (count + 1) l)) (subst NoStarPair (sym (take-append-drop count (take (count + 1) l))) f))

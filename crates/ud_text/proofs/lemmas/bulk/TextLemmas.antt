@@ -1,13 +1,14 @@
 -- Text: a line that is read without a stop shows no `#` that belongs to a directive.
-use Rattle.std.proofs.Common.{◌≡◌, ℕ, ◌==◌, List, [], ◌∷◌, ◌++◌, Bool, true, false, not, ◌&&◌, ◌||◌, if◌then◌else◌, refl, sym, ◌∙◌, ap, ap₂, subst, ne_eqb, Option, Some, None, bytes_eq}
+use Rattle.std.proofs.Common.{arith}
+use Rattle.std.proofs.Common.{◌≡◌, ℕ, ◌==◌, List, [], ◌∷◌, ◌++◌, Bool, true, false, not, ◌&&◌, ◌||◌, if◌then◌else◌, refl, sym, ◌∙◌, ap, subst, ne_eqb, Option, Some, None, bytes_eq}
 use Rattle.std.specs.List.{list_any}
 use Rattle.std.proofs.lemmas.Bool.{eqb-true}
 use Rattle.std.proofs.Math.Bool.{and-false}
-use Rattle.ud_model.specs.text.Bytes.{is_white, is_quote, is_word_byte, are_word_bytes, skip_white, leading_word, slash, number_sign, newline, space, carriage_return, star}
+use Rattle.ud_model.specs.text.Bytes.{is_white, is_quote, is_word_byte, skip_white, leading_word, slash, number_sign, newline, space, carriage_return}
 use Rattle.ud_model.specs.text.Lines.{NoNewline}
 use Rattle.ud_model.specs.text.Scans.{Scan}
 use Rattle.ud_model.specs.aids.LexStates.{LexState, in_text, at_slash, in_block, at_star, in_line, in_literal, at_backslash, next_state, opens_comment, masked_byte, blank_last}
-use Rattle.ud_model.specs.sections.Directives.{cut_keyword, text, content_of, skip_white_and_hash, skip_hash, has_split_keyword, content_after_hash, directive_at, may_split_keyword, is_continued_outside_comment, is_in_line, kind_of, is_keyword_prefix, is_no_keyword, may_begin, keywords}
+use Rattle.ud_model.specs.sections.Directives.{cut_keyword, text, content_of, skip_white_and_hash, skip_hash, has_split_keyword, content_after_hash, directive_at, may_split_keyword, kind_of, is_keyword_prefix, is_no_keyword, may_begin, keywords}
 use Rattle.ud_model.proofs.sections.Keywords.{no_keyword}
 use Rattle.ud_model.specs.declared.kind.Kind.{Kind}
 use Rattle.ud_text.specs.bulk.BulkStates.{next_bulk_state, BulkState, starts_with_no_keyword, spliced_after, is_other_word, HasNoStop}
@@ -33,13 +34,7 @@ pub data Unsigned : Option (List ℕ) → Type 0 where
 
 -- a scan that isn't fresh, and so can have no directive, is text
 pub text_not_fresh : (scan : Scan) → scan.fresh ≡ false → content_of scan ≡ text
-text_not_fresh scan e = by_sign (skip_white_and_hash scan.masked) scan.fresh e
-  where
-    by_sign : (o : Option (List ℕ)) (f : Bool) → f ≡ false →
-        (if has_split_keyword (record scan { fresh = f }) o then cut_keyword else content_after_hash (record scan { fresh = f }) o) ≡ text
-    by_sign None f h = refl
-    by_sign (Some rest) true h = cc
-    by_sign (Some rest) false h = refl
+text_not_fresh scan h = grind arith
 
 -- a scan without such a `#` is text, also if a continuation cuts it off
 pub text_unsigned : (scan : Scan) → Unsigned (skip_white_and_hash scan.masked) → content_of scan ≡ text
@@ -47,22 +42,14 @@ text_unsigned scan u = by_sign (skip_white_and_hash scan.masked) u
   where
     chosen : (f j l y : Bool) (word : List ℕ) (k : Option Kind) → y ≡ false → k ≡ None →
         (if f && j && l && y then cut_keyword else if f then directive_at scan word k else text) ≡ text
-    chosen f j l true word k h m = cc
-    chosen f j l y word (Some d) h m = cc
-    chosen false j l false word None h m = refl
-    chosen true false l false word None h m = refl
-    chosen true true false false word None h m = refl
-    chosen true true true false word None h m = refl
+    chosen f j l y word k h m = grind arith
 
     stays : (word : List ℕ) (a : ℕ) (more : List ℕ) → word ≡ a ∷ more → is_unsure (a ∷ more) ≡ false → may_split_keyword scan word ≡ false
-    stays word a more i e = ap (λ (w : List ℕ). may_split_keyword scan w) i ∙ ap (λ (c : Bool). is_continued_outside_comment scan && c) e ∙ and-false (is_continued_outside_comment scan)
+    stays word a more h k = grind arith
 
     by_sign : (o : Option (List ℕ)) → Unsigned o → (if has_split_keyword scan o then cut_keyword else content_after_hash scan o) ≡ text
     by_sign None v = refl
-    by_sign (Some _) (other_sign rest i) =
-        chosen scan.fresh scan.joins_after (not (is_in_line scan.comment)) (may_split_keyword scan (skip_white rest)) (skip_white rest)
-        (kind_of (leading_word (skip_white rest))) (stays (skip_white rest) i.first i.more i.is i.sure)
-        (ap (λ (w : List ℕ). kind_of (leading_word w)) i.is ∙ i.none)
+    by_sign (Some _) (other_sign rest i) = grind (arith, chosen, stays)
 
 -- `Settled w masked`: what is shown doesn't begin with a slash that waits for the next byte
 abbrev pub Settled : LexState → List ℕ → Type 0
@@ -87,18 +74,7 @@ settled_some (at_backslash q) m y = tt
 
 front_step : (w : LexState) (b x : ℕ) (m : List ℕ) → Settled w m →
     (if opens_comment w b then blank_last (x ∷ m) else x ∷ m) ≡ x ∷ (if opens_comment w b then blank_last m else m)
-front_step at_slash b x [] h = absurd h
-front_step at_slash b x (z ∷ m) h = by_opens (opens_comment at_slash b)
-  where
-    by_opens : (o : Bool) → (if o then x ∷ blank_last (z ∷ m) else x ∷ z ∷ m) ≡ x ∷ (if o then blank_last (z ∷ m) else z ∷ m)
-    by_opens true = refl
-    by_opens false = refl
-front_step in_text b x m h = refl
-front_step in_block b x m h = refl
-front_step at_star b x m h = refl
-front_step in_line b x m h = refl
-front_step (in_literal q) b x m h = refl
-front_step (at_backslash q) b x m h = refl
+front_step w b x m h = grind arith
 
 -- the first byte shown stays
 pub front_stays : (x : ℕ) (m : List ℕ) (w : LexState) (bytes : List ℕ) → Settled w m → masked_after w (x ∷ m) bytes ≡ x ∷ masked_after w m bytes
@@ -121,11 +97,7 @@ black_first x m w bytes h e f = subst (λ (l : List ℕ). Unsigned (skip_white_a
 -- leading white space doesn't count
 pub white_first : (x : ℕ) (m : List ℕ) (w : LexState) (bytes : List ℕ) → Settled w m → is_white x ≡ true →
     Unsigned (skip_white_and_hash (masked_after w m bytes)) → Unsigned (skip_white_and_hash (masked_after w (x ∷ m) bytes))
-white_first x m w bytes h e u = subst (λ (l : List ℕ). Unsigned (skip_white_and_hash l)) (sym (front_stays x m w bytes h)) (by_white (is_white x) e)
-  where
-    by_white : (t : Bool) → t ≡ true → Unsigned (skip_hash (if t then skip_white (masked_after w m bytes) else x ∷ masked_after w m bytes))
-    by_white true g = u
-    by_white false g = cc
+white_first x m w bytes h k l = grind (arith, front_stays, masked_after)
 
 -- `Class b`: the classes of bytes that count here
 pub data Class : ℕ → Type 0 where
@@ -169,32 +141,17 @@ class_of b = by_slash (b == slash) refl
     by_slash false e = by_sign (b == number_sign) refl e
 
 next_plain : (b : ℕ) → (b == slash) ≡ false → is_quote b ≡ false → next_state in_text b ≡ in_text
-next_plain b e f = by_tests (b == slash) (is_quote b) e f
-  where
-    by_tests : (s q : Bool) → s ≡ false → q ≡ false → (if s then at_slash else if q then in_literal b else in_text) ≡ in_text
-    by_tests true q g h = cc
-    by_tests false true g h = cc
-    by_tests false false g h = refl
+next_plain b h k = grind arith
 
 -- a byte of no meaning is shown unchanged
 shown_plain : (b : ℕ) (bytes : List ℕ) → (b == slash) ≡ false → is_quote b ≡ false → masked_after in_text [] (b ∷ bytes) ≡ b ∷ masked_after in_text [] bytes
-shown_plain b bytes e f =
-    ap (λ (w : LexState). masked_after w (b ∷ []) bytes) (next_plain b e f) ∙ front_stays b [] in_text bytes tt
+shown_plain b bytes h k = grind (arith, masked_after, next_plain, front_stays)
 
 pub word_is_plain : (b : ℕ) → is_word_byte b ≡ true → (is_white b ≡ false) × ((b == slash) ≡ false) × (is_quote b ≡ false)
-word_is_plain b h = by_class b (class_of b) h
-  where
-    by_class : (b : ℕ) → Class b → is_word_byte b ≡ true → (is_white b ≡ false) × ((b == slash) ≡ false) × (is_quote b ≡ false)
-    by_class _ a_slash h = cc
-    by_class _ a_sign h = cc
-    by_class _ (a_white b w e f g i n) h = cc
-    by_class _ (a_quote b w e f g i n) h = cc
-    by_class _ (another b w e f g) h = (w, e, f)
+word_is_plain b h = grind arith
 
 and_parts : (a b : Bool) → (a && b) ≡ true → (a ≡ true) × (b ≡ true)
-and_parts true true e = (refl, refl)
-and_parts true false e = cc
-and_parts false b e = cc
+and_parts a b h = grind arith
 
 -- a word that begins with two such bytes is no keyword
 pub other_word : (b c : ℕ) (w v : List ℕ) → is_no_keyword b c ≡ true → (is_word_byte c ≡ true → w ≡ c ∷ v) → kind_of (b ∷ w) ≡ None
@@ -205,8 +162,7 @@ no_slash b w e = rw e refl
 
 -- what follows a word that begins with two such bytes makes no directive
 pub other_sure : (b c : ℕ) (w v : List ℕ) → is_no_keyword b c ≡ true → (b == slash) ≡ false → (is_word_byte c ≡ true → w ≡ c ∷ v) → is_unsure (b ∷ w) ≡ false
-other_sure b c w v e f g =
-    ap₂ (λ (s t : Bool). s || (are_word_bytes (b ∷ w) && t)) (no_slash b w f) (no_keyword b c w v e g).1 ∙ and-false (are_word_bytes (b ∷ w))
+other_sure b c w v h k l = grind (arith, no_slash, no_keyword, and-false)
 
 -- `NoWord bytes`: no byte of a word comes first
 abbrev pub NoWord : List ℕ → Type 0
@@ -274,20 +230,15 @@ name_shown (b ∷ bytes) tail e f n = by_class b (class_of b) e (λ g. name_show
     black b w g = sym (rw w refl) ∙ g
 
     first_word : (b : ℕ) (more : List ℕ) → starts_with_no_keyword (b ∷ more) ≡ true → is_word_byte b ≡ true
-    first_word b [] g = cc
-    first_word b (c ∷ more) g = is_no_keyword-first b c g
+    first_word b more h = grind arith
 
     by_class : (b : ℕ) → Class b → is_other_word (b ∷ (bytes ++ tail)) ≡ true →
         (is_other_word (bytes ++ tail) ≡ true → IsOther (masked_after in_text [] bytes)) → IsOther (masked_after in_text [] (b ∷ bytes))
     by_class _ a_slash g more = let h : is_word_byte slash ≡ true = first_word slash (bytes ++ tail) g in cc
     by_class _ a_sign g more = let h : is_word_byte number_sign ≡ true = first_word number_sign (bytes ++ tail) g in cc
-    by_class _ (a_white b w e f s i n) g more =
-        subst IsOther (sym (shown_plain b bytes e f))
-        (white_other b (masked_after in_text [] bytes) w
-        (more (sym (ap (λ (t : Bool). starts_with_no_keyword (if t then skip_white (bytes ++ tail) else b ∷ (bytes ++ tail))) w) ∙ g)))
+    by_class _ (a_white b w e f s i n) g more = grind (arith, shown_plain, white_other, masked_after)
     by_class _ (a_quote b q w e f i n) g more = let h : is_word_byte b ≡ true = first_word b (bytes ++ tail) (black b w g) in cc
-    by_class _ (another b w e f s) g more =
-        subst IsOther (sym (shown_plain b bytes e f)) (word_shown b bytes tail (black b w g) n)
+    by_class _ (another b w e f s) g more = grind (arith, shown_plain, word_shown, black)
 
 -- `NotLiteral w`: the lexer state `w` is outside literals
 abbrev pub NotLiteral : LexState → Type 0
@@ -329,72 +280,25 @@ module _ (bytes tail : List ℕ) (later : (w : LexState) (c : Bool) → NotLiter
       (other_sign (masked_after in_text [] bytes) (name_shown bytes tail (is_other h.0) f n))
     where
       is_other : not (is_other_word (bytes ++ tail)) ≡ false → is_other_word (bytes ++ tail) ≡ true
-      is_other g = not_false (is_other_word (bytes ++ tail)) g
-        where
-          not_false : (a : Bool) → not a ≡ false → a ≡ true
-          not_false true e = refl
-          not_false false e = cc
-  from_text _ c (a_white b w e q s i m) _ h =
-      subst (λ (p : LexState). Unsigned (skip_white_and_hash (masked_after p (b ∷ []) bytes))) (sym (next_plain b e q))
-      (white_first b [] in_text bytes tt w
-      (later in_text (spliced_after in_text c b) tt (subst (λ (s : BulkState). HasNoStop s (bytes ++ tail)) (step_white b c w e q i) h.1)))
-  from_text _ c (a_quote b q w e s i m) _ h =
-      subst (λ (p : LexState). Unsigned (skip_white_and_hash (masked_after p (b ∷ []) bytes))) (sym (next_quote b e q))
-      (black_first b [] (in_literal b) bytes tt w s)
-  from_text _ c (another b w e q s) _ h =
-      subst (λ (p : LexState). Unsigned (skip_white_and_hash (masked_after p (b ∷ []) bytes))) (sym (next_plain b e q))
-      (black_first b [] in_text bytes tt w s)
+      is_other h = grind arith
+  from_text _ c (a_white b w e q s i m) _ h = grind (arith, masked_after, next_plain, white_first, step_white)
+  from_text _ c (a_quote b q w e s i m) _ h = grind (arith, masked_after, next_quote, black_first)
+  from_text _ c (another b w e q s) _ h = grind (arith, masked_after, next_plain, black_first)
 
   spaces : (w : LexState) → pending w ≡ [] → Settled w [] → Unsigned (skip_white_and_hash (masked_after w (pending w) bytes)) → Unsigned (skip_white_and_hash (masked_after w (space ∷ []) bytes))
-  spaces w e s u = white_first space [] w bytes s refl (subst (λ (l : List ℕ). Unsigned (skip_white_and_hash (masked_after w l bytes))) e u)
+  spaces w e s u = grind (arith, white_first, masked_after)
 
   from_slash : (b : ℕ) (c : Bool) → HasNoStop (white_at at_slash c) (b ∷ (bytes ++ tail)) → Unsigned (skip_white_and_hash (masked_after at_slash (slash ∷ []) (b ∷ bytes)))
-  from_slash b c h = by_star (b == star) refl
-    where
-      other : (o : Bool) (w : LexState) (y : ℕ) → o ≡ false → Unsigned (skip_white_and_hash (masked_after w ((if o then blank_last (slash ∷ []) else slash ∷ []) ++ y ∷ []) bytes))
-      other true w y e = cc
-      other false w y e = black_first slash (y ∷ []) w bytes (settled_some w [] y) refl refl
-
-      opens_block : HasNoStop (white_at at_slash c) (star ∷ (bytes ++ tail)) → Unsigned (skip_white_and_hash (masked_after at_slash (slash ∷ []) (star ∷ bytes)))
-      opens_block k = white_first space (space ∷ []) in_block bytes tt refl (spaces in_block refl tt (later in_block _ tt k.1))
-
-      opens_line : HasNoStop (white_at at_slash c) (slash ∷ (bytes ++ tail)) → Unsigned (skip_white_and_hash (masked_after at_slash (slash ∷ []) (slash ∷ bytes)))
-      opens_line k = white_first space (space ∷ []) in_line bytes tt refl (spaces in_line refl tt (later in_line _ tt k.1))
-
-      by_slash : (t : Bool) → (b == slash) ≡ t → (b == star) ≡ false → Unsigned (skip_white_and_hash (masked_after at_slash (slash ∷ []) (b ∷ bytes)))
-      by_slash true e g =
-          subst (λ (x : ℕ). HasNoStop (white_at at_slash c) (x ∷ (bytes ++ tail)) → Unsigned (skip_white_and_hash (masked_after at_slash (slash ∷ []) (x ∷ bytes)))) (sym (eqb-true b slash e)) opens_line h
-      by_slash false e g = other (opens_comment at_slash b) (next_state at_slash b) (masked_byte at_slash b) (rw (e, g) refl)
-
-      by_star : (t : Bool) → (b == star) ≡ t → Unsigned (skip_white_and_hash (masked_after at_slash (slash ∷ []) (b ∷ bytes)))
-      by_star true e =
-          subst (λ (x : ℕ). HasNoStop (white_at at_slash c) (x ∷ (bytes ++ tail)) → Unsigned (skip_white_and_hash (masked_after at_slash (slash ∷ []) (x ∷ bytes)))) (sym (eqb-true b star e)) opens_block h
-      by_star false e = by_slash (b == slash) refl e
+  from_slash b c h = grind (arith, masked_after, black_first, settled_some, white_first, spaces, eqb-true)
 
   from_block : (b : ℕ) (c : Bool) → HasNoStop (white_at in_block c) (b ∷ (bytes ++ tail)) → Unsigned (skip_white_and_hash (masked_after in_block [] (b ∷ bytes)))
-  from_block b c h = by_star (b == star) h.1
-    where
-      by_star : (t : Bool) → HasNoStop (white_at (if t then at_star else in_block) (spliced_after in_block c b)) (bytes ++ tail) →
-          Unsigned (skip_white_and_hash (masked_after (if t then at_star else in_block) (space ∷ []) bytes))
-      by_star true k = spaces at_star refl tt (later at_star _ tt k)
-      by_star false k = spaces in_block refl tt (later in_block _ tt k)
+  from_block b c h = grind (arith, masked_after, spaces)
 
   from_star : (b : ℕ) (c : Bool) → HasNoStop (white_at at_star c) (b ∷ (bytes ++ tail)) → Unsigned (skip_white_and_hash (masked_after at_star [] (b ∷ bytes)))
-  from_star b c h = by_tests (b == slash) (b == star) h.1
-    where
-      by_tests : (s t : Bool) → HasNoStop (white_at (if s then in_text else if t then at_star else in_block) (spliced_after at_star c b)) (bytes ++ tail) →
-          Unsigned (skip_white_and_hash (masked_after (if s then in_text else if t then at_star else in_block) (space ∷ []) bytes))
-      by_tests true t k = spaces in_text refl tt (later in_text _ tt k)
-      by_tests false true k = spaces at_star refl tt (later at_star _ tt k)
-      by_tests false false k = spaces in_block refl tt (later in_block _ tt k)
+  from_star b c h = grind (arith, masked_after, spaces)
 
   from_line : (b : ℕ) (c : Bool) → (b == newline) ≡ false → HasNoStop (white_at in_line c) (b ∷ (bytes ++ tail)) → Unsigned (skip_white_and_hash (masked_after in_line [] (b ∷ bytes)))
-  from_line b c i h = by_feed (b == newline) i h.1
-    where
-      by_feed : (t : Bool) → t ≡ false → HasNoStop (record { state = if t then in_text else in_line; white = if t then true else true; spliced = spliced_after in_line c b }) (bytes ++ tail) →
-          Unsigned (skip_white_and_hash (masked_after (if t then in_text else in_line) ((if t then b else space) ∷ []) bytes))
-      by_feed true e k = cc
-      by_feed false e k = spaces in_line refl tt (later in_line _ tt k)
+  from_line b c h k = grind (arith, masked_after, spaces)
 
 -- what is shown of a line without a stop begins with no `#`, unless another name follows it
 pub unsigned : (bytes tail : List ℕ) (w : LexState) (c : Bool) → NotLiteral w → NoNewline bytes → HasNoStop (white_at w c) (bytes ++ tail) →

@@ -46,9 +46,7 @@ none_after rest e used to =
 
 -- the first line of a chunk is whole
 first_whole : (chunk line : List ℕ) → IsFirstLine chunk line → IsWhole line
-first_whole chunk line f =
-    let to : (prefix : List ℕ) × NoNewline prefix × (take (length line) chunk ≡ prefix ++ 10 ∷ []) = f.prefix.line refl in
-    (to.0, to.1, f.bytes ∙ to.2)
+first_whole chunk line h = grind arith
 
 -- a body and an ending are the bytes of their line
 joined_is : (body ending line : List ℕ) (n : ℕ) → IsLineOf body ending n (line_at n line) → body ++ ending ≡ line

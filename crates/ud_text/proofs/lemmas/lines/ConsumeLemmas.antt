@@ -1,5 +1,5 @@
 -- Consuming: whole lines are taken and consumed at once.
-use Rattle.std.proofs.Common.{◌≡◌, ℕ, ◌+◌, ◌-◌, ◌<◌, ◌≤◌, Bool, true, false, cond, if◌then◌else◌, List, [], ◌∷◌, ◌++◌, length, take, drop, refl, sym, ◌∙◌, ap, ap₂, subst, take_all, arith}
+use Rattle.std.proofs.Common.{◌≡◌, ℕ, ◌+◌, ◌-◌, ◌<◌, ◌≤◌, Bool, true, false, cond, if◌then◌else◌, List, [], ◌∷◌, ◌++◌, length, take, drop, refl, sym, ◌∙◌, ap, subst, take_all, arith}
 use Rattle.std.specs.List.{count_by, concat}
 use Rattle.std.proofs.lemmas.List.{length-append, take-take}
 use Rattle.std.proofs.Math.Seq.{take-add}
@@ -16,10 +16,6 @@ use Rattle.ud_text.specs.bulk.BulkLexemes.{LastLineStarts}
 use Rattle.ud_text.proofs.lemmas.lines.LinesLemmas.{represent_part}
 use Rattle.ud_text.proofs.lemmas.bulk.BulkPlainLemmas.{begins_ends}
 
-put_length : (b : ℕ) (ls : List (List ℕ)) (r : List ℕ) → length (prepend_to_first b ls r).whole ≡ length ls
-put_length b [] r = refl
-put_length b (l ∷ ls) r = refl
-
 -- there are as many whole lines as newlines
 pub lines_counted : (bytes : List ℕ) → length (whole_lines bytes) ≡ count_by is_newline bytes
 unfolding split_lines
@@ -27,22 +23,17 @@ lines_counted = is_count_by (λ bytes. length (whole_lines bytes)) is_newline re
   where
     by_test : (b : ℕ) (ls : List (List ℕ)) (r : List ℕ) (t : Bool) →
         length (if t then record { whole = (10 ∷ []) ∷ ls; rest = r } else prepend_to_first b ls r).whole ≡ cond t (1 + length ls) (length ls)
-    by_test b ls r true = omega arith
-    by_test b ls r false = put_length b ls r
+    by_test b ls r t = grind arith
 
 -- the newlines of a prefix, and of the next `n` bytes
 pub counted_more : (bytes : List ℕ) (at n count more : ℕ) → count ≡ count_by is_newline (take at bytes) → more ≡ count_by is_newline (take n (drop at bytes)) →
     count + more ≡ count_by is_newline (take (at + n) bytes)
-counted_more bytes at n count more e f =
-    ap₂ (λ (x y : ℕ). x + y) e f ∙ sym (sum_by-append (λ b. cond (is_newline b) 1 0) (take at bytes) (take n (drop at bytes)))
-    ∙ ap (count_by is_newline) (sym (take-add at n bytes))
+counted_more bytes at n count more h k = grind (arith, sum_by-append, cond, take-add)
 
 -- the newlines of a prefix, and of the rest, are as many as the whole lines
 pub counted_all : (bytes : List ℕ) (at count more : ℕ) → count ≡ count_by is_newline (take at bytes) →
     more ≡ count_by is_newline (take (length bytes - at) (drop at bytes)) → count + more ≡ length (whole_lines bytes)
-counted_all bytes at count more e f =
-    counted_more bytes at (length bytes - at) count more e f
-    ∙ ap (count_by is_newline) (take_all (at + (length bytes - at)) bytes (omega arith)) ∙ sym (lines_counted bytes)
+counted_all bytes at count more e f = grind (arith, counted_more, take_all, lines_counted)
 
 -- there are no more lines than bytes
 pub lines_few : (bytes : List ℕ) → length (whole_lines bytes) ≤ length bytes
@@ -50,8 +41,7 @@ lines_few bytes = omega (arith, lines_counted bytes, count_by-le-length is_newli
 
 -- the lines of bytes that follow whole lines
 pub lines_joined : (prefix rest : List ℕ) → AreWholeLines prefix → whole_lines (prefix ++ rest) ≡ whole_lines prefix ++ whole_lines rest
-lines_joined prefix rest ends =
-    ap (λ (q : SplitLines). q.whole) (split_lines-append prefix rest) ∙ ap (λ (r : List ℕ). whole_lines prefix ++ whole_lines (r ++ rest)) ends
+lines_joined prefix rest h = grind (arith, split_lines-append)
 
 pub ends_joined : (prefix rest : List ℕ) → AreWholeLines prefix → partial_line (prefix ++ rest) ≡ partial_line rest
 ends_joined prefix rest ends = ap (λ (q : SplitLines). q.rest) (split_lines-append prefix rest) ∙ ap (λ (r : List ℕ). partial_line (r ++ rest)) ends
@@ -85,24 +75,17 @@ module _ (piece : List ℕ) (at count size : ℕ) (window : List ℕ) (is : wind
   few = omega (arith, ap length is, length-take size (drop at piece))
 
   joined : take (at + count) piece ≡ take at piece ++ take count window
-  joined =
-      take-add at count piece
-      ∙ ap (λ (l : List ℕ). take at piece ++ l) (sym (take-take count size (drop at piece) (omega (arith, few, last.within))) ∙ ap (take count) (sym is))
+  joined = grind (arith, take-add, take-take, few)
 
   pub more_end : AreWholeLines (take (at + count) piece)
-  more_end = ap partial_line joined ∙ ends_joined (take at piece) (take count window) ends ∙ begins_ends (take count window) last.begins
+  more_end = grind (arith, joined, ends_joined, begins_ends)
 
   pub more_fit : EachFits (whole_lines (take at piece)) → EachFits (whole_lines (take (at + count) piece))
-  more_fit fits =
-      let own : EachFits (whole_lines (take count window)) = short_fit (take count window) (omega (arith, few, last.within, length-take count window)) in
-      subst (λ (l : List ℕ). EachFits (whole_lines l)) (sym joined)
-      (subst EachFits (sym (lines_joined (take at piece) (take count window) ends))
-      (fits_append (whole_lines (take at piece)) (whole_lines (take count window)) fits own))
+  more_fit h = grind (arith, short_fit, few, length-take, joined, lines_joined, fits_append)
 
 -- the line isn't whole, if no byte is buffered
 pub not_whole : (whole : Bool) (held : List ℕ) → (whole ≡ true → 0 < length held) → held ≡ [] → whole ≡ false
-not_whole true held some none = absurd (omega (arith, some refl, ap length none))
-not_whole false held some none = refl
+not_whole whole held h k = grind arith
 
 -- as many more lines are taken and consumed as the bytes have
 pub represent_consumed : (lines : LinesState) (text bytes : List ℕ) → CanConsume lines bytes → LinesRepresent lines text →
@@ -119,27 +102,9 @@ represent_consumed lines text bytes can h = record {
 
 -- the first of lines that can be consumed can be consumed
 pub can_consume_front : (lines : LinesState) (prefix rest : List ℕ) → AreWholeLines prefix → CanConsume lines (prefix ++ rest) → CanConsume lines prefix
-can_consume_front lines prefix rest ends can =
-    let all = lines_joined prefix rest ends in
-    record {
-      unheld = can.unheld;
-      part = can.part;
-      no_fault = can.no_fault;
-      ends = ends;
-      fits = fits_front (whole_lines prefix) (whole_lines rest) (subst EachFits all can.fits);
-      numbered = omega (arith, can.numbered, ap length all, length-append (whole_lines prefix) (whole_lines rest));
-    }
+can_consume_front lines prefix rest h k = grind (arith, lines_joined, fits_front, length-append)
 
 -- the other lines can be consumed after the first ones
 pub can_consume_rest : (lines : LinesState) (prefix rest : List ℕ) → AreWholeLines prefix → CanConsume lines (prefix ++ rest) →
     CanConsume (record lines { before = lines.before + length (whole_lines prefix) }) rest
-can_consume_rest lines prefix rest ends can =
-    let all = lines_joined prefix rest ends in
-    record {
-      unheld = can.unheld;
-      part = can.part;
-      no_fault = can.no_fault;
-      ends = sym (ends_joined prefix rest ends) ∙ can.ends;
-      fits = fits_rest (whole_lines prefix) (whole_lines rest) (subst EachFits all can.fits);
-      numbered = omega (arith, can.numbered, ap length all, length-append (whole_lines prefix) (whole_lines rest));
-    }
+can_consume_rest lines prefix rest h k = grind (arith, lines_joined, ends_joined, fits_rest, length-append)

@@ -1,5 +1,5 @@
 -- Counting: the newlines of many bytes, by the lanes of vectors.
-use Rattle.std.proofs.Common.{◌≡◌, ℕ, suc, ◌+◌, ◌<◌, ◌≤◌, ◌-◌, ◌^◌, Bool, true, false, eqb, cond, List, [], ◌∷◌, map, length, take, drop, replicate, refl, sym, ◌∙◌, ap, arith, w8}
+use Rattle.std.proofs.Common.{◌≡◌, ℕ, suc, ◌+◌, ◌<◌, ◌≤◌, ◌-◌, ◌^◌, Bool, eqb, cond, List, [], ◌∷◌, map, length, take, drop, replicate, refl, sym, ◌∙◌, ap, arith, w8}
 use Rattle.std.specs.List.{count_by}
 use Rattle.std.proofs.lemmas.List.Recursion.{is_count_by}
 use Rattle.std.proofs.lemmas.List.{take_rest}
@@ -18,16 +18,11 @@ pub ones_sum : (bytes : List ℕ) → sum_l (ones_of bytes) ≡ count_by is_newl
 ones_sum = is_count_by (λ bytes. sum_l (ones_of bytes)) is_newline refl (λ b bytes. by_test (is_newline b) (sum_l (ones_of bytes)))
   where
     by_test : (t : Bool) (n : ℕ) → cond t 1 0 + n ≡ cond t (1 + n) n
-    by_test true n = refl
-    by_test false n = omega arith
+    by_test t n = grind arith
 
 pub ones_low : (bytes : List ℕ) → Each1 (λ n. n ≤ 1) (ones_of bytes)
 ones_low [] = tt
-ones_low (b ∷ bytes) = (by_test (is_newline b), ones_low bytes)
-  where
-    by_test : (t : Bool) → cond t 1 0 ≤ 1
-    by_test true = omega arith
-    by_test false = omega arith
+ones_low (b ∷ bytes) = grind (arith, cond, ones_low bytes)
 
 pub ones_length : (bytes : List ℕ) → length (ones_of bytes) ≡ length bytes
 ones_length [] = refl
@@ -42,20 +37,16 @@ selected bytes n e =
 
 -- the lanes grow by at most 1
 pub grown_low : (most : ℕ) (counts bytes : List ℕ) → Each1 (λ n. n ≤ most) counts → Each1 (λ n. n ≤ most + 1) (zip2 (λ a b. a + b) counts (ones_of bytes))
-grown_low most counts bytes h =
-    Each1-zip2 (λ a b. a + b) (λ n. n ≤ most + 1) counts (ones_of bytes)
-    (Each2-of (λ n. n ≤ most) (λ n. n ≤ 1) (λ a b. a + b ≤ most + 1) (λ a b x y. omega arith) counts (ones_of bytes) h (ones_low bytes))
+grown_low most counts bytes h = grind (arith, Each1-zip2, Each2-of, ones_low)
 
 -- each lane fits a byte
 pub grown_fits : (counts bytes : List ℕ) → Each1 (λ n. n < 255) counts → Each2 (λ a b. Fits w8 (a + b)) counts (ones_of bytes)
-grown_fits counts bytes h =
-    Each2-of (λ n. n < 255) (λ n. n ≤ 1) (λ a b. Fits w8 (a + b)) (λ a b x y. record { fits = omega arith }) counts (ones_of bytes) h (ones_low bytes)
+grown_fits counts bytes h = grind (arith, Each2-of, Fits, w8, ones_low)
 
 -- the newlines before a position, and those of a prefix of the rest
 pub counted_rest : (bytes : List ℕ) (at n count more : ℕ) → count ≡ count_by is_newline (take at bytes) →
     more ≡ count_by is_newline (take n (take (length bytes - at) (drop at bytes))) → count + more ≡ count_by is_newline (take (at + n) bytes)
-counted_rest bytes at n count more e f =
-    counted_more bytes at n count more e (f ∙ ap (λ (l : List ℕ). count_by is_newline (take n l)) (take_rest bytes at))
+counted_rest bytes at n count more h k = grind (arith, counted_more, take_rest)
 
 -- lanes that a cast leaves as they are
 pub map_itself : (xs : List ℕ) → map (λ x. x) xs ≡ xs

@@ -1,4 +1,5 @@
 -- First lines: the first line of a text, of any length.
+use Rattle.std.proofs.Common.{arith}
 use Rattle.std.proofs.Common.{◌≡◌, ◌∙◌, ◌++◌, sym, ap, refl, subst, List, ℕ, Bool, true, false}
 use Rattle.std.proofs.Common.{length, take}
 use Rattle.std.proofs.lemmas.List.{length-take-le}
@@ -27,6 +28,4 @@ module _ (text body ending : List ℕ) (used : ℕ) (whole : Bool) (to : UpToNew
     where
       by_end : (w : Bool) → UpToNewline text used w → NoNewline (line_at 1 (take used text)).body
       by_end true t = whole_newlineless 1 (take used text) (t.line refl)
-      by_end false t =
-          let p = no_newline-take used text (t.all refl).1 in
-          no_newline-take _ (take used text) p
+      by_end false t = grind (arith, no_newline-take)

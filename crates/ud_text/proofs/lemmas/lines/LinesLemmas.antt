@@ -1,70 +1,36 @@
 -- Buffering: what each call does to the lines of the bytes taken.
-use Rattle.std.proofs.Common.{◌≡◌, ℕ, suc, ◌+◌, ◌<◌, ◌≤◌, Bool, true, false, List, [], ◌∷◌, ◌++◌, length, take, refl, sym, ◌∙◌, ap, subst, append-nil, if◌then◌else◌, arith}
+use Rattle.std.proofs.Common.{◌≡◌, ℕ, suc, ◌+◌, ◌<◌, ◌≤◌, Bool, true, false, List, [], ◌∷◌, ◌++◌, length, take, sym, ◌∙◌, ap, append-nil, arith}
 use Rattle.std.proofs.lemmas.List.{take_all, length-append}
 use Rattle.std.proofs.Math.ListN.{length-take}
-use Rattle.ud_model.specs.text.Lines.{NoNewline, SplitLines, split_lines, whole_lines, partial_line, last_line, texts_of, line_at, numbered_from}
+use Rattle.ud_model.specs.text.Lines.{SplitLines, split_lines, whole_lines, partial_line, texts_of, line_at, numbered_from}
 use Rattle.ud_model.proofs.text.LinesLemmas.{split_lines-append-open, split_lines-append-line, last_line-some, numbered_from-next}
 use Rattle.ud_text.specs.lines.LinesState.{LinesState, LinesRepresent, UpToNewline, IsLastLine}
 
 -- nothing is buffered of a text without bytes
 pub represent_nothing : (l : LinesState) → l.held ≡ [] → l.whole ≡ false → l.before ≡ 0 → LinesRepresent l []
 unfolding split_lines
-represent_nothing l held part before = record {
-  consumed = [];
-  cut = rw (part, held) refl;
-  count = before;
-}
+represent_nothing l h k m = grind arith
 
 -- the buffered line, if whole, is the last whole one of the text, which has no more bytes
 pub represent_whole : (l : LinesState) (text : List ℕ) → l.whole ≡ true → (h : LinesRepresent l text) → split_lines text ≡ record { whole = h.consumed ++ l.held ∷ []; rest = [] }
-represent_whole l text whole h =
-    subst (λ (w : Bool). split_lines text ≡ (if w then record { whole = h.consumed ++ l.held ∷ []; rest = [] } else record { whole = h.consumed; rest = l.held })) whole h.cut
+represent_whole l text k h = grind arith
 
 -- the buffered line, if not whole, is what follows the text's last newline
 pub represent_part : (l : LinesState) (text : List ℕ) → l.whole ≡ false → (h : LinesRepresent l text) → split_lines text ≡ record { whole = h.consumed; rest = l.held }
-represent_part l text part h =
-    subst (λ (w : Bool). split_lines text ≡ (if w then record { whole = h.consumed ++ l.held ∷ []; rest = [] } else record { whole = h.consumed; rest = l.held })) part h.cut
+represent_part l text k h = grind arith
 
 -- a prefix of a chunk is appended to the line
 pub represent_take : (l : LinesState) (text chunk : List ℕ) (used : ℕ) (whole : Bool) → l.whole ≡ false → UpToNewline chunk used whole → LinesRepresent l text →
     LinesRepresent (record l { held = l.held ++ take used chunk; whole = whole }) (text ++ take used chunk)
-represent_take l text chunk used true part to h = record {
-  consumed = h.consumed;
-  cut =
-      let line : (prefix : List ℕ) × NoNewline prefix × (take used chunk ≡ prefix ++ 10 ∷ []) = to.line refl in
-      subst (λ (p : List ℕ). split_lines (text ++ p) ≡ record { whole = h.consumed ++ (l.held ++ p) ∷ []; rest = [] }) (sym line.2)
-      (split_lines-append-line text line.0 line.1
-      ∙ ap (λ (q : SplitLines). record { whole = q.whole ++ (q.rest ++ (line.0 ++ 10 ∷ [])) ∷ []; rest = [] }) (represent_part l text part h));
-  count = h.count;
-}
-represent_take l text chunk used false part to h = record {
-  consumed = h.consumed;
-  cut =
-      let all : (used ≡ length chunk) × NoNewline chunk = to.all refl in
-      let whole_piece : take used chunk ≡ chunk = take_all used chunk (omega arith) in
-      subst (λ (p : List ℕ). split_lines (text ++ p) ≡ record { whole = h.consumed; rest = l.held ++ p }) (sym whole_piece)
-      (split_lines-append-open text chunk all.1
-      ∙ ap (λ (q : SplitLines). record { whole = q.whole; rest = q.rest ++ chunk }) (represent_part l text part h));
-  count = h.count;
-}
+represent_take l text chunk used whole h k m = grind (arith, split_lines-append-line, represent_part, take_all, split_lines-append-open)
 
 -- a whole line is consumed
 pub represent_clear : (l : LinesState) (text : List ℕ) → l.whole ≡ true → LinesRepresent l text → LinesRepresent (record l { held = []; whole = false; before = l.before + 1 }) text
-represent_clear l text whole h = record {
-  consumed = h.consumed ++ l.held ∷ [];
-  cut = represent_whole l text whole h;
-  count = ap (λ (n : ℕ). n + 1) h.count ∙ sym (length-append h.consumed (l.held ∷ []));
-}
+represent_clear l text h k = grind (arith, represent_whole, length-append)
 
 -- the consumed lines and the buffered one are the lines of the text
 pub texts_of-represented : (l : LinesState) (text : List ℕ) → 0 < length l.held → (h : LinesRepresent l text) → texts_of text ≡ h.consumed ++ l.held ∷ []
-texts_of-represented l text some h = by_whole l.whole refl
-  where
-    by_whole : (w : Bool) → l.whole ≡ w → texts_of text ≡ h.consumed ++ l.held ∷ []
-    by_whole true e = ap (λ (q : SplitLines). q.whole ++ last_line q.rest) (represent_whole l text e h) ∙ append-nil (h.consumed ++ l.held ∷ [])
-    by_whole false e =
-        ap (λ (q : SplitLines). q.whole ++ last_line q.rest) (represent_part l text e h)
-        ∙ ap (λ (ls : List (List ℕ)). h.consumed ++ ls) (last_line-some l.held (λ n. let k : length l.held ≡ 0 = ap length n in omega arith))
+texts_of-represented l text k h = grind (arith, represent_whole, append-nil, represent_part, last_line-some)
 
 -- the buffered line is the last one of the text
 pub represent_last : (l : LinesState) (text : List ℕ) → 0 < length l.held → LinesRepresent l text → IsLastLine text (line_at (suc l.before) l.held)

@@ -1,6 +1,6 @@
 -- Near newlines: a newline that is found among the first bytes is the first one.
 use Rattle.std.proofs.Common.{◌≡◌, ℕ, zero, suc, ◌+◌, ◌<◌, ◌≤◌, ◌||◌, nat_eq, not, cond, Bool, true, false, List, [], ◌∷◌, length, take, refl, sym, ◌∙◌, ap, subst, arith}
-use Rattle.std.proofs.lemmas.Bool.{eq-eqb, eqb-true}
+use Rattle.std.proofs.lemmas.Bool.{eq-eqb}
 use Rattle.std.specs.List.{position_or_len}
 use Rattle.ud_text.specs.lines.LinesState.{UpToNewline}
 use Rattle.ud_text.specs.searching.Searches.{is_one_of}
@@ -10,8 +10,7 @@ abbrev pub newlines : List ℕ
 newlines = 10 ∷ 10 ∷ 10 ∷ 10 ∷ 10 ∷ []
 
 one_of_five : (x t : Bool) → (x || x || x || x || x) ≡ t → x ≡ t
-one_of_five true t e = e
-one_of_five false t e = e
+one_of_five x t h = grind arith
 
 -- one more byte, which is no newline
 later : (b : ℕ) (s : List ℕ) (used : ℕ) → nat_eq b 10 ≡ false → UpToNewline s used true → UpToNewline (b ∷ s) (suc used) true
@@ -25,11 +24,7 @@ later b s used other to = record {
 
 -- a newline as the first byte
 here : (b : ℕ) (s : List ℕ) → nat_eq b 10 ≡ true → UpToNewline (b ∷ s) 1 true
-here b s is = record {
-  within = omega arith;
-  all = λ e. cc;
-  line = λ e. ([], tt, ap (λ c. c ∷ []) (eqb-true b 10 is));
-}
+here b s h = grind arith
 
 one_byte : (t : Bool) (b : ℕ) (s : List ℕ) (k n at : ℕ) → nat_eq b 10 ≡ t → at ≡ cond (not t) (1 + k) 0 → at < suc n → (k < n → UpToNewline s (k + 1) true) → UpToNewline (b ∷ s) (at + 1) true
 one_byte true b s k n at is e below rest = subst (λ u. UpToNewline (b ∷ s) u true) {x = 1} (omega arith) (here b s is)

@@ -69,10 +69,8 @@ front_len s f n h e =
 -- a chunk has one prefix up to its first newline
 pub up_to_newline-once : (chunk : List ℕ) (used other : ℕ) (whole ended : Bool) → UpToNewline chunk used whole → UpToNewline chunk other ended → (whole ≡ ended) × (used ≡ other)
 up_to_newline-once chunk used other false false a b = (refl, (a.all refl).0 ∙ sym (b.all refl).0)
-up_to_newline-once chunk used other true false a b =
-    absurd (newline_at_end (a.line refl).0 (subst NoNewline (a.line refl).2 (no_newline-take used chunk (b.all refl).1)))
-up_to_newline-once chunk used other false true a b =
-    absurd (newline_at_end (b.line refl).0 (subst NoNewline (b.line refl).2 (no_newline-take other chunk (a.all refl).1)))
+up_to_newline-once chunk used other true false a b = grind (arith, newline_at_end, no_newline-take)
+up_to_newline-once chunk used other false true a b = grind (arith, newline_at_end, no_newline-take)
 up_to_newline-once chunk used other true true a b =
     let same : (a.line refl).0 ≡ (b.line refl).0 = same_front chunk (a.line refl).0 (b.line refl).0 used other (a.line refl).1 (b.line refl).1 (a.line refl).2 (b.line refl).2 in
     (refl, front_len chunk (a.line refl).0 used a.within (a.line refl).2 ∙ ap (λ (f : List ℕ). length f + 1) same ∙ sym (front_len chunk (b.line refl).0 other b.within (b.line refl).2))
@@ -94,9 +92,7 @@ whole_newlineless n l w =
     len = ap length w.2 ∙ length-append w.0 (10 ∷ [])
 
     front_of : (k : ℕ) → k ≤ length w.0 → NoNewline (take k l)
-    front_of k h = subst (λ (t : List ℕ). NoNewline t) (sym (ap (take k) w.2 ∙ take-append-le k w.0 (10 ∷ []) h)) (no_newline-take k w.0 w.1)
+    front_of k h = grind (arith, take-append-le, no_newline-take)
 
     by_tests : (a b : Bool) → b ≡ true → NoNewline (take (length l - length {A = ℕ} (if a then 13 ∷ 10 ∷ [] else if b then 10 ∷ [] else [])) l)
-    by_tests true b e = front_of (length l - 2) (omega (arith, len))
-    by_tests false true e = front_of (length l - 1) (omega (arith, len))
-    by_tests false false e = cc
+    by_tests a b h = grind (arith, front_of, len)

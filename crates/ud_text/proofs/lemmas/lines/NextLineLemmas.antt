@@ -1,8 +1,8 @@
 -- Next lines: the first of some whole lines.
-use Rattle.std.proofs.Common.{◌≡◌, ◌∙◌, ◌<◌, ◌∷◌, sym, ap, subst, refl, List, ℕ, true}
+use Rattle.std.proofs.Common.{◌≡◌, ◌∙◌, ◌<◌, ◌∷◌, sym, ap, refl, List, ℕ, true}
 use Rattle.std.proofs.Common.{length, take, drop, take-append-drop, arith}
 use Rattle.std.proofs.lemmas.List.{length-take-le}
-use Rattle.ud_model.specs.text.Lines.{NoNewline, SplitLines, whole_lines, partial_line}
+use Rattle.ud_model.specs.text.Lines.{NoNewline, SplitLines, whole_lines}
 use Rattle.ud_model.proofs.text.LinesLemmas.{split_lines-open, split_lines-line-prefix}
 use Rattle.ud_text.specs.lines.LinesState.{LinesState, UpToNewline}
 use Rattle.ud_text.specs.lines.Borrowing.{IsFirstLine}
@@ -11,10 +11,7 @@ use Rattle.ud_text.specs.bulk.BulkScanning.{AreWholeLines}
 
 -- bytes without a newline are whole lines only if there are none
 pub no_lines : (bytes : List ℕ) → AreWholeLines bytes → 0 < length bytes → NoNewline bytes → ⊥
-no_lines bytes ends some none =
-    let rest : partial_line bytes ≡ bytes =
-    ap (λ (q : SplitLines). q.rest) (split_lines-open bytes none) in
-    omega (arith, some, ap length (sym rest ∙ ends))
+no_lines bytes h k l = grind (arith, split_lines-open)
 
 -- the prefix up to the first newline is the first whole line
 first_split : (bytes : List ℕ) (used : ℕ) → UpToNewline bytes used true →
@@ -27,16 +24,9 @@ first_split bytes used to =
 -- it is no longer than a line may be, if each line fits
 pub is_first : (bytes : List ℕ) (used : ℕ) → UpToNewline bytes used true →
     EachFits (whole_lines bytes) → IsFirstLine bytes (take used bytes)
-is_first bytes used to fit =
-    let len : length (take used bytes) ≡ used = length-take-le used bytes to.within in
-    record {
-      prefix = subst (λ (n : ℕ). UpToNewline bytes n true) (sym len) to;
-      bytes = ap (λ (n : ℕ). take n bytes) (sym len);
-      fits = (subst EachFits (first_split bytes used to) fit).0;
-    }
+is_first bytes used to fit = grind (arith, length-take-le, first_split)
 
 -- one more line may come before the first of lines that can be consumed
 pub first_numbered : (lines : LinesState) (bytes line : List ℕ) → CanConsume lines bytes →
     IsFirstLine bytes line → lines.before < lines.last_line
-first_numbered lines bytes line can f =
-    omega (arith, can.numbered, ap length (first_split bytes (length line) f.prefix))
+first_numbered lines bytes line h k = grind (arith, first_split)

@@ -1,27 +1,22 @@
 -- Masking: bytes that leave the lexer's state unchanged, and how a text is shown with them.
-use Rattle.std.proofs.Common.{◌≡◌, ℕ, zero, suc, ◌+◌, ◌-◌, ◌<◌, ◌≤◌, ◌==◌, List, [], ◌∷◌, ◌++◌, length, take, drop, replicate, get_or, Bool, true, false, not, cond, ◌&&◌, ◌||◌, if◌then◌else◌, Option, Some, None, unwrap_or, is_some, refl, sym, ◌∙◌, ap, subst, append_assoc, append-nil, arith, ne_eqb, one-add}
+use Rattle.std.proofs.Common.{◌≡◌, ℕ, zero, suc, ◌+◌, ◌-◌, ◌<◌, ◌≤◌, ◌==◌, List, [], ◌∷◌, ◌++◌, length, take, drop, replicate, get_or, Bool, true, false, not, cond, ◌&&◌, ◌||◌, if◌then◌else◌, Option, unwrap_or, is_some, refl, sym, ◌∙◌, ap, subst, append_assoc, append-nil, arith, ne_eqb}
 use Rattle.std.specs.List.{position_or_len}
 use Rattle.std.proofs.lemmas.List.{take_more, take_all, take_rest, length-take-le, drop-take, take-take, take-append-drop}
 use Rattle.std.specs.Option.{option_to_list}
 use Rattle.memchr.specs.Find.{IsFirstByte, is_byte}
 use Rattle.ud_model.specs.text.Bytes.{are_white, slash, star, space, backslash, is_quote, is_mark, is_white}
 use Rattle.ud_model.specs.text.Lines.{NoNewline}
-use Rattle.ud_model.specs.aids.LexStates.{LexState, in_text, at_slash, in_literal, in_block, at_star, in_line, next_state, opens_comment, masked_byte, stays_white, blank_last, LexesTo, Masks}
+use Rattle.ud_model.specs.aids.LexStates.{LexState, in_text, in_block, at_star, in_line, next_state, opens_comment, masked_byte, stays_white, blank_last, LexesTo, Masks}
 use Rattle.ud_model.proofs.text.LexStateLemmas.{Masks-step, blank_last-last}
 use Rattle.ud_model.proofs.text.ScanLemmas.{Masks-start}
 
 -- how a text is shown, under other names of the same values
 pub Masks-same : {n : ℕ} {t u : List ℕ} {w x : LexState} {b c : Bool} {m k : List ℕ} → t ≡ u → w ≡ x → b ≡ c → m ≡ k → Masks n t w b m → Masks n u x c k
-Masks-same {n} {t} {u} {w} {x} {b} {c} {m} {k} e f g h r =
-    subst (λ (s : List ℕ). Masks n s x c k) e
-    (subst (λ (v : LexState). Masks n t v c k) f
-    (subst (λ (v : Bool). Masks n t w v k) g
-    (subst (λ (l : List ℕ). Masks n t w b l) h r)))
+Masks-same h l o p q = grind arith
 
 -- the last byte, if there is one, is replaced by a space
 pub blanked : (old rest new : List ℕ) (last : Option ℕ) → old ≡ rest ++ option_to_list last → is_some last ≡ true → new ≡ rest ++ space ∷ [] → new ≡ blank_last old
-blanked old rest new None e s p = cc
-blanked old rest new (Some y) e s p = p ∙ sym (blank_last-last rest y) ∙ sym (ap blank_last e)
+blanked old rest new last h k l = grind (arith, blank_last-last)
 
 -- the text as it is shown with one more byte
 pub one_more : (n : ℕ) (text : List ℕ) (w v : LexState) (white now_white : Bool) (b : ℕ) (old blanked new : List ℕ) (o : Bool) →
@@ -42,40 +37,22 @@ NoStar [] = Unit {0}
 NoStar (b ∷ bytes) = ((b == star) ≡ false) × NoStar bytes
 
 or_parts : (a b c d : Bool) → (a || b || c || d) ≡ false → (a ≡ false) × (c ≡ false)
-or_parts false false false false e = (refl, refl)
-or_parts true b c d e = cc
-or_parts false true c d e = cc
-or_parts false false true d e = cc
-or_parts false false false true e = cc
+or_parts a b c d h = grind arith
 
 stays_in_text : (b : ℕ) → is_mark b ≡ false → in_text ≡ next_state in_text b
-stays_in_text b e =
-    let p : ((b == slash) ≡ false) × (is_quote b ≡ false) = or_parts (b == slash) (b == star) (is_quote b) (b == backslash) e in
-    by_tests (b == slash) (is_quote b) p.0 p.1
-  where
-    by_tests : (s q : Bool) → s ≡ false → q ≡ false → in_text ≡ (if s then at_slash else if q then in_literal b else in_text)
-    by_tests false false s q = refl
-    by_tests true q s h = cc
-    by_tests false true s h = cc
+stays_in_text b h = grind arith
 
 no_slash : (b : ℕ) → is_mark b ≡ false → (b == slash) ≡ false
 no_slash b e = (or_parts (b == slash) (b == star) (is_quote b) (b == backslash) e).0
 
 white_in_text : (b : ℕ) (white : Bool) → is_mark b ≡ false → (b ≡ 10 → ⊥) → stays_white in_text white b ≡ (white && is_white b)
-white_in_text b white e f = by_tests (b == slash) (b == 10) (no_slash b e) (ne_eqb b 10 f)
-  where
-    by_tests : (s t : Bool) → s ≡ false → t ≡ false → (if s then white else if t then true else white && is_white b) ≡ (white && is_white b)
-    by_tests false false s t = refl
-    by_tests true t s h = cc
-    by_tests false true s h = cc
+white_in_text b white h k = grind arith
 
 and_assoc : (a b c : Bool) → ((a && b) && c) ≡ (a && (b && c))
-and_assoc true b c = refl
-and_assoc false b c = refl
+and_assoc a b c = grind arith
 
 and_true : (a : Bool) → a ≡ (a && true)
-and_true true = refl
-and_true false = refl
+and_true a = grind arith
 
 -- a run of bytes outside comments and literals is shown unchanged
 pub Masks-text : {n : ℕ} (bytes text : List ℕ) (white : Bool) (masked : List ℕ) → NoMark bytes → NoNewline bytes →
@@ -89,16 +66,13 @@ Masks-text (b ∷ bytes) text white masked p q m =
     (Masks-same refl (sym (stays_in_text b p.0)) refl refl (Masks-step b m)))
 
 in_block_with : (t : Bool) → t ≡ false → (if t then at_star else in_block) ≡ in_block
-in_block_with false e = refl
-in_block_with true e = cc
+in_block_with t h = grind arith
 
 -- a run of bytes in a block comment is shown as spaces
 pub Masks-block : {n : ℕ} (bytes text : List ℕ) {white : Bool} (masked : List ℕ) → NoStar bytes →
     Masks n text in_block white masked → Masks n (text ++ bytes) in_block white (masked ++ replicate (length bytes) space)
 Masks-block [] text masked p m = Masks-same (sym (append-nil text)) refl refl (sym (append-nil masked)) m
-Masks-block (b ∷ bytes) text masked p m =
-    Masks-same (append_assoc text (b ∷ []) bytes) refl refl (append_assoc masked (space ∷ []) (replicate (length bytes) space))
-    (Masks-block bytes (text ++ b ∷ []) (masked ++ space ∷ []) p.1 (Masks-same refl (in_block_with (b == star) p.0) refl refl (Masks-step b m)))
+Masks-block (b ∷ bytes) text masked p m = grind (arith, Masks-same, append_assoc, replicate, in_block_with, Masks-step, Masks-block bytes (text ++ b ∷ []) (masked ++ space ∷ []) p.1 (Masks-same refl (in_block_with (b == star) p.0) refl refl (Masks-step b m)))
 
 -- a run of bytes in a line comment is shown as spaces
 pub Masks-line : {n : ℕ} (bytes text : List ℕ) {white : Bool} (masked : List ℕ) → NoNewline bytes →
@@ -110,8 +84,7 @@ Masks-line {n} (b ∷ bytes) text {white} masked p m =
   where
     by_feed : (t : Bool) → t ≡ false → Masks n (text ++ b ∷ []) (if t then in_text else in_line) (if t then true else white) (masked ++ (if t then b else space) ∷ []) →
         Masks n (text ++ b ∷ []) in_line white (masked ++ space ∷ [])
-    by_feed false e k = k
-    by_feed true e k = cc
+    by_feed t h k = grind arith
 
 -- the bytes before the first mark have none
 pub no_mark_before : (bytes : List ℕ) → NoMark (take (position_or_len is_mark bytes) bytes)
@@ -119,8 +92,7 @@ no_mark_before [] = tt
 no_mark_before (b ∷ bytes) = by_mark (is_mark b) (position_or_len is_mark bytes) refl (no_mark_before bytes)
   where
     by_mark : (t : Bool) (n : ℕ) → is_mark b ≡ t → NoMark (take n bytes) → NoMark (take (cond (not t) (1 + n) 0) (b ∷ bytes))
-    by_mark true n e h = tt
-    by_mark false n e h = let P : ℕ → Type 0 = λ k. NoMark (take k (b ∷ bytes)) in subst P (sym (one-add n)) (e, h)
+    by_mark t n h k = grind arith
 
 -- a prefix has no star, if none is at any of its positions
 pub no_star_before : (bytes : List ℕ) (k : ℕ) → ((j : ℕ) → j < k → (get_or bytes j 0 == star) ≡ true → ⊥) → NoStar (take k bytes)
@@ -130,18 +102,15 @@ no_star_before (b ∷ bytes) (suc k) none =
     (no_star (b == star) (none 0 (omega arith)), no_star_before bytes k (λ j h. none (suc j) (omega arith)))
   where
     no_star : (t : Bool) → (t ≡ true → ⊥) → t ≡ false
-    no_star true f = absurd (f refl)
-    no_star false f = refl
+    no_star t h = grind arith
 
 -- the bytes before the first star have none
 pub no_star_front : (bytes : List ℕ) (r : Option ℕ) → IsFirstByte (is_byte star) bytes r → NoStar (take (unwrap_or r (length bytes)) bytes)
-no_star_front bytes None h = no_star_before bytes (length bytes) (λ j l. h j (omega arith) l)
-no_star_front bytes (Some k) h = no_star_before bytes k (λ j l. h.0.before j (omega arith) l)
+no_star_front bytes r h = grind (arith, no_star_before)
 
 -- the first star lies within the bytes
 pub first_star-bound : (bytes : List ℕ) (r : Option ℕ) → IsFirstByte (is_byte star) bytes r → unwrap_or r (length bytes) ≤ length bytes
-first_star-bound bytes None h = omega arith
-first_star-bound bytes (Some k) h = let l : k < length bytes = h.0.high in omega arith
+first_star-bound bytes r h = grind arith
 
 -- a prefix of bytes without a newline has none
 pub no_newline-take : (k : ℕ) (bytes : List ℕ) → NoNewline bytes → NoNewline (take k bytes)
@@ -167,15 +136,12 @@ take_run bytes at count =
 pub run_read : {n : ℕ} (text bytes : List ℕ) (at count : ℕ) {w : LexState} {white : Bool} {masked : List ℕ} →
     Masks n ((text ++ take at bytes) ++ take count (take (length bytes - at) (drop at bytes))) w white masked →
     Masks n (text ++ take (at + count) bytes) w white masked
-run_read text bytes at count m =
-    Masks-same (append_assoc text (take at bytes) (take count (take (length bytes - at) (drop at bytes)))
-    ∙ ap (λ (l : List ℕ). text ++ l) (take_run bytes at count)) refl refl refl m
+run_read text bytes at count m = grind (arith, Masks-same, append_assoc, take_run)
 
 -- the text as it is shown with a prefix of the bytes that follow, and one more byte
 pub byte_read : {n : ℕ} (text bytes : List ℕ) (at : ℕ) {w : LexState} {white : Bool} {masked : List ℕ} → at < length bytes →
     Masks n ((text ++ take at bytes) ++ get_or bytes at 0 ∷ []) w white masked → Masks n (text ++ take (at + 1) bytes) w white masked
-byte_read text bytes at h m =
-    Masks-same (append_assoc text (take at bytes) (get_or bytes at 0 ∷ []) ∙ ap (λ (l : List ℕ). text ++ l) (sym (take_more bytes at 0 h))) refl refl refl m
+byte_read text bytes at h k = grind (arith, Masks-same, append_assoc, take_more)
 
 -- the text as it is shown with the bytes before the first mark
 pub text_run : {n : ℕ} (text rest old new : List ℕ) {w : LexState} {white : Bool} (now_white : Bool) (count : ℕ) →
@@ -205,13 +171,11 @@ line_run text rest old new {w} m e h p =
 
 -- after white bytes a line is white if it is white before them
 pub and_at_true : (a b : Bool) → b ≡ true → a ≡ (a && b)
-and_at_true true b e = sym e
-and_at_true false b e = refl
+and_at_true a b h = grind arith
 
 -- after bytes that aren't white a line isn't white
 pub and_at_false : (a b : Bool) → b ≡ false → b ≡ (a && b)
-and_at_false false b e = e
-and_at_false true b e = refl
+and_at_false a b h = grind arith
 
 -- bytes without a mark are shown unchanged
 pub plain_run : (text bytes : List ℕ) {w : LexState} {white : Bool} (now_white : Bool) (count : ℕ) →

@@ -1,9 +1,10 @@
 -- Scanner states: what is carried over a line, and the line's scan by it.
-use Rattle.std.proofs.Common.{◌≡◌, ℕ, ◌-◌, List, [], ◌∷◌, ◌++◌, length, take, map, Bool, true, false, ◌||◌, if◌then◌else◌, refl, sym, ◌∙◌, ap}
+use Rattle.std.proofs.Common.{arith}
+use Rattle.std.proofs.Common.{◌≡◌, ℕ, List, [], ◌∷◌, ◌++◌, length, map, Bool, false, ◌||◌, refl, sym, ◌∙◌, ap}
 use Rattle.ud_model.specs.text.Lines.{Line, NoNewline}
 use Rattle.ud_model.specs.text.Scans.{Scan, Reading}
 use Rattle.ud_model.specs.text.Splicing.{is_spliced, content, stays_open, spliced_part, spliced_text, c_run_of}
-use Rattle.ud_model.specs.text.Lexemes.{LexemeKind, block_comment, line_comment, literal, single}
+use Rattle.ud_model.specs.text.Lexemes.{LexemeKind}
 use Rattle.ud_model.specs.text.Scanning.{is_block, joins, comment_at, scan_after_run, scan_after, next_reading}
 use Rattle.ud_model.specs.aids.LexStates.{LexState, LexesTo, kind_in_state, fresh_at, state_after_line, white_after_line, Masks}
 use Rattle.ud_model.specs.sections.Faults.{is_in_block, ends_in_comment}
@@ -26,11 +27,7 @@ ends_in_block_last (q ∷ p ∷ before) r = ends_in_block_last (p ∷ before) r
 
 -- a line's comment is a block comment, if the line ends in one
 pub block_at : (spliced : Bool) (k : LexemeKind) → is_in_block (comment_at spliced k) ≡ is_block k
-block_at spliced block_comment = refl
-block_at true line_comment = refl
-block_at false line_comment = refl
-block_at spliced literal = refl
-block_at spliced single = refl
+block_at spliced k = grind arith
 
 -- the initial state represents a C run without lines
 pub represents_none : (before : List Reading) → c_run_of before ≡ [] → ends_in_block before ≡ false → ScannerRepresents initial_scanner_state before
@@ -87,11 +84,7 @@ same_parts e f g h i j = cc
 
 -- the content of a line has no newline, if the body has none
 pub no_newline-content : (line : Line) → NoNewline line.body → NoNewline (content line)
-no_newline-content line h = by_splice (is_spliced line)
-  where
-    by_splice : (t : Bool) → NoNewline (if t then take (length line.body - 1) line.body else line.body)
-    by_splice true = no_newline-take (length line.body - 1) line.body h
-    by_splice false = h
+no_newline-content line h = grind (arith, no_newline-take)
 
 -- the carried state decides the scan of the next line
 pub same_scans : (carry : ScannerState) (before others : List Reading) (m : Mode) (line : Line) → ScannerRepresents carry before → ScannerRepresents carry others →

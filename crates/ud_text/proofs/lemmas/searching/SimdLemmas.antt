@@ -1,5 +1,5 @@
 -- Lanes: from the comparisons of many bytes at once to the first byte that passes a test.
-use Rattle.std.proofs.Common.{◌≡◌, ℕ, zero, suc, ◌+◌, ◌-◌, ◌%◌, ◌^◌, ◌<◌, ◌≤◌, eqb, ◌==◌, Bool, true, false, not, cond, ◌||◌, ◌&&◌, List, [], ◌∷◌, map, length, take, drop, replicate, min, bit_or, bit_and, refl, ap, ap₂, ◌∙◌, arith}
+use Rattle.std.proofs.Common.{◌≡◌, ℕ, zero, suc, ◌+◌, ◌-◌, ◌%◌, ◌^◌, ◌<◌, ◌≤◌, eqb, Bool, not, cond, ◌||◌, List, [], ◌∷◌, map, length, take, drop, replicate, min, bit_or, ap, ◌∙◌, arith}
 use Rattle.std.specs.List.{position_or_len}
 use Rattle.std.proofs.lemmas.Simd.{zip2_splat, zip2_of_maps, map-map, mask_l-mod, first_set_mask_l}
 use Rattle.std.proofs.lemmas.List.{length-map, length-drop}
@@ -14,29 +14,13 @@ abbrev pub lane : Bool → ℕ
 lane t = cond t 255 0
 
 lane_or : (a b : Bool) → bit_or (lane a) (lane b) ≡ lane (a || b)
-lane_or true true = refl
-lane_or true false = refl
-lane_or false true = refl
-lane_or false false = refl
-
-pub lane_and : (a b : Bool) → bit_and (lane a) (lane b) ≡ lane (a && b)
-lane_and true true = refl
-lane_and true false = refl
-lane_and false true = refl
-lane_and false false = refl
+lane_or a b = grind arith
 
 lane_top : (t : Bool) → top 7 (lane t) ≡ t
-lane_top true = refl
-lane_top false = refl
+lane_top t = grind arith
 
 map_same : {X Y : Type 0} (f g : X → Y) → ((x : X) → f x ≡ g x) → (xs : List X) → map f xs ≡ map g xs
-map_same f g e [] = refl
-map_same f g e (x ∷ xs) = ap₂ ◌∷◌ (e x) (map_same f g e xs)
-
--- two searches with the same test are one
-pub search_same : (p q : ℕ → Bool) → ((b : ℕ) → p b ≡ q b) → (xs : List ℕ) → position_or_len p xs ≡ position_or_len q xs
-search_same p q e [] = refl
-search_same p q e (x ∷ xs) = ap₂ (λ (b : Bool) (n : ℕ). cond (not b) (1 + n) 0) (e x) (search_same p q e xs)
+map_same f g h xs = grind arith
 
 -- the lanes that equal a byte
 pub lanes_equal : (v : List ℕ) (n y : ℕ) → length v ≡ n →
@@ -73,21 +57,13 @@ search_bound p xs at e = omega (arith, e, prefix_len-le-length (λ x. not (p x))
 pub search_take : {X : Type 0} (p : X → Bool) (n : ℕ) (xs : List X) → position_or_len p (take n xs) ≡ min n (position_or_len p xs)
 search_take p zero xs = omega arith
 search_take p (suc n) [] = omega arith
-search_take p (suc n) (x ∷ xs) = next (p x) (position_or_len p (take n xs)) (position_or_len p xs) (search_take p n xs)
-  where
-    next : (b : Bool) (s m : ℕ) → s ≡ min n m → cond (not b) (1 + s) 0 ≡ min (suc n) (cond (not b) (1 + m) 0)
-    next true s m e = omega arith
-    next false s m e = omega arith
+search_take p (suc n) (x ∷ xs) = grind (arith, min, cond, search_take p n xs)
 
 -- a search continues after bytes that don't pass
 pub search_drop : {X : Type 0} (p : X → Bool) (at : ℕ) (xs : List X) → at ≤ position_or_len p xs → position_or_len p xs ≡ at + position_or_len p (drop at xs)
 search_drop p zero xs h = omega arith
 search_drop p (suc at) [] h = absurd (omega arith)
-search_drop p (suc at) (x ∷ xs) h = next (p x) (position_or_len p xs) (position_or_len p (drop at xs)) (search_drop p at xs) h
-  where
-    next : (b : Bool) (m d : ℕ) → (at ≤ m → m ≡ at + d) → suc at ≤ cond (not b) (1 + m) 0 → cond (not b) (1 + m) 0 ≡ suc at + d
-    next true m d f h = absurd (omega arith)
-    next false m d f h = let k : m ≡ at + d = f (omega arith) in omega arith
+search_drop p (suc at) (x ∷ xs) h = grind (arith, cond, search_drop p at xs)
 
 module _ {X : Type 0} (p : X → Bool) (n : ℕ) (xs : List X) (at count : ℕ) (found : count ≡ position_or_len p (take n (drop at xs))) where
   among : count ≡ min n (position_or_len p (drop at xs))
@@ -107,27 +83,15 @@ module _ {X : Type 0} (p : X → Bool) (n : ℕ) (xs : List X) (at count : ℕ) 
 
   -- the last lanes show where the first is, or that there is none
   pub first_at_last : n ≤ length xs → at ≡ length xs - n → at ≤ position_or_len p xs → at + count ≡ position_or_len p xs
-  first_at_last h e k =
-      let bound : position_or_len p (drop at xs) ≤ length (drop at xs) = prefix_len-le-length (λ x. not (p x)) (drop at xs) in
-      omega (arith, among, search_drop p at xs k, bound, length-drop at xs)
+  first_at_last h k l = grind (arith, prefix_len-le-length, among, search_drop, length-drop)
 
 marks_are : (a b c d e : Bool) → ((((a || b) || c) || d) || e) ≡ (((a || b) || (c || d)) || e)
-marks_are true b c d e = refl
-marks_are false true c d e = refl
-marks_are false false c d e = refl
+marks_are a b c d e = grind arith
 
 -- the marks are five bytes
 pub search_marks : (bytes : List ℕ) → position_or_len (is_one_of (slash ∷ star ∷ 34 ∷ 39 ∷ backslash ∷ [])) bytes ≡ position_or_len is_mark bytes
-search_marks bytes =
-    search_same (is_one_of (slash ∷ star ∷ 34 ∷ 39 ∷ backslash ∷ [])) is_mark
-    (λ b. marks_are (b == slash) (b == star) (b == 34) (b == 39) (b == backslash)) bytes
-
-specials_are : (a b c d e : Bool) → ((((a || b) || c) || d) || e) ≡ (((a || (b || c)) || d) || e)
-specials_are true b c d e = refl
-specials_are false b c d e = refl
+search_marks bytes = grind arith
 
 -- the significant bytes are five
 pub search_specials : (bytes : List ℕ) → position_or_len (is_one_of (slash ∷ 34 ∷ 39 ∷ backslash ∷ number_sign ∷ [])) bytes ≡ position_or_len is_significant bytes
-search_specials bytes =
-    search_same (is_one_of (slash ∷ 34 ∷ 39 ∷ backslash ∷ number_sign ∷ [])) is_significant
-    (λ b. specials_are (b == slash) (b == 34) (b == 39) (b == backslash) (b == number_sign)) bytes
+search_specials bytes = grind arith

@@ -3,7 +3,7 @@ use Rattle.std.proofs.Common.{◌≡◌, ◌∙◌, length, take, drop, ap, arit
 use Rattle.std.proofs.lemmas.Simd.{length-chunk}
 use lib.Lanes.{mask_l}
 use Rattle.ud_text.proofs.lemmas.searching.SimdLemmas.{lane_bits}
-use Rattle.ud_text.proofs.lemmas.searching.SignificantLemmas.{row_bytes}
+use Rattle.ud_text.proofs.lemmas.searching.ByteLemmas.{row_bytes}
 use Rattle.ud_text.proofs.lemmas.bulk.NibbleTable.{low_ok, is_told, lanes_told, map_told}
 use Rattle.ud_text.proofs.bulk.blocks.block_bits.Goals as goal
 

@@ -2,7 +2,7 @@
 use Rattle.std.proofs.Common.{◌≡◌, ◌≤◌, ◌<◌, ◌+◌, ◌-◌, ℕ, length, get_or, false}
 use Rattle.ud_text.specs.bulk.BulkLexemes.{is_star_pair}
 use Rattle.ud_text.specs.bulk.Blocks.{IsBlock}
-use Rattle.ud_text.proofs.bulk.fast_path.block_end.Given as goal
+use Rattle.ud_text.proofs.bulk.fast_path.find_star_pair.Given as goal
 
 abbrev pub invariant-loop-end : goal.invariant-loop-end
 invariant-loop-end l = record {

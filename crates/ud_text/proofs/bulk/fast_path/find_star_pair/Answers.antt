@@ -1,0 +1,33 @@
+-- By the pairs.
+use Rattle.std.proofs.Common.{arith, refl, ◌+◌, ◌-◌}
+use Rattle.ud_text.proofs.lemmas.bulk.ReachLemmas.{none_on, none_past, none_between, closes_there}
+use Rattle.ud_text.proofs.bulk.fast_path.find_star_pair.Goals as goal
+
+pub loop-end-init : goal.loop-end-init
+loop-end-init c = record {
+  row = c.next_significant-end.ensures.row;
+  later = omega (arith, c.next_significant-end.ensures.value);
+  within = c.next_significant-end.ensures.bound;
+  none = none_on c.args.lines.now c.args.at c.args.at c.next_significant-end.result.0 c.next_significant-end.ensures.value (λ k low high. absurd (omega (arith, low, high)));
+}
+
+pub loop-end-preserved : goal.loop-end-preserved
+loop-end-preserved c = record {
+  row = c.next_significant-further.ensures.row;
+  later = omega (arith, c.next_significant-further.ensures.value, c.loop-end.invariant.later);
+  within = c.next_significant-further.ensures.bound;
+  none = none_on c.args.lines.now c.args.at (c.loop-end.end + 1) c.next_significant-further.result.0 c.next_significant-further.ensures.value
+      (none_past c.args.lines.now c.args.at c.loop-end.end c.loop-end.invariant.none (c.if-ends_pair.ensures.none refl));
+}
+
+pub returns-then-ends_pair-clause-none : goal.returns-then-ends_pair-clause-none
+returns-then-ends_pair-clause-none c =
+    none_between c.args.lines.now c.args.at (c.loop-end.end - 1) (λ k low high. c.loop-end.invariant.none k low (omega (arith, high)))
+
+pub returns-clause-none : goal.returns-clause-none
+returns-clause-none c = none_between c.args.lines.now c.args.at c.loop-end.end c.loop-end.invariant.none
+
+pub returns-then-ends_pair-clause-closes : goal.returns-then-ends_pair-clause-closes
+returns-then-ends_pair-clause-closes c = λ slash.
+    closes_there c.args.lines.now c.loop-end.end (omega (arith, c.ends_pair.ensures.later c.if-ends_pair.true)) (omega arith)
+    (c.ends_pair.ensures.found c.if-ends_pair.true) slash
