@@ -20,7 +20,6 @@ pub mod ResidualTruth
 pub mod ResidualShape
 pub mod KeptTokens
 pub mod ResidualRead
-pub mod ResidualAgain
 pub mod ResidualUnknown
 pub mod ResidualSame
 pub mod ReducedTrees

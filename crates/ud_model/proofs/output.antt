@@ -8,7 +8,6 @@ pub mod ExchangedContent
 pub mod ExchangedScan
 pub mod DirectiveFront
 pub mod TreeAlong
-pub mod Rereads
 pub mod Undecided
 pub mod KeywordPlace
 pub mod EditedScan
@@ -42,18 +41,14 @@ pub mod RereadStep
 pub mod LeftItems
 pub mod LeftLines
 pub mod LeftScans
-pub mod LeftReadings
 pub mod RereadMore
-pub mod LeftPlain
-pub mod LeftCode
-pub mod SoundBounds
+pub mod LeftModes
 pub mod SoundAgain
 pub mod LeavesOff
 pub mod OutputPieces
 pub mod CConditions
 pub mod CSelected
 pub mod SeenLines
-pub mod PrunedOpeners
 pub mod AnswerLaws
 pub mod WorldsExist
 pub mod ListComplete
@@ -63,6 +58,8 @@ pub mod SharedLineLemmas
 pub mod StrictTrees
 pub mod StrictRuns
 pub mod FoldedLines
+pub mod FoldedReadings
+pub mod LogicalSelected
 pub mod LoneLines
 pub mod Inserting
 pub mod CountedLines
@@ -86,9 +83,6 @@ pub mod SimplifiedItems
 pub mod SimplifiedTree
 pub mod SimplifiedLineTexts
 pub mod SimplifiedAgain
-pub mod SimplifiedBytes
-pub mod OperandsLeft
-pub mod SimplifiedAnswers
 pub mod ChosenWorlds
 pub mod SimplifiedRuns
 pub mod PartTrees

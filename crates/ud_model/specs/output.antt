@@ -18,4 +18,5 @@ pub mod LeftOperands
 pub mod Processing
 pub mod ProcessedFiles
 pub mod FoldedTexts
+pub mod LogicalTrees
 pub mod TextsInParts

@@ -2,6 +2,7 @@
 
 ghost use Rattle.std.specs.Prelude.{◌≡◌, ◌↔◌, ◌⊎◌, ℕ, List, [], ◌∷◌, ◌++◌, map};
 ghost use Rattle.std.specs.Prelude.{Some, Bool, true, false};
+ghost use Rattle.std.specs.List.{flat_map};
 ghost use Rattle.ud_model.specs.text.Lines.{Line, lines_of};
 ghost use Rattle.ud_model.specs.text.Scans.{Reading};
 ghost use Rattle.ud_model.specs.text.Lexemes.{Cell, shown};
@@ -28,7 +29,10 @@ ghost use Rattle.ud_model.specs.output.SimplifiedTrees.{NodesSimplified, IsChose
 ghost use Rattle.ud_model.specs.output.SimplifiedTexts.{simplified_line, simplified_text};
 ghost use Rattle.ud_model.specs.output.LeftOperands.{IsReduced, MayStay};
 ghost use Rattle.ud_model.specs.output.FoldedTexts.{folded_text, folded_line, is_foldable};
-ghost use Rattle.ud_model.specs.output.FoldedTexts.{continued, shown_lines, IsReadAs};
+ghost use Rattle.ud_model.specs.output.FoldedTexts.{continued, shown_lines, IsReadAs, has_tab};
+ghost use Rattle.ud_model.specs.output.FoldedTexts.{logical_lines, folded_readings, unnumbered};
+ghost use Rattle.ud_model.specs.output.FoldedTexts.{c_lines};
+ghost use Rattle.ud_model.specs.output.LogicalTrees.{CSelects, HasNoLong};
 ghost use Rattle.ud_model.specs.answer.CommandLine.{options_of};
 ghost use Rattle.ud_model.specs.answer.Answer.{Answer, IsAnswer, Succeeds, copy_answer};
 ghost use Rattle.ud_model.specs.declared.cond.Cond.{Cond};
@@ -37,8 +41,8 @@ ghost use Rattle.ud_model.specs.declared.kind.Test.{Test};
 
 /// The residual of a condition is true exactly if the condition is.
 ///
-/// Each use of an open name may have any number, and the decided names have those of the table. If
-/// C then gives the condition a value, it gives one to the residual, by the same numbers. Both
+/// Each use of an open name may have any number, and decided names have those of the table. If C
+/// then gives the condition a value, it also gives the residual one, by the same numbers. Both
 /// values are 0, or neither is (C11 6.5.13p3, 6.5.14p3, 6.10.1p6).
 pub fn law_residual_truth()
     ensures truth { (table : List Argument) (rules : Rules) (e : Expression) (m : Choice e)
@@ -57,7 +61,7 @@ pub fn law_residual_truth()
 /// The residual of a condition has tokens of the condition, in their order, and no others.
 ///
 /// Each operand that is left is unknown as a condition of its own, unless `&&` and `||` are strict.
-/// A second time nothing is removed, and the simplified form of an unknown condition is unknown.
+/// Simplifying again removes nothing, and the simplified form of an unknown condition is unknown.
 pub fn law_residual_shape()
     ensures tokens { (table : List Argument) (rules : Rules) (e : Expression) →
         IsSublist (spelling (residual table rules e).tree) (spelling e) }
@@ -77,7 +81,7 @@ pub fn law_residual_shape()
 
 /// A simplified text is read as the residual of its tree, or is the text itself.
 ///
-/// Cells are only removed, and none moves. A second time nothing is removed (C11 6.10.1).
+/// Cells are only removed, and none moves. Simplifying again removes nothing (C11 6.10.1).
 pub fn law_residual_text()
     ensures read { (table : List Argument) (rules : Rules) (e : Expression) (cells : List Cell) →
         expression_of (map shown cells) ≡ Some e → (f : Expression) ×
@@ -90,10 +94,10 @@ pub fn law_residual_text()
         simplified_cells table rules cells }
 {}
 
-/// C selects the same lines of a tree and of the tree with simplified conditions.
+/// C selects the same lines from a tree and from the tree with simplified conditions.
 ///
 /// Each use of an open name may have any number. By these numbers, each condition that C evaluates
-/// has the truth of the condition from which it comes (C11 6.10.1p4, p6).
+/// has the truth of the condition it comes from (C11 6.10.1p4, p6).
 pub fn law_residual_selects()
     ensures selected { (table : List Argument) (rules : Rules) (w v : World Reading)
         (ns us : Nodes Reading) → NodesSimplified table rules w v ns us →
@@ -118,7 +122,7 @@ pub fn law_other_lines_stay()
 
 /// A simplified text has bytes of the text, in their order, and no others.
 ///
-/// A second time nothing is removed.
+/// Simplifying again removes nothing.
 pub fn law_simplified_text()
     ensures bytes { (table : List Argument) (rules : Rules) (bytes : List ℕ) →
         IsSublist (simplified_text table rules bytes) bytes }
@@ -127,10 +131,10 @@ pub fn law_simplified_text()
         simplified_text table rules bytes }
 {}
 
-/// A simplified text keeps an operand that the table decides only for one of a few reasons.
+/// A simplified text keeps a decided operand only for one of a few reasons.
 ///
 /// Each `#if` and `#elif` of the text is reduced, or may stay as it is. In a reduced condition no
-/// operand can be removed. So each operand is unknown by itself, unless `&&` and `||` are strict.
+/// operand can be removed. So each one is unknown by itself, unless `&&` and `||` are strict.
 pub fn law_operands_left()
     ensures { (table : List Argument) (rules : Rules) (bytes : List ℕ) (before after : List Reading)
         (r : Reading) (d : Directive) →
@@ -154,11 +158,11 @@ pub fn law_simplified_tree()
         NodesSimplified o.table (rules_of o.settings) w v ns us) }
 {}
 
-/// C selects the same lines of the simplified output as of the input.
+/// C selects the same lines from the simplified output as from the input.
 ///
 /// `x` gives the conditions of the output the truths that C may give those of the input, and `v`
-/// gives these truths to the conditions of the simplified output. By the same numbers for the uses
-/// of the open names, each of them has this truth (C11 5.1.1.2, 6.10.1p4, p6).
+/// gives these truths to the conditions of the simplified output. With the same numbers for the
+/// uses of open names, each of them has this truth (C11 5.1.1.2, 6.10.1p4, p6).
 ///
 /// A further run over the simplified output copies it, without a fault (unifdef(1)).
 pub fn law_answer_simplified()
@@ -185,7 +189,8 @@ pub fn law_answer_simplified()
 ///
 /// Its masked bytes are theirs, with white space in place of each newline that continues the
 /// directive. It has the kind and the keyword that are on the first of the lines. After that come
-/// the tokens of the logical line, which the newlines don't part (C11 5.1.1.2, phases 2 and 3).
+/// the bytes of the logical line but for white space, and its tokens, which the newlines don't part
+/// (C11 5.1.1.2, phases 2 and 3).
 pub fn law_folded_lines()
     ensures masked { (rs : List Reading) → is_foldable rs ≡ true →
         (scan_after_run [] (folded_line rs)).masked ≡ shown_lines rs }
@@ -196,12 +201,34 @@ pub fn law_folded_lines()
         directive e) × IsReadAs e d (continued after) }
 {}
 
-/// C selects the same lines of a text that is simplified while it is folded.
+/// C reads the same logical lines in a folded text as in the text.
+///
+/// Each logical line stays, or is folded to one line that is read by itself. A directive keeps its
+/// kind, and the bytes after its keyword but for white space. All other lines keep their bytes and
+/// their scans. No line is lost, and only the numbers of lines change.
+///
+/// So C selects the same lines of both texts by the same truths of their conditions, if no
+/// directive of the folded text is over several lines (C11 5.1.1.2, phases 2 and 3, 6.10p2).
+pub fn law_folded_text()
+    ensures all { (bytes : List ℕ) → let rs = read_as Mode.C bytes in
+        flat_map (λ (line : List Reading). line) (logical_lines rs) ≡ rs }
+    ensures readings { (bytes : List ℕ) → has_tab bytes ≡ false →
+        map unnumbered (read_as Mode.C (folded_text bytes)) ≡
+        map unnumbered (flat_map folded_readings (logical_lines (read_as Mode.C bytes))) }
+    ensures same { (bytes : List ℕ) → c_lines (folded_text bytes) ≡ c_lines bytes }
+    ensures selected { (o : Options) → IsPlainC o → (bytes : List ℕ) →
+        HasNoLong (folded_text bytes) → (ns : Nodes Reading) →
+        IsTreeOf o (folded_text bytes) (closed ns) → (w : World Reading) →
+        CSelects bytes (map w (openers ns)) (selected_bytes w ns) }
+{}
+
+/// C selects the same lines from a text that is simplified while it is folded.
 ///
 /// The run is over the folded input, and `final` is a text that gives the simplified output if it
-/// is folded. This is about the folded texts. `law_folded_lines` says how C reads a directive
-/// before it is folded (C11 5.1.1.2, phases 2 and 3). A further run over the folded `final` copies
-/// it, without a fault, and no operand goes (unifdef(1)).
+/// is folded. C selects the same lines of both folded texts. If no directive of these is over
+/// several lines, C selects the same lines of the input and of `final`, by their logical lines
+/// (C11 5.1.1.2, 6.10p2, 6.10.1p6). A further run over the folded `final` copies it, without a
+/// fault, and no operand goes (unifdef(1)).
 pub fn law_answer_folded()
     ensures selected { (args : List (List ℕ)) (input final : List ℕ) (a : Answer) →
         Succeeds args (folded_text input) a → IsPlainC (options_of args) →
@@ -212,6 +239,17 @@ pub fn law_answer_folded()
         IsTreeOf (options_of args) (folded_text final) (closed ss) → (w x v : World Reading) →
         IsCPair (options_of args) w ns x us → map v (openers ss) ≡ map x (openers us) →
         selected_bytes v ss ≡ selected_bytes w ns }
+    ensures file { (args : List (List ℕ)) (input final : List ℕ) (a : Answer) →
+        Succeeds args (folded_text input) a → IsPlainC (options_of args) →
+        folded_text final ≡ simplified_text (options_of args).table
+        (rules_of (options_of args).settings) a.output → HasNoLong (folded_text input) →
+        HasNoLong (folded_text final) → (ns us ss : Nodes Reading) →
+        IsTreeOf (options_of args) (folded_text input) (closed ns) →
+        IsTreeOf (options_of args) a.output (closed us) →
+        IsTreeOf (options_of args) (folded_text final) (closed ss) → (w x v : World Reading) →
+        IsCPair (options_of args) w ns x us → map v (openers ss) ≡ map x (openers us) →
+        CSelects input (map w (openers ns)) (selected_bytes w ns) ×
+        CSelects final (map v (openers ss)) (selected_bytes w ns) }
     ensures again { (args : List (List ℕ)) (input final : List ℕ) (a : Answer) →
         Succeeds args (folded_text input) a → IsPlainC (options_of args) →
         folded_text final ≡ simplified_text (options_of args).table
@@ -221,13 +259,13 @@ pub fn law_answer_folded()
         (folded_text final) ≡ folded_text final) }
 {}
 
-/// C selects the same lines of the simplified output as of the input, by any numbers.
+/// C selects the same lines from the simplified output as from the input, for any numbers.
 ///
 /// The arguments only decide conditions, without `-t`, and the input has no fault. In the world `w`
 /// each condition of the input that C evaluates has a truth that some numbers for the uses of the
-/// open names give it. Each opener of the simplified output has in `v` the truth of the opener from
-/// which it comes. C then selects the same lines, byte by byte. Each condition of the simplified
-/// output that it evaluates has a value with this truth (C11 5.1.1.2, 6.10.1p4, p6).
+/// open names give it. In `v` each opener of the simplified output has the truth of the opener it
+/// comes from. C then selects the same lines, byte by byte. Each condition of the simplified output
+/// that it evaluates has a value with this truth (C11 5.1.1.2, 6.10.1p4, p6).
 pub fn law_answer_chosen()
     ensures tree { (args : List (List ℕ)) (input : List ℕ) (a : Answer) → Succeeds args input a →
         IsPlainC (options_of args) → (ns : Nodes Reading) →

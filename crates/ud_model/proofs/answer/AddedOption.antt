@@ -8,9 +8,8 @@ use Rattle.std.proofs.lemmas.Str.{encodes-chars, IsUtf8-append, IsUtf8-from_asci
 use Rattle.std.proofs.lemmas.Str.Ascii.{IsAscii-nil, IsAscii-cons}
 use Rattle.ud_model.specs.text.Bytes.{hyphen, equals_sign, is_word_byte, are_word_bytes}
 use Rattle.ud_model.specs.conditions.Table.{Argument, Entry, entry_from, entry_in}
-use Rattle.ud_model.specs.answer.CommandLine.{ParsedArg, flag, option, operand, unknown, lacking, has_letter, is_flag, takes_argument, parsed_from, parsed_args, parse_symbol, symbol_named, mode_or, parse_exit_mode, mode_from, has_flag, settings_in, argument_in, options_of, argument_fault, first_fault, usage_fault}
+use Rattle.ud_model.specs.answer.CommandLine.{ParsedArg, flag, option, operand, unknown, lacking, has_letter, is_flag, takes_argument, parsed_from, parsed_args, parse_symbol, symbol_named, mode_or, parse_exit_mode, mode_from, has_flag, settings_in, argument_in, options_of, argument_fault, first_fault, usage_fault, WordGives, then_gives, letters_give, option_gives, given_next}
 use Rattle.ud_model.specs.answer.SymbolArguments.{is_name, name_before_equals, value_after_equals, value_or_one}
-use Rattle.ud_model.specs.answer.CommandLine.{WordGives, then_gives, letters_give, option_gives, given_next}
 use Rattle.ud_model.specs.answer.OptionArguments.{AreOptions, no_options, whole_word, two_words, IsSymbolOption, defines, defines_as, undefines, AddsSymbol}
 use Rattle.ud_model.specs.declared.settings.ExitMode.{ExitMode}
 use Rattle.ud_model.proofs.answer.WordLemmas.{options_given}
@@ -233,16 +232,14 @@ with_option before after name w adds =
         let gs : List ParsedArg = parsed_from m after in
         let k : Same hs gs = given_same (suc m) m after in
         let said : Argument = record { name = name; entry = g.entry } in
-        let here : parsed_args (before ++ w ∷ after) ≡ s.given ++ option g.letter (suc m) g.argument ∷ hs =
-        s.parsed (w ∷ after) ∙ ap (λ (l : List ParsedArg). s.given ++ l) (g.parsed m after) in
+        let here : parsed_args (before ++ w ∷ after) ≡ s.given ++ option g.letter (suc m) g.argument ∷ hs = cc (s.parsed (w ∷ after), g.parsed m after) in
         let gone : parsed_args (before ++ after) ≡ s.given ++ gs = s.parsed after in
         let table_here : (options_of (before ++ w ∷ after)).table ≡ filter_map argument_in s.given ++ said ∷ filter_map argument_in gs =
         ap (filter_map argument_in) here
         ∙ filter_map-append argument_in s.given (option g.letter (suc m) g.argument ∷ hs)
         ∙ ap (λ (l : List Argument). filter_map argument_in s.given ++ l)
         (by_some argument_in (option g.letter (suc m) g.argument) said hs g.symbol ∙ ap (λ (l : List Argument). said ∷ l) (table_same k)) in
-        let table_gone : (options_of (before ++ after)).table ≡ filter_map argument_in s.given ++ filter_map argument_in gs =
-        ap (filter_map argument_in) gone ∙ filter_map-append argument_in s.given gs in
+        let table_gone : (options_of (before ++ after)).table ≡ filter_map argument_in s.given ++ filter_map argument_in gs = simp (filter_map-append, gone) in
         record {
           no_fault = λ e. ap first_fault here
               ∙ no_fault_added s.no_operand g.letter (suc m) g.argument (argument_ok name w g (suc m)) (given_same m (suc m) after) (sym (ap first_fault gone) ∙ e);

@@ -111,24 +111,21 @@ judged_more xs ys ms ns e = absurd (omega arith)
 
 -- Lines with as many marks are all judged lines.
 pub judged_all : (xs : List (Item Reading)) (ms : List Mark) → length ms ≡ length xs → map (λ (j : Judged). j.line) (judged_lines xs ms) ≡ map line_of xs
-judged_all [] ms e = refl
-judged_all (x ∷ xs) [] e = absurd (omega arith)
 judged_all (x ∷ xs) (m ∷ ms) e = ap (λ (ls : List Line). line_of x ∷ ls) (judged_all xs ms (omega arith))
+judged_all xs ms h = grind arith
 
 -- Lines and further ones, with their levels.
 pub listed_more : (d : Bool) (xs ys : List (Item Reading)) (ns ks : List ℕ) → length xs ≡ length ns →
     listed d (xs ++ ys) (ns ++ ks) ≡ listed d xs ns ++ listed d ys ks
 listed_more d [] ys [] ks e = refl
-listed_more d (x ∷ xs) ys (n ∷ ns) ks e =
-    grind (arith, append_assoc, listed_more d xs ys ns ks (omega arith))
+listed_more d (x ∷ xs) ys (n ∷ ns) ks e = simp (append_assoc, listed_more d xs ys ns ks (omega arith))
 listed_more d xs ys ns ks e = absurd (omega arith)
 
 -- The pieces of lines and further ones.
 pub pieces_by-append : (piece : List Judged → Judged → List ℕ) (before js ks : List Judged) →
     pieces_by piece before (js ++ ks) ≡ pieces_by piece before js ++ pieces_by piece (before ++ js) ks
 pieces_by-append piece before [] ks = ap (λ (bs : List Judged). pieces_by piece bs ks) (sym (append-nil before))
-pieces_by-append piece before (j ∷ js) ks =
-    grind (arith, append_assoc, pieces_by-append piece (before ++ j ∷ []) js ks)
+pieces_by-append piece before (j ∷ js) ks = simp (append_assoc, pieces_by-append piece (before ++ j ∷ []) js ks)
 
 module _ (t u : Tree Reading) (more : List (Item Reading)) (e : lines u ≡ lines t ++ more) where
   as_many_marks : length (lines t) ≡ length (marks t)

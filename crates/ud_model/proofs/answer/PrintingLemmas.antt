@@ -15,8 +15,7 @@ last_removed-more _ _ = refl
 pub pieces_by-more : (piece : List Judged → Judged → List ℕ) (before js : List Judged) (j : Judged) →
     pieces_by piece before (js ++ j ∷ []) ≡ pieces_by piece before js ++ piece (before ++ js) j ∷ []
 pieces_by-more piece before [] j = ap (λ (ks : List Judged). piece ks j ∷ []) (sym (append-nil before))
-pieces_by-more piece before (k ∷ js) j =
-    grind (arith, append_assoc, pieces_by-more piece (before ++ k ∷ []) js j)
+pieces_by-more piece before (k ∷ js) j = simp (append_assoc, pieces_by-more piece (before ++ k ∷ []) js j)
 
 -- A line after others is printed after them.
 pub printed-more : (piece : List Judged → Judged → List ℕ) (js : List Judged) (j : Judged) →

@@ -1,7 +1,7 @@
 -- Arguments that give the same in other places: what is read of them doesn't depend on the place.
 use Rattle.std.proofs.Common.{◌≡◌, ℕ, suc, List, [], ◌∷◌, ◌++◌, Bool, ◌||◌, if◌then◌else◌, bytes_eq, codes, encode_utf8_all, Option, Some, None, refl, ◌∙◌, ap, subst, arith}
 use Rattle.std.specs.List.{filter_map}
-use Rattle.ud_model.specs.answer.CommandLine.{ParsedArg, flag, option, operand, unknown, lacking, has_letter, is_flag, takes_argument, option_letters, operands_from, is_operand, WordGives, then_gives, option_gives, letters_give, given_next, parsed_from, mode_or, parse_exit_mode, parse_symbol, mode_from, has_flag, settings_in, argument_in, UsageFault, unless_right, bad_symbol_in, bad_mode_in, argument_fault, fault_or, first_fault, operand_in, name_or_stdin}
+use Rattle.ud_model.specs.answer.CommandLine.{ParsedArg, flag, option, operand, unknown, lacking, has_letter, is_flag, takes_argument, option_letters, operands_from, is_operand, WordGives, then_gives, option_gives, letters_give, given_next, parsed_from, mode_or, parse_exit_mode, parse_symbol, mode_from, has_flag, argument_in, UsageFault, unless_right, bad_symbol_in, bad_mode_in, argument_fault, fault_or, first_fault, operand_in, name_or_stdin}
 use Rattle.ud_model.specs.declared.settings.ExitMode.{ExitMode}
 
 -- the same is given, in other places
@@ -86,9 +86,6 @@ table_same (an_option c n m a k) = grind (arith, table_same k)
 table_same (an_operand n m w k) = table_same k
 table_same (an_unknown c k) = table_same k
 table_same (a_lacking c k) = table_same k
-
-pub settings_same : (gs hs : List ParsedArg) → Same gs hs → settings_in gs ≡ settings_in hs
-settings_same gs hs k = grind (arith, flag_same, mode_same)
 
 -- an argument is right or wrong in each place
 argument_right : (c n m : ℕ) (a : List ℕ) → argument_fault c n a ≡ None → argument_fault c m a ≡ None

@@ -1,10 +1,10 @@
 -- Conditions: tables with the same entry for every name decide alike.
-use Rattle.std.proofs.Common.{◌≡◌, ℕ, List, Bool, ◌&&◌, ◌||◌, Option, is_some, refl, ◌∙◌, ap, ap₂, arith}
-use Rattle.ud_model.specs.conditions.Table.{Argument, Entry}
+use Rattle.std.proofs.Common.{◌≡◌, ℕ, List, Bool, ◌||◌, Option, is_some, refl, ap, ap₂, arith, rules}
+use Rattle.ud_model.specs.conditions.Table.{Argument}
 use Rattle.ud_model.specs.conditions.Expressions.{Expression, constant, named, is_defined, unary, binary, parens}
 use Rattle.ud_model.specs.aids.Parsing.{expression_of}
-use Rattle.ud_model.specs.conditions.Values.{apply_unary, apply_binary, name_value, name_value_by, name_has_u, end_has_u, defined_value, defined_value_by, number_of, has_unsigned, value_of}
-use Rattle.ud_model.specs.conditions.Conditions.{Rules, mentions_listed, undefined_by, calls_undefined, tree_cond, tree_cond_if, expression_cond, decision_by_test, condition_of}
+use Rattle.ud_model.specs.conditions.Values.{apply_unary, apply_binary, name_value, name_value_by, name_has_u, end_has_u, defined_value, defined_value_by, number_of, has_unsigned}
+use Rattle.ud_model.specs.conditions.Conditions.{Rules, mentions_listed, calls_undefined, tree_cond, tree_cond_if, expression_cond, decision_by_test, condition_of}
 use Rattle.ud_model.specs.declared.kind.Kind.{Kind}
 use Rattle.ud_model.specs.declared.kind.Test.{Test}
 use Rattle.ud_model.proofs.conditions.SymbolLemmas.{SaySame, end_same}
@@ -41,27 +41,21 @@ module _ (t u : List Argument) (same : SaySame t u) where
 
   -- A listed name is in a tree by both tables or by none.
   pub names_listed_same : (e : Expression) → mentions_listed t e ≡ mentions_listed u e
-  names_listed_same (constant w) = refl
-  names_listed_same (named n a) = ap is_some (same n)
-  names_listed_same (is_defined n p) = ap is_some (same n)
   names_listed_same (unary o x) = names_listed_same x
   names_listed_same (binary o x y) = ap₂ (λ (a : Bool) (b : Bool). a || b) (names_listed_same x) (names_listed_same y)
   names_listed_same (parens x) = names_listed_same x
+  names_listed_same e = grind (arith, is_some)
 
   -- An undefined name with arguments is in a tree by both tables or by none.
   pub calls_undefined_same : (e : Expression) → calls_undefined t e ≡ calls_undefined u e
-  calls_undefined_same (named n a) = ap (λ (o : Option Entry). a && undefined_by o) (same n)
   calls_undefined_same (unary o x) = calls_undefined_same x
   calls_undefined_same (binary o x y) = ap₂ (λ (a : Bool) (b : Bool). a || b) (calls_undefined_same x) (calls_undefined_same y)
   calls_undefined_same (parens x) = calls_undefined_same x
-  calls_undefined_same _ = refl
-
-  pub value_of_same : (strict : Bool) (e : Expression) → value_of t strict e ≡ value_of u strict e
-  value_of_same strict e = ap (λ (b : Bool). number_of t strict b e) (has_unsigned_same e) ∙ number_of_same strict (has_unsigned u e) e
+  calls_undefined_same e = grind arith
 
   -- A tree has the same condition by both tables.
   pub tree_cond_same : (e : Expression) (rules : Rules) → tree_cond e t rules ≡ tree_cond e u rules
-  tree_cond_same e rules = rw (calls_undefined_same e, names_listed_same e, value_of_same rules.strict e)
+  tree_cond_same e rules = simp (calls_undefined_same, names_listed_same, has_unsigned_same, number_of_same)
 
   tree_cond_if_same : (o : Option Expression) (rules : Rules) → tree_cond_if o t rules ≡ tree_cond_if o u rules
   tree_cond_if_same o rules = grind (arith, tree_cond_same)

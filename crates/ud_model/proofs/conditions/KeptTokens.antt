@@ -2,9 +2,9 @@
 use Rattle.std.proofs.Common.{◌≡◌, Bool, true, false, not, ◌&&◌, if◌then◌else◌, List, [], ◌∷◌, ◌++◌, map, refl, sym, ◌∙◌, ap, ap₂, arith}
 use Rattle.ud_model.specs.conditions.Table.{Argument}
 use Rattle.ud_model.specs.conditions.Tokens.{operator}
-use Rattle.ud_model.specs.conditions.Expressions.{Expression, constant, named, is_defined, unary, binary, parens, spelling}
+use Rattle.ud_model.specs.conditions.Expressions.{Expression, unary, binary, parens, spelling}
 use Rattle.ud_model.specs.conditions.Conditions.{Rules}
-use Rattle.ud_model.specs.conditions.Residuals.{Residual, is_unit, settled, stands_alone, residual}
+use Rattle.ud_model.specs.conditions.Residuals.{Residual, stands_alone, residual}
 use Rattle.ud_model.specs.conditions.ResidualTexts.{chosen, all_flags, joined_flags, keeps}
 use Rattle.ud_model.specs.declared.cond.Cond.{Cond}
 use Rattle.ud_model.specs.declared.operator.Operator.{Operator}
@@ -18,15 +18,13 @@ SameLength [] (y ∷ ys) = ⊥
 SameLength (x ∷ xs) [] = ⊥
 
 chosen_both : {A : Type 0} (fs gs : List Bool) (xs ys : List A) → SameLength fs xs → chosen (fs ++ gs) (xs ++ ys) ≡ chosen fs xs ++ chosen gs ys
-chosen_both [] gs [] ys h = refl
 chosen_both (true ∷ fs) gs (x ∷ xs) ys h = ap (λ zs. x ∷ zs) (chosen_both fs gs xs ys h)
 chosen_both (false ∷ fs) gs (x ∷ xs) ys h = chosen_both fs gs xs ys h
-chosen_both _ _ _ _ h = absurd h
+chosen_both fs gs xs ys h = grind arith
 
 same_both : {A : Type 0} (fs gs : List Bool) (xs ys : List A) → SameLength fs xs → SameLength gs ys → SameLength (fs ++ gs) (xs ++ ys)
-same_both [] gs [] ys h k = k
 same_both (f ∷ fs) gs (x ∷ xs) ys h k = same_both fs gs xs ys h k
-same_both _ _ _ _ h _ = absurd h
+same_both fs gs xs ys h g = grind arith
 
 same_all : {A : Type 0} (f : Bool) (xs : List A) → SameLength (map (λ t. f) xs) xs
 same_all f [] = tt
@@ -68,25 +66,14 @@ enclosed_choose b x e xs p = grind (arith, same_both, chosen_both, to_nil)
 not_choose : (x : Residual) (e : Expression) (xs : List Bool) → Chooses xs e x.tree → Chooses (true ∷ xs) (unary Not e) (unary Not x.tree)
 not_choose x e xs p = record { long = p.long; are = ap (λ us. operator Not ∷ us) p.are }
 
-all_choose : (e : Expression) → Chooses (all_flags true e) e e
-all_choose e = record { long = same_all true (spelling e); are = chosen_all (spelling e) }
-
 module _ (table : List Argument) (rules : Rules) where
   -- The flags of each tree choose the tokens of its residual.
   pub choose : (e : Expression) → Chooses (keeps table rules e) e (residual table rules e).tree
   choose (unary Not a) = not_choose (residual table rules a) a (keeps table rules a) (choose a)
-  choose (binary And a b) =
-      joined_choose (is_unit And (residual table rules a).cond) (is_unit And (residual table rules b).cond) And (settled rules.strict And (residual table rules a).cond (residual table rules b).cond)
-      (residual table rules a) (residual table rules b) a b (keeps table rules a) (keeps table rules b) (choose a) (choose b)
-  choose (binary Or a b) =
-      joined_choose (is_unit Or (residual table rules a).cond) (is_unit Or (residual table rules b).cond) Or (settled rules.strict Or (residual table rules a).cond (residual table rules b).cond)
-      (residual table rules a) (residual table rules b) a b (keeps table rules a) (keeps table rules b) (choose a) (choose b)
+  choose (binary And a b) = search (rules, joined_choose, choose a, choose b)
+  choose (binary Or a b) = search (rules, joined_choose, choose a, choose b)
   choose (parens a) = enclosed_choose ((residual table rules a).lost && stands_alone (residual table rules a).tree) (residual table rules a) a (keeps table rules a) (choose a)
-  choose (constant w) = all_choose (constant w)
-  choose (named n h) = all_choose (named n h)
-  choose (is_defined n h) = all_choose (is_defined n h)
-  choose (unary o a) = all_choose (unary o a)
-  choose (binary o a b) = all_choose (binary o a b)
+  choose e = search (rules, same_all, chosen_all)
 
   -- The tokens that are left are those with a flag.
   pub kept_are : (e : Expression) → spelling (residual table rules e).tree ≡ chosen (keeps table rules e) (spelling e)

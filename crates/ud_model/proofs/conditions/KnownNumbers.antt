@@ -3,7 +3,7 @@
 -- Between two numbers of intmax_t this is how C defines its results. Beside one of uintmax_t no
 -- known number is below 0 or above 2^63-1, and modulo 2^64 such a result is itself. That is what
 -- the least number is for.
-use Rattle.std.proofs.Common.{◌≡◌, ◌≢◌, ℕ, ◌^◌, ◌<◌, Bool, true, not, if◌then◌else◌, Option, Some, None, refl, sym, ◌∙◌, ap, subst, arith, ℤ, pos, ◌<ℤ◌, ◌≤ℤ◌, int_lt, int_le, int_div, Decides, T}
+use Rattle.std.proofs.Common.{◌≡◌, ◌≢◌, ℕ, ◌^◌, ◌<◌, Bool, true, not, if◌then◌else◌, Option, Some, None, sym, ap, subst, arith, ℤ, pos, ◌<ℤ◌, ◌≤ℤ◌, int_lt, int_le, int_div, Decides}
 use Rattle.std.specs.Int.{cast_unsigned}
 use mir.Syntax.{w64}
 use Rattle.ud_model.specs.conditions.Values.{fits, fit, truth, is_zero, equal_numbers, apply_binary_known, apply_unary_known}
@@ -21,12 +21,9 @@ Agrees u n (unsigned k) = (pos k ≡ n) × (fits u n ≡ true) × (u ≡ true)
 pub agrees_number : (u : Bool) (n : ℤ) (c : Number) → Agrees u n c → number c ≡ n
 agrees_number u n c a = grind arith
 
-fit_by : (b : Bool) (u : Bool) (z n : ℤ) → fits u z ≡ b → (if b then Some z else None) ≡ Some n → (z ≡ n) × (fits u n ≡ true)
-fit_by b u z n f e = grind arith
-
 -- A result in range is known as it is.
 pub fit_is : (u : Bool) (z n : ℤ) → fit u z ≡ Some n → (z ≡ n) × (fits u n ≡ true)
-fit_is u z n e = fit_by (fits u z) u z n refl e
+fit_is u z n e = grind arith
 
 as_signed : (u : Bool) (n : ℤ) (c : Number) (z : ℤ) → c ≡ signed z → (z ≡ n) × (fits u n ≡ true) → Agrees u n c
 as_signed u n c z e p = subst (λ x. Agrees u n x) (sym e) p
@@ -35,23 +32,17 @@ as_signed u n c z e p = subst (λ x. Agrees u n x) (sym e) p
 pub truth_agrees : (Holds : Type 0) (u b : Bool) (n : ℤ) (c : Number) → Decides b Holds → Some (truth b) ≡ Some n → IsTruth Holds c → Agrees u n c
 truth_agrees Holds u b n c d e h = grind arith
 
-decides_by : {P : Type 0} (b : Bool) → (T b → P) → (P → T b) → Decides b P
-decides_by h f g = grind arith
-
 -- The test for less decides.
 pub less_decides : (a b : ℤ) → Decides (int_lt a b) (a <ℤ b)
-less_decides a b = decides_by (int_lt a b) (λ t. record { lt = t }) (λ p. p.lt)
+less_decides a b = grind (arith, int_lt)
 
 -- The test for at most decides.
 pub at_most_decides : (a b : ℤ) → Decides (int_le a b) (a ≤ℤ b)
-at_most_decides a b = decides_by (int_le a b) (λ t. record { le = t }) (λ p. p.le)
+at_most_decides a b = grind (arith, int_le)
 
 -- A negated test decides that the fact isn't true.
 pub not_decides : {P : Type 0} (b : Bool) → Decides b P → Decides (not b) (P → ⊥)
 not_decides h d = grind arith
-
-like_decides : {P Q : Type 0} (b : Bool) → (P → Q) → (Q → P) → Decides b P → Decides b Q
-like_decides b f g d = ((λ e. f (d.0 e)), λ q. d.1 (g q))
 
 -- The test for equal numbers decides.
 pub same_decides : (a b : ℤ) → Decides (equal_numbers a b) (a ≡ b)
@@ -108,7 +99,7 @@ zero_decides a = grind arith
 
 -- A known number is 0 exactly if C's is.
 pub zero_agrees : (u : Bool) (a : ℤ) (x : Number) → Agrees u a x → Decides (is_zero a) (number x ≡ pos 0)
-zero_agrees u a x p = like_decides (is_zero a) (λ e. agrees_number u a x p ∙ e) (λ e. sym (agrees_number u a x p) ∙ e) (zero_decides a)
+zero_agrees u a x p = grind (arith, agrees_number, zero_decides)
 
 -- The result of C's operator before an operand agrees with the known one.
 pub changes_agrees : (u : Bool) (o : Operator) (a n : ℤ) (x c : Number) → Agrees u a x → apply_unary_known u o a ≡ Some n → GivesUnary o x c → Agrees u n c

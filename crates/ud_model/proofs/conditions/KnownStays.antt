@@ -4,7 +4,7 @@
 -- operator on two known operands is one on numbers (KnownNumbers). A value with an unknown operand
 -- is known only if the other one decides `&&` or `||`. C then gives the same value, whichever
 -- operand decides it there.
-use Rattle.std.proofs.Common.{◌≡◌, ℕ, ◌^◌, ◌≤◌, Bool, true, false, not, ◌&&◌, ◌||◌, if◌then◌else◌, List, Option, Some, None, refl, sym, ◌∙◌, ap, arith, ℤ, pos, nat_lt}
+use Rattle.std.proofs.Common.{◌≡◌, ℕ, Bool, true, false, not, ◌&&◌, ◌||◌, List, Option, Some, None, refl, sym, ◌∙◌, ap, arith, ℤ, pos, nat_lt}
 use Rattle.std.proofs.lemmas.Option.{none-some, same_Some}
 use Rattle.std.proofs.lemmas.Bool.{false≢true, or_left, or_right}
 use Rattle.ud_model.specs.conditions.Table.{Argument, Entry, entry_in}
@@ -21,20 +21,14 @@ use Rattle.ud_model.proofs.conditions.KnownNumbers.{Agrees, agrees_number, truth
 abbrev pub Knows : Bool → Option ℤ → Number → Type 0
 Knows u o x = (n : ℤ) → o ≡ Some n → Agrees u n x
 
-limited_by : (b u : Bool) (k : ℕ) (n : ℤ) → nat_lt k (2 ^ 63) ≡ b → (if b then Some (pos k) else None) ≡ Some n → (pos k ≡ n) × (fits u n ≡ true)
-limited_by b u k n l e = grind arith
-
 -- A known constant is in range.
 limited_is : (u : Bool) (k : ℕ) (n : ℤ) → limited k ≡ Some n → (pos k ≡ n) × (fits u n ≡ true)
-limited_is u k n e = limited_by (nat_lt k (2 ^ 63)) u k n refl e
-
-no_greater : (k : ℕ) (n : ℤ) → limited k ≡ Some n → 2 ^ 63 ≤ k → ⊥
-no_greater k n e l = grind arith
+limited_is u k n e = grind (arith, nat_lt)
 
 constant_known : (u : Bool) (w : List ℕ) (c : Number) → IsConstantValue w c → (has_u w ≡ true → u ≡ true) → Knows u (constant_value w) c
 constant_known u w c (plain h l) v n e = limited_is u (constant_number w) n e
 constant_known u w c (by_suffix h l) v n e = let p : (pos (constant_number w) ≡ n) × (fits u n ≡ true) = limited_is u (constant_number w) n e in (p.0, p.1, v h)
-constant_known u w c (by_size h d l m) v n e = absurd (no_greater (constant_number w) n e l)
+constant_known u w c (by_size h d l m) v n e = grind arith
 
 entry_fits : (u : Bool) (end : Option (List ℕ)) (o : Option Entry) (n : ℤ) → name_value_by u end o ≡ Some n → fits u n ≡ true
 entry_fits u end o n e = grind arith

@@ -1,20 +1,19 @@
 -- Conditions: two tables decide a condition alike if they have the same entry for each of its
 -- names, and for those to which these lead.
-use Rattle.std.proofs.Common.{◌≡◌, ℕ, List, [], Bool, true, not, ◌&&◌, ◌||◌, Option, Some, None, is_some, if◌then◌else◌, refl, sym, ◌∙◌, ap, ap₂, arith}
+use Rattle.std.proofs.Common.{◌≡◌, ℕ, List, Bool, true, not, ◌&&◌, ◌||◌, Option, Some, None, is_some, if◌then◌else◌, refl, sym, ◌∙◌, ap, ap₂, arith, rules}
 use Rattle.ud_model.specs.text.Bytes.{is_identifier}
-use Rattle.ud_model.specs.text.Scans.{Scan, Reading}
-use Rattle.ud_model.specs.sections.Directives.{Directive, Content}
+use Rattle.ud_model.specs.text.Scans.{Reading}
+use Rattle.ud_model.specs.sections.Directives.{Content}
 use Rattle.ud_model.specs.conditions.Table.{Argument, Entry, entry_in}
 use Rattle.ud_model.specs.conditions.Symbols.{defined_text, text_in, ResolvesTo, at_text, by_name, resolve}
 use Rattle.ud_model.specs.conditions.Expressions.{Expression, constant, named, is_defined, unary, binary, parens}
 use Rattle.ud_model.specs.aids.Parsing.{expression_of}
-use Rattle.ud_model.specs.conditions.Values.{apply_unary, apply_binary, name_value, name_value_by, name_has_u, end_has_u, defined_value, defined_value_by, number_of, has_unsigned, value_of}
-use Rattle.ud_model.specs.conditions.Conditions.{Rules, mentions_listed, undefined_by, calls_undefined, tree_cond, tree_cond_if, expression_cond, decision_by_test, condition_of, decision_on, Decision, ifdef_by, ifdef_decision, undecided}
-use Rattle.ud_model.specs.conditions.Names.{names_in, names_in_tree, name_alone, names_by, names_of, names_on}
+use Rattle.ud_model.specs.conditions.Values.{apply_unary, apply_binary, name_value, name_value_by, name_has_u, end_has_u, defined_value, defined_value_by, number_of, has_unsigned}
+use Rattle.ud_model.specs.conditions.Conditions.{Rules, mentions_listed, undefined_by, calls_undefined, tree_cond_if, expression_cond, decision_by_test, Decision, ifdef_by, ifdef_decision, undecided}
+use Rattle.ud_model.specs.conditions.Names.{names_in, names_in_tree, name_alone, names_by}
 use Rattle.ud_model.specs.sections.Items.{Options, rules_of, item_by}
 use Rattle.ud_model.specs.answer.Listing.{names_in_content}
 use Rattle.ud_model.specs.output.ListedNames.{LeadsTo, itself, by_value}
-use Rattle.ud_model.specs.declared.kind.Kind.{Kind}
 use Rattle.ud_model.specs.declared.kind.Test.{Test}
 use Rattle.ud_model.proofs.output.Each.{Each, each_parts}
 use Rattle.ud_model.proofs.conditions.SymbolLemmas.{end_found, end_is, same_by}
@@ -34,8 +33,7 @@ module _ (t u : List Argument) where
   ends_back : (n v : List ℕ) → Alike n → ResolvesTo u n v → ResolvesTo t n v
   ends_back n v h (at_text _ _ d i) = at_text n v (ap text_in (h n (itself n)) ∙ d) i
   ends_back n v h (by_name _ m _ d i e) =
-      let d' : defined_text t n ≡ Some m = ap text_in (h n (itself n)) ∙ d in
-      by_name n m v d' i (ends_back m v (further n m h d' i) e)
+      let d' : defined_text t n ≡ Some m = ap text_in (h n (itself n)) ∙ d in grind (arith, by_name n m v d' i (ends_back m v (further n m h d' i) e))
 
   -- The name resolves to the same text by both tables.
   end_alike : (n : List ℕ) → Alike n → resolve t n ≡ resolve u n
@@ -92,14 +90,8 @@ module _ (t u : List Argument) where
   calls_undefined_alike (parens x) h = calls_undefined_alike x h
   calls_undefined_alike _ _ = refl
 
-  value_of_alike : (strict : Bool) (e : Expression) → Each Alike (names_in e) → value_of t strict e ≡ value_of u strict e
-  value_of_alike strict e h = ap (λ (b : Bool). number_of t strict b e) (has_unsigned_alike e h) ∙ number_of_alike strict (has_unsigned u e) e h
-
-  tree_cond_alike : (e : Expression) (rules : Rules) → Each Alike (names_in e) → tree_cond e t rules ≡ tree_cond e u rules
-  tree_cond_alike e rules h = rw (calls_undefined_alike e h, names_listed_alike e h, value_of_alike rules.strict e h)
-
   tree_cond_if_alike : (o : Option Expression) (rules : Rules) → Each Alike (names_in_tree o) → tree_cond_if o t rules ≡ tree_cond_if o u rules
-  tree_cond_if_alike o rules h = grind (arith, tree_cond_alike)
+  tree_cond_if_alike o rules h = grind (arith, calls_undefined_alike, names_listed_alike, has_unsigned_alike, number_of_alike)
 
   expression_cond_alike : (after : List ℕ) (rules : Rules) → Each Alike (names_in_tree (expression_of after)) → expression_cond after t rules ≡ expression_cond after u rules
   unfolding expression_cond
@@ -112,21 +104,11 @@ module _ (t u : List Argument) where
   decided_by_alike : (p : Test) (after : List ℕ) (rules : Rules) → Each Alike (names_by p after) → decision_by_test p after t rules ≡ decision_by_test p after u rules
   decided_by_alike p after rules h = grind (arith, expression_cond_alike, ifdef_decision_alike)
 
-  condition_of_alike : (k : Kind) (after : List ℕ) (rules : Rules) → Each Alike (names_of k after) → condition_of k after t rules ≡ condition_of k after u rules
-  condition_of_alike k after rules h = grind (arith, decided_by_alike)
-
   -- The decision as it is, unless a continuation cuts the directive.
   abbrev unless_cut : Bool → Bool → Decision → Decision
   unless_cut broken joins d = if broken then undecided else record d { ignoring = d.ignoring && not joins }
 
-  unless_cut_alike : (broken joins : Bool) (k : Kind) (after : List ℕ) (rules : Rules) → Each Alike (if broken then [] else names_of k after) →
-      unless_cut broken joins (condition_of k after t rules) ≡ unless_cut broken joins (condition_of k after u rules)
-  unless_cut_alike broken joins k after rules h = grind (arith, condition_of_alike)
-
-  decision_alike : (scan : Scan) (d : Directive) (rules : Rules) → Each Alike (names_on d) → decision_on scan d t rules ≡ decision_on scan d u rules
-  decision_alike scan d rules h = unless_cut_alike d.broken scan.joins_after d.kind d.after rules h
-
 module _ (o p : Options) (same : rules_of o.settings ≡ rules_of p.settings) where
   -- A line is the same item if the tables agree on its names.
   pub item_alike : (r : Reading) (c : Content) → Each (Alike o.table p.table) (names_in_content c) → item_by o r c ≡ item_by p r c
-  item_alike r c h = grind (arith, decision_alike)
+  item_alike r c h = grind (arith, decided_by_alike)

@@ -4,7 +4,7 @@ use Rattle.std.proofs.lemmas.Option.{none-some}
 use Rattle.ud_model.specs.conditions.Table.{Argument, Entry, entry_in}
 use Rattle.ud_model.specs.conditions.Symbols.{defined_text, text_in, ResolvesTo, at_text, by_name, resolve}
 use Rattle.ud_model.specs.conditions.Expressions.{Expression, constant, named, is_defined, unary, binary, parens}
-use Rattle.ud_model.specs.conditions.Values.{truth, is_zero, apply_binary_known, short_circuit, short_circuits, apply_binary, apply_unary_known, apply_unary, constant_value, end_value, defined_name_value, name_value_by, name_value, defined_value_by, defined_value, number_of, has_unsigned, value_of}
+use Rattle.ud_model.specs.conditions.Values.{truth, is_zero, apply_binary_known, short_circuits, apply_binary, apply_unary_known, apply_unary, constant_value, end_value, defined_name_value, name_value_by, name_value, defined_value_by, defined_value, number_of, has_unsigned, value_of}
 use Rattle.ud_model.specs.conditions.Conditions.{Rules, tree_cond}
 use Rattle.ud_model.specs.output.ListedNames.{ExtendsTable}
 use Rattle.ud_model.specs.declared.cond.Cond.TheVariants.{Unknown}
@@ -54,21 +54,13 @@ data Decides : Operator → ℤ → Option ℤ → Type 0 where
   or_some : {x : ℤ} → is_zero x ≡ false → Decides Or x (Some (pos 1))
 
 and_by : (x : ℤ) (b : Bool) → is_zero x ≡ b → Decides And x (if b then Some (pos 0) else None)
-and_by x true e = and_zero e
-and_by x false e = by_none
+and_by x b h = grind (arith, and_zero, by_none)
 
 or_by : (x : ℤ) (b : Bool) → is_zero x ≡ b → Decides Or x (if b then None else Some (pos 1))
-or_by x true e = by_none
-or_by x false e = or_some e
-
-decided_is : (o : Operator) (x : ℤ) → Decides o x (short_circuit o x)
-decided_is And x = and_by x (is_zero x) refl
-decided_is Or x = or_by x (is_zero x) refl
-decided_is _ _ = by_none
+or_by x b h = grind (arith, by_none, or_some)
 
 decides_is : (s : Bool) (o : Operator) (x : ℤ) → Decides o x (short_circuits s o x)
-decides_is true o x = by_none
-decides_is false o x = decided_is o x
+decides_is s o x = grind (arith, by_none, and_by, or_by)
 
 -- If one operand decides, both operands give the same value.
 left_decides : (b : Bool) (o : Operator) (x y : ℤ) (d : Option ℤ) → Decides o x d → After d (apply_binary_known b o x y)
@@ -122,16 +114,14 @@ combine_after s b c o (Some p) None v w h k z e = by (h p refl) w
     by (inl f) None = inl (ap (λ (d : Option ℤ). apply_binary s c o d None) f ∙ e)
     by (inl f) (Some q) = subst (λ (d : Option ℤ). Or_none z d) (sym (ap (λ (d : Option ℤ). apply_binary s c o d (Some q)) f)) (left_decides c o p q (short_circuits s o p) (decides_is s o p) z e)
     by (inr f) None = inr (ap (λ (d : Option ℤ). apply_binary s c o d None) f)
-    by (inr f) (Some q) = subst (λ (d : Option ℤ). Or_none z d) (sym (ap (λ (d : Option ℤ). apply_binary s c o d (Some q)) f))
-        (two_decide o p q (short_circuits s o p) (short_circuits s o q) (decides_is s o p) (decides_is s o q) z e)
+    by (inr f) (Some q) = grind (arith, two_decide, decides_is, f)
 combine_after s b c o None (Some q) v w h k z e = by (k q refl) v
   where
     by : Or_none q w → (d : Option ℤ) → Or_none z (apply_binary s c o d w)
     by (inl f) None = inl (ap (λ (d : Option ℤ). apply_binary s c o None d) f ∙ e)
     by (inl f) (Some p) = subst (λ (d : Option ℤ). Or_none z d) (sym (ap (λ (d : Option ℤ). apply_binary s c o (Some p) d) f)) (right_decides c o p q (short_circuits s o q) (decides_is s o q) z e)
     by (inr f) None = inr (ap (λ (d : Option ℤ). apply_binary s c o None d) f)
-    by (inr f) (Some p) = subst (λ (d : Option ℤ). Or_none z d) (sym (ap (λ (d : Option ℤ). apply_binary s c o (Some p) d) f))
-        (two_decide o q p (short_circuits s o q) (short_circuits s o p) (decides_is s o q) (decides_is s o p) z e)
+    by (inr f) (Some p) = grind (arith, two_decide, decides_is, f)
 
 module _ (t u : List Argument) (more : ExtendsTable t u) where
   text_more : (n v : List ℕ) (o : Option Entry) → entry_in t n ≡ o → text_in o ≡ Some v → defined_text u n ≡ Some v
@@ -171,8 +161,7 @@ module _ (t u : List Argument) (more : ExtendsTable t u) where
   number_after s b c (named n a) = name_after b c n
   number_after s b c (is_defined n p) = defined_after n
   number_after s b c (unary o a) = alter_after b c o (number_of t s b a) (number_of u s c a) (number_after s b c a)
-  number_after s b c (binary o a d) =
-      combine_after s b c o (number_of t s b a) (number_of t s b d) (number_of u s c a) (number_of u s c d) (number_after s b c a) (number_after s b c d)
+  number_after s b c (binary o a d) = grind (arith, combine_after, number_after s b c a, number_after s b c d)
   number_after s b c (parens a) = number_after s b c a
 
   -- The value of an expression stays, or is unknown.

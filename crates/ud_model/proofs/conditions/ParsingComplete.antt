@@ -1,7 +1,7 @@
 -- Complete: the tokens of a tree are parsed as that tree.
-use Rattle.std.proofs.Common.{◌≡◌, ℕ, ◌+◌, ◌≤◌, List, [], ◌∷◌, ◌++◌, true, false, Some, refl, sym, ◌∙◌, ap, ap₂, append_assoc, append-nil, arith}
+use Rattle.std.proofs.Common.{◌≡◌, ℕ, ◌+◌, ◌≤◌, List, [], ◌∷◌, ◌++◌, Some, refl, sym, ◌∙◌, ap, ap₂, append_assoc, append-nil, arith}
 use Rattle.ud_model.specs.conditions.Tokens.{Token, operator, closing}
-use Rattle.ud_model.specs.conditions.Expressions.{Expression, constant, named, is_defined, unary, binary, parens, precedence, spelling, HasPrecedence}
+use Rattle.ud_model.specs.conditions.Expressions.{Expression, unary, binary, parens, precedence, spelling, HasPrecedence}
 use Rattle.ud_model.specs.aids.Parsing.{Meaning, meaning, Frame, left, before, paren, Below, needs, has, parse_tokens, itself}
 use Rattle.ud_model.specs.declared.operator.Operator.{Operator}
 
@@ -38,10 +38,6 @@ module _ {A : Type 0} (m : Meaning A) where
   -- The tokens of a tree give its meaning, whatever the stack is and whatever comes next.
   pub complete : (e : Expression) (k : ℕ) → 1 ≤ k → HasPrecedence k e → (s : List (Frame A)) → Below k s → (ts : List Token) → Stops k ts →
       parse_tokens m (needs s) (spelling e ++ ts) ≡ parse_tokens m (has (meaning m e) s) ts
-  complete (constant w) k l i s b ts h = refl
-  complete (named n a) k l i s b ts h = refl
-  complete (is_defined n false) k l i s b ts h = refl
-  complete (is_defined n true) k l i s b ts h = refl
   complete (unary o a) k l i s b ts h =
       grind (arith, complete a 10 (omega arith) i.1 (before o ∷ s) (omega arith) ts (stops_ten ts))
   complete (binary o a b) k l i s f ts h =
@@ -53,8 +49,8 @@ module _ {A : Type 0} (m : Meaning A) where
       ∙ wait_step o (meaning m a) s (spelling b ++ ts) more under
       ∙ complete b (precedence o + 1) (omega arith) i.2 (left o (meaning m a) ∷ s) (omega arith) ts (stops_more (precedence o) (precedence o + 1) ts (omega arith) stop)
       ∙ take_left o (meaning m a) (meaning m b) s ts stop
-  complete (parens a) k l i s b ts h =
-      grind (arith, append_assoc, complete a 1 (omega arith) i (paren ∷ s) tt (closing ∷ ts) tt)
+  complete (parens a) k l i s b ts h = simp (append_assoc, complete a 1 (omega arith) i (paren ∷ s) tt (closing ∷ ts) tt)
+  complete e k h g s k' ts m = grind arith
 
   -- The tokens of an expression alone give its meaning.
   pub complete_alone : (e : Expression) → HasPrecedence 1 e → parse_tokens m (needs []) (spelling e) ≡ Some (meaning m e)

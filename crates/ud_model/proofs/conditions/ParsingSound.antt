@@ -5,7 +5,7 @@ use Rattle.std.proofs.Common.{◌≡◌, ℕ, ◌+◌, ◌≤◌, List, [], ◌�
 use Rattle.std.proofs.lemmas.Option.{none-some}
 use Rattle.ud_model.specs.conditions.Tokens.{Token, number, name, defined, operator, opening, closing}
 use Rattle.ud_model.specs.conditions.Expressions.{Expression, unary, binary, parens, precedence, is_prefix, spelling, HasPrecedence}
-use Rattle.ud_model.specs.aids.Parsing.{Frame, left, before, paren, ParseState, needs, has, asks, asks_inside, asks_end, stuck, reduce, close, wait, step, alone, finish, parse_tokens, itself}
+use Rattle.ud_model.specs.aids.Parsing.{Frame, left, before, paren, ParseState, needs, has, asks, asks_inside, asks_end, stuck, reduce, close, step, alone, finish, parse_tokens, itself}
 use Rattle.ud_model.specs.declared.operator.Operator.{Operator}
 use Rattle.ud_model.proofs.conditions.ParsingComplete.{level_most}
 
@@ -53,50 +53,34 @@ pub record Reduced (j : ℕ) (x : Expression) (s : List (Frame Expression)) (r :
   pub tight : HasPrecedence j r.0
   pub further : 1 ≤ j → hole r.1 ≤ j
 
-reduced_here : (j : ℕ) (x : Expression) (s : List (Frame Expression)) → Fits s → HasPrecedence (hole s) x → HasPrecedence j x → (1 ≤ j → hole s ≤ j) → Reduced j x s (x, s)
-reduced_here j x s f i t h = record { same = refl; fits = f; in_hole = i; tight = t; further = h }
-
 left_if : (b : Bool) (j : ℕ) (o : Operator) (a x : Expression) (s : List (Frame Expression)) (r : Expression × List (Frame Expression)) → leb j (precedence o) ≡ b → Fits (left o a ∷ s) → HasPrecedence (precedence o + 1) x →
     HasPrecedence j x → (j ≤ precedence o → Reduced j (binary o a x) s r) → Reduced j x (left o a ∷ s) (if b then r else (x, left o a ∷ s))
 left_if b j o a x s r e f i t g = grind (arith, append_assoc)
 
 reduced : (j : ℕ) (x : Expression) (s : List (Frame Expression)) → Fits s → HasPrecedence (hole s) x → HasPrecedence j x → Reduced j x s (reduce itself j x s)
-reduced j x [] f i t = reduced_here j x [] f i t (λ h. h)
 reduced j x (left o a ∷ s) f i t =
     left_if (leb j (precedence o)) j o a x s (reduce itself j (binary o a x) s) refl f i t
     (λ l. reduced j (binary o a x) s f.3 (f.2, f.0, i) (l, f.0, i))
 reduced j x (before o ∷ s) f i t =
     grind (arith, append_assoc, reduced j (unary o x) s f.1 (f.0, i) (f.0, i))
-reduced j x (paren ∷ s) f i t = reduced_here j x (paren ∷ s) f i t (λ h. h)
+reduced j x s h g k = grind arith
 
 -- The end of the tokens so far.
 pushed : (us vs ws xs : List Token) → us ++ vs ≡ ws → us ++ (vs ++ xs) ≡ ws ++ xs
 pushed us vs ws xs e = sym (append_assoc us vs xs) ∙ ap (λ ys. ys ++ xs) e
 
-wait_holds : (o : Operator) (x : Expression) (s : List (Frame Expression)) (us : List Token) (r : Expression × List (Frame Expression)) → 1 ≤ precedence o →
-    written s ++ spelling x ≡ us → Reduced (precedence o) x s r → Holds (us ++ operator o ∷ []) (wait itself o r)
-wait_holds o x s us (y, t) l e q = ((q.tight, l, q.further l, q.fits), pushed (written t) (spelling y) us (operator o ∷ []) (q.same ∙ e))
-
-wait_if : (b : Bool) (o : Operator) (x : Expression) (s : List (Frame Expression)) (us : List Token) → leb 1 (precedence o) ≡ b → Holds us (has x s) →
-    Holds (us ++ operator o ∷ []) (if b then wait itself o (reduce itself (precedence o) x s) else stuck)
-wait_if b o x s us e h = grind (arith, wait_holds, reduced, loosen)
-
 close_holds : (x : Expression) (s : List (Frame Expression)) (us : List Token) (r : Expression × List (Frame Expression)) →
     written s ++ spelling x ≡ us → Reduced 0 x s r → Holds (us ++ closing ∷ []) (close itself r)
 close_holds x s us r e q = grind (arith, append_assoc)
-
-prefix_if : (b : Bool) (o : Operator) (s : List (Frame Expression)) (us : List Token) → is_prefix o ≡ b → Fits s → written s ≡ us →
-    Holds (us ++ operator o ∷ []) (if b then needs (before o ∷ s) else stuck)
-prefix_if b o s us e f w = grind arith
 
 -- One more token is a token of the state after it.
 step_holds : (us : List Token) (st : ParseState Expression) (t : Token) → Holds us st → Holds (us ++ t ∷ []) (step itself st t)
 step_holds us (needs s) (number w) h = (h.0, tt, ap (λ ys. ys ++ number w ∷ []) h.1)
 step_holds us (needs s) (name n a) h = (h.0, tt, ap (λ ys. ys ++ name n a ∷ []) h.1)
 step_holds us (needs s) defined h = (h.0, ap (λ ys. ys ++ defined ∷ []) h.1)
-step_holds us (needs s) (operator o) h = prefix_if (is_prefix o) o s us refl h.0 h.1
+step_holds us (needs s) (operator o) h = grind arith
 step_holds us (needs s) opening h = (h.0, ap (λ ys. ys ++ opening ∷ []) h.1)
-step_holds us (has x s) (operator o) h = wait_if (leb 1 (precedence o)) o x s us refl h
+step_holds us (has x s) (operator o) h = grind (arith, pushed, reduced, loosen)
 step_holds us (has x s) closing h = close_holds x s us (reduce itself 0 x s) h.2 (reduced 0 x s h.0 (loosen (hole s) x h.1) (loosen 0 x h.1))
 step_holds us (asks s) (name n false) h = (h.0, tt, pushed (written s) (defined ∷ []) us (name n false ∷ []) h.1)
 step_holds us (asks s) opening h = (h.0, pushed (written s) (defined ∷ []) us (opening ∷ []) h.1)

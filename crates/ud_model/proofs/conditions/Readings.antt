@@ -1,8 +1,8 @@
 -- Readings: the meaning of a text in a state is that of the tree that is parsed in that state.
-use Rattle.std.proofs.Common.{◌≡◌, ℕ, List, [], ◌∷◌, Bool, if◌then◌else◌, leb, Option, option_map, refl, ◌∙◌, ap, arith}
+use Rattle.std.proofs.Common.{◌≡◌, ℕ, List, [], ◌∷◌, Bool, if◌then◌else◌, leb, Option, option_map, refl, arith}
 use Rattle.ud_model.specs.conditions.Tokens.{Token}
 use Rattle.ud_model.specs.conditions.Expressions.{Expression, precedence}
-use Rattle.ud_model.specs.aids.Parsing.{Meaning, meaning, Frame, left, before, paren, ParseState, needs, has, asks, asks_inside, asks_end, stuck, reduce, step, finish, parse_tokens, parse_all_tokens, tokens_of, reads, itself, expression_of}
+use Rattle.ud_model.specs.aids.Parsing.{Meaning, meaning, Frame, left, before, paren, ParseState, needs, has, asks, asks_inside, asks_end, stuck, reduce, step, parse_tokens, parse_all_tokens, tokens_of, reads, itself, expression_of}
 
 module _ {A : Type 0} (m : Meaning A) where
   -- The stack, each tree replaced by its meaning.
@@ -34,16 +34,10 @@ module _ {A : Type 0} (m : Meaning A) where
   reduce_meant j e (before o ∷ s) = reduce_meant j (itself.unary o e) s
   reduce_meant _ _ _ = refl
 
-  step_meant : (s : ParseState Expression) (t : Token) → step m (state_meant s) t ≡ state_meant (step itself s t)
-  step_meant s t = grind (arith, reduce_meant)
-
-  finish_meant : (s : ParseState Expression) → finish m (state_meant s) ≡ option_map (meaning m) (finish itself s)
-  finish_meant s = grind (arith, reduce_meant)
-
   -- Tokens mean what their tree means.
   pub run_meant : (s : ParseState Expression) (ts : List Token) → parse_tokens m (state_meant s) ts ≡ option_map (meaning m) (parse_tokens itself s ts)
-  run_meant s [] = finish_meant s
-  run_meant s (t ∷ ts) = ap (λ q. parse_tokens m q ts) (step_meant s t) ∙ run_meant (step itself s t) ts
+  run_meant s [] = grind (arith, reduce_meant)
+  run_meant s (t ∷ ts) = grind (arith, reduce_meant, run_meant (step itself s t) ts)
 
   run_all_meant : (s : ParseState Expression) (ts : Option (List Token)) → parse_all_tokens m (state_meant s) ts ≡ option_map (meaning m) (parse_all_tokens itself s ts)
   run_all_meant s ts = grind (arith, run_meant)

@@ -1,7 +1,7 @@
 -- Residual same: a table counts for a residual by its entries alone.
-use Rattle.std.proofs.Common.{◌≡◌, Bool, true, false, List, ◌∷◌, refl, ap, ap₂, arith}
+use Rattle.std.proofs.Common.{◌≡◌, Bool, true, false, List, ◌∷◌, ap, ap₂, arith}
 use Rattle.ud_model.specs.conditions.Table.{Argument}
-use Rattle.ud_model.specs.conditions.Expressions.{Expression, constant, named, is_defined, unary, binary, parens}
+use Rattle.ud_model.specs.conditions.Expressions.{Expression, unary, binary, parens}
 use Rattle.ud_model.specs.conditions.Conditions.{Rules, tree_cond}
 use Rattle.ud_model.specs.conditions.Residuals.{Residual, is_unit, joined, negated, enclosed, residual}
 use Rattle.ud_model.specs.conditions.ResidualTexts.{joined_flags, keeps}
@@ -20,16 +20,11 @@ module _ (t u : List Argument) (same : SaySame t u) (rules : Rules) where
   residual_same (binary And a b) = ap₂ (joined rules.strict And) (residual_same a) (residual_same b)
   residual_same (binary Or a b) = ap₂ (joined rules.strict Or) (residual_same a) (residual_same b)
   residual_same (parens a) = ap enclosed (residual_same a)
-  residual_same (constant w) = alone_same (constant w)
-  residual_same (named n a) = alone_same (named n a)
-  residual_same (is_defined n p) = alone_same (is_defined n p)
-  residual_same (unary o a) = alone_same (unary o a)
-  residual_same (binary o a b) = alone_same (binary o a b)
+  residual_same e = search (rules, alone_same)
 
   -- So are the flags of its tokens.
   pub keeps_same : (e : Expression) → keeps t rules e ≡ keeps u rules e
   keeps_same (unary Not a) = ap (λ (fs : List Bool). true ∷ fs) (keeps_same a)
   keeps_same (binary And a b) = λ i. joined_flags (is_unit And (residual_same a i).cond) (is_unit And (residual_same b i).cond) a b (keeps_same a i) (keeps_same b i)
   keeps_same (binary Or a b) = λ i. joined_flags (is_unit Or (residual_same a i).cond) (is_unit Or (residual_same b i).cond) a b (keeps_same a i) (keeps_same b i)
-  keeps_same (parens a) = grind (arith, residual_same)
-  keeps_same _ = refl
+  keeps_same e = grind (arith, residual_same)

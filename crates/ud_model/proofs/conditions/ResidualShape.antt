@@ -1,11 +1,11 @@
 -- Residual shape: the residual of an expression has only undecided operands, and is its own
 -- residual.
-use Rattle.std.proofs.Common.{◌≡◌, ℕ, ◌+◌, ◌≤◌, Bool, true, false, ◌&&◌, if◌then◌else◌, List, [], ◌∷◌, ◌++◌, refl, ap, arith}
+use Rattle.std.proofs.Common.{◌≡◌, ℕ, ◌≤◌, Bool, true, false, ◌&&◌, if◌then◌else◌, List, [], ◌∷◌, ◌++◌, refl, ap, arith}
 use Rattle.ud_model.specs.conditions.Table.{Argument}
 use Rattle.ud_model.specs.conditions.Tokens.{operator, opening, closing}
-use Rattle.ud_model.specs.conditions.Expressions.{Expression, constant, named, is_defined, unary, binary, parens, precedence, spelling, HasPrecedence}
+use Rattle.ud_model.specs.conditions.Expressions.{Expression, unary, binary, parens, precedence, spelling, HasPrecedence}
 use Rattle.ud_model.specs.conditions.Conditions.{Rules, tree_cond}
-use Rattle.ud_model.specs.conditions.Residuals.{Residual, is_unit, is_unknown, settled, joined, negated, stands_alone, enclosed, residual, operands, is_undecided, simplified, AreUndecided}
+use Rattle.ud_model.specs.conditions.Residuals.{Residual, is_unit, is_unknown, settled, joined, negated, stands_alone, enclosed, residual, operands, simplified, AreUndecided}
 use Rattle.ud_model.specs.conditions.Sublists.{IsSublist, nothing, without, with_same}
 use Rattle.ud_model.specs.declared.cond.Cond.{Cond}
 use Rattle.ud_model.specs.declared.cond.Cond.TheVariants.{Unknown}
@@ -62,16 +62,10 @@ module _ (table : List Argument) (rules : Rules) where
   -- The tokens that are left are some of the expression's, in their order.
   pub spelling_stays : (e : Expression) → IsSublist (spelling (left e).tree) (spelling e)
   spelling_stays (unary Not a) = with_same (spelling_stays a)
-  spelling_stays (binary And a b) =
-      joined_spelling (is_unit And (left a).cond) (is_unit And (left b).cond) And (settled rules.strict And (left a).cond (left b).cond) (left a) (left b) a b (spelling_stays a) (spelling_stays b)
-  spelling_stays (binary Or a b) =
-      joined_spelling (is_unit Or (left a).cond) (is_unit Or (left b).cond) Or (settled rules.strict Or (left a).cond (left b).cond) (left a) (left b) a b (spelling_stays a) (spelling_stays b)
+  spelling_stays (binary And a b) = grind (arith, joined_spelling, left, spelling_stays a, spelling_stays b)
+  spelling_stays (binary Or a b) = grind (arith, joined_spelling, left, spelling_stays a, spelling_stays b)
   spelling_stays (parens a) = enclosed_spelling ((left a).lost && stands_alone (left a).tree) (left a) a (spelling_stays a)
-  spelling_stays (constant w) = all_of_it (spelling (constant w))
-  spelling_stays (named n h) = all_of_it (spelling (named n h))
-  spelling_stays (is_defined n h) = all_of_it (spelling (is_defined n h))
-  spelling_stays (unary o a) = all_of_it (spelling (unary o a))
-  spelling_stays (binary o a b) = all_of_it (spelling (binary o a b))
+  spelling_stays e = grind (arith, all_of_it)
 
 -- 3. The tree is nested by precedence.
 
@@ -83,10 +77,6 @@ any_precedence : (e : Expression) (j k : ℕ) → stands_alone e ≡ true → Ha
 any_precedence (binary o a b) j k s h = cc
 any_precedence _ _ _ _ h = h
 
-joined_precedence : (b d : Bool) (o : Operator) (c : Cond) (x y : Residual) (k : ℕ) → k ≤ precedence o → HasPrecedence (precedence o) x.tree → HasPrecedence (precedence o + 1) y.tree →
-    HasPrecedence k (if b then record y { lost = true } else if d then record x { lost = true } else record { cond = c; tree = binary o x.tree y.tree; lost = false }).tree
-joined_precedence b d o c x y k l p q = grind (arith, looser)
-
 enclosed_precedence : (b : Bool) (x : Residual) (k : ℕ) → (x.lost && stands_alone x.tree) ≡ b → HasPrecedence 1 x.tree → HasPrecedence k (if b then x else record x { tree = parens x.tree }).tree
 enclosed_precedence b x k e p = grind (arith, any_precedence)
 
@@ -94,10 +84,8 @@ module _ (table : List Argument) (rules : Rules) where
   -- The residual is nested by precedence, like the expression.
   pub precedence_stays : (e : Expression) (k : ℕ) → HasPrecedence k e → HasPrecedence k (left table rules e).tree
   precedence_stays (unary Not a) k h = (h.0, precedence_stays a 10 h.1)
-  precedence_stays (binary And a b) k h =
-      grind (arith, joined_precedence, precedence_stays a 2 h.1, precedence_stays b 3 h.2)
-  precedence_stays (binary Or a b) k h =
-      grind (arith, joined_precedence, precedence_stays a 1 h.1, precedence_stays b 2 h.2)
+  precedence_stays (binary And a b) k h = grind (arith, looser, precedence_stays a 2 h.1, precedence_stays b 3 h.2)
+  precedence_stays (binary Or a b) k h = grind (arith, looser, precedence_stays a 1 h.1, precedence_stays b 2 h.2)
   precedence_stays (parens a) k h = enclosed_precedence ((left table rules a).lost && stands_alone (left table rules a).tree) (left table rules a) k refl (precedence_stays a 1 h)
   precedence_stays _ _ h = h
 
@@ -129,12 +117,9 @@ module _ (table : List Argument) (rules : Rules) where
   again (parens a) = enclosed_again ((left table rules a).lost && stands_alone (left table rules a).tree) (left table rules a) (residual table rules) (λ s. refl) (again a)
   again _ = refl
 
-  if_again : (e : Expression) (b : Bool) → is_undecided table rules (residual table rules e) ≡ b → simplified table rules (if b then (residual table rules e).tree else e) ≡ (if b then (residual table rules e).tree else e)
-  if_again e b p = grind (arith, again)
-
   -- A second simplification changes nothing.
   pub simplified_again : (e : Expression) → simplified table rules (simplified table rules e) ≡ simplified table rules e
-  simplified_again e = if_again e (is_undecided table rules (residual table rules e)) refl
+  simplified_again e = grind (arith, again)
 
   unknown_by : (x : Residual) (e : Expression) (b c : Bool) → is_unknown x.cond ≡ b → is_unknown (tree_cond x.tree table rules) ≡ c → tree_cond e table rules ≡ Unknown →
       tree_cond (if b && c then x.tree else e) table rules ≡ Unknown
@@ -154,23 +139,13 @@ module _ (table : List Argument) (rules : Rules) where
   both_undecided [] ys p q = q
   both_undecided (x ∷ xs) ys p q = (p.0, both_undecided xs ys p.1 q)
 
-  and_alike : (b d : Bool) (x y : Residual) → rules.strict ≡ false → is_unit And x.cond ≡ b → is_unit And y.cond ≡ d → Alike x → Alike y →
-      Alike (if b then record y { lost = true } else if d then record x { lost = true } else record { cond = settled rules.strict And x.cond y.cond; tree = binary And x.tree y.tree; lost = false })
-  and_alike b d x y s e f p q h = grind (arith, both_undecided)
-
-  or_alike : (b d : Bool) (x y : Residual) → rules.strict ≡ false → is_unit Or x.cond ≡ b → is_unit Or y.cond ≡ d → Alike x → Alike y →
-      Alike (if b then record y { lost = true } else if d then record x { lost = true } else record { cond = settled rules.strict Or x.cond y.cond; tree = binary Or x.tree y.tree; lost = false })
-  or_alike b d x y s e f p q h = grind (arith, both_undecided)
-
   enclosed_alike : (b : Bool) (x : Residual) → Alike x → Alike (if b then x else record x { tree = parens x.tree })
   enclosed_alike b x p h = grind arith
 
   -- Each operand that is left is unknown by itself.
   pub operands_undecided : (e : Expression) → rules.strict ≡ false → Alike (residual table rules e)
   operands_undecided (unary Not a) s h = operands_undecided a s (negated_unknown (left table rules a).cond h)
-  operands_undecided (binary And a b) s h =
-      and_alike (is_unit And (left table rules a).cond) (is_unit And (left table rules b).cond) (left table rules a) (left table rules b) s refl refl (operands_undecided a s) (operands_undecided b s) h
-  operands_undecided (binary Or a b) s h =
-      or_alike (is_unit Or (left table rules a).cond) (is_unit Or (left table rules b).cond) (left table rules a) (left table rules b) s refl refl (operands_undecided a s) (operands_undecided b s) h
+  operands_undecided (binary And a b) s h = grind (arith, both_undecided, left, operands_undecided a s, operands_undecided b s)
+  operands_undecided (binary Or a b) s h = grind (arith, both_undecided, left, operands_undecided a s, operands_undecided b s)
   operands_undecided (parens a) s h = enclosed_alike ((left table rules a).lost && stands_alone (left table rules a).tree) (left table rules a) (operands_undecided a s) h
   operands_undecided _ _ h = (h, tt)

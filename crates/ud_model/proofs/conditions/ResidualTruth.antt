@@ -201,12 +201,8 @@ module _ (table : List Argument) (rules : Rules) where
   tells h (of_binary {o = And} {x = x} {y = y} {c = c} d f g) = absurd (no_and x y c g)
   tells h (of_binary {o = Or} {x = x} {y = y} {c = c} d f g) = absurd (no_or x y c g)
   tells h (of_binary {o = o} {a = a} {b = b} {m = m} {k = k} {x = x} {y = y} {c = c} d f g) = by_itself table rules (binary o a b) (for_binary m k) c h (of_binary d f g)
-  tells h (of_and_left {a = a} {b = b} {m = m} {k = k} {x = x} d z) =
-      and_left rules.strict (residual table rules a) (residual table rules b) (stay table rules m) (stay table rules k) x (tells h.0 d) z
-  tells h (of_and_both {a = a} {b = b} {m = m} {k = k} {x = x} {y = y} {c = c} d n f g) =
-      and_both rules.strict (residual table rules a) (residual table rules b) (stay table rules m) (stay table rules k) x (tells h.0 d) y c (tells h.1 f) g n
-  tells h (of_or_left {a = a} {b = b} {m = m} {k = k} {x = x} d n) =
-      or_left rules.strict (residual table rules a) (residual table rules b) (stay table rules m) (stay table rules k) x (tells h.0 d) n
-  tells h (of_or_both {a = a} {b = b} {m = m} {k = k} {x = x} {y = y} {c = c} d z f g) =
-      or_both rules.strict (residual table rules a) (residual table rules b) (stay table rules m) (stay table rules k) x (tells h.0 d) y c (tells h.1 f) g z
+  tells h (of_and_left {a = a} {b = b} {m = m} {k = k} {x = x} d z) = grind (arith, and_left, tells h.0 d)
+  tells h (of_and_both {a = a} {b = b} {m = m} {k = k} {x = x} {y = y} {c = c} d n f g) = grind (arith, and_both, tells h.0 d, tells h.1 f)
+  tells h (of_or_left {a = a} {b = b} {m = m} {k = k} {x = x} d n) = grind (arith, or_left, tells h.0 d)
+  tells h (of_or_both {a = a} {b = b} {m = m} {k = k} {x = x} {y = y} {c = c} d z f g) = grind (arith, or_both, tells h.0 d, tells h.1 f)
   tells h (of_parens {a = a} {m = m} {c = c} d) = grind (arith, parens_tell, tells h d)

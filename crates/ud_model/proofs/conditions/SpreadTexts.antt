@@ -1,5 +1,5 @@
 -- Spread texts: white space beside white space changes no token.
-use Rattle.std.proofs.Common.{◌≡◌, ℕ, zero, suc, ◌==◌, ◌-◌, ◌<◌, List, [], ◌∷◌, length, drop, Bool, true, false, not, ◌&&◌, ◌||◌, if◌then◌else◌, Option, Some, None, bytes_eq, codes, slice_index, refl, sym, ◌∙◌, ap, ap₂, subst, arith, option_map}
+use Rattle.std.proofs.Common.{◌≡◌, ℕ, zero, suc, ◌==◌, ◌-◌, ◌<◌, List, [], ◌∷◌, length, drop, Bool, true, false, not, ◌&&◌, ◌||◌, if◌then◌else◌, Option, Some, None, bytes_eq, codes, slice_index, refl, sym, ◌∙◌, ap, ap₂, subst, arith, rules}
 use Rattle.std.proofs.lemmas.Bool.{false_from_ne_true}
 use Rattle.ud_model.specs.conditions.Constants.{is_constant}
 use Rattle.ud_model.specs.text.Bytes.{is_white, is_word_byte, is_digit, starts_with_byte, skip_white, leading_word, skip_word}
@@ -42,40 +42,27 @@ data SameFront : List ℕ → List ℕ → Type 0 where
 skip_kept : {u t : List ℕ} (b : ℕ) (w : Bool) → is_white b ≡ w → IsSpread w u t →
     SameFront (skip_white u) (skip_white t) →
     SameFront (if w then skip_white u else b ∷ u) (if w then skip_white t else b ∷ t)
-skip_kept b true e s f = f
-skip_kept b false e s f = front b e s
-
-past_one : (b : ℕ) (u : List ℕ) → is_white b ≡ true → skip_white u ≡ skip_white (b ∷ u)
-past_one b u e = ap (λ (w : Bool). if w then skip_white u else b ∷ u) (sym e)
+skip_kept b w h g k = grind (arith, front)
 
 skipped : {w : Bool} {u t : List ℕ} → IsSpread w u t → SameFront (skip_white u) (skip_white t)
 skipped nothing = no_front
 skipped (kept b s) = skip_kept b (is_white b) refl s (skipped s)
-skipped (behind {u = u} {t = t} b e s) =
-    subst (λ (x : List ℕ). SameFront x (skip_white t)) (past_one b u e) (skipped s)
-skipped (in_front {u = u} {t = t} b e f s) =
-    subst (λ (x : List ℕ). SameFront x (skip_white t)) (past_one b u e) (skipped s)
+skipped (behind {u = u} {t = t} b e s) = grind (arith, skipped s)
+skipped (in_front {u = u} {t = t} b e f s) = grind (arith, skipped s)
 
 -- If one text begins with the byte `c`, the other does, and the rests are spread so.
 record SameFirst (c : ℕ) (u t : List ℕ) : Type 0 where
   pub same : starts_with_byte c u ≡ starts_with_byte c t
   pub rest : starts_with_byte c u ≡ true → Spread (drop 1 u) (drop 1 t)
 
-other_byte : (b c : ℕ) → is_white b ≡ true → is_white c ≡ false → (b == c) ≡ false
-other_byte b c e n = grind arith
-
 other_front : (c : ℕ) (t : List ℕ) → begins_white t ≡ true → is_white c ≡ false →
     starts_with_byte c t ≡ false
-other_front c [] e n = refl
-other_front c (b ∷ t) e n = other_byte b c e n
+other_front c t h g = grind arith
 
 same_first : (c : ℕ) {u t : List ℕ} → is_white c ≡ false → IsSpread false u t → SameFirst c u t
 same_first c n nothing = record { same = refl; rest = λ e. (false, nothing) }
 same_first c n (kept b s) = record { same = refl; rest = λ e. (is_white b, s) }
-same_first c n (in_front {t = t} b e f s) = record {
-  same = other_byte b c e n ∙ sym (other_front c t f n);
-  rest = λ h. let r : false ≡ true = sym (other_byte b c e n) ∙ h in cc;
-}
+same_first c n (in_front {t = t} b e f s) = grind (arith, other_front)
 
 -- The rests after an opened parenthesis are spread so, or neither closes it.
 data SameRest : Option (List ℕ) → Option (List ℕ) → Type 0 where
@@ -84,12 +71,7 @@ data SameRest : Option (List ℕ) → Option (List ℕ) → Type 0 where
 
 rest_if : (c : Bool) (x y v z : Option (List ℕ)) → SameRest x v → SameRest y z →
     SameRest (if c then x else y) (if c then v else z)
-rest_if true x y v z p q = p
-rest_if false x y v z p q = q
-
-no_parens : (b n : ℕ) (u : List ℕ) → is_white b ≡ true →
-    after_matching_paren n u ≡ after_matching_paren n (b ∷ u)
-no_parens b n u e = grind (arith, other_byte)
+rest_if c x y v z h g = grind arith
 
 closed : (n : ℕ) {w : Bool} {u t : List ℕ} → IsSpread w u t →
     SameRest (after_matching_paren n u) (after_matching_paren n t)
@@ -98,10 +80,8 @@ closed zero (kept {u = u} {t = t} b s) =
     rest_if (b == 40) _ _ _ _ (closed 1 s) (rest_if (b == 41) _ _ _ _ (some_rest (is_white b, s)) (closed 0 s))
 closed (suc n) (kept {u = u} {t = t} b s) =
     rest_if (b == 40) _ _ _ _ (closed (suc (suc n)) s) (rest_if (b == 41) _ _ _ _ (closed n s) (closed (suc n) s))
-closed n (behind {u = u} {t = t} b e s) =
-    subst (λ (x : Option (List ℕ)). SameRest x (after_matching_paren n t)) (no_parens b n u e) (closed n s)
-closed n (in_front {u = u} {t = t} b e f s) =
-    subst (λ (x : Option (List ℕ)). SameRest x (after_matching_paren n t)) (no_parens b n u e) (closed n s)
+closed n (behind {u = u} {t = t} b e s) = grind (arith, closed n s)
+closed n (in_front {u = u} {t = t} b e f s) = grind (arith, closed n s)
 
 -- Both texts have the same first token, and the rests are spread so.
 data SameNext : NextToken → NextToken → Type 0 where
@@ -111,18 +91,12 @@ data SameNext : NextToken → NextToken → Type 0 where
 
 next_if : (c : Bool) {x y v z : NextToken} → SameNext x v → SameNext y z →
     SameNext (if c then x else y) (if c then v else z)
-next_if true p q = p
-next_if false p q = q
+next_if c h g = grind arith
 
 next_by : {c : ℕ} {u t : List ℕ} {x y v z : NextToken} → SameFirst c u t →
     (Spread (drop 1 u) (drop 1 t) → SameNext x v) → SameNext y z →
     SameNext (if starts_with_byte c u then x else y) (if starts_with_byte c t then v else z)
-next_by {c = c} {u = u} {x = x} {y = y} {v = v} {z = z} f p q =
-    subst (λ (b : Bool). SameNext (if starts_with_byte c u then x else y) (if b then v else z)) f.same (by (starts_with_byte c u) refl)
-  where
-    by : (b : Bool) → starts_with_byte c u ≡ b → SameNext (if b then x else y) (if b then v else z)
-    by true e = p (f.rest e)
-    by false e = q
+next_by {c = c} {u = u} {x = x} {y = y} {v = v} {z = z} f p q = grind arith
 
 one_or_two : (c : ℕ) (long short : Operator) {u t : List ℕ} → is_white c ≡ false →
     IsSpread false u t →
@@ -148,33 +122,13 @@ record SameWord (u t : List ℕ) : Type 0 where
   pub word : leading_word u ≡ leading_word t
   pub rest : IsSpread false (skip_word u) (skip_word t)
 
-white_low : (b : ℕ) → is_white b ≡ true → b < 33
-white_low b e = grind arith
-
-low_word : (b : ℕ) → b < 48 → is_word_byte b ≡ false
-low_word b l = grind arith
-
-pub white_word : (b : ℕ) → is_white b ≡ true → is_word_byte b ≡ false
-white_word b e = let l : b < 33 = white_low b e in low_word b (omega arith)
-
-black_word : (b : ℕ) → is_word_byte b ≡ true → is_white b ≡ false
-black_word b e =
-    false_from_ne_true (is_white b) (λ h. let r : true ≡ false = sym e ∙ white_word b h in cc)
-
 -- No word begins with white space.
 no_word : (t : List ℕ) → begins_white t ≡ true → (leading_word t ≡ []) × (skip_word t ≡ t)
-no_word [] e = (refl, refl)
-no_word (b ∷ t) e =
-    (ap (λ (w : Bool). if w then b ∷ leading_word t else []) (white_word b e), ap (λ (w : Bool). if w then skip_word t else b ∷ t) (white_word b e))
+no_word t h = search rules
 
 word_kept : {u t : List ℕ} (b : ℕ) (w : Bool) → is_word_byte b ≡ w → IsSpread (is_white b) u t →
     (is_white b ≡ false → SameWord u t) → SameWord (b ∷ u) (b ∷ t)
-word_kept {u = u} {t = t} b true e s f =
-    let r : SameWord u t = f (black_word b e) in
-    record {
-      word = ap₂ (λ (w : Bool) (x : List ℕ). if w then b ∷ x else []) refl r.word;
-      rest = subst (λ (w : Bool). IsSpread false (if w then skip_word u else b ∷ u) (if w then skip_word t else b ∷ t)) (sym e) r.rest;
-    }
+word_kept {u = u} {t = t} b true e s f = search (rules, false_from_ne_true)
 word_kept {u = u} {t = t} b false e s f = record {
   word = ap (λ (w : Bool). if w then b ∷ leading_word u else []) e ∙ sym (ap (λ (w : Bool). if w then b ∷ leading_word t else []) e);
   rest = subst (λ (w : Bool). IsSpread false (if w then skip_word u else b ∷ u) (if w then skip_word t else b ∷ t)) (sym e) (kept b s);
@@ -235,15 +189,13 @@ same_after : (n m : ℕ) (u t : List ℕ) {x y : NextToken} → next_token u ≡
     prepend_token (λ (v : List ℕ). tokens_in n v) x ≡ prepend_token (λ (z : List ℕ). tokens_in m z) y
 same_after n m u t p q ends f = refl
 same_after n m u t p q unread f = refl
-same_after n m u t p q (finds {u = v} {t = z} k s) f =
-    ap (option_map (λ (ts : List Token). k ∷ ts)) (f v z s (shorter u v k p) (shorter t z k q))
+same_after n m u t p q (finds {u = v} {t = z} k s) f = cc (f v z s (shorter u v k p) (shorter t z k q))
 
 same_in : (n m : ℕ) (u t : List ℕ) → Spread u t → length u < n → length t < m →
     tokens_in n u ≡ tokens_in m t
-same_in zero m u t s l k = absurd (omega arith)
-same_in (suc n) zero u t s l k = absurd (omega arith)
 same_in (suc n) (suc m) u t s l k =
     same_after n m u t refl refl (same_next s) (λ v z r i j. same_in n m v z r (omega arith) (omega arith))
+same_in n m u t h g k = grind arith
 
 -- The tokens of a text are those with white space inserted beside white space.
 pub spread_tokens : (u t : List ℕ) → Spread u t → tokens_of u ≡ tokens_of t

@@ -1,11 +1,11 @@
 -- Stayed choices: the numbers for the uses that are left are as the table has them, if those for all
 -- uses are; and an expression has one value at most by its numbers.
-use Rattle.std.proofs.Common.{Bool, true, false, ◌&&◌, List}
+use Rattle.std.proofs.Common.{Bool, true, false, ◌&&◌, List, arith}
 use Rattle.ud_model.specs.conditions.Table.{Argument}
 use Rattle.ud_model.specs.conditions.Expressions.{Expression}
 use Rattle.ud_model.specs.conditions.Conditions.{Rules}
-use Rattle.ud_model.specs.conditions.Residuals.{Residual, is_unit, settled, stands_alone, residual}
-use Rattle.ud_model.specs.conditions.Choices.{Choice, for_constant, for_name, for_defined, for_unary, for_binary, for_parens, IsAllowed, one_or_both, bare_or_not, stay}
+use Rattle.ud_model.specs.conditions.Residuals.{Residual, stands_alone, residual}
+use Rattle.ud_model.specs.conditions.Choices.{Choice, for_unary, for_binary, for_parens, IsAllowed, one_or_both, bare_or_not, stay}
 use Rattle.ud_model.specs.declared.cond.Cond.{Cond}
 use Rattle.ud_model.specs.declared.operator.Operator.{Operator}
 use Rattle.ud_model.specs.declared.operator.Operator.TheVariants.{Or, And, Not}
@@ -26,14 +26,8 @@ module _ (table : List Argument) where
 
     -- The numbers that stay are allowed.
     pub stay_allowed : {e : Expression} (m : Choice e) → IsAllowed table m → IsAllowed table (stay table rules m)
-    stay_allowed (for_constant {w = w}) p = p
-    stay_allowed (for_name c) p = p
-    stay_allowed (for_defined b) p = p
     stay_allowed (for_unary {o = Not} m) p = stay_allowed m p
-    stay_allowed (for_unary {o = o} m) p = p
-    stay_allowed (for_binary {o = And} {a = a} {b = b} m k) p =
-        one_allowed (is_unit And (left a).cond) (is_unit And (left b).cond) And (settled rules.strict And (left a).cond (left b).cond) (left a) (left b) (stay table rules m) (stay table rules k) (stay_allowed m p.0) (stay_allowed k p.1)
-    stay_allowed (for_binary {o = Or} {a = a} {b = b} m k) p =
-        one_allowed (is_unit Or (left a).cond) (is_unit Or (left b).cond) Or (settled rules.strict Or (left a).cond (left b).cond) (left a) (left b) (stay table rules m) (stay table rules k) (stay_allowed m p.0) (stay_allowed k p.1)
-    stay_allowed (for_binary {o = o} m k) p = p
+    stay_allowed (for_binary {o = And} {a = a} {b = b} m k) p = grind (arith, one_allowed, left, stay_allowed m p.0, stay_allowed k p.1)
+    stay_allowed (for_binary {o = Or} {a = a} {b = b} m k) p = grind (arith, one_allowed, left, stay_allowed m p.0, stay_allowed k p.1)
     stay_allowed (for_parens {a = a} m) p = bare_allowed ((left a).lost && stands_alone (left a).tree) (left a) (stay table rules m) (stay_allowed m p)
+    stay_allowed m h = grind arith

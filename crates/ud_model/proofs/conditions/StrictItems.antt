@@ -1,17 +1,16 @@
 -- Under `-K` a line is the same item, but its condition may be unknown.
-use Rattle.std.proofs.Common.{◌≡◌, ◌≢◌, ℕ, List, Bool, true, not, ◌&&◌, Option, Some, None, if◌then◌else◌, refl, sym, subst, arith}
+use Rattle.std.proofs.Common.{◌≡◌, ◌≢◌, ℕ, List, Bool, true, not, ◌&&◌, Option, if◌then◌else◌, refl, arith}
 use Rattle.ud_model.specs.text.Scans.{Scan, Reading}
-use Rattle.ud_model.specs.sections.Directives.{Content, Directive, directive, content_of}
+use Rattle.ud_model.specs.sections.Directives.{Content, Directive, content_of}
 use Rattle.ud_model.specs.conditions.Table.{Argument}
 use Rattle.ud_model.specs.conditions.Expressions.{Expression}
 use Rattle.ud_model.specs.aids.Parsing.{expression_of}
-use Rattle.ud_model.specs.conditions.Conditions.{Decision, undecided, tree_cond, tree_cond_if, expression_cond, decision_by_test, condition_of, decision_on}
+use Rattle.ud_model.specs.conditions.Conditions.{Decision, undecided, tree_cond, tree_cond_if, expression_cond, decision_by_test, decision_on}
 use Rattle.ud_model.specs.sections.Tree.{Item, Opener, text_line, if_line, elif_line, else_line, endif_line}
 use Rattle.ud_model.specs.sections.Items.{Options, item_of, item_by, directive_item}
 use Rattle.ud_model.specs.output.StrictLines.{under_strict}
 use Rattle.ud_model.specs.declared.cond.Cond.{Cond}
-use Rattle.ud_model.specs.declared.cond.Cond.TheVariants.{Yes, No, Unknown}
-use Rattle.ud_model.specs.declared.kind.Kind.{Kind}
+use Rattle.ud_model.specs.declared.cond.Cond.TheVariants.{Unknown}
 use Rattle.ud_model.specs.declared.kind.Role.{Role}
 use Rattle.ud_model.specs.declared.kind.Role.TheVariants.{IfGroup, ElifGroup, ElseGroup, EndifLine}
 use Rattle.ud_model.specs.declared.kind.Test.{Test}
@@ -24,9 +23,7 @@ pub data Looser : Cond → Cond → Type 0 where
   unknown : {d : Cond} → Looser Unknown d
 
 loose_by : (c d : Cond) → (c ≢ Unknown → d ≡ c) → Looser c d
-loose_by Unknown d h = unknown
-loose_by Yes d h = subst (Looser Yes) (sym (h (λ e. cc))) alike
-loose_by No d h = subst (Looser No) (sym (h (λ e. cc))) alike
+loose_by c d h = grind (arith, unknown, alike)
 
 -- The decisions differ in such conditions at most.
 record LooserDecision (d e : Decision) : Type 0 where
@@ -41,8 +38,7 @@ module _ (table : List Argument) (k : Bool) where
   tree_loose s e = grind (arith, loose_by, cond_keeps)
 
   tree_if_loose : (s : Bool) (e : Option Expression) → Looser (tree_cond_if e table (record { constants = k; strict = true })) (tree_cond_if e table (record { constants = k; strict = s }))
-  tree_if_loose s None = alike
-  tree_if_loose s (Some e) = tree_loose s e
+  tree_if_loose s e = grind (arith, alike, tree_loose)
 
   expression_loose : (s : Bool) (after : List ℕ) → Looser (expression_cond after table (record { constants = k; strict = true })) (expression_cond after table (record { constants = k; strict = s }))
   unfolding expression_cond
@@ -52,19 +48,11 @@ module _ (table : List Argument) (k : Bool) where
   test_loose s Nonzero after = record { cond = expression_loose s after; ignoring = refl }
   test_loose _ _ _ = record { cond = alike; ignoring = refl }
 
-  kind_loose : (s : Bool) (i : Kind) (after : List ℕ) → LooserDecision (condition_of i after table (record { constants = k; strict = true })) (condition_of i after table (record { constants = k; strict = s }))
-  kind_loose s i after = grind (arith, test_loose)
-
   abbrev unless_cut : Bool → Bool → Decision → Decision
   unless_cut broken joins d = if broken then undecided else record d { ignoring = d.ignoring && not joins }
 
-  unless_cut_loose : (broken joins : Bool) (d e : Decision) → LooserDecision d e → LooserDecision (unless_cut broken joins d) (unless_cut broken joins e)
-  unless_cut_loose broken joins d e h = grind (arith, same_decision)
-
   decision_loose : (s : Bool) (scan : Scan) (d : Directive) → LooserDecision (decision_on scan d table (record { constants = k; strict = true })) (decision_on scan d table (record { constants = k; strict = s }))
-  decision_loose s scan d =
-      unless_cut_loose d.broken scan.joins_after (condition_of d.kind d.after table (record { constants = k; strict = true })) (condition_of d.kind d.after table (record { constants = k; strict = s }))
-      (kind_loose s d.kind d.after)
+  decision_loose s scan d = grind (arith, test_loose, same_decision)
 
 -- The openers differ in such conditions at most.
 pub record LooserOpener (o p : Opener Reading) : Type 0 where
@@ -87,8 +75,7 @@ role_loose r ElseGroup d e h = an_else
 role_loose r EndifLine d e h = an_endif
 
 content_loose : (o : Options) (r : Reading) (c : Content) → LooserItem (item_by (under_strict o) r c) (item_by o r c)
-content_loose o r (directive d) = grind (arith, role_loose, decision_loose)
-content_loose _ _ _ = a_text
+content_loose o r c = grind (arith, role_loose, decision_loose, a_text)
 
 -- Under `-K` a line is the same item, but for an unknown condition.
 pub item_loose : (o : Options) (r : Reading) → LooserItem (item_of (under_strict o) r) (item_of o r)

@@ -2,7 +2,7 @@
 use Rattle.std.proofs.Common.{◌≡◌, ◌≢◌, List, Bool, true, false, Option, Some, ℤ, arith}
 use Rattle.ud_model.specs.conditions.Table.{Argument}
 use Rattle.ud_model.specs.conditions.Expressions.{Expression, unary, binary, parens}
-use Rattle.ud_model.specs.conditions.Values.{apply_unary, apply_binary, number_of, has_unsigned, value_of}
+use Rattle.ud_model.specs.conditions.Values.{apply_unary, number_of, has_unsigned, value_of}
 use Rattle.ud_model.specs.conditions.Conditions.{tree_cond}
 use Rattle.ud_model.specs.declared.cond.Cond.TheVariants.{Unknown}
 use Rattle.ud_model.specs.declared.operator.Operator.{Operator}
@@ -14,14 +14,10 @@ Keeps a b = (z : ℤ) → a ≡ Some z → b ≡ Some z
 alter_keeps : (u : Bool) (o : Operator) (a b : Option ℤ) → Keeps a b → Keeps (apply_unary u o a) (apply_unary u o b)
 alter_keeps u o a b h z e = grind arith
 
-combine_keeps : (u : Bool) (o : Operator) (a b c d : Option ℤ) → Keeps a c → Keeps b d → Keeps (apply_binary true u o a b) (apply_binary false u o c d)
-combine_keeps u o a b c d h k z e = grind arith
-
 module _ (table : List Argument) where
   number_keeps : (u : Bool) (e : Expression) → Keeps (number_of table true u e) (number_of table false u e)
   number_keeps u (unary o a) z h = alter_keeps u o (number_of table true u a) (number_of table false u a) (number_keeps u a) z h
-  number_keeps u (binary o a b) z h =
-      combine_keeps u o (number_of table true u a) (number_of table true u b) (number_of table false u a) (number_of table false u b) (number_keeps u a) (number_keeps u b) z h
+  number_keeps u (binary o a b) z h = grind (arith, number_keeps u a, number_keeps u b)
   number_keeps u (parens a) z h = number_keeps u a z h
   number_keeps _ _ _ h = h
 

@@ -3,7 +3,7 @@
 --
 -- A path that ends needn't come to a name twice. So after its first name it goes over the arguments
 -- that name another, and these are fewer.
-use Rattle.std.proofs.Common.{◌≡◌, ℕ, zero, suc, ◌≤◌, ◌<◌, List, [], ◌∷◌, length, Bool, true, false, if◌then◌else◌, Option, Some, None, bytes_eq, refl, sym, ◌∙◌, ap, subst, ◌⊎◌, inl, inr, arith}
+use Rattle.std.proofs.Common.{◌≡◌, ℕ, zero, suc, ◌≤◌, ◌<◌, List, [], ◌∷◌, length, Bool, true, false, if◌then◌else◌, Option, Some, None, bytes_eq, refl, sym, ◌∙◌, ap, subst, ◌⊎◌, inl, inr, arith, rules}
 use Rattle.std.proofs.lemmas.Slice.Eq.{bytes_eq-Decides}
 use Rattle.std.proofs.lemmas.Option.{none-some}
 use Rattle.ud_model.specs.text.Bytes.{is_identifier}
@@ -27,19 +27,13 @@ goes_on t k n v o d e = grind arith
 pub goes : (t : List Argument) (k : ℕ) (n v : List ℕ) → resolve_within (suc k) t n ≡ Some v → Goes t k n v
 goes t k n v e = goes_on t k n v (defined_text t n) refl e
 
-if_end : (f : List ℕ → Option (List ℕ)) (b : Bool) (w : List ℕ) → b ≡ false → (if b then f w else Some w) ≡ Some w
-if_end f b w e = rw e
-
-if_name : (f : List ℕ → Option (List ℕ)) (b : Bool) (w : List ℕ) → b ≡ true → (if b then f w else Some w) ≡ f w
-if_name f b w e = rw e
-
 -- The text is the end.
 pub ends_here : (t : List Argument) (k : ℕ) (n w : List ℕ) → defined_text t n ≡ Some w → is_identifier w ≡ false → resolve_within (suc k) t n ≡ Some w
-ends_here t k n w d e = ap (on_text (λ x. resolve_within k t x)) d ∙ if_end (λ x. resolve_within k t x) (is_identifier w) w e
+ends_here t k n w d e = grind (arith, d)
 
 -- The path goes on from the text.
 pub ends_behind : (t : List Argument) (k : ℕ) (n w : List ℕ) → defined_text t n ≡ Some w → is_identifier w ≡ true → resolve_within (suc k) t n ≡ resolve_within k t w
-ends_behind t k n w d e = ap (on_text (λ x. resolve_within k t x)) d ∙ if_name (λ x. resolve_within k t x) (is_identifier w) w e
+ends_behind t k n w d e = grind (arith, d)
 
 -- The table `u` has each text that the table `t` has for a name.
 abbrev pub Follows : List Argument → List Argument → Type 0
@@ -48,17 +42,12 @@ Follows t u = (n w : List ℕ) → defined_text t n ≡ Some w → defined_text 
 -- A step is taken over a table that follows, if the path after it is.
 step_follows : (j k : ℕ) (t u : List Argument) → Follows t u → (n v : List ℕ) → Goes t j n v →
     ((w : List ℕ) → resolve_within j t w ≡ Some v → resolve_within k u w ≡ Some v) → resolve_within (suc k) u n ≡ Some v
-step_follows j k t u f n v g further = by g.on
-  where
-    by : ((is_identifier g.text ≡ false) × (g.text ≡ v)) ⊎ ((is_identifier g.text ≡ true) × (resolve_within j t g.text ≡ Some v)) → resolve_within (suc k) u n ≡ Some v
-    by (inl p) = ends_here u k n g.text (f n g.text g.sets) p.0 ∙ ap Some p.1
-    by (inr p) = ends_behind u k n g.text (f n g.text g.sets) p.0 ∙ further g.text p.1
+step_follows j k t u f n v g further = search (rules, ends_here, ends_behind)
 
 -- More steps, over a table that follows, come to the same end.
 pub ends_more : (j k : ℕ) (t u : List Argument) → Follows t u → (n v : List ℕ) → j ≤ k → resolve_within j t n ≡ Some v → resolve_within k u n ≡ Some v
-ends_more zero k t u f n v l e = absurd (none-some v e)
-ends_more (suc j) zero t u f n v l e = absurd (omega arith)
 ends_more (suc j) (suc k) t u f n v l e = step_follows j k t u f n v (goes t j n v e) (λ w h. ends_more j k t u f w v (omega arith) h)
+ends_more j k t u h n v g k' = grind (arith, none-some)
 
 -- The arguments that name another.
 abbrev pub without : List ℕ → List Argument → List Argument
@@ -108,24 +97,18 @@ without_fewer n (a ∷ t) e x h = fewer_by n a t e x (without_most n t) (λ f. w
 fewer : (n w : List ℕ) (t : List Argument) → defined_text t n ≡ Some w → length (without n t) < length t
 fewer n w t d = grind (arith, without_fewer)
 
-follows_by : (n : List ℕ) (t : List Argument) (m w : List ℕ) (b : Bool) → bytes_eq n m ≡ b → defined_text (without n t) m ≡ Some w → defined_text t m ≡ Some w
-follows_by n t m w b q d = grind (arith, bytes_eq-Decides, without_none, without_other)
-
 -- The table of all arguments follows that of those that name another.
 follows : (n : List ℕ) (t : List Argument) → Follows (without n t) t
-follows n t m w d = follows_by n t m w (bytes_eq n m) refl d
+follows n t m w d = grind (arith, bytes_eq, bytes_eq-Decides, without_none, without_other)
 
 -- A path of so many steps that ends avoids a name, or its rest begins there.
 abbrev pub Splits : ℕ → List Argument → List ℕ → List ℕ → List ℕ → Type 0
 Splits k t n w v = (resolve_within k (without n t) w ≡ Some v) ⊎ ((j : ℕ) × (j ≤ k) × (resolve_within j t n ≡ Some v))
 
-split_other : (k : ℕ) (t : List Argument) (n w v : List ℕ) → bytes_eq n w ≡ false → Goes t k w v → ((x : List ℕ) → resolve_within k t x ≡ Some v → Splits k t n x v) → Splits (suc k) t n w v
-split_other k t n w v q g further = grind (arith, without_other)
-
 split_by : (k : ℕ) (t : List Argument) (n w v : List ℕ) (b : Bool) → bytes_eq n w ≡ b → resolve_within (suc k) t w ≡ Some v → ((x : List ℕ) → resolve_within k t x ≡ Some v → Splits k t n x v) →
     Splits (suc k) t n w v
 split_by k t n w v true q e further = inr (suc k, omega arith, subst (λ m. resolve_within (suc k) t m ≡ Some v) (sym ((bytes_eq-Decides n w).0 q)) e)
-split_by k t n w v false q e further = split_other k t n w v q (goes t k w v e) further
+split_by k t n w v false q e further = grind (arith, goes, without_other)
 
 split : (k : ℕ) (t : List Argument) (n w v : List ℕ) → resolve_within k t w ≡ Some v → Splits k t n w v
 split zero t n w v e = absurd (none-some v e)

@@ -1,10 +1,9 @@
 -- Tokens: the computed tokens of a text are those of the relation, since each token has a byte at
 -- least.
-use Rattle.std.proofs.Common.{◌≡◌, ℕ, zero, suc, ◌<◌, ◌≤◌, List, [], ◌∷◌, length, drop, slice_index, Bool, true, false, not, ◌&&◌, if◌then◌else◌, Option, Some, None, bytes_eq, codes, option_map, refl, ◌∙◌, ap, subst, arith, length-drop}
+use Rattle.std.proofs.Common.{◌≡◌, ℕ, zero, suc, ◌<◌, ◌≤◌, List, [], ◌∷◌, length, drop, slice_index, Bool, true, false, if◌then◌else◌, Option, Some, None, bytes_eq, refl, ap, subst, arith, length-drop, rules}
 use Rattle.std.proofs.lemmas.Option.{none-some}
-use Rattle.ud_model.specs.text.Bytes.{is_digit, is_word_byte, skip_white, leading_word, skip_word}
-use Rattle.ud_model.specs.conditions.Constants.{is_constant}
-use Rattle.ud_model.specs.conditions.Tokens.{Token, number, defined, NextToken, unreadable, found, after_matching_paren, with_arguments, name_token, has_exponent_sign, word_token, punctuator, leading_token, next_token, AreTokens}
+use Rattle.ud_model.specs.text.Bytes.{is_word_byte, skip_white, leading_word, skip_word}
+use Rattle.ud_model.specs.conditions.Tokens.{Token, NextToken, found, after_matching_paren, name_token, word_token, punctuator, leading_token, next_token, AreTokens}
 use Rattle.ud_model.specs.aids.Parsing.{prepend_token, tokens_in, tokens_of}
 use Rattle.ud_model.proofs.text.ByteLemmas.{length-skip_white}
 
@@ -24,15 +23,12 @@ shorter_either k b x y p q = grind arith
 shorter_more : (j k : ℕ) (x : NextToken) → j ≤ k → Shorter j x → Shorter k x
 shorter_more j k x l p = grind arith
 
-length_either : (k : ℕ) (b : Bool) (x y : List ℕ) → length x ≤ k → length y ≤ k → length (if b then x else y) ≤ k
-length_either k b x y p q = grind arith
-
 drop_one_most : (t : List ℕ) → length (drop 1 t) ≤ length t
 drop_one_most t = rw length-drop (omega arith)
 
 past_word_most : (t : List ℕ) → length (skip_word t) ≤ length t
 past_word_most [] = omega arith
-past_word_most (b ∷ t) = let h : length (skip_word t) ≤ length t = past_word_most t in length_either (suc (length t)) (is_word_byte b) (skip_word t) (b ∷ t) (omega arith) (omega arith)
+past_word_most (b ∷ t) = grind (arith, past_word_most t)
 
 behind_within : (n : ℕ) (t : List ℕ) → Within (length t) (after_matching_paren n t)
 behind_within zero (b ∷ t) = grind (arith, behind_within 1 t, behind_within 0 t)
@@ -40,21 +36,11 @@ behind_within (suc n) (b ∷ t) =
     grind (arith, behind_within (suc (suc n)) t, behind_within n t, behind_within (suc n) t)
 behind_within _ [] = tt
 
-with_shorter : (k j : ℕ) (w : List ℕ) (o : Option (List ℕ)) → j < k → Within j o → Shorter k (with_arguments w o)
-with_shorter k j w o l p = grind arith
-
 name_shorter : (k : ℕ) (w rest : List ℕ) → length rest < k → Shorter k (name_token w rest)
-name_shorter k w rest l =
-    grind (arith, length-skip_white, drop_one_most, with_shorter, behind_within)
+name_shorter k w rest l = grind (arith, length-skip_white, drop_one_most, behind_within)
 
 word_shorter : (k : ℕ) (w rest : List ℕ) → length rest < k → Shorter k (word_token w rest)
-word_shorter k w rest l =
-    shorter_either k (is_digit (slice_index w 0)) (if is_constant w && not (has_exponent_sign w rest) then found (number w) rest else unreadable) (if bytes_eq w (codes "defined") then found defined rest else name_token w rest)
-    (shorter_either k (is_constant w && not (has_exponent_sign w rest)) (found (number w) rest) unreadable l tt)
-    (shorter_either k (bytes_eq w (codes "defined")) (found defined rest) (name_token w rest) l (name_shorter k w rest l))
-
-sign_shorter : (b : ℕ) (rest : List ℕ) → Shorter (suc (length rest)) (punctuator b rest)
-sign_shorter b rest = grind arith
+word_shorter k w rest l = search (rules, shorter_either, slice_index, bytes_eq, name_shorter)
 
 past_word_behind : (b : ℕ) (t : List ℕ) → is_word_byte b ≡ true → length (skip_word (b ∷ t)) < suc (length t)
 past_word_behind b t e = grind (arith, past_word_most)
@@ -62,7 +48,7 @@ past_word_behind b t e = grind (arith, past_word_most)
 front_by : (b : ℕ) (t : List ℕ) (c : Bool) → is_word_byte b ≡ c →
     Shorter (suc (length t)) (if c then word_token (leading_word (b ∷ t)) (skip_word (b ∷ t)) else punctuator b t)
 front_by b t true e = word_shorter (suc (length t)) (leading_word (b ∷ t)) (skip_word (b ∷ t)) (past_word_behind b t e)
-front_by b t false e = sign_shorter b t
+front_by b t false e = grind arith
 
 front_shorter : (t : List ℕ) → Shorter (length t) (leading_token t)
 front_shorter t = grind (arith, front_by)
@@ -79,9 +65,7 @@ shorter text rest t e = subst (λ x. Shorter (length text) x) e (next_shorter te
 pub tokens_enough : (ts : List Token) (n : ℕ) (text : List ℕ) → length text < n → AreTokens text ts → tokens_in n text ≡ Some ts
 tokens_enough ts zero text l p = absurd (omega arith)
 tokens_enough [] (suc n) text l p = ap (prepend_token (λ rest. tokens_in n rest)) p
-tokens_enough (t ∷ ts) (suc n) text l p =
-    let h : length p.0 < length text = shorter text p.0 t p.1 in
-    ap (prepend_token (λ rest. tokens_in n rest)) p.1 ∙ ap (option_map (λ us. t ∷ us)) (tokens_enough ts n p.0 (omega arith) p.2)
+tokens_enough (t ∷ ts) (suc n) text l p = let h : length p.0 < length text = shorter text p.0 t p.1 in cc (p.1, tokens_enough ts n p.0 (omega arith) p.2)
 
 cut_tokens : (n : ℕ) (text : List ℕ) (ts : List Token) (x : NextToken) → next_token text ≡ x → ((rest : List ℕ) (us : List Token) → tokens_in n rest ≡ Some us → AreTokens rest us) →
     prepend_token (λ rest. tokens_in n rest) x ≡ Some ts → AreTokens text ts

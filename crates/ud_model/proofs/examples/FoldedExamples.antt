@@ -1,9 +1,17 @@
 -- Examples: texts that are folded, and the way back, computed by the checker.
-use Rattle.std.proofs.Common.{◌≡◌, refl, ℕ, List, [], ◌∷◌}
-use Rattle.ud_model.specs.text.Lines.{split_lines}
+use Rattle.std.proofs.Common.{◌≡◌, refl, ℕ, List, [], ◌∷◌, length, map}
+use Rattle.std.specs.List.{flat_map}
+use Rattle.ud_model.specs.text.Lines.{split_lines, line_at}
 use Rattle.ud_model.specs.text.Lexemes.{lexeme_at, lex_from, lex, kind_at_end}
-use Rattle.ud_model.specs.text.Scanning.{joins, scan_after_run}
-use Rattle.ud_model.specs.output.FoldedTexts.{folded_text, restored_text}
+use Rattle.ud_model.specs.text.Scanning.{joins, scan_after_run, next_reading}
+use Rattle.ud_model.specs.output.FoldedTexts.{folded_text, restored_text, unnumbered}
+use Rattle.ud_model.specs.output.FoldedTexts.{directive_line, other_lines, c_lines, logical_lines}
+use Rattle.ud_model.specs.output.LogicalTrees.{unknown_opener, c_items}
+use Rattle.ud_model.specs.output.InsertedLines.{read_as}
+use Rattle.ud_model.specs.sections.Tree.{if_line, text_line, item_with}
+use Rattle.ud_model.specs.text.Scans.{Reading}
+use Rattle.ud_model.specs.declared.kind.Kind.TheVariants.{If}
+use Rattle.ud_model.specs.declared.kind.Mode.TheVariants.{C}
 
 -- A splice becomes a vertical tab: `#if A || \\n  B\nx\n`.
 abbrev text_a : List ℕ
@@ -21,6 +29,19 @@ folded_a = refl
 restored_a : restored_text line_a ≡ text_a
 unfolding split_lines joins scan_after_run lexeme_at lex_from lex kind_at_end
 restored_a = refl
+
+-- C reads `#if` with ` A || B`, and the line `x`.
+read_a : c_lines text_a ≡ directive_line If (32 ∷ 65 ∷ 32 ∷ 124 ∷ 124 ∷ 32 ∷ 66 ∷ []) ∷
+    other_lines (unnumbered (next_reading [] C (line_at 3 (120 ∷ 10 ∷ []))) ∷ []) ∷ []
+unfolding split_lines joins scan_after_run lexeme_at lex_from lex kind_at_end
+read_a = refl
+
+-- The `#if` has two lines.
+items_a : map (item_with (λ (rs : List Reading). length rs))
+    (flat_map c_items (logical_lines (read_as C text_a))) ≡
+    if_line (unknown_opener 2) ∷ text_line 1 ∷ []
+unfolding split_lines joins scan_after_run lexeme_at lex_from lex kind_at_end
+items_a = refl
 
 -- So does a newline in a comment: `#else /* a\n b */\n`.
 abbrev text_b : List ℕ
@@ -127,6 +148,11 @@ folded_h = refl
 restored_h : restored_text text_h ≡ text_h
 unfolding split_lines joins scan_after_run lexeme_at lex_from lex kind_at_end
 restored_h = refl
+
+-- C reads one `#if` with ` A B`.
+read_h : c_lines text_h ≡ directive_line If (32 ∷ 65 ∷ 32 ∷ 66 ∷ []) ∷ []
+unfolding split_lines joins scan_after_run lexeme_at lex_from lex kind_at_end
+read_h = refl
 
 -- A literal: `#if 'a' \\n B\n`.
 abbrev text_i : List ℕ

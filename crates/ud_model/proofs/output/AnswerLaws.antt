@@ -47,6 +47,4 @@ answered_selects {args = args} {input = input} (ran r e d) n p ns us b c w v g t
 pub answered_status : {args : List (List ℕ)} {input : List ℕ} {a : Answer} → IsAnswer args input a → a.status ≢ 2 →
     (options_of args).settings.renumber ≡ false → (options_of args).settings.listing ≡ Off →
     a.status ≡ status_by (options_of args).settings.exit_mode (not (bytes_eq a.output input))
-answered_status (refused f e) n k off = absurd (n refl)
-answered_status {args = args} {input = input} (ran r e d) n k off =
-    grind (arith, changed)
+answered_status h g k m = grind (arith, absurd, changed)

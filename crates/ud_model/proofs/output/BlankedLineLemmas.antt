@@ -1,5 +1,5 @@
 -- Under `-b` each line of the output has the position of the line that it is the output for.
-use Rattle.std.proofs.Common.{◌≡◌, ◌≢◌, None, append-nil, ℕ, suc, List, [], ◌∷◌, ◌++◌, length, map, Bool, true, ◌⊎◌, inl, inr, Option, refl, sym, ◌∙◌, ap, ap₂, subst, arith}
+use Rattle.std.proofs.Common.{◌≡◌, ◌≢◌, None, append-nil, ℕ, suc, List, [], ◌∷◌, ◌++◌, length, map, Bool, true, ◌⊎◌, inl, inr, Option, refl, sym, ◌∙◌, ap, ap₂, subst, arith, rules}
 use Rattle.std.specs.List.{concat}
 use Rattle.ud_model.specs.text.Lines.{Line, line_at, lines_of, texts_of, numbered_from, ending_of, IsWhole, IsUnterminated, AreWhole, AreFormed, whole_lines, partial_line, last_line}
 use Rattle.ud_model.specs.text.Scans.{Reading}
@@ -9,10 +9,9 @@ use Rattle.ud_model.specs.sections.Pruning.{marks}
 use Rattle.ud_model.specs.sections.Items.{Options, line_of}
 use Rattle.ud_model.specs.sections.Faults.{Fault}
 use Rattle.ud_model.specs.answer.Printing.{Judged, piece_by, piece_alone, piece_after, pieces_by, judged_lines}
-use Rattle.ud_model.specs.answer.Outcomes.{Outcome, output_by, ReadsAs, HasOutcome, ran_as}
+use Rattle.ud_model.specs.answer.Outcomes.{Outcome, ReadsAs, HasOutcome, ran_as}
 use Rattle.ud_model.specs.answer.Outcomes.ReadsAs.{stops, ends}
 use Rattle.ud_model.specs.output.BlankedLines.{complemented_if, blanked, IsBlankedLine, AreBlankedLines, no_line, one_line, lost_line}
-use Rattle.ud_model.specs.declared.settings.Listing.{Listing}
 use Rattle.ud_model.specs.declared.settings.Listing.TheVariants.{Off}
 use Rattle.ud_model.specs.declared.verdict.Verdict.{Verdict}
 use Rattle.ud_model.specs.declared.verdict.Verdict.TheVariants.{Remove}
@@ -76,11 +75,7 @@ turned_line : (c : Bool) (j : Judged) → (complemented_if c j).line ≡ j.line
 turned_line c j = grind arith
 
 in_place : (c : Bool) (j : Judged) (n : ℕ) (t : List ℕ) → j.line ≡ line_at n t → (line_at n (blanked c j)).ending ≡ ending_of t → IsBlankedLine c j (line_at n (blanked c j))
-in_place c j n t e d = record {
-  number = ap (λ (l : Line). l.number) (sym e);
-  ending = d ∙ ap (λ (l : Line). l.ending) (sym e);
-  bytes = text_of-line_at n (blanked c j);
-}
+in_place c j n t e d = search (rules, text_of-line_at)
 
 whole_more : (c : Bool) (j : Judged) (js : List Judged) (n : ℕ) (t : List ℕ) → j.line ≡ line_at n t → IsWhole t → Places c js (suc n) → Places c (j ∷ js) n
 whole_more c j js n t e w r =
@@ -167,10 +162,7 @@ blanked_places o input {xs = xs} {t = t} {f = f} {r = r} b off a run =
     let js : List Judged = judged_lines xs (marks t) in
     let ls = lines_read a in
     let p : Places c js 1 = all_placed c js 1 ls.0 (judged_read a ∙ ls.2) ls.1 in
-    let out : r.output ≡ concat p.pieces =
-    ap (λ (s : Outcome). s.output) (one_run run (ran_as a)) ∙ ap (λ (q : Listing). output_by q o.settings xs t) off
-    ∙ ap (λ (e : Bool). concat (pieces_by (piece_after (record { blank = e; complement = c; renumber = o.settings.renumber })) [] js)) b
-    ∙ ap (λ (ps : List (List ℕ)). concat ps) (blank_pieces c o.settings.renumber [] js) ∙ sym p.same in
+    let out : r.output ≡ concat p.pieces = cc (one_run run (ran_as a), off, b, blank_pieces c o.settings.renumber [] js, p.same) in
     subst (AreBlankedLines c js) (sym (ap (λ (q : List ℕ). lines_of q) out ∙ output_lines p.pieces p.formed)) p.places
 
 -- 4. As many lines.

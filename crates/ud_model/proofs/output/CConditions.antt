@@ -1,19 +1,17 @@
 -- A decided condition has the truth that C gives it.
-use Rattle.std.proofs.Common.{◌≡◌, ℕ, List, Bool, true, false, Option, Some, None, is_some, option_map, ap, arith}
+use Rattle.std.proofs.Common.{◌≡◌, ℕ, List, Bool, true, false, Option, Some, None, is_some, option_map, ap, arith, rules}
 use Rattle.ud_model.specs.text.Scans.{Reading}
-use Rattle.ud_model.specs.sections.Directives.{Content, content_of, test_of}
 use Rattle.ud_model.specs.conditions.Table.{Argument, Entry, entry_in}
 use Rattle.ud_model.specs.conditions.Expressions.{Expression, is_defined, unary}
 use Rattle.ud_model.specs.aids.Parsing.{expression_of}
 use Rattle.ud_model.specs.conditions.Values.{truth, is_zero, apply_unary_known, apply_unary, defined_value, defined_value_by, value_of}
-use Rattle.ud_model.specs.conditions.Conditions.{Rules, ifdef_by, ifdef_decision, negate, tree_cond, tree_cond_if, expression_cond, decision_by_test, condition_of}
+use Rattle.ud_model.specs.conditions.Conditions.{Rules, ifdef_by, ifdef_decision, negate, tree_cond_if, expression_cond, decision_by_test}
 use Rattle.ud_model.specs.conditions.CValues.{Number, number}
-use Rattle.ud_model.specs.output.CSelection.{condition_by_test, condition_after, condition_by, condition_in, HasTruth, MayBe}
+use Rattle.ud_model.specs.output.CSelection.{condition_by_test, condition_in, HasTruth, MayBe}
 use Rattle.ud_model.specs.sections.Tree.{Item, if_line, elif_line}
-use Rattle.ud_model.specs.sections.Items.{Options, item_by, item_of}
+use Rattle.ud_model.specs.sections.Items.{Options, item_of}
 use Rattle.ud_model.specs.declared.cond.Cond.{Cond}
 use Rattle.ud_model.specs.declared.cond.Cond.TheVariants.{Yes, No, Unknown}
-use Rattle.ud_model.specs.declared.kind.Kind.{Kind}
 use Rattle.ud_model.specs.declared.kind.Test.{Test}
 use Rattle.ud_model.specs.declared.operator.Operator.TheVariants.{Not}
 use Rattle.ud_model.proofs.conditions.DecidedConditions.{yes_is_true, no_is_false}
@@ -26,11 +24,8 @@ Fits No b = b ≡ false
 Fits Unknown b = Unit {0}
 
 module _ (table : List Argument) where
-  tree_fits : (rules : Rules) (e : Expression) (b : Bool) → MayBe table (Some e) b → (c : Cond) → tree_cond e table rules ≡ c → Fits c b
-  tree_fits rules e b h c d = grind (arith, yes_is_true, no_is_false)
-
   tree_if_fits : (rules : Rules) (o : Option Expression) (b : Bool) → MayBe table o b → Fits (tree_cond_if o table rules) b
-  tree_if_fits rules o b h = grind (arith, tree_fits)
+  tree_if_fits rules o b h = grind (arith, yes_is_true, no_is_false)
 
   -- The case of `#if` and `#elif`.
   expression_fits : (rules : Rules) (after : List ℕ) (b : Bool) → MayBe table (expression_of after) b → Fits (expression_cond after table rules) b
@@ -75,18 +70,12 @@ module _ (table : List Argument) where
   test_fits : (rules : Rules) (p : Test) (after : List ℕ) (b : Bool) → MayBe table (condition_by_test p after) b → Fits (decision_by_test p after table rules).cond b
   test_fits rules p after b h = grind (arith, expression_fits, ifdef_fits, ifndef_fits)
 
-  condition_fits : (rules : Rules) (k : Kind) (after : List ℕ) (b : Bool) → MayBe table (condition_after k after) b → Fits (condition_of k after table rules).cond b
-  condition_fits rules k after b h = test_fits rules (test_of k) after b h
-
 -- The opener of an item is decided so.
 abbrev pub ItemFits : Item Reading → Bool → Type 0
 ItemFits (if_line p) b = Fits p.cond b
 ItemFits (elif_line p) b = Fits p.cond b
 ItemFits _ _ = Unit {0}
 
-content_fits : (o : Options) (r : Reading) (c : Content) (b : Bool) → r.scan.joins_after ≡ false → MayBe o.table (condition_by r.scan c) b → ItemFits (item_by o r c) b
-content_fits o r c b j h = grind (arith, condition_fits)
-
 -- A decision on a condition that ends on its line has each truth that C may give it.
 pub item_fits : (o : Options) (r : Reading) (b : Bool) → r.scan.joins_after ≡ false → MayBe o.table (condition_in r) b → ItemFits (item_of o r) b
-item_fits o r b j h = content_fits o r (content_of r.scan) b j h
+item_fits o r b j h = grind (arith, test_fits)

@@ -1,14 +1,13 @@
 -- A preprocessor that decides as C may agrees with the decision on each opener that it reaches in a
 -- text without a fault.
-use Rattle.std.proofs.Common.{◌≡◌, ℕ, List, [], ◌∷◌, ◌++◌, Bool, true, false, not, Option, None, refl, sym, ◌∙◌, ap, subst, if◌then◌else◌, arith}
+use Rattle.std.proofs.Common.{◌≡◌, ℕ, List, [], ◌∷◌, ◌++◌, Bool, true, false, not, Option, refl, ap, subst, if◌then◌else◌, arith, rules}
 use Rattle.ud_model.specs.text.Bytes.{is_white, skip_white}
 use Rattle.ud_model.specs.text.Scans.{Scan, Reading}
-use Rattle.ud_model.specs.sections.Directives.{Content, cut_keyword, directive, text, content_of, test_of}
+use Rattle.ud_model.specs.sections.Directives.{Content}
 use Rattle.ud_model.specs.conditions.Expressions.{Expression}
 use Rattle.ud_model.specs.declared.cond.Cond.{Cond}
-use Rattle.ud_model.specs.declared.cond.Cond.TheVariants.{Yes, No, Unknown}
+use Rattle.ud_model.specs.declared.cond.Cond.TheVariants.{Yes}
 use Rattle.ud_model.specs.declared.kind.Test.{Test}
-use Rattle.ud_model.specs.declared.kind.Test.TheVariants.{Nonzero, Defined, Undefined, Nothing}
 use Rattle.ud_model.specs.declared.verdict.Verdict.{Verdict}
 use Rattle.ud_model.specs.declared.verdict.Verdict.TheVariants.{Keep}
 use Rattle.ud_model.specs.sections.Tree.{Item, Opener, Nodes, Groups, Elifs, text_line, if_line, elif_line, else_line, endif_line, nothing, section, conditional, otherwise, first, elif, lines_of_nodes, lines_of_groups, lines_of_elifs}
@@ -16,41 +15,28 @@ use Rattle.ud_model.specs.sections.Tree as tree
 use Rattle.ud_model.specs.sections.Pruning.{marked, any_true, is_kept, an_if, an_elif, an_else, conds_of_elifs, conds_of_groups, endif_verdict}
 use Rattle.ud_model.specs.aids.SoFar.{verdict_so_far, nodes_so_far, groups_so_far, elifs_so_far}
 use Rattle.ud_model.specs.sections.Items.{Options}
-use Rattle.ud_model.specs.output.CSelection.{condition_by_test, condition_by, condition_in, MayBe}
+use Rattle.ud_model.specs.output.CSelection.{condition_by_test, condition_in, MayBe}
 use Rattle.ud_model.specs.output.Processing.{Condition, condition_of_test, condition_with, condition_on, expression_written, Preprocessor, over_readings, DecidesAsC, AgreesAs, NoneTrue, first_false, elif_false}
 use Rattle.ud_model.proofs.conditions.SpacesInFront.{condition_past}
 use Rattle.ud_model.proofs.output.Each.{Pairwise, pairwise_parts}
-use Rattle.ud_model.proofs.output.CConditions.{Fits, ItemFits, item_fits}
+use Rattle.ud_model.proofs.output.CConditions.{item_fits}
 use Rattle.ud_model.proofs.output.Changed.{as_many_nodes, as_many_groups, as_many_elifs}
-use Rattle.ud_model.proofs.output.CSelected.{Clear, Decided, if_moves, elif_moves, many_both, not_any}
+use Rattle.ud_model.proofs.output.CSelected.{Clear, elif_moves, many_both, not_any}
 use Rattle.ud_model.proofs.output.ProcessedPruned.{IsRight, NodesRight, GroupsRight, ElifsRight}
 
 -- 1. The expression of a condition as it is written.
 
 condition_next : (p : Test) (b : ℕ) (t : List ℕ) (w : Bool) → is_white b ≡ w → condition_by_test p (skip_white t) ≡ condition_by_test p t →
     condition_by_test p (if w then skip_white t else b ∷ t) ≡ condition_by_test p (b ∷ t)
-condition_next p b t true e h = h ∙ sym (condition_past p b t e)
-condition_next p b t false e h = refl
+condition_next p b t w h g = grind (arith, condition_past)
 
 condition_skips : (p : Test) (t : List ℕ) → condition_by_test p (skip_white t) ≡ condition_by_test p t
 condition_skips p [] = refl
 condition_skips p (b ∷ t) = condition_next p b t (is_white b) refl (condition_skips p t)
 
-expression_same : (p : Test) (t : List ℕ) (on : Bool) → expression_written (condition_of_test p t on) ≡ (if on then None else condition_by_test p t)
-expression_same Nothing t true = refl
-expression_same Nothing t false = refl
-expression_same Nonzero t on = ap (λ (x : Option Expression). if on then None else x) (condition_skips Nonzero t)
-expression_same Defined t on = ap (λ (x : Option Expression). if on then None else x) (condition_skips Defined t)
-expression_same Undefined t on = ap (λ (x : Option Expression). if on then None else x) (condition_skips Undefined t)
-
-expression_with : (scan : Scan) (c : Content) → expression_written (condition_with scan c) ≡ condition_by scan c
-expression_with scan cut_keyword = refl
-expression_with scan text = refl
-expression_with scan (directive d) = expression_same (test_of d.kind) d.after scan.joins_after
-
 -- The expression of the condition as it is written is the condition of the line.
 expression_is : (r : Reading) → expression_written (condition_on r) ≡ condition_in r
-expression_is r = expression_with r.scan (content_of r.scan)
+expression_is r = grind (arith, condition_skips)
 
 -- 2. Down the tree.
 
@@ -58,25 +44,14 @@ test_ends : (p : Test) (after : List ℕ) (on : Bool) → on ≡ false → (cond
 test_ends p after on e = grind arith
 
 ends_with : (scan : Scan) (c : Content) → scan.joins_after ≡ false → (condition_with scan c).goes_on ≡ false
-ends_with scan cut_keyword e = refl
-ends_with scan text e = refl
-ends_with scan (directive d) e = test_ends (test_of d.kind) d.after scan.joins_after e
+ends_with scan c h = grind arith
 
 module _ {S : Type 0} where
-  right_by : (c : Cond) (b : Bool) (s t : S) → (Decided c → Fits c b × (s ≡ t)) → AgreesAs c b s t
-  right_by Yes b s t h = h tt
-  right_by No b s t h = h tt
-  right_by Unknown b s t h = tt
-
   kept_by : (cs : List Cond) (c : Cond) (s t : S) → any_true cs ≡ false → AgreesAs c true s t → is_kept cs c ≡ true
-  kept_by cs Yes s t e a = ap not e
-  kept_by cs No s t e a = let f : true ≡ false = a.0 in cc
-  kept_by cs Unknown s t e a = ap not e
+  kept_by cs c s t h g = grind arith
 
   not_yes : (c : Cond) (s t : S) → AgreesAs c false s t → c ≡ Yes → ⊥
-  not_yes Yes s t a e = let f : false ≡ true = a.0 in cc
-  not_yes No s t a e = cc
-  not_yes Unknown s t a e = cc
+  not_yes c s t h g = grind arith
 
 module _ (o : Options) {S F : Type 0} (takes : S → List ℕ → Scan → S → Type 0) (enters : S → List ℕ → Scan → F → S → Type 0) (leaves : S → S → Type 0) (decides : S → Condition → Bool → S → Type 0)
     (as_c : DecidesAsC o.table decides) where
@@ -86,20 +61,13 @@ module _ (o : Options) {S F : Type 0} (takes : S → List ℕ → Scan → S →
   may_be : (r : Reading) (s t : S) (b : Bool) → decides s (condition_on r) b t → MayBe o.table (condition_in r) b
   may_be r s t b d = subst (λ (x : Option Expression). MayBe o.table x b) (expression_is r) (as_c s (condition_on r) b t d).0
 
-  stays_there : (r : Reading) (s t : S) (b : Bool) → r.scan.joins_after ≡ false → decides s (condition_on r) b t → s ≡ t
-  stays_there r s t b e d = (as_c s (condition_on r) b t d).1 (ends_with r.scan (content_of r.scan) e)
-
   -- The case of an `#if` that is reached.
   if_right : (q : Opener Reading) → Clear o (if_line q) (marked true (verdict_so_far [] an_if q.cond)) → IsRight p q
-  if_right q k s b t d = right_by q.cond b s t (λ e.
-      let j : q.line.scan.joins_after ≡ false = k.alone refl refl (if_moves q.cond e) in
-      (subst (λ (x : Item Reading). ItemFits x b) (sym k.own) (item_fits o q.line b j (may_be q.line s t b d)), stays_there q.line s t b j d))
+  if_right q k s b t d = search (rules, item_fits, may_be)
 
   -- The case of an `#elif` that is reached.
   elif_right : (cs : List Cond) (q : Opener Reading) → Clear o (elif_line q) (marked true (verdict_so_far cs an_elif q.cond)) → IsRight p q
-  elif_right cs q k s b t d = right_by q.cond b s t (λ e.
-      let j : q.line.scan.joins_after ≡ false = k.alone refl refl (elif_moves cs q.cond e) in
-      (subst (λ (x : Item Reading). ItemFits x b) (sym k.own) (item_fits o q.line b j (may_be q.line s t b d)), stays_there q.line s t b j d))
+  elif_right cs q k s b t d = search (rules, elif_moves, item_fits, may_be, ends_with)
 
   at_kept : (b : Bool) (ns : Nodes Reading) → b ≡ true → Pairwise (Clear o) (lines_of_nodes ns) (nodes_so_far b ns) → Pairwise (Clear o) (lines_of_nodes ns) (nodes_so_far true ns)
   at_kept b ns e h = subst (λ (k : Bool). Pairwise (Clear o) (lines_of_nodes ns) (nodes_so_far k ns)) e h

@@ -3,7 +3,7 @@
 --
 -- A directive that is decided is edited or removed, if all groups around its section are kept. So
 -- it joins no other line, and its condition ends on its line.
-use Rattle.std.proofs.Common.{◌≡◌, List, [], ◌∷◌, ◌++◌, length, Bool, true, false, not, ◌&&◌, ◌||◌, Option, None, refl, sym, ◌∙◌, ap, subst, length-append, arith}
+use Rattle.std.proofs.Common.{◌≡◌, List, [], ◌∷◌, ◌++◌, length, Bool, true, false, not, ◌&&◌, ◌||◌, Option, None, refl, sym, ◌∙◌, ap, subst, length-append, arith, rules}
 use Rattle.std.proofs.lemmas.Bool.{false_from_ne_true}
 use Rattle.ud_model.specs.text.Scans.{Reading}
 use Rattle.ud_model.specs.declared.cond.Cond.{Cond}
@@ -18,7 +18,7 @@ use Rattle.ud_model.specs.output.CSelection.{condition_in, MayBe, IsCWorld}
 use Rattle.ud_model.specs.declared.verdict.Verdict.{Verdict}
 use Rattle.ud_model.specs.declared.verdict.Verdict.TheVariants.{Keep}
 use Rattle.ud_model.proofs.output.Each.{Pairwise, pairwise_both, pairwise_parts}
-use Rattle.ud_model.proofs.output.CConditions.{Fits, ItemFits, item_fits}
+use Rattle.ud_model.proofs.output.CConditions.{item_fits}
 use Rattle.ud_model.proofs.output.Changed.{as_many_nodes, as_many_groups, as_many_elifs}
 use Rattle.ud_model.proofs.sections.Growth.{Adds}
 use Rattle.ud_model.proofs.sections.Soundness.{reading_of-item_of, sound_lines}
@@ -59,9 +59,6 @@ abbrev pub Decided : Cond → Type 0
 Decided Unknown = ⊥
 Decided _ = Unit {0}
 
-pub if_moves : (c : Cond) → Decided c → keeps_rest (verdict_so_far [] an_if c) ≡ false
-if_moves c d = grind arith
-
 elif_at : (s : Stage) (c : Cond) → Decided c → keeps_rest (verdict_at s an_elif c) ≡ false
 elif_at s c d = grind arith
 
@@ -74,11 +71,9 @@ pub many_both : {A B : Type 0} (a c : List A) (b d : List B) → length a ≡ le
 many_both a c b d e f = simp length-append (omega (arith, e, f))
 
 pub not_any : (cs : List Cond) (c : Cond) → any_true cs ≡ false → (c ≡ Yes → ⊥) → any_true (cs ++ c ∷ []) ≡ false
-not_any [] Yes e n = absurd (n refl)
-not_any (Yes ∷ cs) c e n = cc
 not_any (No ∷ cs) c e n = not_any cs c e n
 not_any (Unknown ∷ cs) c e n = not_any cs c e n
-not_any [] _ _ n = refl
+not_any cs c h g = grind arith
 
 module _ (o : Options) (w : World Reading) where
   abbrev Possible : Opener Reading → Type 0
@@ -87,21 +82,16 @@ module _ (o : Options) (w : World Reading) where
   abbrev Right : Opener Reading → Type 0
   Right p = AgreesWith w p.cond p.line
 
-  agrees_by : (c : Cond) (l : Reading) → Fits c (w l) → AgreesWith w c l
-  agrees_by c l h = grind arith
-
   decided_by : (c : Cond) (l : Reading) → (Decided c → AgreesWith w c l) → AgreesWith w c l
   decided_by c l h = grind arith
 
   -- The case of an `#if` that is reached.
   if_right : (p : Opener Reading) → Clear o (if_line p) (marked true (verdict_so_far [] an_if p.cond)) → Possible p → Right p
-  if_right p k h = decided_by p.cond p.line (λ d.
-      agrees_by p.cond p.line (subst (λ (x : Item Reading). ItemFits x (w p.line)) (sym k.own) (item_fits o p.line (w p.line) (k.alone refl refl (if_moves p.cond d)) h)))
+  if_right p k h = search (rules, decided_by, item_fits)
 
   -- The case of an `#elif` that is reached.
   elif_right : (cs : List Cond) (p : Opener Reading) → Clear o (elif_line p) (marked true (verdict_so_far cs an_elif p.cond)) → Possible p → Right p
-  elif_right cs p k h = decided_by p.cond p.line (λ d.
-      agrees_by p.cond p.line (subst (λ (x : Item Reading). ItemFits x (w p.line)) (sym k.own) (item_fits o p.line (w p.line) (k.alone refl refl (elif_moves cs p.cond d)) h)))
+  elif_right cs p k h = search (rules, decided_by, item_fits, elif_moves)
 
   -- A group that is processed is kept.
   kept_by : (cs : List Cond) (c : Cond) (l : Reading) → any_true cs ≡ false → AgreesWith w c l → w l ≡ true → is_kept cs c ≡ true

@@ -1,10 +1,9 @@
 -- Changed: some line of a text differs exactly if the output isn't the input.
-use Rattle.std.proofs.Common.{◌≡◌, ℕ, ◌+◌, ◌≤◌, List, [], ◌∷◌, ◌++◌, length, map, Bool, true, false, not, ◌&&◌, bytes_eq, Option, None, refl, sym, ◌∙◌, ap, ap₂, subst, arith, append-nil, append_assoc, length-append}
+use Rattle.std.proofs.Common.{◌≡◌, ℕ, ◌+◌, ◌≤◌, List, [], ◌∷◌, ◌++◌, length, map, Bool, true, false, not, ◌&&◌, bytes_eq, Option, None, refl, sym, ◌∙◌, ap, ap₂, subst, arith, append-nil, append_assoc, length-append, rules}
 use Rattle.std.specs.List.{concat}
 use Rattle.ud_model.specs.text.Lines.{Line, text_of, texts_of, lines_of}
 use Rattle.ud_model.specs.text.Scans.{Reading}
 use Rattle.ud_model.specs.sections.Directives.{content_of}
-use Rattle.ud_model.specs.text.Splicing.{content}
 use Rattle.ud_model.specs.text.Scanning.{scan_after}
 use Rattle.ud_model.specs.sections.Tree.{Item, Opener, Nodes, Groups, Elifs, Head, Tree, text_line, if_line, elif_line, else_line, endif_line, nothing, text, section, conditional, otherwise, first, elif, closed, open_section, lines, lines_of_nodes, lines_of_groups, lines_of_elifs, innermost}
 use Rattle.ud_model.specs.sections.Items.{Options, reading_of, line_of, mode_after, read_after, next_item}
@@ -18,7 +17,6 @@ use Rattle.ud_model.specs.declared.cond.Cond.TheVariants.{Yes}
 use Rattle.ud_model.specs.declared.verdict.Verdict.{Verdict}
 use Rattle.ud_model.specs.declared.verdict.Verdict.TheVariants.{Keep, Remove, ToIf, ToElse, ToEndif}
 use Rattle.ud_model.specs.declared.kind.Mode.{Mode}
-use Rattle.ud_model.specs.declared.kind.Mode.TheVariants.{C, Plain}
 use Rattle.ud_model.specs.declared.settings.Settings.{Settings}
 use Rattle.ud_model.specs.declared.settings.Listing.TheVariants.{Off}
 use Rattle.ud_model.proofs.output.Each.{Each, each_parts, each_both}
@@ -72,14 +70,9 @@ module _ (blank : Bool) where
   then_loose : (xs ys : List (Item Reading)) (ms ns : List Mark) → length xs ≡ length ms → ItemsFit xs ms → Loose f (judged_lines ys ns) → Loose f (judged_lines (xs ++ ys) (ms ++ ns))
   then_loose xs ys ms ns e a b = grind (arith, judged_more, fits_loose)
 
-  keeps_mark : (kept : Bool) (v : Verdict) → KeepsOrGoes v → KeepsOrGoes (marked kept v).verdict
-  keeps_mark kept v h = grind arith
-
   -- A line that stays or is removed fits.
   one_fits : (x : Item Reading) (kept : Bool) (v : Verdict) → KeepsOrGoes v → ItemsFit (x ∷ []) (marked kept v ∷ [])
-  one_fits x kept v h =
-      fits_one f (judged_line x (marked kept v))
-      (keeps_size blank (marked kept v).verdict (keyword_in (content_of (reading_of x).scan)) (line_of x) (keeps_mark kept v h))
+  one_fits x kept v h = search (rules, fits_one, keeps_size)
 
   -- The case of a line whose keyword has four bytes at least.
   word_size : (x : Item Reading) → HasWord (reading_of x) 4 → (v : Verdict) →
@@ -115,20 +108,13 @@ module _ (blank : Bool) where
   opener_any false xs ms x was now v e w m a = items_then xs (x ∷ []) ms (marked false Remove ∷ []) e a (one_fits x false Remove tt)
 
   closing_size : (x : Item Reading) → HasWord (reading_of x) 5 → length (f (judged_line x (marked true Remove))) + 2 ≤ length (whole (judged_line x (marked true Remove)))
-  closing_size x w =
-      let s = removed_size blank (keyword_in (content_of (reading_of x).scan)) (line_of x) in
-      let a = w.size in
-      let h = w.within in
-      omega (arith, s, a, h)
+  closing_size x w = omega (arith, removed_size blank (keyword_in (content_of (reading_of x).scan)) (line_of x), w.size, w.within)
 
   endif_step : (kept past : Bool) (xs : List (Item Reading)) (ms : List Mark) (x : Item Reading) (v : Verdict) → length xs ≡ length ms → HasWord (reading_of x) 5 →
       KeepsOrGoes v → (past ≡ true → v ≡ Remove) → Held (kept && past) xs ms → ItemsFit (xs ++ x ∷ []) (ms ++ marked kept v ∷ [])
   endif_step false past xs ms x v e w k h a = items_then xs (x ∷ []) ms (marked false Remove ∷ []) e a (one_fits x false Remove tt)
   endif_step true false xs ms x v e w k h a = items_then xs (x ∷ []) ms (marked true v ∷ []) e a (one_fits x true v k)
-  endif_step true true xs ms x v e w k h a =
-      subst (λ (u : Verdict). ItemsFit (xs ++ x ∷ []) (ms ++ marked true u ∷ [])) (sym (h refl))
-      (subst (Fits f) (sym (judged_more xs (x ∷ []) ms (marked true Remove ∷ []) e))
-      (loose_closed f (judged_lines xs ms) (judged_line x (marked true Remove)) a (closing_size x w)))
+  endif_step true true xs ms x v e w k h a = grind (arith, judged_more, loose_closed, closing_size)
 
   more_long : (xs : List (Item Reading)) (ms : List Mark) (x : Item Reading) (m : Mark) → length xs ≡ length ms → length (xs ++ x ∷ []) ≡ length (ms ++ m ∷ [])
   more_long xs ms x m e = simp length-append (omega (arith, e))
@@ -144,12 +130,7 @@ module _ (blank : Bool) where
   section_fits : (kept past : Bool) (xs ys : List (Item Reading)) (ms ns : List Mark) (l : Reading) (v : Verdict) → length xs ≡ length ms → length ys ≡ length ns →
       HasWord l 5 → KeepsOrGoes v → (past ≡ true → v ≡ Remove) → ItemsFit xs ms → Held (kept && past) ys ns →
       ItemsFit ((xs ++ ys) ++ endif_line l ∷ []) ((ms ++ ns) ++ marked kept v ∷ [])
-  section_fits kept past xs ys ms ns l v d e w k h a b =
-      let rest : ItemsFit (ys ++ endif_line l ∷ []) (ns ++ marked kept v ∷ []) = endif_step kept past ys ns (endif_line l) v e w k h b in
-      let all : ItemsFit (xs ++ (ys ++ endif_line l ∷ [])) (ms ++ (ns ++ marked kept v ∷ [])) =
-      items_then xs (ys ++ endif_line l ∷ []) ms (ns ++ marked kept v ∷ []) d a rest in
-      subst (λ (zs : List (Item Reading)). ItemsFit zs ((ms ++ ns) ++ marked kept v ∷ [])) (sym (append_assoc xs ys (endif_line l ∷ [])))
-      (subst (λ (ks : List Mark). ItemsFit (xs ++ (ys ++ endif_line l ∷ [])) ks) (sym (append_assoc ms ns (marked kept v ∷ []))) all)
+  section_fits kept past xs ys ms ns l v d e w k h a b = search (rules, endif_step, items_then, append_assoc)
 
   mutual
     pub nodes_fit : (kept : Bool) (ns : Nodes Reading) → Each HasKeyword (lines_of_nodes ns) → ItemsFit (lines_of_nodes ns) (nodes_so_far kept ns)
@@ -196,14 +177,10 @@ abbrev pub lone : Bool → Bool → Judged → List ℕ
 lone blank true j = piece_alone blank (complemented j)
 lone blank false j = piece_alone blank j
 
-piece_lone : (b c n : Bool) (before : List Judged) (j : Judged) → n ≡ false → piece_after (record { blank = b; complement = c; renumber = n }) before j ≡ lone b c j
-piece_lone b c n before j e = grind arith
-
 -- If lines aren't numbered, each is printed by itself.
 pub pieces_lone : (b c n : Bool) (before js : List Judged) → n ≡ false → pieces_by (piece_after (record { blank = b; complement = c; renumber = n })) before js ≡ map (lone b c) js
 pieces_lone b c n before [] e = refl
-pieces_lone b c n before (j ∷ js) e =
-    ap₂ (λ (p : List ℕ) (ps : List (List ℕ)). p ∷ ps) (piece_lone b c n before j e) (pieces_lone b c n (before ++ j ∷ []) js e)
+pieces_lone b c n before (j ∷ js) e = grind (arith, pieces_lone b c n (before ++ j ∷ []) js e)
 
 nodes_lone : (b c : Bool) (ns : Nodes Reading) → Each HasKeyword (lines_of_nodes ns) → Fits (lone b c) (judged_lines (lines_of_nodes ns) (marks (closed ns)))
 nodes_lone b true ns h = fits_all (lone b true) (judged_lines (lines_of_nodes ns) (marks (closed ns))) (λ j. turned_size b j)
@@ -211,13 +188,7 @@ nodes_lone b false ns h =
     subst (λ (ms : List Mark). Fits (lone b false) (judged_lines (lines_of_nodes ns) ms)) (sym (marks_so_far_same true (closed ns))) (nodes_fit b true ns h)
 
 masked_size : (xs : List Reading) (m : Mode) (l : Line) → length (scan_after xs m l).masked ≤ length l.body
-masked_size xs C l =
-    let a : length (scan_after xs C l).masked ≡ length (content l) = length-masked xs l in
-    let b : (rest : List ℕ) × (l.body ≡ content l ++ rest) = content-prefix l in
-    let c : length l.body ≡ length (content l ++ b.0) = ap (λ (q : List ℕ). length q) b.1 in
-    let d : length (content l ++ b.0) ≡ length (content l) + length b.0 = length-append (content l) b.0 in
-    omega arith
-masked_size xs Plain l = omega arith
+masked_size xs m l = search (rules, length-masked, content-prefix, length-append)
 
 -- The keywords of faultless lines lie in them.
 pub keywords : {o : Options} {xs : List (Item Reading)} {t : Tree Reading} → AreFaultless o xs t → Each HasKeyword xs
@@ -228,9 +199,8 @@ keywords {o = o} (one_more xs t s l u e n) =
 
 -- The lines of items.
 pub whole_lines_are : (xs : List (Item Reading)) (ms : List Mark) → length xs ≡ length ms → map whole (judged_lines xs ms) ≡ map text_of (map line_of xs)
-whole_lines_are [] ms e = refl
-whole_lines_are (x ∷ xs) [] e = absurd (omega arith)
 whole_lines_are (x ∷ xs) (m ∷ ms) e = ap (λ (ls : List (List ℕ)). text_of (line_of x) ∷ ls) (whole_lines_are xs ms (omega arith))
+whole_lines_are xs ms h = grind arith
 
 -- The lines of a text, joined, are the text.
 pub lines_join : (input : List ℕ) → concat (map text_of (lines_of input)) ≡ input
@@ -242,10 +212,8 @@ module _ (s : Settings) (n : s.renumber ≡ false) where
   closed_differs input ns h e =
       let js : List Judged = judged_lines (lines_of_nodes ns) (marks (closed ns)) in
       let ps : pieces_by (piece_after (style_of s)) [] js ≡ map (lone s.blank s.complement) js = pieces_lone s.blank s.complement s.renumber [] js n in
-      let many : length (lines_of_nodes ns) ≡ length (marks (closed ns)) =
-      as_many_nodes true ns ∙ ap (λ (ms : List Mark). length ms) (sym (marks_so_far_same true (closed ns))) in
-      let back : out whole js ≡ input =
-      ap (λ (ls : List (List ℕ)). concat ls) (whole_lines_are (lines_of_nodes ns) (marks (closed ns)) many ∙ ap (λ (ls : List Line). map text_of ls) e) ∙ lines_join input in
+      let many : length (lines_of_nodes ns) ≡ length (marks (closed ns)) = cc (as_many_nodes true ns, marks_so_far_same true (closed ns)) in
+      let back : out whole js ≡ input = cc (whole_lines_are (lines_of_nodes ns) (marks (closed ns)) many, e, lines_join input) in
       ap (λ (qs : List (List ℕ)). some_other qs js) ps
       ∙ fits_differs (lone s.blank s.complement) js (nodes_lone s.blank s.complement ns h)
       ∙ ap₂ (λ (a b : List ℕ). not (bytes_eq a b)) (ap (λ (qs : List (List ℕ)). concat qs) (sym ps)) back

@@ -1,30 +1,46 @@
--- Chosen worlds: the truths that numbers for the uses of the open names give the conditions of the
--- input are those of the simplified output.
-use Rattle.std.proofs.Common.{◌≡◌, ◌≢◌, ℕ, List, map, length, Bool, Option, None, refl, sym, ◌∙◌, ap, arith}
-use Rattle.std.proofs.lemmas.List.{length-map}
+-- Of a simplified text the same lines are selected, by the truths that numbers for the uses of the
+-- open names give the conditions.
+use Rattle.std.proofs.Common.{◌≡◌, ℕ, List, map, subst, arith, ◌≢◌, length, Bool, Option, None, refl, sym, ◌∙◌, ap}
 use Rattle.ud_model.specs.text.Scans.{Reading}
+use Rattle.ud_model.specs.sections.Tree.{Nodes, closed, Item, Opener, Groups, Elifs, nothing, text, section, conditional, otherwise, first, elif}
+use Rattle.ud_model.specs.sections.Items.{Options, rules_of, line_of}
+use Rattle.ud_model.specs.output.Worlds.{World, openers, openers_in, EachReached, GroupsReached, ElifsReached}
+use Rattle.ud_model.specs.output.Rereading.{IsPlainC, IsTreeOf, CleanRun, KeepsTruths, line_bytes, selected_bytes}
+use Rattle.ud_model.specs.output.SimplifiedTrees.{NodesSimplified, IsChosen, IsChosenWorld}
+use Rattle.ud_model.specs.output.SimplifiedTexts.{simplified_text}
+use Rattle.ud_model.proofs.sections.Soundness.{one_tree_of, read_lines}
+use Rattle.ud_model.proofs.output.SimplifiedTree.{Like, simplified_tree, with_truths, long}
+use Rattle.ud_model.proofs.output.SimplifiedLineTexts.{lines_left}
+use Rattle.std.proofs.lemmas.List.{length-map}
 use Rattle.ud_model.specs.conditions.Table.{Argument}
 use Rattle.ud_model.specs.conditions.Expressions.{Expression}
-use Rattle.ud_model.specs.sections.Tree.{Item, Opener, Nodes, Groups, Elifs, nothing, text, section, conditional, otherwise, first, elif, closed}
-use Rattle.ud_model.specs.sections.Items.{Options, rules_of, line_of}
 use Rattle.ud_model.specs.answer.CommandLine.{options_of}
 use Rattle.ud_model.specs.answer.Outcomes.{Outcome, HasOutcome}
 use Rattle.ud_model.specs.answer.Answer.{Answer, IsAnswer, refused, ran}
-use Rattle.ud_model.specs.output.Worlds.{World, openers, openers_in, EachReached, GroupsReached, ElifsReached}
 use Rattle.ud_model.specs.output.Pruned.{Edited, pruned_lines}
-use Rattle.ud_model.specs.output.Rereading.{CleanRun, IsPlainC, IsTreeOf, KeepsTruths, line_bytes, selected_bytes}
 use Rattle.ud_model.specs.output.CSelection.{condition_in, MayBe, IsCWorld}
-use Rattle.ud_model.specs.output.SimplifiedTrees.{IsChosen, IsChosenWorld, NodesSimplified}
-use Rattle.ud_model.specs.output.SimplifiedTexts.{simplified_text}
 use Rattle.ud_model.proofs.conditions.ChoiceValues.{choice_may}
-use Rattle.ud_model.proofs.sections.Soundness.{read_lines}
 use Rattle.ud_model.proofs.output.WorldsExist.{world_of}
 use Rattle.ud_model.proofs.output.AnswerLaws.{faultless}
 use Rattle.ud_model.proofs.output.RereadLaws.{Result, reread, truths_kept, reached_again, c_world_agrees, c_selected_again}
 use Rattle.ud_model.proofs.output.SimplifiedSelected.{selects, chosen_world}
-use Rattle.ud_model.proofs.output.SimplifiedTree.{simplified_tree, long}
-use Rattle.ud_model.proofs.output.SimplifiedLineTexts.{lines_left}
-use Rattle.ud_model.proofs.output.SimplifiedAnswers.{nodes_alike, nodes_simplified}
+
+nodes_are : (a b : Nodes Reading) → closed a ≡ closed b → a ≡ b
+nodes_are a b e = cc
+
+-- The nodes of the simplified text are those of the text, with simplified openers.
+pub nodes_alike : (o : Options) → IsPlainC o → (bytes : List ℕ) (us ss : Nodes Reading) → IsTreeOf o bytes (closed us) → IsTreeOf o (simplified_text o.table (rules_of o.settings) bytes) (closed ss) → Like o us ss
+nodes_alike o p bytes us ss i j =
+    let t = simplified_tree o p.plain.none_ignores p.in_c bytes us i (lines_left o.table (rules_of o.settings) bytes) in
+    subst (λ (ns : Nodes Reading). Like o us ns) (nodes_are t.0 ss (one_tree_of o (simplified_text o.table (rules_of o.settings) bytes) (closed t.0) (closed ss) t.1 j)) t.2
+
+-- With the same truths, both are alike in the worlds, too.
+pub nodes_simplified : (o : Options) → IsPlainC o → (bytes : List ℕ) (us ss : Nodes Reading) → IsTreeOf o bytes (closed us) →
+    IsTreeOf o (simplified_text o.table (rules_of o.settings) bytes) (closed ss) → (x v : World Reading) → map v (openers ss) ≡ map x (openers us) →
+    NodesSimplified o.table (rules_of o.settings) x v us ss
+nodes_simplified o p bytes us ss i j x v e = grind (arith, with_truths o x v (nodes_alike o p bytes us ss i j) e)
+
+-- Chosen worlds: the truths of the conditions of the input are those of the simplified output.
 
 -- A condition that some numbers give a truth may have this truth in C.
 chosen_may : (table : List Argument) (e : Option Expression) (b : Bool) → IsChosen table e b → MayBe table e b

@@ -1,6 +1,6 @@
 -- Counted lines: under `-n` and `-b` each line of the output has its own number, by counting on and
 -- by the inserted lines.
-use Rattle.std.proofs.Common.{◌≡◌, ◌≢◌, ℕ, suc, ◌^◌, ◌<◌, List, [], ◌∷◌, ◌++◌, length, map, Bool, true, false, ◌||◌, if◌then◌else◌, ◌⊎◌, inl, inr, refl, sym, ◌∙◌, ap, ap₂, subst, append_assoc, append-nil, length-append, arith}
+use Rattle.std.proofs.Common.{◌≡◌, ◌≢◌, ℕ, suc, ◌^◌, ◌<◌, List, [], ◌∷◌, ◌++◌, length, map, Bool, true, false, ◌||◌, if◌then◌else◌, ◌⊎◌, inl, inr, refl, sym, ◌∙◌, ap, ap₂, subst, append_assoc, append-nil, length-append, arith, rules}
 use Rattle.std.specs.List.{concat}
 use Rattle.std.proofs.lemmas.List.Folds.{concat-append}
 use Rattle.std.proofs.lemmas.List.{map-append}
@@ -31,8 +31,7 @@ use Rattle.ud_model.proofs.output.LoneLines.{IsQuiet, number_quiet, quiet_whole,
 use Rattle.ud_model.proofs.output.OutputPieces.{line_in, LeftOne, left_one}
 use Rattle.ud_model.proofs.output.PrintedPruned.{printed-append}
 use Rattle.ud_model.proofs.output.RereadLaws.{item_bytes}
-use Rattle.ud_model.proofs.output.RereadMore.{last_removed as last_removed_mark}
-use Rattle.ud_model.proofs.output.Rereads.{Again, Between, Carry, alike, gone, IsLine, start}
+use Rattle.ud_model.proofs.output.RereadMore.{last_removed as last_removed_mark, Again, Between, Carry, alike, gone, IsLine, start}
 use Rattle.ud_model.proofs.output.RereadStep.{More, the_more, step, plain_run, stayed_alone, goes_or_left, left_stays}
 use Rattle.ud_model.proofs.output.Inserting.{Weave, line_behind, with_line, are_more, put, put_lone, left, left_seen, lines_last, read_once, piece_of, gone_blank, gone_number, left_blank, removed_last}
 
@@ -223,11 +222,8 @@ module _ (o : Options) (m : Mode) (b n : Bool) (some : (b || n) ≡ true) where
     removed_t : last_removed (so_far xs t) ≡ ends_removed (marks t)
     removed_t = removed_last xs (marks t) k.long
 
-    long_u : length (xs ++ x ∷ []) ≡ suc (length xs)
-    long_u = length-append xs (x ∷ []) ∙ omega arith
-
     after : suc j.line.number ≡ suc (length (xs ++ x ∷ []))
-    after = ap (λ (d : ℕ). suc d) (ap (λ (d : Line). d.number) line_j ∙ num ∙ sym long_u)
+    after = grind (arith, line_j, length-append)
 
     -- The count is at the line's own number.
     counts : s.next ≡ suc (length xs) → Counted (so_far xs t) (map reading_of s.ys) (map reading_of s.zs) j.line.number
@@ -273,9 +269,7 @@ module _ (o : Options) (m : Mode) (b n : Bool) (some : (b || n) ≡ true) where
           qs = s.qs ++ d ∷ [];
           weave = w;
           whole = whole_more s.qs d s.whole (quiet_whole (says_number j.line.number) (ending_or_newline j.line.ending) (says_quiet j.line.number few) end);
-          same = ap (λ (c : List ℕ). c ++ piece_by j.verdict j.keyword j.line) (concat_more s.qs d)
-              ∙ append_assoc (concat s.qs) d (piece_by j.verdict j.keyword j.line)
-              ∙ ap₂ (λ (a c : List ℕ). a ++ c) s.same (sym g) ∙ sym shown_u;
+          same = cc (concat_more s.qs d, append_assoc (concat s.qs) d (piece_by j.verdict j.keyword j.line), s.same, g, shown_u);
           count = λ r p h. subst (λ (js : List Judged). Counted js (map reading_of s.ys ++ r ∷ []) (map reading_of (with_line o m s.zs (line_behind s.qs d)) ++ p ∷ []) (suc j.line.number)) (sym js_u)
               (subst (λ (rs : List Reading). Counted (so_far xs t ++ j ∷ []) (map reading_of s.ys ++ r ∷ []) (rs ++ p ∷ []) (suc j.line.number)) (sym (readings_last o s.zs s.zs m (line_behind s.qs d)))
               (starts_anew s.counted j z (ap (λ (y : Line). y.body) cut, put_lone o m s.ys s.zs s.qs s.weave rest d quiet) r p h));
@@ -307,12 +301,7 @@ module _ (o : Options) (m : Mode) (b n : Bool) (some : (b || n) ≡ true) where
     p = piece_by j.verdict j.keyword j.line
 
     printed_here : (h : IsLeft v) (r : Ready) → IsPrinted j (read_after s.ys m (line_behind (bytes_of s.ys) p)) (read_after r.zs m (line_behind r.qs p))
-    printed_here h r = record {
-      stays = left_stays v h;
-      bytes = text_of-line_at (suc (length (bytes_of s.ys))) p;
-      same = text_of-line_at (suc (length r.qs)) p ∙ sym (text_of-line_at (suc (length (bytes_of s.ys))) p);
-      scanned = left_seen o m s.ys r.zs r.qs r.weave (suc (length (bytes_of s.ys))) p;
-    }
+    printed_here h r = search (rules, left_stays, text_of-line_at, left_seen)
 
     counted_here : (h : IsLeft v) (r : Ready) →
         Counted (so_far (xs ++ x ∷ []) u) (map reading_of (with_line o m s.ys (line_behind (bytes_of s.ys) p))) (map reading_of (with_line o m r.zs (line_behind r.qs p))) (suc j.line.number)
@@ -395,8 +384,7 @@ module _ (o : Options) (m : Mode) (b n : Bool) (some : (b || n) ≡ true) where
               qs = s.qs ++ d ∷ [];
               weave = put o m s.ys s.zs s.qs s.weave rest d quiet;
               whole = whole_more s.qs d s.whole (quiet_whole [] d tt de);
-              same = concat_more s.qs d
-                  ∙ ap₂ (λ (a c : List ℕ). a ++ c) s.same (sym (ap (λ (c : Bool). piece_of c n (so_far xs t) j) g ∙ gone_blank n (so_far xs t) j f)) ∙ sym shown_u;
+              same = cc (concat_more s.qs d, s.same, g, gone_blank n (so_far xs t) j f, shown_u);
               next = suc j.line.number;
               counted = subst (λ (js : List Judged). Counted js (map reading_of s.ys) (map reading_of (with_line o m s.zs (line_behind s.qs d))) (suc j.line.number)) (sym js_u)
                   (subst (λ (rs : List Reading). Counted (so_far xs t ++ j ∷ []) (map reading_of s.ys) rs (suc j.line.number)) (sym (readings_last o s.zs s.zs m (line_behind s.qs d)))
@@ -441,11 +429,7 @@ module _ (o : Options) (m : Mode) (b n : Bool) (some : (b || n) ≡ true) where
         nothing_shown c g = grind arith
 
     pub next_state : HasEnd l → State (xs ++ x ∷ []) u
-    next_state end = by_verdict (goes_or_left v)
-      where
-        by_verdict : (v ≡ Remove) ⊎ IsLeft v → State (xs ++ x ∷ []) u
-        by_verdict (inl f) = gone_state end f
-        by_verdict (inr h) = left_state end h
+    next_state end = grind (arith, goes_or_left, gone_state, left_state)
 
     pub next_done : Done (xs ++ x ∷ []) u
     next_done = by_ending (ends_or_not l i) (goes_or_left v)

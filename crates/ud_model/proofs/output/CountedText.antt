@@ -4,19 +4,17 @@ use Rattle.std.specs.List.{concat}
 use Rattle.std.proofs.lemmas.List.{map-append}
 use Rattle.ud_model.specs.text.Lines.{Line, lines_of, numbered_from, AreFormed}
 use Rattle.ud_model.specs.text.Scans.{Reading}
-use Rattle.ud_model.specs.text.Scanning.{next_reading, readings_of}
 use Rattle.ud_model.specs.sections.Tree.{Item, Tree, lines}
 use Rattle.ud_model.specs.sections.Pruning.{marks}
 use Rattle.ud_model.specs.sections.Items.{Options, reading_of, line_of, item_of, read_after, next_item}
 use Rattle.ud_model.specs.sections.Faults.{Fault, AreFaultless, no_lines, one_more, NoneHolds, cases}
-use Rattle.ud_model.specs.answer.Printing.{Judged, piece_after, pieces_by, judged_lines}
-use Rattle.ud_model.specs.answer.Outcomes.{Outcome, output_by, ReadsAs, JudgedAs, judged_as, HasOutcome, ran_as}
+use Rattle.ud_model.specs.answer.Printing.{Judged, judged_lines}
+use Rattle.ud_model.specs.answer.Outcomes.{Outcome, ReadsAs, JudgedAs, judged_as, HasOutcome, ran_as}
 use Rattle.ud_model.specs.output.Pruned.{printed}
 use Rattle.ud_model.specs.output.Rereading.{IsPlain}
-use Rattle.ud_model.specs.output.InsertedLines.{with_blank_renumber, AddsNumbers, in_mode, read_in, read_as, Counted, CountsLines}
+use Rattle.ud_model.specs.output.InsertedLines.{with_blank_renumber, AddsNumbers, read_in, read_as, Counted, CountsLines}
 use Rattle.ud_model.specs.declared.limits.TheConstants.{TEXT_LINES}
 use Rattle.ud_model.specs.declared.kind.Mode.{Mode}
-use Rattle.ud_model.specs.declared.settings.Listing.{Listing}
 use Rattle.ud_model.proofs.text.ScanLaws.{readings_after-append}
 use Rattle.ud_model.proofs.sections.Soundness.{reading_of-next, lines_with_next, sound_lines, one_run}
 use Rattle.ud_model.proofs.output.BlankedLineLemmas.{lines_read, judged_read}
@@ -27,7 +25,7 @@ use Rattle.ud_model.proofs.output.LeavesOff.{readings_last}
 use Rattle.ud_model.proofs.output.OutputPieces.{all_formed, all_pieces, output_lines}
 use Rattle.ud_model.proofs.output.RereadChain.{AllButLast, IsInner, ends_before, lines_end, next_is}
 use Rattle.ud_model.proofs.output.RereadLaws.{plain_output, left_piece, item_bytes}
-use Rattle.ud_model.proofs.output.Rereads.{IsLine}
+use Rattle.ud_model.proofs.output.RereadMore.{IsLine}
 use Rattle.ud_model.proofs.output.SharedLineLemmas.{reads_too}
 use Rattle.ud_model.proofs.output.Inserting.{lines_last}
 
@@ -85,12 +83,7 @@ module _ (o : Options) (p : IsPlain o) (b n : Bool) (some : (b || n) ≡ true) w
 -- Readings in one mode are those of their lines.
 read_lines_in : (o : Options) (m : Mode) (ys : List (Item Reading)) → ReadIn o m ys → map reading_of ys ≡ read_in m (map line_of ys)
 read_lines_in o m _ none_read = refl
-read_lines_in o m _ (one_read ys r l) =
-    readings_last o ys ys m l
-    ∙ ap (λ (rs : List Reading). rs ++ next_reading rs m l ∷ []) (read_lines_in o m ys r)
-    ∙ sym (readings_after-append [] (map (in_mode m) (map line_of ys)) (in_mode m l ∷ []))
-    ∙ ap (λ (ks : List (Mode × Line)). readings_of ks) (sym (map-append (in_mode m) (map line_of ys) (l ∷ [])))
-    ∙ ap (λ (ls : List Line). read_in m ls) (sym (lines_last o ys m l))
+read_lines_in o m _ (one_read ys r l) = grind (arith, readings_last, read_lines_in o m ys r, readings_after-append, map-append, lines_last)
 
 reads_sound : {o : Options} {input : List ℕ} {xs : List (Item Reading)} {t : Tree Reading} {f : Option Fault} → ReadsAs o input xs t f → AreFaultless o xs t
 reads_sound h = grind arith
@@ -109,15 +102,12 @@ counted_text o p b n some input {xs = xs} {t = t} {r = r} {s = s} a run other =
     let ls = lines_read a in
     let d : Done o m b n some xs t =
     to_the_end o p b n some (reads_sound a) (subst AllButLast (sym ls.2) (lines_end 1 ls.0 ls.1)) (subst (InOrder 1) (sym ls.2) (numbered_in_order 1 ls.0)) in
-    let plain : r.output ≡ concat (map left_piece (printed xs (marks t))) =
-    ap (λ (z : Outcome). z.output) (one_run run (ran_as a)) ∙ ap (λ (q : Listing). output_by q o.settings xs t) p.unlisted ∙ plain_output o p xs (marks t) in
+    let plain : r.output ≡ concat (map left_piece (printed xs (marks t))) = cc (one_run run (ran_as a), p.unlisted, plain_output o p xs (marks t)) in
     let first : lines_of r.output ≡ map line_of d.ys =
     ap (λ (q : List ℕ). lines_of q) plain ∙ output_lines (map left_piece (printed xs (marks t))) (formed_pieces xs t ls.0 ls.2 ls.1)
     ∙ ap (λ (ps : List (List ℕ)). numbered_from 1 ps) (sym (item_bytes d.ys (printed xs (marks t)) d.again.same)) ∙ sym d.again.numbered in
     let e = reads_too o (with_blank_renumber b n o) refl refl refl a in
-    let out : s.output ≡ concat d.qs =
-    ap (λ (z : Outcome). z.output) (one_run other (ran_as e)) ∙ ap (λ (q : Listing). output_by q (with_blank_renumber b n o).settings xs t) p.unlisted
-    ∙ ap (λ (c : Bool). concat (pieces_by (piece_after (record { blank = b; complement = c; renumber = n })) [] js)) p.uncomplemented ∙ sym d.same in
+    let out : s.output ≡ concat d.qs = cc (one_run other (ran_as e), p.unlisted, p.uncomplemented, d.same) in
     let second : lines_of s.output ≡ map line_of d.zs = ap (λ (q : List ℕ). lines_of q) out ∙ output_lines d.qs d.formed ∙ sym d.are in (
       d.next,
       subst (λ (rs : List Reading). Counted js rs (read_as m s.output) d.next) (read_lines_in o m d.ys d.again.read ∙ ap (λ (ks : List Line). read_in m ks) (sym first))

@@ -1,5 +1,5 @@
 -- The bytes before a directive's keyword, and the keyword itself.
-use Rattle.std.proofs.Common.{◌≡◌, ◌≢◌, ℕ, suc, ◌+◌, ◌==◌, List, [], ◌∷◌, ◌++◌, length, Bool, true, false, not, ◌&&◌, ◌||◌, Some, refl, sym, ◌∙◌, ap, ap₂, append_assoc, arith, length-append}
+use Rattle.std.proofs.Common.{◌≡◌, ◌≢◌, ℕ, suc, ◌+◌, ◌==◌, List, [], ◌∷◌, ◌++◌, length, Bool, true, false, not, ◌&&◌, ◌||◌, Some, refl, ◌∙◌, ap₂, append_assoc, arith, length-append}
 use Rattle.std.proofs.lemmas.Bool.{and_parts}
 use Rattle.ud_model.specs.text.Bytes.{number_sign, slash, space, newline, is_quote, is_white, are_white}
 use Rattle.ud_model.specs.text.Scans.{Scan}
@@ -46,8 +46,7 @@ directive_front scan d e =
       word = p.word;
       whites = each_is_white p.white h.are.white;
       gaps = each_is_white p.gap h.are.gap;
-      masked_is = h.are.joined ∙ sym (append_assoc p.white (number_sign ∷ p.gap) (p.word ++ p.rest))
-          ∙ ap (λ (t : List ℕ). (p.white ++ number_sign ∷ p.gap) ++ (p.word ++ t)) (sym h.after);
+      masked_is = cc (h.are.joined, append_assoc p.white (number_sign ∷ p.gap) (p.word ++ p.rest), h.after);
       at_is = omega (arith, h.at, n);
       len_is = h.len;
       kind_is = h.kind;
@@ -110,12 +109,9 @@ abbrev starts_dark : List ℕ → Bool
 starts_dark [] = false
 starts_dark (c ∷ w) = not (is_white c)
 
-dark_by : (w : List ℕ) → starts_dark w ≡ true → StartsDark w
-dark_by w e = grind arith
-
 -- A keyword's first byte isn't white.
 pub keyword_dark : (w : List ℕ) (k : Kind) → kind_of w ≡ Some k → StartsDark w
-keyword_dark w k e = dark_by w (each_keyword (λ row. starts_dark row.0) refl w k e)
+keyword_dark w k e = grind (arith, each_keyword)
 
 white_unquoted : (ws t : List ℕ) → Each IsWhite ws → has_quote (ws ++ t) ≡ has_quote t
 white_unquoted [] t h = refl

@@ -2,7 +2,7 @@
 -- So another keyword in its place changes nothing of what follows.
 use Rattle.std.proofs.Common.{◌≡◌, ℕ, ◌==◌, List, [], ◌∷◌, ◌++◌, Bool, true, false, ◌||◌, if◌then◌else◌, refl, sym, ◌∙◌, ap, append-nil, append_assoc, ◌⊎◌, inl, arith}
 use Rattle.std.proofs.Math.Bool.{or-true, or_assoc}
-use Rattle.ud_model.specs.text.Bytes.{slash, star, space, newline, backslash, is_quote}
+use Rattle.ud_model.specs.text.Bytes.{slash, star, space, newline, is_quote}
 use Rattle.ud_model.specs.aids.LexStates.{LexState, in_text, at_slash, in_block, at_star, in_line, in_literal, at_backslash, next_state, opens_comment, masked_byte, stays_white, blank_last}
 use Rattle.ud_model.proofs.text.LexStateLemmas.{blank_last-last}
 use Rattle.ud_model.proofs.text.ScanLaws.{place_after, white_after, masked_after}
@@ -26,19 +26,16 @@ white_after-append w white (x ∷ a) b = white_after-append (next_state w x) (st
 abbrev blanked : Bool → ℕ → ℕ
 blanked o c = if o then space else c
 
-blank_by : (o : Bool) (m : List ℕ) (c : ℕ) → (if o then blank_last (m ++ c ∷ []) else m ++ c ∷ []) ≡ m ++ blanked o c ∷ []
-blank_by o m c = grind (arith, blank_last-last)
-
 -- In the masked text only the last byte may still change.
 pub masked_front : (bytes : List ℕ) (w : LexState) (m : List ℕ) (c : ℕ) → masked_after w (m ++ c ∷ []) bytes ≡ m ++ masked_after w (c ∷ []) bytes
 masked_front [] w m c = refl
-masked_front (b ∷ bytes) w m c =
-    ap (λ (l : List ℕ). masked_after (next_state w b) (l ++ masked_byte w b ∷ []) bytes) (blank_by (opens_comment w b) m c)
-    ∙ masked_front bytes (next_state w b) (m ++ blanked (opens_comment w b) c ∷ []) (masked_byte w b)
-    ∙ append_assoc m (blanked (opens_comment w b) c ∷ []) (masked_after (next_state w b) (masked_byte w b ∷ []) bytes)
-    ∙ ap (λ (l : List ℕ). m ++ l)
-    (sym (ap (λ (l : List ℕ). masked_after (next_state w b) (l ++ masked_byte w b ∷ []) bytes) (blank_by (opens_comment w b) [] c)
-    ∙ masked_front bytes (next_state w b) (blanked (opens_comment w b) c ∷ []) (masked_byte w b)))
+masked_front (b ∷ bytes) w m c = grind (
+  arith,
+  append_assoc,
+  blank_last-last,
+  masked_front bytes (next_state w b) (m ++ blanked (opens_comment w b) c ∷ []) (masked_byte w b),
+  masked_front bytes (next_state w b) (blanked (opens_comment w b) c ∷ []) (masked_byte w b),
+)
 
 -- The byte stays, or becomes a space.
 pub first_shown : (bytes : List ℕ) (w : LexState) (c : ℕ) → (rest : List ℕ) × ((masked_after w (c ∷ []) bytes ≡ c ∷ rest) ⊎ (masked_after w (c ∷ []) bytes ≡ space ∷ rest))
@@ -89,18 +86,12 @@ Shown _ _ = Unit {0}
 shown_quoted : (w : LexState) (m : List ℕ) → Shown w m → Quoted w m
 shown_quoted w m h = grind arith
 
-quote_behind : (m : List ℕ) (b : ℕ) → is_quote b ≡ true → has_quote (m ++ b ∷ []) ≡ true
-quote_behind m b e = quote-append m (b ∷ []) ∙ ap (λ (t : Bool). has_quote m || (t || false)) e ∙ or-true (has_quote m)
-
-quote_before : (m : List ℕ) (b : ℕ) → has_quote m ≡ true → has_quote (m ++ b ∷ []) ≡ true
-quote_before m b e = quote-append m (b ∷ []) ∙ ap (λ (t : Bool). t || has_quote (b ∷ [])) e
-
 from_text : (s q : Bool) (m : List ℕ) (b : ℕ) → (b == slash) ≡ s → is_quote b ≡ q → Shown (if s then at_slash else if q then in_literal b else in_text) (m ++ b ∷ [])
-from_text s q m b e f = grind (arith, slash-last, quote_behind)
+from_text s q m b e f = grind (arith, slash-last, quote-append, or-true)
 
 from_slash : (t s q : Bool) (m : List ℕ) (b : ℕ) → (b == star) ≡ t → (b == slash) ≡ s → is_quote b ≡ q →
     Shown (if t then in_block else if s then in_line else if q then in_literal b else in_text) ((if t || s then blank_last m else m) ++ (if t then space else if s then space else b) ∷ [])
-from_slash t s q m b e f g = grind (arith, quote_behind)
+from_slash t s q m b e f g = grind (arith, quote-append, or-true)
 
 from_block : (t : Bool) (m : List ℕ) → Shown (if t then at_star else in_block) m
 from_block t m = grind arith
@@ -111,20 +102,14 @@ from_star s t m = grind arith
 from_line : (t : Bool) (m : List ℕ) → Shown (if t then in_text else in_line) m
 from_line t m = grind arith
 
-from_literal : (q : ℕ) (f s t : Bool) (m : List ℕ) → has_quote m ≡ true → Shown (if f then in_text else if s then in_text else if t then at_backslash q else in_literal q) m
-from_literal q f s t m h = grind arith
-
-from_backslash : (q : ℕ) (f : Bool) (m : List ℕ) → has_quote m ≡ true → Shown (if f then in_text else in_literal q) m
-from_backslash q f m h = grind arith
-
 shown_step : (w : LexState) (m : List ℕ) (b : ℕ) → Quoted w m → Shown (next_state w b) ((if opens_comment w b then blank_last m else m) ++ masked_byte w b ∷ [])
 shown_step in_text m b h = from_text (b == slash) (is_quote b) m b refl refl
 shown_step at_slash m b h = from_slash (b == star) (b == slash) (is_quote b) m b refl refl refl
 shown_step in_block m b h = from_block (b == star) (m ++ space ∷ [])
 shown_step at_star m b h = from_star (b == slash) (b == star) (m ++ space ∷ [])
 shown_step in_line m b h = from_line (b == newline) (m ++ (if b == newline then b else space) ∷ [])
-shown_step (in_literal q) m b h = from_literal q (b == newline) (b == q) (b == backslash) (m ++ b ∷ []) (quote_before m b h)
-shown_step (at_backslash q) m b h = from_backslash q (b == newline) (m ++ b ∷ []) (quote_before m b h)
+shown_step (in_literal q) m b h = grind (arith, quote-append)
+shown_step (at_backslash q) m b h = grind (arith, quote-append)
 
 -- After a byte at least, an open literal's quote or a slash is shown.
 pub shown_all : (b : ℕ) (bytes : List ℕ) (w : LexState) (m : List ℕ) → Quoted w m → Shown (place_after w (b ∷ bytes)) (masked_after w m (b ∷ bytes))

@@ -3,7 +3,7 @@
 use Rattle.std.proofs.Common.{◌≡◌, ℕ, suc, ◌+◌, ◌≤◌, List, [], ◌∷◌, ◌++◌, length, Bool, true, false, not, ◌&&◌, if◌then◌else◌, refl, arith, length-append, length-take, length-drop}
 use Rattle.ud_model.specs.text.Lines.{Line, text_of}
 use Rattle.ud_model.specs.sections.Directives.{Span}
-use Rattle.ud_model.specs.sections.Pruning.{Part, an_if, an_elif, an_else, is_removed, any_true, gives_way, ends_with_first_true, endif_verdict}
+use Rattle.ud_model.specs.sections.Pruning.{Part, an_if, any_true, gives_way, ends_with_first_true, endif_verdict}
 use Rattle.ud_model.specs.aids.SoFar.{verdict_so_far}
 use Rattle.ud_model.specs.answer.Printing.{Judged, opener_keyword, piece_alone, complemented}
 use Rattle.ud_model.specs.declared.cond.Cond.{Cond}
@@ -31,21 +31,12 @@ ends_behind (Unknown ∷ cs) c e = ends_behind cs c e
 
 -- Each opener does so.
 pub opener_moves : (cs : List Cond) (part : Part) (c : Cond) → Moves (is_past cs) (verdict_so_far cs part c) (is_past (cs ++ c ∷ []))
-opener_moves [] part Yes = tt
-opener_moves [] part No = tt
-opener_moves [] an_if Unknown = tt
-opener_moves [] an_elif Unknown = tt
-opener_moves [] an_else Unknown = tt
-opener_moves (Yes ∷ cs) part c = tt
 opener_moves (No ∷ cs) part c = opener_moves cs part c
-opener_moves (Unknown ∷ cs) part c = grind (arith, ends_behind)
-
-past_by : (g a e : Bool) → (not g && a && not e) ≡ true → (if g then Remove else if not a then Keep else if e then Keep else Remove) ≡ Remove
-past_by g a e h = grind arith
+opener_moves cs part c = grind (arith, ends_behind)
 
 -- After such a group the `#endif` is removed.
 pub endif_past : (cs : List Cond) → is_past cs ≡ true → endif_verdict cs ≡ Remove
-endif_past cs h = past_by (gives_way cs) (any_true cs) (ends_with_first_true cs) h
+endif_past cs h = grind arith
 
 -- The line stays as it is or is removed.
 abbrev pub KeepsOrGoes : Verdict → Type 0
@@ -68,11 +59,8 @@ if_keeps c = grind arith
 pub removed_size : (blank : Bool) (k : Span) (l : Line) → length (piece_alone blank (record { line = l; verdict = Remove; keyword = k })) + length l.body ≤ length (text_of l)
 removed_size blank k l = grind (arith, length-append)
 
-kept_size : (blank : Bool) (k : Span) (l : Line) → length (piece_alone blank (record { line = l; verdict = Keep; keyword = k })) ≡ length (text_of l)
-kept_size blank k l = grind arith
-
 pub keeps_size : (blank : Bool) (v : Verdict) (k : Span) (l : Line) → KeepsOrGoes v → length (piece_alone blank (record { line = l; verdict = v; keyword = k })) ≤ length (text_of l)
-keeps_size blank Keep k l h = let e = kept_size blank k l in omega (arith, e)
+keeps_size blank Keep k l h = grind arith
 keeps_size blank Remove k l h = let e = removed_size blank k l in omega (arith, e)
 keeps_size _ _ _ _ h = absurd h
 
@@ -89,12 +77,8 @@ if_size n h = grind arith
 -- The case of a directive whose keyword has four bytes at least.
 pub edited_size : (blank : Bool) (v : Verdict) (k : Span) (l : Line) → 4 ≤ k.len → k.at + k.len ≤ length l.body →
     AtMost v (length (piece_alone blank (record { line = l; verdict = v; keyword = k }))) (length (text_of l))
-edited_size blank v k l e h =
-    grind (arith, length-append, length-take, length-drop, if_size)
-
-turned_by : (blank : Bool) (r : Bool) (k : Span) (l : Line) → length (piece_alone blank (record { line = l; verdict = if r then Keep else Remove; keyword = k })) ≤ length (text_of l)
-turned_by blank r k l = grind (arith, keeps_size)
+edited_size blank v k l e h = grind (arith, length-append, length-take, length-drop, if_size)
 
 -- A complemented line doesn't grow.
 pub turned_size : (blank : Bool) (j : Judged) → length (piece_alone blank (complemented j)) ≤ length (whole j)
-turned_size blank j = turned_by blank (is_removed j.verdict) j.keyword j.line
+turned_size blank j = grind (arith, keeps_size)

@@ -1,10 +1,10 @@
 -- The content of a masked line that was made from one with a directive.
-use Rattle.std.proofs.Common.{◌≡◌, ℕ, ◌-◌, ◌==◌, List, [], ◌∷◌, ◌++◌, length, take, Bool, true, false, Some, if◌then◌else◌, refl, sym, ◌∙◌, ap, ap₂, append_assoc, arith, length-append, ◌⊎◌, inl, inr}
+use Rattle.std.proofs.Common.{◌≡◌, ℕ, ◌-◌, List, [], ◌∷◌, ◌++◌, length, take, Bool, true, false, Some, if◌then◌else◌, refl, sym, ◌∙◌, ap, ap₂, append_assoc, arith, length-append, ◌⊎◌, inl, inr, rules}
 use Rattle.std.proofs.Math.Bool.{and-false}
 use Rattle.std.proofs.lemmas.List.{take_at}
 use Rattle.ud_model.specs.text.Bytes.{skip_white, leading_word, skip_word}
 use Rattle.ud_model.specs.text.Scans.{Scan}
-use Rattle.ud_model.specs.sections.Directives.{Directive, directive, content_of, skip_white_and_hash, may_split_keyword, kind_of, role_of, test_of, is_continued_outside_comment}
+use Rattle.ud_model.specs.sections.Directives.{Directive, directive, content_of, may_split_keyword, kind_of, role_of, test_of, is_continued_outside_comment}
 use Rattle.ud_model.specs.answer.Printing.{by_length, opener_keyword}
 use Rattle.ud_model.specs.declared.kind.Kind.{Kind}
 use Rattle.ud_model.specs.declared.kind.Kind.TheVariants.{If, Ifdef, Ifndef}
@@ -14,11 +14,8 @@ use Rattle.ud_model.proofs.output.ByLength.{each_length}
 use Rattle.ud_model.proofs.output.Each.{Each}
 use Rattle.ud_model.proofs.output.DirectiveFront.{IsWhite, Front, directive_front, StartsDark}
 
-past_dark : (t : List ℕ) → StartsDark t → skip_white t ≡ t
-past_dark t d = grind arith
-
 past_all : (ws t : List ℕ) → Each IsWhite ws → StartsDark t → skip_white (ws ++ t) ≡ t
-past_all [] t h d = past_dark t d
+past_all [] t h d = grind arith
 past_all (b ∷ ws) t h d = ap (λ (w : Bool). if w then skip_white (ws ++ t) else b ∷ (ws ++ t)) h.0 ∙ past_all ws t h.1 d
 
 -- The keyword isn't cut: the line joins no next one, or the bytes after the sign settle the
@@ -28,9 +25,6 @@ Settled now tail = (now.joins_after ≡ false) ⊎ (may_split_keyword now tail �
 
 module _ (now : Scan) (ws gs tail : List ℕ) (k : Kind) (w : Each IsWhite ws) (g : Each IsWhite gs) (d : StartsDark tail) (m : now.masked ≡ (ws ++ 35 ∷ gs) ++ tail)
     (f : now.fresh ≡ true) (s : Settled now tail) (kind : kind_of (leading_word tail) ≡ Some k) where
-  sign_is : skip_white_and_hash now.masked ≡ Some (gs ++ tail)
-  sign_is = grind (arith, append_assoc, past_all)
-
   tail_is : skip_white (gs ++ tail) ≡ tail
   tail_is = past_all gs tail g d
 
@@ -44,7 +38,7 @@ module _ (now : Scan) (ws gs tail : List ℕ) (k : Kind) (w : Each IsWhite ws) (
     after = skip_word tail;
     broken = is_continued_outside_comment now;
   })
-  carries = grind (arith, sign_is, tail_is, at_is)
+  carries = grind (arith, append_assoc, past_all, tail_is, at_is)
 
 -- A directive with another keyword, and two spaces more after it.
 abbrev pub spaced : Directive → Kind → ℕ → Directive
@@ -57,9 +51,7 @@ if_kind n = by_length n Ifdef Ifndef If
 
 -- The condition is tested as before.
 pub tested_alike : (w : List ℕ) (k : Kind) → kind_of w ≡ Some k → role_of k ≡ ElifGroup → test_of (if_kind (length w)) ≡ test_of k
-tested_alike w k e =
-    keyword_holds (λ row. role_of row.1 ≡ ElifGroup → test_of (if_kind (length row.0)) ≡ test_of row.1)
-    ((λ h. cc), ((λ h. cc), ((λ h. cc), ((λ h. refl), ((λ h. refl), ((λ h. refl), ((λ h. cc), ((λ h. cc), tt)))))))) w k e
+tested_alike w k e = search (rules, keyword_holds)
 
 -- The directive begins its section.
 pub if_begins : (n : ℕ) → role_of (if_kind n) ≡ IfGroup
@@ -71,17 +63,14 @@ if_len n = by_length n 5 6 2
 
 -- The condition is tested as before.
 pub to_if_test : (scan : Scan) (d : Directive) → content_of scan ≡ directive d → role_of d.kind ≡ ElifGroup → test_of (if_kind d.keyword.len) ≡ test_of d.kind
-to_if_test scan d e h =
-    let p : Front scan d = directive_front scan d e in
-    ap (λ (n : ℕ). test_of (if_kind n)) p.len_is ∙ tested_alike p.word d.kind p.kind_is h
+to_if_test scan d e h = let p : Front scan d = directive_front scan d e in cc (p.len_is, tested_alike p.word d.kind p.kind_is h)
 
 module _ (scan now : Scan) (d : Directive) (e : content_of scan ≡ directive d) (f : now.fresh ≡ scan.fresh) (c : is_continued_outside_comment now ≡ is_continued_outside_comment scan) where
   with_tail : (tail : List ℕ) (k : Kind) (n : ℕ) → now.masked ≡ take d.keyword.at scan.masked ++ tail → StartsDark tail → Settled now tail →
       kind_of (leading_word tail) ≡ Some k → length (leading_word tail) ≡ n → skip_word tail ≡ 32 ∷ 32 ∷ d.after → content_of now ≡ directive (spaced d k n)
   with_tail tail k n m dark settled kind long rest =
       let p : Front scan d = directive_front scan d e in
-      let head : take d.keyword.at scan.masked ≡ p.white ++ 35 ∷ p.gap =
-      ap₂ (λ (n : ℕ) (t : List ℕ). take n t) p.at_is p.masked_is ∙ take_at (p.white ++ 35 ∷ p.gap) (p.word ++ d.after) (length (p.white ++ 35 ∷ p.gap)) refl in
+      let head : take d.keyword.at scan.masked ≡ p.white ++ 35 ∷ p.gap = simp (take_at, p.at_is, p.masked_is) in
       carries now p.white p.gap tail k p.whites p.gaps dark (m ∙ ap (λ (t : List ℕ). t ++ tail) head) (f ∙ p.fresh_is) settled kind
       ∙ ap₂ (λ (q : ℕ) (b : Bool). directive (record { kind = k; keyword = record { at = q; len = length (leading_word tail) }; after = skip_word tail; broken = b }))
       (sym p.at_is) (c ∙ sym p.broken_is)
@@ -108,10 +97,7 @@ module _ (scan now : Scan) (d : Directive) (e : content_of scan ≡ directive d)
   -- With the keyword of a first directive in place of its own, the line has a first directive, with
   -- the same text after two spaces.
   pub to_if_content : now.masked ≡ take d.keyword.at scan.masked ++ (opener_keyword d.keyword.len ++ d.after) → content_of now ≡ directive (spaced d (if_kind d.keyword.len) (if_len d.keyword.len))
-  to_if_content m =
-      by_words (record { dark = refl; settled = and-false (is_continued_outside_comment now); kind = refl; long = refl; rest = refl })
-      (record { dark = refl; settled = and-false (is_continued_outside_comment now); kind = refl; long = refl; rest = refl })
-      (record { dark = refl; settled = and-false (is_continued_outside_comment now); kind = refl; long = refl; rest = refl }) (d.keyword.len == 7) (d.keyword.len == 8) m
+  to_if_content m = search (rules, by_words, and-false)
 
 -- A line that ends after `else` or `endif` in place of its keyword, and joins no other.
 pub cut_content : (scan now : Scan) (d : Directive) (word : List ℕ) (k : Kind) → content_of scan ≡ directive d → now.masked ≡ take d.keyword.at scan.masked ++ word →
@@ -119,8 +105,7 @@ pub cut_content : (scan now : Scan) (d : Directive) (word : List ℕ) (k : Kind)
     content_of now ≡ directive (record { kind = k; keyword = record { at = d.keyword.at; len = length word }; after = []; broken = false })
 cut_content scan now d word k e m f j c dark prefix rest kind =
     let p : Front scan d = directive_front scan d e in
-    let head : take d.keyword.at scan.masked ≡ p.white ++ 35 ∷ p.gap =
-    ap₂ (λ (n : ℕ) (t : List ℕ). take n t) p.at_is p.masked_is ∙ take_at (p.white ++ 35 ∷ p.gap) (p.word ++ d.after) (length (p.white ++ 35 ∷ p.gap)) refl in
+    let head : take d.keyword.at scan.masked ≡ p.white ++ 35 ∷ p.gap = simp (take_at, p.at_is, p.masked_is) in
     carries now p.white p.gap word k p.whites p.gaps dark (m ∙ ap (λ (t : List ℕ). t ++ word) head) (f ∙ p.fresh_is) (inl j) (ap kind_of prefix ∙ kind)
     ∙ ap₂ (λ (n : ℕ) (b : Bool). directive (record { kind = k; keyword = record { at = n; len = length (leading_word word) }; after = skip_word word; broken = b })) (sym p.at_is) c
     ∙ ap₂ (λ (u t : List ℕ). directive (record { kind = k; keyword = record { at = d.keyword.at; len = length u }; after = t; broken = false })) prefix rest

@@ -1,18 +1,16 @@
 -- A flag before other arguments sets its setting, and what these give stays.
-use Rattle.std.proofs.Common.{◌≡◌, ℕ, List, ◌∷◌, Bool, true, false, None, codes, refl, ◌∙◌, ap, ap₂}
+use Rattle.std.proofs.Common.{◌≡◌, ℕ, List, ◌∷◌, Bool, true, false, None, codes, refl, ◌∙◌, ap, arith}
+use Rattle.ud_model.proofs.answer.SameArguments.{Same, a_flag, given_same, table_same, no_fault_same, name_same, flag_same, mode_same}
 use Rattle.std.specs.Str.{chars}
 use Rattle.std.specs.List.{filter_map}
 use Rattle.std.proofs.Math.Bool.{or-true}
-use Rattle.ud_model.specs.conditions.Table.{Argument}
 use Rattle.ud_model.specs.sections.Items.{Options}
 use Rattle.ud_model.specs.answer.CommandLine.{ParsedArg, flag, parsed_from, parsed_args, has_flag, listing_by, settings_in, argument_in, options_of, first_fault, usage_fault, operand_in, name_or_stdin, display_name}
 use Rattle.ud_model.specs.output.ListedNames.{with_listing}
 use Rattle.ud_model.specs.output.InsertedLines.{with_blank_renumber, KeepsNumbers}
 use Rattle.ud_model.specs.output.SharedLines.{with_complement}
 use Rattle.ud_model.specs.output.StrictLines.{under_strict}
-use Rattle.ud_model.specs.declared.settings.Settings.{Settings}
 use Rattle.ud_model.specs.declared.settings.Listing.{Listing}
-use Rattle.ud_model.proofs.answer.SameArguments.{Same, a_flag, given_same, table_same, settings_same, no_fault_same, name_same}
 
 -- the options of these given arguments
 abbrev options_in : List ParsedArg → Options
@@ -22,7 +20,7 @@ pub after_flag : (args : List (List ℕ)) → Same (parsed_from 1 args) (parsed_
 after_flag args = given_same 1 0 args
 
 options_same : (gs hs : List ParsedArg) → Same gs hs → options_in gs ≡ options_in hs
-options_same gs hs k = ap₂ (λ (s : Settings) (t : List Argument). let o : Options = record { settings = s; table = t } in o) (settings_same gs hs k) (table_same k)
+options_same gs hs k = grind (arith, table_same, flag_same, mode_same)
 
 -- what a flag in a word of its own gives, before other arguments
 first_s : (args : List (List ℕ)) → parsed_args (codes "-s" ∷ args) ≡ flag 115 ∷ parsed_from 1 args

@@ -1,12 +1,12 @@
 -- Folded lines: the directive of a folded line is the one of its lines, with the same tokens.
-use Rattle.std.proofs.Common.{◌≡◌, ◌≢◌, ℕ, zero, suc, ◌==◌, ◌<◌, ◌-◌, List, [], ◌∷◌, ◌++◌, length, take, drop, map, Bool, true, false, not, ◌&&◌, ◌||◌, if◌then◌else◌, ◌⊎◌, inl, inr, refl, sym, ◌∙◌, ap, subst, append-nil, append_assoc, length-append, length-drop, length-take-le, bytes_eq, ◌+◌, arith, Some}
+use Rattle.std.proofs.Common.{◌≡◌, ◌≢◌, ℕ, zero, suc, ◌==◌, ◌<◌, List, [], ◌∷◌, ◌++◌, length, take, drop, map, Bool, true, false, not, ◌||◌, if◌then◌else◌, ◌⊎◌, inl, inr, refl, sym, ◌∙◌, ap, subst, append-nil, append_assoc, length-append, length-drop, length-take-le, bytes_eq, ◌+◌, arith, Some, rules}
 use Rattle.std.specs.List.{flat_map}
 use Rattle.std.proofs.lemmas.Bool.{and_parts, or_cases}
 use Rattle.std.proofs.lemmas.List.{take-map, take-append-drop}
 use Rattle.ud_model.proofs.text.ScanBytes.{content-prefix, length-masked}
 use Rattle.ud_model.specs.text.Bytes.{slash, space, backslash, number_sign, is_white, is_word_byte}
 use Rattle.ud_model.specs.text.Lines.{Line, lines_of}
-use Rattle.ud_model.specs.text.Lexemes.{LexemeKind, block_comment, line_comment, literal, single, lexeme_at, lex_from, lex, shown_as, shown}
+use Rattle.ud_model.specs.text.Lexemes.{LexemeKind, single, lexeme_at, lex_from, lex, shown_as, shown}
 use Rattle.ud_model.specs.text.Splicing.{is_spliced, content, newline_of, spliced_part}
 use Rattle.ud_model.specs.text.Scans.{Scan, Reading}
 use Rattle.ud_model.specs.text.Scanning.{scan_after_run, next_reading, readings_after}
@@ -15,13 +15,12 @@ use Rattle.ud_model.specs.sections.DirectiveParts.{first_is, HasDirective}
 use Rattle.ud_model.specs.declared.kind.Kind.{Kind}
 use Rattle.ud_model.proofs.sections.SplitLines.{directive_is}
 use Rattle.ud_model.proofs.output.SimplifiedAgain.{unspliced}
-use Rattle.std.proofs.lemmas.Option.{none-some}
 use Rattle.std.proofs.lemmas.Slice.Eq.{bytes_eq-Decides}
 use Rattle.ud_model.specs.aids.Parsing.{tokens_of}
 use Rattle.ud_model.specs.output.InsertedLines.{in_mode, read_as}
 use Rattle.ud_model.specs.declared.kind.Mode.TheVariants.{C}
-use Rattle.ud_model.specs.output.FoldedTexts.{is_foldable, is_directive, is_shown_as, IsReadAs, has_no_quote, vertical_tab, continued, folded_body, folded_line, shown_break, shown_lines, is_blank, blank_follows, tabs_are_beside}
-use Rattle.ud_model.proofs.conditions.SpreadTexts.{white_word, begins_white, IsSpread, nothing, kept, behind, in_front, Spread, spread_tokens}
+use Rattle.ud_model.specs.output.FoldedTexts.{is_foldable, is_directive, is_shown_as, IsReadAs, spaced, has_no_quote, vertical_tab, continued, folded_body, folded_line, shown_break, shown_lines, is_blank, blank_follows, tabs_are_beside}
+use Rattle.ud_model.proofs.conditions.SpreadTexts.{begins_white, IsSpread, nothing, kept, behind, in_front, Spread, spread_tokens}
 use Rattle.ud_model.proofs.output.Each.{Each, each_parts, each_both}
 use Rattle.ud_model.proofs.output.LeftLines.{spliced_body}
 
@@ -35,10 +34,7 @@ HaveSpaces before (b ∷ bytes) (m ∷ masked) =
     (b ≢ slash → m ≢ b → before ≡ true) × HaveSpaces (m == space) bytes masked
 
 comment_shown : (k : LexemeKind) (a b : ℕ) → shown_as k b ≢ b → (shown_as k a == space) ≡ true
-comment_shown block_comment a b n = refl
-comment_shown line_comment a b n = refl
-comment_shown literal a b n = absurd (n refl)
-comment_shown single a b n = absurd (n refl)
+comment_shown k a b h = grind arith
 
 begins_slash : (a : ℕ) (u : List ℕ) → a ≢ slash → shown_as (lexeme_at a u).kind a ≡ a
 unfolding lexeme_at
@@ -64,9 +60,8 @@ fewer (suc n) before (b ∷ u) (m ∷ ms) h = (h.0, fewer n (m == space) u ms h.
 
 front_bytes : (before : Bool) (u v ms : List ℕ) → HaveSpaces before (u ++ v) ms →
     HaveSpaces before u ms
-front_bytes before [] v ms h = tt
-front_bytes before (b ∷ u) v [] h = tt
 front_bytes before (b ∷ u) v (m ∷ ms) h = (h.0, front_bytes (m == space) u v ms h.1)
+front_bytes before u v ms h = grind arith
 
 -- A line by itself is masked so.
 alone_spaces : (k : Line) → HaveSpaces true (content k) (scan_after_run [] k).masked
@@ -123,39 +118,14 @@ shown_behind r rs = shown_after (is_outside r.scan.comment) r.scan.spliced rs
 
 shown_parts : (r : Reading) (rs : List Reading) →
     shown_lines (r ∷ rs) ≡ r.scan.masked ++ shown_behind r rs
-shown_parts r [] = sym (append-nil r.scan.masked)
-shown_parts r (s ∷ rs) = append_assoc r.scan.masked (shown_break r.scan) (shown_lines (s ∷ rs))
-
-space_is_white : (b : ℕ) → (b == space) ≡ true → is_white b ≡ true
-space_is_white b e = ap (λ (w : Bool). w || (b == 9) || (b == 11) || (b == 12) || (b == 13)) e
-
-tab_is_white : (b : ℕ) → (b == vertical_tab) ≡ true → is_white b ≡ true
-tab_is_white b e = grind arith
+shown_parts r rs = grind (arith, append-nil, append_assoc)
 
 blank_is_white : (b : ℕ) → is_blank b ≡ true → is_white b ≡ true
 blank_is_white b e = (and_parts (is_white b) (not (b == vertical_tab)) e).0
 
 next_place : {white : Bool} {b m : ℕ} {bytes masked : List ℕ} →
     IsPlace white (b ∷ bytes) (m ∷ masked) → IsPlace (is_white m) bytes masked
-next_place {b = b} {m = m} {bytes = bytes} {masked = masked} p = by (m == vertical_tab) refl
-  where
-    by : (t : Bool) → (m == vertical_tab) ≡ t → IsPlace (is_white m) bytes masked
-    by true e = record {
-      before = m == space;
-      spaces = p.spaces.1;
-      space_white = space_is_white m;
-      blank = p.blank;
-      tabs = (and_parts (p.blank || blank_follows masked) (tabs_are_beside p.blank masked) (ap (λ (t : Bool). if t then (p.blank || blank_follows masked) && tabs_are_beside p.blank masked else tabs_are_beside (is_blank m) masked) (sym e) ∙ p.tabs)).1;
-      blank_white = λ h. tab_is_white m e;
-    }
-    by false e = record {
-      before = m == space;
-      spaces = p.spaces.1;
-      space_white = space_is_white m;
-      blank = is_blank m;
-      tabs = ap (λ (t : Bool). if t then (p.blank || blank_follows masked) && tabs_are_beside p.blank masked else tabs_are_beside (is_blank m) masked) (sym e) ∙ p.tabs;
-      blank_white = blank_is_white m;
-    }
+next_place {b = b} {m = m} {bytes = bytes} {masked = masked} p = grind (arith, and_parts, blank_is_white)
 
 -- The place behind bytes and as many masked ones.
 place_behind : (p m : List ℕ) {white : Bool} {bytes masked : List ℕ} → length m ≡ length p →
@@ -177,18 +147,13 @@ kept_all (b ∷ p) [] l i f = absurd (omega arith)
 -- The masked bytes after a line are empty or begin with white space.
 shown_white : (outside spliced : Bool) (rs : List Reading) →
     begins_white (shown_after outside spliced rs) ≡ true
-shown_white outside spliced [] = refl
-shown_white true spliced (r ∷ rs) = refl
-shown_white false true (r ∷ rs) = refl
-shown_white false false (r ∷ rs) = refl
+shown_white outside spliced rs = grind arith
 
 part_by : (l : Line) (outside spliced : Bool) → is_spliced l ≡ spliced →
     (if outside then content l else l.body) ++ vertical_tab ∷ [] ≡ content l ++ break_bytes outside spliced
 part_by l true spliced e = refl
-part_by l false true e =
-    ap (λ (x : List ℕ). x ++ vertical_tab ∷ []) (spliced_body l e) ∙ append_assoc (content l) (backslash ∷ []) (vertical_tab ∷ [])
-part_by l false false e =
-    ap (λ (b : Bool). (if b then take (length l.body - 1) l.body else l.body) ++ vertical_tab ∷ []) (sym e)
+part_by l false true e = cc (spliced_body l e, append_assoc (content l) (backslash ∷ []) (vertical_tab ∷ []))
+part_by l false false e = cc e
 
 body_parts : (before : Bool) (r : Reading) (rs : List Reading) (masked : List ℕ) → IsMeasured r →
     HaveSpaces before (folded_body (r ∷ rs)) masked →
@@ -205,30 +170,18 @@ body_parts before r (s ∷ rs) masked i h =
 parts_spaces : (before : Bool) (r : Reading) (rs : List Reading) → IsMeasured r →
     HaveSpaces before (folded_body (r ∷ rs)) (shown_lines (r ∷ rs)) →
     HaveSpaces before (content r.line ++ bytes_behind r rs) (r.scan.masked ++ shown_behind r rs)
-parts_spaces before r rs i h =
-    subst (λ (ms : List ℕ). HaveSpaces before (content r.line ++ bytes_behind r rs) ms) (shown_parts r rs) (body_parts before r rs (shown_lines (r ∷ rs)) i h)
+parts_spaces before r rs i h = grind (arith, shown_parts, body_parts)
 
 parts_place : {white : Bool} (r : Reading) (rs : List Reading) → IsMeasured r →
     IsPlace white (folded_body (r ∷ rs)) (shown_lines (r ∷ rs)) →
     IsPlace white (content r.line ++ bytes_behind r rs) (r.scan.masked ++ shown_behind r rs)
-parts_place r rs i p = record {
-  before = p.before;
-  spaces = parts_spaces p.before r rs i p.spaces;
-  space_white = p.space_white;
-  blank = p.blank;
-  tabs = ap (λ (ms : List ℕ). tabs_are_beside p.blank ms) (sym (shown_parts r rs)) ∙ p.tabs;
-  blank_white = p.blank_white;
-}
+parts_place r rs i p = grind (arith, parts_spaces, shown_parts)
 
 -- A space is before a break that lies in a comment.
 space_before : (before spliced : Bool) (u masked : List ℕ) →
     HaveSpaces before (break_bytes false spliced ++ u) (break_shown false spliced ++ masked) →
     before ≡ true
-space_before before true u masked h = h.0 (λ q. omega arith) (λ q. omega arith)
-space_before before false u masked h = h.0 (λ q. omega arith) (λ q. omega arith)
-
-first_white : (b : ℕ) (masked : List ℕ) → blank_follows (b ∷ masked) ≡ true → is_white b ≡ true
-first_white b masked e = grind (arith, tab_is_white, blank_is_white)
+space_before before spliced u masked h = grind arith
 
 -- If white space follows the vertical tabs, the joined lines begin with white space.
 white_by : (p m : List ℕ) (outside spliced : Bool) (rs : List Reading) → Each IsMeasured rs →
@@ -240,16 +193,14 @@ white_by [] [] true spliced (r ∷ rs) i l h e =
     white_by (content r.line) r.scan.masked (is_outside r.scan.comment) r.scan.spliced rs i.1 i.0.size (parts_spaces false r rs i.0 h.1) (ap blank_follows (sym (shown_parts r rs)) ∙ e)
 white_by [] [] false spliced (r ∷ rs) i l h e =
     let n : false ≡ true = space_before false spliced (folded_body (r ∷ rs)) (shown_lines (r ∷ rs)) h in cc
-white_by (c ∷ p) (b ∷ m) outside spliced rs i l h e =
-    first_white b (m ++ shown_after outside spliced rs) e
+white_by (c ∷ p) (b ∷ m) outside spliced rs i l h e = grind arith
 white_by [] (b ∷ m) outside spliced rs i l h e = absurd (omega arith)
 white_by (c ∷ p) [] outside spliced rs i l h e = absurd (omega arith)
 
 lines_white : (r : Reading) (rs : List Reading) → Each IsMeasured (r ∷ rs) →
     HaveSpaces false (folded_body (r ∷ rs)) (shown_lines (r ∷ rs)) →
     blank_follows (shown_lines (r ∷ rs)) ≡ true → begins_white (all_masked (r ∷ rs)) ≡ true
-lines_white r rs i h e =
-    white_by (content r.line) r.scan.masked (is_outside r.scan.comment) r.scan.spliced rs i.1 i.0.size (parts_spaces false r rs i.0 h) (ap blank_follows (sym (shown_parts r rs)) ∙ e)
+lines_white r rs i h e = grind (arith, white_by, parts_spaces, shown_parts)
 
 break_by : {white : Bool} (outside spliced : Bool) (r : Reading) (rs : List Reading) →
     Each IsMeasured (r ∷ rs) →
@@ -282,6 +233,23 @@ spread_by p m outside spliced (r ∷ rs) i l q =
     kept_all p m l q (λ now j. break_by outside spliced r rs i j (λ k.
     subst (λ (ms : List ℕ). IsSpread true ms (all_masked (r ∷ rs))) (sym (shown_parts r rs)) (spread_by (content r.line) r.scan.masked (is_outside r.scan.comment) r.scan.spliced rs i.1 i.0.size (parts_place r rs i.0 k))))
 
+-- But for white space the bytes are the same.
+spaced_front : (white : Bool) (t : List ℕ) → begins_white t ≡ true → spaced true t ≡ spaced white t
+spaced_front white [] e = refl
+spaced_front white (b ∷ t) e = grind arith
+
+spread_bytes : {white : Bool} {u t : List ℕ} → IsSpread white u t → spaced white u ≡ spaced white t
+spread_bytes nothing = refl
+spread_bytes (kept b s) = grind (arith, spread_bytes s)
+spread_bytes (behind b e s) = grind (arith, spread_bytes s)
+spread_bytes {white = white} (in_front {t = t} b e f s) = grind (arith, spread_bytes s, spaced_front white t f)
+
+spread_more : {white : Bool} {u t : List ℕ} → IsSpread white u t → IsSpread true u t
+spread_more nothing = nothing
+spread_more (kept b s) = kept b s
+spread_more (behind b e s) = behind b e s
+spread_more (in_front b e f s) = in_front b e f s
+
 -- 3. The directive of the folded line.
 
 alone_fresh : (k : Line) → (scan_after_run [] k).fresh ≡ true
@@ -294,22 +262,12 @@ pub record IsShown (scan : Scan) (bytes : List ℕ) : Type 0 where
   pub masked : scan.masked ≡ bytes
   pub tabs : tabs_are_beside true bytes ≡ true
 
-shown_so : (scan : Scan) (bytes : List ℕ) → is_shown_as scan bytes ≡ true → IsShown scan bytes
-shown_so scan bytes e =
-    let tabs = and_parts (is_directive (content_of scan) && not scan.joins_after && bytes_eq scan.masked bytes && has_no_quote bytes) (tabs_are_beside true bytes) e in
-    let quotes = and_parts (is_directive (content_of scan) && not scan.joins_after && bytes_eq scan.masked bytes) (has_no_quote bytes) tabs.0 in
-    let masked = and_parts (is_directive (content_of scan) && not scan.joins_after) (bytes_eq scan.masked bytes) quotes.0 in
-    let ends : not scan.joins_after ≡ true = (and_parts (is_directive (content_of scan)) (not scan.joins_after) masked.0).1 in
-    record { ends = grind arith; masked = (bytes_eq-Decides scan.masked bytes).0 masked.1; tabs = tabs.1 }
-
 pub folded_shown : (rs : List Reading) → is_foldable rs ≡ true →
     IsShown (scan_after_run [] (folded_line rs)) (shown_lines rs)
-folded_shown rs e =
-    shown_so (scan_after_run [] (folded_line rs)) (shown_lines rs) (and_parts _ (is_shown_as (scan_after_run [] (folded_line rs)) (shown_lines rs)) e).1
+folded_shown rs e = grind (arith, and_parts, bytes_eq, bytes_eq-Decides)
 
 whole_body : (k : Line) (bytes : List ℕ) → IsShown (scan_after_run [] k) bytes → content k ≡ k.body
-whole_body k bytes s =
-    ap (λ (b : Bool). if b then take (length k.body - 1) k.body else k.body) (unspliced k s.ends)
+whole_body k bytes s = cc (unspliced k s.ends)
 
 folded_place : (r : Reading) (rs : List Reading) → IsMeasured r →
     IsShown (scan_after_run [] (folded_line (r ∷ rs))) (shown_lines (r ∷ rs)) →
@@ -327,14 +285,11 @@ folded_place r rs i s = parts_place r rs i (record {
 
 word_stays : (rest more : List ℕ) → first_is is_word_byte rest ≡ false → begins_white more ≡ true →
     first_is is_word_byte (rest ++ more) ≡ false
-word_stays [] [] e w = refl
-word_stays [] (b ∷ more) e w = white_word b w
-word_stays (b ∷ rest) more e w = e
+word_stays rest more h g = grind arith
 
 gap_stays : (word rest more : List ℕ) (k : Kind) → kind_of word ≡ Some k →
     first_is is_white (word ++ rest) ≡ false → first_is is_white (word ++ (rest ++ more)) ≡ false
-gap_stays [] rest more k q e = absurd (none-some k q)
-gap_stays (b ∷ word) rest more k q e = e
+gap_stays word rest more k h g = search (rules, absurd)
 
 module _ (r : Reading) (rs : List Reading) (d : Directive) (i : Each IsMeasured (r ∷ rs)) (s : IsShown (scan_after_run [] (folded_line (r ∷ rs))) (shown_lines (r ∷ rs))) (h : HasDirective r.scan d) where
   abbrev rest : List ℕ
@@ -397,9 +352,17 @@ module _ (r : Reading) (rs : List Reading) (d : Directive) (i : Each IsMeasured 
   spread =
       (rest_place.0, spread_by (drop (length front) (content r.line)) rest (is_outside r.scan.comment) r.scan.spliced rs i.1 rest_size rest_place.1)
 
-  folded_has : (e : Directive) × (content_of now ≡ directive e) × IsReadAs e d rs
-  folded_has =
-      (longer, (directive_is now longer).1 has_longer, record { kind = refl; keyword = refl; tokens = spread_tokens (rest ++ shown_behind r rs) (rest ++ all_masked rs) spread ∙ ap (λ (u : List ℕ). tokens_of (u ++ all_masked rs)) (sym h.after) })
+  pub folded_has : (e : Directive) × (content_of now ≡ directive e) × IsReadAs e d rs
+  folded_has = (
+    longer,
+    (directive_is now longer).1 has_longer,
+    record {
+      kind = refl;
+      keyword = refl;
+      bytes = spread_bytes (spread_more spread.1) ∙ ap (λ (u : List ℕ). spaced true (u ++ all_masked rs)) (sym h.after);
+      tokens = spread_tokens (rest ++ shown_behind r rs) (rest ++ all_masked rs) spread ∙ ap (λ (u : List ℕ). tokens_of (u ++ all_masked rs)) (sym h.after);
+    },
+  )
 
 -- 4. The lines of a text.
 
@@ -407,7 +370,7 @@ next_measured : (before : List Reading) (l : Line) → IsMeasured (next_reading 
 unfolding scan_after_run
 next_measured before l = record { size = length-masked before l; spliced = refl }
 
-measured : (before : List Reading) (ls : List Line) → Each IsMeasured before →
+pub measured : (before : List Reading) (ls : List Line) → Each IsMeasured before →
     Each IsMeasured (readings_after before (map (in_mode C) ls))
 measured before [] i = i
 measured before (l ∷ ls) i =

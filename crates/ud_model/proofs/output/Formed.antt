@@ -50,8 +50,7 @@ whole_body t (prefix, n, e) = go (whole_ending t (prefix, n, e))
   where
     go : IsEnd (ending_of t) → NoNewline (body_of t)
     go (inl h) =
-        let p : (body_of t ++ 13 ∷ []) ++ 10 ∷ [] ≡ prefix ++ 10 ∷ [] =
-        append_assoc (body_of t) (13 ∷ []) (10 ∷ []) ∙ ap (λ (x : List ℕ). body_of t ++ x) (sym h) ∙ body-ending t ∙ e in
+        let p : (body_of t ++ 13 ∷ []) ++ 10 ∷ [] ≡ prefix ++ 10 ∷ [] = cc (append_assoc (body_of t) (13 ∷ []) (10 ∷ []), h, body-ending t, e) in
         let q = same_from_push (body_of t ++ 13 ∷ []) prefix 10 10 p in
         (no_feed_parts (body_of t) (13 ∷ []) (subst NoNewline (sym q.0) n)).0
     go (inr h) =
@@ -226,8 +225,7 @@ unended_keeps : (v : Verdict) (k : Span) (t : List ℕ) → IsUnterminated t →
 unended_keeps v k t (s, w) =
     let none : ending_of t ≡ [] = ending_none t w in
     let b : NoNewline (body_of t) = (no_feed_parts (body_of t) (ending_of t) (subst NoNewline (sym (body-ending t)) w)).0 in
-    ap (λ (x : List ℕ). ending_of (edited_body v k (body_of t) ++ x)) none
-    ∙ ap ending_of (append-nil (edited_body v k (body_of t))) ∙ ending_none (edited_body v k (body_of t)) (edited_no_feed v k (body_of t) b) ∙ sym none
+    cc (none, append-nil (edited_body v k (body_of t)), ending_none (edited_body v k (body_of t)) (edited_no_feed v k (body_of t) b))
 
 -- The output for a line, split again into body and ending.
 pub left_line : (v : Verdict) (k : Span) (n m : ℕ) (t : List ℕ) → IsLeft v → IsWhole t ⊎ IsUnterminated t →

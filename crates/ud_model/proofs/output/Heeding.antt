@@ -5,13 +5,10 @@ use Rattle.ud_model.specs.text.Lines.{Line}
 use Rattle.ud_model.specs.text.Scans.{Reading}
 use Rattle.ud_model.specs.sections.Directives.{Content, content_of}
 use Rattle.ud_model.specs.conditions.Table.{Argument, Entry, entry_from}
-use Rattle.ud_model.specs.conditions.Conditions.{Rules, decision_by_test, condition_of, ifdef_decision}
 use Rattle.ud_model.specs.sections.Tree.{Item, Elifs, Head, Tree, if_line, elif_line, else_line, nothing, first, elif, if_head, elif_head, else_head, closed, open_section, lines, lines_of_nodes, lines_of_elifs, lines_of_head, is_ignoring, opener_of_elifs, opener_of_head}
 use Rattle.ud_model.specs.sections.Items.{Options, item_of, item_by, mode_by, mode_after, read_after, next_item}
 use Rattle.ud_model.specs.sections.Faults.{AreFaultless, no_lines, one_more}
 use Rattle.ud_model.specs.output.Rereading.{NoneIgnores, AreRead, no_items, one_item}
-use Rattle.ud_model.specs.declared.kind.Kind.{Kind}
-use Rattle.ud_model.specs.declared.kind.Test.{Test}
 use Rattle.ud_model.specs.declared.kind.Mode.{Mode}
 use Rattle.ud_model.proofs.output.Each.{Each, each_parts, each_both}
 use Rattle.ud_model.proofs.sections.Growth.{Adds}
@@ -44,17 +41,8 @@ calm_from earlier [] name c n = c
 calm_from earlier (a ∷ table) name c n =
     calm_from (if bytes_eq a.name name then Some a.entry else earlier) table name (calm_if (bytes_eq a.name name) a.entry earlier n.0 c) n.1
 
-calm_ifdef : (name : Option (List ℕ)) (table : List Argument) → NoneIgnores table → (ifdef_decision name table).ignoring ≡ false
-calm_ifdef name table n = grind (arith, calm_from)
-
-calm_test : (p : Test) (after : List ℕ) (table : List Argument) (rules : Rules) → NoneIgnores table → (decision_by_test p after table rules).ignoring ≡ false
-calm_test p after table rules n = grind (arith, calm_ifdef)
-
-calm_condition : (k : Kind) (after : List ℕ) (table : List Argument) (rules : Rules) → NoneIgnores table → (condition_of k after table rules).ignoring ≡ false
-calm_condition k after table rules n = grind (arith, calm_test)
-
 by_content : (o : Options) (r : Reading) (c : Content) → NoneIgnores o.table → Heeds (item_by o r c)
-by_content o r c n = grind (arith, calm_condition)
+by_content o r c n = grind (arith, calm_from)
 
 -- The opener of an item that was read so isn't ignoring.
 pub item_heeds : (o : Options) (r : Reading) → NoneIgnores o.table → Heeds (item_of o r)

@@ -1,5 +1,5 @@
 -- The selected lines of nodes with inserted lines are the same, with inserted ones.
-use Rattle.std.proofs.Common.{◌≡◌, ℕ, suc, List, [], ◌∷◌, ◌++◌, length, map, Bool, true, false, Option, Some, None, refl, ap, ap₂, subst, append-nil, length-append, arith}
+use Rattle.std.proofs.Common.{◌≡◌, ℕ, suc, List, [], ◌∷◌, ◌++◌, length, map, Bool, Option, Some, None, refl, ap, ap₂, subst, append-nil, length-append, arith}
 use Rattle.ud_model.specs.text.Scans.{Reading}
 use Rattle.ud_model.specs.sections.Tree.{Nodes, Groups, Elifs}
 use Rattle.ud_model.specs.output.Worlds.{World, selected, selected_groups, selected_elifs, or_else, lines_or, where_true, openers, openers_of_groups, openers_of_elifs}
@@ -16,17 +16,13 @@ data WovenIf : Option (List Reading) → Option (List Reading) → Type 0 where
   both : {rs ss : List Reading} → LinesWithInserted rs ss → WovenIf (Some rs) (Some ss)
 
 or_lines : {a b : Option (List Reading)} {rs ss : List Reading} → WovenIf a b → LinesWithInserted rs ss → LinesWithInserted (lines_or a rs) (lines_or b ss)
-or_lines neither k = k
-or_lines (both w) k = w
+or_lines h g = grind arith
 
 or_both : {a b c d : Option (List Reading)} → WovenIf a b → WovenIf c d → WovenIf (or_else a c) (or_else b d)
-or_both neither k = k
-or_both (both w) k = both w
+or_both h g = grind arith
 
 if_true : (a b : Bool) (rs ss : List Reading) → b ≡ a → LinesWithInserted rs ss → WovenIf (where_true a rs) (where_true b ss)
-if_true true true rs ss e k = both k
-if_true false false rs ss e k = neither
-if_true _ _ rs ss e _ = cc
+if_true a b rs ss h g = grind (arith, both, neither)
 
 -- The truths of as many openers as `xs`, part by part.
 apart : (v w : World Reading) (xs bs cs ds : List Reading) → length xs ≡ length cs → map v (xs ++ bs) ≡ map w (cs ++ ds) →

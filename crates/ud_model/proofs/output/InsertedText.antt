@@ -33,8 +33,7 @@ items_more o m ls l = grind (arith, read_more, map-append, readings_back)
 -- The items of lines are read so.
 pub read_items : (o : Options) (m : Mode) (ls : List Line) → ByPush ls → ReadIn o m (items o (read_in m ls))
 read_items o m _ none = none_read
-read_items o m _ (push {xs = ls} l p) =
-    subst (ReadIn o m) (sym (items_more o m ls l)) (one_read (items o (read_in m ls)) (read_items o m ls p) l)
+read_items o m _ (push {xs = ls} l p) = grind (arith, items_more o m ls l, one_read (items o (read_in m ls)) (read_items o m ls p) l)
 
 -- The items of lines are of these lines.
 pub lines_back : (o : Options) (m : Mode) (ls : List Line) → ByPush ls → map line_of (items o (read_in m ls)) ≡ ls
@@ -63,8 +62,7 @@ inserted_in_text o p b n some input {r = r} {s = s} run other us a =
     let z = reading_exists o input in
     let c = counted_text o p b n some input z.3 run other in
     let zs : List (Item Reading) = items o (read_as m s.output) in
-    let first : lines_of_nodes us ≡ items o (read_as m r.output) =
-    read_lines a.read ∙ items_are o p.none_ignores a.read ∙ ap (λ (ls : List Line). items o (read_in m ls)) (sym a.are) in
+    let first : lines_of_nodes us ≡ items o (read_as m r.output) = cc (read_lines a.read, items_are o p.none_ignores a.read, a.are) in
     let w : Woven NodesWithInserted us zs = weave_inserted us zs (subst (λ (ys : List (Item Reading)). Inserted ys zs) (sym first) (strewn_counted o c.1)) in (
       w.nodes,
       record {

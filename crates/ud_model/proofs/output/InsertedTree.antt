@@ -2,7 +2,7 @@
 use Rattle.std.proofs.Common.{◌≡◌, ℕ, List, [], ◌∷◌, ◌++◌, map, inl, inr, refl, sym, ap, subst, append-nil, arith}
 use Rattle.std.proofs.lemmas.List.{map-append}
 use Rattle.ud_model.specs.text.Scans.{Reading}
-use Rattle.ud_model.specs.sections.Directives.{Content, cut_keyword, directive, text as text_content, content_of}
+use Rattle.ud_model.specs.sections.Directives.{Content, text as text_content, content_of}
 use Rattle.ud_model.specs.conditions.Conditions.{Decision}
 use Rattle.ud_model.specs.sections.Tree.{Item, Opener, Nodes, text_line, if_line, elif_line, else_line, endif_line, lines_of_nodes}
 use Rattle.ud_model.specs.sections.Items.{Options, item_of, item_by, directive_item}
@@ -37,9 +37,7 @@ alike_role r s ElseGroup d e h k = an_else k
 alike_role r s EndifLine d e h k = an_endif k
 
 alike_by : (o : Options) (r s : Reading) (c : Content) → IsSame r s → ItemAlike (item_by o r c) (item_by o s c)
-alike_by o r s cut_keyword k = a_text k
-alike_by o r s text_content k = a_text k
-alike_by o r s (directive d) k = grind (arith, alike_role)
+alike_by o r s c h = grind (arith, a_text, alike_role)
 
 alike_item : (o : Options) (r s : Reading) → IsSame r s → ItemAlike (item_of o r) (item_of o s)
 alike_item o r s k = grind (arith, alike_by)
@@ -67,8 +65,7 @@ pub strewn_counted : (o : Options) {js : List Judged} {rs ss : List Reading} {n 
 strewn_counted o no_line = none
 strewn_counted o (goes c j g) = strewn_counted o c
 strewn_counted o (blanked {rs = rs} {ss = ss} j c g d k) =
-    subst (λ (zs : List (Item Reading)). Inserted (items o rs) zs) (sym (last_item o ss d))
-    (subst (λ (ys : List (Item Reading)). Inserted ys (items o ss ++ item_of o d ∷ [])) (append-nil (items o rs)) (inserted_both (strewn_counted o c) (put_one o d (inl k))))
+    grind (arith, last_item o ss d, append-nil (items o rs), inserted_both (strewn_counted o c) (put_one o d (inl k)))
 strewn_counted o (counts_on {rs = rs} {ss = ss} j c r s k) =
     grind (arith, last_item, inserted_both, same_one, strewn_counted o c)
 strewn_counted o (starts_anew {rs = rs} {ss = ss} c j d q r s k) =

@@ -31,16 +31,14 @@ use Rattle.ud_model.proofs.output.RereadStep.{plain_run}
 -- 1. Items that are read of the same lines are the same.
 
 pub lines_last : (o : Options) (ys : List (Item Reading)) (m : Mode) (l : Line) → map line_of (ys ++ item_of o (read_after ys m l) ∷ []) ≡ map line_of ys ++ l ∷ []
-lines_last o ys m l =
-    map-append line_of ys (item_of o (read_after ys m l) ∷ []) ∙ ap (λ (r : Reading). map line_of ys ++ r.line ∷ []) (reading_of-item_of o (read_after ys m l))
+lines_last o ys m l = grind (arith, map-append line_of ys (item_of o (read_after ys m l) ∷ []), reading_of-item_of o (read_after ys m l))
 
 pub read_once : (o : Options) (m : Mode) (ys zs : List (Item Reading)) → ReadIn o m ys → ReadIn o m zs → map line_of ys ≡ map line_of zs → ys ≡ zs
 read_once o m _ _ none_read none_read e = refl
 read_once o m _ _ none_read (one_read zs b k) e = absurd (push_not_nil (map line_of zs) k (sym (lines_last o zs m k) ∙ sym e))
 read_once o m _ _ (one_read ys a l) none_read e = absurd (push_not_nil (map line_of ys) l (sym (lines_last o ys m l) ∙ e))
 read_once o m _ _ (one_read ys a l) (one_read zs b k) e =
-    let s : (map line_of ys ≡ map line_of zs) × (l ≡ k) =
-    same_from_push (map line_of ys) (map line_of zs) l k (sym (lines_last o ys m l) ∙ e ∙ lines_last o zs m k) in
+    let s : (map line_of ys ≡ map line_of zs) × (l ≡ k) = grind (arith, same_from_push, lines_last) in
     ap₂ (λ (ws : List (Item Reading)) (j : Line). ws ++ item_of o (read_after ws m j) ∷ []) (read_once o m ys zs a b s.0) s.1
 
 -- 2. Two outputs side by side.
@@ -135,8 +133,7 @@ module _ (o : Options) (m : Mode) (ys zs : List (Item Reading)) (qs : List (List
         white = white;
         on = on;
         first = subst (λ (d : Mode). LeavesOff (with_line o d ys l) place white on) (sym e) (leaves_next o ys w.place w.white w.on l w.first);
-        second = subst (λ (d : Mode). LeavesOff (with_line o d zs k) place white on) (sym e)
-            (subst (λ (b : Bool). LeavesOff (with_line o C zs k) place white b) (ap (λ s. s.joins_after) s) g);
+        second = grind (arith, e, s, g);
         rests = λ f. subst (λ (d : Mode). LeavesOff (with_line o d zs k) in_text true false) (sym e) (leaves_anew o zs k (ap (λ s. s.joins_after) s ∙ f) h);
         read = one_read zs w.read k;
         are = are_more q;
@@ -161,11 +158,8 @@ with_verdict j v = record { line = j.line; verdict = v; keyword = j.keyword }
 pub gone_blank : (n : Bool) (before : List Judged) (j : Judged) → j.verdict ≡ Remove → piece_of true n before j ≡ j.line.ending
 gone_blank n before j e = grind arith
 
-gone_by : (before : List Judged) (j : Judged) (r : Bool) → last_removed before ≡ r → piece_of false true before (with_verdict j Remove) ≡ []
-gone_by before j r e = grind arith
-
 pub gone_number : (before : List Judged) (j : Judged) → j.verdict ≡ Remove → piece_of false true before j ≡ []
-gone_number before j e = ap (λ (v : Verdict). piece_of false true before (with_verdict j v)) e ∙ gone_by before j (last_removed before) refl
+gone_number before j e = grind (arith, e)
 
 pub left_blank : (v : Verdict) (n : Bool) (before : List Judged) (l : Line) (k : Span) → IsLeft v →
     piece_of true n before (record { line = l; verdict = v; keyword = k }) ≡ piece_by v k l

@@ -1,8 +1,8 @@
 -- The position of a keyword: before it no comment and no literal is open, and the bytes there may
 -- be exchanged.
-use Rattle.std.proofs.Common.{◌≡◌, ◌≢◌, ℕ, ◌+◌, ◌==◌, List, [], ◌∷◌, ◌++◌, length, Bool, true, false, if◌then◌else◌, refl, sym, ◌∙◌, ap, ap₂, subst, append-nil, arith, length-append, ◌⊎◌}
+use Rattle.std.proofs.Common.{◌≡◌, ◌≢◌, ℕ, ◌+◌, ◌==◌, List, [], ◌∷◌, ◌++◌, length, Bool, false, if◌then◌else◌, refl, sym, ◌∙◌, ap, ap₂, subst, append-nil, arith, length-append, ◌⊎◌}
 use Rattle.ud_model.specs.text.Bytes.{slash, space, newline, is_quote, is_white}
-use Rattle.ud_model.specs.aids.LexStates.{LexState, in_text, at_slash, in_literal, next_state, opens_comment, masked_byte, stays_white, blank_last}
+use Rattle.ud_model.specs.aids.LexStates.{LexState, in_text, at_slash, in_literal, next_state, opens_comment, masked_byte, blank_last}
 use Rattle.ud_model.proofs.text.LexStateLemmas.{length-blank_last}
 use Rattle.ud_model.proofs.text.ScanLaws.{place_after, white_after, masked_after}
 use Rattle.ud_model.proofs.output.SameShape.{parts}
@@ -17,9 +17,7 @@ pub length-masked_after : (bytes : List ℕ) (w : LexState) (m : List ℕ) → l
 length-masked_after [] w m = omega arith
 length-masked_after (b ∷ bytes) w m =
     let n : List ℕ = if opens_comment w b then blank_last m else m in
-    let a : length n ≡ length m = length_by (opens_comment w b) m in
-    let c : length (n ++ masked_byte w b ∷ []) ≡ length n + 1 = length-append n (masked_byte w b ∷ []) in
-    length-masked_after bytes (next_state w b) (n ++ masked_byte w b ∷ []) ∙ omega (arith, a, c)
+    grind (arith, length_by, length-append, length-masked_after bytes (next_state w b) (n ++ masked_byte w b ∷ []))
 
 -- If the masked line goes on with this byte after these, the text before the byte ends between
 -- lexemes.
@@ -58,8 +56,7 @@ module _ (c : ℕ) (prefix : List ℕ) (unquoted : has_quote prefix ≡ false) (
       let whole : masked_after w [] ((y ∷ a) ++ x ∷ b) ≡ n ++ masked_after (next_state p x) (masked_byte p x ∷ []) b =
       masked_after-append w [] (y ∷ a) (x ∷ b) ∙ masked_front b (next_state p x) n (masked_byte p x) in
       let long : length n ≡ length prefix = length_by (opens_comment p x) m ∙ length-masked_after (y ∷ a) w [] ∙ omega (arith, l) in
-      let s : (n ≡ prefix) × (masked_after (next_state p x) (masked_byte p x ∷ []) b ≡ c ∷ rest) =
-      parts n prefix (masked_after (next_state p x) (masked_byte p x ∷ []) b) (c ∷ rest) long (sym whole ∙ e) in
+      let s : (n ≡ prefix) × (masked_after (next_state p x) (masked_byte p x ∷ []) b ≡ c ∷ rest) = grind (arith, parts) in
       let first : masked_byte p x ≡ c = first_byte (next_state p x) (masked_byte p x) c b rest no_space s.1 in
       let t : (p ≡ in_text) × (m ≡ prefix) = is_text p m x (shown_all y a w [] q) s.0 first in
       record {
@@ -93,17 +90,15 @@ masked_inert (c ∷ word) h = grind (arith, text_front, masked_inert word h.1)
 -- A word that is shown is there.
 pub word_stands : (word behind rest : List ℕ) → Each IsInert word → Each (λ c. c ≢ space) word → masked_after in_text [] behind ≡ word ++ rest →
     (more : List ℕ) × (behind ≡ word ++ more) × (masked_after in_text [] more ≡ rest)
-word_stands [] behind rest h n e = (behind, refl, e)
-word_stands (c ∷ word) [] rest h n e = cc
 word_stands (c ∷ word) (x ∷ behind) rest h n e =
     let q : x ≡ c = first_byte (next_state in_text x) x c behind (word ++ rest) n.0 e in
     let f : masked_after (next_state in_text c) (c ∷ []) behind ≡ c ∷ (word ++ rest) = subst (λ (y : ℕ). masked_after (next_state in_text y) (y ∷ []) behind ≡ c ∷ (word ++ rest)) q e in
-    let g : masked_after in_text (c ∷ []) behind ≡ c ∷ (word ++ rest) =
-    subst (λ (v : LexState). masked_after v (c ∷ []) behind ≡ c ∷ (word ++ rest)) (next_inert c h.0) f in
+    let g : masked_after in_text (c ∷ []) behind ≡ c ∷ (word ++ rest) = cc (next_inert c h.0, f) in
     let k : c ∷ masked_after in_text [] behind ≡ c ∷ (word ++ rest) = sym (text_front behind (c ∷ [])) ∙ g in
     let t : masked_after in_text [] behind ≡ word ++ rest = cc in
     let r : (more : List ℕ) × (behind ≡ word ++ more) × (masked_after in_text [] more ≡ rest) = word_stands word behind rest h.1 n.1 t in
     (r.0, ap₂ (λ (y : ℕ) (l : List ℕ). y ∷ l) q r.1, r.2)
+word_stands word behind rest h g k = grind arith
 
 module _ (w : LexState) (before more prefix rest : List ℕ) (place : place_after w before ≡ in_text) (masks : masked_after w [] before ≡ prefix) (ends : masked_after in_text [] more ≡ rest) where
   -- After another word at this position, the rest is shown as before.
@@ -114,15 +109,11 @@ module _ (w : LexState) (before more prefix rest : List ℕ) (place : place_afte
   pub place_other : (word : List ℕ) → Each IsInert word → place_after w (before ++ (word ++ more)) ≡ place_after in_text more
   place_other word h = grind (arith, place_after-append, place_inert)
 
-  dark_inert : (c : ℕ) → IsInert c → stays_white in_text false c ≡ false
-  dark_inert c i = ap₂ (λ (s f : Bool). if s then false else if f then true else false) i.no_slash i.no_newline
-
   dark_word : (word : List ℕ) → Each IsInert word → white_after in_text false word ≡ false
   dark_word [] h = refl
-  dark_word (c ∷ word) h = ap₂ (λ (v : LexState) (b : Bool). white_after v b word) (next_inert c h.0) (dark_inert c h.0) ∙ dark_word word h.1
+  dark_word (c ∷ word) h = grind (arith, next_inert, dark_word word h.1)
 
   -- After another word, the line is white or not as before.
   pub white_other : (white : Bool) (c : ℕ) (word : List ℕ) → Each IsInert (c ∷ word) → is_white c ≡ false →
       white_after w white (before ++ ((c ∷ word) ++ more)) ≡ white_after in_text false more
-  white_other white c word h d =
-      grind (arith, white_after-append, place_inert, dark_word)
+  white_other white c word h d = grind (arith, white_after-append, place_inert, dark_word)

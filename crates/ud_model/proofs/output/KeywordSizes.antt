@@ -1,10 +1,9 @@
 -- The lengths of keywords, and their positions in a line.
-use Rattle.std.proofs.Common.{◌≡◌, ℕ, ◌+◌, ◌≤◌, List, length, Bool, Option, Some, if◌then◌else◌, refl, arith}
+use Rattle.std.proofs.Common.{◌≡◌, ℕ, ◌+◌, ◌≤◌, List, length, Bool, Some, if◌then◌else◌, refl, arith, rules}
 use Rattle.std.proofs.lemmas.Bool.{leb-true}
 use Rattle.std.proofs.Math.Dec.{leb}
-use Rattle.ud_model.specs.text.Bytes.{leading_word}
 use Rattle.ud_model.specs.text.Scans.{Scan, Reading}
-use Rattle.ud_model.specs.sections.Directives.{Content, cut_keyword, directive, text, content_of, skip_white_and_hash, has_split_keyword, content_after_hash, directive_at, kind_of, role_of}
+use Rattle.ud_model.specs.sections.Directives.{Content, cut_keyword, directive, content_of, skip_white_and_hash, has_split_keyword, content_after_hash, kind_of, role_of}
 use Rattle.ud_model.specs.sections.Tree.{Item, elif_line, else_line, endif_line}
 use Rattle.ud_model.specs.sections.Items.{Options, item_by, item_of}
 use Rattle.ud_model.specs.answer.Printing.{keyword_in}
@@ -29,17 +28,8 @@ abbrev pub HasSize : Content → Type 0
 HasSize (directive d) = least (role_of d.kind) ≤ d.keyword.len
 HasSize _ = Unit {0}
 
-size_at : (scan : Scan) (rest : List ℕ) (k : Option Kind) → kind_of (leading_word rest) ≡ k → HasSize (directive_at scan rest k)
-size_at scan rest k e = grind (arith, kind_size)
-
-size_fresh : (scan : Scan) (fresh : Bool) (rest : List ℕ) → HasSize (if fresh then directive_at scan rest (kind_of (leading_word rest)) else text)
-size_fresh scan fresh rest = grind (arith, size_at)
-
-size_behind : (scan : Scan) (sign : Option (List ℕ)) → HasSize (content_after_hash scan sign)
-size_behind scan sign = grind (arith, size_fresh)
-
 size_unless_cut : (scan : Scan) (cut : Bool) → HasSize (if cut then cut_keyword else content_after_hash scan (skip_white_and_hash scan.masked))
-size_unless_cut scan cut = grind (arith, size_behind)
+size_unless_cut scan cut = search rules
 
 -- A directive's keyword is at least as long as its kind demands.
 pub content_size : (scan : Scan) → HasSize (content_of scan)

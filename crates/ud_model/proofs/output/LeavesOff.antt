@@ -1,5 +1,5 @@
 -- The end of lines in C mode: the state by which a line after them is scanned.
-use Rattle.std.proofs.Common.{◌≡◌, ◌≢◌, ℕ, List, [], ◌∷◌, ◌++◌, map, Bool, true, false, refl, sym, ◌∙◌, ap, ap₂, subst, arith}
+use Rattle.std.proofs.Common.{◌≡◌, ◌≢◌, ℕ, List, [], ◌∷◌, ◌++◌, map, Bool, true, false, sym, ◌∙◌, ap, ap₂, subst, arith, rules}
 use Rattle.std.proofs.lemmas.List.{map-append}
 use Rattle.ud_model.specs.text.Lines.{Line}
 use Rattle.ud_model.specs.text.Scans.{Reading, plain_scan}
@@ -37,7 +37,7 @@ pub record LeavesOff (xs : List (Item Reading)) (w : LexState) (white joined_on 
 abbrev pub HasEnd : Line → Type 0
 HasEnd l = l.ending ≢ []
 
-joins_none : joins [] ≡ false
+pub joins_none : joins [] ≡ false
 unfolding joins
 joins_none = ap is_block (kind_at_place LexesTo-nil)
 
@@ -75,14 +75,7 @@ joins_next o xs l = simp (joins_after-code, readings_last, run_of_last)
 pub leaves_next : (o : Options) (xs : List (Item Reading)) (w : LexState) (white on : Bool) (l : Line) → LeavesOff xs w white on →
     LeavesOff (xs ++ item_of o (read_after xs C l) ∷ []) (state_after_line (stays_open l) (place_after w (content l)))
     (white_after_line (stays_open l) (place_after w (content l)) (white_after w white (content l))) (scan_after (map reading_of xs) C l).joins_after
-leaves_next o xs w white on l a = record {
-  reads = subst (λ (t : List ℕ). LexesTo t (state_after_line (stays_open l) (place_after w (content l))) (white_after_line (stays_open l) (place_after w (content l)) (white_after w white (content l))))
-      (sym (ap (λ (rs : List Reading). spliced_text (c_run_of rs)) (readings_last o xs xs C l) ∙ joined_run_last (map reading_of xs) (read_after xs C l) refl))
-      (LexesTo-close (spliced_text (c_run_of (map reading_of xs))) l (place_after w (content l)) (white_after w white (content l))
-      (LexesTo-append (spliced_text (c_run_of (map reading_of xs))) w white (content l) a.reads));
-  sane = sane_close (stays_open l) (place_after w (content l)) (white_after w white (content l)) (sane_all (content l) w white a.sane);
-  joins_on = joins_next o xs l;
-}
+leaves_next o xs w white on l a = search (rules, place_after, readings_last, joined_run_last, LexesTo-close, LexesTo-append, sane_close, sane_all, joins_next)
 
 -- If a line joins nothing and has an ending, the lines end between lines.
 pub leaves_anew : (o : Options) (xs : List (Item Reading)) (l : Line) → (scan_after (map reading_of xs) C l).joins_after ≡ false → HasEnd l →

@@ -53,9 +53,7 @@ same_open l k s e = ap₂ (λ (t : Bool) (x : List ℕ). t || is_empty x) s e
 
 -- A prefix of the body within the content is one of the content.
 front_within : (l : Line) (n : ℕ) → n ≤ length (content l) → take n l.body ≡ take n (content l)
-front_within l n h =
-    let f : (rest : List ℕ) × (l.body ≡ content l ++ rest) = content-prefix l in
-    ap (λ (t : List ℕ). take n t) f.1 ∙ take-append-le n (content l) f.0 h
+front_within l n h = let f : (rest : List ℕ) × (l.body ≡ content l ++ rest) = content-prefix l in cc (f.1, take-append-le n (content l) f.0 h)
 
 module _ (keyword : Span) (l k : Line) (within : keyword.at + keyword.len ≤ length (content l)) where
   if_spliced : l.body ≡ content l ++ backslash ∷ [] → k.body ≡ edited_body ToIf keyword l.body →

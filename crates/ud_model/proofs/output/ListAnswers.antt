@@ -1,9 +1,8 @@
 -- The list of names, stated for arguments, an input and the answer to them.
-use Rattle.std.proofs.Common.{◌≡◌, ◌≢◌, ℕ, List, Option, None, refl, sym, ◌∙◌, ap, subst}
+use Rattle.std.proofs.Common.{◌≡◌, ◌≢◌, ℕ, List, None, refl, subst, arith}
 use Rattle.ud_model.specs.sections.Items.{Options}
-use Rattle.ud_model.specs.sections.Faults.{Fault}
 use Rattle.ud_model.specs.answer.CommandLine.{usage_fault, options_of, display_name}
-use Rattle.ud_model.specs.answer.Answer.{Answer, IsAnswer, refused, ran, message_or_none, status_of, run_answer}
+use Rattle.ud_model.specs.answer.Answer.{Answer, IsAnswer, refused, ran, run_answer}
 use Rattle.ud_model.specs.answer.Outcomes.{Outcome, HasOutcome}
 use Rattle.ud_model.specs.output.ListedNames.{with_listing, AgreeOnListed}
 use Rattle.ud_model.specs.declared.settings.Settings.{Settings}
@@ -12,11 +11,7 @@ use Rattle.ud_model.proofs.output.ListComplete.{list_complete}
 
 -- Without a fault the name of the input doesn't count.
 same_answer : (s u : Settings) (n m : List ℕ) (r : Outcome) → r.fault ≡ None → s ≡ u → run_answer s n r ≡ run_answer u m r
-same_answer s u n m r e f =
-    ap (with_fault s n) e ∙ ap (λ (w : Settings). with_fault w n None) f ∙ sym (ap (with_fault u m) e)
-  where
-    with_fault : Settings → List ℕ → Option Fault → Answer
-    with_fault w k g = record { output = r.output; message = message_or_none k g; status = status_of w r.differs g }
+same_answer s u n m r e f = grind arith
 
 -- Arguments with the same entries for the listed names have the same answer.
 pub answered_by_list : {lister args more : List (List ℕ)} {input : List ℕ} {l a : Answer} → IsAnswer lister input l → l.status ≢ 2 →

@@ -12,7 +12,7 @@ use Rattle.ud_model.specs.sections.Tree.{Item, Tree, lines}
 use Rattle.ud_model.specs.sections.Items.{Options, reading_of, line_of, mode_by, mode_after, read_after, next_item, rules_of}
 use Rattle.ud_model.specs.sections.Faults.{Fault, AreFaultless, no_lines, one_more, NoneHolds, cases}
 use Rattle.ud_model.specs.answer.Listing.{names_in_content, names_at, listed_names, listed, levels}
-use Rattle.ud_model.specs.answer.Outcomes.{Outcome, outcome_of, output_by, FirstFaultAt, ReadsAs, HasOutcome, ran_as}
+use Rattle.ud_model.specs.answer.Outcomes.{Outcome, output_by, FirstFaultAt, ReadsAs, HasOutcome, ran_as}
 use Rattle.ud_model.specs.answer.Outcomes.ReadsAs.{stops, ends}
 use Rattle.ud_model.specs.output.Rereading.{NoneIgnores}
 use Rattle.ud_model.specs.output.ListedNames.{with_listing, listing_settings, IsListed, LeadsTo, itself, by_value, IsNoValue, AgreeOnListed}
@@ -73,9 +73,7 @@ names_then : (P : List ℕ → Type 0) (names : List (List ℕ)) (rest before : 
 names_then P [] rest before z h = (tt, (before, z, refl))
 names_then P (n ∷ names) rest before z h =
     let more : List ℕ = listed_names [] names in
-    let flat : before ++ (listed_names [] (n ∷ names) ++ rest) ≡ (before ++ n) ++ 10 ∷ (more ++ rest) =
-    ap (λ (q : List ℕ). before ++ (q ++ rest)) (name_first n names) ∙ ap (λ (q : List ℕ). before ++ q) (append_assoc n (10 ∷ more) rest)
-    ∙ sym (append_assoc before n (10 ∷ (more ++ rest))) in
+    let flat : before ++ (listed_names [] (n ∷ names) ++ rest) ≡ (before ++ n) ++ 10 ∷ (more ++ rest) = simp (name_first, append_assoc) in
     let moved : (before ++ n) ++ 10 ∷ (more ++ rest) ≡ (before ++ n ++ 10 ∷ []) ++ (more ++ rest) = sym (append_assoc (before ++ n) (10 ∷ []) (more ++ rest)) in
     let k = names_then P names rest (before ++ n ++ 10 ∷ []) (rest_none (before ++ n)) (λ m i. h m (subst (IsListed m) (sym (flat ∙ moved)) i)) in
     ((h n (before, more ++ rest, z, flat), k.0), (k.1.0, k.1.1, flat ∙ moved ∙ k.1.2))
@@ -83,11 +81,10 @@ names_then P (n ∷ names) rest before z h =
 -- A property of all listed names is one of all names.
 all_from : (P : List ℕ → Type 0) (xs : List (Item Reading)) (ns before : List ℕ) → length ns ≡ length xs → partial_line before ≡ [] →
     ((n : List ℕ) → IsListed n (before ++ listed false xs ns) → P n) → AllNames P xs
-all_from P [] ns before e z h = tt
-all_from P (x ∷ xs) [] before e z h = absurd (omega arith)
 all_from P (x ∷ xs) (n ∷ ns) before e z h =
     let k = names_then P (names_at x) (listed false xs ns) before z h in
     (k.0, all_from P xs ns k.1.0 (omega arith) k.1.1 (λ m i. h m (subst (IsListed m) (sym k.1.2) i)))
+all_from P xs ns before h g k = grind arith
 
 all_listed : (P : List ℕ → Type 0) {o : Options} {xs : List (Item Reading)} {t : Tree Reading} → AreFaultless o xs t →
     ((n : List ℕ) → IsListed n (listed false xs (levels t)) → P n) → AllNames P xs
@@ -102,8 +99,7 @@ the_same t n m l = refl
 
 same_settings : {o p : Options} {input : List ℕ} {xs : List (Item Reading)} {t : Tree Reading} {f : Option Fault} {r : Outcome} → p.settings ≡ o.settings →
     ReadsAs o input xs t f → ReadsAs p input xs t f → HasOutcome o input r → HasOutcome p input r
-same_settings {o = o} {p = p} {input = input} {xs = xs} {t = t} {f = f} {r = r} same a b run =
-    subst (HasOutcome p input) (ap (λ (s : Settings). outcome_of s xs t f) same ∙ one_run (ran_as a) run) (ran_as b)
+same_settings {o = o} {p = p} {input = input} {xs = xs} {t = t} {f = f} {r = r} same a b run = grind (arith, same, one_run, ran_as)
 
 pub list_complete : (o p : Options) (input : List ℕ) {l r : Outcome} → HasOutcome (with_listing o) input l → l.fault ≡ None → p.settings ≡ o.settings →
     AgreeOnListed l.output o.table p.table → HasOutcome o input r → HasOutcome p input r
@@ -111,8 +107,7 @@ list_complete o p input (ran_as (stops xs t f s)) e same alike run = cc
 list_complete o p input (ran_as (ends xs t g)) e same alike run =
     let here : AreFaultless o xs t = sound_alike (with_listing o) o refl refl g.sound (all_listed (Alike o.table o.table) g.sound (λ n i. the_same o.table n)) in
     let names : AllNames (Alike o.table p.table) xs = all_listed (Alike o.table p.table) g.sound (λ n i m l. alike n m i l) in
-    let there : AreFaultless p xs t =
-    sound_alike o p (ap (λ (s : Settings). s.plain) (sym same)) (ap (λ (s : Settings). rules_of s) (sym same)) here names in
+    let there : AreFaultless p xs t = grind (arith, sound_alike) in
     same_settings same (ends xs t (record { sound = here; are = g.are })) (ends xs t (record { sound = there; are = g.are })) run
 
 -- 4. A list that was made with other symbols.
@@ -165,8 +160,7 @@ module _ (o p : Options) (input : List ℕ) (same : p.settings ≡ o.settings) (
       (subst (Each Told) (ap (λ (ls : List Line). read_in (the_mode o) ls) s.are ∙ w.1) h) in
       let k = each_parts Told (read_in (the_mode o) (map line_of xs)) (next_reading (read_in (the_mode o) (map line_of xs)) (the_mode o) s.faulty ∷ []) q.0 in
       let names : AllNames (Alike o.table p.table) xs = each_unmap reading_of Told xs (subst (Each Told) (sym (read_so o n s.sound)) k.0) in
-      let next : Told (read_after xs (mode_after o t) s.faulty) =
-      subst Told (ap₂ (λ (m : Mode) (rs : List Reading). next_reading rs m s.faulty) (sym (mode_is o n s.sound)) (sym (read_so o n s.sound))) k.1.0 in
+      let next : Told (read_after xs (mode_after o t) s.faulty) = grind (arith, mode_is, read_so, k.1.0) in
       same_settings same (stops xs t f s)
       (stops xs t f (stop_alike o p (ap (λ (s : Settings). s.plain) (sym same)) (ap (λ (s : Settings). rules_of s) (sym same)) (lines_of input) xs t f s names next))
       (ran_as (stops xs t f s))
@@ -188,8 +182,7 @@ list_serves q o p input set calm n (ran_as (ends xs t g)) e same alike run =
     let names : AllNames (Alike o.table p.table) xs =
     all_listed (Alike o.table p.table) g.sound (λ m i k l. alike m k (subst (IsListed m) (sym out) i) l) in
     let modes : the_mode q ≡ the_mode o = ap (λ (s : Settings). mode_by s.plain) set in
-    let all : map reading_of xs ≡ read_in (the_mode o) (lines_of input) =
-    read_so q calm g.sound ∙ ap₂ (λ (m : Mode) (ls : List Line). read_in m ls) modes (sym g.are) in
+    let all : map reading_of xs ≡ read_in (the_mode o) (lines_of input) = cc (read_so q calm g.sound, modes, g.are) in
     reads_alike o p input same n (subst (Each (Told o p input same n)) all (each_map reading_of (Told o p input same n) xs names)) run
 
 -- 5. One symbol.

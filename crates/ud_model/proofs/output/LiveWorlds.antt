@@ -2,10 +2,9 @@
 -- of the pruned nodes.
 use Rattle.std.proofs.Common.{◌≡◌, List, [], ◌∷◌, ◌++◌, length, map, Bool, true, false, refl, sym, ◌∙◌, ap, ap₂, subst, append_assoc, arith}
 use Rattle.ud_model.specs.declared.cond.Cond.{Cond}
-use Rattle.ud_model.specs.declared.cond.Cond.TheVariants.{Yes, No, Unknown}
+use Rattle.ud_model.specs.declared.cond.Cond.TheVariants.{Yes, Unknown}
 use Rattle.ud_model.specs.declared.verdict.Verdict.{Verdict}
-use Rattle.ud_model.specs.declared.verdict.Verdict.TheVariants.{Remove, ToElse, ToEndif}
-use Rattle.ud_model.specs.sections.Tree.{Item, Opener, Nodes, Groups, Elifs, text_line, if_line, elif_line, nothing, text, section, conditional, otherwise, first, elif, lines_of_nodes}
+use Rattle.ud_model.specs.sections.Tree.{Item, Opener, Nodes, Groups, Elifs, if_line, elif_line, nothing, text, section, conditional, otherwise, first, elif, lines_of_nodes}
 use Rattle.ud_model.specs.sections.Pruning.{Mark}
 use Rattle.ud_model.specs.output.Worlds.{World, AgreesWith, EachReached, GroupsReached, ElifsReached, openers_in}
 use Rattle.ud_model.specs.output.Pruned.{Edited, kept_line, printed, IsUndecided, IsUnknown, Any, EachLine, GroupLines, ElifLines}
@@ -32,8 +31,7 @@ module _ {L : Type 0} where
 
   heads_append : (xs ys : List (Item L)) → heads_in (xs ++ ys) ≡ heads_in xs ++ heads_in ys
   heads_append [] ys = refl
-  heads_append (x ∷ xs) ys =
-      ap (λ (os : List (Opener L)). head_of x ++ os) (heads_append xs ys) ∙ sym (append_assoc (head_of x) (heads_in xs) (heads_in ys))
+  heads_append (x ∷ xs) ys = cc (heads_append xs ys, append_assoc (head_of x) (heads_in xs) (heads_in ys))
 
   pub head_lines : (xs : List (Item L)) → lines_of_heads (heads_in xs) ≡ openers_in xs
   head_lines [] = refl
@@ -96,34 +94,22 @@ module _ {L : Type 0} where
   IsFrom o p = (p.line.line ≡ o.line) × (p.cond ≡ o.cond)
 
   one_head : (v : Verdict) (x : Item L) {os : List (Opener L)} {ps : List (Opener (Edited L))} → Left IsFrom os ps → Left IsFrom (head_of x ++ os) (heads_in (kept_line v x) ++ ps)
-  one_head Remove (if_line o) h = gone h
-  one_head Remove (elif_line o) h = gone h
-  one_head ToElse (elif_line o) h = gone h
-  one_head ToEndif (elif_line o) h = gone h
-  one_head v (if_line o) h = stays (refl, refl) h
-  one_head v (elif_line o) h = stays (refl, refl) h
-  one_head v x h = h
+  one_head v x h = grind (arith, gone, stays)
 
   pub heads_left : (xs : List (Item L)) (ms : List Mark) → Left IsFrom (heads_in xs) (heads_in (printed xs ms))
-  heads_left [] ms = none
-  heads_left (x ∷ xs) [] = none_left IsFrom (heads_in (x ∷ xs))
-  heads_left (x ∷ xs) (m ∷ ms) =
-      subst (Left IsFrom (heads_in (x ∷ xs))) (sym (heads_append (kept_line m.verdict x) (printed xs ms))) (one_head m.verdict x (heads_left xs ms))
+  heads_left (x ∷ xs) (m ∷ ms) = grind (arith, heads_append (kept_line m.verdict x) (printed xs ms), one_head m.verdict x (heads_left xs ms))
+  heads_left xs ms = grind (arith, none_left)
 
   -- A text line of the output comes from this one.
   abbrev pub IsOfLine : L → Edited L → Type 0
   IsOfLine l e = e.line ≡ l
 
   one_text : (v : Verdict) (x : Item L) {ls : List L} {es : List (Edited L)} → Left IsOfLine ls es → Left IsOfLine (text_line_of x ++ ls) (text_lines_in (kept_line v x) ++ es)
-  one_text Remove (text_line l) h = gone h
-  one_text v (text_line l) h = stays refl h
-  one_text v x h = h
+  one_text v x h = grind (arith, gone, stays)
 
   pub texts_left : (xs : List (Item L)) (ms : List Mark) → Left IsOfLine (text_lines_in xs) (text_lines_in (printed xs ms))
-  texts_left [] ms = none
-  texts_left (x ∷ xs) [] = none_left IsOfLine (text_lines_in (x ∷ xs))
-  texts_left (x ∷ xs) (m ∷ ms) =
-      subst (Left IsOfLine (text_lines_in (x ∷ xs))) (sym (text_lines_append (kept_line m.verdict x) (printed xs ms))) (one_text m.verdict x (texts_left xs ms))
+  texts_left (x ∷ xs) (m ∷ ms) = grind (arith, text_lines_append (kept_line m.verdict x) (printed xs ms), one_text m.verdict x (texts_left xs ms))
+  texts_left xs ms = grind (arith, none_left)
 
 -- 3. The truths of the openers.
 
@@ -133,9 +119,7 @@ is_yes _ = false
 
 module _ {L : Type 0} where
   fits_by : (w : World L) (c : Cond) (l : L) → w l ≡ is_yes c → AgreesWith w c l
-  fits_by w Yes l e = e
-  fits_by w No l e = e
-  fits_by w Unknown l e = tt
+  fits_by w c l h = grind arith
 
   unknown_fits : (w : World L) (c : Cond) (l : L) → c ≡ Unknown → AgreesWith w c l
   unknown_fits w c l e = subst (λ (d : Cond). AgreesWith w d l) (sym e) tt
@@ -148,13 +132,11 @@ module _ {L : Type 0} where
   -- If what is left is unknown, the openers can be given such truths.
   pub given : {os : List (Opener L)} {ps : List (Opener (Edited L))} → Left IsFrom os ps → Each IsUnknown ps → (bs : List Bool) → length bs ≡ length ps →
       Truths (lines_of_heads os) (Gives os ps bs)
-  given none u [] e = weaker (λ w s. record { agrees = tt; truths = refl }) (any_truths [])
-  given none u (b ∷ bs) e = absurd (omega (arith, e))
   given (gone {x = o} h) u bs e =
       weaker (λ w s. record { agrees = (fits_by w o.cond o.line s.0, s.1.agrees); truths = s.1.truths }) (both_truths (one_truth o.line (is_yes o.cond)) (given h u bs e))
-  given (stays r h) u [] e = absurd (omega (arith, e))
   given (stays {x = o} {y = p} r h) u (b ∷ bs) e =
       weaker (λ w s. record {
         agrees = (unknown_fits w o.cond o.line (sym r.1 ∙ u.0), s.1.agrees);
         truths = ap₂ (λ (c : Bool) (cs : List Bool). c ∷ cs) (ap w r.0 ∙ s.0) s.1.truths;
       }) (both_truths (one_truth o.line b) (given h u.1 bs (omega (arith, e))))
+  given h g bs k = grind (arith, weaker, any_truths)

@@ -1,6 +1,6 @@
 -- Lone lines: a blank line and a `#line`, inserted between logical lines, are scanned by
 -- themselves, and end between lines.
-use Rattle.std.proofs.Common.{◌≡◌, ◌≢◌, ℕ, ◌+◌, ◌-◌, ◌^◌, ◌%◌, ◌<◌, List, [], ◌∷◌, ◌++◌, length, take, map, Bool, true, false, not, ◌&&◌, ◌==◌, nat_eq, if◌then◌else◌, inl, inr, codes, decimal, refl, sym, ◌∙◌, ap, ap₂, subst, append_assoc, append-nil, length-append, arith}
+use Rattle.std.proofs.Common.{◌≡◌, ◌≢◌, ℕ, ◌+◌, ◌-◌, ◌^◌, ◌%◌, ◌<◌, List, [], ◌∷◌, ◌++◌, length, take, map, Bool, true, false, not, ◌&&◌, ◌==◌, nat_eq, if◌then◌else◌, inl, inr, codes, decimal, refl, sym, ◌∙◌, ap, subst, append_assoc, append-nil, length-append, arith}
 use Rattle.std.specs.List.{ends_with}
 use Rattle.std.proofs.lemmas.Bool.Decides.{Decides-eqb}
 use Rattle.std.proofs.lemmas.Slice.Eq.{ends_is}
@@ -11,7 +11,7 @@ use Rattle.ud_model.specs.text.Lines.{NoNewline, IsWhole, ending_of, Line, line_
 use Rattle.ud_model.specs.text.Scans.{Reading, plain_scan}
 use Rattle.ud_model.specs.text.Splicing.{is_empty, is_spliced, content, stays_open, c_run_of}
 use Rattle.ud_model.specs.text.Scanning.{scan_after}
-use Rattle.ud_model.specs.aids.LexStates.{LexState, in_text, at_slash, in_literal, next_state, state_after_line}
+use Rattle.ud_model.specs.aids.LexStates.{in_text, state_after_line}
 use Rattle.ud_model.specs.sections.Tree.{Item}
 use Rattle.ud_model.specs.sections.Items.{reading_of}
 use Rattle.ud_model.specs.answer.Printing.{number_line, ending_or_newline}
@@ -80,17 +80,13 @@ quiet_whole b e q (inr h) = (b, quiet_no_feed b q, ap (λ (t : List ℕ). b ++ t
 
 -- 2. Their scans.
 
-next_quiet : (b : ℕ) → Quiet b → next_state in_text b ≡ in_text
-next_quiet b q = ap₂ (λ (s t : Bool). if s then at_slash else if t then in_literal b else in_text) q.no_slash q.no_quote
-
 pub place_quiet : (b : List ℕ) → Each Quiet b → place_after in_text b ≡ in_text
 place_quiet [] q = refl
-place_quiet (x ∷ b) q = ap (λ (w : LexState). place_after w b) (next_quiet x q.0) ∙ place_quiet b q.1
+place_quiet (x ∷ b) q = grind (arith, place_after, place_quiet b q.1)
 
 masked_quiet : (b scanned : List ℕ) → Each Quiet b → masked_after in_text scanned b ≡ scanned ++ b
 masked_quiet [] scanned q = sym (append-nil scanned)
-masked_quiet (x ∷ b) scanned q =
-    ap (λ (w : LexState). masked_after w (scanned ++ x ∷ []) b) (next_quiet x q.0) ∙ masked_quiet b (scanned ++ x ∷ []) q.1 ∙ append_assoc scanned (x ∷ []) b
+masked_quiet (x ∷ b) scanned q = grind (arith, append_assoc, masked_quiet b (scanned ++ x ∷ []) q.1)
 
 -- A line of quiet bytes with an ending.
 pub record IsQuiet (l : Line) : Type 0 where

@@ -1,6 +1,6 @@
 -- Of the text lines exactly the live ones are left.
 use Rattle.std.proofs.Common.{inl, inr, ◌≡◌, ℕ, suc, ◌+◌, ◌<◌, ◌≤◌, List, [], ◌∷◌, ◌++◌, length, map, Bool, Option, Some, None, refl, sym, ◌∙◌, ap, ap₂, subst, arith}
-use Rattle.std.specs.Prelude.{◌⊎◌}
+use Rattle.std.specs.Prelude.{◌⊎◌, slice_index}
 use Rattle.std.specs.List.{Contains}
 use Rattle.std.proofs.Math.Logic.{⊎_elim}
 use Rattle.std.proofs.lemmas.List.{length-map}
@@ -13,7 +13,6 @@ use Rattle.ud_model.specs.sections.Pruning.{marks}
 use Rattle.ud_model.specs.sections.Items.{reading_of, line_of}
 use Rattle.ud_model.specs.output.Worlds.{World, or_else, lines_or, where_true, selected, selected_groups, selected_elifs, openers, Agrees}
 use Rattle.ud_model.specs.output.Pruned.{Edited, edited, pruned_lines, IsUnknown}
-use Rattle.std.specs.Prelude.{slice_index}
 use Rattle.std.specs.List.Sorted.{IsStrictlyIncreasing}
 use Rattle.ud_model.specs.output.LiveLines.{text_lines_in, AreThose, none_is, this_is, this_is_not, AreNumbered, IsLive, AreLive}
 use Rattle.ud_model.proofs.output.Folded.{folded}
@@ -62,8 +61,7 @@ where_some : {A : Type 0} (b : Bool) (qs ls : List A) → where_true b qs ≡ So
 where_some b qs ls e = grind arith
 
 either_some : {A : Type 0} (s r : Option (List A)) (ls : List A) → or_else s r ≡ Some ls → (s ≡ Some ls) ⊎ (r ≡ Some ls)
-either_some None r ls e = inr e
-either_some (Some qs) r ls e = inl e
+either_some s r ls h = grind arith
 
 module _ {L : Type 0} where
   in_first : (xs ys : List (Item L)) (l : L) → Contains (text_lines_in xs) l → Contains (text_lines_in (xs ++ ys)) l
@@ -177,8 +175,7 @@ module _ (ns : Nodes Reading) where
       let v : (w : World Reading) × (map w (openers ns) ≡ g.truths) = world_by n ns g.truths h (g.long ∙ ap (λ (ls : List Reading). length ls) heads_are) in
       let s : Gives (heads_in (lines_of_nodes ns)) left_heads t.truths v.0 = g.so v.0 (ap (λ (ls : List Reading). map v.0 ls) heads_are ∙ v.1) in
       let a : Agrees v.0 ns = each_reached (Fits v.0) v.0 ns s.agrees in
-      let d : Contains (selected (out_world v.0) (folded ns)) e =
-      t.so (out_world v.0) (ap (λ (ls : List (Edited Reading)). map (out_world v.0) ls) (sym left_are) ∙ s.truths) in
+      let d : Contains (selected (out_world v.0) (folded ns)) e = grind (arith, left_are) in
       let r = from_map (edited Keep) (selected v.0 ns) e (subst (λ (ls : List (Edited Reading)). Contains ls e) (sym (selected-pruned v.0 ns a)) d) in
       let q : r.0 ≡ e.line = ap line_from r.2 in
       (ap (edited Keep) (sym q) ∙ r.2, (v.0, a, subst (λ (l : Reading). Contains (selected v.0 ns) l) q r.1))

@@ -1,5 +1,5 @@
 -- Laws of options, of arguments and answers.
-use Rattle.std.proofs.Common.{◌≡◌, ◌≢◌, ℕ, List, [], ◌∷◌, ◌++◌, map, Bool, true, false, None, codes, refl, sym, ◌∙◌, ap₂, subst}
+use Rattle.std.proofs.Common.{◌≡◌, ◌≢◌, ℕ, List, [], ◌∷◌, ◌++◌, map, Bool, true, false, None, codes, refl, sym, ◌∙◌, ap₂, subst, rules, arith}
 use Rattle.std.proofs.lemmas.Option.{none-some}
 use Rattle.ud_model.specs.text.Lines.{Line, lines_of, partial_line}
 use Rattle.ud_model.specs.text.Scans.{Reading}
@@ -9,7 +9,7 @@ use Rattle.ud_model.specs.answer.CommandLine.{has_flag, parsed_args, usage_fault
 use Rattle.ud_model.specs.answer.OptionArguments.{AddsSymbol, AddsOption, added}
 use Rattle.ud_model.specs.answer.Answer.{Answer, IsAnswer, Succeeds, refused, ran, message_or_none}
 use Rattle.ud_model.specs.answer.Printing.{Judged}
-use Rattle.ud_model.specs.answer.Outcomes.{Outcome, HasOutcome, JudgedAs, judged_as}
+use Rattle.ud_model.specs.answer.Outcomes.{Outcome, HasOutcome, JudgedAs}
 use Rattle.ud_model.specs.output.Rereading.{IsPlain, IsTreeOf}
 use Rattle.ud_model.specs.output.Worlds.{World, selected}
 use Rattle.ud_model.specs.output.ListedNames.{IsListed, IsNoValue, NeverCounts}
@@ -21,7 +21,7 @@ use Rattle.ud_model.specs.output.PresumedLines.{HasNoLineDirective, Presumed, Pr
 use Rattle.ud_model.specs.output.InsertedNodes.{StillSelects}
 use Rattle.ud_model.specs.declared.settings.Listing.TheVariants.{Off}
 use Rattle.ud_model.proofs.answer.AddedOption.{WithOption, with_option}
-use Rattle.ud_model.proofs.output.AnswerLaws.{faultless, answered_selects}
+use Rattle.ud_model.proofs.output.AnswerLaws.{answered_selects}
 use Rattle.ud_model.proofs.output.FlagArguments.{lists_names, complements, is_strict, no_fault_with_c, name_with_c}
 use Rattle.ud_model.proofs.output.ListAnswers.{answered_by_list}
 use Rattle.ud_model.proofs.output.ListComplete.{alike_but_one}
@@ -36,8 +36,7 @@ use Rattle.ud_model.proofs.output.InsertedSelected.{inserted_in_selected}
 
 -- arguments with an answer whose status isn't 2 have no fault
 no_usage_fault : {args : List (List ℕ)} {input : List ℕ} {a : Answer} → IsAnswer args input a → a.status ≢ 2 → usage_fault args ≡ None
-no_usage_fault (refused f e) n = absurd (n refl)
-no_usage_fault (ran r e d) n = e
+no_usage_fault h g = grind arith
 
 -- an option for a symbol that isn't listed changes no answer
 pub answered_with_option : (before after : List (List ℕ)) (name word input : List ℕ) {l a : Answer} → AddsSymbol before name word →
@@ -51,30 +50,23 @@ answered_with_option before after name word input {l} {a} adds off k n b m out n
 
 pub answered_with_added : {args more : List (List ℕ)} {name input : List ℕ} {a : Answer} → AddsOption name args more → NeverCounts args input name →
     Succeeds args input a → IsAnswer more input a
-answered_with_added {name = name} {input = input} (added before after w adds) never s =
-    answered_with_option before after name w input adds never.lists.no_depths never.lists.lists.answer never.lists.lists.no_fault s.answer s.no_fault
-    never.unlisted never.no_value
+answered_with_added {name = name} {input = input} (added before after w adds) never s = grind (arith, answered_with_option)
 
 -- under `-b` there are as many lines
 pub answered_as_many : {args : List (List ℕ)} {input : List ℕ} {a : Answer} → (options_of args).settings.blank ≡ true →
     (options_of args).settings.listing ≡ Off → partial_line input ≡ [] → IsAnswer args input a → a.status ≢ 2 →
     map (λ (k : Line). k.ending) (lines_of a.output) ≡ map (λ (l : Line). l.ending) (lines_of input)
-answered_as_many b off whole (refused f e) n = absurd (n refl)
-answered_as_many {args = args} {input = input} b off whole (ran r e d) n =
-    as_many (options_of args) input b off whole d (faultless (options_of args).settings r.differs r.fault n)
+answered_as_many h g k m q = grind (arith, absurd, as_many)
 
 -- and each is at its place
 pub answered_places : {args : List (List ℕ)} {input : List ℕ} {js : List Judged} {a : Answer} → Blanks (options_of args) → usage_fault args ≡ None →
     JudgedAs (options_of args) input js → IsAnswer args input a → AreBlankedBy (options_of args) js a.output
-answered_places b right j (refused f e) = absurd (none-some f (sym right ∙ e))
-answered_places {args = args} {input = input} b right (judged_as reads) (ran r e d) =
-    blanked_places (options_of args) input b.blank b.unlisted reads d
+answered_places h g k m = grind (arith, absurd, blanked_places)
 
 -- the run with `-c` has the same fault, and the other lines
 with_c : (args : List (List ℕ)) (input : List ℕ) {r s : Outcome} → OnlyDecides (options_of args) → HasOutcome (options_of args) input r →
     HasOutcome (options_of (codes "-c" ∷ args)) input s → RunsWithComplement (options_of args) input r s
-with_c args input {s = s} p d h =
-    record { decides = p; runs = d; complement = subst (λ (o : Options). HasOutcome o input s) (complements args) h }
+with_c args input {s = s} p d h = grind (arith, complements)
 
 pub answered_message : {args : List (List ℕ)} {input : List ℕ} {a c : Answer} → OnlyDecides (options_of args) → usage_fault args ≡ None →
     IsAnswer args input a → IsAnswer (codes "-c" ∷ args) input c → c.message ≡ a.message
@@ -88,8 +80,7 @@ pub answered_shared : {args : List (List ℕ)} {input : List ℕ} {js : List Jud
     ShareLines js a.output c.output
 answered_shared p right j (refused f e) b = absurd (none-some f (sym right ∙ e))
 answered_shared {args = args} p right j (ran r e d) (refused f g) = absurd (none-some f (sym (no_fault_with_c args right) ∙ g))
-answered_shared {args = args} {input = input} p right j (ran r e d) (ran s g h) =
-    shared_lines (options_of args) input (with_c args input p d h) j
+answered_shared {args = args} {input = input} p right j (ran r e d) (ran s g h) = grind (arith, shared_lines, with_c)
 
 -- the run with `-K` keeps as much text
 pub answered_keeps : (args : List (List ℕ)) (input : List ℕ) {js ks : List Judged} → JudgedAs (options_of args) input js →
@@ -98,43 +89,30 @@ answered_keeps args input {ks = ks} j k = strict_keeps (options_of args) input j
 
 pub answered_all : {args : List (List ℕ)} {input : List ℕ} {js : List Judged} {a : Answer} → JudgedAs (options_of args) input js →
     IsAnswer args input a → a.status ≢ 2 → map (λ (j : Judged). j.line) js ≡ lines_of input
-answered_all j (refused f e) n = absurd (n refl)
-answered_all {args = args} {input = input} j (ran r e d) n =
-    judged_are_all (options_of args) input j d (faultless (options_of args).settings r.differs r.fault n)
+answered_all h g k = grind (arith, absurd, judged_are_all)
 
 pub answered_output : {args : List (List ℕ)} {input : List ℕ} {js : List Judged} {a : Answer} → OnlyDecides (options_of args) → usage_fault args ≡ None →
     JudgedAs (options_of args) input js → IsAnswer args input a → a.output ≡ pieces_of js
-answered_output p right j (refused f e) = absurd (none-some f (sym right ∙ e))
-answered_output {args = args} {input = input} p right j (ran r e d) = judged_output (options_of args) input p j d
+answered_output h g k m = grind (arith, absurd, judged_output)
 
 -- the run with `-b` or `-n`
 numbered_run : {args more : List (List ℕ)} {input : List ℕ} {r s : Outcome} → IsPlain (options_of args) → KeepsNumbers args more →
     HasOutcome (options_of args) input r → HasOutcome (options_of more) input s → AddsNumbers (options_of args) input r s
-numbered_run {input = input} {s = s} p k d h =
-    record {
-      plain = p;
-      blank = k.blank;
-      renumber = k.renumber;
-      some = k.given;
-      runs = d;
-      numbered = subst (λ (o : Options). HasOutcome o input s) k.options h;
-    }
+numbered_run {input = input} {s = s} p k d h = grind arith
 
 pub answered_counted : {args more : List (List ℕ)} {input : List ℕ} {js : List Judged} {a c : Answer} → IsPlain (options_of args) →
     usage_fault args ≡ None → KeepsNumbers args more → JudgedAs (options_of args) input js → IsAnswer args input a → IsAnswer more input c →
     CountsLines (options_of args) js a.output c.output
 answered_counted p right k j (refused f e) b = absurd (none-some f (sym right ∙ e))
 answered_counted p right k j (ran r e d) (refused f g) = absurd (none-some f (sym k.no_fault ∙ g))
-answered_counted {args = args} {input = input} p right k j (ran r e d) (ran s g h) =
-    counted_lines (options_of args) input (numbered_run p k d h) j
+answered_counted {args = args} {input = input} p right k j (ran r e d) (ran s g h) = search (rules, counted_lines, numbered_run)
 
 pub answered_presumed : {args more : List (List ℕ)} {input : List ℕ} {js : List Judged} {a c : Answer} → IsPlain (options_of args) →
     usage_fault args ≡ None → KeepsNumbers args more → JudgedAs (options_of args) input js → IsAnswer args input a → IsAnswer more input c →
     HasNoLineDirective (mode_by (options_of args).settings.plain) a.output →
     (ps : List Presumed) (sure : Bool) (n : ℕ) → Presumes (read_as (mode_by (options_of args).settings.plain) c.output) ps sure n → HaveInputNumbers js ps
 answered_presumed {args = args} {input = input} p right k j a c none ps sure n q =
-    let d = answered_counted p right k j a c in
-    (right_numbers d.1 none (judged_few (options_of args) input j) ps sure n q).1
+    let d = answered_counted p right k j a c in grind (arith, (right_numbers d.1 none (judged_few (options_of args) input j) ps sure n q).1)
 
 pub answered_line_numbers : {args more : List (List ℕ)} {input : List ℕ} {js : List Judged} {a c : Answer} → IsPlain (options_of args) →
     usage_fault args ≡ None → KeepsNumbers args more → JudgedAs (options_of args) input js → IsAnswer args input a → IsAnswer more input c →

@@ -1,30 +1,27 @@
 -- The outcome of a text in parts is that of its first part, and then that of its second one.
-use Rattle.std.proofs.Common.{◌≡◌, ◌≢◌, ℕ, suc, ◌+◌, ◌≤◌, List, [], ◌∷◌, ◌++◌, length, map, Bool, true, false, not, ◌||◌, bytes_eq, Option, Some, None, refl, sym, ◌∙◌, ap, ap₂, subst, append_assoc, append-nil, ◌⊎◌, inl, inr, arith}
-use Rattle.std.specs.List.{concat}
+use Rattle.std.proofs.Common.{◌≡◌, ◌≢◌, ℕ, suc, ◌+◌, ◌≤◌, List, [], ◌∷◌, ◌++◌, length, map, Bool, true, false, not, ◌||◌, bytes_eq, Option, None, refl, sym, ◌∙◌, ap, ap₂, subst, append_assoc, append-nil, ◌⊎◌, inl, inr, arith}
 use Rattle.std.proofs.lemmas.List.{map-append}
 use Rattle.std.proofs.lemmas.List.Folds.{concat-append}
-use Rattle.ud_model.specs.text.Lines.{Line, text_of, lines_of, line_at, numbered_from, ending_of, partial_line, whole_lines, last_line, AreWhole}
-use Rattle.ud_model.specs.text.Splicing.{is_spliced, last_is_spliced, spliced_text, spliced_part, c_run_of}
+use Rattle.ud_model.specs.text.Lines.{Line, text_of, lines_of, numbered_from, partial_line, AreWhole}
+use Rattle.ud_model.specs.text.Splicing.{is_spliced, last_is_spliced, spliced_text, spliced_part}
 use Rattle.ud_model.specs.text.Lexemes.{LexemeKind, kind_at_end}
 use Rattle.ud_model.specs.text.Scans.{Reading}
 use Rattle.ud_model.specs.text.Scanning.{EndsLogicalLine, ends_with, is_block, comment_at, scan_after, scan_after_run}
-use Rattle.ud_model.specs.sections.Directives.{content_of}
-use Rattle.ud_model.specs.sections.Tree.{Item, Opener, Nodes, Tree, closed, nothing, lines, lines_of_nodes, innermost, is_ignoring}
+use Rattle.ud_model.specs.sections.Tree.{Item, Nodes, Tree, closed, nothing, lines, lines_of_nodes, is_ignoring}
 use Rattle.ud_model.specs.sections.Pruning.{Mark, marks, marks_of_nodes}
 use Rattle.ud_model.specs.sections.Items.{Options, reading_of, line_of, mode_by, mode_after, read_after, next_item}
-use Rattle.ud_model.specs.sections.Faults.{Fault, AreFaultless, no_lines, one_more, last_number, ends_in_comment, is_in_block, end_by, end_fault}
-use Rattle.ud_model.specs.answer.Printing.{Judged, piece_after, style_of, pieces_by, some_other, judged_line, judged_lines, keyword_in}
-use Rattle.ud_model.specs.answer.Listing.{levels, levels_of_nodes, listed, listed_names, depth_prefix, names_in_content}
+use Rattle.ud_model.specs.sections.Faults.{Fault, AreFaultless, no_lines, one_more, last_number, ends_in_comment, is_in_block, end_fault}
+use Rattle.ud_model.specs.answer.Printing.{Judged, piece_after, style_of, pieces_by, some_other, judged_lines}
+use Rattle.ud_model.specs.answer.Listing.{levels, levels_of_nodes, listed}
 use Rattle.ud_model.specs.answer.Outcomes.{Outcome, outcome_of, output_by, differs_by, HasNoFault, ReadsAs, HasOutcome, ran_as}
 use Rattle.ud_model.specs.answer.Outcomes.ReadsAs.{stops, ends}
 use Rattle.ud_model.specs.answer.CommandLine.{options_of}
 use Rattle.ud_model.specs.answer.Answer.{Answer, IsAnswer, refused, ran, Succeeds, status_of}
 use Rattle.ud_model.specs.output.TextsInParts.{fault_later, fault_if_later, in_parts, MayBeParts, AnswersBoth}
 use Rattle.ud_model.specs.declared.kind.Mode.{Mode}
-use Rattle.ud_model.specs.declared.kind.Mode.TheVariants.{C, Plain}
+use Rattle.ud_model.specs.declared.kind.Mode.TheVariants.{Plain}
 use Rattle.ud_model.specs.declared.settings.Settings.{Settings}
 use Rattle.ud_model.specs.declared.settings.Listing.{Listing}
-use Rattle.ud_model.specs.declared.settings.Listing.TheVariants.{Off, Names, Depths}
 use Rattle.ud_model.specs.declared.limits.TheConstants.{TEXT_LINES}
 use Rattle.ud_model.proofs.text.Pushes.{push_not_nil}
 use Rattle.ud_model.proofs.text.LinesLemmas.{are_whole}
@@ -40,8 +37,8 @@ use Rattle.ud_model.proofs.sections.Soundness.{sound_lines, one_run, lines_with_
 use Rattle.ud_model.proofs.answer.Onward.{judged_more, listed_more}
 use Rattle.ud_model.proofs.answer.LevelLemmas.{length_levels}
 use Rattle.ud_model.proofs.output.RereadLaws.{input_nodes}
-use Rattle.ud_model.proofs.output.PartTrees.{tree_with, opener_if_with, innermost_then, innermost_with, tree_levels_then, tree_levels_with}
-use Rattle.ud_model.proofs.output.PartReads.{line_later, reading_later, later, reading_of-later, line_of-later, lines_later, both, grown, marks_grown, lines_of_both, numbers_fit, sound_both, fault_there}
+use Rattle.ud_model.proofs.output.PartTrees.{innermost_then, innermost_with, tree_levels_then, tree_levels_with}
+use Rattle.ud_model.proofs.output.PartReads.{line_later, later, reading_of-later, line_of-later, lines_later, both, grown, marks_grown, lines_of_both, numbers_fit, sound_both, fault_there}
 
 -- 1. The fault of the end.
 
@@ -54,33 +51,17 @@ number_more (x ∷ z ∷ xs) y ys = number_more (z ∷ xs) y ys
 number_more _ _ _ = refl
 
 comment_later : (n : ℕ) (ys : List (Item Reading)) → ends_in_comment (map (later n) ys) ≡ ends_in_comment ys
-comment_later n [] = refl
-comment_later n (y ∷ []) = ap (λ (r : Reading). is_in_block r.scan.comment) (reading_of-later n y)
 comment_later n (y ∷ z ∷ ys) = comment_later n (z ∷ ys)
+comment_later n ys = grind (arith, reading_of-later)
 
 number_later : (n : ℕ) (y : Item Reading) (ys : List (Item Reading)) → last_number (map (later n) (y ∷ ys)) ≡ n + last_number (y ∷ ys)
 number_later n y [] = ap (λ (l : Line). l.number) (line_of-later n y)
 number_later n y (z ∷ ys) = number_later n z ys
 
-end_later : (n : ℕ) (b : Bool) (k : ℕ) (i : Option (Opener Reading)) → end_by b (n + k) (opener_if_with (reading_later n) i) ≡ fault_if_later n (end_by b k i)
-end_later n true k i = refl
-end_later n false k None = refl
-end_later n false k (Some o) = grind arith
-
 module _ (n : ℕ) (xs : List (Item Reading)) (ns : Nodes Reading) (none : end_fault xs (closed ns) ≡ None) where
-  innermost_grown : (t : Tree Reading) → innermost (grown n xs ns t) ≡ opener_if_with (reading_later n) (innermost t)
-  innermost_grown t = innermost_then ns (tree_with (reading_later n) t) ∙ innermost_with (reading_later n) t
-
   end_both : (ys : List (Item Reading)) (t : Tree Reading) → lines t ≡ ys → end_fault (both n xs ns ys) (grown n xs ns t) ≡ fault_if_later n (end_fault ys t)
-  end_both [] t e =
-      let z : t ≡ closed nothing = unique t (closed nothing) e in
-      ap (λ (u : Tree Reading). end_fault (xs ++ []) (grown n xs ns u)) z ∙ ap (λ (zs : List (Item Reading)). end_fault zs (closed ns)) (append-nil xs)
-      ∙ none ∙ ap (λ (u : Tree Reading). fault_if_later n (end_fault [] u)) (sym z)
-  end_both (y ∷ ys) t e =
-      ap₂ (λ (b : Bool) (k : ℕ). end_by b k (innermost (grown n xs ns t)))
-      (comment_more xs (later n y) (map (later n) ys) ∙ comment_later n (y ∷ ys)) (number_more xs (later n y) (map (later n) ys) ∙ number_later n y ys)
-      ∙ ap (λ (i : Option (Opener Reading)). end_by (ends_in_comment (y ∷ ys)) (n + last_number (y ∷ ys)) i) (innermost_grown t)
-      ∙ end_later n (ends_in_comment (y ∷ ys)) (last_number (y ∷ ys)) (innermost t)
+  end_both [] t e = let z : t ≡ closed nothing = unique t (closed nothing) e in cc (z, append-nil xs, none)
+  end_both (y ∷ ys) t e = grind (arith, comment_more, comment_later, number_more, number_later, innermost_then, innermost_with)
 
 -- 2. What is printed.
 
@@ -88,32 +69,21 @@ module _ (n : ℕ) where
   abbrev judged_later : Judged → Judged
   judged_later j = record { line = line_later n j.line; verdict = j.verdict; keyword = j.keyword }
 
-  line_judged_later : (x : Item Reading) (m : Mark) → judged_line (later n x) m ≡ judged_later (judged_line x m)
-  line_judged_later x m =
-      ap (λ (r : Reading). let j : Judged = record { line = r.line; verdict = m.verdict; keyword = keyword_in (content_of r.scan) } in j) (reading_of-later n x)
-
   lines_judged_later : (ys : List (Item Reading)) (ms : List Mark) → judged_lines (map (later n) ys) ms ≡ map judged_later (judged_lines ys ms)
-  lines_judged_later [] ms = refl
-  lines_judged_later (y ∷ ys) [] = refl
-  lines_judged_later (y ∷ ys) (m ∷ ms) = ap₂ (λ (j : Judged) (js : List Judged). j ∷ js) (line_judged_later y m) (lines_judged_later ys ms)
-
-  lone_later : (b c : Bool) (j : Judged) → lone b c (judged_later j) ≡ lone b c j
-  lone_later b c j = grind arith
+  lines_judged_later (y ∷ ys) (m ∷ ms) = grind (arith, lines_judged_later ys ms)
+  lines_judged_later ys ms = grind arith
 
   pieces_later : (b c : Bool) (js : List Judged) → map (lone b c) (map judged_later js) ≡ map (lone b c) js
   pieces_later b c [] = refl
-  pieces_later b c (j ∷ js) = ap₂ (λ (p : List ℕ) (ps : List (List ℕ)). p ∷ ps) (lone_later b c j) (pieces_later b c js)
+  pieces_later b c (j ∷ js) = grind (arith, pieces_later b c js)
 
   others_later : (ps : List (List ℕ)) (js : List Judged) → some_other ps (map judged_later js) ≡ some_other ps js
-  others_later [] js = refl
-  others_later (p ∷ ps) [] = refl
   others_later (p ∷ ps) (j ∷ js) = ap (λ (b : Bool). not (bytes_eq p (text_of j.line)) || b) (others_later ps js)
+  others_later ps js = grind arith
 
   listed_later : (d : Bool) (ys : List (Item Reading)) (ks : List ℕ) → listed d (map (later n) ys) ks ≡ listed d ys ks
-  listed_later d [] ks = refl
-  listed_later d (y ∷ ys) [] = refl
-  listed_later d (y ∷ ys) (k ∷ ks) =
-      ap₂ (λ (r : Reading) (l : List ℕ). listed_names (depth_prefix d k) (names_in_content (content_of r.scan)) ++ l) (reading_of-later n y) (listed_later d ys ks)
+  listed_later d (y ∷ ys) (k ∷ ks) = cc (reading_of-later n y, listed_later d ys ks)
+  listed_later d ys ks = grind arith
 
 others_both : (f : Judged → List ℕ) (js ks : List Judged) → some_other (map f (js ++ ks)) (js ++ ks) ≡ (some_other (map f js) js || some_other (map f ks) ks)
 others_both f [] ks = refl
@@ -146,55 +116,20 @@ module _ (s : Settings) (u : s.renumber ≡ false) (n : ℕ) where
     abbrev more_judged : List Judged
     more_judged = judged_lines ys (marks t)
 
-    judged_both : judged_lines (both n xs ns ys) (marks (grown n xs ns t)) ≡ first_judged ++ map (judged_later n) more_judged
-    judged_both =
-        ap (λ (ms : List Mark). judged_lines (both n xs ns ys) ms) (marks_grown n xs ns t)
-        ∙ judged_more xs (map (later n) ys) (marks_of_nodes true ns) (marks t) as_many_marks
-        ∙ ap (λ (js : List Judged). first_judged ++ js) (lines_judged_later n ys (marks t))
-
-    levels_both : levels (grown n xs ns t) ≡ levels_of_nodes 0 ns ++ levels t
-    levels_both =
-        tree_levels_then ns 0 (tree_with (reading_later n) t) ∙ ap (λ (ks : List ℕ). levels_of_nodes 0 ns ++ ks) (tree_levels_with (reading_later n) 0 t)
-
     listed_both : (d : Bool) → listed d (both n xs ns ys) (levels (grown n xs ns t)) ≡ listed d xs (levels (closed ns)) ++ listed d ys (levels t)
-    listed_both d =
-        ap (λ (ks : List ℕ). listed d (both n xs ns ys) ks) levels_both ∙ listed_more d xs (map (later n) ys) (levels_of_nodes 0 ns) (levels t) as_many_levels
-        ∙ ap (λ (l : List ℕ). listed d xs (levels (closed ns)) ++ l) (listed_later n d ys (levels t))
+    listed_both d = simp (listed_more, as_many_levels, listed_later, tree_levels_then, tree_levels_with)
 
     output_both : (q : Listing) → output_by q s (both n xs ns ys) (grown n xs ns t) ≡ output_by q s xs (closed ns) ++ output_by q s ys t
-    output_both Off =
-        ap (λ (js : List Judged). concat (pieces js)) judged_both
-        ∙ ap (λ (ps : List (List ℕ)). concat ps)
-        (pieces_are (first_judged ++ map (judged_later n) more_judged) ∙ map-append printed first_judged (map (judged_later n) more_judged)
-        ∙ ap₂ (λ (ps qs : List (List ℕ)). ps ++ qs) (sym (pieces_are first_judged)) (later_pieces more_judged))
-        ∙ concat-append (pieces first_judged) (pieces more_judged)
-    output_both Names = listed_both false
-    output_both Depths = listed_both true
+    output_both q = grind (arith, marks_grown, judged_more, as_many_marks, lines_judged_later, pieces_are, map-append, later_pieces, concat-append, listed_both)
 
     differs_both : (q : Listing) → differs_by q s (both n xs ns ys) (grown n xs ns t) ≡ (differs_by q s xs (closed ns) || differs_by q s ys t)
-    differs_both Off =
-        ap (λ (js : List Judged). some_other (pieces js) js) judged_both
-        ∙ ap (λ (ps : List (List ℕ)). some_other ps (first_judged ++ map (judged_later n) more_judged))
-        (pieces_are (first_judged ++ map (judged_later n) more_judged))
-        ∙ others_both printed first_judged (map (judged_later n) more_judged)
-        ∙ ap₂ (λ (b c : Bool). b || c) (ap (λ (ps : List (List ℕ)). some_other ps first_judged) (sym (pieces_are first_judged)))
-        (others_later n (map printed (map (judged_later n) more_judged)) more_judged
-        ∙ ap (λ (ps : List (List ℕ)). some_other ps more_judged) (later_pieces more_judged))
-    differs_both Names = refl
-    differs_both Depths = refl
-
-    outcome_both : (f : Option Fault) →
-        outcome_of s (both n xs ns ys) (grown n xs ns t) (fault_if_later n f) ≡ in_parts n (outcome_of s xs (closed ns) None) (outcome_of s ys t f)
-    outcome_both f =
-        ap₂ (λ (p : List ℕ) (b : Bool). let r : Outcome = record { output = p; fault = fault_if_later n f; differs = b } in r) (output_both s.listing)
-        (differs_both s.listing)
+    differs_both q = grind (arith, marks_grown, judged_more, as_many_marks, lines_judged_later, pieces_are, others_both, others_later, later_pieces)
 
 -- 3. Reading both parts.
 
 reads_none : {o : Options} {text : List ℕ} {xs : List (Item Reading)} {t : Tree Reading} {f : Option Fault} → ReadsAs o text xs t f → f ≡ None →
     HasNoFault o (lines_of text) xs t × (end_fault xs t ≡ None)
-reads_none (stops xs t f h) e = cc
-reads_none (ends xs t h) e = (h, e)
+reads_none h g = grind arith
 
 module _ (o : Options) (text more : List ℕ) (xs : List (Item Reading)) (ns : Nodes Reading) (a : HasNoFault o (lines_of text) xs (closed ns))
     (none : end_fault xs (closed ns) ≡ None) (whole : partial_line text ≡ []) (last : (map reading_of xs ≡ []) ⊎ EndsLogicalLine (map reading_of xs))
@@ -208,13 +143,7 @@ module _ (o : Options) (text more : List ℕ) (xs : List (Item Reading)) (ns : N
 
   lines_both_are : (ys : List (Item Reading)) (rest : List Line) → lines_of more ≡ map line_of ys ++ rest →
       lines_of (text ++ more) ≡ map line_of (both count xs ns ys) ++ map (line_later count) rest
-  lines_both_are ys rest e =
-      lines_of_both text more whole
-      ∙ ap₂ (λ (ls ks : List Line). ls ++ map (line_later count) ks) a.are e
-      ∙ ap (λ (ks : List Line). map line_of xs ++ ks) (map-append (line_later count) (map line_of ys) rest)
-      ∙ sym (append_assoc (map line_of xs) (map (line_later count) (map line_of ys)) (map (line_later count) rest))
-      ∙ ap (λ (ks : List Line). (map line_of xs ++ ks) ++ map (line_later count) rest) (sym (lines_later count ys))
-      ∙ ap (λ (ks : List Line). ks ++ map (line_later count) rest) (sym (map-append line_of xs (map (later count) ys)))
+  lines_both_are ys rest e = simp (lines_of_both, a.are, e, map-append, append_assoc, lines_later)
 
   reads_both : {ys : List (Item Reading)} {t : Tree Reading} {f : Option Fault} → ReadsAs o more ys t f →
       ReadsAs o (text ++ more) (both count xs ns ys) (grown count xs ns t) (fault_if_later count f)
@@ -239,24 +168,17 @@ module _ (o : Options) (text more : List ℕ) (xs : List (Item Reading)) (ns : N
 
   has_both : o.settings.renumber ≡ false → {s : Outcome} → HasOutcome o more s →
       HasOutcome o (text ++ more) (in_parts count (outcome_of o.settings xs (closed ns) None) s)
-  has_both u (ran_as {xs = ys} {t = t} {f = f} h) =
-      subst (λ (r : Outcome). HasOutcome o (text ++ more) r) (outcome_both o.settings u count xs ns (sound_lines a.sound) ys t f) (ran_as (reads_both h))
+  has_both u (ran_as {xs = ys} {t = t} {f = f} h) = grind (arith, sound_lines, reads_both, output_both, differs_both, ran_as (reads_both h))
 
 -- 4. The end of the first part.
 
 last_ended : (k : ℕ) (ws : List (List ℕ)) → AreWhole ws → (front : List Line) (l : Line) → numbered_from k ws ≡ front ++ l ∷ [] → l.ending ≢ []
-last_ended k [] h front l e = absurd (push_not_nil front l (sym e))
-last_ended k (w ∷ ws) h [] l e =
-    let same : line_at k w ≡ l = cc in
-    subst (λ (m : Line). m.ending ≢ []) same (end_is_some (ending_of w) (whole_ending w h.0))
-last_ended k (w ∷ ws) h (m ∷ front) l e =
-    let rest : numbered_from (suc k) ws ≡ front ++ l ∷ [] = cc in last_ended (suc k) ws h.1 front l rest
+last_ended k (w ∷ ws) h (m ∷ front) l e = let rest : numbered_from (suc k) ws ≡ front ++ l ∷ [] = cc in grind (arith, last_ended (suc k) ws h.1 front l rest)
+last_ended k ws h front l g = grind (arith, push_not_nil, end_is_some, whole_ending)
 
 -- The last line of a text that ends in a newline has an ending.
 text_ended : (text : List ℕ) → partial_line text ≡ [] → (front : List Line) (l : Line) → lines_of text ≡ front ++ l ∷ [] → l.ending ≢ []
-text_ended text e front l g =
-    last_ended 1 (whole_lines text) (are_whole text) front l
-    (ap (numbered_from 1) (sym (append-nil (whole_lines text)) ∙ ap (λ (r : List ℕ). whole_lines text ++ last_line r) (sym e)) ∙ g)
+text_ended text e front l g = grind (arith, last_ended, are_whole, append-nil)
 
 no_block : (k : LexemeKind) → is_in_block (comment_at false k) ≡ false → is_block k ≡ false
 no_block k e = grind arith
@@ -270,9 +192,7 @@ code_alone run l e h =
 
 line_alone : (before : List Reading) (m : Mode) (l : Line) → (m ≡ Plain) ⊎ (is_spliced l ≡ false) → is_in_block (scan_after before m l).comment ≡ false →
     (scan_after before m l).joins_after ≡ false
-line_alone before Plain l e h = refl
-line_alone before C l (inl e) h = cc
-line_alone before C l (inr e) h = code_alone (c_run_of before) l e h
+line_alone before m l h g = grind (arith, code_alone)
 
 -- A text without a fault that ends so leaves the lines after it alone.
 module _ (o : Options) (text : List ℕ) (whole : partial_line text ≡ []) (unspliced : (o.settings.plain ≡ true) ⊎ (last_is_spliced (lines_of text) ≡ false)) where
@@ -282,8 +202,7 @@ module _ (o : Options) (text : List ℕ) (whole : partial_line text ≡ []) (uns
   alone_by ys t l m p are h =
       let lines : lines_of text ≡ map line_of ys ++ l ∷ [] = are ∙ lines_with_next o ys t l in
       let read : reading_of (next_item o ys t l) ≡ read_after ys (mode_after o t) l = reading_of-item_of o (read_after ys (mode_after o t) l) in
-      let closed_here : is_in_block (scan_after (map reading_of ys) (mode_after o t) l).comment ≡ false =
-      ap (λ (r : Reading). is_in_block r.scan.comment) (sym read) ∙ sym (last_comment ys (next_item o ys t l)) ∙ h in
+      let closed_here : is_in_block (scan_after (map reading_of ys) (mode_after o t) l).comment ≡ false = cc (read, last_comment ys (next_item o ys t l), h) in
       subst EndsLogicalLine
       (ap (λ (r : Reading). map reading_of ys ++ r ∷ []) (sym read) ∙ sym (map-append reading_of ys (next_item o ys t l ∷ [])))
       (ends_with (map reading_of ys) (mode_after o t) l
@@ -305,33 +224,20 @@ module _ (o : Options) (text : List ℕ) (whole : partial_line text ≡ []) (uns
 module _ (o : Options) (text more : List ℕ) (p : MayBeParts o text more) where
   by_reading : {xs : List (Item Reading)} {t : Tree Reading} {s : Outcome} → HasNoFault o (lines_of text) xs t → end_fault xs t ≡ None → HasOutcome o more s →
       HasOutcome o (text ++ more) (in_parts (length (lines_of text)) (outcome_of o.settings xs t None) s)
-  by_reading {xs = xs} {t = t} {s = s} h e b =
-      by_nodes (input_nodes t (end_parts (ends_in_comment xs) (last_number xs) (innermost t) e).1)
-    where
-      by_nodes : (ns : Nodes Reading) × (t ≡ closed ns) → HasOutcome o (text ++ more) (in_parts (length (lines_of text)) (outcome_of o.settings xs t None) s)
-      by_nodes (ns, g) =
-          subst (λ (u : Tree Reading). HasOutcome o (text ++ more) (in_parts (length (lines_of text)) (outcome_of o.settings xs u None) s)) (sym g)
-          (has_both o text more xs ns (subst (λ (u : Tree Reading). HasNoFault o (lines_of text) xs u) g h)
-          (ap (λ (u : Tree Reading). end_fault xs u) (sym g) ∙ e) p.whole
-          (ends_alone o text p.whole p.unspliced h.sound h.are (end_parts (ends_in_comment xs) (last_number xs) (innermost t) e).0) p.fits p.unnumbered b)
+  by_reading {xs = xs} {t = t} {s = s} h e b = grind (arith, input_nodes, end_parts, has_both, ends_alone)
 
 -- The outcome of both parts.
 pub outcome_in_parts : (o : Options) (text more : List ℕ) (r s : Outcome) → MayBeParts o text more → HasOutcome o text r → r.fault ≡ None →
     HasOutcome o more s → HasOutcome o (text ++ more) (in_parts (length (lines_of text)) r s)
-outcome_in_parts o text more _ s p (ran_as {xs = xs} {t = t} {f = f} a) e b =
-    let h = reads_none a e in
-    subst (λ (g : Option Fault). HasOutcome o (text ++ more) (in_parts (length (lines_of text)) (outcome_of o.settings xs t g) s)) (sym e)
-    (by_reading o text more p h.0 h.1 b)
+outcome_in_parts o text more _ s p (ran_as {xs = xs} {t = t} {f = f} a) e b = let h = reads_none a e in grind (arith, e, by_reading)
 
 -- The status of a fault is that of the later fault.
 status_failed : (s : Settings) (n : ℕ) (d e : Bool) (f : Option Fault) → status_of s e f ≡ 2 → status_of s d (fault_if_later n f) ≡ 2
-status_failed s n d e None h = grind arith
-status_failed s n d e (Some f) h = refl
+status_failed s n d e f h = grind arith
 
 -- Two parts with one status have this status together.
 status_same : (s : Settings) (n : ℕ) (d e : Bool) (f : Option Fault) → status_of s d None ≡ status_of s e f → status_of s (d || e) (fault_if_later n f) ≡ status_of s d None
-status_same s n d e None h = grind arith
-status_same s n d e (Some f) h = sym h
+status_same s n d e f h = grind arith
 
 -- The answer to both parts.
 pub answer_in_parts : (args : List (List ℕ)) (text more : List ℕ) (a b : Answer) → MayBeParts (options_of args) text more → Succeeds args text a →

@@ -1,21 +1,20 @@
 -- A text in parts is read as its first part, and then as its second one, with later numbers.
-use Rattle.std.proofs.Common.{◌≡◌, ℕ, suc, ◌+◌, ◌<◌, ◌≤◌, List, [], ◌∷◌, ◌++◌, length, map, Bool, true, false, IsTrue, ◌||◌, Some, refl, sym, ◌∙◌, ap, ap₂, subst, append_assoc, append-nil, length-append, ◌⊎◌, inl, inr, arith}
+use Rattle.std.proofs.Common.{◌≡◌, ℕ, suc, ◌+◌, ◌<◌, ◌≤◌, List, [], ◌∷◌, ◌++◌, length, map, true, false, IsTrue, refl, sym, ◌∙◌, ap, ap₂, subst, append_assoc, append-nil, length-append, ◌⊎◌, arith, rules}
 use Rattle.std.proofs.lemmas.List.{nil_from_length, same_from_push, map-append, length-map}
-use Rattle.ud_model.specs.text.Lines.{Line, text_of, lines_of, line_at, texts_of, numbered_from, partial_line, whole_lines, last_line, SplitLines}
-use Rattle.ud_model.specs.text.Scans.{Scan, Reading}
+use Rattle.ud_model.specs.text.Lines.{Line, text_of, lines_of, texts_of, numbered_from, partial_line}
+use Rattle.ud_model.specs.text.Scans.{Reading}
 use Rattle.ud_model.specs.text.Lexemes.{kind_at_end, lex, lex_from, lexeme_at}
-use Rattle.ud_model.specs.text.Scanning.{EndsLogicalLine, ends_with, scan_after, joins}
-use Rattle.ud_model.specs.sections.Directives.{Content, cut_keyword, directive, text as text_content, content_of}
+use Rattle.ud_model.specs.text.Scanning.{EndsLogicalLine, scan_after, joins}
+use Rattle.ud_model.specs.sections.Directives.{content_of}
 use Rattle.ud_model.specs.conditions.Conditions.{Decision}
-use Rattle.ud_model.specs.sections.Tree.{Item, Nodes, Tree, closed, lines, depth, item_with}
+use Rattle.ud_model.specs.sections.Tree.{Item, Nodes, Tree, closed, lines, item_with}
 use Rattle.ud_model.specs.sections.Pruning.{Mark, marks, marks_of_nodes}
-use Rattle.ud_model.specs.sections.Items.{Options, reading_of, line_of, item_of, item_by, directive_item, mode_by, mode_after, read_after, next_item}
-use Rattle.ud_model.specs.sections.Faults.{Fault, Case, past_last, too_long, cut, out_of_place, too_deep, obfuscated_case, cases, earlier, Holds, NoneHolds, is_cut, is_obfuscated, is_obfuscated_after, ends_removed, fault_in, misplaced_fault, too_many_lines, line_too_long, obfuscated, too_many_levels, FaultOf, AreFaultless, no_lines, one_more}
+use Rattle.ud_model.specs.sections.Items.{Options, reading_of, line_of, item_of, directive_item, mode_after, read_after, next_item}
+use Rattle.ud_model.specs.sections.Faults.{Fault, Case, past_last, too_long, cut, out_of_place, too_deep, obfuscated_case, cases, Holds, NoneHolds, is_cut, is_obfuscated, ends_removed, misplaced_fault, FaultOf, AreFaultless, no_lines, one_more}
 use Rattle.ud_model.specs.output.TextsInParts.{fault_later, fault_if_later}
 use Rattle.ud_model.specs.declared.kind.Mode.{Mode}
-use Rattle.ud_model.specs.declared.kind.Mode.TheVariants.{C, Plain}
 use Rattle.ud_model.specs.declared.kind.Role.{Role}
-use Rattle.ud_model.specs.declared.limits.TheConstants.{LINE_BYTES, TEXT_LINES, OPEN_SECTIONS}
+use Rattle.ud_model.specs.declared.limits.TheConstants.{LINE_BYTES, TEXT_LINES}
 use Rattle.ud_model.proofs.text.ScanBytes.{bare, scan_after-same}
 use Rattle.ud_model.proofs.text.ScanLaws.{scan_alone, joins_before-code}
 use Rattle.ud_model.proofs.sections.Growth.{Adds, lines-add, adds-once}
@@ -23,7 +22,7 @@ use Rattle.ud_model.proofs.sections.Unique.{grows}
 use Rattle.ud_model.proofs.sections.Stays.{marks_more, length_marks}
 use Rattle.ud_model.proofs.text.LinesLemmas.{split_lines-append, numbered_from-append, number_is}
 use Rattle.ud_model.proofs.sections.Soundness.{sound_lines, reading_of-item_of, reading_of-next, lines_with_next}
-use Rattle.ud_model.proofs.output.PartTrees.{part_after, tree_with, adds_after, adds_back, depth_then, depth_with, ignoring_then, ignoring_with, tree_marks_then, tree_marks_with}
+use Rattle.ud_model.proofs.output.PartTrees.{part_after, tree_with, adds_after, adds_back, depth_then, depth_with, ignoring_with, tree_marks_then, tree_marks_with}
 
 -- 1. Later lines.
 
@@ -46,13 +45,8 @@ module _ (n : ℕ) where
   directive_later : (r : Reading) (p : Role) (d : Decision) → directive_item (reading_later r) p d ≡ later (directive_item r p d)
   directive_later r p d = grind arith
 
-  item_by-later : (o : Options) (r : Reading) (c : Content) → item_by o (reading_later r) c ≡ later (item_by o r c)
-  item_by-later o r cut_keyword = refl
-  item_by-later o r text_content = refl
-  item_by-later o r (directive d) = grind (arith, directive_later)
-
   item_of-later : (o : Options) (r : Reading) → item_of o (reading_later r) ≡ later (item_of o r)
-  item_of-later o r = item_by-later o r (content_of r.scan)
+  item_of-later o r = grind arith
 
   pub lines_later : (ys : List (Item Reading)) → map line_of (map later ys) ≡ map line_later (map line_of ys)
   lines_later [] = refl
@@ -65,24 +59,6 @@ module _ (n : ℕ) where
   misplaced_later : (x : Item Reading) → misplaced_fault (later x) ≡ fault_if_later n (misplaced_fault x)
   misplaced_later x = grind arith
 
-  fault_in-later : (x : Item Reading) (c : Case) → fault_in (later x) c ≡ fault_if_later n (fault_in x c)
-  fault_in-later x past_last = ap (λ (l : Line). Some (too_many_lines l.number)) (line_of-later x)
-  fault_in-later x too_long = ap (λ (l : Line). Some (line_too_long l.number)) (line_of-later x)
-  fault_in-later x cut = ap (λ (l : Line). Some (obfuscated l.number)) (line_of-later x)
-  fault_in-later x out_of_place = misplaced_later x
-  fault_in-later x too_deep = ap (λ (l : Line). Some (too_many_levels l.number)) (line_of-later x)
-  fault_in-later x obfuscated_case = ap (λ (l : Line). Some (obfuscated l.number)) (line_of-later x)
-
-  spoiled_later : (b : Bool) (x : Item Reading) (m : Mark) → is_obfuscated_after b (later x) m ≡ is_obfuscated_after b x m
-  spoiled_later b x m = grind arith
-
-after_all : (before group : List Reading) (m : Mode) (l : Line) → (before ≡ []) ⊎ EndsLogicalLine before → scan_after (before ++ group) m l ≡ scan_after group m l
-after_all before group m l (inl e) = ap (λ (rs : List Reading). scan_after (rs ++ group) m l) e
-after_all before group m l (inr (ends_with prefix k last alone some)) = scan_alone prefix group k m last l alone some
-
-any_removed : (b c : Bool) (x : Item Reading) (m : Mark) → (reading_of x).scan.joins_before ≡ false → is_obfuscated_after b x m ≡ is_obfuscated_after c x m
-any_removed b c x m e = rw e refl
-
 ends_more : (ms : List Mark) (b : Mark) (bs : List Mark) → ends_removed (ms ++ b ∷ bs) ≡ ends_removed (b ∷ bs)
 ends_more (a ∷ c ∷ ms) b bs = ends_more (c ∷ ms) b bs
 ends_more _ _ _ = refl
@@ -92,8 +68,7 @@ unfolding joins kind_at_end lex lex_from lexeme_at
 joins_none = refl
 
 first_joins : (m : Mode) (l : Line) → (scan_after [] m l).joins_before ≡ false
-first_joins C l = joins_before-code [] l ∙ joins_none
-first_joins Plain l = refl
+first_joins m l = grind (arith, joins_before-code, joins_none)
 
 -- 2. A line of the second part.
 
@@ -107,11 +82,7 @@ module _ (n : ℕ) (xs : List (Item Reading)) (ns : Nodes Reading) where
   grown t = part_after (reading_later n) ns t
 
   pub marks_grown : (t : Tree Reading) → marks (grown t) ≡ marks_of_nodes true ns ++ marks t
-  marks_grown t =
-      tree_marks_then ns true (tree_with (reading_later n) t) ∙ ap (λ (ms : List Mark). marks_of_nodes true ns ++ ms) (tree_marks_with (reading_later n) true t)
-
-  depth_grown : (t : Tree Reading) → depth (grown t) ≡ depth t
-  depth_grown t = depth_then ns (tree_with (reading_later n) t) ∙ depth_with (reading_later n) t
+  marks_grown t = cc (tree_marks_then ns true (tree_with (reading_later n) t), tree_marks_with (reading_later n) true t)
 
   module _ (ys : List (Item Reading)) (t : Tree Reading) (e : lines t ≡ ys) (d : lines (grown t) ≡ both ys) (x : Item Reading)
       (first : ys ≡ [] → (reading_of x).scan.joins_before ≡ false) (fits : n + (line_of x).number ≤ TEXT_LINES) where
@@ -135,10 +106,8 @@ module _ (n : ℕ) (xs : List (Item Reading)) (ns : Nodes Reading) where
 
     spoiled_by : (before : List Mark) (m : Mark) → (before ≡ [] → (reading_of x).scan.joins_before ≡ false) →
         is_obfuscated (marks_of_nodes true ns ++ before) (later n x) m ≡ is_obfuscated before x m
-    spoiled_by [] m h =
-        spoiled_later n (ends_removed (marks_of_nodes true ns ++ [])) x m ∙ any_removed (ends_removed (marks_of_nodes true ns ++ [])) false x m (h refl)
-    spoiled_by (b ∷ bs) m h =
-        spoiled_later n (ends_removed (marks_of_nodes true ns ++ b ∷ bs)) x m ∙ ap (λ (r : Bool). is_obfuscated_after r x m) (ends_more (marks_of_nodes true ns) b bs)
+    spoiled_by [] m h = grind arith
+    spoiled_by (b ∷ bs) m h = grind (arith, ends_more)
 
     spoiled_both : (m : Mark) → is_obfuscated (marks_of_nodes true ns ++ marks t) (later n x) m ≡ is_obfuscated (marks t) x m
     spoiled_both m =
@@ -149,7 +118,7 @@ module _ (n : ℕ) (xs : List (Item Reading)) (ns : Nodes Reading) where
         Holds (both ys) (later n x) obfuscated_case
     spoils before m u a k is =
         let w = marks_more a in
-        let s : (before ≡ marks t) × (m ≡ w.0) = same_from_push before (marks t) m w.0 (sym k ∙ w.1) in (
+        let s : (before ≡ marks t) × (m ≡ w.0) = grind (arith, same_from_push) in (
           marks_of_nodes true ns ++ before,
           m,
           (
@@ -182,18 +151,15 @@ module _ (n : ℕ) (xs : List (Item Reading)) (ns : Nodes Reading) where
     goes too_long h = subst (λ (l : Line). LINE_BYTES < length (text_of l)) (sym (line_of-later n x)) h
     goes cut h = subst (λ (r : Reading). IsTrue (is_cut (content_of r.scan))) (sym (reading_of-later n x)) h
     goes out_of_place h = ((grown t, d), λ k. let c = came_from k.0 k.1 in h.1 (c.0, lines_alone c.1))
-    goes too_deep h = (grown h.0, lines_both (adds_alone h.0 h.1), subst (λ (k : ℕ). OPEN_SECTIONS < k) (sym (depth_grown h.0)) h.2)
+    goes too_deep h = search (rules, lines_both, adds_alone, depth_then, depth_with)
     goes obfuscated_case h = spoils h.0 h.1 h.2.0 (adds_alone h.2.0 h.2.1) h.2.2 h.3
 
     comes : (c : Case) → Holds (both ys) (later n x) c → Holds ys x c
-    comes past_last h =
-        let k : TEXT_LINES < n + (line_of x).number = subst (λ (l : Line). TEXT_LINES < l.number) (line_of-later n x) h in absurd (omega arith)
+    comes past_last h = let k : TEXT_LINES < n + (line_of x).number = subst (λ (l : Line). TEXT_LINES < l.number) (line_of-later n x) h in grind (arith, absurd)
     comes too_long h = subst (λ (l : Line). LINE_BYTES < length (text_of l)) (line_of-later n x) h
     comes cut h = subst (λ (r : Reading). IsTrue (is_cut (content_of r.scan))) (reading_of-later n x) h
     comes out_of_place h = ((t, e), λ k. h.1 (grown k.0, lines_both (adds_alone k.0 k.1)))
-    comes too_deep h =
-        let c = came_from h.0 h.1 in
-        (c.0, lines_alone c.1, subst (λ (k : ℕ). OPEN_SECTIONS < k) (ap (λ (v : Tree Reading). depth v) c.2 ∙ depth_grown c.0) h.2)
+    comes too_deep h = grind (arith, came_from, lines_alone, depth_then, depth_with)
     comes obfuscated_case h = spoilt h.0 h.1 h.2.0 h.2.1 h.2.2 h.3
 
     none_both : (cs : List Case) → NoneHolds ys x cs → NoneHolds (both ys) (later n x) cs
@@ -201,20 +167,14 @@ module _ (n : ℕ) (xs : List (Item Reading)) (ns : Nodes Reading) where
     none_both (c ∷ cs) h = ((λ k. h.0 (comes c k)), none_both cs h.1)
 
     fault_both : (f : Fault) → FaultOf ys x f → FaultOf (both ys) (later n x) (fault_later n f)
-    fault_both f h = record {
-      which = h.which;
-      holds = goes h.which h.holds;
-      first = none_both (earlier h.which) h.first;
-      named = fault_in-later n x h.which ∙ ap (fault_if_later n) h.named;
-    }
+    fault_both f h = grind (arith, goes, none_both)
 
 -- 3. The lines of the second part.
 
 -- A text whose lines are counted on from `n` has the same lines, with later numbers.
 numbered_later : (n k : ℕ) (ls : List (List ℕ)) → numbered_from (n + k) ls ≡ map (line_later n) (numbered_from k ls)
 numbered_later n k [] = refl
-numbered_later n k (l ∷ ls) =
-    ap (λ (ms : List Line). line_at (n + k) l ∷ ms) (ap (λ (j : ℕ). numbered_from j ls) (omega arith) ∙ numbered_later n (suc k) ls)
+numbered_later n k (l ∷ ls) = grind (arith, numbered_later n (suc k) ls)
 
 length_numbered : (k : ℕ) (ls : List (List ℕ)) → length (numbered_from k ls) ≡ length ls
 length_numbered k [] = refl
@@ -222,11 +182,7 @@ length_numbered k (l ∷ ls) = ap (λ (n : ℕ). suc n) (length_numbered (suc k)
 
 -- The texts of the lines of both parts, if the first one ends in a newline.
 texts_both : (t more : List ℕ) → partial_line t ≡ [] → texts_of (t ++ more) ≡ texts_of t ++ texts_of more
-texts_both t more e =
-    ap (λ (q : SplitLines). q.whole ++ last_line q.rest) (split_lines-append t more)
-    ∙ ap (λ (r : List ℕ). (whole_lines t ++ whole_lines (r ++ more)) ++ last_line (partial_line (r ++ more))) e
-    ∙ append_assoc (whole_lines t) (whole_lines more) (last_line (partial_line more))
-    ∙ ap (λ (ls : List (List ℕ)). ls ++ texts_of more) (sym (append-nil (whole_lines t)) ∙ ap (λ (r : List ℕ). whole_lines t ++ last_line r) (sym e))
+texts_both t more e = grind (arith, split_lines-append, e, append_assoc, append-nil)
 
 -- Their lines.
 pub lines_of_both : (t more : List ℕ) → partial_line t ≡ [] → lines_of (t ++ more) ≡ lines_of t ++ map (line_later (length (lines_of t))) (lines_of more)
@@ -241,32 +197,14 @@ lines_of_both t more e =
 -- The numbers of the lines of both parts are within the limit, if there are no more lines.
 pub numbers_fit : (t more : List ℕ) → partial_line t ≡ [] → length (lines_of (t ++ more)) ≤ TEXT_LINES → (front : List Line) (l : Line) (rest : List Line) →
     lines_of more ≡ front ++ l ∷ rest → length (lines_of t) + l.number ≤ TEXT_LINES
-numbers_fit t more e h front l rest g =
-    let n : l.number ≡ suc (length front) = number_is more front l rest g in
-    let all : length (lines_of (t ++ more)) ≡ length (lines_of t) + length (lines_of more) =
-    ap (λ (ls : List Line). length ls) (lines_of_both t more e) ∙ length-append (lines_of t) (map (line_later (length (lines_of t))) (lines_of more))
-    ∙ ap (λ (k : ℕ). length (lines_of t) + k) (length-map (lines_of more) (line_later (length (lines_of t)))) in
-    let second : length (lines_of more) ≡ length front + suc (length rest) = ap (λ (ls : List Line). length ls) g ∙ length-append front (l ∷ rest) in
-    omega arith
+numbers_fit t more e h front l rest g = grind (arith, number_is, lines_of_both, length-append, length-map, g)
 
 -- 4. Reading both parts.
 
 module _ (o : Options) (n : ℕ) (xs : List (Item Reading)) (ns : Nodes Reading) (last : (map reading_of xs ≡ []) ⊎ EndsLogicalLine (map reading_of xs)) where
-  scan_both : (ys : List (Item Reading)) (m : Mode) (l : Line) → scan_after (map reading_of (both n xs ns ys)) m (line_later n l) ≡ scan_after (map reading_of ys) m l
-  scan_both ys m l =
-      ap (λ (rs : List Reading). scan_after rs m (line_later n l)) (map-append reading_of xs (map (later n) ys))
-      ∙ after_all (map reading_of xs) (map reading_of (map (later n) ys)) m (line_later n l) last
-      ∙ scan_after-same (map reading_of (map (later n) ys)) (map reading_of ys) m (line_later n l) l (bare_later n ys) refl refl
-
-  mode_both : (t : Tree Reading) → mode_after o (grown n xs ns t) ≡ mode_after o t
-  mode_both t =
-      ap (λ (b : Bool). mode_by (o.settings.plain || b)) (ignoring_then ns (tree_with (reading_later n) t) ∙ ignoring_with (reading_later n) t)
-
   read_both : (ys : List (Item Reading)) (t : Tree Reading) (l : Line) →
       read_after (both n xs ns ys) (mode_after o (grown n xs ns t)) (line_later n l) ≡ reading_later n (read_after ys (mode_after o t) l)
-  read_both ys t l =
-      ap (λ (m : Mode). read_after (both n xs ns ys) m (line_later n l)) (mode_both t)
-      ∙ ap (λ (s : Scan). let r : Reading = record { line = line_later n l; mode = mode_after o t; scan = s } in r) (scan_both ys (mode_after o t) l)
+  read_both ys t l = grind (arith, ignoring_with, map-append, scan_alone, scan_after-same, bare_later)
 
   -- A line of the second part is the same item after both parts.
   pub next_both : (ys : List (Item Reading)) (t : Tree Reading) (l : Line) →
@@ -274,22 +212,16 @@ module _ (o : Options) (n : ℕ) (xs : List (Item Reading)) (ns : Nodes Reading)
   next_both ys t l = ap (item_of o) (read_both ys t l) ∙ item_of-later n o (read_after ys (mode_after o t) l)
 
   first_alone : (ys : List (Item Reading)) (t : Tree Reading) (l : Line) → ys ≡ [] → (reading_of (next_item o ys t l)).scan.joins_before ≡ false
-  first_alone ys t l e =
-      ap (λ (r : Reading). r.scan.joins_before) (reading_of-item_of o (read_after ys (mode_after o t) l))
-      ∙ ap (λ (zs : List (Item Reading)). (scan_after (map reading_of zs) (mode_after o t) l).joins_before) e ∙ first_joins (mode_after o t) l
-
-  line_of_next : (ys : List (Item Reading)) (t : Tree Reading) (l : Line) → line_of (next_item o ys t l) ≡ l
-  line_of_next ys t l = reading_of-next o ys t l
+  first_alone ys t l e = cc (reading_of-item_of o (read_after ys (mode_after o t) l), e, first_joins (mode_after o t) l)
 
   module _ (sound : AreFaultless o xs (closed ns)) (ls : List Line)
       (low : (front : List Line) (l : Line) (rest : List Line) → ls ≡ front ++ l ∷ rest → n + l.number ≤ TEXT_LINES) where
     fits_next : (ys : List (Item Reading)) (t : Tree Reading) (l : Line) (rest : List Line) → ls ≡ map line_of ys ++ l ∷ rest →
         n + (line_of (next_item o ys t l)).number ≤ TEXT_LINES
-    fits_next ys t l rest e = subst (λ (k : Line). n + k.number ≤ TEXT_LINES) (sym (line_of_next ys t l)) (low (map line_of ys) l rest e)
+    fits_next ys t l rest e = grind (arith, reading_of-next)
 
     both_more : (ys : List (Item Reading)) (x : Item Reading) → both n xs ns ys ++ later n x ∷ [] ≡ both n xs ns (ys ++ x ∷ [])
-    both_more ys x =
-        append_assoc xs (map (later n) ys) (later n x ∷ []) ∙ ap (λ (zs : List (Item Reading)). xs ++ zs) (sym (map-append (later n) ys (x ∷ [])))
+    both_more ys x = cc (append_assoc xs (map (later n) ys) (later n x ∷ []), map-append (later n) ys (x ∷ []))
 
     one_both : (ys : List (Item Reading)) (t : Tree Reading) → AreFaultless o (both n xs ns ys) (grown n xs ns t) → (l : Line) (u : Tree Reading) (z : Item Reading) →
         next_item o (both n xs ns ys) (grown n xs ns t) (line_later n l) ≡ z → lines (grown n xs ns u) ≡ both n xs ns ys ++ z ∷ [] → NoneHolds (both n xs ns ys) z cases →

@@ -1,10 +1,10 @@
 -- Trees of a text in parts: the nodes of the first part, and then the tree of the second one with
 -- its lines changed by a function.
-use Rattle.std.proofs.Common.{◌≡◌, ℕ, suc, List, [], ◌∷◌, ◌++◌, Bool, ◌||◌, ◌&&◌, Option, Some, None, refl, ap, ap₂, append_assoc, append-nil, arith}
+use Rattle.std.proofs.Common.{◌≡◌, ℕ, suc, List, [], ◌∷◌, ◌++◌, Bool, ◌&&◌, Option, Some, None, refl, ap, append_assoc, append-nil, arith}
 use Rattle.ud_model.specs.declared.cond.Cond.{Cond}
-use Rattle.ud_model.specs.sections.Tree.{Item, Opener, Nodes, Groups, Elifs, Head, Tree, text_line, if_line, elif_line, else_line, endif_line, nothing, text, section, conditional, otherwise, first, elif, if_head, elif_head, else_head, closed, open_section, depth, is_ignoring, innermost, opener_of_elifs, opener_of_head, item_with, opener_with_line, with_lines, groups_with_lines, elifs_with_lines}
-use Rattle.ud_model.specs.sections.Pruning.{is_kept, is_inside_kept, conds_of_elifs, conds_of_groups, conds_of_head, marks_of_nodes, marks_of_groups, marks_of_elifs, marks_of_head, marks_in}
-use Rattle.ud_model.specs.answer.Listing.{levels_of_nodes, levels_of_groups, levels_of_elifs, levels_of_head, levels_from}
+use Rattle.ud_model.specs.sections.Tree.{Item, Opener, Nodes, Groups, Elifs, Head, Tree, text_line, if_line, elif_line, else_line, endif_line, nothing, text, section, conditional, otherwise, first, elif, if_head, elif_head, else_head, closed, open_section, depth, is_ignoring, innermost, opener_of_elifs, item_with, opener_with_line, with_lines, groups_with_lines, elifs_with_lines}
+use Rattle.ud_model.specs.sections.Pruning.{is_kept, is_inside_kept, conds_of_elifs, conds_of_groups, marks_of_nodes, marks_of_groups, marks_of_elifs, marks_of_head, marks_in}
+use Rattle.ud_model.specs.answer.Listing.{levels_of_nodes, levels_of_groups, levels_of_elifs, levels_from}
 use Rattle.ud_model.proofs.sections.Growth.{Adds, adds_text, adds_if, elif_after_if, elif_after_elif, else_after_if, else_after_elif, adds_endif, adds_under, complete}
 
 -- 1. Other lines.
@@ -42,9 +42,6 @@ module _ {L M : Type 0} (f : L → M) where
   group_conds_with : (gs : Groups L) → conds_of_groups (groups_with_lines f gs) ≡ conds_of_groups gs
   group_conds_with gs = grind (arith, conds_with)
 
-  head_conds_with : (h : Head L) → conds_of_head (head_with h) ≡ conds_of_head h
-  head_conds_with h = grind (arith, conds_with)
-
   inside_with : (h : Head L) → is_inside_kept (head_with h) ≡ is_inside_kept h
   inside_with h = grind (arith, conds_with)
 
@@ -67,8 +64,7 @@ module _ {L M : Type 0} (f : L → M) where
 
   pub tree_marks_with : (kept : Bool) (t : Tree L) → marks_in kept (tree_with t) ≡ marks_in kept t
   tree_marks_with kept (closed ns) = marks_with kept ns
-  tree_marks_with kept (open_section ns h t) =
-      rw (marks_with kept ns, head_conds_with h, head_marks_with kept (conds_of_head h) h, inside_with h, tree_marks_with (kept && is_inside_kept h) t)
+  tree_marks_with kept (open_section ns h t) = grind (arith, marks_with, head_marks_with, inside_with, conds_with, tree_marks_with (kept && is_inside_kept h) t)
 
   mutual
     levels_with : (n : ℕ) (ns : Nodes L) → levels_of_nodes n (with_lines f ns) ≡ levels_of_nodes n ns
@@ -84,12 +80,9 @@ module _ {L M : Type 0} (f : L → M) where
     elif_levels_with n (first o ns) = rw (levels_with (suc n) ns)
     elif_levels_with n (elif es o ns) = rw (elif_levels_with n es, levels_with (suc n) ns)
 
-  head_levels_with : (n : ℕ) (h : Head L) → levels_of_head n (head_with h) ≡ levels_of_head n h
-  head_levels_with n h = grind (arith, elif_levels_with)
-
   pub tree_levels_with : (n : ℕ) (t : Tree L) → levels_from n (tree_with t) ≡ levels_from n t
   tree_levels_with n (closed ns) = levels_with n ns
-  tree_levels_with n (open_section ns h t) = rw (levels_with n ns, head_levels_with n h, tree_levels_with (suc n) t)
+  tree_levels_with n (open_section ns h t) = grind (arith, levels_with, elif_levels_with, tree_levels_with (suc n) t)
 
   pub depth_with : (t : Tree L) → depth (tree_with t) ≡ depth t
   depth_with (closed ns) = refl
@@ -99,21 +92,17 @@ module _ {L M : Type 0} (f : L → M) where
   opener_with (first o ns) = refl
   opener_with (elif es o ns) = opener_with es
 
-  head_opener_with : (h : Head L) → opener_of_head (head_with h) ≡ opener_with_line f (opener_of_head h)
-  head_opener_with h = grind (arith, opener_with)
-
   pub ignoring_with : (t : Tree L) → is_ignoring (tree_with t) ≡ is_ignoring t
   ignoring_with (closed ns) = refl
-  ignoring_with (open_section ns h t) = ap₂ (λ (o : Opener M) (b : Bool). o.ignoring || b) (head_opener_with h) (ignoring_with t)
+  ignoring_with (open_section ns h t) = grind (arith, opener_with, ignoring_with t)
 
   abbrev pub opener_if_with : Option (Opener L) → Option (Opener M)
   opener_if_with None = None
   opener_if_with (Some o) = Some (opener_with_line f o)
 
   pub innermost_with : (t : Tree L) → innermost (tree_with t) ≡ opener_if_with (innermost t)
-  innermost_with (closed ns) = refl
-  innermost_with (open_section ns h (closed b)) = ap (λ (o : Opener M). Some o) (head_opener_with h)
   innermost_with (open_section ns h (open_section ms k t)) = innermost_with (open_section ms k t)
+  innermost_with t = grind (arith, opener_with)
 
 -- 2. Nodes before a tree.
 
@@ -144,8 +133,7 @@ module _ {L : Type 0} (ns : Nodes L) where
   marks_then kept (section ms gs e) = rw (marks_then kept ms) simp append_assoc
 
   pub tree_marks_then : (kept : Bool) (t : Tree L) → marks_in kept (tree_then t) ≡ marks_of_nodes kept ns ++ marks_in kept t
-  tree_marks_then kept (closed ms) = marks_then kept ms
-  tree_marks_then kept (open_section ms h t) = rw (marks_then kept ms) simp append_assoc
+  tree_marks_then kept t = grind (arith, marks_then, append_assoc)
 
   levels_then : (n : ℕ) (ms : Nodes L) → levels_of_nodes n (nodes_then ms) ≡ levels_of_nodes n ns ++ levels_of_nodes n ms
   levels_then n nothing = simp append-nil
@@ -153,19 +141,13 @@ module _ {L : Type 0} (ns : Nodes L) where
   levels_then n (section ms gs e) = rw (levels_then n ms) simp append_assoc
 
   pub tree_levels_then : (n : ℕ) (t : Tree L) → levels_from n (tree_then t) ≡ levels_of_nodes n ns ++ levels_from n t
-  tree_levels_then n (closed ms) = levels_then n ms
-  tree_levels_then n (open_section ms h t) = rw (levels_then n ms) simp append_assoc
+  tree_levels_then n t = grind (arith, levels_then, append_assoc)
 
   pub depth_then : (t : Tree L) → depth (tree_then t) ≡ depth t
   depth_then t = grind arith
 
-  pub ignoring_then : (t : Tree L) → is_ignoring (tree_then t) ≡ is_ignoring t
-  ignoring_then t = grind arith
-
   pub innermost_then : (t : Tree L) → innermost (tree_then t) ≡ innermost t
-  innermost_then (closed ms) = refl
-  innermost_then (open_section ms h (closed b)) = refl
-  innermost_then (open_section ms h (open_section bs k t)) = refl
+  innermost_then t = grind arith
 
 -- 3. A line has its place in both, or in none.
 
@@ -182,9 +164,7 @@ data SameEnd {L M : Type 0} : Tree L → Tree M → Type 0 where
 
 module _ {L M : Type 0} (f : L → M) where
   same_head : (h : Head L) → SameHead h (head_with f h)
-  same_head (if_head o) = ifs
-  same_head (elif_head es o) = elifs
-  same_head (else_head es l) = elses
+  same_head h = grind (arith, ifs, elifs, elses)
 
   same_end : (t : Tree L) → SameEnd t (tree_with f t)
   same_end (closed ns) = both_closed

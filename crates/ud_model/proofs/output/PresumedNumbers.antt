@@ -40,8 +40,7 @@ number_operand n = refl
 
 -- An inserted `#line` has its number as its operand.
 pub inserted_operand : (n : ℕ) (d : Reading) → n < 2 ^ 64 → IsNumberLine n d → line_operand d.scan ≡ Some (decimal n)
-inserted_operand n d h k =
-    lone_operand d (codes "#line " ++ decimal n) k.0 k.1 ∙ number_operand n ∙ ap (λ (ds : List ℕ). Some ds) (nothing_skipped (decimal n) (decimal_not_white n h))
+inserted_operand n d h k = cc (lone_operand d (codes "#line " ++ decimal n) k.0 k.1, number_operand n, nothing_skipped (decimal n) (decimal_not_white n h))
 
 -- An inserted blank line has none.
 pub blank_operand : (d : Reading) → IsBlankLine d → line_operand d.scan ≡ None
@@ -77,11 +76,8 @@ have_both : (js : List Judged) (ps : List Presumed) (p : Presumed) → HaveInput
 have_both js [] p h k = (k, tt)
 have_both js (q ∷ ps) p h k = (h.0, have_both js ps p h.1 k)
 
-further_for : (js : List Judged) (j : Judged) (r : Reading) (n : ℕ) → IsLineFor js r n → IsLineFor (js ++ j ∷ []) r n
-further_for js j r n k = grind (arith, append_assoc)
-
 further_one : (js : List Judged) (j : Judged) (p : Presumed) → HasInputNumber js p → HasInputNumber (js ++ j ∷ []) p
-further_one js j p h e = grind (arith, further_for)
+further_one js j p h e = grind (arith, append_assoc)
 
 -- They have input numbers if the input goes on.
 further : (js : List Judged) (j : Judged) (ps : List Presumed) → HaveInputNumbers js ps → HaveInputNumbers (js ++ j ∷ []) ps
@@ -119,12 +115,7 @@ right_number js ss d n k small is h ps sure m p = by_last (last_by p ss d refl)
     by_last : {qs : List Presumed} {b : Bool} {i : ℕ} → LastLine ss d qs b i → (b ≡ true → i ≡ k) × HaveInputNumbers js qs
     by_last (passed {ps = qs} {sure = b} {n = i} q) = let r = h qs b i q in (λ e. absurd (unsure b (line_operand d.scan) some e), r.1)
     by_last (processed {ps = qs} {sure = b} {n = i} q e) = let f : None ≡ Some (decimal k) = sym e ∙ some in cc
-    by_last (obeyed {ps = qs} {sure = b} {n = i} q l g) =
-        let r = h qs b i q in
-        let same : Some (decimal l) ≡ Some (decimal k) = sym g.operand ∙ some in
-        let digits : decimal l ≡ decimal k = cc in
-        let limit : l ≤ 2147483647 = g.limit in
-        (λ e. decimal_injective l k (omega (arith, limit)) (omega (arith, small)) digits, have_both js qs (record { line = d; number = i; sure = b }) r.1 (λ e. inl (inr (k, is))))
+    by_last (obeyed {ps = qs} {sure = b} {n = i} q l g) = grind (arith, some, decimal_injective, have_both)
 
 -- 3. Counted lines.
 
@@ -145,8 +136,7 @@ right_first ps sure m p = grind (arith, push_not_nil)
 -- The presumed numbers of counted lines are those of the count.
 pub right_numbers : {js : List Judged} {rs ss : List Reading} {n : ℕ} → Counted js rs ss n → HaveNoLineDirective rs → Each IsFew js → Right js ss n
 right_numbers no_line h w = right_first
-right_numbers (goes {js = js} {ss = ss} {n = n} c j g) h w =
-    right_further js j ss n (right_numbers c h (each_parts IsFew js (j ∷ []) w).0)
+right_numbers (goes {js = js} {ss = ss} {n = n} c j g) h w = grind (arith, right_further js j ss n (right_numbers c h (each_parts IsFew js (j ∷ []) w).0))
 right_numbers (blanked {js = js} {ss = ss} j c g d k) h w =
     right_line (js ++ j ∷ []) ss d j.line.number (blank_operand d k) (right_further js j ss j.line.number (right_numbers c h (each_parts IsFew js (j ∷ []) w).0)) (λ i e. inl (inl k))
 right_numbers (counts_on {js = js} {rs = rs} {ss = ss} j c r s p) h w =

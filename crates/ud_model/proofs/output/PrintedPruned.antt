@@ -11,15 +11,13 @@ use Rattle.ud_model.specs.output.Pruned.{Edited, edited, kept_line, printed, the
 use Rattle.ud_model.proofs.output.Folded.{KeptGroups, none_kept, replaced, kept_groups, ended, with_group, with_else, then_kept, folded, kept_groups_of, kept_elifs_of}
 use Rattle.ud_model.proofs.output.Changed.{as_many_nodes, as_many_groups, as_many_elifs}
 use Rattle.ud_model.proofs.sections.Stays.{marks_so_far_same}
-use Rattle.ud_model.proofs.sections.Stages.{Stage, leading, given, going, at_true, past, stage, next_stage, verdict_at, kept_at, endif_at, verdict_by_stage, kept_by_stage, stage_next, endif_by_stage}
+use Rattle.ud_model.proofs.sections.Stages.{Stage, leading, given, going, at_true, past, stage, next_stage, verdict_at, kept_at, verdict_by_stage, kept_by_stage, stage_next, endif_by_stage}
 
 module _ {L : Type 0} where
   -- The output for two lists of lines.
   pub printed-append : (xs ys : List (Item L)) (ms ns : List Mark) → length xs ≡ length ms → printed (xs ++ ys) (ms ++ ns) ≡ printed xs ms ++ printed ys ns
   printed-append [] ys [] ns e = refl
-  printed-append (x ∷ xs) ys (m ∷ ms) ns e =
-      ap (λ (zs : List (Item (Edited L))). kept_line m.verdict x ++ zs) (printed-append xs ys ms ns (omega arith))
-      ∙ sym (append_assoc (kept_line m.verdict x) (printed xs ms) (printed ys ns))
+  printed-append (x ∷ xs) ys (m ∷ ms) ns e = cc (printed-append xs ys ms ns (omega arith), append_assoc (kept_line m.verdict x) (printed xs ms) (printed ys ns))
   printed-append xs ys ms ns e = absurd (omega arith)
 
   -- The lines of the rest of a section's groups.
@@ -73,13 +71,8 @@ module _ {L : Type 0} where
   -- The lines of nodes, and then those of others.
   pub lines_then : (ms ns : Nodes (Edited L)) → lines_of_nodes (then_nodes ms ns) ≡ lines_of_nodes ms ++ lines_of_nodes ns
   lines_then ms nothing = sym (append-nil (lines_of_nodes ms))
-  lines_then ms (text ns l) =
-      ap (λ (xs : List (Item (Edited L))). xs ++ text_line l ∷ []) (lines_then ms ns) ∙ append_assoc (lines_of_nodes ms) (lines_of_nodes ns) (text_line l ∷ [])
+  lines_then ms (text ns l) = cc (lines_then ms ns, append_assoc (lines_of_nodes ms) (lines_of_nodes ns) (text_line l ∷ []))
   lines_then ms (section ns gs e) = rw (lines_then ms ns) simp append_assoc
-
-  endif_lines : (ps : Nodes (Edited L)) (left : KeptGroups L) (e : L) →
-      (lines_of_nodes ps ++ left_lines left) ++ kept_line (endif_at (stage_of left)) (endif_line e) ≡ lines_of_nodes (then_kept ps left e)
-  endif_lines ps left e = grind (arith, append-nil, lines_then, append_assoc)
 
   two_empty : (a b : List (Item (Edited L))) → a ≡ [] → b ≡ [] → a ++ b ≡ []
   two_empty a b d e = ap₂ (λ (p q : List (Item (Edited L))). p ++ q) d e
@@ -165,17 +158,13 @@ module _ {L : Type 0} where
       (printed ((if_line o ∷ []) ++ lines_of_nodes ns) ((marked true (verdict_so_far [] an_if o.cond) ∷ []) ++ nodes_so_far (is_kept [] o.cond) ns))
   first_has o ns n = record {
     represents = stage_next [] o.cond ∙ stage_with none_kept an_if o o.cond (folded ns);
-    are = ap₂ (λ (zs ws : List (Item (Edited L))). zs ++ ws)
-        (ap (λ (v : Verdict). kept_line v (if_line o)) (verdict_by_stage [] an_if o.cond))
-        (by_place (is_kept [] o.cond) ns n ∙ ap (λ (b : Bool). if_lines b (folded ns)) (kept_by_stage [] o.cond))
-        ∙ first_lines o o.cond (folded ns);
+    are = cc (verdict_by_stage [] an_if o.cond, by_place (is_kept [] o.cond) ns n, kept_by_stage [] o.cond, first_lines o o.cond (folded ns));
   }
 
   section_printed : (cs : List Cond) (left : KeptGroups L) (ps : Nodes (Edited L)) (e : L) (xs ys : List (Item L)) (ms ns : List Mark) → length xs ≡ length ms → length ys ≡ length ns →
       printed xs ms ≡ lines_of_nodes ps → Has cs left (printed ys ns) →
       printed ((xs ++ ys) ++ endif_line e ∷ []) ((ms ++ ns) ++ marked true (endif_verdict cs) ∷ []) ≡ lines_of_nodes (then_kept ps left e)
-  section_printed cs left ps e xs ys ms ns d f a h =
-      grind (arith, printed_behind, endif_by_stage, endif_lines)
+  section_printed cs left ps e xs ys ms ns d f a h = grind (arith, printed_behind, endif_by_stage, append-nil, lines_then, append_assoc)
 
   mutual
     nodes_printed : (ns : Nodes L) → printed (lines_of_nodes ns) (nodes_so_far true ns) ≡ lines_of_nodes (folded ns)

@@ -1,18 +1,18 @@
 -- The output of a file is processed as the nodes that are left of the file: its text lines have the
 -- same bytes and the same scan, and its openers have the same conditions.
-use Rattle.std.proofs.Common.{◌≡◌, ℕ, List, Bool, true, false, Some, sym, ◌∙◌, ap, subst, arith}
+use Rattle.std.proofs.Common.{◌≡◌, ℕ, List, Bool, true, false, Some, sym, ap, subst, arith}
 use Rattle.ud_model.specs.text.Scans.{Scan, Reading}
 use Rattle.ud_model.specs.declared.verdict.Verdict.{Verdict}
 use Rattle.ud_model.specs.declared.verdict.Verdict.TheVariants.{Keep}
 use Rattle.ud_model.specs.sections.Tree.{Opener, Nodes, Groups, Elifs, nothing, text, section, conditional, otherwise, first, elif, opener_with_line, with_lines, groups_with_lines, elifs_with_lines}
 use Rattle.ud_model.specs.output.Pruned.{Edited, edited, EachLine, GroupLines, ElifLines}
-use Rattle.ud_model.specs.output.Rereading.{line_bytes, edited_bytes}
+use Rattle.ud_model.specs.output.Rereading.{line_bytes}
 use Rattle.ud_model.specs.output.Processing.{Condition, condition_on, Preprocessor, over_readings, of_origin, Processes, no_nodes, takes_line, includes_file, selects_group, ProcessesOne, no_group, true_group, true_before_else, else_group, ProcessesTrue, first_true, true_before, elif_true, NoneTrue, first_false, elif_false}
 use Rattle.ud_model.proofs.output.Folded.{folded}
-use Rattle.ud_model.proofs.output.PrunedOpeners.{KeepsCondition, first_keeps}
+use Rattle.ud_model.proofs.output.Undecided.{KeepsCondition, first_keeps}
 use Rattle.ud_model.proofs.output.EachLines.{AnyOpener, other_lines}
 use Rattle.ud_model.proofs.output.PrunedLines.{pruned_each}
-use Rattle.ud_model.proofs.output.SeenLines.{Seen, scanned, left_seen, left_written, left_text, text_scan}
+use Rattle.ud_model.proofs.output.SeenLines.{Seen, scanned, left_seen, left_text, text_scan}
 
 -- 1. The lines of pruned nodes, and of nodes that are left as they are.
 
@@ -74,17 +74,11 @@ mutual
     elif_alike : {es : Elifs (Edited Reading)} {fs : Elifs Reading} {o : Opener (Edited Reading)} {q : Opener Reading} {ms : Nodes (Edited Reading)} {us : Nodes Reading} →
         ElifsAlike es fs → OpenerAlike o.line q.line → NodesAlike ms us → ElifsAlike (elif es o ms) (elif fs q us)
 
-written_stays : (v : Verdict) (r : Reading) → KeepsCondition v → left_written v r ≡ condition_on r
-written_stays v r h = grind arith
-
 opener_by : (e : Edited Reading) (l : Reading) → left_seen e ≡ scanned l → KeepsCondition e.verdict → OpenerAlike e l
-opener_by e l q h = sym (written_stays e.verdict e.line h) ∙ ap (λ (s : Seen). s.written) q
+opener_by e l q h = grind (arith, q)
 
 scan_of : (a : Scan) (l : Reading) → Some a ≡ text_scan l → a ≡ l.scan
 scan_of a l e = grind arith
-
-bytes_stay : (v : Verdict) (r : Reading) → v ≡ Keep → edited_bytes (edited v r) ≡ line_bytes r
-bytes_stay v r e = ap (λ (w : Verdict). edited_bytes (edited w r)) e
 
 text_stays : (v : Verdict) (r : Reading) → v ≡ Keep → left_text v r ≡ text_scan r
 text_stays v r e = ap (λ (w : Verdict). left_text w r) e
@@ -93,10 +87,7 @@ text_is : (v : Verdict) (l : Reading) → IsKeptText v l → (v ≡ Keep) × IsT
 text_is v l h = grind arith
 
 text_by : (e : Edited Reading) (l : Reading) → left_seen e ≡ scanned l → TextStays e → TextAlike e l
-text_by e l q h = record {
-  bytes = sym (bytes_stay e.verdict e.line (text_is e.verdict e.line h).0) ∙ ap (λ (s : Seen). s.bytes) q;
-  scan = scan_of e.line.scan l (sym (text_is e.verdict e.line h).1 ∙ sym (text_stays e.verdict e.line (text_is e.verdict e.line h).0) ∙ ap (λ (s : Seen). s.text) q);
-}
+text_by e l q h = grind (arith, text_is, scan_of, text_stays)
 
 mutual
   -- Nodes whose lines have the parts of others are so, if those lines stay.

@@ -1,8 +1,8 @@
 -- The outputs of files are processed as the files.
 use Rattle.std.proofs.Common.{◌≡◌, ◌≢◌, ℕ, List, [], ◌∷◌, Bool, true, Some, None, refl, sym, ◌∙◌, ap, subst, arith}
 use Rattle.ud_model.specs.text.Scans.{Scan, Reading}
-use Rattle.ud_model.specs.sections.Directives.{Content, content_of}
-use Rattle.ud_model.specs.sections.Tree.{Item, Nodes, Tree, text_line, if_line, elif_line, else_line, endif_line, closed, lines_of_nodes, with_lines}
+use Rattle.ud_model.specs.sections.Directives.{Content}
+use Rattle.ud_model.specs.sections.Tree.{Item, Nodes, Tree, text_line, closed, lines_of_nodes, with_lines}
 use Rattle.ud_model.specs.sections.Pruning.{Mark}
 use Rattle.ud_model.specs.sections.Items.{Options, reading_of, item_by, item_of, mode_after, read_after, next_item}
 use Rattle.ud_model.specs.answer.CommandLine.{options_of}
@@ -35,11 +35,7 @@ text_own : (o : Options) (r : Reading) (c : Content) → text_line r ≡ item_by
 text_own o r c e = grind arith
 
 item_own : (o : Options) (x : Item Reading) → Own o x → IsOf IsText AnyOpener x
-item_own o (text_line l) e = text_own o l (content_of l.scan) e
-item_own o (if_line p) e = tt
-item_own o (elif_line p) e = tt
-item_own o (else_line l) e = tt
-item_own o (endif_line l) e = tt
+item_own o x h = grind arith
 
 own_items : (o : Options) (xs : List (Item Reading)) (t : Tree Reading) → AreRead o xs t → Each (IsOf IsText AnyOpener) xs
 own_items o _ _ no_items = tt
@@ -72,16 +68,7 @@ module _ (args : List (List ℕ)) (plain : IsPlain (options_of args)) {S F : Typ
   left_answer {input = input} (ran r e d) n ns us b c =
       let o : Options = options_of args in
       let f : r.fault ≡ None = faultless o.settings r.differs r.fault n in
-      let k : CleanRun = record {
-        options = o;
-        input = input;
-        outcome = r;
-        clean = record { plain = plain; runs = d; faultless = f };
-        before = ns;
-        of_input = b;
-        after = us;
-        of_output = c;
-      } in
+      let k : CleanRun = grind (arith, faultless) in
       record {
         nodes = folded ns;
         output = is_pruned (nodes_right o takes enters leaves decides as_c ns

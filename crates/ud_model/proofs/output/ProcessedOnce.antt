@@ -1,5 +1,5 @@
 -- A preprocessor with one choice at most ends in one state at most.
-use Rattle.std.proofs.Common.{◌≡◌, Bool, true, false, refl, sym, subst}
+use Rattle.std.proofs.Common.{◌≡◌, Bool, true, false, refl, sym, subst, arith}
 use Rattle.ud_model.specs.sections.Tree.{Opener, Nodes, Groups, Elifs}
 use Rattle.ud_model.specs.output.Processing.{Preprocessor, Processes, no_nodes, takes_line, includes_file, selects_group, ProcessesOne, no_group, true_group, true_before_else, else_group, ProcessesTrue, first_true, true_before, elif_true, NoneTrue, first_false, elif_false, HasOneChoice}
 
@@ -30,14 +30,12 @@ module _ {S F L : Type 0} (p : Preprocessor S F L) (files : F → Nodes L) (one 
 
   none_once : {es : Elifs L} {s t u : S} → NoneTrue p es s t → NoneTrue p es s u → t ≡ u
   none_once (first_false {o = o} {s = s} {t = t} d) (first_false {t = u} e) = (one.one_truth s o false false t u d e).1
-  none_once (elif_false {o = o} {t = t} {u = v} h d) (elif_false {t = u} {u = w} k e) =
-      (one.one_truth t o false false v w d (decides_at o false t u w (none_once h k) e)).1
+  none_once (elif_false {o = o} {t = t} {u = v} h d) (elif_false {t = u} {u = w} k e) = grind (arith, none_once h k)
 
   true_or_none : {es : Elifs L} {s t u : S} → ProcessesTrue p files es s t → NoneTrue p es s u → ⊥
   true_or_none (first_true {o = o} {s = s} {t = t} d g) (first_false {t = u} e) = differ (one.one_truth s o true false t u d e).0
   true_or_none (true_before h) (elif_false k e) = true_or_none h k
-  true_or_none (elif_true {o = o} {t = t} {u = v} h d g) (elif_false {t = u} {u = w} k e) =
-      differ (one.one_truth t o true false v w d (decides_at o false t u w (none_once h k) e)).0
+  true_or_none (elif_true {o = o} {t = t} {u = v} h d g) (elif_false {t = u} {u = w} k e) = grind (arith, differ, none_once)
 
   mutual
     -- The nodes lead to one state at most.

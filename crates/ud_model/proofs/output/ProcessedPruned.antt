@@ -1,6 +1,6 @@
 -- A preprocessor processes the pruned nodes as it processes the nodes, if it agrees with the decided
 -- conditions.
-use Rattle.std.proofs.Common.{◌≡◌, Bool, true, false, Some, None, refl, sym, ◌∙◌, subst, ◌⊎◌, inl, inr}
+use Rattle.std.proofs.Common.{◌≡◌, Bool, true, false, refl, sym, ◌∙◌, subst, ◌⊎◌, inl, inr, arith}
 use Rattle.ud_model.specs.declared.cond.Cond.{Cond}
 use Rattle.ud_model.specs.declared.cond.Cond.TheVariants.{Yes, No, Unknown}
 use Rattle.ud_model.specs.sections.Tree.{Opener, Nodes, Groups, Elifs, nothing, text, section, conditional, otherwise, first, elif, with_lines, groups_with_lines, elifs_with_lines}
@@ -62,13 +62,7 @@ module _ {S F L : Type 0} (p : Preprocessor S F L) (files : F → Nodes L) (outp
 
   -- A group after a true one.
   still_true : (left : KeptGroups L) (part : Part) (o : Opener L) (c : Cond) (ps : Nodes (Edited L)) (s t : S) → LeftTrue left s t → LeftTrue (with_group left part o c ps) s t
-  still_true none_kept part o c ps s t h = absurd h
-  still_true (replaced ms) part o c ps s t h = h
-  still_true (kept_groups es) part o Yes ps s t h = inl h
-  still_true (kept_groups es) part o No ps s t h = h
-  still_true (kept_groups es) part o Unknown ps s t h = true_before h
-  still_true (ended es l ms None) part o c ps s t h = h
-  still_true (ended es l ms (Some k)) part o c ps s t h = h
+  still_true left part o c ps s t h = grind (arith, absurd, inl, true_before)
 
   -- Nodes are processed from an equal state.
   from_state : (ps : Nodes (Edited L)) (s t u : S) → s ≡ t → Processes out outputs ps t u → Processes out outputs ps s u
@@ -76,9 +70,6 @@ module _ {S F L : Type 0} (p : Preprocessor S F L) (files : F → Nodes L) (outp
 
   decides_from : (o : Opener L) (b : Bool) (s t u : S) → s ≡ t → p.decides t o b u → p.decides s o b u
   decides_from o b s t u e d = subst (λ (x : S). p.decides x o b u) (sym e) d
-
-  none_until : (es : Elifs (Edited L)) (s t u : S) → t ≡ u → NoneTrue out es s t → NoneTrue out es s u
-  none_until es s t u e h = subst (λ (x : S). NoneTrue out es s x) e h
 
   -- A true group after none.
   now_true : (left : KeptGroups L) (part : Part) (o : Opener L) (c : Cond) (ps : Nodes (Edited L)) (s t u v : S) → LeftNone left s t → AgreesAs c true t u → p.decides t o true u →
@@ -95,40 +86,19 @@ module _ {S F L : Type 0} (p : Preprocessor S F L) (files : F → Nodes L) (outp
   -- A false group after none.
   still_none : (left : KeptGroups L) (part : Part) (o : Opener L) (c : Cond) (ps : Nodes (Edited L)) (s t u : S) → LeftNone left s t → AgreesAs c false t u → p.decides t o false u →
       LeftNone (with_group left part o c ps) s u
-  still_none none_kept part o Yes ps s t u h a d = let e : false ≡ true = a.0 in cc
-  still_none none_kept part o No ps s t u h a d = h ∙ a.1
-  still_none none_kept part o Unknown ps s t u h a d = first_false (decides_from o false s t u h d)
-  still_none (replaced ms) part o c ps s t u h a d = absurd h
-  still_none (kept_groups es) part o Yes ps s t u h a d = let e : false ≡ true = a.0 in cc
-  still_none (kept_groups es) part o No ps s t u h a d = none_until es s t u a.1 h
-  still_none (kept_groups es) part o Unknown ps s t u h a d = elif_false h d
-  still_none (ended es l ms k) part o c ps s t u h a d = absurd h
+  still_none left part o c ps s t u h g k = grind (arith, first_false, absurd, elif_false)
 
   true_alone : (left : KeptGroups L) (s t : S) → LeftTrue left s t → LeftOne left s t
-  true_alone none_kept s t h = absurd h
-  true_alone (replaced ms) s t h = h
-  true_alone (kept_groups es) s t h = true_group h
-  true_alone (ended es l ms k) s t (inl h) = true_before_else h
-  true_alone (ended es l ms k) s t (inr h) = else_group h.1 h.2
+  true_alone left s t h = grind (arith, absurd, true_group, true_before_else, else_group)
 
   none_alone : (left : KeptGroups L) (s t : S) → LeftNone left s t → LeftOne left s t
-  none_alone none_kept s t h = h
-  none_alone (replaced ms) s t h = absurd h
-  none_alone (kept_groups es) s t h = no_group h
-  none_alone (ended es l ms k) s t h = absurd h
+  none_alone left s t h = grind (arith, absurd, no_group)
 
   true_else : (left : KeptGroups L) (l : L) (ps : Nodes (Edited L)) (s t : S) → LeftTrue left s t → LeftOne (with_else left l ps) s t
-  true_else none_kept l ps s t h = absurd h
-  true_else (replaced ms) l ps s t h = h
-  true_else (kept_groups es) l ps s t h = true_before_else h
-  true_else (ended es k ms None) l ps s t h = true_alone (ended es k ms None) s t h
-  true_else (ended es k ms (Some j)) l ps s t h = true_alone (ended es k ms (Some j)) s t h
+  true_else left l ps s t h = grind (arith, absurd, true_before_else, true_alone)
 
   none_else : (left : KeptGroups L) (l : L) (ps : Nodes (Edited L)) (s t u : S) → LeftNone left s t → Processes out outputs ps t u → LeftOne (with_else left l ps) s u
-  none_else none_kept l ps s t u h g = from_state ps s t u h g
-  none_else (replaced ms) l ps s t u h g = absurd h
-  none_else (kept_groups es) l ps s t u h g = else_group h g
-  none_else (ended es k ms j) l ps s t u h g = absurd h
+  none_else left l ps s t u h g = grind (arith, from_state, absurd, else_group)
 
   -- Nodes and then others.
   then_processes : {ms ns : Nodes (Edited L)} {s t u : S} → Processes out outputs ms s t → Processes out outputs ns t u → Processes out outputs (then_nodes ms ns) s u
@@ -138,17 +108,12 @@ module _ {S F L : Type 0} (p : Preprocessor S F L) (files : F → Nodes L) (outp
   then_processes g (selects_group h k) = selects_group (then_processes g h) k
 
   section_processes : (ps : Nodes (Edited L)) (left : KeptGroups L) (e : L) (s t u : S) → Processes out outputs ps s t → LeftOne left t u → Processes out outputs (then_kept ps left e) s u
-  section_processes ps none_kept e s t u g h = subst (λ (x : S). Processes out outputs ps s x) h g
-  section_processes ps (replaced ms) e s t u g h = then_processes g h
-  section_processes ps (kept_groups es) e s t u g h = selects_group g h
-  section_processes ps (ended es l ms None) e s t u g h = selects_group g h
-  section_processes ps (ended es l ms (Some k)) e s t u g h = selects_group g h
+  section_processes ps left e s t u h g = grind (arith, then_processes, selects_group)
 
   -- No group is processed.
   none_processed : {es : Elifs L} {s t : S} → ElifsRight p es → NoneTrue p es s t → LeftNone (kept_elifs_of es) s t
   none_processed r (first_false {o = o} {ns = ns} {s = s} {t = t} d) = still_none none_kept an_if o o.cond (folded ns) s s t refl (r.0 s false t d) d
-  none_processed r (elif_false {es = es} {o = o} {ns = ns} {s = s} {t = t} {u = u} h d) =
-      still_none (kept_elifs_of es) an_elif o o.cond (folded ns) s t u (none_processed r.0 h) ((r.1 s t h).0 t false u d) d
+  none_processed r (elif_false {es = es} {o = o} {ns = ns} {s = s} {t = t} {u = u} h d) = grind (arith, still_none, none_processed r.0 h)
 
   none_same : {es : Elifs L} {s t : S} → NoneTrue p es s t → NoneTrue out (elifs_with_lines (edited Keep) es) s t
   none_same (first_false d) = first_false d
@@ -168,8 +133,7 @@ module _ {S F L : Type 0} (p : Preprocessor S F L) (files : F → Nodes L) (outp
     pub whole : ProcessesTrue out outputs (elifs_with_lines (edited Keep) es) s t
 
   by_output : {ns : Nodes L} {ms : Nodes (Edited L)} {s t : S} → HasOutput p ns ms → Both ns s t → Processes out outputs ms s t
-  by_output (is_pruned r) b = b.pruned r
-  by_output is_kept b = b.whole
+  by_output h g = grind arith
 
   mutual
     both : {ns : Nodes L} {s t : S} → Processes p files ns s t → Both ns s t

@@ -17,35 +17,27 @@ use Rattle.ud_model.proofs.output.PrunedTree.{folded_is, is_folded}
 
 -- The flags of the conditions so far, by the stage.
 not_leading : (cs : List Cond) → stage_inside cs ≡ leading → ⊥
-not_leading [] e = cc
-not_leading (Yes ∷ []) e = cc
-not_leading (Yes ∷ c ∷ cs) e = cc
 not_leading (No ∷ cs) e = not_leading cs e
 not_leading (Unknown ∷ cs) e = not_leading cs e
+not_leading cs h = grind arith
 
 leading_flags : (cs : List Cond) → stage cs ≡ leading → (all_false cs ≡ true) × (any_true cs ≡ false)
-leading_flags [] e = (refl, refl)
-leading_flags (Yes ∷ cs) e = cc
 leading_flags (No ∷ cs) e = leading_flags cs e
-leading_flags (Unknown ∷ cs) e = absurd (not_leading cs e)
+leading_flags cs h = grind (arith, not_leading)
 
 inside_untrue : (cs : List Cond) → stage_inside cs ≡ going → any_true cs ≡ false
-inside_untrue [] e = refl
-inside_untrue (Yes ∷ []) e = cc
-inside_untrue (Yes ∷ c ∷ cs) e = cc
 inside_untrue (No ∷ cs) e = inside_untrue cs e
 inside_untrue (Unknown ∷ cs) e = inside_untrue cs e
+inside_untrue cs h = grind arith
 
 going_flags : (cs : List Cond) → stage cs ≡ going → (all_false cs ≡ false) × (any_true cs ≡ false)
 going_flags (No ∷ cs) e = going_flags cs e
-going_flags (Unknown ∷ cs) e = (refl, inside_untrue cs e)
-going_flags _ e = cc
+going_flags cs h = grind (arith, inside_untrue)
 
 inside_true : (cs : List Cond) → stage_inside cs ≡ at_true → (any_true cs ≡ true) × (ends_with_first_true cs ≡ true)
-inside_true (Yes ∷ []) e = (refl, refl)
 inside_true (No ∷ cs) e = inside_true cs e
 inside_true (Unknown ∷ cs) e = inside_true cs e
-inside_true _ e = cc
+inside_true cs h = grind arith
 
 true_flags : (cs : List Cond) → stage cs ≡ at_true → (all_false cs ≡ false) × (any_true cs ≡ true) × (ends_with_first_true cs ≡ true)
 true_flags (No ∷ cs) e = true_flags cs e
@@ -53,10 +45,9 @@ true_flags (Unknown ∷ cs) e = let r : (any_true cs ≡ true) × (ends_with_fir
 true_flags _ e = cc
 
 inside_past : (cs : List Cond) → stage_inside cs ≡ past → (any_true cs ≡ true) × (ends_with_first_true cs ≡ false)
-inside_past (Yes ∷ c ∷ cs) e = (refl, refl)
 inside_past (No ∷ cs) e = inside_past cs e
 inside_past (Unknown ∷ cs) e = inside_past cs e
-inside_past _ e = cc
+inside_past cs h = grind arith
 
 past_flags : (cs : List Cond) → stage cs ≡ past → (all_false cs ≡ false) × (any_true cs ≡ true) × (ends_with_first_true cs ≡ false)
 past_flags (No ∷ cs) e = past_flags cs e
@@ -70,16 +61,13 @@ way_at given = true
 way_at _ = false
 
 inside_way : (cs : List Cond) → false ≡ way_at (stage_inside cs)
-inside_way [] = refl
-inside_way (Yes ∷ []) = refl
-inside_way (Yes ∷ c ∷ cs) = refl
 inside_way (No ∷ cs) = inside_way cs
 inside_way (Unknown ∷ cs) = inside_way cs
+inside_way cs = grind arith
 
 way_by_stage : (cs : List Cond) → gives_way cs ≡ way_at (stage cs)
 way_by_stage (No ∷ cs) = way_by_stage cs
-way_by_stage (Unknown ∷ cs) = inside_way cs
-way_by_stage _ = refl
+way_by_stage cs = grind (arith, inside_way)
 
 module _ (all cs : List Cond) (stays : gives_way all ≡ false) where
   leading_verdict : stage cs ≡ leading → (part : Part) → opener_verdict all cs part Unknown ≡ first_kept_verdict part
@@ -274,16 +262,11 @@ lines_in (g ∷ gs) = (g.opener ∷ lines_of_nodes g.nodes) ++ lines_in gs
 module _ {M : Type 0} where
   lines_last : (gs : List (Group M)) (g : Group M) → lines_in (gs ++ g ∷ []) ≡ (lines_in gs ++ g.opener ∷ []) ++ lines_of_nodes g.nodes
   lines_last [] g = append-nil (g.opener ∷ lines_of_nodes g.nodes)
-  lines_last (h ∷ gs) g =
-      ap (λ (l : List (Item M)). (h.opener ∷ lines_of_nodes h.nodes) ++ l) (lines_last gs g)
-      ∙ sym (append_assoc (h.opener ∷ lines_of_nodes h.nodes) (lines_in gs ++ g.opener ∷ []) (lines_of_nodes g.nodes))
-      ∙ ap (λ (l : List (Item M)). l ++ lines_of_nodes g.nodes) (sym (append_assoc (h.opener ∷ lines_of_nodes h.nodes) (lines_in gs) (g.opener ∷ [])))
+  lines_last (h ∷ gs) g = simp (lines_last gs g, append_assoc)
 
   elifs_lines_in : (es : Elifs M) → lines_in (groups_of_elifs es) ≡ lines_of_elifs es
   elifs_lines_in (first o ns) = lines_last [] (group an_if [] o.cond (if_line o) ns)
-  elifs_lines_in (elif es o ns) =
-      lines_last (groups_of_elifs es) (group an_elif (conds_of_elifs es) o.cond (elif_line o) ns)
-      ∙ ap (λ (l : List (Item M)). (l ++ elif_line o ∷ []) ++ lines_of_nodes ns) (elifs_lines_in es)
+  elifs_lines_in (elif es o ns) = cc (lines_last (groups_of_elifs es) (group an_elif (conds_of_elifs es) o.cond (elif_line o) ns), elifs_lines_in es)
 
   groups_lines_in : (gs : Groups M) → lines_in (groups_of gs) ≡ lines_of_groups gs
   groups_lines_in gs = grind (arith, elifs_lines_in, lines_last)

@@ -2,23 +2,18 @@
 -- higher.
 use Rattle.std.proofs.Common.{◌≡◌, ℕ, suc, ◌≤◌, max, refl, ap₂, arith}
 use Rattle.ud_model.specs.declared.cond.Cond.{Cond}
-use Rattle.ud_model.specs.sections.Tree.{Item, Opener, Nodes, Groups, Elifs, Head, Tree, nothing, text, section, conditional, otherwise, first, elif, depth, with_lines, groups_with_lines, elifs_with_lines}
+use Rattle.ud_model.specs.sections.Tree.{Item, Opener, Nodes, Groups, Elifs, Tree, nothing, text, section, conditional, otherwise, first, elif, depth, with_lines, groups_with_lines, elifs_with_lines}
 use Rattle.ud_model.specs.sections.Pruning.{Part, an_if, an_elif}
-use Rattle.ud_model.specs.aids.Height.{height, height_of_nodes, height_of_groups, height_of_elifs, height_of_head}
+use Rattle.ud_model.specs.aids.Height.{height, height_of_nodes, height_of_groups, height_of_elifs}
 use Rattle.ud_model.specs.output.Pruned.{Edited, then_nodes}
 use Rattle.ud_model.proofs.output.Folded.{KeptGroups, none_kept, replaced, kept_groups, ended, with_group, with_else, then_kept, folded, kept_groups_of, kept_elifs_of}
-use Rattle.ud_model.proofs.sections.Growth.{Adds, adds_endif, adds_under, complete}
+use Rattle.ud_model.proofs.sections.Growth.{Adds, adds_under}
 
 module _ {L : Type 0} where
-  complete_most : (h : Head L) (b : Nodes L) → height_of_groups (complete h b) ≤ max (height_of_head h) (height_of_nodes b)
-  complete_most h b = grind arith
-
   -- One more line makes a text no higher than it is deep then.
   pub grows_most : {t u : Tree L} {x : Item L} → Adds t x u → height u ≤ max (height t) (depth u)
-  grows_most (adds_endif {ns = ns} {b = b} {h = h}) =
-      let c : height_of_groups (complete h b) ≤ max (height_of_head h) (height_of_nodes b) = complete_most h b in omega arith
   grows_most (adds_under {t = t} {u = u} a) = let c : height u ≤ max (height t) (depth u) = grows_most a in omega arith
-  grows_most h = omega arith
+  grows_most h = grind arith
 
   abbrev height_left : KeptGroups L → ℕ
   height_left none_kept = 0

@@ -12,7 +12,7 @@ use Rattle.ud_model.proofs.output.Formed.{whole_ending, end_is_some}
 use Rattle.ud_model.proofs.output.Heeding.{the_mode, one_mode, sound_heed}
 use Rattle.ud_model.proofs.sections.Soundness.{sound_lines, lines_with_next}
 use Rattle.ud_model.proofs.output.LeavesOff.{HasEnd}
-use Rattle.ud_model.proofs.output.Rereads.{Again, Between, IsLine, start}
+use Rattle.ud_model.proofs.output.RereadMore.{Again, Between, IsLine, start}
 use Rattle.ud_model.proofs.output.RereadStep.{step}
 
 -- The lines were cut from a text, and each but the last has an ending.
@@ -32,9 +32,8 @@ ends_before (k ∷ m ∷ ls) l h = let r : Each IsInner (m ∷ ls) × IsLine l =
 
 -- The lines of a text are so.
 pub lines_end : (n : ℕ) (ts : List (List ℕ)) → AreFormed ts → AllButLast (numbered_from n ts)
-lines_end n [] f = tt
-lines_end n (t ∷ []) f = (n, t, refl, f)
 lines_end n (t ∷ u ∷ ts) f = ((end_is_some (ending_of t) (whole_ending t f.0), (n, t, refl, inl f.0)), lines_end (suc n) (u ∷ ts) f.1)
+lines_end n ts h = grind arith
 
 module _ (o : Options) (p : IsPlain o) where
   pub next_is : (xs : List (Item Reading)) (t : Tree Reading) (l : Line) → AreFaultless o xs t → next_item o xs t l ≡ item_of o (read_after xs (the_mode o) l)

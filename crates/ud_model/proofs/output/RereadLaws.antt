@@ -1,8 +1,8 @@
 -- The laws of the output, from the chain of lemmas.
-use Rattle.std.proofs.Common.{◌≡◌, ℕ, ◌≤◌, List, [], ◌∷◌, length, map, Bool, true, false, not, ◌||◌, Option, None, refl, sym, ◌∙◌, ap, ap₂, subst, arith}
+use Rattle.std.proofs.Common.{◌≡◌, ℕ, ◌≤◌, List, [], ◌∷◌, length, map, Bool, true, false, not, ◌||◌, Option, None, refl, sym, ◌∙◌, ap, ap₂, subst, arith, rules}
 use Rattle.std.specs.List.{concat}
 use Rattle.std.proofs.lemmas.List.{length-map}
-use Rattle.ud_model.specs.text.Lines.{Line, text_of, texts_of, lines_of, numbered_from, AreFormed}
+use Rattle.ud_model.specs.text.Lines.{Line, text_of, texts_of, lines_of, AreFormed}
 use Rattle.ud_model.specs.text.Scans.{Reading}
 use Rattle.ud_model.specs.sections.Tree.{Item, Nodes, Tree, closed, open_section, lines, lines_of_nodes, innermost, item_with, with_lines}
 use Rattle.ud_model.specs.sections.Pruning.{Mark, marks, Part, first_kept_verdict}
@@ -18,7 +18,6 @@ use Rattle.ud_model.specs.output.Rereading.{IsPlain, IsTreeOf, CleanRun, KeepsTr
 use Rattle.ud_model.specs.conditions.Expressions.{Expression}
 use Rattle.ud_model.specs.output.CSelection.{condition_in, MayBe, IsCWorld}
 use Rattle.ud_model.specs.declared.settings.Listing.{Listing}
-use Rattle.ud_model.specs.declared.verdict.Verdict.{Verdict}
 use Rattle.ud_model.specs.declared.verdict.Verdict.TheVariants.{Keep}
 use Rattle.ud_model.proofs.sections.Soundness.{sound_read, one_tree_of, sound_lines, read_lines}
 use Rattle.ud_model.proofs.output.Changed.{whole_lines_are, lines_join, lone, pieces_lone, no_innermost, end_parts}
@@ -31,18 +30,16 @@ use Rattle.ud_model.proofs.output.ReachedPruned.{pruned_reached}
 use Rattle.ud_model.proofs.output.ReachedAlike.{reached_alike}
 use Rattle.ud_model.proofs.output.WorldsExist.{world_of}
 use Rattle.ud_model.proofs.output.EachLines.{other_lines}
-use Rattle.ud_model.proofs.output.PrunedOpeners.{KeepsCondition, Keeps, pruned_keeps}
+use Rattle.ud_model.proofs.output.Undecided.{Keeps, pruned_keeps, Stays, pruned_undecided, undecided_stay}
 use Rattle.ud_model.proofs.output.TreeAlong.{nodes_along}
-use Rattle.ud_model.proofs.output.Undecided.{Stays, pruned_undecided, undecided_stay}
 use Rattle.ud_model.proofs.output.Each.{Each, Pairwise}
 use Rattle.ud_model.proofs.output.Sizes.{whole}
 use Rattle.ud_model.proofs.sections.Stays.{length_marks}
 use Rattle.std.proofs.lemmas.Slice.Eq.{bytes_eq-Decides}
 use Rattle.ud_model.proofs.output.Heeding.{the_mode, are_read}
 use Rattle.ud_model.proofs.output.OutputPieces.{line_in, pieces_formed, output_lines}
-use Rattle.ud_model.proofs.output.Rereads.{Again, IsUncut}
-use Rattle.ud_model.proofs.output.SoundAgain.{sound_again}
-use Rattle.ud_model.proofs.output.SoundBounds.{IsFew, fit_short, sound_low, sound_few, again_few}
+use Rattle.ud_model.proofs.output.RereadMore.{Again, IsUncut}
+use Rattle.ud_model.proofs.output.SoundAgain.{sound_again, IsFew, fit_short, sound_low, sound_few, again_few}
 use Rattle.ud_model.proofs.output.PrunedHeights.{pruned_height, height-with}
 use Rattle.ud_model.specs.aids.Height.{height, height_of_nodes}
 use Rattle.ud_model.specs.declared.limits.TheConstants.{OPEN_SECTIONS}
@@ -110,8 +107,7 @@ module _ (o : Options) (p : IsPlain o) (input : List ℕ) where
   reread (ran_as (ends xs t g)) e ns a =
       let same : t ≡ closed ns = one_tree_of o input t (closed ns) (record { items = xs; read = sound_read g.sound; are = g.are }) a in
       let z : (ys : List (Item Reading)) × Again o (the_mode o) xs t ys = again o p xs t g.sound (subst AllButLast g.are (lines_end 1 (texts_of input) (lines_exist input).formed)) in
-      let left : printed xs (marks t) ≡ lines_of_nodes (folded ns) =
-      ap₂ (λ (ys : List (Item Reading)) (u : Tree Reading). printed ys (marks u)) (sym (sound_lines g.sound) ∙ ap (λ (u : Tree Reading). lines u) same) same ∙ printed-pruned ns in
+      let left : printed xs (marks t) ≡ lines_of_nodes (folded ns) = cc (sound_lines g.sound, same, printed-pruned ns) in
       let along =
       nodes_along left_seen scanned (folded ns) z.0 (z.1.same ∙ ap (λ (l : List (Item (Edited Reading))). map (item_with left_seen) l) left) in
       let bytes : with_lines line_bytes along.nodes ≡ with_lines edited_bytes (folded ns) =
@@ -120,15 +116,13 @@ module _ (o : Options) (p : IsPlain o) (input : List ℕ) where
       let formed : AreFormed (map left_piece (printed xs (marks t))) =
       subst (λ (u : Tree Reading). AreFormed (map left_piece (printed xs (marks u)))) (sym same)
       (pieces_formed o input xs ns (subst (λ (u : Tree Reading). HasNoFault o (lines_of input) xs u) same g)) in
-      let out : output_by o.settings.listing o.settings xs t ≡ concat (map left_piece (printed xs (marks t))) =
-      ap (λ (q : Listing). output_by q o.settings xs t) p.unlisted ∙ plain_output o p xs (marks t) in
+      let out : output_by o.settings.listing o.settings xs t ≡ concat (map left_piece (printed xs (marks t))) = cc (p.unlisted, plain_output o p xs (marks t)) in
       record {
         tree = along.nodes;
         is_tree = record {
           items = z.0;
           read = are_read o p.none_ignores z.0 z.1.read (closed along.nodes) along.lines;
-          are = ap lines_of out ∙ output_lines (map left_piece (printed xs (marks t))) formed
-              ∙ ap (λ (l : List (List ℕ)). numbered_from 1 l) (sym (item_bytes z.0 (printed xs (marks t)) z.1.same)) ∙ sym z.1.numbered;
+          are = cc (out, output_lines (map left_piece (printed xs (marks t))) formed, item_bytes z.0 (printed xs (marks t)) z.1.same, z.1.numbered);
         };
         alike = along.alike;
         same = bytes;
@@ -138,12 +132,9 @@ module _ (o : Options) (p : IsPlain o) (input : List ℕ) where
         calm = z.1.ends (end_parts (ends_in_comment xs) (last_number xs) (innermost t) e).0;
       }
 
-kept_condition : (v : Verdict) (l : Reading) → KeepsCondition v → left_condition v l ≡ condition_in l
-kept_condition v l h = grind arith
-
 kept_conditions : (es : List (Edited Reading)) → Each Keeps es → map (λ (e : Edited Reading). (left_seen e).condition) es ≡ map (λ (e : Edited Reading). condition_in e.line) es
 kept_conditions [] h = refl
-kept_conditions (e ∷ es) h = ap₂ (λ (x : Option Expression) (xs : List (Option Expression)). x ∷ xs) (kept_condition e.verdict e.line h.0) (kept_conditions es h.1)
+kept_conditions (e ∷ es) h = grind (arith, kept_conditions es h.1)
 
 -- The truths of the openers of the folded nodes.
 truths_folded : (w : World Reading) (before : Nodes Reading) (v : World Reading) (after : Nodes Reading) → KeepsTruths w before v after →
@@ -231,8 +222,7 @@ module _ (k : CleanRun) (w : World Reading) (g : IsCWorld k.options.table w k.be
 
 -- Nothing is decided of the output.
 pub output_undecided : (us ns : Nodes Reading) → with_lines line_bytes us ≡ with_lines edited_bytes (folded ns) → IsUndecided us
-output_undecided us ns e =
-    subst (λ (X : Type 0). X) (sym (other_lines edited_bytes Any IsUnknown (folded ns)) ∙ ap IsUndecided (sym e) ∙ other_lines line_bytes Any IsUnknown us) (pruned_undecided ns)
+output_undecided us ns e = grind (arith, other_lines edited_bytes Any IsUnknown (folded ns), e, other_lines line_bytes Any IsUnknown us, pruned_undecided ns)
 
 -- Nothing is decided of the output of a clean run.
 pub after_undecided : (k : CleanRun) → IsUndecided k.after
@@ -254,8 +244,7 @@ module _ (o : Options) (p : IsPlain o) (text : List ℕ) (ys : List (Item Readin
   -- A text is printed as it is, if it has no faulty line and nothing of it is decided.
   pub same_output : output_by o.settings.listing o.settings ys (closed us) ≡ text
   same_output =
-      let many : length ys ≡ length (marks (closed us)) =
-      ap (λ (l : List (Item Reading)). length l) (sym (sound_lines g.sound)) ∙ sym (length_marks true (closed us)) in
+      let many : length ys ≡ length (marks (closed us)) = cc (sound_lines g.sound, length_marks true (closed us)) in
       ap (λ (q : Listing). output_by q o.settings ys (closed us)) p.unlisted
       ∙ ap (λ (l : List (List ℕ)). concat l) (the_pieces ∙ whole_lines_are ys (marks (closed us)) many ∙ ap (λ (l : List Line). map text_of l) (sym g.are)) ∙ lines_join text
 
@@ -296,5 +285,4 @@ input_tree o input h e = grind (arith, input_nodes, sound_read)
 -- An output whose lines fit is printed as it is.
 pub runs_output : (o : Options) → IsPlain o → (input : List ℕ) → {r : Outcome} → HasOutcome o input r → r.fault ≡ None → LinesFit (lines_of r.output) →
     HasOutcome o r.output (record { output = r.output; fault = None; differs = false })
-runs_output o p input {r} d e f =
-    let n : (ns : Nodes Reading) × IsTreeOf o input (closed ns) = input_tree o input d e in again_law o p input d e f n.0 n.1
+runs_output o p input {r} d e f = let n : (ns : Nodes Reading) × IsTreeOf o input (closed ns) = input_tree o input d e in search (rules, again_law)

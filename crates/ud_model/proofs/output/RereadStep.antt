@@ -1,5 +1,5 @@
 -- Reading an output again: one line more, which is removed or left.
-use Rattle.std.proofs.Common.{◌≡◌, ℕ, suc, List, [], ◌∷◌, ◌++◌, length, map, Bool, true, false, not, ◌⊎◌, inl, inr, refl, sym, ◌∙◌, ap, subst, arith}
+use Rattle.std.proofs.Common.{◌≡◌, ℕ, suc, List, [], ◌∷◌, ◌++◌, length, map, Bool, true, false, not, ◌⊎◌, inl, inr, refl, sym, ◌∙◌, ap, subst, arith, rules}
 use Rattle.std.proofs.lemmas.Bool.{false_from_ne_true}
 use Rattle.ud_model.specs.text.Lines.{Line, text_of}
 use Rattle.ud_model.specs.text.Scans.{Reading, is_spanning}
@@ -8,7 +8,7 @@ use Rattle.ud_model.specs.text.Scanning.{joins, scan_after}
 use Rattle.ud_model.specs.aids.LexStates.{LexState, in_text, state_after_line, white_after_line}
 use Rattle.ud_model.specs.sections.Directives.{content_of}
 use Rattle.ud_model.specs.sections.Tree.{Item, Tree, lines}
-use Rattle.ud_model.specs.sections.Pruning.{Mark, marks, is_removed}
+use Rattle.ud_model.specs.sections.Pruning.{marks, is_removed}
 use Rattle.ud_model.specs.sections.Items.{Options, reading_of, item_of, read_after}
 use Rattle.ud_model.specs.sections.Faults.{NoneHolds, cases, ends_removed, is_obfuscated_after, is_cut, ends_in_comment, keeps_rest}
 use Rattle.ud_model.specs.answer.Printing.{piece_by, keyword_in}
@@ -22,13 +22,11 @@ use Rattle.ud_model.proofs.output.Formed.{IsLeft}
 use Rattle.ud_model.proofs.output.Heeding.{ReadIn, none_read, one_read}
 use Rattle.ud_model.proofs.output.JoinedAlike.{Grows, grows, ends_kept, carried_step, joined_alike, edited_alone}
 use Rattle.ud_model.proofs.output.LeftLines.{LeftLine, piece_line}
-use Rattle.ud_model.proofs.output.LeftReadings.{Left}
-use Rattle.ud_model.proofs.output.LeftPlain.{left_plain}
-use Rattle.ud_model.proofs.output.LeftCode.{LeftCode, left_code}
+use Rattle.ud_model.proofs.output.LeftItems.{Left}
+use Rattle.ud_model.proofs.output.LeftModes.{left_plain, LeftCode, left_code}
 use Rattle.ud_model.proofs.text.LinesLemmas.{text_of-line_at}
 use Rattle.ud_model.proofs.output.LeavesOff.{LeavesOff, HasEnd, nowhere, joins_nothing, readings_last, joins_next, leaves_next, leaves_anew}
-use Rattle.ud_model.proofs.output.Rereads.{Again, Between, Carry, alike, gone, Rests, IsLine}
-use Rattle.ud_model.proofs.output.RereadMore.{last_comment, last_removed, piece_behind_all, gone_again, left_again}
+use Rattle.ud_model.proofs.output.RereadMore.{Again, Between, Carry, alike, gone, Rests, IsLine, last_comment, last_removed, piece_behind_all, gone_again, left_again}
 use Rattle.ud_model.proofs.text.ScanLaws.{place_after, white_after, joins_before-code}
 use Rattle.ud_model.proofs.text.ScanLemmas.{run_of_last}
 use Rattle.ud_model.proofs.sections.Stays.{marks_so_far_same, length_marks}
@@ -50,8 +48,7 @@ plain_run o _ none_read = refl
 plain_run o _ (one_read ys r l) = ap c_run_of (readings_last o ys ys Plain l) ∙ run_of_last (map reading_of ys) (read_after ys Plain l)
 
 plain_calm : (o : Options) (ys : List (Item Reading)) → ReadIn o Plain ys → ends_in_comment ys ≡ false
-plain_calm o _ none_read = refl
-plain_calm o _ (one_read ys r l) = grind (arith, last_comment)
+plain_calm o ys h = grind (arith, last_comment)
 
 -- The facts of one more line.
 pub record More (o : Options) (m : Mode) (xs : List (Item Reading)) (t : Tree Reading) (l : Line) (u : Tree Reading) : Type 0 where
@@ -66,8 +63,7 @@ pub the_more : (o : Options) (m : Mode) (xs : List (Item Reading)) (t : Tree Rea
 the_more o m xs t l u q e n =
     let x : Item Reading = item_of o (read_after xs m l) in
     let g : Grows true t u x = grows true (Trees.grows t u x (e ∙ ap (λ (zs : List (Item Reading)). zs ++ x ∷ []) (sym q))) in
-    let more : marks u ≡ marks t ++ g.mark ∷ [] =
-    marks_so_far_same true u ∙ g.more ∙ ap (λ (ms : List Mark). ms ++ g.mark ∷ []) (sym (marks_so_far_same true t)) in
+    let more : marks u ≡ marks t ++ g.mark ∷ [] = cc (marks_so_far_same true u, g.more, marks_so_far_same true t) in
     record {
       grown = g;
       more = more;
@@ -88,8 +84,7 @@ module _ (o : Options) (m : Mode) (xs : List (Item Reading)) (t : Tree Reading) 
   now = piece_behind_all ys piece
 
   now_line : IsLeft k.grown.mark.verdict → LeftLine k.grown.mark.verdict (keyword_in (content_of (scan_after (map reading_of xs) m l))) l now
-  now_line h =
-      piece_line k.grown.mark.verdict (keyword_in (content_of (scan_after (map reading_of xs) m l))) i.0 (suc (length (map (λ (y : Item Reading). line_bytes (reading_of y)) ys))) i.1 l i.2 h i.3
+  now_line h = search (rules, piece_line)
 
   now_text : text_of now ≡ piece
   now_text = text_of-line_at (suc (length (map (λ (y : Item Reading). line_bytes (reading_of y)) ys))) piece
@@ -184,8 +179,7 @@ module _ (o : Options) (xs : List (Item Reading)) (t : Tree Reading) (ys : List 
   code_left w white on a c h =
       let n : Line = now o C xs t ys b l u i k in
       let line : LeftLine k.grown.mark.verdict (keyword_in (content_of (scan_after (map reading_of xs) C l))) l n = now_line o C xs t ys b l u i k h in
-      let f : LeftCode o xs ys w white on a c l n line.ending k.grown.mark.verdict =
-      left_code o xs ys w white on a c l n line.ending k.grown.mark.verdict h k.grown.suits k.uncut (is_alone h) line (now_text o C xs t ys b l u i k) in
+      let f : LeftCode o xs ys w white on a c l n line.ending k.grown.mark.verdict = search (rules, left_code, is_alone, now_text) in
       let again : Again o C (xs ++ line_new ∷ []) u (ys ++ item_of o (read_after ys C n) ∷ []) = is_left o C xs t ys b l u i k f.left in (
         ys ++ item_of o (read_after ys C n) ∷ [],
         (

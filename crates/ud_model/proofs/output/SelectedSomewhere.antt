@@ -13,8 +13,7 @@ use Rattle.ud_model.proofs.output.SameShape.{parts}
 module _ {L : Type 0} where
   pub text_lines_append : (xs ys : List (Item L)) → text_lines_in (xs ++ ys) ≡ text_lines_in xs ++ text_lines_in ys
   text_lines_append [] ys = refl
-  text_lines_append (x ∷ xs) ys =
-      ap (λ (ls : List L). text_line_of x ++ ls) (text_lines_append xs ys) ∙ sym (append_assoc (text_line_of x) (text_lines_in xs) (text_lines_in ys))
+  text_lines_append (x ∷ xs) ys = cc (text_lines_append xs ys, append_assoc (text_line_of x) (text_lines_in xs) (text_lines_in ys))
 
   -- A text line is among the lines of one of two parts.
   apart : (xs ys : List (Item L)) (l : L) → Contains (text_lines_in (xs ++ ys)) l → Contains (text_lines_in xs) l ⊎ Contains (text_lines_in ys) l

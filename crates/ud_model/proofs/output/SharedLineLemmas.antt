@@ -1,5 +1,5 @@
 -- A run and the run with `-c` read a text alike, and share its lines.
-use Rattle.std.proofs.Common.{◌≡◌, ℕ, List, [], ◌∷◌, ◌++◌, map, Bool, true, false, Option, refl, sym, ◌∙◌, ap, ap₂, subst}
+use Rattle.std.proofs.Common.{◌≡◌, ℕ, List, [], ◌∷◌, ◌++◌, map, Bool, true, false, Option, refl, sym, ◌∙◌, ap, subst, rules}
 use Rattle.std.specs.List.{concat}
 use Rattle.ud_model.specs.text.Lines.{lines_of}
 use Rattle.ud_model.specs.text.Scans.{Reading}
@@ -11,11 +11,10 @@ use Rattle.ud_model.specs.sections.Items.{Options, mode_after, read_after, rules
 use Rattle.ud_model.specs.sections.Faults.{Fault}
 use Rattle.ud_model.specs.answer.Listing.{names_in_content, names_at}
 use Rattle.ud_model.specs.answer.Printing.{Judged, piece_alone, complemented, judged_lines}
-use Rattle.ud_model.specs.answer.Outcomes.{Outcome, outcome_of, output_by, ReadsAs, JudgedAs, judged_as, HasOutcome, ran_as}
+use Rattle.ud_model.specs.answer.Outcomes.{Outcome, outcome_of, ReadsAs, JudgedAs, judged_as, HasOutcome, ran_as}
 use Rattle.ud_model.specs.answer.Outcomes.ReadsAs.{stops, ends}
 use Rattle.ud_model.specs.output.SharedLines.{OnlyDecides, with_complement, RunsWithComplement, ShareLines, no_line, stays, goes}
 use Rattle.ud_model.specs.declared.settings.Settings.{Settings}
-use Rattle.ud_model.specs.declared.settings.Listing.{Listing}
 use Rattle.ud_model.specs.declared.settings.Listing.TheVariants.{Off}
 use Rattle.ud_model.specs.declared.verdict.Verdict.{Verdict}
 use Rattle.ud_model.specs.declared.verdict.Verdict.TheVariants.{Remove}
@@ -66,9 +65,7 @@ pub printed_lone : (o : Options) {input : List ℕ} {xs : List (Item Reading)} {
     r.output ≡ concat (map (lone false c) (judged_lines xs (marks t)))
 printed_lone o {xs = xs} {t = t} c off b n k a run =
     let js : List Judged = judged_lines xs (marks t) in
-    ap (λ (s : Outcome). s.output) (one_run run (ran_as a)) ∙ ap (λ (q : Listing). output_by q o.settings xs t) off
-    ∙ ap (λ (ps : List (List ℕ)). concat ps) (pieces_lone o.settings.blank o.settings.complement o.settings.renumber [] js n)
-    ∙ ap₂ (λ (d e : Bool). concat (map (lone d e) js)) b k
+    cc (one_run run (ran_as a), off, pieces_lone o.settings.blank o.settings.complement o.settings.renumber [] js n, b, k)
 
 pub shared : (o : Options) (input : List ℕ) {xs : List (Item Reading)} {t : Tree Reading} {f : Option Fault} {r s : Outcome} → OnlyDecides o →
     ReadsAs o input xs t f → HasOutcome o input r → HasOutcome (with_complement o) input s →

@@ -1,29 +1,35 @@
--- Simplified again: a simplified text stays as it is.
-use Rattle.std.proofs.Common.{◌≡◌, ℕ, ◌-◌, List, [], ◌∷◌, ◌++◌, length, map, take, drop, Bool, false, Some, None, if◌then◌else◌, refl, sym, ◌∙◌, ap, ap₂, subst, ◌⊎◌, inl, inr, arith}
-use Rattle.std.proofs.lemmas.List.{drop-map, take-append-drop}
-use Rattle.std.proofs.lemmas.Bool.{or_parts}
+-- Simplified again: a simplified text stays as it is, and each of its conditions is reduced, or may
+-- stay.
+use Rattle.std.proofs.Common.{◌≡◌, ℕ, ◌-◌, List, [], ◌∷◌, ◌++◌, length, map, take, drop, Bool, false, Some, None, if◌then◌else◌, refl, sym, ◌∙◌, ap, ap₂, subst, ◌⊎◌, inl, inr, arith, ◌+◌, ◌≤◌, true, not, Option, length-append}
+use Rattle.std.proofs.lemmas.List.{drop-map, take-append-drop, length-map}
+use Rattle.std.proofs.lemmas.Bool.{or_parts, cases_Bool, and_from, not_from_false, and_parts, not-true}
 use Rattle.ud_model.specs.text.Lines.{Line, text_of}
-use Rattle.ud_model.specs.text.Scans.{Scan, Reading}
-use Rattle.ud_model.specs.text.Splicing.{is_spliced, content, spliced_text, spliced_part}
+use Rattle.ud_model.specs.text.Scans.{Scan, Reading, is_spanning}
+use Rattle.ud_model.specs.text.Splicing.{is_spliced, content, spliced_text, spliced_part, is_empty}
 use Rattle.ud_model.specs.text.Lexemes.{Cell, shown, kind_at_end}
-use Rattle.ud_model.specs.text.Scanning.{is_block, content_cells, scan_after_run}
+use Rattle.ud_model.specs.text.Scanning.{is_block, content_cells, scan_after_run, scan_after}
 use Rattle.ud_model.specs.sections.Directives.{Content, directive, Directive, content_of}
 use Rattle.ud_model.specs.conditions.Table.{Argument}
 use Rattle.ud_model.specs.conditions.Expressions.{Expression}
-use Rattle.ud_model.specs.conditions.Conditions.{Rules}
-use Rattle.ud_model.specs.conditions.Residuals.{residual}
-use Rattle.ud_model.specs.conditions.ResidualTexts.{simplified_cells}
+use Rattle.ud_model.specs.conditions.Conditions.{Rules, tree_cond}
+use Rattle.ud_model.specs.conditions.Residuals.{residual, is_unknown, is_undecided}
+use Rattle.ud_model.specs.conditions.ResidualTexts.{simplified_cells, left_cells, keeps, is_literal, may_go, is_read, simplified_by}
 use Rattle.ud_model.specs.aids.Parsing.{expression_of}
-use Rattle.ud_model.specs.output.SimplifiedTexts.{keyword_end, condition_cells, left_line, may_change, line_by, simplified_line, simplified_text}
+use Rattle.ud_model.specs.output.SimplifiedTexts.{keyword_end, condition_cells, left_line, may_change, line_by, simplified_line, simplified_text, is_lone, left_cells_of, is_read_alone}
 use Rattle.ud_model.proofs.text.ScanLaws.{joins_after-code}
 use Rattle.ud_model.proofs.text.ScanLemmas.{joins_last}
 use Rattle.ud_model.proofs.text.ScanBytes.{bytes-content_cells}
-use Rattle.ud_model.proofs.conditions.ResidualRead.{same_or_left, untouched}
-use Rattle.ud_model.proofs.conditions.ResidualAgain.{residual_stays}
+use Rattle.ud_model.proofs.conditions.ResidualRead.{same_or_left, untouched, cells_go, written_left, residual_stays}
 use Rattle.ud_model.proofs.output.Each.{Pairs, no_pair, pair}
 use Rattle.ud_model.proofs.output.SimplifiedLines.{byte_of, option_is, after_is}
 use Rattle.ud_model.proofs.output.SimplifiedLineTexts.{lines_left}
 use Rattle.ud_model.proofs.output.SimplifiedReadings.{IsLeft, ReadingSimplified, reading_stays, reading_edited, readings_simplified}
+use Rattle.std.specs.List.{list_any}
+use Rattle.ud_model.specs.conditions.Sublists.{IsSublist, nothing, without, with_same}
+use Rattle.ud_model.specs.output.InsertedLines.{read_in, read_as}
+use Rattle.ud_model.specs.output.LeftOperands.{IsReduced, MayStay, joins_line, not_understood, has_quote, decided, rest_decided, rest_misread}
+use Rattle.ud_model.specs.declared.kind.Mode.TheVariants.{C}
+use Rattle.ud_model.proofs.conditions.ReducedTrees.{fixed_reduced}
 
 -- A line that doesn't join the next one has no splice.
 pub unspliced : (l : Line) → (scan_after_run [] l).joins_after ≡ false → is_spliced l ≡ false
@@ -99,3 +105,130 @@ module _ (table : List Argument) (rules : Rules) where
   -- A simplified text stays.
   pub text_again : (bytes : List ℕ) → simplified_text table rules (simplified_text table rules bytes) ≡ simplified_text table rules bytes
   text_again bytes = grind (arith, lines_left, texts_again, readings_simplified)
+
+-- Operands left: each condition is reduced, or may stay.
+
+-- 1. Sublists of the same length.
+
+pub sub_fewer : {A : Type 0} {xs ys : List A} → IsSublist xs ys → length xs ≤ length ys
+sub_fewer nothing = omega arith
+sub_fewer (without p) = let h = sub_fewer p in omega (arith, h)
+sub_fewer (with_same p) = let h = sub_fewer p in omega (arith, h)
+
+sub_same : {A : Type 0} {xs ys : List A} → IsSublist xs ys → length xs ≡ length ys → xs ≡ ys
+sub_same nothing e = refl
+sub_same (without p) e = let h = sub_fewer p in absurd (omega (arith, h, e))
+sub_same (with_same {y = y} p) e = ap (λ zs. y ∷ zs) (sub_same p (omega (arith, e)))
+
+is_some : {A : Type 0} {x y : A} → ◌≡◌ {A = Option A} (Some x) (Some y) → x ≡ y
+is_some e = cc
+
+module _ (table : List Argument) (rules : Rules) where
+  -- 2. If a line is edited to itself, all cells of its condition are left.
+  all_left : (l : Line) (d : Directive) → is_spliced l ≡ false → left_line table rules l d ≡ l → left_cells_of table rules l d ≡ condition_cells l d
+  all_left l d s e =
+      let n : ℕ = keyword_end d in
+      let left : List Cell = left_cells_of table rules l d in
+      let cells : List Cell = condition_cells l d in
+      let c : content l ≡ l.body = ap (λ (b : Bool). if b then take (length l.body - 1) l.body else l.body) s in
+      let k : drop n l.body ≡ map byte_of cells = ap (λ (x : List ℕ). drop n x) (sym (bytes-content_cells [] l ∙ c)) ∙ drop-map byte_of n (content_cells [] l) in
+      let a : length (take n l.body ++ map byte_of left) ≡ length l.body = ap (λ (x : Line). length x.body) e in
+      let b : length (take n l.body ++ map byte_of left) ≡ length (take n l.body) + length (map byte_of left) = length-append (take n l.body) (map byte_of left) in
+      let f : length (take n l.body ++ drop n l.body) ≡ length (take n l.body) + length (drop n l.body) = length-append (take n l.body) (drop n l.body) in
+      let g : length (take n l.body ++ drop n l.body) ≡ length l.body = ap (λ (x : List ℕ). length x) (take-append-drop n l.body) in
+      let i : length (map byte_of left) ≡ length left = length-map left byte_of in
+      let j : length (drop n l.body) ≡ length cells = ap (λ (x : List ℕ). length x) k ∙ length-map cells byte_of in
+      sub_same (cells_go table rules cells) (omega (arith, a, b, f, g, i, j))
+
+  -- 3. A line that stays, whose condition may change.
+  module _ (r : Reading) (d : Directive) (has : content_of r.scan ≡ directive d) (same : simplified_line table rules r ≡ r.line)
+      (alone : r.scan.joins_before ≡ false → r.scan ≡ scan_after [] C r.line) where
+    abbrev cells : List Cell
+    cells = condition_cells r.line d
+
+    abbrev Reason : Type 0
+    Reason = MayStay table rules r d ⊎ ((e : Expression) × (expression_of d.after ≡ Some e) × IsReduced table rules e)
+
+    -- The line is edited to itself.
+    same_now : may_change table rules r.scan r.line d ≡ true → left_line table rules r.line d ≡ r.line
+    same_now m = grind arith
+
+    module _ (lone : is_lone r.scan r.line ≡ true) where
+      joins_none : is_spanning r.scan ≡ false
+      joins_none = not-true (is_spanning r.scan) (and_parts (not (is_spanning r.scan)) (not (is_empty r.line.ending)) lone).0
+
+      scan_is : r.scan ≡ scan_after [] C r.line
+      scan_is = alone (or_parts r.scan.joins_before r.scan.joins_after joins_none).0
+
+      unspliced_line : is_spliced r.line ≡ false
+      unspliced_line = unspliced r.line (ap (λ (s : Scan). s.joins_after) (sym scan_is) ∙ (or_parts r.scan.joins_before r.scan.joins_after joins_none).1)
+
+      text_is : map shown cells ≡ d.after
+      text_is = after_is table rules r.line r.scan d scan_is has
+
+      module _ (e : Expression) (p : expression_of d.after ≡ Some e) where
+        tree_is : expression_of (map shown cells) ≡ Some e
+        tree_is = ap expression_of text_is ∙ p
+
+        -- All cells are left, so the tree is its own residual.
+        reduced : may_go table rules e cells ≡ true → is_read table rules e (left_cells (keeps table rules e) cells) ≡ true → is_undecided table rules (residual table rules e) ≡ true →
+            is_read_alone table rules r.line d ≡ true → IsReduced table rules e
+        unfolding simplified_cells
+        reduced g q u z =
+            let a : left_cells_of table rules r.line d ≡ cells = all_left r.line d unspliced_line (same_now (and_from (is_lone r.scan r.line) (is_read_alone table rules r.line d) lone z)) in
+            let b : left_cells_of table rules r.line d ≡ left_cells (keeps table rules e) cells =
+            ap (λ o. simplified_by table rules o cells) tree_is
+            ∙ ap (λ (t : Bool). if t then left_cells (keeps table rules e) cells else cells) (and_from (may_go table rules e cells) (is_read table rules e (left_cells (keeps table rules e) cells)) g q) in
+            let w : expression_of (map shown (left_cells (keeps table rules e) cells)) ≡ Some (residual table rules e).tree = written_left table rules e cells tree_is (left_cells (keeps table rules e) cells) q in
+            let f : (residual table rules e).tree ≡ e = is_some (sym w ∙ ap (λ (cs : List Cell). expression_of (map shown cs)) (sym b ∙ a) ∙ tree_is) in
+            fixed_reduced table rules e f (and_parts (is_unknown (residual table rules e).cond) (is_unknown (tree_cond (residual table rules e).tree table rules)) u).0
+
+        by_line : may_go table rules e cells ≡ true → is_read table rules e (left_cells (keeps table rules e) cells) ≡ true → is_undecided table rules (residual table rules e) ≡ true →
+            (is_read_alone table rules r.line d ≡ true) ⊎ (is_read_alone table rules r.line d ≡ false) → Reason
+        by_line g q u h = grind (arith, reduced)
+
+        by_rest : may_go table rules e cells ≡ true → is_undecided table rules (residual table rules e) ≡ true →
+            (is_read table rules e (left_cells (keeps table rules e) cells) ≡ true) ⊎ (is_read table rules e (left_cells (keeps table rules e) cells) ≡ false) → Reason
+        by_rest g u (inl q) = by_line g q u (cases_Bool (is_read_alone table rules r.line d))
+        by_rest g u (inr q) = inl (rest_misread e p q)
+
+        by_quote : is_unknown (tree_cond e table rules) ≡ true → is_undecided table rules (residual table rules e) ≡ true → (list_any is_literal cells ≡ true) ⊎ (list_any is_literal cells ≡ false) → Reason
+        by_quote k u (inl q) = inl (has_quote q)
+        by_quote k u (inr q) = search (rules, by_rest, and_from, not_from_false, cases_Bool)
+
+        by_residual : is_unknown (tree_cond e table rules) ≡ true → (is_undecided table rules (residual table rules e) ≡ true) ⊎ (is_undecided table rules (residual table rules e) ≡ false) → Reason
+        by_residual k (inl u) = by_quote k u (cases_Bool (list_any is_literal cells))
+        by_residual k (inr u) = inl (rest_decided e p u)
+
+        by_cond : (is_unknown (tree_cond e table rules) ≡ true) ⊎ (is_unknown (tree_cond e table rules) ≡ false) → Reason
+        by_cond (inl k) = by_residual k (cases_Bool (is_undecided table rules (residual table rules e)))
+        by_cond (inr k) = inl (decided e p k)
+
+      by_tree : (expression_of d.after ≡ None) ⊎ ((e : Expression) × (expression_of d.after ≡ Some e)) → Reason
+      by_tree (inl n) = inl (not_understood n)
+      by_tree (inr (e, p)) = by_cond e p (cases_Bool (is_unknown (tree_cond e table rules)))
+
+    reason : Reason
+    reason = by (cases_Bool (is_lone r.scan r.line))
+      where
+        by : (is_lone r.scan r.line ≡ true) ⊎ (is_lone r.scan r.line ≡ false) → Reason
+        by (inl l) = by_tree l (option_is (expression_of d.after))
+        by (inr l) = inl (joins_line l)
+
+  -- 4. The lines of a simplified text.
+
+  lone_scan : (r s : Reading) → ReadingSimplified table rules r s → s.scan.joins_before ≡ false → s.scan ≡ scan_after [] C s.line
+  lone_scan r s h = grind arith
+
+  from : {rs ss : List Reading} → Pairs (ReadingSimplified table rules) rs ss → (before after : List Reading) (s : Reading) → ss ≡ before ++ s ∷ after → (r : Reading) × ReadingSimplified table rules r s
+  from no_pair [] after s e = cc
+  from no_pair (b ∷ before) after s e = cc
+  from (pair {x = r} {y = t} i p) [] after s e = let q : t ≡ s = cc in (r, subst (λ (x : Reading). ReadingSimplified table rules r x) q i)
+  from (pair {ys = ss} i p) (b ∷ before) after s e = let q : ss ≡ before ++ s ∷ after = cc in from p before after s q
+
+  -- Each condition is reduced, or may stay.
+  pub operands_left : (bytes : List ℕ) (before after : List Reading) (s : Reading) (d : Directive) → read_as C (simplified_text table rules bytes) ≡ before ++ s ∷ after → content_of s.scan ≡ directive d →
+      MayStay table rules s d ⊎ ((e : Expression) × (expression_of d.after ≡ Some e) × IsReduced table rules e)
+  operands_left bytes before after s d e h =
+      let f = from (readings_simplified table rules bytes) before after s (ap (λ (ls : List Line). read_in C ls) (sym (lines_left table rules bytes)) ∙ e) in
+      reason s d h (line_stays table rules f.0 s f.1) (lone_scan f.0 s f.1)

@@ -10,7 +10,7 @@ use Rattle.ud_model.specs.output.SimplifiedTrees.{LineSimplified, condition_stay
 use Rattle.ud_model.specs.declared.kind.Kind.{Kind}
 use Rattle.ud_model.proofs.output.Each.{Pairs, no_pair, pair}
 use Rattle.ud_model.proofs.output.InsertedTree.{items}
-use Rattle.ud_model.proofs.output.SimplifiedLines.{SameIf, both_if, both_elif, line_simplified}
+use Rattle.ud_model.proofs.output.SimplifiedLines.{SameIf, line_simplified}
 use Rattle.ud_model.proofs.output.SimplifiedReadings.{ReadingSimplified, reading_stays, reading_edited}
 
 module _ (o : Options) where
@@ -33,8 +33,7 @@ module _ (o : Options) where
   same_item (endif_line r) = an_endif
 
   by_kind : (r s : Reading) (j k : Kind) (d e : Decision) → SameIf j k → Simplified r s → ItemSimplified (directive_item r (role_of j) d) (directive_item s (role_of k) e)
-  by_kind r s _ _ d e both_if i = an_if i
-  by_kind r s _ _ d e both_elif i = an_elif i
+  by_kind r s j k d e h g = grind (arith, an_if, an_elif)
 
   edited_item : (r s : Reading) (d e : Directive) → content_of r.scan ≡ directive d → content_of s.scan ≡ directive e → SameIf d.kind e.kind → Simplified r s → ItemSimplified (item_of o r) (item_of o s)
   edited_item r s d e p q i j = grind (arith, by_kind)

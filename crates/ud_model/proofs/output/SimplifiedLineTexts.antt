@@ -1,6 +1,5 @@
--- The lines of a simplified text are the simplified lines.
-use Rattle.std.proofs.Common.{◌≡◌, ℕ, suc, ◌-◌, List, [], ◌∷◌, ◌++◌, length, map, take, Bool, refl, sym, ◌∙◌, ap, ap₂, subst, ◌⊎◌, inl, inr, if◌then◌else◌, nat_eq, length-append, arith}
-use Rattle.std.specs.List.{ends_with}
+-- The lines of a simplified text are the simplified lines, and bytes are only removed.
+use Rattle.std.proofs.Common.{◌≡◌, ℕ, suc, ◌-◌, List, [], ◌∷◌, ◌++◌, length, map, take, refl, sym, ◌∙◌, ap, ap₂, subst, ◌⊎◌, inl, inr, length-append, arith, Bool, if◌then◌else◌, nat_eq, zero, drop}
 use Rattle.std.proofs.lemmas.List.{map-append, drop-map, take_at}
 use Rattle.ud_model.specs.text.Lines.{Line, NoNewline, IsWhole, IsUnterminated, AreFormed, text_of, ending_of, line_at, numbered_from, lines_of, texts_of}
 use Rattle.ud_model.specs.text.Scans.{Scan, Reading}
@@ -15,13 +14,15 @@ use Rattle.ud_model.specs.output.InsertedLines.{read_as, read_in}
 use Rattle.ud_model.specs.output.SimplifiedTexts.{keyword_end, condition_cells, left_cells_of, left_line, simplified_line, simplified_text}
 use Rattle.ud_model.specs.declared.kind.Mode.TheVariants.{C}
 use Rattle.ud_model.proofs.text.ScanBytes.{bytes-content_cells, content-prefix}
-use Rattle.ud_model.proofs.text.LinesLemmas.{no_newline-append, text_of-line_at, lines_exist, body-ending}
+use Rattle.ud_model.proofs.text.LinesLemmas.{no_newline-append, text_of-line_at, lines_exist, body-ending, map-lines_of}
 use Rattle.ud_model.proofs.text.Pushes.{ByPush, none as nothing_pushed, push, by_push}
 use Rattle.ud_model.proofs.output.ListComplete.{read_more}
-use Rattle.ud_model.proofs.output.Formed.{IsEnd, whole_ending, ended, whole_body, no_feed_parts, no_feed_cut}
+use Rattle.ud_model.proofs.output.Formed.{whole_ending, end_is_some, ending_none, ended, whole_body, no_feed_parts, no_feed_cut}
 use Rattle.ud_model.proofs.output.OutputPieces.{output_lines}
 use Rattle.ud_model.proofs.output.SimplifiedLines.{byte_of, Becomes, it_stays, it_changes, becomes}
-use Rattle.ud_model.proofs.conditions.ResidualRead.{cells_go}
+use Rattle.ud_model.proofs.conditions.ResidualRead.{cells_go, of_parts}
+use Rattle.std.specs.List.{concat}
+use Rattle.ud_model.proofs.conditions.ResidualShape.{all_of_it, none_of_it, of_both, of_left}
 
 cut_there : (b e : List ℕ) → take (length (b ++ e) - length e) (b ++ e) ≡ b
 cut_there b e = take_at b e (length (b ++ e) - length e) (omega (arith, length-append b e))
@@ -31,6 +32,10 @@ fewer : {xs ys : List Cell} → IsSublist xs ys → NoNewline (map byte_of ys) �
 fewer nothing h = tt
 fewer (without p) h = fewer p h.1
 fewer (with_same p) h = (h.0, fewer p h.1)
+
+-- A line with its own ending is the line of its bytes.
+pub own_line : (k : Line) → ending_of (text_of k) ≡ k.ending → k ≡ line_at k.number (text_of k)
+own_line k e = grind (arith, cut_there)
 
 module _ (table : List Argument) (rules : Rules) where
   -- An edited line has no newline in its body.
@@ -43,47 +48,20 @@ module _ (table : List Argument) (rules : Rules) where
       no_newline-append (take (keyword_end d) l.body) (map byte_of (left_cells_of table rules l d)) (no_feed_cut (keyword_end d) l.body h).0
       (fewer (cells_go table rules (condition_cells l d)) f)
 
-  -- A line with its own ending is the line of its bytes.
-  own_line : (k : Line) → ending_of (text_of k) ≡ k.ending → k ≡ line_at k.number (text_of k)
-  own_line k e = grind (arith, cut_there)
-
   -- A line of a text, and the line that it becomes.
   record Left (n : ℕ) (t : List ℕ) (k : Line) : Type 0 where
     pub is : k ≡ line_at n (text_of k)
     pub whole : IsWhole t → IsWhole (text_of k)
     pub open_line : IsUnterminated t → IsUnterminated (text_of k)
 
-  end_there : (b e t : List ℕ) → b ++ e ≡ t → NoNewline t → IsEnd e → ⊥
-  end_there b e t q n h = grind (arith, no_feed_parts)
-
-  unended : (t : List ℕ) → NoNewline t → IsEnd (ending_of t) → ⊥
-  unended t n h = end_there (take (length t - length (ending_of t)) t) (ending_of t) t (body-ending t) n h
-
-  abbrev end_by : Bool → Bool → List ℕ
-  end_by a b = if a then 13 ∷ 10 ∷ [] else if b then 10 ∷ [] else []
-
-  two_ends : (a b : Bool) → IsEnd (end_by a b) ⊎ (end_by a b ≡ [])
-  two_ends a b = grind arith
-
-  -- The ending of a line is one of two, or nothing.
-  pub an_end : (t : List ℕ) → IsEnd (ending_of t) ⊎ (ending_of t ≡ [])
-  an_end t = two_ends (ends_with nat_eq t (13 ∷ 10 ∷ [])) (ends_with nat_eq t (10 ∷ []))
-
-  pub no_end : (t : List ℕ) → NoNewline t → IsEnd (ending_of t) ⊎ (ending_of t ≡ []) → ending_of t ≡ []
-  no_end t n h = grind (arith, unended)
-
   left_by : (n : ℕ) (t : List ℕ) (scan : Scan) (k : Line) → Becomes table rules (line_at n t) scan k → IsWhole t ⊎ IsUnterminated t → Left n t k
-  left_by n t scan _ it_stays f = record {
-    is = ap (λ (x : List ℕ). line_at n x) (sym (text_of-line_at n t));
-    whole = subst IsWhole (sym (text_of-line_at n t));
-    open_line = subst IsUnterminated (sym (text_of-line_at n t));
-  }
+  left_by n t scan _ it_stays f = search (rules, text_of-line_at)
   left_by n t scan _ (it_changes d i) (inl f) = record {
     is = own_line (left_line table rules (line_at n t) d) i.ends;
     whole = λ g. ended (left_line table rules (line_at n t) d).body (ending_of t) (edited_body (line_at n t) d (whole_body t f)) (whole_ending t f);
-    open_line = λ g. absurd (unended t g.1 (whole_ending t f));
+    open_line = λ g. absurd (end_is_some (ending_of t) (whole_ending t f) (ending_none t g.1));
   }
-  left_by n t scan _ (it_changes d i) (inr f) = absurd (i.some (no_end t f.1 (an_end t)))
+  left_by n t scan _ (it_changes d i) (inr f) = absurd (i.some (ending_none t f.1))
 
   -- The lines that are read, with their numbers and texts.
   data Numbered : ℕ → List (List ℕ) → List Reading → Type 0 where
@@ -131,3 +109,47 @@ module _ (table : List Argument) (rules : Rules) where
   lines_left bytes =
       let a = all_left (numbered 1 (texts_of bytes) (read_as C bytes) (read_back_by (by_push (lines_of bytes)))) (lines_exist bytes).formed in
       output_lines (map text_left (read_as C bytes)) a.0 ∙ sym a.1
+
+-- Bytes are only removed.
+
+mapped : {xs ys : List Cell} → IsSublist xs ys → IsSublist (map byte_of xs) (map byte_of ys)
+mapped nothing = nothing
+mapped (without p) = without (mapped p)
+mapped (with_same p) = with_same (mapped p)
+
+-- Members after a position of a prefix come after it in the list.
+in_longer : {xs : List ℕ} (n : ℕ) (prefix rest : List ℕ) → IsSublist xs (drop n prefix) → IsSublist xs (drop n (prefix ++ rest))
+in_longer zero prefix rest p = of_left rest p
+in_longer (suc n) [] rest nothing = none_of_it (drop (suc n) rest)
+in_longer (suc n) (b ∷ prefix) rest p = in_longer n prefix rest p
+
+module _ (table : List Argument) (rules : Rules) where
+  left_body : (l : Line) (d : Directive) → IsSublist (left_line table rules l d).body l.body
+  left_body l d =
+      let n : ℕ = keyword_end d in
+      let p = content-prefix l in
+      let q : IsSublist (map byte_of (left_cells_of table rules l d)) (drop n (content l)) =
+      subst (λ (xs : List ℕ). IsSublist (map byte_of (left_cells_of table rules l d)) xs)
+      (sym (drop-map byte_of n (content_cells [] l)) ∙ ap (λ (xs : List ℕ). drop n xs) (bytes-content_cells [] l)) (mapped (cells_go table rules (condition_cells l d))) in
+      of_parts n l.body (all_of_it (take n l.body))
+      (subst (λ (xs : List ℕ). IsSublist (map byte_of (left_cells_of table rules l d)) (drop n xs)) (sym p.1) (in_longer n (content l) p.0 q))
+
+  -- Of a line bytes are only removed.
+  pub line_bytes : (l : Line) (scan : Scan) (k : Line) → Becomes table rules l scan k → IsSublist (text_of k) (text_of l)
+  line_bytes l scan _ it_stays = all_of_it (text_of l)
+  line_bytes l scan _ (it_changes d i) = of_both (left_body l d) (all_of_it l.ending)
+
+  left_bytes : (rs : List Reading) → IsSublist (concat (map (λ (r : Reading). text_of (simplified_line table rules r)) rs)) (concat (map (λ (r : Reading). text_of r.line) rs))
+  left_bytes [] = nothing
+  left_bytes (r ∷ rs) = of_both (line_bytes r.line r.scan (simplified_line table rules r) (becomes table rules r)) (left_bytes rs)
+
+  texts_back : (rs : List Reading) → map (λ (r : Reading). text_of r.line) rs ≡ map text_of (map (λ (r : Reading). r.line) rs)
+  texts_back [] = refl
+  texts_back (r ∷ rs) = ap (λ (ts : List (List ℕ)). text_of r.line ∷ ts) (texts_back rs)
+
+  -- Of a text bytes are only removed.
+  pub bytes_left : (bytes : List ℕ) → IsSublist (simplified_text table rules bytes) bytes
+  bytes_left bytes =
+      subst (λ (xs : List ℕ). IsSublist (simplified_text table rules bytes) xs)
+      (ap concat (texts_back (read_as C bytes) ∙ ap (λ (ls : List Line). map text_of ls) (read_back_by table rules (by_push (lines_of bytes))) ∙ map-lines_of bytes) ∙ sym (lines_exist bytes).joined)
+      (left_bytes (read_as C bytes))

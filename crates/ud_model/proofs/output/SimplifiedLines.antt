@@ -36,9 +36,7 @@ pub data SameIf : Kind → Kind → Type 0 where
   both_elif : SameIf Elif Elif
 
 same_kind : (k j : Kind) → same_if k j ≡ true → SameIf k j
-same_kind If If e = both_if
-same_kind Elif Elif e = both_elif
-same_kind _ _ e = cc
+same_kind k j h = grind (arith, both_if, both_elif)
 
 pub option_is : {A : Type 0} (o : Option A) → (o ≡ None) ⊎ ((x : A) × (o ≡ Some x))
 option_is None = inl refl
@@ -66,8 +64,7 @@ module _ (table : List Argument) (rules : Rules) where
   the_condition kind after c e = grind (arith, same_kind, bytes_eq-Decides)
 
   edited : (l : Line) (scan : Scan) (d : Directive) → content_of scan ≡ directive d → may_change table rules scan l d ≡ true → IsEdited l scan d
-  edited l scan d h e =
-      grind (arith, and_parts, the_condition, bytes_eq-Decides)
+  edited l scan d h e = grind (arith, and_parts, the_condition, bytes_eq-Decides)
 
   becomes_by : (l : Line) (scan : Scan) (c : Content) → content_of scan ≡ c → Becomes l scan (line_by table rules scan l c)
   becomes_by l scan cut_keyword e = it_stays
@@ -86,9 +83,7 @@ module _ (table : List Argument) (rules : Rules) where
   after_is l scan d e h =
       let i : HasDirective scan d = (directive_is scan d).0 h in
       let front : List ℕ = i.parts.white ++ number_sign ∷ (i.parts.gap ++ i.parts.word) in
-      let split : scan.masked ≡ front ++ i.parts.rest =
-      i.are.joined ∙ sym (append_assoc i.parts.white (number_sign ∷ (i.parts.gap ++ i.parts.word)) i.parts.rest
-      ∙ ap (λ (x : List ℕ). i.parts.white ++ number_sign ∷ x) (append_assoc i.parts.gap i.parts.word i.parts.rest)) in
+      let split : scan.masked ≡ front ++ i.parts.rest = simp (append_assoc, i.are.joined) in
       let a : length front ≡ length i.parts.white + length (number_sign ∷ (i.parts.gap ++ i.parts.word)) = length-append i.parts.white (number_sign ∷ (i.parts.gap ++ i.parts.word)) in
       let b : length (i.parts.gap ++ i.parts.word) ≡ length i.parts.gap + length i.parts.word = length-append i.parts.gap i.parts.word in
       let n : keyword_end d ≡ length front = ap₂ (λ (x y : ℕ). x + y) i.at i.len ∙ omega (arith, a, b) in
@@ -114,8 +109,7 @@ module _ (table : List Argument) (rules : Rules) where
   shown_by scan d c e h = ap (λ (x : Content). condition_by scan x) e ∙ ap (λ (b : Bool). if b then None else condition_after d.kind d.after) h
 
   first_of : (j : Kind) (k : Kind) (after : List ℕ) → SameIf j k → (condition_after j after ≡ expression_of after) × (condition_after k after ≡ expression_of after)
-  first_of _ _ after both_if = (refl, refl)
-  first_of _ _ after both_elif = (refl, refl)
+  first_of j k after h = grind arith
 
   -- The edited line has the residual of the condition.
   pub line_simplified : (l k : Reading) (d : Directive) → IsEdited l.line l.scan d → l.scan ≡ scan_after [] C l.line →

@@ -43,8 +43,7 @@ begins (push {xs = ls} l p) h j =
     (inner_end ls l (ap (λ (rs : List Reading). joins (c_run_of rs)) (sym (read_more C ls l)) ∙ j) (each_parts HasEnd ls (l ∷ []) h).1.0))
 
 alike_after : {before after : List Reading} → AreReadAlike before after → (l : Line) → scan_after before C l ≡ scan_after after C l
-alike_after {before = before} {after = after} p l =
-    ap (λ rs. scan_after rs C l) (sym (append-nil before)) ∙ scanned_alike p [] C l ∙ ap (λ rs. scan_after rs C l) (append-nil after)
+alike_after {before = before} {after = after} p l = cc (append-nil before, scanned_alike p [] C l, append-nil after)
 
 not_pushed : (rs : List Reading) (r : Reading) → rs ++ r ∷ [] ≡ [] → ⊥
 not_pushed [] r e = cc
@@ -84,9 +83,6 @@ module _ (table : List Argument) (rules : Rules) where
   abbrev left_one : List Line → Line → Line
   left_one ls l = simplified_line table rules (next_reading (read_in C ls) C l)
 
-  left_more : (ls : List Line) (l : Line) → left_lines (ls ++ l ∷ []) ≡ left_lines ls ++ left_one ls l ∷ []
-  left_more ls l = grind (arith, read_more, map-append)
-
   abbrev Alike : List Line → Type 0
   Alike ls = AreReadAlike (read_in C ls) (read_in C (left_lines ls))
 
@@ -123,12 +119,10 @@ module _ (table : List Argument) (rules : Rules) where
   Paired ls = Pairs ReadingSimplified (read_in C ls) (read_in C (left_lines ls))
 
   read_left : (ls : List Line) (l : Line) → read_in C (left_lines (ls ++ l ∷ [])) ≡ with_next (read_in C (left_lines ls)) C (left_one ls l)
-  read_left ls l = ap (λ (ks : List Line). read_in C ks) (left_more ls l) ∙ read_more C (left_lines ls) (left_one ls l)
+  read_left ls l = grind (arith, read_more, map-append)
 
   one_more_pair : (ls : List Line) (l : Line) → Next (read_in C ls) (read_in C (left_lines ls)) l (left_one ls l) → Paired ls → Paired (ls ++ l ∷ [])
-  one_more_pair ls l n a =
-      subst (λ (rs : List Reading). Pairs ReadingSimplified rs (read_in C (left_lines (ls ++ l ∷ [])))) (sym (read_more C ls l))
-      (subst (λ (ss : List Reading). Pairs ReadingSimplified (with_next (read_in C ls) C l) ss) (sym (read_left ls l)) (pairs_both ReadingSimplified a (pair n.reading no_pair)))
+  one_more_pair ls l n a = grind (arith, read_more C ls l, read_left ls l, pairs_both ReadingSimplified a (pair n.reading no_pair))
 
   inner_pairs : {ls : List Line} → ByPush ls → Each HasEnd ls → Alike ls × Paired ls
   inner_pairs none h = (no_lines, no_pair)

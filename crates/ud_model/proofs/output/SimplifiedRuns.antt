@@ -33,21 +33,18 @@ use Rattle.ud_model.proofs.sections.Soundness.{reading_of-item_of, read_lines}
 use Rattle.ud_model.proofs.sections.SplitLines.{directive_is}
 use Rattle.ud_model.proofs.conditions.ResidualUnknown.{left_unknown}
 use Rattle.ud_model.proofs.output.Each.{Each, Pairs, no_pair, pair}
-use Rattle.ud_model.proofs.output.Rereads.{IsUncut}
-use Rattle.ud_model.proofs.output.SoundBounds.{IsFew, IsShort, fit_short}
-use Rattle.ud_model.proofs.output.SoundAgain.{sound_again}
+use Rattle.ud_model.proofs.output.RereadMore.{IsUncut}
+use Rattle.ud_model.proofs.output.SoundAgain.{IsFew, IsShort, fit_short, sound_again}
 use Rattle.ud_model.proofs.output.Undecided.{undecided_stay}
 use Rattle.ud_model.proofs.output.RereadLaws.{Result, reread, input_tree, output_undecided, runs_again}
 use Rattle.ud_model.proofs.output.AnswerLaws.{faultless}
 use Rattle.ud_model.proofs.output.InsertedText.{items_are}
-use Rattle.ud_model.proofs.output.SimplifiedLineTexts.{lines_left}
+use Rattle.ud_model.proofs.output.SimplifiedLineTexts.{lines_left, line_bytes}
 use Rattle.ud_model.proofs.output.SimplifiedTree.{Like, GroupsLike, ElifsLike, simplified_tree}
 use Rattle.ud_model.proofs.output.InsertedTree.{items}
-use Rattle.ud_model.proofs.output.SimplifiedLines.{SameIf, both_if, both_elif, becomes, after_is}
+use Rattle.ud_model.proofs.output.SimplifiedLines.{SameIf, becomes, after_is}
 use Rattle.ud_model.proofs.output.SimplifiedReadings.{IsLeft, ReadingSimplified, readings_simplified}
-use Rattle.ud_model.proofs.output.SimplifiedAgain.{lone}
-use Rattle.ud_model.proofs.output.SimplifiedBytes.{line_bytes}
-use Rattle.ud_model.proofs.output.OperandsLeft.{sub_fewer}
+use Rattle.ud_model.proofs.output.SimplifiedAgain.{lone, sub_fewer}
 
 -- 1. Items with an unknown condition.
 
@@ -85,16 +82,13 @@ module _ (table : List Argument) (rules : Rules) where
   line_left r s h = grind arith
 
   short_left : (r s : Reading) → ReadingSimplified table rules r s → length (text_of s.line) ≤ length (text_of r.line)
-  short_left r s i =
-      subst (λ (l : Line). length (text_of l) ≤ length (text_of r.line)) (line_left r s i)
-      (sub_fewer (line_bytes table rules r.line r.scan (simplified_line table rules r) (becomes table rules r)))
+  short_left r s i = grind (arith, line_left r s i, sub_fewer (line_bytes table rules r.line r.scan (simplified_line table rules r) (becomes table rules r)))
 
   calm_left : (r s : Reading) → ReadingSimplified table rules r s → is_in_block r.scan.comment ≡ false → is_in_block s.scan.comment ≡ false
   calm_left r s h g = grind (arith, out_of_comment)
 
   cond_first : (j k : Kind) (after : List ℕ) → SameIf j k → ((condition_of j after table rules).cond ≡ expression_cond after table rules) × ((condition_of k after table rules).cond ≡ expression_cond after table rules)
-  cond_first _ _ after both_if = (refl, refl)
-  cond_first _ _ after both_elif = (refl, refl)
+  cond_first j k after h = grind arith
 
   -- The decision on a directive, by whether it is broken.
   abbrev decision_by : Scan → Directive → Bool → Decision

@@ -135,10 +135,8 @@ module _ (o : Options) where
       let ls : List Line = lines_of bytes in
       let ks : List Line = left_lines o.table (rules_of o.settings) ls in
       let zs : List (Item Reading) = items o (read_in C ks) in
-      let here : lines_of_nodes ns ≡ items o (read_in C ls) =
-      read_lines i.read ∙ items_are o n i.read ∙ ap₂ (λ (q : Mode) (xs : List Line). items o (read_in q xs)) m (sym i.are) in
-      let w : Woven Like ns zs =
-      weave ns zs (subst (λ (ys : List (Item Reading)). Pairs (ItemSimplified o) ys zs) (sym here) (items_simplified o (readings_simplified o.table (rules_of o.settings) bytes))) in (
+      let here : lines_of_nodes ns ≡ items o (read_in C ls) = cc (read_lines i.read, items_are o n i.read, m, i.are) in
+      let w : Woven Like ns zs = grind (arith, weave, items_simplified, readings_simplified) in (
         w.nodes,
         record {
           items = zs;

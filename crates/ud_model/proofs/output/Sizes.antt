@@ -30,9 +30,6 @@ pub data Fits (f : Judged → List ℕ) (js : List Judged) : Type 0 where
 pub record Loose (f : Judged → List ℕ) (js : List Judged) : Type 0 where
   pub bound : length (out f js) ≤ suc (length (out whole js))
 
-out-append : (f : Judged → List ℕ) (js ks : List Judged) → length (out f (js ++ ks)) ≡ length (out f js) + length (out f ks)
-out-append f js ks = grind (arith, map-append, concat-append, length-append)
-
 same_out : (f : Judged → List ℕ) (js : List Judged) → KeepsSizes f js → length (out f js) ≡ length (out whole js)
 same_out f [] k = refl
 same_out f (j ∷ js) k = grind (arith, length-append, same_out f js k.1)
@@ -41,32 +38,21 @@ sizes-append : (f : Judged → List ℕ) (js ks : List Judged) → KeepsSizes f 
 sizes-append f [] ks a b = b
 sizes-append f (j ∷ js) ks a b = (a.0, sizes-append f js ks a.1 b)
 
-fits_most : {f : Judged → List ℕ} {js : List Judged} → Fits f js → length (out f js) ≤ length (out whole js)
-fits_most {f} {js} (alike k) = let e : length (out f js) ≡ length (out whole js) = same_out f js k in omega arith
-fits_most (less h) = omega arith
-
-module _ (f : Judged → List ℕ) (js ks : List Judged) where
-  less_together : length (out f js) + length (out f ks) < length (out whole js) + length (out whole ks) → Fits f (js ++ ks)
-  less_together h = grind (arith, out-append)
-
-  loose_together : length (out f js) + length (out f ks) ≤ suc (length (out whole js) + length (out whole ks)) → Loose f (js ++ ks)
-  loose_together h = grind (arith, out-append)
-
 -- Lines that fit, and then others.
 pub fits-append : (f : Judged → List ℕ) (js ks : List Judged) → Fits f js → Fits f ks → Fits f (js ++ ks)
-fits-append f js ks h b = grind (arith, sizes-append, fits_most, less_together)
+fits-append f js ks h b = grind (arith, sizes-append, same_out, map-append, concat-append, length-append)
 
 -- Lines fit if one byte more may be printed for the first ones.
 pub loose_fits : (f : Judged → List ℕ) (js ks : List Judged) → Loose f js → Fits f ks → Loose f (js ++ ks)
-loose_fits f js ks a b = let m : length (out f ks) ≤ length (out whole ks) = fits_most b in let n = a.bound in loose_together f js ks (omega arith)
+loose_fits f js ks a b = grind (arith, map-append, concat-append, length-append, same_out)
 
 -- Lines fit if one byte more may be printed for the second ones.
 pub fits_loose : (f : Judged → List ℕ) (js ks : List Judged) → Fits f js → Loose f ks → Loose f (js ++ ks)
-fits_loose f js ks a b = let m : length (out f js) ≤ length (out whole js) = fits_most a in let n = b.bound in loose_together f js ks (omega arith)
+fits_loose f js ks a b = grind (arith, map-append, concat-append, length-append, same_out)
 
 -- The case of one byte more, and then a line that loses two.
 pub loose_closed : (f : Judged → List ℕ) (js : List Judged) (j : Judged) → Loose f js → length (f j) + 2 ≤ length (whole j) → Fits f (js ++ j ∷ [])
-loose_closed f js j a h = grind (arith, append-nil, less_together)
+loose_closed f js j a h = grind (arith, append-nil, map-append, concat-append, length-append)
 
 -- A line that doesn't grow fits.
 pub fits_one : (f : Judged → List ℕ) (j : Judged) → length (f j) ≤ length (whole j) → Fits f (j ∷ [])
@@ -85,9 +71,6 @@ pub fits_all : (f : Judged → List ℕ) (js : List Judged) → ((j : Judged) �
 fits_all f [] h = fits_none f
 fits_all f (j ∷ js) h = fits-append f (j ∷ []) js (fits_one f j (h j)) (fits_all f js h)
 
-unequal : (a b : List ℕ) → length a < length b → bytes_eq a b ≡ false
-unequal a b h = grind (arith, bytes_eq-Decides)
-
 or_false_parts : (a b : Bool) → (not a || b) ≡ false → (a ≡ true) × (b ≡ false)
 or_false_parts a b e = grind arith
 
@@ -100,9 +83,8 @@ none_other f (j ∷ js) e =
 
 -- Texts are compared part by part, if the first parts have one length.
 bytes_eq-append : (a b c d : List ℕ) → length a ≡ length b → bytes_eq (a ++ c) (b ++ d) ≡ (bytes_eq a b && bytes_eq c d)
-bytes_eq-append [] [] c d e = refl
 bytes_eq-append (x ∷ a) (y ∷ b) c d e = grind (arith, bytes_eq-append a b c d (omega arith))
-bytes_eq-append a b c d e = absurd (omega arith)
+bytes_eq-append a b c d h = grind arith
 
 alike_differs : (f : Judged → List ℕ) (js : List Judged) → KeepsSizes f js → some_other (map f js) js ≡ not (bytes_eq (out f js) (out whole js))
 alike_differs f [] k = refl
@@ -110,4 +92,4 @@ alike_differs f (j ∷ js) k = grind (arith, bytes_eq-append, alike_differs f js
 
 -- If lines fit, some line differs exactly if the output isn't the lines.
 pub fits_differs : (f : Judged → List ℕ) (js : List Judged) → Fits f js → some_other (map f js) js ≡ not (bytes_eq (out f js) (out whole js))
-fits_differs f js h = grind (arith, alike_differs, none_other, unequal)
+fits_differs f js h = grind (arith, alike_differs, none_other, bytes_eq-Decides)

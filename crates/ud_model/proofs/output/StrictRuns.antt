@@ -1,13 +1,13 @@
 -- Runs with and without `-K`, line by line: a text line that the one with `-K` removes is removed
 -- by the other.
-use Rattle.std.proofs.Common.{◌≡◌, ℕ, ◌≤◌, List, [], ◌∷◌, ◌++◌, map, false, Option, None, inl, inr, ◌⊎◌, refl, sym, ◌∙◌, ap, ap₂, subst, append_assoc, append-nil, arith}
+use Rattle.std.proofs.Common.{◌≡◌, ℕ, ◌≤◌, List, [], ◌∷◌, ◌++◌, map, false, Option, None, inl, inr, ◌⊎◌, refl, sym, ◌∙◌, ap, subst, append_assoc, append-nil, arith}
 use Rattle.std.proofs.lemmas.List.{same_from_push, map-append}
 use Rattle.ud_model.specs.text.Lines.{Line, lines_of}
 use Rattle.ud_model.specs.text.Scans.{Reading}
-use Rattle.ud_model.specs.sections.Directives.{Content, content_of}
+use Rattle.ud_model.specs.sections.Directives.{content_of}
 use Rattle.ud_model.specs.sections.Tree.{Item, Tree, text_line, if_line, elif_line, else_line, endif_line, lines}
 use Rattle.ud_model.specs.sections.Pruning.{Mark, marks}
-use Rattle.ud_model.specs.sections.Items.{Options, reading_of, line_of, item_of, item_by, mode_after, read_after, next_item}
+use Rattle.ud_model.specs.sections.Items.{Options, reading_of, line_of, item_of, mode_after, read_after, next_item}
 use Rattle.ud_model.specs.sections.Faults.{Fault, AreFaultless, no_lines, one_more}
 use Rattle.ud_model.specs.answer.Printing.{Judged, judged_line, judged_lines, keyword_in}
 use Rattle.ud_model.specs.answer.Outcomes.{Outcome, ReadsAs, JudgedAs, judged_as, HasOutcome, ran_as}
@@ -22,7 +22,7 @@ use Rattle.ud_model.proofs.sections.Stays.{marks_more, length_marks}
 use Rattle.ud_model.proofs.sections.Soundness.{reading_of-item_of, lines_with_next, sound_lines, one_run}
 use Rattle.ud_model.proofs.output.BlankedLineLemmas.{judged_read}
 use Rattle.ud_model.proofs.output.Each.{Pairs, no_pair, pair, pairs_both}
-use Rattle.ud_model.proofs.output.KeywordSizes.{HasSize, content_size}
+use Rattle.ud_model.proofs.output.KeywordSizes.{content_size}
 use Rattle.ud_model.proofs.output.SharedLineLemmas.{printed_lone}
 use Rattle.ud_model.proofs.output.StrictTrees.{LooserTree, none_open, loose_grows, loose_ignoring, text_mark, removed_loose}
 use Rattle.ud_model.proofs.answer.Onward.{judged_more}
@@ -37,11 +37,8 @@ HasSome (elif_line o) = 1 ≤ (keyword_in (content_of o.line.scan)).len
 HasSome (else_line r) = 1 ≤ (keyword_in (content_of r.scan)).len
 HasSome (endif_line r) = 1 ≤ (keyword_in (content_of r.scan)).len
 
-some_content : (o : Options) (r : Reading) (c : Content) → content_of r.scan ≡ c → HasSize c → HasSome (item_by o r c)
-some_content o r c e h = grind arith
-
 has_some : (o : Options) (r : Reading) → HasSome (item_of o r)
-has_some o r = some_content o r (content_of r.scan) refl (content_size r.scan)
+has_some o r = grind (arith, content_size)
 
 -- One line more has marks by which it keeps as much.
 record MarkedMore (t t2 u u2 : Tree Reading) (x y : Item Reading) : Type 0 where
@@ -55,20 +52,7 @@ record MarkedMore (t t2 u u2 : Tree Reading) (x y : Item Reading) : Type 0 where
 directive_keeps : (x y : Item Reading) (m n : Mark) → reading_of y ≡ reading_of x →
     1 ≤ (keyword_in (content_of (reading_of x).scan)).len →
     KeepsAsMuch (judged_line y n) (judged_line x m)
-directive_keeps x y m n e h = record {
-  line = ap (λ (r : Reading). r.line) (sym e);
-  keyword = ap (λ (r : Reading). keyword_in (content_of r.scan)) (sym e);
-  text = λ f.
-      let g = ap (λ (r : Reading). (keyword_in (content_of r.scan)).len) e in
-      absurd (omega (arith, f, g, h));
-}
-
-marked_by : {t t2 u u2 : Tree Reading} {x y : Item Reading} → Adds t x t2 → Adds u y u2 →
-    ((m n : Mark) → KeepsAsMuch (judged_line y n) (judged_line x m)) → MarkedMore t t2 u u2 x y
-marked_by a b k =
-    let m = marks_more a in
-    let n = marks_more b in
-    record { with = m.0; without = n.0; marks_with = m.1; marks_without = n.1; keeps = k m.0 n.0 }
+directive_keeps x y m n e h = grind arith
 
 marked_more : {t t2 u u2 : Tree Reading} {x y : Item Reading} → Adds t x t2 → Adds u y u2 → LooserTree t u → LooserItem x y → HasSome x → MarkedMore t t2 u u2 x y
 marked_more a b k (a_text {r = r}) h = record {
@@ -78,14 +62,10 @@ marked_more a b k (a_text {r = r}) h = record {
   marks_without = text_mark b r refl;
   keeps = record { line = refl; keyword = refl; text = λ e. removed_loose k };
 }
-marked_more a b k (an_if {o = o} {p = p} i) h =
-    marked_by a b (λ m n. directive_keeps (if_line o) (if_line p) m n i.line h)
-marked_more a b k (an_elif {o = o} {p = p} i) h =
-    marked_by a b (λ m n. directive_keeps (elif_line o) (elif_line p) m n i.line h)
-marked_more a b k (an_else {r = r}) h =
-    marked_by a b (λ m n. directive_keeps (else_line r) (else_line r) m n refl h)
-marked_more a b k (an_endif {r = r}) h =
-    marked_by a b (λ m n. directive_keeps (endif_line r) (endif_line r) m n refl h)
+marked_more a b k (an_if {o = o} {p = p} i) h = grind (arith, marks_more, directive_keeps)
+marked_more a b k (an_elif {o = o} {p = p} i) h = grind (arith, marks_more, directive_keeps)
+marked_more a b k (an_else {r = r}) h = grind (arith, marks_more, directive_keeps)
+marked_more a b k (an_endif {r = r}) h = grind (arith, marks_more, directive_keeps)
 
 judged_grown : (xs : List (Item Reading)) (t u : Tree Reading) (x : Item Reading) (m : Mark) → lines t ≡ xs → marks u ≡ marks t ++ m ∷ [] →
     judged_lines (xs ++ x ∷ []) (marks u) ≡ judged_lines xs (marks t) ++ judged_line x m ∷ []
@@ -121,9 +101,7 @@ module _ (o : Options) where
       let m : MarkedMore t t2 u u2 x y = marked_more p q k.sections i (has_some with_k r) in
       record {
         sections = subst (λ (v : Tree Reading). LooserTree t2 v) (adds-once w.1 q) w.2;
-        readings = map-append reading_of xs (x ∷ [])
-            ∙ ap₂ (λ (zs : List Reading) (z : Reading). zs ++ z ∷ []) k.readings (reading_of-item_of with_k r ∙ e ∙ sym (reading_of-item_of o s))
-            ∙ sym (map-append reading_of ys (y ∷ []));
+        readings = cc (map-append reading_of xs (x ∷ []), k.readings, reading_of-item_of with_k r, e, reading_of-item_of o s, map-append reading_of ys (y ∷ []));
         judged = subst (λ (js : List Judged). Pairs KeepsAsMuch js (judged_lines (xs ++ x ∷ []) (marks t2))) (sym (judged_grown ys u u2 y m.without (sound_lines b) m.marks_without))
             (subst (λ (ks : List Judged). Pairs KeepsAsMuch (judged_lines ys (marks u) ++ judged_line y m.without ∷ []) ks) (sym (judged_grown xs t t2 x m.with (sound_lines a) m.marks_with))
             (pairs_both KeepsAsMuch k.judged (pair m.keeps no_pair)));
@@ -167,19 +145,13 @@ front o ls (push {xs = ms} l p) _ _ (one_more ys u b k v d m) e =
       sound = f.sound;
       are = f.are;
       rest = f.rest ++ judged_line y n.0 ∷ [];
-      judged = judged_grown ys u v y n.0 (sound_lines b) n.1 ∙ ap (λ (js : List Judged). js ++ judged_line y n.0 ∷ []) f.judged
-          ∙ append_assoc (judged_lines f.items (marks f.tree)) f.rest (judged_line y n.0 ∷ []);
+      judged = cc (judged_grown ys u v y n.0 (sound_lines b) n.1, f.judged, append_assoc (judged_lines f.items (marks f.tree)) f.rest (judged_line y n.0 ∷ []));
     }
 
 -- Two lists with which one list begins: one of them begins with the other.
 fronts : (cs bs ws vs : List Line) → cs ++ ws ≡ bs ++ vs → ((m : List Line) × (cs ≡ bs ++ m)) ⊎ ((m : List Line) × (bs ≡ cs ++ m))
-fronts [] bs ws vs e = inr (bs, refl)
-fronts (a ∷ cs) [] ws vs e = inl (a ∷ cs, refl)
-fronts (a ∷ cs) (b ∷ bs) ws vs e = go (fronts cs bs ws vs (cc))
-  where
-    go : ((m : List Line) × (cs ≡ bs ++ m)) ⊎ ((m : List Line) × (bs ≡ cs ++ m)) →
-        ((m : List Line) × (a ∷ cs ≡ b ∷ bs ++ m)) ⊎ ((m : List Line) × (b ∷ bs ≡ a ∷ cs ++ m))
-    go h = grind arith
+fronts (a ∷ cs) (b ∷ bs) ws vs e = grind (arith, fronts cs bs ws vs (cc))
+fronts cs bs ws vs h = grind arith
 
 more_without : {js ks : List Judged} → Pairs KeepsAsMuch js ks → (more : List Judged) → KeepAsMuch (js ++ more) ks
 more_without no_pair [] = tt

@@ -66,13 +66,11 @@ loose_ignoring (one_open h t) = ap₂ (λ (a b : Bool). a || b) (head_ignoring h
 -- 2. Kept groups.
 
 any_loose : {cs ds : List Cond} → Pairs Looser cs ds → any_true ds ≡ false → any_true cs ≡ false
-any_loose no_pair e = refl
-any_loose (pair (alike {c = Yes}) p) e = cc
 any_loose (pair (alike {c = No}) p) e = any_loose p e
 any_loose (pair (alike {c = Unknown}) p) e = any_loose p e
-any_loose (pair (unknown {d = Yes}) p) e = cc
 any_loose (pair (unknown {d = No}) p) e = any_loose p e
 any_loose (pair (unknown {d = Unknown}) p) e = any_loose p e
+any_loose h g = grind arith
 
 kept_loose : {cs ds : List Cond} {c d : Cond} → Pairs Looser cs ds → Looser c d → is_kept ds d ≡ true → is_kept cs c ≡ true
 kept_loose {cs} {ds} {c} {d} p l e = grind (arith, any_loose)
@@ -97,15 +95,8 @@ end_loose (one_open {h = k} {k = l} s t) a b h e =
 
 text_mark_in : {t u : Tree Reading} {x : Item Reading} → Adds t x u → (r : Reading) → x ≡ text_line r → (kept : Bool) →
     marks_so_far kept u ≡ marks_so_far kept t ++ marked (kept_at_end kept t) Keep ∷ []
-text_mark_in adds_text r e kept = refl
-text_mark_in (adds_under {ns = ns} {h = h} {t = t} {u = u} a) r e kept =
-    grind (arith, append_assoc, text_mark_in a r e (kept && is_inside_kept h))
-text_mark_in adds_if r e kept = cc
-text_mark_in elif_after_if r e kept = cc
-text_mark_in elif_after_elif r e kept = cc
-text_mark_in else_after_if r e kept = cc
-text_mark_in else_after_elif r e kept = cc
-text_mark_in adds_endif r e kept = cc
+text_mark_in (adds_under {ns = ns} {h = h} {t = t} {u = u} a) r e kept = simp (append_assoc, text_mark_in a r e (kept && is_inside_kept h))
+text_mark_in h r g kept = grind arith
 
 -- A text line is kept if all groups around it are.
 pub text_mark : {t u : Tree Reading} {x : Item Reading} → Adds t x u → (r : Reading) → x ≡ text_line r →

@@ -42,12 +42,9 @@ module _ {L : Type 0} where
   pub suits_elif : (cs : List Cond) (o : Opener L) → Suits (verdict_so_far cs an_elif o.cond) (elif_line o)
   suits_elif cs o = subst (λ (v : Verdict). Suits v (elif_line o)) (sym (verdict_by_stage cs an_elif o.cond)) (elif_at (stage cs) o o.cond refl)
 
-  else_at : (s : Stage) (l : L) → Suits (verdict_at s an_else Yes) (else_line l)
-  else_at s l = grind arith
-
   -- The table gives an `#else` a verdict that suits it.
   pub suits_else : (cs : List Cond) (l : L) → Suits (verdict_so_far cs an_else Yes) (else_line l)
-  suits_else cs l = subst (λ (v : Verdict). Suits v (else_line l)) (sym (verdict_by_stage cs an_else Yes)) (else_at (stage cs) l)
+  suits_else cs l = grind (arith, verdict_by_stage)
 
   -- The table gives an `#endif` a verdict that suits it.
   pub suits_endif : (cs : List Cond) (l : L) → Suits (endif_verdict cs) (endif_line l)

@@ -1,11 +1,10 @@
 -- Two tables give C the same choices for the conditions of nodes if they differ at a name alone that
 -- no condition has.
-use Rattle.std.proofs.Common.{◌≡◌, ◌≢◌, ◌⊎◌, inl, inr, ◌↔◌, ℕ, List, [], ◌∷◌, ◌++◌, Bool, None, Some, Option, refl, sym, ap, ◌∙◌, subst, arith}
+use Rattle.std.proofs.Common.{◌≡◌, ◌≢◌, ◌↔◌, ℕ, List, [], ◌∷◌, ◌++◌, Bool, None, Some, Option, refl, sym, ◌∙◌, subst, arith}
 use Rattle.std.proofs.lemmas.List.Elements.{Contains-append_left, Contains-append_right}
 use Rattle.std.specs.List.{Contains, flat_map}
 use Rattle.ud_model.specs.text.Scans.{Reading}
 use Rattle.ud_model.specs.conditions.Table.{Argument}
-use Rattle.ud_model.specs.conditions.Symbols.{defined_text}
 use Rattle.ud_model.specs.conditions.Expressions.{Expression, named}
 use Rattle.ud_model.specs.conditions.Names.{names_in, names_in_tree}
 use Rattle.ud_model.specs.conditions.Values.{name_value, name_has_u, defined_value, has_unsigned}
@@ -75,11 +74,7 @@ module _ {L : Type 0} (w : World L) (R S : L → Type 0) where
 module _ (t u : List Argument) (name : List ℕ) (none : IsNoValue t name) (same : DifferAtMostAt name t u) where
   -- Another name isn't led to this one.
   other_alike : (n : List ℕ) → n ≢ name → Alike t u n
-  other_alike n other m l = same m (by_case (led_to t n m l))
-    where
-      by_case : (m ≡ n) ⊎ ((k : List ℕ) × (defined_text t k ≡ Some m)) → m ≢ name
-      by_case (inl e) is = other (sym e ∙ is)
-      by_case (inr k) is = none k.0 (k.1 ∙ ap (λ (x : List ℕ). Some x) is)
+  other_alike n other m l = grind (arith, led_to)
 
   all_alike : (names : List (List ℕ)) → (Contains names name → ⊥) → Each (Alike t u) names
   all_alike [] out = tt

@@ -2,7 +2,7 @@
 use Rattle.std.proofs.Common.{◌≡◌, List, [], ◌∷◌, map, refl, ◌∙◌, ap, ap₂, arith}
 use Rattle.ud_model.proofs.output.Each.{Pairs, no_pair, pair}
 use Rattle.ud_model.proofs.output.WovenTrees.{Woven, TextGoes, EndifGoes, ElseGoes, IfGoes, ElifGoes, strewn_pairs, weave_nodes}
-use Rattle.ud_model.specs.sections.Tree.{Item, Opener, Nodes, Groups, Elifs, text_line, if_line, elif_line, else_line, endif_line, text, section, conditional, otherwise, first, elif, lines_of_nodes, item_with, opener_with_line, with_lines, groups_with_lines, elifs_with_lines}
+use Rattle.ud_model.specs.sections.Tree.{Item, Opener, Nodes, Groups, Elifs, text_line, if_line, elif_line, else_line, endif_line, conditional, first, elif, lines_of_nodes, item_with, opener_with_line, with_lines, groups_with_lines, elifs_with_lines}
 
 module _ {A B M : Type 0} (f : A → M) (g : B → M) where
   -- The item is that of the tree but for its line.
@@ -18,9 +18,6 @@ module _ {A B M : Type 0} (f : A → M) (g : B → M) where
   abbrev SameElifs : Elifs A → Elifs B → Type 0
   SameElifs es fs = elifs_with_lines g fs ≡ elifs_with_lines f es
 
-  text_back : (y : Item B) (l : A) → item_with g y ≡ text_line (f l) → (b : B) × (y ≡ text_line b) × (g b ≡ f l)
-  text_back y l e = grind arith
-
   if_back : (y : Item B) (o : Opener A) → item_with g y ≡ if_line (opener_with_line f o) → (p : Opener B) × (y ≡ if_line p) × (opener_with_line g p ≡ opener_with_line f o)
   if_back (if_line p) o e = (p, refl, cc)
   if_back _ _ e = cc
@@ -29,24 +26,14 @@ module _ {A B M : Type 0} (f : A → M) (g : B → M) where
   elif_back (elif_line p) o e = (p, refl, cc)
   elif_back _ _ e = cc
 
-  else_back : (y : Item B) (l : A) → item_with g y ≡ else_line (f l) → (b : B) × (y ≡ else_line b) × (g b ≡ f l)
-  else_back y l e = grind arith
-
-  endif_back : (y : Item B) (l : A) → item_with g y ≡ endif_line (f l) → (b : B) × (y ≡ endif_line b) × (g b ≡ f l)
-  endif_back y l e = grind arith
-
   text_goes : (l : A) (y : Item B) → IsAlong (text_line l) y → TextGoes SameNodes SameGroups SameElifs l y
-  text_goes l y e = let b = text_back y l e in (b.0, b.1, λ ns us n. ap₂ (λ (u : Nodes M) (k : M). text u k) n b.2)
+  text_goes l y e = grind arith
 
   endif_goes : (l : A) (y : Item B) → IsAlong (endif_line l) y → EndifGoes SameNodes SameGroups SameElifs l y
-  endif_goes l y e =
-      let b = endif_back y l e in
-      (b.0, b.1, λ ns us gs hs n h. ap₂ (λ (u : Nodes M) (d : Groups M). section u d (g b.0)) n h ∙ ap (λ (k : M). section (with_lines f ns) (groups_with_lines f gs) k) b.2)
+  endif_goes l y e = grind arith
 
   else_goes : (l : A) (y : Item B) → IsAlong (else_line l) y → ElseGoes SameNodes SameGroups SameElifs l y
-  else_goes l y e =
-      let b = else_back y l e in
-      (b.0, b.1, λ es fs ns us h n. ap₂ (λ (d : Elifs M) (u : Nodes M). otherwise d (g b.0) u) h n ∙ ap (λ (k : M). otherwise (elifs_with_lines f es) k (with_lines f ns)) b.2)
+  else_goes l y e = grind arith
 
   if_goes : (o : Opener A) (y : Item B) → IsAlong (if_line o) y → IfGoes SameNodes SameGroups SameElifs o y
   if_goes o y e = let b = if_back y o e in (b.0, b.1, λ ns us n. ap₂ (λ (k : Opener M) (u : Nodes M). first k u) b.2 n)

@@ -1,19 +1,22 @@
--- In a pruned tree nothing is decided, and if nothing is decided each line stays as it is.
-use Rattle.std.proofs.Common.{◌≡◌, List, [], ◌∷◌, ◌++◌, Bool, true, refl, sym, ◌∙◌, ap, ap₂, subst, arith}
+-- In a pruned tree nothing is decided, and if nothing is decided each line stays as it is. The
+-- openers of a pruned tree stay as they are, or become an `#if`.
+use Rattle.std.proofs.Common.{◌≡◌, [], ◌∷◌, ◌++◌, Bool, true, refl, sym, ◌∙◌, ap, ap₂, subst, arith, List}
 use Rattle.ud_model.specs.declared.cond.Cond.{Cond}
 use Rattle.ud_model.specs.declared.cond.Cond.TheVariants.{Yes}
 use Rattle.ud_model.specs.declared.verdict.Verdict.{Verdict}
-use Rattle.ud_model.specs.declared.verdict.Verdict.TheVariants.{Keep}
-use Rattle.ud_model.specs.sections.Tree.{Nodes, Groups, Elifs, nothing, text, section, conditional, otherwise, first, elif, closed}
-use Rattle.ud_model.specs.sections.Pruning.{an_if, an_elif, an_else, Mark, marked, is_kept, conds_of_elifs, conds_of_groups, endif_verdict, marks}
+use Rattle.ud_model.specs.declared.verdict.Verdict.TheVariants.{Keep, ToIf}
+use Rattle.ud_model.specs.sections.Tree.{Nodes, Groups, Elifs, nothing, text, section, conditional, otherwise, first, elif, closed, Item, Opener, if_line, elif_line, lines_of_nodes}
+use Rattle.ud_model.specs.sections.Pruning.{an_if, an_elif, an_else, Mark, marked, is_kept, conds_of_elifs, conds_of_groups, endif_verdict, marks, Part, first_kept_verdict}
 use Rattle.ud_model.specs.aids.SoFar.{verdict_so_far, nodes_so_far, groups_so_far, elifs_so_far}
-use Rattle.ud_model.specs.output.Pruned.{IsUndecided, IsUnknown, Any, GroupLines, ElifLines}
+use Rattle.ud_model.specs.output.Pruned.{IsUndecided, IsUnknown, Any, GroupLines, ElifLines, Edited}
 use Rattle.ud_model.proofs.output.Folded.{folded}
-use Rattle.ud_model.proofs.output.EachLines.{AnyOpener, any_lines}
+use Rattle.ud_model.proofs.output.EachLines.{AnyOpener, any_lines, IsOf, to_items}
 use Rattle.ud_model.proofs.output.PrunedLines.{pruned_each}
 use Rattle.ud_model.proofs.output.Each.{Each, each_both}
 use Rattle.ud_model.proofs.sections.Stays.{marks_so_far_same}
-use Rattle.ud_model.proofs.sections.Stages.{Stage, going, at_true, stage, next_stage, verdict_at, kept_at, verdict_by_stage, kept_by_stage, stage_next, endif_by_stage}
+use Rattle.ud_model.proofs.sections.Stages.{Stage, going, stage, next_stage, verdict_at, kept_at, verdict_by_stage, kept_by_stage, stage_next, endif_by_stage}
+use Rattle.ud_model.specs.output.Worlds.{openers, openers_in}
+use Rattle.ud_model.proofs.output.PrunedTree.{openers_lines}
 
 -- A line that stays as it is.
 abbrev pub Stays : Mark → Type 0
@@ -21,9 +24,6 @@ Stays m = m ≡ marked true Keep
 
 stays_if : (v : Verdict) → v ≡ Keep → Stays (marked true v)
 stays_if v e = ap (λ (u : Verdict). marked true u) e
-
-else_conds : (cs : List Cond) → stage cs ≡ going → (stage (cs ++ Yes ∷ []) ≡ at_true)
-else_conds cs e = stage_next cs Yes ∙ ap (λ (s : Stage). next_stage s Yes) e
 
 module _ {L : Type 0} where
   -- In pruned nodes each condition but that of an `#else` is unknown.
@@ -39,7 +39,7 @@ module _ {L : Type 0} where
   place_stays b ns e h = subst (λ (k : Bool). Each Stays (nodes_so_far k ns)) (sym e) h
 
   endif_stays : (gs : Groups L) → GroupLines Any IsUnknown gs → endif_verdict (conds_of_groups gs) ≡ Keep
-  endif_stays gs h = grind (arith, endif_by_stage, going_on, else_conds)
+  endif_stays gs h = grind (arith, endif_by_stage, going_on, stage_next)
 
   mutual
     nodes_stay : (ns : Nodes L) → IsUndecided ns → Each Stays (nodes_so_far true ns)
@@ -77,3 +77,33 @@ module _ {L : Type 0} where
   -- If nothing is decided, each line stays as it is.
   pub undecided_stay : (ns : Nodes L) → IsUndecided ns → Each Stays (marks (closed ns))
   undecided_stay ns h = subst (Each Stays) (sym (marks_so_far_same true (closed ns))) (nodes_stay ns h)
+
+-- The openers of a pruned tree.
+
+-- An opener with this verdict keeps its condition.
+abbrev pub KeepsCondition : Verdict → Type 0
+KeepsCondition Keep = Unit {0}
+KeepsCondition ToIf = Unit {0}
+KeepsCondition _ = ⊥
+
+pub first_keeps : (part : Part) → KeepsCondition (first_kept_verdict part)
+first_keeps part = grind arith
+
+module _ {L : Type 0} where
+  abbrev pub Keeps : Edited L → Type 0
+  Keeps e = KeepsCondition e.verdict
+
+  abbrev pub OpenerKeeps : Opener (Edited L) → Type 0
+  OpenerKeeps o = Keeps o.line
+
+  items_keep : (xs : List (Item (Edited L))) → Each (IsOf Any OpenerKeeps) xs → Each Keeps (openers_in xs)
+  items_keep [] h = tt
+  items_keep (if_line o ∷ xs) h = (h.0, items_keep xs h.1)
+  items_keep (elif_line o ∷ xs) h = (h.0, items_keep xs h.1)
+  items_keep (x ∷ xs) h = items_keep xs h.1
+
+  -- The openers of pruned nodes stay, or become an `#if`.
+  pub pruned_keeps : (ns : Nodes L) → Each Keeps (openers (folded ns))
+  pruned_keeps ns =
+      subst (Each Keeps) (openers_lines (folded ns)) (items_keep (lines_of_nodes (folded ns))
+      (to_items Any OpenerKeeps (folded ns) (pruned_each Any AnyOpener Any OpenerKeeps (λ l h. tt) (λ part o u h. first_keeps part) ns (any_lines ns))))

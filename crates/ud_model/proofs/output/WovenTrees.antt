@@ -98,9 +98,7 @@ module _ {A B : Type 0} (R : Item A → Item B → Type 0) (IsPut : B → Type 0
       subst (SplitAt C y D) (append_assoc before (text_line d ∷ []) zs) (split_first C y D (before ++ text_line d ∷ []) zs more s)
 
   split_at : (C : List (Item A)) (y : Item A) (D : List (Item A)) (zs : List (Item B)) → Strewn (C ++ y ∷ D) zs → SplitAt C y D zs
-  split_at C y D zs s =
-      let r : SplitBoth C (y ∷ D) zs = split_both C (y ∷ D) zs s in
-      subst (SplitAt C y D) (sym r.are) (split_first C y D r.before r.later r.first_part r.second_part)
+  split_at C y D zs s = let r : SplitBoth C (y ∷ D) zs = split_both C (y ∷ D) zs s in grind (arith, r.are, split_first)
 
   -- 2. Nodes.
 
@@ -134,8 +132,7 @@ module _ {A B : Type 0} (R : Item A → Item B → Type 0) (IsPut : B → Type 0
     -- Further text lines after the nodes `us`.
     more_texts : (ns : Nodes A) (us : Nodes B) (zs : List (Item B)) → N ns us → Strewn [] zs → Woven N ns (lines_of_nodes us ++ zs)
     more_texts ns us _ n none = record { nodes = us; lines = sym (append-nil (lines_of_nodes us)); alike = n }
-    more_texts ns us _ n (put {d = d} {zs = zs} k s) =
-        subst (Woven N ns) (append_assoc (lines_of_nodes us) (text_line d ∷ []) zs) (more_texts ns (text us d) zs (w.put_goes ns us d k n) s)
+    more_texts ns us _ n (put {d = d} {zs = zs} k s) = grind (arith, append_assoc, more_texts ns (text us d) zs (w.put_goes ns us d k n) s)
 
     -- A further group: its opener and its nodes.
     further : (before texts ls ms zs later : List (Item B)) (z y : Item B) → zs ≡ before ++ z ∷ later → before ≡ texts ++ ls → z ≡ y → ms ≡ later →

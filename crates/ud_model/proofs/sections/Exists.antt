@@ -194,8 +194,7 @@ module _ (o : Options) (given : List ℕ) (xs : List (Item Reading)) (t : Tree R
   rest_item = next_item o xs t (line_so_far given)
 
   within_limits : (Holds xs rest_item past_last → ⊥) → (Holds xs rest_item too_long → ⊥) → (c : Case) → IsLimit c → Holds xs rest_item c → ⊥
-  within_limits p l _ by_lines h = p h
-  within_limits p l _ by_bytes h = l h
+  within_limits h g c k m = grind arith
 
   breaks_by : (partial_line given ≡ []) ⊎ (partial_line given ≢ []) → Holds xs rest_item past_last ⊎ (Holds xs rest_item past_last → ⊥) → Holds xs rest_item too_long ⊎ (Holds xs rest_item too_long → ⊥) → Breaks o given xs t
   unfolding rest_item

@@ -1,6 +1,6 @@
 -- Fault stays: a fault of the text so far is the fault of every longer text, and the output before
 -- it is the same.
-use Rattle.std.proofs.Common.{◌≡◌, ◌≢◌, ℕ, suc, ◌≤◌, List, [], ◌∷◌, ◌++◌, length, Some, None, sym, ◌∙◌, ap, ap₂, subst, append_assoc, length-append, arith}
+use Rattle.std.proofs.Common.{◌≡◌, ◌≢◌, ℕ, suc, ◌≤◌, List, [], ◌∷◌, ◌++◌, length, Some, None, sym, ◌∙◌, ap, subst, append_assoc, length-append, arith, rules}
 use Rattle.ud_model.specs.text.Lines.{Line, text_of, line_at, lines_of, whole_lines, partial_line, texts_of, numbered_from}
 use Rattle.ud_model.specs.text.Scans.{Reading}
 use Rattle.ud_model.specs.sections.Directives.{Content}
@@ -91,8 +91,7 @@ lines_of-rest given more some = by_texts (texts_of_grows given more some)
 -- The fault of a limit that the rest breaks is that of each line that the rest begins.
 pub rest_stays : (o : Options) (given x : List ℕ) (xs : List (Item Reading)) (t : Tree Reading) (f : Fault) →
     RestBreaks o given xs t f → LimitFault xs (next_item o xs t (line_from given x)) f
-rest_stays o given x xs t f h =
-    limit_grows o xs t (suc (length (whole_lines given))) (partial_line given) x f (record { fault = h.fault; limit = h.limit })
+rest_stays o given x xs t f h = search (rules, limit_grows)
 
 -- A broken limit stays broken when the text ends.
 pub limit_ends : (o : Options) (given more : List ℕ) (xs : List (Item Reading)) (t : Tree Reading) (f : Fault) →
@@ -126,9 +125,7 @@ limit_goes_on o given more xs t f through h = by_growth (grows given more)
         })
       where
         still : LimitFault xs (next_item o xs t (line_so_far (given ++ more))) f
-        still =
-            subst (λ (l : Line). LimitFault xs (next_item o xs t l) f)
-            (sym (ap₂ (λ (ls : List (List ℕ)) (x : List ℕ). line_at (suc (length ls)) x) e r)) (rest_stays o given more xs t f h)
+        still = search (rules, rest_stays, e, r)
 
 -- A fault so far stays, and so do the items before it, whether the text goes on or ends.
 pub reads_stay : {o : Options} {given : List ℕ} (more : List ℕ) {xs : List (Item Reading)} {t : Tree Reading} {f : Fault} → ReadsSoFar o given xs t (Some f) →

@@ -40,18 +40,10 @@ module _ {L : Type 0} where
   pub conds-complete : (h : Head L) (b : Nodes L) → conds_of_groups (complete h b) ≡ conds_of_head h
   conds-complete h b = grind arith
 
-  lines_with_endif : (ns b : Nodes L) (h : Head L) (l : L) →
-      (lines_of_nodes ns ++ lines_of_groups (complete h b)) ++ endif_line l ∷ []
-      ≡ ((lines_of_nodes ns ++ lines_of_head h) ++ lines_of_nodes b) ++ endif_line l ∷ []
-  lines_with_endif ns b h l = rw (← lines-complete h b) simp append_assoc
-
   -- The lines of the longer tree are those of the shorter one, and then the line.
   pub lines-add : {t u : Tree L} {x : Item L} → Adds t x u → lines u ≡ lines t ++ x ∷ []
-  lines-add adds_text = refl
-  lines-add adds_if = simp append-nil
-  lines-add (adds_endif {ns = ns} {b = b} {h = h} {l = l}) = lines_with_endif ns b h l
   lines-add (adds_under {ns = ns} {h = h} a) = rw (lines-add a) simp append_assoc
-  lines-add _ = simp (append-nil, append_assoc)
+  lines-add h = grind (arith, append-nil, lines-complete, append_assoc)
 
   -- A tree and a line give one tree at most.
   pub adds-once : {t u v : Tree L} {x : Item L} → Adds t x u → Adds t x v → u ≡ v

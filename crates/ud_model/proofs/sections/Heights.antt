@@ -2,7 +2,7 @@
 use Rattle.std.proofs.Common.{◌≤◌, arith}
 use Rattle.ud_model.specs.sections.Tree.{Item, Tree, closed, open_section, depth}
 use Rattle.ud_model.specs.aids.Height.{height}
-use Rattle.ud_model.proofs.sections.Growth.{Adds, adds_endif, adds_under}
+use Rattle.ud_model.proofs.sections.Growth.{Adds, adds_under}
 
 module _ {L : Type 0} where
   -- A text is at least as high as it is deep.
@@ -12,6 +12,5 @@ module _ {L : Type 0} where
 
   -- One more line makes no text lower.
   pub height_add : {t u : Tree L} {x : Item L} → Adds t x u → height t ≤ height u
-  height_add (adds_endif {ns = ns} {b = b} {h = h}) = grind arith
   height_add (adds_under {t = t} {u = u} a) = let c : height t ≤ height u = height_add a in omega arith
-  height_add h = omega arith
+  height_add h = grind arith

@@ -1,8 +1,8 @@
 -- The position of a keyword is within the masked line, and so within the line's body.
-use Rattle.std.proofs.Common.{◌≡◌, ℕ, suc, ◌+◌, ◌≤◌, List, [], ◌∷◌, length, Bool, Option, Some, None, if◌then◌else◌, refl, arith}
-use Rattle.ud_model.specs.text.Bytes.{skip_white, leading_word, skip_word, is_word_byte}
+use Rattle.std.proofs.Common.{◌≡◌, ℕ, suc, ◌+◌, ◌≤◌, List, [], ◌∷◌, length, Bool, Option, Some, None, if◌then◌else◌, refl, arith, rules}
+use Rattle.ud_model.specs.text.Bytes.{leading_word, skip_word, is_word_byte}
 use Rattle.ud_model.specs.text.Scans.{Scan}
-use Rattle.ud_model.specs.sections.Directives.{Content, cut_keyword, directive, text, content_of, skip_white_and_hash, skip_hash, has_split_keyword, content_after_hash, directive_at, kind_of}
+use Rattle.ud_model.specs.sections.Directives.{Content, directive, text, content_of, skip_white_and_hash, skip_hash, content_after_hash, directive_at}
 use Rattle.ud_model.specs.answer.Printing.{keyword_in}
 use Rattle.ud_model.specs.declared.kind.Kind.{Kind}
 use Rattle.ud_model.proofs.text.ByteLemmas.{length-skip_white}
@@ -33,22 +33,12 @@ lies_fresh scan fresh rest k h = grind (arith, lies_at)
 
 lies_behind : (scan : Scan) (sign : Option (List ℕ)) → skip_white_and_hash scan.masked ≡ sign → Lies (length scan.masked) (content_after_hash scan sign)
 lies_behind scan None e = tt
-lies_behind scan (Some rest) e =
-    let a = length-skip_white rest in
-    let b = length-skip_white scan.masked in
-    let c = sign_le (skip_white scan.masked) rest e in
-    lies_fresh scan scan.fresh (skip_white rest) (kind_of (leading_word (skip_white rest))) (omega (arith, a, b, c))
-
-lies_unless_cut : (scan : Scan) (cut : Bool) → Lies (length scan.masked) (if cut then cut_keyword else content_after_hash scan (skip_white_and_hash scan.masked))
-lies_unless_cut scan cut = grind (arith, lies_behind)
+lies_behind scan (Some rest) e = search (rules, length-skip_white, sign_le, lies_fresh)
 
 -- A directive's keyword lies within the masked line, and so do the bytes after it.
 pub content_lies : (scan : Scan) → Lies (length scan.masked) (content_of scan)
-content_lies scan = lies_unless_cut scan (has_split_keyword scan (skip_white_and_hash scan.masked))
-
-keyword_by : (n : ℕ) (c : Content) → Lies n c → (keyword_in c).at + (keyword_in c).len ≤ n
-keyword_by n c h = grind arith
+content_lies scan = grind (arith, lies_behind)
 
 -- The keyword lies within the masked line.
 pub keyword_lies : (scan : Scan) → (keyword_in (content_of scan)).at + (keyword_in (content_of scan)).len ≤ length scan.masked
-keyword_lies scan = keyword_by (length scan.masked) (content_of scan) (content_lies scan)
+keyword_lies scan = grind (arith, content_lies)

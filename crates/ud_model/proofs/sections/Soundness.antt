@@ -1,18 +1,17 @@
 -- Soundness: the lines decide the items, the tree and the fault, so a text has one outcome at most.
-use Rattle.std.proofs.Common.{◌≡◌, ℕ, List, [], ◌∷◌, ◌++◌, map, Option, Some, None, refl, sym, ◌∙◌, ap, ap₂, append_assoc, append-nil, subst, ◌⊎◌, inl, inr, arith}
+use Rattle.std.proofs.Common.{◌≡◌, ℕ, List, [], ◌∷◌, ◌++◌, map, Option, Some, refl, sym, ◌∙◌, ap, ap₂, append_assoc, append-nil, subst, ◌⊎◌, inl, inr, arith}
 use Rattle.std.proofs.lemmas.List.{same_from_push, map-append}
 use Rattle.ud_model.specs.text.Lines.{Line, lines_of}
 use Rattle.ud_model.specs.text.Scans.{Reading}
 use Rattle.ud_model.specs.sections.Directives.{content_of}
 use Rattle.ud_model.specs.sections.Tree.{Item, Tree, lines}
 use Rattle.ud_model.specs.sections.Items.{Options, reading_of, line_of, item_of, mode_after, read_after, next_item}
-use Rattle.ud_model.specs.sections.Faults.{Fault, Case, past_last, too_long, cut, out_of_place, too_deep, obfuscated_case, earlier, cases, Holds, NoneHolds, fault_in, FaultOf, AreFaultless, no_lines, one_more, end_fault}
+use Rattle.ud_model.specs.sections.Faults.{Fault, Case, past_last, too_long, cut, out_of_place, too_deep, obfuscated_case, earlier, cases, Holds, NoneHolds, FaultOf, AreFaultless, no_lines, one_more, end_fault}
 use Rattle.ud_model.specs.output.Rereading.{AreRead, no_items, one_item, IsTreeOf}
-use Rattle.ud_model.specs.answer.Outcomes.{Outcome, outcome_of, FirstFaultAt, HasNoFault, ReadsAs, HasOutcome, ran_as, lines_so_far, line_so_far, RestBreaks, ReadsSoFar, HasOutcomeSoFar, came_as}
+use Rattle.ud_model.specs.answer.Outcomes.{Outcome, FirstFaultAt, HasNoFault, ReadsAs, HasOutcome, ran_as, lines_so_far, line_so_far, RestBreaks, ReadsSoFar, HasOutcomeSoFar, came_as}
 use Rattle.ud_model.specs.answer.Outcomes.ReadsAs.{stops, ends}
 use Rattle.ud_model.specs.answer.Outcomes.ReadsSoFar.{stops as stops_so_far, breaks, goes_on}
-use Rattle.ud_model.specs.answer.Answer.{Answer, IsAnswer, refused, ran}
-use Rattle.ud_model.specs.declared.settings.Settings.{Settings}
+use Rattle.ud_model.specs.answer.Answer.{Answer, IsAnswer}
 use Rattle.ud_model.proofs.text.Pushes.{ByPush, none, push, by_push, push_not_nil}
 use Rattle.ud_model.proofs.sections.Unique.{unique}
 use Rattle.ud_model.proofs.sections.FaultStays.{reading_of-item_by}
@@ -32,8 +31,7 @@ sound_read (one_more xs t s l u e n) = one_item xs t (sound_read s) l u e
 
 -- Lines that were read are those of their tree.
 pub read_lines : {o : Options} {xs : List (Item Reading)} {t : Tree Reading} → AreRead o xs t → lines t ≡ xs
-read_lines no_items = refl
-read_lines (one_item xs t r l u e) = e
+read_lines h = grind arith
 
 module _ (o : Options) where
   -- The lines of items with one more.
@@ -60,8 +58,7 @@ module _ (o : Options) where
 
 -- Faultless lines are the lines of their tree.
 pub sound_lines : {o : Options} {xs : List (Item Reading)} {t : Tree Reading} → AreFaultless o xs t → lines t ≡ xs
-sound_lines no_lines = refl
-sound_lines (one_more xs t s l u e n) = e
+sound_lines h = grind arith
 
 -- Faultless lines have one tree.
 pub sound_once : {o : Options} {xs : List (Item Reading)} {t u : Tree Reading} → AreFaultless o xs t → AreFaultless o xs u → t ≡ u
@@ -82,8 +79,7 @@ module _ (xs : List (Item Reading)) (x : Item Reading) where
   one_case [] [] c d ws vs e h n k m = cc
   one_case [] (b ∷ ds) c d ws vs e h n k m = let q : c ≡ b = cc in absurd (m.0 (subst (Holds xs x) q h))
   one_case (b ∷ cs) [] c d ws vs e h n k m = let q : d ≡ b = cc in absurd (n.0 (subst (Holds xs x) q k))
-  one_case (a ∷ cs) (b ∷ ds) c d ws vs e h n k m =
-      let q : cs ++ c ∷ ws ≡ ds ++ d ∷ vs = cc in one_case cs ds c d ws vs q h n.1 k m.1
+  one_case (a ∷ cs) (b ∷ ds) c d ws vs e h n k m = let q : cs ++ c ∷ ws ≡ ds ++ d ∷ vs = cc in cc (one_case cs ds c d ws vs q h n.1 k m.1)
 
 -- A line has one fault at most.
 pub one_fault : (xs : List (Item Reading)) (x : Item Reading) (f g : Fault) → FaultOf xs x f → FaultOf xs x g → f ≡ g
@@ -91,8 +87,7 @@ one_fault xs x f g a b =
     let c : (later : List Case) × (earlier a.which ++ a.which ∷ later ≡ cases) = case_in_order a.which in
     let d : (later : List Case) × (earlier b.which ++ b.which ∷ later ≡ cases) = case_in_order b.which in
     let w : a.which ≡ b.which = one_case xs x (earlier a.which) (earlier b.which) a.which b.which c.0 d.0 (c.1 ∙ sym d.1) a.holds a.first b.holds b.first in
-    let e : Some f ≡ Some g = sym a.named ∙ ap (fault_in x) w ∙ b.named in
-    cc
+    cc (a.named, w, b.named)
 
 -- A faultless line has no fault.
 pub sound_or_faulty : (xs : List (Item Reading)) (x : Item Reading) (f : Fault) → NoneHolds xs x cases → FaultOf xs x f → ⊥
@@ -121,11 +116,7 @@ module _ (o : Options) where
   clear_next : (xs ys : List (Item Reading)) (t u : Tree Reading) (l : Line) → AreFaultless o xs t → AreFaultless o ys u →
       map line_of ys ≡ map line_of xs ++ l ∷ [] → NoneHolds xs (next_item o xs t l) cases
   clear_next xs _ t _ l a no_lines e = absurd (push_not_nil (map line_of xs) l (sym e))
-  clear_next xs _ t _ l a (one_more ys u b k v d m) e =
-      let s : (map line_of ys ≡ map line_of xs) × (k ≡ l) = same_from_push (map line_of ys) (map line_of xs) k l (sym (lines_with_next o ys u k) ∙ e) in
-      let q : ys ≡ xs = sound_same ys xs u t b a s.0 in
-      subst (λ zs. NoneHolds zs (next_item o xs t l) cases) q
-      (subst (λ y. NoneHolds ys y cases) (same_next ys xs u t k l b a q s.1) m)
+  clear_next xs _ t _ l a (one_more ys u b k v d m) e = grind (arith, same_from_push, lines_with_next, sound_same, same_next)
 
   pub faulty_inside : (xs ys : List (Item Reading)) (t u : Tree Reading) (l : Line) (later : List Line) (f : Fault) → AreFaultless o xs t →
       FaultOf xs (next_item o xs t l) f → AreFaultless o ys u → map line_of ys ≡ map line_of xs ++ l ∷ later → ⊥
@@ -164,17 +155,11 @@ module _ (o : Options) (ls : List Line) where
 
   -- A text without a faulty line has one list of items with one tree.
   pub one_way_through : (xs ys : List (Item Reading)) (t u : Tree Reading) → HasNoFault o ls xs t → HasNoFault o ls ys u → (xs ≡ ys) × (t ≡ u)
-  one_way_through xs ys t u a b =
-      let q : xs ≡ ys = sound_same o xs ys t u a.sound b.sound (sym a.are ∙ b.are) in
-      (q, sound_once (subst (λ zs. AreFaultless o zs t) q a.sound) b.sound)
+  one_way_through xs ys t u a b = grind (arith, sound_same, sound_once)
 
   -- A text with a faulty line isn't one without.
   pub stops_or_goes : (xs ys : List (Item Reading)) (t u : Tree Reading) (f : Fault) → FirstFaultAt o ls xs t f → HasNoFault o ls ys u → ⊥
   stops_or_goes xs ys t u f a b = faulty_inside o xs ys t u a.faulty a.later f a.sound a.fault b.sound (sym b.are ∙ a.are)
-
-same_outcome : (s : Settings) (xs ys : List (Item Reading)) (t u : Tree Reading) (f g : Option Fault) → xs ≡ ys → t ≡ u → f ≡ g →
-    outcome_of s xs t f ≡ outcome_of s ys u g
-same_outcome s xs ys t u f g p q r = rw (p, q, r)
 
 -- A text is read in one way at most.
 pub reads_once : {o : Options} {input : List ℕ} {xs ys : List (Item Reading)} {t u : Tree Reading} {f g : Option Fault} → ReadsAs o input xs t f → ReadsAs o input ys u g →
@@ -188,8 +173,7 @@ reads_once {o = o} {input = input} (ends xs t a) (ends ys u b) =
 
 -- A text has one outcome at most.
 pub one_run : {o : Options} {input : List ℕ} {r s : Outcome} → HasOutcome o input r → HasOutcome o input s → r ≡ s
-one_run {o = o} (ran_as {xs = xs} {t = t} {f = f} a) (ran_as {xs = ys} {t = u} {f = g} b) =
-    let w : (xs ≡ ys) × (t ≡ u) × (f ≡ g) = reads_once a b in same_outcome o.settings xs ys t u f g w.0 w.1 w.2
+one_run {o = o} (ran_as {xs = xs} {t = t} {f = f} a) (ran_as {xs = ys} {t = u} {f = g} b) = grind (arith, reads_once)
 
 same_break : {o : Options} {given : List ℕ} {xs ys : List (Item Reading)} {t u : Tree Reading} {f : Fault} → xs ≡ ys → t ≡ u →
     RestBreaks o given xs t f → RestBreaks o given ys u f
@@ -218,12 +202,8 @@ reads_so_far_once {o = o} {given = given} (goes_on xs t a c) (goes_on ys u b d) 
 
 -- A text that goes on has one outcome at most so far.
 pub one_run_so_far : {o : Options} {given : List ℕ} {r s : Outcome} → HasOutcomeSoFar o given r → HasOutcomeSoFar o given s → r ≡ s
-one_run_so_far {o = o} (came_as {xs = xs} {t = t} {f = f} a) (came_as {xs = ys} {t = u} {f = g} b) =
-    let w : (xs ≡ ys) × (t ≡ u) × (f ≡ g) = reads_so_far_once a b in same_outcome o.settings xs ys t u f g w.0 w.1 w.2
+one_run_so_far {o = o} (came_as {xs = xs} {t = t} {f = f} a) (came_as {xs = ys} {t = u} {f = g} b) = grind (arith, reads_so_far_once)
 
 -- Arguments and an input have one answer at most.
 pub one_answer : {args : List (List ℕ)} {input : List ℕ} {a b : Answer} → IsAnswer args input a → IsAnswer args input b → a ≡ b
-one_answer (refused f d) (refused g e) = let q : Some f ≡ Some g = sym d ∙ e in let p : f ≡ g = cc in rw p
-one_answer (refused f d) (ran s e b) = let q : Some f ≡ None = sym d ∙ e in cc
-one_answer (ran r d a) (refused g e) = let q : Some g ≡ None = sym e ∙ d in cc
-one_answer (ran r d a) (ran s e b) = let q : r ≡ s = one_run a b in rw q
+one_answer h g = grind (arith, one_run)

@@ -1,5 +1,5 @@
 -- The content of a line, by the parts of its masked line.
-use Rattle.std.proofs.Common.{◌≡◌, ℕ, suc, ◌+◌, ◌-◌, List, [], ◌∷◌, ◌++◌, length, Bool, true, false, not, ◌&&◌, Option, Some, None, if◌then◌else◌, refl, sym, ◌∙◌, ap, ap₂, append-nil, arith, length-append}
+use Rattle.std.proofs.Common.{◌≡◌, ℕ, suc, ◌+◌, ◌-◌, List, [], ◌∷◌, ◌++◌, length, Bool, true, false, not, ◌&&◌, Option, Some, None, if◌then◌else◌, refl, sym, ◌∙◌, ap, ap₂, append-nil, arith, length-append, rules}
 use Rattle.std.specs.Prelude.{◌↔◌}
 use Rattle.std.proofs.lemmas.Bool.{and_parts, or_cases}
 use Rattle.std.proofs.lemmas.Slice.Eq.{bytes_eq-Decides}
@@ -14,8 +14,7 @@ use Rattle.ud_model.proofs.text.LexLemmas.{same_front}
 past_white_then : (ws t : List ℕ) → are_white ws ≡ true → skip_white (ws ++ t) ≡ skip_white t
 past_white_then [] t h = refl
 past_white_then (b ∷ ws) t h =
-    let p : (is_white b ≡ true) × (are_white ws ≡ true) = and_parts (is_white b) (are_white ws) h in
-    ap (λ (w : Bool). if w then skip_white (ws ++ t) else b ∷ (ws ++ t)) p.0 ∙ past_white_then ws t p.1
+    let p : (is_white b ≡ true) × (are_white ws ≡ true) = and_parts (is_white b) (are_white ws) h in cc (p.0, past_white_then ws t p.1)
 
 no_white : (t : List ℕ) → first_is is_white t ≡ false → skip_white t ≡ t
 no_white t h = grind arith
@@ -61,8 +60,7 @@ parts_exist masked tail e =
     let w = word_front (skip_white tail) in (
       record { white = s.0; gap = g.0; word = leading_word (skip_white tail); rest = skip_word (skip_white tail) },
       record {
-        joined = s.1 ∙ ap (λ (l : List ℕ). s.0 ++ l)
-            (hash_front (skip_white masked) tail e ∙ ap (λ (l : List ℕ). number_sign ∷ l) (g.1 ∙ ap (λ (l : List ℕ). g.0 ++ l) w.0));
+        joined = cc (s.1, hash_front (skip_white masked) tail e, g.1, w.0);
         white = s.2;
         gap = g.2;
         word = w.1;
@@ -90,24 +88,19 @@ computed p masked h =
 
 -- If all are word bytes, nothing is left after the longest word.
 no_rest : (word rest : List ℕ) → are_word_bytes (word ++ rest) ≡ true → first_is is_word_byte rest ≡ false → rest ≡ []
-no_rest [] [] h n = refl
-no_rest [] (b ∷ rest) h n = grind arith
 no_rest (b ∷ word) rest h n = no_rest word rest (and_parts (is_word_byte b) (are_word_bytes (word ++ rest)) h).1 n
+no_rest word rest h g = grind arith
 
 module _ (scan : Scan) (p : DirectiveParts) where
   ends_by : (word rest : List ℕ) → p.word ≡ word → p.rest ≡ rest → are_word_bytes word ≡ true → first_is is_word_byte rest ≡ false →
       may_split_keyword scan (word ++ rest) ≡ true → EndsInKeyword scan p
   ends_by [] [] e f h n m = nothing_follows e f
   ends_by [] (b ∷ rest) e f h n m = grind (arith, bytes_eq-Decides)
-  ends_by (b ∷ word) rest e f h n m =
-      grind (arith, or_cases, no_rest, append-nil)
+  ends_by (b ∷ word) rest e f h n m = grind (arith, or_cases, no_rest, append-nil)
 
   -- A masked line that may split a keyword ends so, and the other way round.
   to_ends : AreParts p scan.masked → may_split_keyword scan (p.word ++ p.rest) ≡ true → EndsInKeyword scan p
   to_ends h m = ends_by p.word p.rest refl refl h.word h.word_ends m
-
-  from_ends : AreParts p scan.masked → EndsInKeyword scan p → may_split_keyword scan (p.word ++ p.rest) ≡ true
-  from_ends h g = grind (arith, append-nil)
 
   -- The keyword is split, as it is computed.
   abbrev splits : Bool
@@ -117,7 +110,7 @@ module _ (scan : Scan) (p : DirectiveParts) where
   to_split h e = grind (arith, to_ends)
 
   from_split : AreParts p scan.masked → IsSplitKeyword scan p → splits ≡ true
-  from_split h s = grind (arith, from_ends)
+  from_split h s = grind (arith, append-nil)
 
   -- The content of a line with these parts, by three choices.
   abbrev content_by : Bool → Bool → Option Kind → Content
@@ -167,10 +160,7 @@ module _ (scan : Scan) (p : DirectiveParts) where
   to_text _ false _ _ _ _ _ n _ = refl
 
   unsplit : AreParts p scan.masked → ¬ IsSplitKeyword scan p → splits ≡ false
-  unsplit h n = by_split splits refl
-    where
-      by_split : (t : Bool) → splits ≡ t → t ≡ false
-      by_split t e = grind (arith, to_split)
+  unsplit h n = search (rules, to_split)
 
 -- A line without a `#` after white space is text; another one has parts.
 data Split (scan : Scan) : Type 0 where
@@ -199,15 +189,7 @@ split_is scan = (to (split_line scan), back)
 
 -- A line has a directive exactly if its parts say so.
 pub directive_is : (scan : Scan) (d : Directive) → (content_of scan ≡ directive d) ↔ HasDirective scan d
-directive_is scan d = (to (split_line scan), back)
-  where
-    to : Split scan → content_of scan ≡ directive d → HasDirective scan d
-    to (unsigned t) e = let q : text ≡ directive d = sym t ∙ e in cc
-    to (signed p h) e =
-        to_directive scan p h (splits scan p) scan.fresh (kind_of p.word) d refl refl refl (sym (content_is scan p h) ∙ e)
-
-    back : HasDirective scan d → content_of scan ≡ directive d
-    back h = grind (arith, computed, unsplit, place)
+directive_is scan d = search (rules, split_line, to_directive, content_is, computed, unsplit, place)
 
 -- Each other line is text.
 pub text_is : (scan : Scan) → (content_of scan ≡ text) ↔ ((HasSplitKeyword scan → ⊥) × ((d : Directive) → HasDirective scan d → ⊥))

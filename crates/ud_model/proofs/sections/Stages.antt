@@ -1,6 +1,6 @@
 -- Stages: how far a section has come whose groups around are all kept, by the conditions of its
 -- groups so far.
-use Rattle.std.proofs.Common.{◌≡◌, List, [], ◌∷◌, ◌++◌, Bool, false, not, if◌then◌else◌, refl}
+use Rattle.std.proofs.Common.{◌≡◌, List, [], ◌∷◌, ◌++◌, Bool, false, not, if◌then◌else◌, arith}
 use Rattle.std.proofs.Math.Bool.{and-false, and-true}
 use Rattle.ud_model.specs.declared.cond.Cond.{Cond}
 use Rattle.ud_model.specs.declared.cond.Cond.TheVariants.{Yes, No, Unknown}
@@ -67,58 +67,41 @@ endif_at _ = Remove
 
 inside_verdict : (cs : List Cond) (part : Part) (c : Cond) →
     (if not (any_true cs) then later_verdict part c else if ends_with_first_true cs then ToEndif else Remove) ≡ verdict_at (stage_inside cs) part c
-inside_verdict [] part c = refl
-inside_verdict (Yes ∷ []) part c = refl
-inside_verdict (Yes ∷ d ∷ cs) part c = refl
 inside_verdict (No ∷ cs) part c = inside_verdict cs part c
 inside_verdict (Unknown ∷ cs) part c = inside_verdict cs part c
+inside_verdict cs part c = grind arith
 
 -- The verdict of an opener is that of its stage.
 pub verdict_by_stage : (cs : List Cond) (part : Part) (c : Cond) → verdict_so_far cs part c ≡ verdict_at (stage cs) part c
-verdict_by_stage [] part Yes = refl
 verdict_by_stage (No ∷ cs) part c = verdict_by_stage cs part c
-verdict_by_stage (Unknown ∷ cs) part c = inside_verdict cs part c
-verdict_by_stage _ _ _ = refl
+verdict_by_stage cs part c = grind (arith, inside_verdict)
 
 inside_kept : (cs : List Cond) (c : Cond) → is_kept cs c ≡ kept_at (stage_inside cs) c
-inside_kept [] c = and-true (not (is_false c))
-inside_kept (Yes ∷ []) c = and-false (not (is_false c))
-inside_kept (Yes ∷ d ∷ cs) c = and-false (not (is_false c))
 inside_kept (No ∷ cs) c = inside_kept cs c
 inside_kept (Unknown ∷ cs) c = inside_kept cs c
+inside_kept cs c = grind (arith, and-true, and-false)
 
 -- A group is kept if it is so by its stage.
 pub kept_by_stage : (cs : List Cond) (c : Cond) → is_kept cs c ≡ kept_at (stage cs) c
-kept_by_stage [] c = and-true (not (is_false c))
-kept_by_stage (Yes ∷ cs) c = and-false (not (is_false c))
 kept_by_stage (No ∷ cs) c = kept_by_stage cs c
-kept_by_stage (Unknown ∷ cs) c = inside_kept cs c
+kept_by_stage cs c = grind (arith, and-true, and-false, inside_kept)
 
 inside_next : (cs : List Cond) (c : Cond) → stage_inside (cs ++ c ∷ []) ≡ next_stage (stage_inside cs) c
-inside_next [] Yes = refl
-inside_next [] No = refl
-inside_next [] Unknown = refl
-inside_next (Yes ∷ []) c = refl
-inside_next (Yes ∷ d ∷ cs) c = refl
 inside_next (No ∷ cs) c = inside_next cs c
 inside_next (Unknown ∷ cs) c = inside_next cs c
+inside_next cs c = grind arith
 
 -- One more group leads to the next stage.
 pub stage_next : (cs : List Cond) (c : Cond) → stage (cs ++ c ∷ []) ≡ next_stage (stage cs) c
-stage_next [] Yes = refl
 stage_next (No ∷ cs) c = stage_next cs c
-stage_next (Unknown ∷ cs) c = inside_next cs c
-stage_next _ _ = refl
+stage_next cs c = grind (arith, inside_next)
 
 inside_endif : (cs : List Cond) → (if not (any_true cs) then Keep else if ends_with_first_true cs then Keep else Remove) ≡ endif_at (stage_inside cs)
-inside_endif [] = refl
-inside_endif (Yes ∷ []) = refl
-inside_endif (Yes ∷ d ∷ cs) = refl
 inside_endif (No ∷ cs) = inside_endif cs
 inside_endif (Unknown ∷ cs) = inside_endif cs
+inside_endif cs = grind arith
 
 -- The verdict of the `#endif` is that of its stage.
 pub endif_by_stage : (cs : List Cond) → endif_verdict cs ≡ endif_at (stage cs)
 endif_by_stage (No ∷ cs) = endif_by_stage cs
-endif_by_stage (Unknown ∷ cs) = inside_endif cs
-endif_by_stage _ = refl
+endif_by_stage cs = grind (arith, inside_endif)

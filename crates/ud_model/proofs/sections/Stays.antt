@@ -2,17 +2,14 @@
 -- an opener's verdict.
 use Rattle.std.proofs.Common.{◌≡◌, List, [], ◌∷◌, ◌++◌, length, Bool, true, not, ◌&&◌, if◌then◌else◌, refl, append_assoc, append-nil, subst, arith}
 use Rattle.ud_model.specs.declared.cond.Cond.{Cond}
-use Rattle.ud_model.specs.declared.cond.Cond.TheVariants.{Yes, No, Unknown}
+use Rattle.ud_model.specs.declared.cond.Cond.TheVariants.{Yes, No}
 use Rattle.ud_model.specs.declared.verdict.Verdict.TheVariants.{Keep, Remove, ToEndif}
 use Rattle.ud_model.specs.sections.Tree.{Item, Nodes, Groups, Elifs, Head, Tree, nothing, text, section, conditional, otherwise, first, elif, closed, open_section, lines}
-use Rattle.ud_model.specs.sections.Pruning.{Part, an_if, an_elif, an_else, given_way, false_before, next_after, further_on, up_to_true, verdict_in_position, later_verdict, any_true, ends_with_first_true, Mark, marked, is_kept, is_inside_kept, gives_way, opener_verdict, endif_verdict, conds_of_elifs, conds_of_groups, conds_of_head, marks_of_nodes, marks_of_groups, marks_of_elifs, marks_of_head, marks_in, marks}
+use Rattle.ud_model.specs.sections.Pruning.{Part, an_if, an_elif, an_else, next_after, further_on, up_to_true, verdict_in_position, later_verdict, Mark, marked, is_kept, is_inside_kept, opener_verdict, endif_verdict, conds_of_elifs, conds_of_groups, marks_of_nodes, marks_of_groups, marks_of_elifs, marks_in, marks}
 use Rattle.ud_model.specs.aids.SoFar.{verdict_so_far, nodes_so_far, groups_so_far, elifs_so_far, head_so_far, marks_so_far}
 use Rattle.ud_model.proofs.text.Pushes.{by_push}
 use Rattle.ud_model.proofs.sections.Growth.{Adds, adds_text, adds_if, elif_after_if, elif_after_elif, else_after_if, else_after_elif, adds_endif, adds_under, complete}
 use Rattle.ud_model.proofs.sections.Unique.{length_by, stay_by}
-
-removed_either_way : (b : Bool) (part : Part) → verdict_in_position (if b then given_way else false_before) part ≡ Remove
-removed_either_way b part = grind arith
 
 -- The table is taken by its rows, if the section doesn't give way and some group before is kept.
 after_first : (some ends : Bool) (part : Part) (c : Cond) →
@@ -24,10 +21,8 @@ after_first some ends part c = grind arith
 -- change no opener's verdict.
 pub table_so_far : (before later : List Cond) (part : Part) (c : Cond) →
     opener_verdict (before ++ c ∷ later) before part c ≡ verdict_so_far before part c
-table_so_far [] later part No = removed_either_way (gives_way later) part
 table_so_far (No ∷ bs) later part c = table_so_far bs later part c
-table_so_far (Unknown ∷ bs) later part c = after_first (any_true bs) (ends_with_first_true bs) part c
-table_so_far _ _ _ _ = refl
+table_so_far before later part c = grind (arith, after_first)
 
 module _ {L : Type 0} where
   mutual
@@ -52,14 +47,10 @@ module _ {L : Type 0} where
           nodes_same (kept && is_kept (conds_of_elifs es) o.cond) ns,
         )
 
-  head_same : (kept : Bool) (h : Head L) → marks_of_head kept (conds_of_head h) h ≡ head_so_far kept h
-  head_same kept h = grind (arith, elifs_same)
-
   -- The marks by the table over the whole section are those by the groups so far.
   pub marks_so_far_same : (kept : Bool) (t : Tree L) → marks_in kept t ≡ marks_so_far kept t
   marks_so_far_same kept (closed ns) = nodes_same kept ns
-  marks_so_far_same kept (open_section ns h t) =
-      rw (nodes_same kept ns, head_same kept h, marks_so_far_same (kept && is_inside_kept h) t)
+  marks_so_far_same kept (open_section ns h t) = grind (arith, nodes_same, elifs_same, marks_so_far_same (kept && is_inside_kept h) t)
 
   pub groups_so_far-complete : (kept : Bool) (h : Head L) (b : Nodes L) →
       groups_so_far kept (complete h b) ≡ head_so_far kept h ++ nodes_so_far (kept && is_inside_kept h) b

@@ -43,9 +43,7 @@ module _ {L : Type 0} where
 
   -- A tree with one line more has grown by it.
   pub grows : (t u : Tree L) (x : Item L) → lines u ≡ lines t ++ x ∷ [] → Adds t x u
-  grows t u x e =
-      let a : (v : Tree L) × (lines v ≡ lines t) × Adds v x u = tree_before (lines t) x u e in
-      subst (λ v. Adds v x u) (unique a.0 t a.1) a.2
+  grows t u x e = let a : (v : Tree L) × (lines v ≡ lines t) × Adds v x u = tree_before (lines t) x u e in grind (arith, unique a.0 t a.1, a.2)
 
 -- A list with one element more for each line is as long as the lines, and stays in longer texts.
 module _ {L A : Type 0} (f : Tree L → List A)
@@ -62,8 +60,7 @@ module _ {L A : Type 0} (f : Tree L → List A)
       (rest : List A) × (f u ≡ f t ++ rest)
   stay_by none t u e = ([], rw (unique u t (e ∙ append-nil (lines t))) (sym (append-nil (f t))))
   stay_by (push {xs = ys} y p) t u e =
-      let b : (v : Tree L) × (lines v ≡ lines t ++ ys) × Adds v y u =
-      tree_before (lines t ++ ys) y u (e ∙ sym (append_assoc (lines t) ys (y ∷ []))) in
+      let b : (v : Tree L) × (lines v ≡ lines t ++ ys) × Adds v y u = grind (arith, tree_before, append_assoc) in
       let m : (k : A) × (f u ≡ f b.0 ++ k ∷ []) = add b.0 u y b.2 in
       let r : (rest : List A) × (f b.0 ≡ f t ++ rest) = stay_by p t b.0 b.1 in
       (r.0 ++ m.0 ∷ [], rw (m.1, r.1) (append_assoc (f t) r.0 (m.0 ∷ [])))

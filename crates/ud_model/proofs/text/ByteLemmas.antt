@@ -1,10 +1,9 @@
 -- White space and words, by std's functions for tests and positions.
-use Rattle.std.proofs.Common.{◌≡◌, ◌∙◌, ◌≤◌, ◌<◌, nat_lt, Some, None, unwrap_or, slice_get, arith, ℕ, ◌+◌, List, [], ◌∷◌, Bool, true, false, not, cond, length, take, drop, refl, ap, if◌then◌else◌}
+use Rattle.std.proofs.Common.{◌≡◌, ◌∙◌, ◌≤◌, ◌<◌, nat_lt, Some, None, unwrap_or, slice_get, arith, ℕ, ◌+◌, List, [], ◌∷◌, Bool, true, false, not, cond, length, take, drop, refl, ap, if◌then◌else◌, ◌&&◌, get_or, sym}
 use Rattle.std.specs.List.{list_all, position, position_or_len}
 use Rattle.std.proofs.lemmas.List.Sums.{prefix_len-le-length}
 use Rattle.std.proofs.lemmas.Bool.Decides.{nat_tests}
 use Rattle.ud_model.specs.text.Bytes.{is_white, is_word_byte, are_word_bytes, is_digit, is_identifier, leading_word, skip_word, skip_white}
-use Rattle.std.proofs.Common.{◌&&◌, get_or, sym}
 
 -- `all` with `is_word_byte` tests each byte for a word byte.
 pub list_all-word : (bytes : List ℕ) → list_all (λ b. is_word_byte b) bytes ≡ are_word_bytes bytes
@@ -54,15 +53,10 @@ word_and_rest bytes n e =
 abbrev pub Continues : ℕ → List ℕ → List ℕ → Type 0
 Continues count word more = (count < 4 → length word ≡ count) × (4 ≤ count → length word ≡ 4 + length (leading_word more))
 
-of_four : (w x y z : Bool) (a b c d count : ℕ) (more : List ℕ) →
-    count ≡ length (if w then a ∷ (if x then b ∷ (if y then c ∷ (if z then d ∷ [] else []) else []) else []) else []) →
-    Continues count (if w then a ∷ (if x then b ∷ (if y then c ∷ (if z then d ∷ leading_word more else []) else []) else []) else []) more
-of_four w x y z a b c d count more e = grind arith
-
 -- The leading word ends among the first four bytes, or continues after them.
 pub word_of_four : (bytes : List ℕ) (count : ℕ) → 4 ≤ length bytes →
     count ≡ length (leading_word (get_or bytes 0 0 ∷ get_or bytes 1 0 ∷ get_or bytes 2 0 ∷ get_or bytes 3 0 ∷ [])) → Continues count (leading_word bytes) (drop 4 bytes)
-word_of_four (a ∷ b ∷ c ∷ d ∷ more) count h e = of_four (is_word_byte a) (is_word_byte b) (is_word_byte c) (is_word_byte d) a b c d count more e
+word_of_four (a ∷ b ∷ c ∷ d ∷ more) count h e = grind arith
 word_of_four bytes count h e = absurd (omega (arith, h))
 
 -- The position of the first byte that passes, or the length if none does.

@@ -149,8 +149,7 @@ first_piece a u = by_quote (is_quote a) refl
     by_next false true e f g h =
         let b : (rest : List ℕ) × (u ≡ slash ∷ rest) = begins_is slash u g in
         subst First (ap₂ (λ (n : ℕ) (l : List ℕ). n ∷ l) (sym (eqb-true a slash e)) (sym b.1)) (first_line b.0 (line_end b.0))
-    by_next false false e f g h =
-        first_single a u h (ap₂ (λ (x y : Bool). (a == slash) && (x || y)) f g ∙ ap (λ (x : Bool). x && false) e)
+    by_next false false e f g h = grind (arith, first_single)
 
     by_slash : (s : Bool) → (a == slash) ≡ s → is_quote a ≡ false → First (a ∷ u)
     by_slash true e h = by_next (starts_with_byte star u) (starts_with_byte slash u) e refl refl h

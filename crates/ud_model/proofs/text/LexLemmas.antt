@@ -20,11 +20,8 @@ open_size : (inside : List ℕ) → NoClose inside → comment_size inside ≡ l
 open_size [] n = refl
 open_size (a ∷ inside) n = grind (arith, open_size inside n.1)
 
-line_end_size : (rest : List ℕ) → IsLineEnd rest → line_comment_size rest ≡ 0
-line_end_size rest e = grind arith
-
 line_inside_size : (inside rest : List ℕ) → NoNewline inside → IsLineEnd rest → line_comment_size (inside ++ rest) ≡ length inside
-line_inside_size [] rest n e = line_end_size rest e
+line_inside_size [] rest n e = grind arith
 line_inside_size (a ∷ inside) rest n e = grind (arith, line_inside_size inside rest n.1 e)
 
 literal_end_size : (q : ℕ) (p : Bool) (rest : List ℕ) → IsLineEnd rest → literal_size q p rest ≡ 0

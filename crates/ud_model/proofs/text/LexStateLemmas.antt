@@ -1,13 +1,13 @@
 -- States: one more byte takes a text's state to the next one.
-use Rattle.std.proofs.Common.{◌≡◌, ℕ, zero, suc, ◌≤◌, ◌==◌, List, [], ◌∷◌, ◌++◌, length, drop, map, Bool, true, false, ◌&&◌, if◌then◌else◌, refl, sym, ◌∙◌, ap, subst, append_assoc, append-nil, arith, length-append}
+use Rattle.std.proofs.Common.{◌≡◌, ℕ, zero, suc, ◌≤◌, ◌==◌, List, [], ◌∷◌, ◌++◌, length, drop, map, Bool, true, ◌&&◌, if◌then◌else◌, refl, sym, ◌∙◌, ap, subst, append_assoc, append-nil, arith, length-append}
 use Rattle.std.proofs.Math.Bool.{and-false, and-true}
 use Rattle.std.proofs.lemmas.List.{map-append, length-map, drop-append-le}
 use Rattle.std.proofs.lemmas.List.Folds.{list_all-append}
-use Rattle.ud_model.specs.text.Bytes.{newline, space, is_quote, is_white}
-use Rattle.ud_model.specs.text.Lexemes.{LexemeKind, literal, single, Cell, lexeme_at, lex_from, lex, shown, ends_line, open_line}
+use Rattle.ud_model.specs.text.Bytes.{newline, space, is_white}
+use Rattle.ud_model.specs.text.Lexemes.{LexemeKind, single, Cell, lexeme_at, lex_from, lex, shown, ends_line, open_line}
 use Rattle.ud_model.specs.text.Scanning.{is_blank}
 use Rattle.ud_model.specs.aids.LexStates.{LexState, in_text, at_slash, in_block, at_star, in_line, in_literal, at_backslash, cells_after, LexesTo, next_state, opens_comment, masked_byte, stays_white, blank_last, mask, Masks}
-use Rattle.ud_model.proofs.text.Steps.{cell, settles, after_step}
+use Rattle.ud_model.proofs.text.Steps.{settles, after_step}
 
 -- A text has as many cells as bytes, from any state on.
 pub length-lex_from : (k : LexemeKind) (n : ℕ) (u : List ℕ) → length (lex_from k n u) ≡ length u
@@ -39,35 +39,12 @@ is_blank-append xs ys = list_all-append (λ (c : Cell). is_white (shown c)) xs y
 pub is_blank_last : (xs : List Cell) (c : Cell) → is_blank (xs ++ c ∷ []) ≡ (is_blank xs && is_white (shown c))
 is_blank_last xs c = is_blank-append xs (c ∷ []) ∙ ap (λ (b : Bool). is_blank xs && b) (and-true (is_white (shown c)))
 
-comment_last : (xs : List Cell) (c : Cell) → is_white (shown c) ≡ true → is_blank (xs ++ c ∷ []) ≡ is_blank xs
-comment_last xs c e = is_blank_last xs c ∙ ap (λ (b : Bool). is_blank xs && b) e ∙ and-true (is_blank xs)
-
-black_last : (xs : List Cell) (c : Cell) → is_white (shown c) ≡ false → is_blank (xs ++ c ∷ []) ≡ false
-black_last xs c e = is_blank_last xs c ∙ ap (λ (b : Bool). is_blank xs && b) e ∙ and-false (is_blank xs)
-
-single_white : (b : ℕ) (x : List Cell) →
-    is_blank (open_line x (cell single b ∷ [])) ≡ (if b == newline then true else is_blank x && is_white b)
-single_white b x = grind (arith, is_blank_last)
-
-literal_white : (b : ℕ) (x : List Cell) → is_quote b ≡ true →
-    is_blank (open_line x (cell literal b ∷ [])) ≡ (if b == newline then true else is_blank x && is_white b)
-literal_white b x q = grind (arith, is_blank_last)
-
-white-in_text : (b : ℕ) (x : List Cell) → is_blank (open_line x (settles in_text b)) ≡ stays_white in_text (is_blank x) b
-white-in_text b x = grind (arith, literal_white, single_white)
-
 white-at_slash : (b : ℕ) (x : List Cell) → is_blank (open_line x (settles at_slash b)) ≡ stays_white at_slash (is_blank x) b
-white-at_slash b x = grind (arith, black_last, comment_last)
-
-white_inside : (b : ℕ) (x : List Cell) →
-    is_blank (open_line x (if b == newline then cell single b ∷ [] else cell literal b ∷ []))
-    ≡ (if b == newline then true else is_blank x && is_white b)
-white_inside b x = grind (arith, is_blank_last)
+white-at_slash b x = grind (arith, is_blank_last, and-false)
 
 -- The open line after a byte is white as `stays_white` computes it.
 pub white_step : (w : LexState) (b : ℕ) (x : List Cell) → is_blank (open_line x (settles w b)) ≡ stays_white w (is_blank x) b
-white_step w b x =
-    grind (arith, white-in_text, white-at_slash, white_inside, comment_last)
+white_step w b x = grind (arith, white-at_slash, is_blank_last)
 
 -- One more byte takes the text to the next state.
 pub LexesTo-step : {text : List ℕ} {w : LexState} {white : Bool} (b : ℕ) → LexesTo text w white → LexesTo (text ++ b ∷ []) (next_state w b) (stays_white w white b)
@@ -77,8 +54,7 @@ LexesTo-step {text} {w} {white} b r = record {
       ap lex (append_assoc text (b ∷ []) rest) ∙ r.splits (b ∷ rest)
       ∙ ap (λ (cells : List Cell). r.settled ++ cells) (after_step w b rest)
       ∙ sym (append_assoc r.settled (settles w b) (cells_after (next_state w b) rest));
-  white_is = ap (λ (v : Bool). stays_white w v b) r.white_is ∙ sym (white_step w b (open_line [] r.settled))
-      ∙ ap is_blank (sym (open_line-append [] r.settled (settles w b)));
+  white_is = cc (r.white_is, white_step w b (open_line [] r.settled), open_line-append [] r.settled (settles w b));
 }
 
 -- The empty text ends between lexemes.

@@ -181,19 +181,13 @@ texts_of-whole t more = (
 
 -- Whole lines and a last one without a newline are formed.
 pub formed : (ls : List (List ℕ)) (r : List ℕ) → AreWhole ls → NoNewline r → AreFormed (ls ++ last_line r)
-formed [] [] whole h = tt
-formed [] (b ∷ bs) whole h = inr ((λ e. cc), h)
-formed (l ∷ []) [] whole h = inl whole.0
 formed (l ∷ []) (b ∷ bs) whole h = (whole.0, formed [] (b ∷ bs) tt h)
 formed (l ∷ m ∷ ls) r whole h = (whole.0, formed (m ∷ ls) r whole.1 h)
+formed ls r h g = grind arith
 
 -- A text has lines.
 pub lines_exist : (t : List ℕ) → AreLines t (texts_of t)
-lines_exist t = record {
-  joined = parts_joined t ∙ ap (λ (r : List ℕ). concat (whole_lines t) ++ r) (sym (concat-last_line (partial_line t)))
-      ∙ sym (concat-append (whole_lines t) (last_line (partial_line t)));
-  formed = formed (whole_lines t) (partial_line t) (are_whole t) (partial_line-open t);
-}
+lines_exist t = grind (arith, parts_joined, concat-last_line, concat-append, formed, are_whole, partial_line-open)
 
 -- Formed lines are the lines of the text that they form when joined.
 pub texts_of-formed : (ls : List (List ℕ)) → AreFormed ls → ls ≡ texts_of (concat ls)

@@ -1,5 +1,5 @@
 -- Other line scans: a line that stands alone changes the scan of no other line.
-use Rattle.std.proofs.Common.{◌≡◌, List, [], ◌∷◌, ◌++◌, refl, sym, ◌∙◌, ap, append_assoc, append-nil, inl, inr, ◌⊎◌}
+use Rattle.std.proofs.Common.{◌≡◌, List, [], ◌∷◌, ◌++◌, refl, sym, ◌∙◌, ap, append_assoc, append-nil, inl, inr, ◌⊎◌, arith}
 use Rattle.ud_model.specs.text.Lines.{Line}
 use Rattle.ud_model.specs.text.Scans.{Scan, Reading}
 use Rattle.ud_model.specs.text.Scanning.{scan_after, next_reading, with_next, EndsLogicalLine, ends_with}
@@ -8,7 +8,7 @@ use Rattle.ud_model.specs.declared.kind.Mode.{Mode}
 use Rattle.ud_model.specs.declared.kind.Mode.TheVariants.{C}
 use Rattle.ud_model.proofs.text.ScanLaws.{scan_alone}
 
-after_end : (before group : List Reading) (m : Mode) (l : Line) → EndsLogicalLine before → scan_after (before ++ group) m l ≡ scan_after group m l
+pub after_end : (before group : List Reading) (m : Mode) (l : Line) → EndsLogicalLine before → scan_after (before ++ group) m l ≡ scan_after group m l
 after_end before group m l (ends_with prefix n last alone some) = scan_alone prefix group n m last l alone some
 
 -- A line that stands alone is scanned as if it were the first.
@@ -23,11 +23,9 @@ ends_there before l s = ends_with before C l (ap (λ (c : Scan). c.joins_after) 
 pub scanned_alike : {before after : List Reading} → AreReadAlike before after → (group : List Reading) (m : Mode) (l : Line) → scan_after (before ++ group) m l ≡ scan_after (after ++ group) m l
 scanned_alike no_lines group m l = refl
 scanned_alike (same_line {before = before} {after = after} p k) group m l =
-    let same : next_reading before C k ≡ next_reading after C k =
-    ap (λ c. record { line = k; mode = C; scan = c }) (ap (λ rs. scan_after rs C k) (sym (append-nil before)) ∙ scanned_alike p [] C k ∙ ap (λ rs. scan_after rs C k) (append-nil after)) in
+    let same : next_reading before C k ≡ next_reading after C k = cc (append-nil before, scanned_alike p [] C k, append-nil after) in
     ap (λ rs. scan_after rs m l) (append_assoc before (next_reading before C k ∷ []) group)
     ∙ scanned_alike p (next_reading before C k ∷ group) m l
     ∙ ap (λ (r : Reading). scan_after (after ++ r ∷ group) m l) same
     ∙ ap (λ rs. scan_after rs m l) (sym (append_assoc after (next_reading after C k ∷ []) group))
-scanned_alike (other_line {before = before} {after = after} p k j s t) group m l =
-    after_end (with_next before C k) group m l (ends_there before k s) ∙ sym (after_end (with_next after C j) group m l (ends_there after j t))
+scanned_alike (other_line {before = before} {after = after} p k j s t) group m l = grind (arith, after_end, ends_there)

@@ -59,13 +59,9 @@ unnumbered line = record { body = line.body; ending = line.ending; number = 0 }
 abbrev pub bare : Reading → Reading
 bare r = record { line = unnumbered r.line; mode = r.mode; scan = plain_scan (unnumbered r.line) }
 
-extended_run-unnumbered : (run : List Line) (m : Mode) (line : Line) → extended_run (map unnumbered run) m (unnumbered line) ≡ map unnumbered (extended_run run m line)
-extended_run-unnumbered run m line = grind (arith, map-append)
-
 c_run_from-bare : (run : List Line) (before : List Reading) → c_run_from (map unnumbered run) (map bare before) ≡ map unnumbered (c_run_from run before)
 c_run_from-bare run [] = refl
-c_run_from-bare run (r ∷ before) =
-    ap (λ (ls : List Line). c_run_from ls (map bare before)) (extended_run-unnumbered run r.mode r.line) ∙ c_run_from-bare (extended_run run r.mode r.line) before
+c_run_from-bare run (r ∷ before) = grind (arith, map-append, c_run_from-bare (extended_run run r.mode r.line) before)
 
 spliced_text-unnumbered : (run : List Line) → spliced_text (map unnumbered run) ≡ spliced_text run
 spliced_text-unnumbered [] = refl
@@ -89,8 +85,7 @@ scan_after_run-unnumbered run line =
     simp (text, here, later) refl
 
 scan_after-bare : (before : List Reading) (m : Mode) (line : Line) → scan_after (map bare before) m (unnumbered line) ≡ scan_after before m line
-scan_after-bare before C line =
-    ap (λ (run : List Line). scan_after_run run (unnumbered line)) (c_run_from-bare [] before) ∙ scan_after_run-unnumbered (c_run_of before) line
+scan_after-bare before C line = cc (c_run_from-bare [] before, scan_after_run-unnumbered (c_run_of before) line)
 scan_after-bare before Plain line = refl
 
 -- A scan depends on the bodies, endings and modes of the lines alone.

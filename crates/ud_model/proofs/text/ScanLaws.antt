@@ -9,7 +9,7 @@ use Rattle.ud_model.specs.text.Lexemes.{kind_at_end}
 use Rattle.ud_model.specs.text.Scanning.{is_block, joins, comment_at, scan_after_run, scan_after, next_reading, readings_after, readings_of}
 use Rattle.ud_model.specs.aids.LexStates.{LexState, in_text, LexesTo, next_state, opens_comment, masked_byte, stays_white, kind_in_state, fresh_at, state_after_line, white_after_line, blank_last, Masks}
 use Rattle.ud_model.specs.declared.kind.Mode.{Mode}
-use Rattle.ud_model.specs.declared.kind.Mode.TheVariants.{C, Plain}
+use Rattle.ud_model.specs.declared.kind.Mode.TheVariants.{C}
 use Rattle.ud_model.proofs.text.LexStateLemmas.{LexesTo-nil, Masks-step}
 use Rattle.ud_model.proofs.text.ScanLemmas.{LexesTo-same, LexesTo-close, Masks-start, kind_at_place, spliced_text-append, joined_last, joins_last, scan_behind_is, run_of_last}
 
@@ -35,9 +35,7 @@ Masks-append {n} [] text w white masked m = subst (λ (t : List ℕ). Masks n t 
 Masks-append {n} (b ∷ bytes) text w white masked m =
     let v : Bool = stays_white w white b in
     let now : List ℕ = (if opens_comment w b then blank_last masked else masked) ++ masked_byte w b ∷ [] in
-    subst (λ (t : List ℕ). Masks n t (place_after (next_state w b) bytes) (white_after (next_state w b) v bytes) (masked_after (next_state w b) now bytes))
-    (append_assoc text (b ∷ []) bytes)
-    (Masks-append bytes (text ++ b ∷ []) (next_state w b) v now (Masks-step b m))
+    grind (arith, append_assoc, Masks-append bytes (text ++ b ∷ []) (next_state w b) v now (Masks-step b m))
 
 -- A text with further bytes ends in a state.
 pub LexesTo-append : (text : List ℕ) (w : LexState) (white : Bool) (bytes : List ℕ) → LexesTo text w white →
@@ -86,8 +84,7 @@ starts_anew run last alone some =
     let closed : stays_open last ≡ false = ap₂ (λ (s t : Bool). s || t) parts.0 (not_empty last.ending some) in
     let v : LexState = place_after (place_after in_text (spliced_text run)) (content last) in
     let white : Bool = white_after (place_after in_text (spliced_text run)) (white_after in_text true (spliced_text run)) (content last) in
-    let inside : LexesTo (spliced_text run ++ content last) v white =
-    LexesTo-append (spliced_text run) (place_after in_text (spliced_text run)) (white_after in_text true (spliced_text run)) (content last) (LexesTo-all (spliced_text run)) in
+    let inside : LexesTo (spliced_text run ++ content last) v white = grind (arith, LexesTo-append, place_after, LexesTo-all) in
     let read : LexesTo (spliced_text run ++ spliced_part last) (next_state v newline) (stays_white v white newline) =
     LexesTo-same refl (ap (λ (o : Bool). state_after_line o v) closed) (ap (λ (o : Bool). white_after_line o v white) closed) (LexesTo-close (spliced_text run) last v white inside) in
     let end : (next_state v newline ≡ in_text) × ((u : Bool) → stays_white v u newline ≡ true) =
@@ -152,15 +149,11 @@ anew_code prefix group last line alone some =
     ∙ ap (λ (ls : List Line). c_run_from ls group) (run_of_last prefix (next_reading prefix C last) ∙ sym (append-nil run)))
     ∙ scan_from_run run [] group line (starts_anew (c_run_of prefix) last j some) j
 
-anew_plain : (prefix group : List Reading) (last line : Line) →
-    scan_after_run (c_run_of ((prefix ++ next_reading prefix Plain last ∷ []) ++ group)) line ≡ scan_after_run (c_run_of group) line
-anew_plain prefix group last line = grind (arith, c_run_from-append)
-
 -- After a line that has an ending and doesn't join the next one, lines are scanned as if no line
 -- came before them.
 pub scan_alone : (prefix group : List Reading) (m n : Mode) (last line : Line) → (scan_after prefix m last).joins_after ≡ false → last.ending ≢ [] →
     scan_after ((prefix ++ next_reading prefix m last ∷ []) ++ group) n line ≡ scan_after group n line
-scan_alone prefix group m n last line alone some = grind (arith, anew_code, anew_plain)
+scan_alone prefix group m n last line alone some = grind (arith, anew_code, c_run_from-append)
 
 -- So further lines are read as if no line came before them.
 pub readings_alone : (prefix group : List Reading) (m : Mode) (last : Line) (lines : List (Mode × Line)) → (scan_after prefix m last).joins_after ≡ false →

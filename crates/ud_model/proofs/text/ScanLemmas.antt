@@ -40,9 +40,7 @@ fresh_clean : (text : List ℕ) (w : LexState) (white : Bool) (s : List ℕ) (r 
     is_blank (open_line [] (take (length text) (lex (text ++ s)))) ≡ white
 fresh_clean text w white s r none =
     let size : length r.settled ≡ length text = omega (arith, settled_all r, ap (λ (cells : List Cell). length cells) none) in
-    ap (λ (cells : List Cell). is_blank (open_line [] (take (length text) cells))) (r.splits s)
-    ∙ ap (λ (cells : List Cell). is_blank (open_line [] cells)) (take_at r.settled (cells_after w s) (length text) size)
-    ∙ sym r.white_is
+    cc (r.splits s, take_at r.settled (cells_after w s) (length text) size, r.white_is)
 
 slash_first : (t c : Bool) (s : List ℕ) (x : List Cell) (m n : ℕ) →
     (let piece : Extent =
@@ -84,14 +82,10 @@ opens_comment-feed w = grind arith
 pub fresh-close : (w : LexState) (white : Bool) (line : Line) → fresh_at w white (spliced_part line) ≡ fresh_at w white (content line)
 fresh-close w white line = grind arith
 
-close_by : (o : Bool) (text : List ℕ) (w : LexState) (white : Bool) → LexesTo text w white →
-    LexesTo (text ++ (if o then [] else newline ∷ [])) (state_after_line o w) (white_after_line o w white)
-close_by o text w white r = grind (arith, append-nil, LexesTo-step)
-
 -- The state after a line's content and its newline.
 pub LexesTo-close : (text : List ℕ) (line : Line) (w : LexState) (white : Bool) → LexesTo (text ++ content line) w white →
     LexesTo (text ++ spliced_part line) (state_after_line (stays_open line) w) (white_after_line (stays_open line) w white)
-LexesTo-close text line w white r = grind (arith, append_assoc, close_by)
+LexesTo-close text line w white r = grind (arith, append_assoc, append-nil, LexesTo-step)
 
 shown_at_end : (o : Bool) (text c : List ℕ) (w : LexState) (white : Bool) → LexesTo (text ++ c) w white →
     take (length c) (drop (length text) (mask ((text ++ c) ++ (if o then [] else newline ∷ [])))) ≡ drop (length text) (mask (text ++ c))

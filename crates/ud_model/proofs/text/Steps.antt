@@ -131,10 +131,4 @@ step-at_slash b u = slash_by (b == star) (b == slash) b u refl
 
 -- A byte settles these cells, and the text goes on from the next state.
 pub after_step : (w : LexState) (b : ℕ) (u : List ℕ) → cells_after w (b ∷ u) ≡ settles w b ++ cells_after (next_state w b) u
-after_step in_text b u = step-in_text b u
-after_step at_slash b u = step-at_slash b u
-after_step in_block b u = step-in_block b u
-after_step at_star b u = step-at_star b u
-after_step in_line b u = step-in_line b u
-after_step (in_literal q) b u = step-in_literal q b u
-after_step (at_backslash q) b u = step-at_backslash q b u
+after_step w b u = grind (arith, step-in_text, step-at_slash, step-in_block, step-at_star, step-in_line, step-in_literal, step-at_backslash)

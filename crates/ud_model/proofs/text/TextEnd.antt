@@ -1,8 +1,8 @@
 -- The end of a text lies in its last lexeme, if that is open.
-use Rattle.std.proofs.Common.{◌≡◌, ◌≢◌, ℕ, ◌==◌, List, [], ◌∷◌, ◌++◌, true, ◌⊎◌, refl, sym, ◌∙◌, ap, subst, append_assoc, append-nil, arith}
+use Rattle.std.proofs.Common.{◌≡◌, ◌≢◌, ℕ, ◌==◌, List, [], ◌∷◌, ◌++◌, true, ◌⊎◌, refl, sym, ◌∙◌, ap, subst, append_assoc, append-nil, arith, rules}
 use Rattle.std.specs.Prelude.{◌↔◌}
 use Rattle.std.proofs.Math.Bool.{and-false}
-use Rattle.ud_model.specs.text.Bytes.{newline, slash, star, backslash, space, is_quote}
+use Rattle.ud_model.specs.text.Bytes.{newline, slash, backslash, space, is_quote}
 use Rattle.ud_model.specs.text.Lines.{Line, NoNewline}
 use Rattle.ud_model.specs.text.Scans.{Reading}
 use Rattle.ud_model.specs.text.Splicing.{is_spliced, last_is_spliced, spliced_part, spliced_text, c_run_of}
@@ -39,9 +39,8 @@ behind_piece : (before k : LexemeKind) (bytes rest : List ℕ) → IsLexeme byte
 behind_piece before k bytes rest p = grind (arith, cut_piece, last_kind-append, last_in)
 
 not_close_spaced : (inside : List ℕ) → NoClose inside → NoClose (spaced inside)
-not_close_spaced [] n = (refl, tt)
-not_close_spaced (a ∷ []) n = (and-false (a == star), (refl, tt))
 not_close_spaced (a ∷ b ∷ inside) n = (n.0, not_close_spaced (b ∷ inside) n.1)
+not_close_spaced inside h = grind (arith, and-false)
 
 no_newline_space : space ≢ newline
 no_newline_space e = omega (arith, e)
@@ -108,9 +107,7 @@ behind_first before k text bytes rest e p c more f =
 
 -- A space after an open lexeme has its kind.
 behind_open : (before k : LexemeKind) (bytes : List ℕ) → IsOpen bytes k → last_kind before (lex (spaced bytes)) ≡ k
-behind_open before k bytes o =
-    ap (λ (t : List ℕ). last_kind before (lex t)) (sym (append-nil (spaced bytes)))
-    ∙ behind_piece before k (spaced bytes) [] (open_goes_on bytes o) ∙ no_cells k
+behind_open before k bytes o = cc (append-nil (spaced bytes), behind_piece before k (spaced bytes) [] (open_goes_on bytes o), no_cells k)
 
 -- A space after another lexeme is a single byte.
 behind_ended : (before k : LexemeKind) (bytes : List ℕ) → IsLexeme bytes (space ∷ []) k → last_kind before (lex (spaced bytes)) ≡ single
@@ -126,12 +123,10 @@ lone_text text bytes rest e none = e ∙ ap (λ (r : List ℕ). bytes ++ r) none
 
 open_end : (before : LexemeKind) (text : List ℕ) (pieces : List Lexeme) → AreLexemes pieces text → (k : LexemeKind) → LastIsOpen k pieces →
     last_kind before (lex (spaced text)) ≡ k
-open_end before text [] none k h = absurd h
-open_end before text (p ∷ []) (rest, e, is, none) k (same, o) =
-    ap (λ (t : List ℕ). last_kind before (lex (spaced t))) (lone_text text p.bytes rest e none) ∙ behind_open before k p.bytes o
 open_end before text (p ∷ q ∷ pieces) (rest, e, is, others) k h =
     let b : (c : ℕ) × (more : List ℕ) × (rest ≡ c ∷ more) = begins pieces q rest others in
     behind_first before p.kind text p.bytes rest e is b.0 b.1 b.2 ∙ open_end p.kind rest (q ∷ pieces) others k h
+open_end before text pieces h k g = search (rules, lone_text, behind_open)
 
 end_open : (before : LexemeKind) (text : List ℕ) (pieces : List Lexeme) → AreLexemes pieces text → (k : LexemeKind) → k ≢ single →
     last_kind before (lex (spaced text)) ≡ k → LastIsOpen k pieces

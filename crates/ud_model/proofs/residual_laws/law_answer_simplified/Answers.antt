@@ -6,7 +6,7 @@ use Rattle.ud_model.specs.sections.Items.{rules_of}
 use Rattle.ud_model.specs.output.Rereading.{line_bytes}
 use Rattle.ud_model.proofs.output.AnswerLaws.{answered_selects}
 use Rattle.ud_model.proofs.output.SimplifiedSelected.{selects, chosen_world}
-use Rattle.ud_model.proofs.output.SimplifiedAnswers.{nodes_simplified}
+use Rattle.ud_model.proofs.output.ChosenWorlds.{nodes_simplified}
 use Rattle.ud_model.proofs.output.SimplifiedRuns.{answered_left}
 use Rattle.ud_model.proofs.residual_laws.law_answer_simplified.Goals as goal
 

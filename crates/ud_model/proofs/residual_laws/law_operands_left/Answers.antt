@@ -1,5 +1,5 @@
 -- Case by case.
-use Rattle.ud_model.proofs.output.OperandsLeft.{operands_left}
+use Rattle.ud_model.proofs.output.SimplifiedAgain.{operands_left}
 use Rattle.ud_model.proofs.residual_laws.law_operands_left.Goals as goal
 
 pub returns : goal.returns

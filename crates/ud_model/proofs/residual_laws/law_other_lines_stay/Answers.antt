@@ -1,5 +1,5 @@
 -- A logical line ends with each line that stands alone.
-use Rattle.std.proofs.Common.{◌≡◌, List, [], ap, sym, ◌∙◌, append-nil}
+use Rattle.std.proofs.Common.{◌≡◌, List, [], append-nil}
 use Rattle.ud_model.specs.text.Lines.{Line}
 use Rattle.ud_model.specs.text.Scans.{Reading}
 use Rattle.ud_model.specs.text.Scanning.{scan_after}
@@ -9,8 +9,7 @@ use Rattle.ud_model.proofs.text.OtherLineScans.{scanned_alone, scanned_alike}
 use Rattle.ud_model.proofs.residual_laws.law_other_lines_stay.Goals as goal
 
 alike : (before after : List Reading) → AreReadAlike before after → (m : Mode) (l : Line) → scan_after before m l ≡ scan_after after m l
-alike before after p m l =
-    ap (λ rs. scan_after rs m l) (sym (append-nil before)) ∙ scanned_alike p [] m l ∙ ap (λ rs. scan_after rs m l) (append-nil after)
+alike before after p m l = cc (append-nil before, scanned_alike p [] m l, append-nil after)
 
 pub returns-clause-alike : goal.returns-clause-alike
 returns-clause-alike c = alike

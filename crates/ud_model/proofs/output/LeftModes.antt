@@ -1,37 +1,54 @@
--- The output for a line in C mode, read again, if the lines before and the output for them end in
--- the same state.
-use Rattle.std.proofs.Common.{◌≡◌, ◌≢◌, ℕ, List, [], ◌∷◌, ◌++◌, map, take, Bool, true, false, ◌||◌, codes, refl, sym, ◌∙◌, ap, ap₂, subst, arith}
+-- The output for a line, read again: in plain mode, and in C mode if the lines before and the output
+-- for them end in the same state.
+use Rattle.std.proofs.Common.{◌≡◌, List, ◌++◌, take, false, codes, ◌∙◌, ap, subst, arith, ◌≢◌, ℕ, [], ◌∷◌, map, Bool, true, ◌||◌, refl, sym}
+use Rattle.ud_model.specs.text.Lines.{Line, text_of}
+use Rattle.ud_model.specs.text.Scans.{Reading, plain_scan, Scan, is_spanning}
+use Rattle.ud_model.specs.sections.Directives.{Content, Span, content_of, Directive, directive}
+use Rattle.ud_model.specs.sections.Tree.{Item}
+use Rattle.ud_model.specs.sections.Items.{Options, item_of, read_after, reading_of}
+use Rattle.ud_model.specs.sections.Faults.{is_cut, is_in_block, keeps_rest}
+use Rattle.ud_model.specs.answer.Printing.{piece_by, keyword_in}
+use Rattle.ud_model.specs.declared.kind.Mode.TheVariants.{Plain, C}
+use Rattle.ud_model.specs.declared.verdict.Verdict.{Verdict}
+use Rattle.ud_model.specs.declared.verdict.Verdict.TheVariants.{Keep, Remove, ToIf, ToElse, ToEndif}
+use Rattle.ud_model.proofs.output.Formed.{IsLeft, EndsIn, not_end}
+use Rattle.ud_model.proofs.output.LeftItems.{becomes_if, becomes_else, becomes_endif, Left, left_if, left_else, left_endif, left_kept}
+use Rattle.ud_model.proofs.output.LeftLines.{LeftLine, kept_body, else_body, endif_body}
+use Rattle.ud_model.proofs.output.LeftScans.{plain_if, plain_cut, SeenAsIf, SeenCut, NextAlike, IfScan, same_next, if_scan, cut_seen}
+use Rattle.ud_model.proofs.output.Suited.{Suits}
 use Rattle.std.proofs.lemmas.Bool.{or_parts}
 use Rattle.ud_model.specs.text.Bytes.{backslash}
-use Rattle.ud_model.specs.text.Lines.{Line, text_of}
-use Rattle.ud_model.specs.text.Scans.{Scan, Reading, is_spanning}
 use Rattle.ud_model.specs.text.Splicing.{is_spliced, content, stays_open, spliced_part, spliced_text, c_run_of}
 use Rattle.ud_model.specs.text.Lexemes.{LexemeKind, kind_at_end}
 use Rattle.ud_model.specs.text.Scanning.{is_block, comment_at, scan_after_run, scan_after}
 use Rattle.ud_model.specs.aids.LexStates.{LexState, in_text, state_after_line, white_after_line}
-use Rattle.ud_model.specs.sections.Directives.{Content, Directive, Span, directive, content_of}
-use Rattle.ud_model.specs.sections.Tree.{Item}
-use Rattle.ud_model.specs.sections.Items.{Options, reading_of, item_of, read_after}
-use Rattle.ud_model.specs.sections.Faults.{is_cut, is_in_block, keeps_rest}
-use Rattle.ud_model.specs.answer.Printing.{piece_by, keyword_in}
-use Rattle.ud_model.specs.declared.kind.Mode.TheVariants.{C}
-use Rattle.ud_model.specs.declared.verdict.Verdict.{Verdict}
-use Rattle.ud_model.specs.declared.verdict.Verdict.TheVariants.{Keep, Remove, ToIf, ToElse, ToEndif}
 use Rattle.ud_model.proofs.sections.Soundness.{reading_of-item_of}
 use Rattle.ud_model.proofs.output.DirectiveFront.{quiet_word}
 use Rattle.ud_model.proofs.output.Each.{Each}
-use Rattle.ud_model.proofs.output.Formed.{EndsIn, IsLeft, not_end}
 use Rattle.ud_model.proofs.output.KeywordPlace.{IsInert}
-use Rattle.ud_model.proofs.output.LeftItems.{becomes_if, becomes_else, becomes_endif}
-use Rattle.ud_model.proofs.output.LeftLines.{LeftLine, kept_body, else_body, endif_body}
-use Rattle.ud_model.proofs.output.LeftReadings.{Left, left_kept, left_if, left_else, left_endif}
-use Rattle.ud_model.proofs.output.LeftScans.{SeenAsIf, SeenCut, NextAlike, IfScan, same_next, if_scan, cut_seen}
 use Rattle.ud_model.proofs.output.LeavesOff.{LeavesOff, HasEnd, kept_scan, leaves_next, leaves_anew}
-use Rattle.ud_model.proofs.output.Rereads.{Carry, alike, Rests}
-use Rattle.ud_model.proofs.output.RereadMore.{last_comment}
+use Rattle.ud_model.proofs.output.RereadMore.{Carry, alike, Rests, last_comment}
 use Rattle.ud_model.proofs.text.ScanLaws.{place_after, white_after, scan_from, scan_after_run-from}
 use Rattle.ud_model.proofs.text.ScanLemmas.{joins_last}
-use Rattle.ud_model.proofs.output.Suited.{Suits}
+
+module _ (o : Options) (xs ys : List (Item Reading)) (l k : Line) where
+  -- By the line's verdict.
+  pub left_plain : (v : Verdict) → IsLeft v → Suits v (item_of o (read_after xs Plain l)) → is_cut (content_of (plain_scan l)) ≡ false →
+      LeftLine v (keyword_in (content_of (plain_scan l))) l k → text_of k ≡ piece_by v (keyword_in (content_of (plain_scan l))) l →
+      Left o v (read_after xs Plain l) (read_after ys Plain k)
+  left_plain Remove h s u b e = absurd h
+  left_plain Keep h s u b e = grind (arith, kept_body)
+  left_plain ToIf h s u b e =
+      let d = becomes_if o (read_after xs Plain l) s in
+      left_if o (read_after xs Plain l) (read_after ys Plain k) d.0 d.1 d.2 d.3
+      (plain_if l k d.0 d.1 (subst (λ (p : Span). LeftLine ToIf p l k) (ap keyword_in d.1) b)) e
+  left_plain ToElse h s u b e = grind (arith, becomes_else, left_else, plain_cut, else_body)
+  left_plain ToEndif h s u b e =
+      let d = becomes_endif o (read_after xs Plain l) s in
+      left_endif o (read_after xs Plain l) (read_after ys Plain k) d.0 d.1 d.2
+      (plain_cut l k d.0 (codes "endif") (b.body ∙ endif_body (keyword_in (content_of (plain_scan l))) l.body ∙ ap (λ (c : Content). take (keyword_in c).at l.body ++ codes "endif") d.1)) e
+
+-- C mode.
 
 calm_by : (s : Bool) (k : LexemeKind) → (s || is_block k) ≡ false → is_in_block (comment_at s k) ≡ false
 calm_by s k e = grind arith
@@ -63,8 +80,7 @@ module _ (o : Options) where
   anew_rests : (ys : List (Item Reading)) (k : Line) → (scan_after (map reading_of ys) C k).joins_after ≡ false → HasEnd k → Rests (ys ++ item_of o (read_after ys C k) ∷ [])
   anew_rests ys k e h = record {
     off = leaves_anew o ys k e h;
-    calm = last_comment ys (item_of o (read_after ys C k)) ∙ ap (λ (r : Reading). is_in_block r.scan.comment) (reading_of-item_of o (read_after ys C k))
-        ∙ calm_alone (c_run_of (map reading_of ys)) k e;
+    calm = cc (last_comment ys (item_of o (read_after ys C k)), reading_of-item_of o (read_after ys C k), calm_alone (c_run_of (map reading_of ys)) k e);
   }
 
   module _ (xs ys : List (Item Reading)) (w : LexState) (white on : Bool) (a : LeavesOff xs w white on) (c : LeavesOff ys w white on) (l k : Line) (ending : k.ending ≡ l.ending) where
@@ -75,12 +91,9 @@ module _ (o : Options) where
     kept_carry : NextAlike w white l k → (scan_after (map reading_of ys) C k).joins_after ≡ (scan_after (map reading_of xs) C l).joins_after → HasEnd l →
         Carry false (with_line xs l) (with_line ys k)
     kept_carry n j h =
-        let p : state_after_line (stays_open k) (place_after w (content k)) ≡ state_after_line (stays_open l) (place_after w (content l)) =
-        ap₂ (λ (s : Bool) (v : LexState). state_after_line s v) n.stays_is n.place_is in
+        let p : state_after_line (stays_open k) (place_after w (content k)) ≡ state_after_line (stays_open l) (place_after w (content l)) = cc (n.stays_is, n.place_is) in
         let q : white_after_line (stays_open k) (place_after w (content k)) (white_after w white (content k))
-        ≡ white_after_line (stays_open l) (place_after w (content l)) (white_after w white (content l)) =
-        ap₂ (λ (s : Bool) (v : LexState). white_after_line s v (white_after w white (content k))) n.stays_is n.place_is
-        ∙ ap (λ (v : Bool). white_after_line (stays_open l) (place_after w (content l)) v) n.white_is in
+        ≡ white_after_line (stays_open l) (place_after w (content l)) (white_after w white (content l)) = cc (n.stays_is, n.place_is, n.white_is) in
         alike (state_after_line (stays_open l) (place_after w (content l))) (white_after_line (stays_open l) (place_after w (content l)) (white_after w white (content l)))
         (scan_after (map reading_of xs) C l).joins_after (leaves_next o xs w white on l a) (leaves_as p q j (leaves_next o ys w white on k c)) (λ e. refl)
         (λ e. anew_rests ys k (j ∙ e) (has_end h))
@@ -105,9 +118,7 @@ module _ (o : Options) where
     cut_code : (d : Directive) (word : List ℕ) → NewWord word → content_of (scan_after (map reading_of xs) C l) ≡ directive d → k.body ≡ take d.keyword.at l.body ++ word →
         SeenCut (scan_after (map reading_of xs) C l) (scan_after (map reading_of ys) C k) d word
     cut_code d word n e b =
-        subst (λ (s : Scan). SeenCut s (scan_after (map reading_of ys) C k) d word) (sym seen_before)
-        (subst (λ (s : Scan). SeenCut (scan_from w white on l) s d word) (sym seen_now)
-        (cut_seen w white on l k d word a.sane (ap content_of (sym seen_before) ∙ e) n.0 (n.1 (take d.keyword.at l.body)) b))
+        grind (arith, seen_before, seen_now, cut_seen w white on l k d word a.sane (ap content_of (sym seen_before) ∙ e) n.0 (n.1 (take d.keyword.at l.body)) b)
 
     -- By the line's verdict.
     pub left_code : (v : Verdict) → IsLeft v → Suits v (item_of o (read_after xs C l)) → is_cut (content_of (scan_after (map reading_of xs) C l)) ≡ false →
@@ -126,9 +137,7 @@ module _ (o : Options) where
         let d = becomes_if o (read_after xs C l) s in
         let f : IfScan w white on l k d.0 =
         if_scan w white on l k d.0 a.sane (ap content_of (sym seen_before) ∙ d.1) (subst (λ (p : Span). LeftLine ToIf p l k) (ap keyword_in d.1) b) in
-        let scanned : SeenAsIf (scan_after (map reading_of xs) C l) (scan_after (map reading_of ys) C k) d.0 =
-        subst (λ (r : Scan). SeenAsIf r (scan_after (map reading_of ys) C k) d.0) (sym seen_before)
-        (subst (λ (r : Scan). SeenAsIf (scan_from w white on l) r d.0) (sym seen_now) f.scanned) in
+        let scanned : SeenAsIf (scan_after (map reading_of xs) C l) (scan_after (map reading_of ys) C k) d.0 = grind (arith, seen_before, seen_now, f.scanned) in
         record {
           left = left_if o (read_after xs C l) (read_after ys C k) d.0 d.1 d.2 d.3 scanned e;
           carry = kept_carry f.next scanned.joins_is;
