@@ -1,13 +1,13 @@
 //! The table of symbols.
 //!
-//! Each name has one row. The rows are sorted by the names' keys, which are numbers, and then by
-//! the names. A binary search finds a name, and a later call for a name changes its row.
+//! Each name has one row. The rows are sorted by the names' keys, which are numbers, then by name.
+//! A binary search finds a name, and a later call for a name changes its row.
 //! Memory is taken before anything changes, so a failed call leaves the table as it was.
 //!
-//! The end of the path from each name to name is cached once, after the last call.
+//! Where each path from name to name ends is cached once, after the last call.
 
 ghost use Rattle.std.specs.Prelude.{◌≡◌, ◌++◌, ◌∷◌, [], List, option_map, OnOk, OnErr, IfOk, IfErr};
-ghost use Rattle.std.specs.Prelude.{IsErrOf, Some, None, ◌↔◌, false, true, IsTrue, length};
+ghost use Rattle.std.specs.Prelude.{ℕ, IsErrOf, Some, None, ◌↔◌, false, true, IsTrue, length};
 ghost use Rattle.std.specs.Prelude.{bytes_eq, ◌<◌, ◌+◌, IfSome, IfNone, set};
 ghost use Rattle.std.specs.List.{insert};
 ghost use Rattle.ud_model.specs.conditions.Table.{Argument, entry_in};
@@ -20,6 +20,7 @@ ghost use Rattle.ud_cond.specs.symbols.SymbolTable.{AreSorted};
 ghost use Rattle.ud_cond.specs.symbols.Paths.{LeadsTo, AllLead};
 ghost use Rattle.ud_cond.specs.CondViews.{as_entry, argument_for};
 
+use first_bytes::FirstBytes;
 use keys::key_of;
 use name_filter::NameFilter;
 use paths::Path;
@@ -31,6 +32,7 @@ use ud_model::bytes::{is_identifier, is_name};
 
 mod calls;
 mod fault;
+mod first_bytes;
 mod keys;
 mod name_filter;
 mod paths;
@@ -47,7 +49,7 @@ pub struct Entry<'a> {
     pub ignoring: bool,
 }
 
-/// A name with what is known of it.
+/// A name and its entry.
 #[derive(Drop)]
 struct Named {
     /// The name.
@@ -58,7 +60,7 @@ struct Named {
     ignores: bool,
 }
 
-/// A row: a name and its entry. Rows are moved when one is inserted, so a row is small.
+/// A row: a name and its entry. Inserting one moves others, so rows are small.
 #[derive(Drop)]
 struct Row {
     /// The key of the name.
@@ -126,7 +128,7 @@ impl Row {
         self.named.symbol.as_slice()
     }
 
-    /// Returns whether the row is that of `name`.
+    /// Returns whether the row is for `name`.
     fn has_name(&self, name: &[u8]) -> bool
         ensures { result ≡ bytes_eq self.now.name name.now }
     {
@@ -144,7 +146,7 @@ impl Row {
         }
     }
 
-    /// Compares the row's name with that of another row.
+    /// Compares the row's name with another row's.
     fn compare_row(&self, other: &Row) -> Ordering
         ensures { result ≡ name_cmp self.now.name other.now.name }
     {
@@ -180,12 +182,14 @@ impl Row {
 pub struct Symbols {
     /// The allocator that memory comes from.
     alloc: Global,
-    /// The rows, one a name, sorted by key; rows with the same key by length, then by bytes.
+    /// The rows, one for each name, sorted by key, then by length, then by bytes.
     rows: Vec<Row>,
     /// The filter of the rows' names.
     filter: NameFilter,
-    /// The end of the path from each row's name; empty unless they were cached.
+    /// The end of the path from each row's name; empty unless cached.
     paths: Vec<Path>,
+    /// The first bytes of the rows' names.
+    first_bytes: FirstBytes,
 }
 
 impl Model for Symbols {
@@ -193,15 +197,17 @@ impl Model for Symbols {
     ghost use Rattle.ud_model.specs.conditions.Table.{Argument};
     ghost use Rattle.ud_cond.specs.symbols.SymbolTable.{AreSorted};
     ghost use Rattle.std.specs.Prelude.{length};
-    ghost use Rattle.ud_cond.specs.symbols.NameFilters.{AreInFilter};
+    ghost use Rattle.ud_cond.specs.symbols.NameFilters.{AllNames, has_slot, has_first};
     ghost use Rattle.ud_cond.specs.symbols.Paths.{AllLead};
 
     ghost Value = { List Argument };
 
     ghost view = { λ s. s.rows.items };
 
-    ghost invariant = { λ s. AreSorted s.rows.items × AreInFilter s.filter.words s.rows.items ×
-        AllLead s.rows.items (length s.rows.items) s.paths.items };
+    ghost invariant = { λ s. AreSorted s.rows.items ×
+        AllNames (has_slot s.filter.words) s.rows.items ×
+        AllLead s.rows.items (length s.rows.items) s.paths.items ×
+        AllNames (has_first s.first_bytes.bytes) s.rows.items };
 }
 
 impl Symbols {
@@ -215,6 +221,7 @@ impl Symbols {
             rows: Vec::new(alloc),
             filter: NameFilter::new(),
             paths: Vec::new(alloc),
+            first_bytes: FirstBytes::new(),
         }
     }
 
@@ -273,10 +280,18 @@ impl Symbols {
         }
     }
 
+    /// Returns whether a name that begins with this byte may have an entry.
+    #[inline(always)]
+    pub fn may_begin_with(&self, byte: u8) -> bool
+        ensures { (calls : List Argument) → TableRepresents self.now calls →
+            result ≡ false → (rest : List ℕ) → entry_in calls (byte ∷ rest) ≡ None }
+    {
+        self.first_bytes.contains(byte)
+    }
+
     /// Caches the end of the path from each name, if a value is a name. Changes no result.
     ///
-    /// Each later call for a name makes what was cached stale. So call it once, after the last
-    /// name.
+    /// Each later call for a name makes the cache stale, so call this once, after the last name.
     pub fn cache_paths(&mut self)
         ensures { self.new ≡ self.old }
     {
@@ -290,8 +305,8 @@ impl Symbols {
     }
 
     /// Returns the end of the path from each name, after as many steps as there are rows. A path
-    /// that goes on then is a cycle. Uses the memory of `space`, and returns `None` if it doesn't
-    /// suffice and no more is given.
+    /// that still goes on is a cycle. Uses the memory of `space`, and returns `None` if more is
+    /// needed and can't be had.
     fn followed_paths(&self, space: Vec<Path>) -> Option<Vec<Path>>
         ensures { IfSome result (λ p. AllLead self.now (length self.now) p.items) }
     {
@@ -349,7 +364,7 @@ impl Symbols {
         }
     }
 
-    /// Returns the path of row `i` followed twice as far, by that of the name to which it leads.
+    /// Returns the path of row `i` followed twice as far, by the path of the name it leads to.
     fn path_twice(&self, steps: usize, paths: &[Path], i: usize) -> Path
         requires all { length paths.now ≡ length self.now }
         requires within { i < length paths.now }
@@ -385,7 +400,7 @@ impl Symbols {
         self.rows.len()
     }
 
-    /// Returns the text as which `name` is defined.
+    /// Returns the text that `name` is defined as.
     fn defined_text(&self, name: &[u8]) -> Option<&[u8]>
         ensures { option_map (λ v. v.now) result ≡ ends.defined_text self.now name.now }
     {
@@ -394,8 +409,8 @@ impl Symbols {
 
     /// Resolves `name`: follows it from name to name to the first text that is no identifier.
     ///
-    /// Returns `None` if a name on the way isn't defined, or if the way has more steps than there
-    /// are rows: such a way is a cycle.
+    /// Returns `None` if a name on the path isn't defined, or if the path has more steps than there
+    /// are rows: it is then a cycle.
     pub(crate) fn resolve<'a>(&'a self, name: &'a [u8]) -> Option<&'a [u8]>
         ensures { option_map (λ v. v.now) result ≡ ends.resolve self.now name.now }
     {
@@ -430,8 +445,8 @@ impl Symbols {
         None
     }
 
-    /// Returns the position of the row of `name`, whose key is `key`, or else the position at which
-    /// to insert it. Most names have their own key.
+    /// Returns the position of the row of `name`, whose key is `key`, or the position to insert it
+    /// at. Most names have a key of their own.
     #[inline(never)]
     fn binary_search(&self, key: u64, name: &[u8]) -> Result<usize, usize>
         requires keyed { key ≡ spec.key_of name.now }
@@ -480,7 +495,7 @@ impl Symbols {
         self.add(row)
     }
 
-    /// Takes memory for the paths of all rows and of one more, once a value is an identifier. So
+    /// Takes memory for the paths of all rows and one more, once a value is an identifier, so
     /// `cache_paths` takes none.
     fn reserve_paths(&mut self, value: Option<&[u8]>) -> Result<(), SymbolFault>
         ensures same { self.new ≡ self.old }
@@ -534,6 +549,7 @@ impl Symbols {
     {
         self.paths.clear();
         self.filter.insert(key);
+        self.first_bytes.insert(row.name());
         let added = self.rows.insert(i, row);
         match added {
             Ok(()) => Ok(()),

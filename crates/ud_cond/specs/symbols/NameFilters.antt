@@ -1,10 +1,15 @@
--- NameFilters: the slots by which most unlisted names are rejected without a search.
+-- NameFilters: the slots and the first bytes by which most unlisted names are rejected without a
+-- search.
 --
 --   slot_of key              the slot of a key
 --   bit_of words slot        the bit of a slot
 --   slot_is_set noted key    the slot of the key is set
---   AreInFilter noted rows   the slot of each row's name is set
+--   has_slot noted name      the slot of the name's key is set
+--   has_byte bytes b         the set has the byte `b`
+--   has_first bytes name     the set has the first byte of the name
+--   AllNames p rows          the name of each row passes the test `p`
 use Rattle.std.specs.Prelude.{◌≡◌, ℕ, ◌*◌, ◌/◌, ◌%◌, ◌^◌, ◌==◌, List, [], ◌∷◌, get_or, Bool, true}
+use Rattle.std.specs.Prelude.{false}
 use Rattle.std.specs.Int.{bit_at}
 use Rattle.ud_model.specs.conditions.Table.{Argument}
 use Rattle.ud_cond.specs.symbols.Keys.{key_of}
@@ -15,7 +20,7 @@ use Rattle.ud_cond.specs.declared.symbols.name_filter.TheConstants.{LOW_BITS, WO
 unfoldable pub slot_of : ℕ → ℕ
 slot_of key = key * HASH_MULTIPLIER % 2 ^ 64 / 2 ^ LOW_BITS % FILTER_SLOTS
 
--- `bit_of words slot`: the bit of the slot in `words`, in each of which the lowest bit comes first
+-- `bit_of words slot`: the bit of the slot in `words`, each with its lowest bit first
 abbrev pub bit_of : List ℕ → ℕ → ℕ
 bit_of words slot = bit_at (get_or words (slot / WORD_SLOTS) 0) (slot % WORD_SLOTS)
 
@@ -23,7 +28,20 @@ bit_of words slot = bit_at (get_or words (slot / WORD_SLOTS) 0) (slot % WORD_SLO
 abbrev pub slot_is_set : List ℕ → ℕ → Bool
 slot_is_set noted key = bit_of noted (slot_of key) == 1
 
--- `AreInFilter noted rows`: for each row, the slot of the key of its name is set in `noted`
-abbrev pub AreInFilter : List ℕ → List Argument → Type 0
-AreInFilter noted [] = Unit {0}
-AreInFilter noted (r ∷ rows) = (slot_is_set noted (key_of r.name) ≡ true) × AreInFilter noted rows
+-- `has_slot noted name`: the slot of the key of the name is set in `noted`
+abbrev pub has_slot : List ℕ → List ℕ → Bool
+has_slot noted name = slot_is_set noted (key_of name)
+
+-- `has_byte bytes b`: the set `bytes`, which has a truth for each byte, has `b`
+abbrev pub has_byte : List Bool → ℕ → Bool
+has_byte bytes b = get_or bytes b false
+
+-- `has_first bytes name`: the set has the first byte of the name, if there is one
+abbrev pub has_first : List Bool → List ℕ → Bool
+has_first bytes [] = true
+has_first bytes (b ∷ name) = has_byte bytes b
+
+-- `AllNames p rows`: the name of each row passes the test `p`
+abbrev pub AllNames : (List ℕ → Bool) → List Argument → Type 0
+AllNames p [] = Unit {0}
+AllNames p (r ∷ rows) = (p r.name ≡ true) × AllNames p rows

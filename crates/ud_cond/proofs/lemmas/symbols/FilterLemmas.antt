@@ -1,5 +1,5 @@
 -- The filter of rows: which names it rejects, and how it stays a filter of all rows.
-use Rattle.std.proofs.Common.{◌≡◌, ◌≤◌, ◌<◌, ◌*◌, ◌/◌, ◌%◌, ◌^◌, ℕ, zero, suc, List, [], ◌∷◌, length, get_or, Bool, true, false, if◌then◌else◌, bytes_eq, refl, sym, ◌∙◌, ap, inl, inr, arith}
+use Rattle.std.proofs.Common.{◌≡◌, ◌≤◌, ◌<◌, ◌*◌, ◌/◌, ◌%◌, ◌^◌, ℕ, zero, suc, List, [], ◌∷◌, length, get_or, Bool, true, false, if◌then◌else◌, bytes_eq, refl, sym, ◌∙◌, ap, arith}
 use Rattle.std.specs.Int.{w64, bit_at}
 use Rattle.std.specs.Int.RustNames.{bit_or}
 use Rattle.std.proofs.lemmas.Bool.{cases_eq, eq-eqb, eqb-true}
@@ -9,44 +9,40 @@ use Rattle.std.proofs.Math.ListN.{set}
 use Rattle.std.specs.List.{insert}
 use Rattle.std.proofs.lemmas.Slice.Eq.{bytes_eq-Decides}
 use Rattle.ud_model.specs.conditions.Table.{Argument}
-use Rattle.ud_cond.specs.symbols.Keys.{key_of}
 use Rattle.ud_cond.specs.symbols.SymbolTable.{name_at}
-use Rattle.ud_cond.specs.symbols.NameFilters.{slot_of, bit_of, slot_is_set, AreInFilter}
+use Rattle.ud_cond.specs.symbols.NameFilters.{slot_of, bit_of, slot_is_set, AllNames}
 use Rattle.ud_cond.proofs.lemmas.symbols.TableLemmas.{NoneFrom}
 
-module _ (noted : List ℕ) where
-  apart_by : (m n : List ℕ) (b : Bool) → slot_is_set noted (key_of m) ≡ true → slot_is_set noted (key_of n) ≡ false → bytes_eq m n ≡ b → b ≡ false
-  apart_by m n true hit miss e =
-      let same : slot_is_set noted (key_of m) ≡ slot_is_set noted (key_of n) = ap (λ k. slot_is_set noted (key_of k)) ((bytes_eq-Decides m n).0 e) in
-      absurd (let wrong : true ≡ false = sym hit ∙ same ∙ miss in cc)
-  apart_by m n false hit miss e = refl
+-- a test that the name of each row passes
+module _ (p : List ℕ → Bool) where
+  apart_by : (m n : List ℕ) (b : Bool) → p m ≡ true → p n ≡ false → bytes_eq m n ≡ b → b ≡ false
+  apart_by m n b hit miss e = grind (arith, bytes_eq-Decides)
 
-  -- a name whose slot isn't set is that of no row
-  pub none-unmarked : (rows : List Argument) (name : List ℕ) → AreInFilter noted rows → slot_is_set noted (key_of name) ≡ false → NoneFrom rows 0 name
+  -- a name that doesn't pass it is that of no row
+  pub none-unmarked : (rows : List Argument) (name : List ℕ) → AllNames p rows → p name ≡ false → NoneFrom rows 0 name
   none-unmarked [] name marks miss k low high = absurd (omega arith)
   none-unmarked (r ∷ rows) name marks miss zero low high = apart_by r.name name (bytes_eq r.name name) marks.0 miss refl
   none-unmarked (r ∷ rows) name marks miss (suc k) low high = none-unmarked rows name marks.1 miss k (omega arith) (omega arith)
 
   -- a row is changed and keeps its name
-  pub noted-set : (rows : List Argument) (i : ℕ) (a : Argument) → AreInFilter noted rows → i < length rows → name_at rows i ≡ a.name → AreInFilter noted (set rows i a)
+  pub noted-set : (rows : List Argument) (i : ℕ) (a : Argument) → AllNames p rows → i < length rows → name_at rows i ≡ a.name → AllNames p (set rows i a)
   noted-set [] i a marks within same = absurd (omega arith)
-  noted-set (r ∷ rows) zero a marks within same = (ap (λ k. slot_is_set noted (key_of k)) (sym same) ∙ marks.0, marks.1)
+  noted-set (r ∷ rows) zero a marks within same = (ap p (sym same) ∙ marks.0, marks.1)
   noted-set (r ∷ rows) (suc i) a marks within same = (marks.0, noted-set rows i a marks.1 (omega arith) same)
 
-  -- a row is inserted, and its slot is set
-  pub noted-insert : (rows : List Argument) (i : ℕ) (a : Argument) → AreInFilter noted rows → i ≤ length rows → slot_is_set noted (key_of a.name) ≡ true → AreInFilter noted (insert rows i a)
+  -- a row is inserted, whose name passes it
+  pub noted-insert : (rows : List Argument) (i : ℕ) (a : Argument) → AllNames p rows → i ≤ length rows → p a.name ≡ true → AllNames p (insert rows i a)
   noted-insert rows zero a marks within new = (new, marks)
   noted-insert [] (suc i) a marks within new = absurd (omega arith)
   noted-insert (r ∷ rows) (suc i) a marks within new = (marks.0, noted-insert rows i a marks.1 (omega arith) new)
 
-  pub noted-added : (rows : List Argument) (i : ℕ) (a : Argument) (b : Bool) → AreInFilter noted rows → i ≤ length rows → slot_is_set noted (key_of a.name) ≡ true → AreInFilter noted (if b then insert rows i a else rows)
-  noted-added rows i a true marks within new = noted-insert rows i a marks within new
-  noted-added rows i a false marks within new = marks
+  pub noted-added : (rows : List Argument) (i : ℕ) (a : Argument) (b : Bool) → AllNames p rows → i ≤ length rows → p a.name ≡ true → AllNames p (if b then insert rows i a else rows)
+  noted-added rows i a b marks within new = grind (arith, noted-insert)
 
--- slots that are set stay set
-pub noted-kept : (old new : List ℕ) (rows : List Argument) → ((key : ℕ) → slot_is_set old key ≡ true → slot_is_set new key ≡ true) → AreInFilter old rows → AreInFilter new rows
-noted-kept old new [] kept marks = tt
-noted-kept old new (r ∷ rows) kept marks = (kept (key_of r.name) marks.0, noted-kept old new rows kept marks.1)
+-- names that passed a test pass one that is wider
+pub noted-kept : (p q : List ℕ → Bool) (rows : List Argument) → ((name : List ℕ) → p name ≡ true → q name ≡ true) → AllNames p rows → AllNames q rows
+noted-kept p q [] kept marks = tt
+noted-kept p q (r ∷ rows) kept marks = (kept r.name marks.0, noted-kept p q rows kept marks.1)
 
 -- `with_bit word k`: the word with its bit `k` set
 abbrev with_bit : ℕ → ℕ → ℕ
@@ -56,16 +52,9 @@ with_bit word k = bit_or word (1 * 2 ^ k % 2 ^ 64)
 abbrev with_slot : List ℕ → ℕ → List ℕ
 with_slot words slot = set words (slot / 64) (with_bit (get_or words (slot / 64) 0) (slot % 64))
 
--- a bit that is 1 stays 1
-bit-kept : (word k j : ℕ) → bit_at word j ≡ 1 → bit_at (with_bit word k) j ≡ 1
-bit-kept word k j one =
-    let joined = bit_at_or word (1 * 2 ^ k % 2 ^ 64) j in
-    let most : bit_at (1 * 2 ^ k % 2 ^ 64) j < 2 = bit_at-lt (1 * 2 ^ k % 2 ^ 64) j in
-    omega (arith, joined, most, one)
-
 module _ (words : List ℕ) (slot : ℕ) (within : slot / 64 < length words) where
   changed : get_or (with_slot words slot) (slot / 64) 0 ≡ with_bit (get_or words (slot / 64) 0) (slot % 64)
-  changed = get_or-set_same words (slot / 64) (with_bit (get_or words (slot / 64) 0) (slot % 64)) 0 within
+  changed = grind (arith, get_or-set_same)
 
   -- the slot is set
   pub slot-inserted : (key : ℕ) → slot ≡ slot_of key → slot_is_set (with_slot words slot) key ≡ true
@@ -75,12 +64,4 @@ module _ (words : List ℕ) (slot : ℕ) (within : slot / 64 < length words) whe
 
   -- each slot that is set stays set
   pub slot-kept : (key : ℕ) → slot_is_set words key ≡ true → slot_is_set (with_slot words slot) key ≡ true
-  slot-kept key hit =
-      let one : bit_of words (slot_of key) ≡ 1 = eqb-true (bit_of words (slot_of key)) 1 hit in
-      eq-eqb (bit_of (with_slot words slot) (slot_of key)) 1 (
-      elim (cases_eq (slot_of key / 64) (slot / 64)) [
-        | inl same ↦ ap (λ i. bit_at (get_or (with_slot words slot) i 0) (slot_of key % 64)) same
-            ∙ ap (λ w. bit_at w (slot_of key % 64)) changed
-            ∙ bit-kept (get_or words (slot / 64) 0) (slot % 64) (slot_of key % 64) (ap (λ i. bit_at (get_or words i 0) (slot_of key % 64)) (sym same) ∙ one)
-        | inr other ↦ ap (λ w. bit_at w (slot_of key % 64)) (get_or-set_other words (slot / 64) (slot_of key / 64) (with_bit (get_or words (slot / 64) 0) (slot % 64)) 0 other) ∙ one
-      ])
+  slot-kept key hit = grind (arith, eqb-true, eq-eqb, cases_eq, get_or-set_same, bit_at_or, bit_at-lt, get_or-set_other)

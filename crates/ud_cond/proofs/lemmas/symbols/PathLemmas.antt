@@ -1,12 +1,12 @@
 -- PathLemmas: paths from name to name that are followed twice as far, and their ends.
-use Rattle.std.proofs.Common.{ltb, ◌≡◌, ◌∙◌, ℕ, zero, suc, ◌+◌, ◌<◌, ◌≤◌, List, [], length, get_or, true, false, Option, Some, None, refl, sym, ap, subst, arith}
+use Rattle.std.proofs.Common.{ltb, ◌≡◌, ◌∙◌, ℕ, ◌+◌, ◌<◌, ◌≤◌, List, [], length, get_or, true, false, Option, Some, None, sym, ap, subst, arith}
 use Rattle.std.proofs.lemmas.Bool.{ltb-true}
 use Rattle.std.proofs.lemmas.List.{get_or_default, get_or_read}
 use Rattle.std.proofs.lemmas.Option.{none-some}
 use Rattle.ud_model.specs.text.Bytes.{is_identifier}
 use Rattle.ud_model.specs.conditions.Table.{Argument, Entry}
-use Rattle.ud_model.specs.conditions.Symbols.{text_in, defined_text, on_text, resolve, resolve_within}
-use Rattle.ud_model.proofs.conditions.SymbolLemmas.{ends_here, ends_behind, ends_more, ends_soon}
+use Rattle.ud_model.specs.conditions.Symbols.{defined_text, resolve, resolve_within}
+use Rattle.ud_model.proofs.conditions.SymbolLemmas.{ends_here, ends_more, ends_soon}
 use Rattle.ud_cond.specs.symbols.SymbolTable.{name_at, no_row, AreSorted}
 use Rattle.ud_cond.proofs.lemmas.symbols.TableLemmas.{entry_from-last}
 use Rattle.ud_cond.proofs.lemmas.symbols.SortedLemmas.{last-row}
@@ -15,21 +15,16 @@ use Rattle.ud_cond.specs.declared.symbols.paths.Path.{Path}
 use Rattle.ud_cond.specs.declared.symbols.paths.Path.TheVariants.{Text, Name, Nothing}
 
 same_by : (o p : Option (List ℕ)) → ((x : List ℕ) → o ≡ Some x → p ≡ Some x) → ((x : List ℕ) → p ≡ Some x → o ≡ Some x) → o ≡ p
-same_by (Some x) p f g = sym (f x refl)
-same_by None None f g = refl
-same_by None (Some x) f g = g x refl
+same_by o p f g = grind arith
 
 none_by : (o : Option (List ℕ)) → ((x : List ℕ) → o ≡ Some x → ⊥) → o ≡ None
-none_by (Some x) f = absurd (f x refl)
-none_by None f = refl
+none_by o f = grind arith
 
 module _ (t : List Argument) (n m : List ℕ) (s : ℕ) (on : (k : ℕ) → resolve_within (s + k) t n ≡ resolve_within k t m) where
   -- A name whose path comes to another name resolves as that one does.
   pub resolves_onward : resolve t n ≡ resolve t m
   unfolding resolve
-  resolves_onward = same_by (resolve_within (length t) t n) (resolve_within (length t) t m)
-      (λ v e. sym (on (length t)) ∙ ends_more (length t) (s + length t) t t (λ x w d. d) n v (omega arith) e)
-      (λ v e. ends_soon t (s + length t) n v (on (length t) ∙ e))
+  resolves_onward = grind (arith, same_by, ends_more, ends_soon)
 
   -- A path of so many steps that goes on then has no end.
   pub goes_around : length t ≤ s → resolve t n ≡ None
@@ -39,9 +34,7 @@ module _ (t : List Argument) (n m : List ℕ) (s : ℕ) (on : (k : ℕ) → reso
 
 -- A path that has more steps has fewer too.
 pub leads_less : (t : List Argument) (n : List ℕ) (s r : ℕ) → s ≤ r → (p : Path) → LeadsTo t n r p → LeadsTo t n s p
-leads_less t n s r le (Text i) h = h
-leads_less t n s r le (Name i) h = (h.0, (h.1.0, (let more : r ≤ h.1.0 = h.1.1 in omega (arith, le, more)), h.1.2))
-leads_less t n s r le Nothing h = h
+leads_less t n s r le p h = grind arith
 
 -- A path that has come to a name goes on by the path of that name.
 pub leads_twice : (t : List Argument) (n : List ℕ) (s i : ℕ) (p : Path) → LeadsTo t n s (Name i) → LeadsTo t (name_at t i) s p → LeadsTo t n (s + s) p
@@ -65,20 +58,14 @@ leads_twice t n s i (Name j) h g =
 -- The first step of a name that has no text, whose text is the end, and whose text is a name.
 pub first_none : (t : List Argument) (n : List ℕ) → defined_text t n ≡ None → resolve t n ≡ None
 unfolding resolve
-first_none t n e = within (length t)
-  where
-    within : (k : ℕ) → resolve_within k t n ≡ None
-    within zero = refl
-    within (suc k) = ap (on_text (λ x. resolve_within k t x)) e
+first_none t n e = grind arith
 
 pub first_end : (t : List Argument) (n w : List ℕ) → defined_text t n ≡ Some w → is_identifier w ≡ false → resolve t n ≡ Some w
 unfolding resolve
 first_end t n w e f = ends_soon t 1 n w (ends_here t 0 n w e f)
 
 pub first_name : (t : List Argument) (n w : List ℕ) → defined_text t n ≡ Some w → is_identifier w ≡ true → (k : ℕ) → resolve_within (1 + k) t n ≡ resolve_within k t w
-first_name t n w e f k =
-    let next : 1 + k ≡ suc k = omega arith in
-    ap (λ x. resolve_within x t n) next ∙ ends_behind t k n w e f
+first_name t n w e f k = grind arith
 
 -- A path of as many steps as there are arguments, or more, has its end, or has none.
 pub ended_at_name : (t : List Argument) (n : List ℕ) (i : ℕ) → LeadsTo t n (length t) (Name i) → resolve t n ≡ None
@@ -86,18 +73,15 @@ ended_at_name t n i h = goes_around t n (name_at t i) h.1.0 h.1.2 h.1.1
 
 -- A path that has its end leads there, however many steps are counted.
 pub leads_end : (t : List Argument) (n : List ℕ) (s r : ℕ) (p : Path) → ((i : ℕ) → p ≡ Name i → ⊥) → LeadsTo t n s p → LeadsTo t n r p
-leads_end t n s r (Text i) f h = h
-leads_end t n s r (Name i) f h = absurd (f i refl)
-leads_end t n s r Nothing f h = h
+leads_end t n s r p f h = grind arith
 
 -- Without paths there is nothing to lead.
 pub none_lead : (t : List Argument) (s : ℕ) (paths : List Path) → paths ≡ [] → AllLead t s paths
-none_lead t s paths e i low = absurd (let none : length paths ≡ 0 = ap length e in omega (arith, none, low))
+none_lead t s paths e i low = grind arith
 
 -- The text of a row is that of its name.
 pub own_text : (rows : List Argument) → AreSorted rows → (i : ℕ) → i < length rows → defined_text rows (name_at rows i) ≡ (get_or rows i no_row).entry.value
-own_text rows sorted i low =
-    ap text_in (entry_from-last None rows i (name_at rows i) (last-row rows sorted i (name_at rows i) (record { within = low; named = refl })))
+own_text rows sorted i low = grind (arith, entry_from-last, last-row)
 
 -- A name whose row's path still goes on resolves to nothing.
 pub none_at_name : (rows t : List Argument) → rows ≡ t → (paths seen : List Path) → seen ≡ paths → AllLead rows (length rows) paths → (i j : ℕ) (p d : Path) →
@@ -115,8 +99,4 @@ pub record IsTextOf (t : List Argument) (i : ℕ) (value : Option (List ℕ)) : 
   pub sets : defined_text t (name_at t i) ≡ value
 
 pub text_of_row : (rows t : List Argument) → rows ≡ t → AreSorted rows → (i : ℕ) → i < length t → (a : Argument) → a ≡ get_or rows i a → (e : Entry) → e ≡ a.entry → IsTextOf t i e.value
-text_of_row rows t same sorted i low a read e is =
-    let few : i < length rows = subst (λ r. i < length r) (sym same) low in
-    let value : (get_or t i no_row).entry.value ≡ e.value =
-    ap (λ r. (get_or r i no_row).entry.value) (sym same) ∙ ap (λ r. r.entry.value) (sym (get_or_read rows i a few read no_row)) ∙ ap (λ x. x.value) (sym is) in
-    record { own = value; sets = own_text t (subst AreSorted same sorted) i low ∙ value }
+text_of_row rows t same sorted i low a read e is = grind (arith, get_or_read, own_text)

@@ -1,5 +1,5 @@
 -- Sorted rows: where a search ends, and how rows stay sorted.
-use Rattle.std.proofs.Common.{◌≡◌, ◌<◌, ◌≤◌, ◌+◌, ◌-◌, ℕ, List, length, get_or, Bool, true, false, Result, Ok, Err, IfOk, IfErr, if◌then◌else◌, Ordering, Less, Equal, Greater, is_eq, is_lt, bytes_eq, refl, sym, ◌∙◌, ap, ap₂, subst, arith, inl, inr, ◌⊎◌}
+use Rattle.std.proofs.Common.{◌≡◌, ◌<◌, ◌≤◌, ◌+◌, ◌-◌, ℕ, List, length, get_or, Bool, false, Result, Ok, Err, IfOk, IfErr, if◌then◌else◌, Ordering, Less, Equal, Greater, is_eq, is_lt, bytes_eq, sym, ◌∙◌, ap, ap₂, subst, arith}
 use Rattle.std.proofs.Math.ListN.{set}
 use Rattle.std.specs.List.{insert}
 use Rattle.std.specs.List.Sorted.{IsSearchInRange, IsBinarySearchResult, IsNonDecreasingBy}
@@ -25,15 +25,11 @@ pub name_total : IsTotalOrder name_cmp
 name_total = then_total (on_total key_of nat_cmp_total) alike_total
 
 then_equal : (a b : Ordering) → ordering_then a b ≡ Equal → b ≡ Equal
-then_equal Less b e = absurd (let no : true ≡ false = ap is_lt e in cc)
-then_equal Equal b e = e
-then_equal Greater b e = absurd (let no : false ≡ true = ap is_eq e in cc)
+then_equal a b e = grind arith
 
 -- a name that comes after another doesn't come before it by its key
 then_greater : (a b : Ordering) → ordering_then a b ≡ Greater → is_lt a ≡ false
-then_greater Less b e = absurd (let no : true ≡ false = ap is_lt e in cc)
-then_greater Equal b e = refl
-then_greater Greater b e = refl
+then_greater a b e = grind arith
 
 -- names that compare as equal are equal
 name_ties : (m n : List ℕ) → name_cmp m n ≡ Equal → m ≡ n
@@ -42,30 +38,18 @@ name_ties m n e =
     let tied : slice_cmp nat_cmp m n ≡ Equal = then_equal (nat_cmp (length m) (length n)) (slice_cmp nat_cmp m n) alike in
     (bytes_eq-Decides m n).0 (sym (is_eq-slice_cmp m n) ∙ ap is_eq tied)
 
-apart_by : (m n : List ℕ) (b : Bool) → bytes_eq m n ≡ b → is_eq (name_cmp m n) ≡ false → b ≡ false
-apart_by m n true e f =
-    let itself : is_eq (name_cmp m n) ≡ true = ap (λ k. is_eq (name_cmp m k)) (sym ((bytes_eq-Decides m n).0 e)) ∙ ap is_eq (tied_itself name_total m) in
-    absurd (let no : true ≡ false = sym itself ∙ f in cc)
-apart_by m n false e f = refl
-
 -- names of which one comes before the other differ
 apart : (m n : List ℕ) (o : Ordering) → name_cmp m n ≡ o → is_eq o ≡ false → bytes_eq m n ≡ false
-apart m n o e f = apart_by m n (bytes_eq m n) refl (ap is_eq e ∙ f)
+apart m n o e f = grind (arith, bytes_eq-Decides, tied_itself, name_total)
 
 -- the comparison the other way round
 turned : (m n : List ℕ) → name_cmp m n ≡ Less → name_cmp n m ≡ Greater
-turned m n e = name_total.antisymm n m ∙ ap ordering_reverse e
+turned m n e = grind (arith, name_total)
 
 module _ (rows : List Argument) (sorted : AreSorted rows) where
   -- the row of a name is the last row of the name
   pub last-row : (i : ℕ) (name : List ℕ) → IsRowOf rows i name → IsLastRow rows i name
-  last-row i name row = record {
-    within = row.within;
-    named = row.named;
-    last = λ k low high.
-        let less : name_cmp name (name_at rows k) ≡ Less = ap (λ n. name_cmp n (name_at rows k)) (sym row.named) ∙ sorted i k (omega arith) high in
-        apart (name_at rows k) name Greater (turned name (name_at rows k) less) refl;
-  }
+  last-row i name row = grind (arith, apart, turned)
 
   rise : (name : List ℕ) → IsNonDecreasingBy (λ a. ordering_index (name_cmp a.name name)) rows
   rise name = searchable_from_sorted name_total (λ a. a.name) rows name (λ k d low high.
@@ -74,7 +58,7 @@ module _ (rows : List Argument) (sorted : AreSorted rows) where
       ap is_lt (turned (get_or rows k d).name (get_or rows (k + 1) d).name less))
     where
       default : (k : ℕ) (d : Argument) → k < length rows → (get_or rows k d).name ≡ name_at rows k
-      default k d high = ap (λ a. a.name) (get_or_default rows k d no_row high)
+      default k d high = grind (arith, get_or_default)
 
   -- the keys of sorted rows don't fall
   pub rise-keys : (key : ℕ) → IsNonDecreasingBy (λ a. ordering_index (nat_cmp (key_of a.name) key)) rows
@@ -84,24 +68,21 @@ module _ (rows : List Argument) (sorted : AreSorted rows) where
       then_greater _ _ (turned (get_or rows k d).name (get_or rows (k + 1) d).name less))
     where
       default : (k : ℕ) (d : Argument) → k < length rows → (get_or rows k d).name ≡ name_at rows k
-      default k d high = ap (λ a. a.name) (get_or_default rows k d no_row high)
+      default k d high = grind (arith, get_or_default)
 
   -- a binary search ends at the name's row, or at its gap
   pub searched : (name : List ℕ) (r : Result ℕ ℕ) → IsSearchInRange r (length rows) → IsBinarySearchResult (λ a. name_cmp a.name name) rows r →
       IfOk r (λ i. IsRowOf rows i name) × IfErr r (λ i. IsGapFor rows i name)
-  searched name (Ok i) within same = (record { within = within; named = name_ties (name_at rows i) name (same no_row) }, tt)
+  searched name (Ok i) within same = grind (arith, name_ties)
   searched name (Err i) within parted =
       (tt, record { within = within; after = λ k low. (parted (rise name)).0 k no_row (omega arith) low; before = λ k low high. (parted (rise name)).1 k no_row low high })
 
 -- a name that has a gap has no row
 pub none-gap : (rows : List Argument) (i : ℕ) (name : List ℕ) → IsGapFor rows i name → NoneFrom rows i name
-none-gap rows i name gap k low high = apart (name_at rows k) name Greater (gap.before k low high) refl
+none-gap rows i name gap k low high = grind (arith, bytes_eq-Decides, tied_itself, name_total)
 
 pub none-at_all : (rows : List Argument) (i : ℕ) (name : List ℕ) → IsGapFor rows i name → NoneFrom rows 0 name
-none-at_all rows i name gap k low high = elim (cases_lt k i) [
-  | inl below ↦ apart (name_at rows k) name Less (gap.after k below) refl
-  | inr above ↦ none-gap rows i name gap k above high
-]
+none-at_all rows i name gap k low high = grind (arith, cases_lt, apart, none-gap)
 
 -- a search by keys that finds no row ends at the name's gap
 pub gap-keys : (rows : List Argument) (sorted : AreSorted rows) (name : List ℕ) (r : Result ℕ ℕ) → IsSearchInRange r (length rows) →
@@ -115,19 +96,14 @@ gap-keys rows sorted name (Err i) within parted = record {
 
 -- a row is changed and keeps its name
 pub sorted-set : (rows : List Argument) (i : ℕ) (a : Argument) → AreSorted rows → IsRowOf rows i a.name → AreSorted (set rows i a)
-sorted-set rows i a sorted row j k low high =
-    ap₂ name_cmp (kept j (cases_lt j i)) (kept k (cases_lt k i)) ∙ sorted j k low (omega (arith, length-set rows i a))
-  where
-    kept : (n : ℕ) → (n < i) ⊎ (i ≤ n) → name_at (set rows i a) n ≡ name_at rows n
-    kept n c = grind (arith, get_or-set_other rows i n a no_row, get_or-set_same rows i a no_row row.within, row.named)
+sorted-set rows i a sorted row j k low high = grind (arith, cases_lt, length-set, set, get_or-set_other, get_or-set_same)
 
 -- names with one inserted: each is an old one before the position, the new one at it, or an old one
 -- after it, moved up by one
 ascends-more : (R : List ℕ → List ℕ → Ordering) (old new : ℕ → List ℕ) (n i : ℕ) (x : List ℕ) → ((j k : ℕ) → j < k → k < n → R (old j) (old k) ≡ Less) →
     ((k : ℕ) → k < i → new k ≡ old k) → ((k : ℕ) → k ≡ i → new k ≡ x) → ((k : ℕ) → i < k → new k ≡ old (k - 1)) →
     ((k : ℕ) → k < i → R (old k) x ≡ Less) → ((k : ℕ) → i ≤ k → k < n → R x (old k) ≡ Less) → (j k : ℕ) → j < k → k < n + 1 → i ≤ n → R (new j) (new k) ≡ Less
-ascends-more R old new n i x sorted below here above after before j k low high within =
-    grind (arith, below j, here j, above j, below k, here k, above k, sorted j k, sorted j (k - 1), sorted (j - 1) (k - 1), after j, before (k - 1))
+ascends-more R old new n i x sorted below here above after before j k low high within = grind arith
 
 -- a row is inserted in its gap
 pub sorted-insert : (rows : List Argument) (i : ℕ) (a : Argument) → AreSorted rows → IsGapFor rows i a.name → AreSorted (insert rows i a)
@@ -144,5 +120,4 @@ sorted-insert rows i a sorted gap j k low high =
 
 -- a row is inserted, unless the allocation fails
 pub sorted-added : (rows : List Argument) (i : ℕ) (a : Argument) (b : Bool) → AreSorted rows → IsGapFor rows i a.name → AreSorted (if b then insert rows i a else rows)
-sorted-added rows i a true sorted gap = sorted-insert rows i a sorted gap
-sorted-added rows i a false sorted gap = sorted
+sorted-added rows i a b sorted gap = grind (arith, sorted-insert)

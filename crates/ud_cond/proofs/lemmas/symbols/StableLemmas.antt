@@ -1,5 +1,5 @@
 -- StableLemmas: calls that are sorted by their names, stably, give each name the same entry.
-use Rattle.std.proofs.Common.{◌≡◌, ◌∙◌, List, [], ◌∷◌, Bool, true, false, not, ◌&&◌, if◌then◌else◌, Option, Some, None, bytes_eq, refl, sym, ap, is_lt}
+use Rattle.std.proofs.Common.{◌≡◌, ◌∙◌, List, [], ◌∷◌, Bool, if◌then◌else◌, Option, Some, None, bytes_eq, refl, sym, ap, is_lt, arith}
 use Rattle.std.specs.List.{filter}
 use Rattle.std.specs.List.Sorted.{IsStableBy, ties}
 use Rattle.std.proofs.lemmas.Cmp.{tied_itself}
@@ -12,25 +12,11 @@ use Rattle.ud_cond.proofs.lemmas.symbols.SortedLemmas.{name_total}
 abbrev pub comes_before : Argument → Argument → Bool
 comes_before x y = is_lt (name_cmp x.name y.name)
 
--- Calls of one name tie.
-tied : (x a : Argument) → a.name ≡ x.name → ties comes_before x a ≡ true
-tied x a e =
-    let first : is_lt (name_cmp x.name a.name) ≡ false = ap (λ n. is_lt (name_cmp x.name n)) e ∙ ap is_lt (tied_itself name_total x.name) in
-    let second : is_lt (name_cmp a.name x.name) ≡ false = ap (λ n. is_lt (name_cmp n x.name)) e ∙ ap is_lt (tied_itself name_total x.name) in
-    ap (λ b. not b && not (is_lt (name_cmp a.name x.name))) first ∙ ap (λ b. not b) second
-
-other_by : (x a : Argument) → ties comes_before x a ≡ false → (b : Bool) → bytes_eq a.name x.name ≡ b → b ≡ false
-other_by x a e true h = let wrong : true ≡ false = sym (tied x a ((bytes_eq-Decides a.name x.name).0 h)) ∙ e in absurd (cc)
-other_by x a e false h = refl
-
 filtered_by : (x a : Argument) (rows : List Argument) (e : Option Entry) →
     ((f : Option Entry) → entry_from f (filter (ties comes_before x) rows) x.name ≡ entry_from f rows x.name) → (b : Bool) → ties comes_before x a ≡ b →
     entry_from e (if b then a ∷ filter (ties comes_before x) rows else filter (ties comes_before x) rows) x.name
     ≡ entry_from (if bytes_eq a.name x.name then Some a.entry else e) rows x.name
-filtered_by x a rows e further true t = further (if bytes_eq a.name x.name then Some a.entry else e)
-filtered_by x a rows e further false t =
-    let none : bytes_eq a.name x.name ≡ false = other_by x a t (bytes_eq a.name x.name) refl in
-    further e ∙ ap (λ b. entry_from (if b then Some a.entry else e) rows x.name) (sym none)
+filtered_by x a rows e further b t = grind (arith, tied_itself, name_total, bytes_eq-Decides)
 
 -- The calls that tie with a call have the entry of its name.
 entry_from-filter : (x : Argument) (rows : List Argument) (e : Option Entry) → entry_from e (filter (ties comes_before x) rows) x.name ≡ entry_from e rows x.name

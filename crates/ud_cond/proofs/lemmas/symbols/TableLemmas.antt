@@ -1,9 +1,9 @@
 -- Rows and the entries that they give names.
-use Rattle.std.proofs.Common.{◌≡◌, ◌<◌, ◌≤◌, ◌+◌, ℕ, zero, suc, List, [], ◌∷◌, ◌++◌, length, get_or, Bool, true, false, Option, Some, None, bytes_eq, refl, sym, ◌∙◌, ap, subst, arith, if◌then◌else◌}
+use Rattle.std.proofs.Common.{◌≡◌, ◌<◌, ◌≤◌, ◌+◌, ℕ, zero, suc, List, [], ◌∷◌, ◌++◌, length, get_or, Bool, true, false, Option, Some, bytes_eq, refl, subst, arith, if◌then◌else◌}
 use Rattle.std.proofs.Math.ListN.{set}
 use Rattle.std.specs.List.{insert}
 use Rattle.std.proofs.lemmas.Slice.Eq.{bytes_eq-Decides}
-use Rattle.ud_model.specs.conditions.Table.{Argument, Entry, entry_from, entry_in}
+use Rattle.ud_model.specs.conditions.Table.{Argument, Entry, entry_from}
 use Rattle.ud_cond.specs.symbols.SymbolTable.{TableRepresents, SetsEntry, name_at, no_row}
 
 -- no row from position `i` on is that of the name
@@ -23,8 +23,7 @@ entry_from-push e (r ∷ rows) a name = entry_from-push (if bytes_eq r.name name
 
 -- a table that sets the entry of a call represents the calls with this one after them
 pub represents-changes : (old new calls : List Argument) (a : Argument) → SetsEntry old new a → TableRepresents old calls → TableRepresents new (calls ++ a ∷ [])
-represents-changes old new calls a change represents name =
-    change name ∙ ap (λ x. if bytes_eq a.name name then Some a.entry else x) (represents name) ∙ sym (entry_from-push None calls a name)
+represents-changes old new calls a change represents name = grind (arith, entry_from-push)
 
 -- rows of other names give a name no entry
 pub entry_from-none : (e : Option Entry) (rows : List Argument) (name : List ℕ) → NoneFrom rows 0 name → entry_from e rows name ≡ e
@@ -44,8 +43,7 @@ entry_from-last e (r ∷ rows) (suc i) name last =
 
 -- the first row is changed, and no other row has its name
 changed_front : (t : Bool) (e : Option Entry) (new old : Entry) (rows : List Argument) (name : List ℕ) → (t ≡ true → NoneFrom rows 0 name) → entry_from (if t then Some new else e) rows name ≡ (if t then Some new else entry_from (if t then Some old else e) rows name)
-changed_front true e new old rows name none = entry_from-none (Some new) rows name (none refl)
-changed_front false e new old rows name none = refl
+changed_front t e new old rows name none = grind (arith, entry_from-none)
 
 -- the last row of a name is changed; `e` is the entry before the rows
 pub entry_from-set : (e : Option Entry) (rows : List Argument) (i : ℕ) (a : Argument) → IsLastRow rows i a.name → (name : List ℕ) → entry_from e (set rows i a) name ≡ (if bytes_eq a.name name then Some a.entry else entry_from e rows name)
@@ -60,13 +58,11 @@ entry_from-set e (r ∷ rows) (suc i) a last name =
 
 -- a change of the last row of a name sets the entry of the name
 pub changes-set : (rows old : List Argument) (i : ℕ) (row a : Argument) → rows ≡ old → row ≡ a → IsLastRow rows i a.name → SetsEntry old (set rows i row) a
-changes-set rows old i row a view same last name =
-    ap (λ r. entry_in (set rows i r) name) same ∙ entry_from-set None rows i a last name ∙ ap (λ rs. if bytes_eq a.name name then Some a.entry else entry_in rs name) view
+changes-set rows old i row a view same last name = grind (arith, set, entry_from-set)
 
 -- a row is inserted as the first one, and no other row has its name
 added_front : (t : Bool) (e : Option Entry) (new : Entry) (rows : List Argument) (name : List ℕ) → (t ≡ true → NoneFrom rows 0 name) → entry_from (if t then Some new else e) rows name ≡ (if t then Some new else entry_from e rows name)
-added_front true e new rows name none = entry_from-none (Some new) rows name (none refl)
-added_front false e new rows name none = refl
+added_front t e new rows name none = grind (arith, entry_from-none)
 
 -- a row is inserted, and no row from there on has its name; `e` is the entry before the rows
 pub entry_from-insert : (e : Option Entry) (rows : List Argument) (i : ℕ) (a : Argument) → i ≤ length rows → NoneFrom rows i a.name → (name : List ℕ) → entry_from e (insert rows i a) name ≡ (if bytes_eq a.name name then Some a.entry else entry_from e rows name)
@@ -78,6 +74,4 @@ entry_from-insert e (r ∷ rows) (suc i) a within none name =
 
 -- a row that is inserted for a name without one sets the entry of the name
 pub changes-insert : (rows old new : List Argument) (i : ℕ) (row a : Argument) → rows ≡ old → row ≡ a → new ≡ insert rows i row → i ≤ length rows → NoneFrom rows i a.name → SetsEntry old new a
-changes-insert rows old new i row a view same added within none name =
-    ap (λ rs. entry_in rs name) added ∙ ap (λ r. entry_in (insert rows i r) name) same ∙ entry_from-insert None rows i a within none name
-    ∙ ap (λ rs. if bytes_eq a.name name then Some a.entry else entry_in rs name) view
+changes-insert rows old new i row a view same added within none name = grind (arith, entry_from-insert)

@@ -1,7 +1,7 @@
 use Rattle.std.proofs.Common.{◌≡◌, ◌∙◌, true, is_ok, sym, ap, subst}
 use Rattle.ud_cond.specs.symbols.Keys.{key_of}
 use Rattle.ud_cond.specs.symbols.SymbolTable.{IsGapFor}
-use Rattle.ud_cond.specs.symbols.NameFilters.{slot_is_set}
+use Rattle.ud_cond.specs.symbols.NameFilters.{slot_is_set, has_slot, has_first}
 use Rattle.ud_cond.proofs.lemmas.symbols.SortedLemmas.{sorted-added}
 use Rattle.ud_cond.proofs.lemmas.symbols.FilterLemmas.{noted-kept, noted-added}
 use Rattle.ud_cond.proofs.lemmas.symbols.PathLemmas.{none_lead}
@@ -11,9 +11,12 @@ pub invariant_of-self : goal.invariant_of-self
 invariant_of-self c =
     let gap : IsGapFor c.self.inside.rows.items c.args.i c.args.row.name = subst (λ rows. IsGapFor rows c.args.i c.args.row.name) (sym c.self.view_is) c.requires.gap in
     let new : slot_is_set c.insert.new.self.words (key_of c.args.row.name) ≡ true = ap (slot_is_set c.insert.new.self.words) (sym c.requires.keyed) ∙ c.insert.ensures.inserted in
+    let first : has_first c.insert-2.new.self.bytes c.args.row.name ≡ true = ap (has_first c.insert-2.new.self.bytes) (sym c.name.ensures) ∙ c.insert-2.ensures.inserted in
     rw c.insert-added.ensures.items (
       sorted-added c.self.inside.rows.items c.args.i c.args.row (is_ok c.insert-added.result) c.self.invariant.0 gap,
-      noted-added c.insert.new.self.words c.self.inside.rows.items c.args.i c.args.row (is_ok c.insert-added.result)
-          (noted-kept c.self.inside.filter.words c.insert.new.self.words c.self.inside.rows.items c.insert.ensures.others_kept c.self.invariant.1) gap.within new,
+      noted-added (has_slot c.insert.new.self.words) c.self.inside.rows.items c.args.i c.args.row (is_ok c.insert-added.result)
+          (noted-kept (has_slot c.self.inside.filter.words) (has_slot c.insert.new.self.words) c.self.inside.rows.items (λ name. c.insert.ensures.others_kept (key_of name)) c.self.invariant.1) gap.within new,
       none_lead _ _ c.clear.new.self.items c.clear.ensures.items,
+      noted-added (has_first c.insert-2.new.self.bytes) c.self.inside.rows.items c.args.i c.args.row (is_ok c.insert-added.result)
+          (noted-kept (has_first c.self.inside.first_bytes.bytes) (has_first c.insert-2.new.self.bytes) c.self.inside.rows.items c.insert-2.ensures.others_kept c.self.invariant.3) gap.within first,
     )
