@@ -1,29 +1,30 @@
 -- Keepings: what a program keeps of an expression while it reads it.
--- `ud_model.specs.aids.Parsing` has what is meant of an expression. A program keeps a part of its
--- own for what is meant, and may note a flag of each token.
+-- `ud_model.specs.aids.Parsing` defines what an expression means. A program keeps a part of its own
+-- for each meaning, and may note a flag for each token.
 --
---   Keeping A P N           the parts `P` and the notes `N` for what is meant, `A`
+--   Keeping A P N           the parts `P` and the notes `N` for the meanings `A`
 --   Noted K n fs            the notes, if there are any, are the flags `fs`
 --   IsKept K k front x n    the part `x` is for `k`, after tokens with the flags `front`
 --   IsAt K ps x n (k, s)    the program has the part `x` for `k` after the frames `s`
 --   Represents K x ps n q   the program is in the state `q` of the parser
---   ReadsToken K m s token ..   a token is read where an operand has to come
+--   ReadsOperand K m ps n token ..      a token is read where an operand has to come
+--   ReadsOperator K m ps x n token ..   a token is read after an operand
 use Rattle.std.specs.Prelude.{◌≡◌, ℕ, ◌+◌, List, [], ◌∷◌, ◌++◌, length, Option, Some, None, IfSome}
 use Rattle.std.specs.Prelude.{Bool, true, false}
 use Rattle.ud_model.specs.aids.Parsing.{Meaning, Frame, left, before, paren, ParseState, needs, has}
 use Rattle.ud_model.specs.aids.Parsing.{reads, step}
 use Rattle.ud_model.specs.conditions.Tokens.{Token}
 
--- How a program keeps what is meant, `A`: by parts `P`, and by notes `N` on the tokens so far.
+-- How a program keeps the meanings `A`: by parts `P`, and by notes `N` on the tokens so far.
 pub record Keeping (A P N : Type 0) : Type 0 where
-  -- The part for what is meant, whose first token has this index.
+  -- The part for a meaning whose first token has this index.
   pub part : A → ℕ → P
-  -- The flags of the tokens of what is meant.
+  -- The flags of the tokens of a meaning.
   pub flags : A → List Bool
-  -- The flags that are noted, if any are.
+  -- The noted flags, if any.
   pub notes : N → Option (List Bool)
 
--- `number_of fs`: how many flags are noted
+-- `number_of fs`: the number of noted flags
 abbrev pub number_of : Option (List Bool) → ℕ
 number_of None = 0
 number_of (Some fs) = length fs
@@ -34,7 +35,7 @@ tokens_asked false = 2
 tokens_asked true = 4
 
 module _ {A P N : Type 0} (K : Keeping A P N) where
-  -- `count n`: how many flags are noted
+  -- `count n`: the number of noted flags
   abbrev pub count : N → ℕ
   count n = number_of (K.notes n)
 
@@ -50,13 +51,13 @@ module _ {A P N : Type 0} (K : Keeping A P N) where
   abbrev pub Appends : A → N → P → N → Type 0
   Appends k n x m = (front : List Bool) → Noted n front → IsKept k front x m
 
-  -- `TakesOne f a n x m`: the part `x` is for `f k`, where `a` is for `k` after one token more
+  -- `TakesOne f a n x m`: the part `x` is for `f k`, where `a` is for `k` after one more token
   abbrev pub TakesOne : (A → A) → P → N → P → N → Type 0
   TakesOne f a n x m = (k : A) (front : List Bool) → a ≡ K.part k (length front + 1) →
       Noted n (front ++ true ∷ K.flags k) → IsKept (f k) front x m
 
-  -- `TakesTwo f a b n x m`: the part `x` is for `f k j`, where `a` is for `k`, and after one token
-  -- more `b` is for `j`
+  -- `TakesTwo f a b n x m`: the part `x` is for `f k j`, where `a` is for `k`, and `b` for `j`
+  -- after one more token
   abbrev pub TakesTwo : (A → A → A) → P → P → N → P → N → Type 0
   TakesTwo f a b n x m = (k j : A) (front : List Bool) → a ≡ K.part k (length front) →
       b ≡ K.part j (length front + (length (K.flags k) + 1)) →
@@ -90,19 +91,27 @@ module _ {A P N : Type 0} (K : Keeping A P N) where
   Represents (Some x) ps n (has k s) = IsAt ps x n (k, s)
   Represents _ ps n _ = ⊥
 
-  -- `ReadsOn m q text x ps n rest`: what `text` means in the state `q`, `rest` means in that of the
-  -- program
+  -- `ReadsOn m q text x ps n rest`: what `text` means in the state `q`, `rest` means in the
+  -- program's state
   abbrev pub ReadsOn : Meaning A → ParseState A → List ℕ → Option P → List (Frame P) → N →
       List ℕ → Type 0
   ReadsOn m q text x ps n rest = (p : ParseState A) × Represents x ps n p ×
       (reads m q text ≡ reads m p rest)
 
-  -- `ReadsToken m s token text x ps n rest`: the same of the state after `token`, where an operand
-  -- has to come for the frames `s`
-  abbrev pub ReadsToken : Meaning A → List (Frame A) → Token → List ℕ → Option P →
+  -- `ReadsOperand m ps n token text x qs o rest`: in each state in which the program needs an
+  -- operand, `token` was read, and what `text` means after it, `rest` means in the program's state
+  abbrev pub ReadsOperand : Meaning A → List (Frame P) → N → Token → List ℕ → Option P →
       List (Frame P) → N → List ℕ → Type 0
-  ReadsToken m s token = ReadsOn m (step m (needs s) token)
+  ReadsOperand m ps n token text x qs o rest = (s : List (Frame A)) → Awaits ps n s →
+      ReadsOn m (step m (needs s) token) text x qs o rest
 
-  -- `IsMeant m o x n`: `o` is something, for which the program has the part `x`
+  -- `ReadsOperator m ps x n token y qs o`: in each state in which the program has the part `x`,
+  -- `token` was read
+  abbrev pub ReadsOperator : Meaning A → List (Frame P) → P → N → Token → Option P →
+      List (Frame P) → N → Type 0
+  ReadsOperator m ps x n token y qs o = (s : List (Frame A)) (k : A) → IsAt ps x n (k, s) →
+      Represents y qs o (step m (has k s) token)
+
+  -- `IsMeant m o x n`: `o` is a meaning, and the program has the part `x` for it
   abbrev pub IsMeant : Option A → P → N → Type 0
   IsMeant o x n = (k : A) × (o ≡ Some k) × IsKept k [] x n

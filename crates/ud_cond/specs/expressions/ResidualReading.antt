@@ -1,11 +1,13 @@
 -- ResidualReading: the residual of an expression while it is read.
 -- `ud_model.specs.conditions.Residuals` defines the residual of a tree, and
--- `ud_model.specs.conditions.ResidualTexts` the flags of its tokens. Both come from those of the
--- parts, so no tree is needed.
+-- `ud_model.specs.conditions.ResidualTexts` the flags of its tokens. Both come from the parts, so
+-- no tree is needed.
 --
 --   Kept                         the value, the residual's condition and the flags of a part
 --   kept_meaning table rules     the record `Kept` of each part of an expression
 --   kept_of_tree table rules e   the record `Kept` of a tree
+--   lost_len fs                  the number of tokens before the first one that the residual has
+--   KeepsWhole whole old start end new   the flags of a part are kept
 --   part_of k n                  the program's part for `k`, whose flags begin at `n`
 --   kept_keeping                 how a program keeps such parts
 --   HasResidual table rules text r flags   the residual of a text: its condition, and its tokens
@@ -49,7 +51,7 @@ pub record Kept : Type 0 where
   -- The condition of the residual, and whether the last operator of the part was removed.
   pub cond : Cond
   pub lost : Bool
-  -- The residual stands alone; the part does.
+  -- The residual stands alone; the part stands alone.
   pub left_alone : Bool
   pub alone : Bool
   pub flags : List Bool
@@ -157,6 +159,19 @@ abbrev pub are_all_kept : List Bool → Bool
 are_all_kept [] = true
 are_all_kept (f ∷ fs) = f && are_all_kept fs
 
+-- `lost_len fs`: the number of tokens before the first one that the residual has, by the flags `fs`
+abbrev pub lost_len : List Bool → ℕ
+lost_len [] = 0
+lost_len (true ∷ fs) = 0
+lost_len (false ∷ fs) = suc (lost_len fs)
+
+-- `KeepsWhole whole old start end new`: the flags `new` are `old`, but those from `start` up to
+-- `end` are kept. `whole` says whether they were kept already.
+abbrev pub KeepsWhole : Bool → List Bool → ℕ → ℕ → List Bool → Type 0
+KeepsWhole whole old start end new = (front middle back : List Bool) →
+    old ≡ front ++ middle ++ back → start ≡ length front → end ≡ length front + length middle →
+    whole ≡ are_all_kept middle → new ≡ front ++ replicate (length middle) true ++ back
+
 -- `part_of k n`: the part `k`, whose flags begin at `n`
 abbrev pub part_of : Kept → ℕ → Part
 part_of k n = record {
@@ -168,6 +183,7 @@ part_of k n = record {
   alone = k.alone;
   whole = are_all_kept k.flags;
   first = n;
+  kept = n + lost_len k.flags;
 }
 
 -- `kept_keeping`: a program keeps such parts, and notes the flags
@@ -175,7 +191,7 @@ abbrev pub kept_keeping : Keeping Kept Part (List Bool)
 kept_keeping = record { part = part_of; flags = λ k. k.flags; notes = λ fs. Some fs }
 
 -- `HasResidual table rules text r flags`: `text` is an expression. Its residual has the condition
--- `r`, and `flags` say which of the tokens it has.
+-- `r`, and `flags` are true for the tokens that it has.
 abbrev pub HasResidual : List Argument → Rules → List ℕ → Cond → List Bool → Type 0
 HasResidual table rules text r flags = (e : Expression) × (expression_of text ≡ Some e) ×
     ((residual table rules e).cond ≡ r) × (flags ≡ keeps table rules e)

@@ -1,4 +1,4 @@
-//! The parts of an expression of which the residual is read.
+//! The parts of an expression, kept for its residual.
 
 ghost use Rattle.std.specs.Prelude.{◌≡◌, []};
 ghost use Rattle.ud_cond.specs.CondViews.{as_rules};
@@ -8,7 +8,7 @@ use crate::conditions::{Rules, cond_of_value};
 use crate::expressions::values::{NO_VALUE, Value};
 use ud_model::Cond;
 
-/// A part of an expression, whose tokens have flags side by side.
+/// A part of an expression. The flags of its tokens are adjacent.
 #[derive(Clone, Copy)]
 pub(crate) struct Part {
     /// The value with signed numbers.
@@ -27,9 +27,11 @@ pub(crate) struct Part {
     pub(crate) whole: bool,
     /// The index of the first flag.
     pub(crate) first: usize,
+    /// The index of the first flag of a token that the residual has; the end, if it has none.
+    pub(crate) kept: usize,
 }
 
-/// A part without a meaning, of zeros alone: so stacks of such parts are cleared in place, and not
+/// A part without a meaning, all zeros, so that stacks of parts are cleared in place and not
 /// copied.
 impl Default for Part {
     fn default() -> Self {
@@ -42,6 +44,7 @@ impl Default for Part {
             alone: false,
             whole: false,
             first: 0,
+            kept: 0,
         }
     }
 }
@@ -70,5 +73,6 @@ pub(crate) fn leaf_part(
         alone,
         whole: true,
         first,
+        kept: first,
     }
 }

@@ -1,9 +1,9 @@
 //! The reader of any expression, token by token over two stacks of fixed size.
 //!
-//! No tree is built and no memory is taken. `ud_model.specs.aids.Parsing` defines what a text
-//! means in a state. A state is the stacks, which are what is pending in it, and an operand, if
-//! one has come. The reader knows operands by its keeper alone, and `specs.expressions.Keepings`
-//! defines which state it is in.
+//! No tree is built and no memory is taken. `ud_model.specs.aids.Parsing` defines what a text means
+//! in a state. A state is what is pending, on the stacks, and an operand, if one has come. The
+//! reader knows operands only through its keeper, and `specs.expressions.Keepings` defines which
+//! state it is in.
 
 ghost use Rattle.std.specs.Prelude.{◌≡◌, ◌≤◌, ◌<◌, ◌+◌, List, [], length, option_map};
 ghost use Rattle.std.specs.Prelude.{None, IfSome, IfNone};
@@ -14,8 +14,8 @@ ghost use Rattle.ud_model.specs.declared.limits.TheConstants.{LINE_BYTES};
 ghost use Rattle.ud_cond.specs.CondViews.{as_token};
 ghost use Rattle.ud_cond.specs.expressions.DefinedOperands as asking;
 ghost use Rattle.ud_cond.specs.expressions.Stacks.{weight, operand_weight};
-ghost use Rattle.ud_cond.specs.expressions.Keepings.{count, Noted, Awaits, IsAt, Represents};
-ghost use Rattle.ud_cond.specs.expressions.Keepings.{ReadsToken, IsMeant, tokens_asked};
+ghost use Rattle.ud_cond.specs.expressions.Keepings.{count, Noted, IsAt, Represents, IsMeant};
+ghost use Rattle.ud_cond.specs.expressions.Keepings.{ReadsOperand, ReadsOperator, tokens_asked};
 
 use crate::expressions::keeper::Keeper;
 use crate::expressions::operators::{is_prefix, precedence};
@@ -50,7 +50,7 @@ fn after_paren(text: &[u8]) -> Option<&[u8]>
     }
 }
 
-/// Parses the name and the `)` after `defined (`. Returns the name, that it is in parentheses, and
+/// Parses the name and the `)` after `defined (`. Returns the name, `true` for the parentheses, and
 /// what follows.
 #[inline(always)]
 fn enclosed_name(inside: &[u8]) -> Option<(&[u8], bool, &[u8])>
@@ -106,10 +106,10 @@ fn reduce<K: Keeper, const BYTES: usize, const OPERANDS: usize>(
     part
 }
 
-/// Reads a token where an operand has to come.
+/// Reads a token where an operand must come.
 ///
-/// Returns the operand that has come then, if one has, and what follows it. Returns `None` if no
-/// expression continues so.
+/// Returns the operand that has now come, if any, and what follows. Returns `None` if no expression
+/// continues with this token.
 fn read_operand<'a, K: Keeper, const BYTES: usize, const OPERANDS: usize>(
     keeper: &K,
     stacks: &mut Stacks<K::Part, BYTES, OPERANDS>,
@@ -119,9 +119,8 @@ fn read_operand<'a, K: Keeper, const BYTES: usize, const OPERANDS: usize>(
 ) -> Option<(Option<K::Part>, &'a [u8])>
     requires room { weight stacks.old + 1 ≤ BYTES }
     requires fits { count K.keeping notes.old + length rest.now < LINE_BYTES }
-    ensures some { IfSome result (λ r. (s : List (Frame K.Meant)) →
-        Awaits K.keeping stacks.old notes.old s → ReadsToken K.keeping (K.meaning keeper.now) s
-        (as_token token.entry) rest.now r.0 stacks.new notes.new r.1.now) }
+    ensures some { IfSome result (λ r. ReadsOperand K.keeping (K.meaning keeper.now)
+        stacks.old notes.old (as_token token.entry) rest.now r.0 stacks.new notes.new r.1.now) }
     ensures none { IfNone result ((s : List (Frame K.Meant)) → reads (K.meaning keeper.now)
         (step (K.meaning keeper.now) (needs s) (as_token token.entry)) rest.now ≡ None) }
     ensures lighter { IfSome result
@@ -160,7 +159,7 @@ fn read_operand<'a, K: Keeper, const BYTES: usize, const OPERANDS: usize>(
 
 /// Reads a token after an operand.
 ///
-/// Returns the operand that has come then, if one has, or `None` if no expression continues so.
+/// Returns the operand that has now come, if any; `None` if no expression continues so.
 fn read_operator<K: Keeper, const BYTES: usize, const OPERANDS: usize>(
     keeper: &K,
     stacks: &mut Stacks<K::Part, BYTES, OPERANDS>,
@@ -170,10 +169,8 @@ fn read_operator<K: Keeper, const BYTES: usize, const OPERANDS: usize>(
 ) -> Option<Option<K::Part>>
     requires room { weight stacks.old + 2 ≤ BYTES }
     requires fits { count K.keeping notes.old < LINE_BYTES }
-    ensures some { IfSome result (λ r. (s : List (Frame K.Meant)) (k : K.Meant) →
-        IsAt K.keeping stacks.old part notes.old (k, s) →
-        Represents K.keeping r stacks.new notes.new
-        (step (K.meaning keeper.now) (has k s) (as_token token.entry))) }
+    ensures some { IfSome result (λ r. ReadsOperator K.keeping (K.meaning keeper.now)
+        stacks.old part notes.old (as_token token.entry) r stacks.new notes.new) }
     ensures none { IfNone result ((s : List (Frame K.Meant)) (k : K.Meant) →
         IsAt K.keeping stacks.old part notes.old (k, s) →
         step (K.meaning keeper.now) (has k s) (as_token token.entry) ≡ stuck) }

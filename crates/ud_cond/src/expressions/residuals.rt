@@ -1,11 +1,12 @@
-//! The residual of any expression: `reader` reads it, and parts with flags are kept.
+//! The residual of any expression, by a reader that keeps parts with flags.
 //!
 //! No memory is taken. Each token has a flag: whether the residual has it. The flags of a part lie
-//! side by side, so an operand is removed by one fill. What is kept already isn't filled again, so
-//! the time for a chain of operators other than `&&` and `||` is linear in its length.
+//! side by side, so an operand is removed by one fill. What is kept already isn't filled again, nor
+//! what is removed from the beginning of a part on. So the time for a chain of operators is linear
+//! in its length.
 //! `specs.expressions.ResidualReading` defines the record of a part (`Kept`).
 
-ghost use Rattle.std.specs.Prelude.{◌≡◌, ◌≤◌, ◌<◌, ◌+◌, List, Bool, true, false, ◌&&◌, [], ◌∷◌};
+ghost use Rattle.std.specs.Prelude.{◌≡◌, ◌≤◌, ◌<◌, ◌+◌, ℕ, List, Bool, true, false, ◌&&◌, [], ◌∷◌};
 ghost use Rattle.std.specs.Prelude.{◌++◌, length, replicate, Some, None, IfSome, IfNone};
 ghost use Rattle.ud_model.specs.conditions.Table.{Argument};
 ghost use Rattle.ud_model.specs.conditions.Residuals as residuals;
@@ -20,7 +21,7 @@ ghost use Rattle.ud_cond.specs.expressions.Keepings.{TakesTwo, IsMeant};
 ghost use Rattle.ud_cond.specs.expressions.ResidualReading as spec;
 ghost use Rattle.ud_cond.specs.expressions.ResidualReading.{kept_keeping};
 ghost use Rattle.ud_cond.specs.expressions.ResidualReading.{joined_kept, kept_meaning_of};
-ghost use Rattle.ud_cond.specs.expressions.ResidualReading.{are_all_kept, HasResidual};
+ghost use Rattle.ud_cond.specs.expressions.ResidualReading.{KeepsWhole, lost_len, HasResidual};
 
 use crate::conditions::{Rules, negate};
 use crate::expressions::keeper::Keeper;
@@ -37,7 +38,7 @@ use crate::symbols::Symbols;
 use crate::token_flags::TokenFlags;
 use ud_model::{Cond, LINE_BYTES, Operator};
 
-/// Returns whether beside an operand with this condition the other one decides.
+/// Returns whether beside an operand with this condition the other one alone decides.
 fn is_unit(operator: Operator, cond: Cond) -> bool
     ensures { result ≡ residuals.is_unit operator cond }
 {
@@ -73,7 +74,7 @@ fn settles(operator: Operator, cond: Cond) -> bool
     }
 }
 
-/// Returns the condition of an operator between operands, none of which is a unit.
+/// Returns the condition of an operator between operands, neither of which is a unit.
 fn settled(strict: bool, operator: Operator, a: Cond, b: Cond) -> Cond
     ensures { result ≡ residuals.settled strict operator a b }
 {
@@ -86,24 +87,42 @@ fn settled(strict: bool, operator: Operator, a: Cond, b: Cond) -> Cond
     }
 }
 
-/// Returns whether both hold.
+/// Returns whether both are true.
 fn both(a: bool, b: bool) -> bool
     ensures { result ≡ (a && b) }
 {
     a && b
 }
 
-/// Keeps each token of a part, if not the whole part is kept already.
+/// Keeps each token of a part, unless the whole part is kept already.
 fn keep_whole(whole: bool, flags: &mut TokenFlags, start: usize, end: usize)
-    ensures kept { (front middle back : List Bool) → flags.old ≡ front ++ middle ++ back →
-        start ≡ length front → end ≡ length front + length middle →
-        whole ≡ are_all_kept middle →
-        flags.new ≡ front ++ replicate (length middle) true ++ back }
+    ensures kept { KeepsWhole whole flags.old start end flags.new }
     ensures long { length flags.new ≡ length flags.old }
 {
     if !whole {
         flags.fill(start, end, true);
     }
+}
+
+/// Returns the index of the first kept flag of a part that goes on with flags that aren't kept, up
+/// to `longer`. The index was `kept` when the part ended at `end`.
+fn kept_of_longer(kept: usize, end: usize, longer: usize) -> usize
+    ensures { (n m : ℕ) (fs : List Bool) → kept ≡ n + lost_len fs → end ≡ n + length fs →
+        longer ≡ end + m → result ≡ n + lost_len (fs ++ replicate m false) }
+{
+    if kept < end { kept } else { longer }
+}
+
+/// Returns the same index for a part in parentheses from `first` up to `longer`, which are kept or
+/// not.
+fn kept_in_parens(stay: bool, first: usize, kept: usize, end: usize, longer: usize) -> usize
+    ensures { (fs : List Bool) → kept ≡ first + 1 + lost_len fs → end ≡ first + 1 + length fs →
+        longer ≡ end + 1 → result ≡ first + lost_len (stay ∷ fs ++ stay ∷ []) }
+{
+    if stay {
+        return first;
+    }
+    kept_of_longer(kept, end, longer)
 }
 
 /// The keeper of parts with the conditions of their residuals.
@@ -116,7 +135,7 @@ pub(crate) struct Residuals<'a> {
 }
 
 impl Residuals<'_> {
-    /// Returns the scope of an expression, with a `u` or without.
+    /// Returns the scope of an expression with or without a `u`.
     fn scope(&self, unsigned: bool) -> Scope<'_>
         ensures symbols { result.symbols ≡ Some self.now.symbols }
         ensures strict { result.strict ≡ self.now.rules.strict }
@@ -145,32 +164,33 @@ impl Residuals<'_> {
         let joined = Part {
             value: self.binary_value(operator, a.value, b.value),
             number: apply_binary(self.rules.strict, true, operator, a.number, b.number),
-            cond: Cond::Unknown,
             lost: true,
-            left_alone: false,
             alone: false,
             whole: false,
-            first: a.first,
+            ..a
         };
         if is_unit(operator, a.cond) {
-            flags.fill(a.first, b.first, false);
+            flags.fill(a.kept, b.first, false);
             return Part {
                 cond: b.cond,
                 left_alone: b.left_alone,
+                kept: b.kept,
                 ..joined
             };
         }
         if is_unit(operator, b.cond) {
-            flags.fill(b.first.saturating_sub(1), flags.len(), false);
+            let end = b.first.saturating_sub(1);
+            let longer = flags.len();
+            flags.fill(end, longer, false);
             return Part {
-                cond: a.cond,
-                left_alone: a.left_alone,
+                kept: kept_of_longer(a.kept, end, longer),
                 ..joined
             };
         }
         Part {
             cond: settled(self.rules.strict, operator, a.cond, b.cond),
             lost: false,
+            left_alone: false,
             whole: both(a.whole, b.whole),
             ..joined
         }
@@ -240,6 +260,7 @@ impl Keeper for Residuals<'_> {
                 alone: a.alone,
                 whole: a.whole,
                 first,
+                kept: first,
             };
         }
         keep_whole(a.whole, flags, first, flags.len());
@@ -260,13 +281,16 @@ impl Keeper for Residuals<'_> {
     fn parens(&self, a: Part, flags: &mut TokenFlags) -> Part {
         let first = a.first.saturating_sub(1);
         let stay = !both(a.lost, a.left_alone);
+        let end = flags.len();
         flags.fill(first, a.first, stay);
         flags.push(stay);
+        let longer = flags.len();
         Part {
             left_alone: true,
             alone: true,
             whole: both(stay, a.whole),
             first,
+            kept: kept_in_parens(stay, first, a.kept, end, longer),
             ..a
         }
     }
@@ -319,12 +343,12 @@ fn read_text(residuals: &Residuals<'_>, text: &[u8], flags: &mut TokenFlags) -> 
 /// Returns the condition of the residual of the text of an `#if` or `#elif`.
 ///
 /// `text` is what follows the keyword on its masked line, at most `LINE_BYTES`. The residual is the
-/// expression without the operands that `symbols` decides, and without their operators. `flags` has
-/// then a flag for each token of the text: whether the residual has it. Returns `None` if the text
-/// isn't an expression. Takes no memory.
+/// expression without the operands that `symbols` decides, and without their operators. `flags`
+/// then has a flag for each token of the text: whether the residual has it. Returns `None` if the
+/// text isn't an expression. Takes no memory.
 ///
-/// The residual of a decided text is of no use: ask `condition` first. If the residual is unknown,
-/// ask it again of the tokens that are left, since a `u` may have hidden a negative number.
+/// Call `condition` first: a decided text needs no residual. If the residual is unknown, call
+/// `condition` again on the tokens that are left, since a `u` may have hidden a negative number.
 ///
 /// (C11 6.5.13p3, 6.5.14p3, 6.10.1)
 pub fn residual(

@@ -1,34 +1,29 @@
 -- Numbers grow with their digits, so a number that is too large stays too large.
-use Rattle.std.proofs.Common.{◌≡◌, ℕ, ℤ, pos, ◌≤◌, ◌<◌, ◌+◌, ◌*◌, ◌^◌, ◌==◌, List, [], ◌∷◌, length, get_or, Bool, Some, None, is_some, unwrap_or, nat_lt, nat_le, true, false, refl, sym, ◌∙◌, ap, subst, arith}
-use Rattle.std.proofs.lemmas.Bool.{le-ltb, lt-ltb, eqb-true, ne_eqb, leb-true, and_parts}
-use Rattle.std.proofs.lemmas.Option.{none-some}
+use Rattle.std.proofs.Common.{◌≡◌, ℕ, ℤ, pos, ◌≤◌, ◌<◌, ◌+◌, ◌*◌, ◌^◌, ◌==◌, List, [], ◌∷◌, length, get_or, Bool, Some, None, true, false, refl, sym, subst, arith}
+use Rattle.std.proofs.lemmas.Bool.{eqb-true}
 use Rattle.ud_model.specs.text.Bytes.{is_digit}
-use Rattle.ud_model.specs.conditions.Constants.{ConstantParts, constant_parts, constant_sign, suffix_sign, is_constant, append_digits, constant_number, digit_value}
+use Rattle.ud_model.specs.conditions.Constants.{constant_parts, suffix_sign, append_digits, digit_value}
 use Rattle.ud_model.specs.conditions.Values.{limited, text_value, text_has_u}
 use Rattle.ud_cond.specs.expressions.Digits.{IsOneDigit}
 use Rattle.ud_cond.specs.declared.expressions.constants.Base.{Base}
-use Rattle.ud_cond.specs.declared.expressions.constants.Base.TheVariants.{Octal, Decimal, Hexadecimal}
 use Rattle.ud_cond.specs.CondViews.{base_of}
 
 grows_by : (b : Base) (n d : ℕ) → n ≤ n * base_of b + d
-grows_by Octal n d = omega arith
-grows_by Decimal n d = omega arith
-grows_by Hexadecimal n d = omega arith
+grows_by b n d = grind arith
 
 -- more digits make no smaller number
 pub grows : (b : Base) (n : ℕ) (ds : List ℕ) → n ≤ append_digits (base_of b) n ds
 grows b n [] = omega arith
-grows b n (d ∷ ds) = omega (arith, grows_by b n (digit_value d), grows b (n * base_of b + digit_value d) ds)
+grows b n (d ∷ ds) = grind (arith, grows_by, grows b (n * base_of b + digit_value d) ds)
 
 -- a number above the greatest one is unknown
 limited-above : (n : ℕ) → 2 ^ 63 ≤ n → limited n ≡ None
-limited-above n l = let no : nat_lt n (2 ^ 63) ≡ false = le-ltb n (2 ^ 63) l in rw no
+limited-above n l = grind arith
 
 -- a number whose digits so far are too large is unknown too
 pub unknown-above : (b : Base) (n : ℕ) (ds : List ℕ) → 0 < length ds → 2 ^ 64 ≤ n * base_of b + digit_value (get_or ds 0 0) → limited (append_digits (base_of b) n ds) ≡ None
 unknown-above b n [] l h = absurd (omega arith)
-unknown-above b n (d ∷ ds) l h =
-    limited-above (append_digits (base_of b) n (d ∷ ds)) (omega (arith, grows b (n * base_of b + digit_value d) ds))
+unknown-above b n (d ∷ ds) l h = grind (arith, limited-above, grows)
 
 -- the parts of a word of one digit
 digit_by : (b : ℕ) (z : Bool) → (b == 48) ≡ z → is_digit b ≡ true → (base : ℕ) × (constant_parts (b ∷ []) ≡ record { base = base; digits = b ∷ []; suffix = [] })
@@ -40,9 +35,7 @@ unfolding suffix_sign
 no_suffix = refl
 
 dash : (b : ℕ) → is_digit b ≡ true → (b == 45) ≡ false
-dash b d =
-    let over : 48 ≤ b = leb-true 48 b (and_parts (nat_le 48 b) (nat_le b 57) d).0 in
-    ne_eqb b 45 (λ e. omega arith)
+dash b d = grind arith
 
 -- a text of one byte
 pub sole : (w : List ℕ) → length w ≡ 1 → w ≡ get_or w 0 0 ∷ []
@@ -51,30 +44,15 @@ sole (b ∷ []) l = refl
 sole (b ∷ a ∷ w) l = absurd (omega arith)
 
 limited-below : (n : ℕ) → n < 2 ^ 63 → limited n ≡ Some (pos n)
-limited-below n l = let yes : nat_lt n (2 ^ 63) ≡ true = lt-ltb n (2 ^ 63) l in rw yes
+limited-below n l = grind arith
 
 -- a word of one digit is a constant of the digit's value
 pub one-digit : (b n : ℕ) → is_digit b ≡ true → n ≡ digit_value b → n < 256 → IsOneDigit (b ∷ []) (pos n)
-one-digit b n d is few =
-    let parts = digit_by b (b == 48) refl d in
-    let number : constant_number (b ∷ []) ≡ n = ap (λ (p : ConstantParts). append_digits p.base 0 p.digits) parts.1 ∙ omega arith in
-    record {
-      sign = ap constant_sign parts.1 ∙ no_suffix;
-      value = ap limited number ∙ limited-below n (omega arith);
-      nameless = simp d;
-      positive = dash b d;
-    }
+one-digit b n d is few = grind (arith, digit_by, no_suffix, limited-below, dash)
 
 -- the value of a name that is defined as one digit
 pub text_value-digit : (u : Bool) (w : List ℕ) (z : ℤ) → IsOneDigit w z → text_value u w ≡ Some z
-text_value-digit u [] z is = absurd (none-some false is.sign)
-text_value-digit u (b ∷ w) z is =
-    let first : (b == 45) ≡ false = is.positive in
-    let whole : is_constant (b ∷ w) ≡ true = ap is_some is.sign in
-    rw first (rw whole is.value)
+text_value-digit u w z is = grind arith
 
 pub text_has_u-digit : (w : List ℕ) (z : ℤ) → IsOneDigit w z → text_has_u w ≡ false
-text_has_u-digit [] z is = absurd (none-some false is.sign)
-text_has_u-digit (b ∷ w) z is =
-    let first : (b == 45) ≡ false = is.positive in
-    rw first (ap (λ s. unwrap_or s false) is.sign)
+text_has_u-digit w z is = grind arith

@@ -1,13 +1,13 @@
 -- Operands on the fast path, case by case: an operand means the same in every state that needs one.
-use Rattle.std.proofs.Common.{◌≡◌, ℕ, List, ◌∷◌, Option, Some, None, IfSome, refl, sym, ◌∙◌, ap, arith}
+use Rattle.std.proofs.Common.{◌≡◌, ℕ, List, ◌∷◌, Option, Some, None, IfSome, sym, ◌∙◌, ap, arith}
 use Rattle.ud_model.specs.text.Bytes.{skip_white}
-use Rattle.ud_model.specs.conditions.Tokens.{number, name, defined, operator, opening, closing, Token, NextToken, at_end, unreadable, found, leading_token, next_token}
+use Rattle.ud_model.specs.conditions.Tokens.{defined, operator, Token, found, leading_token, next_token}
 use Rattle.ud_model.specs.aids.Parsing.{Meaning, Frame, before, step, reads, needs, has, asks}
 use Rattle.ud_model.specs.declared.operator.Operator.{Operator}
 use Rattle.ud_model.specs.declared.operator.Operator.TheVariants.{Not}
 use Rattle.ud_cond.specs.expressions.DefinedOperands.{Asked}
 use Rattle.ud_model.proofs.conditions.TokenLemmas.{shorter}
-use Rattle.ud_cond.proofs.lemmas.expressions.ReadingLemmas.{reads_on, reads-on, reads-found}
+use Rattle.ud_cond.proofs.lemmas.expressions.ReadingLemmas.{reads-on, reads-found}
 
 -- the leading token of a text without leading white space
 pub token_of-trimmed : (whole text : List ℕ) → skip_white whole ≡ text →
@@ -31,19 +31,9 @@ module _ {A : Type 0} (m : Meaning A) where
   needs-definition f text rest v None e h = tt
   needs-definition f text rest v (Some b) e h = needs-defined text rest v (f b) e h
 
-  before_on : (s : List (Frame A)) (o : Operator) (v : A) (x : NextToken) → reads_on m (has v (before o ∷ s)) x ≡ reads_on m (has (m.unary o v) s) x
-  before_on s o v at_end = refl
-  before_on s o v unreadable = refl
-  before_on s o v (found (number w) rest) = refl
-  before_on s o v (found (name n a) rest) = refl
-  before_on s o v (found defined rest) = refl
-  before_on s o v (found (operator p) rest) = refl
-  before_on s o v (found opening rest) = refl
-  before_on s o v (found closing rest) = refl
-
   -- an operator before an operand takes the operand, whatever follows
   pub reads-before : (s : List (Frame A)) (o : Operator) (v : A) (text : List ℕ) → reads m (has v (before o ∷ s)) text ≡ reads m (has (m.unary o v) s) text
-  reads-before s o v text = reads-on m (has v (before o ∷ s)) text ∙ before_on s o v (next_token text) ∙ sym (reads-on m (has (m.unary o v) s) text)
+  reads-before s o v text = grind (arith, reads-on)
 
   -- `!` and an operand
   pub needs-not : (text behind : List ℕ) (v : A) (rest : List ℕ) → next_token text ≡ found (operator Not) behind → Asked m needs behind v rest → Asked m needs text (m.unary Not v) rest

@@ -1,26 +1,23 @@
 -- The states of the parser that a program is in, by what it keeps.
-use Rattle.std.proofs.Common.{◌≡◌, ℕ, ◌≤◌, ◌+◌, List, [], ◌∷◌, ◌++◌, length, Bool, true, if◌then◌else◌, Option, Some, None, IfSome, IfNone, refl, sym, ◌∙◌, ap, subst, append_assoc, length-append, arith}
+use Rattle.std.proofs.Common.{◌≡◌, ℕ, ◌≤◌, List, [], ◌∷◌, ◌++◌, length, Bool, true, Option, Some, None, IfSome, IfNone, refl, append_assoc, length-append, arith}
 use Rattle.std.proofs.lemmas.Bool.{le-leb, lt-leb}
 use Rattle.ud_model.specs.conditions.Expressions.{precedence}
 use Rattle.ud_model.specs.conditions.Tokens.{operator}
-use Rattle.ud_model.specs.aids.Parsing.{Meaning, Frame, left, before, paren, ParseState, needs, has, asks, asks_inside, asks_end, stuck, step, reduce, close, wait, alone}
+use Rattle.ud_model.specs.aids.Parsing.{Meaning, Frame, left, before, paren, ParseState, needs, has, stuck, step, reduce, close, wait, alone}
 use Rattle.ud_model.specs.declared.operator.Operator.{Operator}
 use Rattle.ud_cond.specs.expressions.Stacks.{popped, IsSettled, IsNoParen, is_empty}
 use Rattle.ud_cond.specs.expressions.Keepings.{Keeping, number_of, count, Noted, IsKept, TakesOne, TakesTwo, flags_in, parts_of, Awaits, IsAt, Represents}
 
 -- what holds of a result, if there is one
 pub if_some : {A : Type 0} (o : Option A) {P Q : A → Type 0} → ((x : A) → P x → Q x) → IfSome o P → IfSome o Q
-if_some None f h = h
-if_some (Some x) f h = f x h
+if_some o f h = grind arith
 
 pub if_none : {A : Type 0} (o : Option A) {P Q : Type 0} → (P → Q) → IfNone o P → IfNone o Q
-if_none None f h = f h
-if_none (Some x) f h = h
+if_none o f h = grind arith
 
 -- no more flags are noted than the tokens have
 noted_by : (o : Option (List Bool)) (fs : List Bool) → IfSome o (λ gs. gs ≡ fs) → number_of o ≤ length fs
-noted_by None fs h = omega arith
-noted_by (Some gs) fs h = let e : length gs ≡ length fs = ap (λ (xs : List Bool). length xs) h in omega arith
+noted_by o fs h = grind arith
 
 module _ {A P N : Type 0} (K : Keeping A P N) where
   pub count_noted : (n : N) (fs : List Bool) → Noted K n fs → count K n ≤ length fs
@@ -28,20 +25,10 @@ module _ {A P N : Type 0} (K : Keeping A P N) where
 
   module _ (ps : List (Frame P)) (n : N) where
     pub needs_of : (q : ParseState A) → Represents K None ps n q → (s : List (Frame A)) × (q ≡ needs s) × Awaits K ps n s
-    needs_of (needs s) h = (s, refl, h)
-    needs_of (has k s) h = absurd h
-    needs_of (asks s) h = absurd h
-    needs_of (asks_inside s) h = absurd h
-    needs_of (asks_end v s) h = absurd h
-    needs_of stuck h = absurd h
+    needs_of q h = grind arith
 
     pub has_of : (x : P) (q : ParseState A) → Represents K (Some x) ps n q → (k : A) × (s : List (Frame A)) × (q ≡ has k s) × IsAt K ps x n (k, s)
-    has_of x (needs s) h = absurd h
-    has_of x (has k s) h = (k, s, refl, h)
-    has_of x (asks s) h = absurd h
-    has_of x (asks_inside s) h = absurd h
-    has_of x (asks_end v s) h = absurd h
-    has_of x stuck h = absurd h
+    has_of x q h = grind arith
 
   module _ (m : Meaning A) where
     -- at the end nothing is pending
@@ -66,20 +53,7 @@ module _ {A P N : Type 0} (K : Keeping A P N) where
         next_binary x [] e l p f h = cc
         next_binary x (before q ∷ s) e l p f h = cc
         next_binary x (paren ∷ s) e l p f h = cc
-        next_binary x (left q a ∷ s) e l p f h =
-            let qo : q ≡ o = cc in
-            let xa : x ≡ K.part a (length (flags_in K s)) = cc in
-            let pss : ps ≡ parts_of K s = cc in
-            let long : length (flags_in K (left q a ∷ s)) ≡ length (flags_in K s) + (length (K.flags a) + 1) =
-            length-append (flags_in K s ++ K.flags a) (true ∷ []) ∙ ap (λ (i : ℕ). i + 1) (length-append (flags_in K s) (K.flags a)) ∙ omega arith in
-            let r = h a j (flags_in K s) xa (p ∙ ap (K.part j) long) (subst (λ (fs : List Bool). Noted K n fs) (append_assoc (flags_in K s ++ K.flags a) (true ∷ []) (K.flags j)) f) in
-            record {
-              frames = s;
-              part = m.binary o a j;
-              at = (pss, r);
-              same = ap (λ (b : Bool). if b then reduce m least (m.binary q a j) s else (j, left q a ∷ s)) (le-leb least (precedence q) (subst (λ (z : Operator). least ≤ precedence z) (sym qo) l))
-                  ∙ ap (λ (z : Operator). reduce m least (m.binary z a j) s) qo;
-            }
+        next_binary x (left q a ∷ s) e l p f h = grind (arith, length-append, append_assoc, le-leb)
 
         -- a prefix operator
         pub next_prefix : (t : List (Frame A)) → popped o None ∷ ps ≡ parts_of K t → part ≡ K.part j (length (flags_in K t)) → Noted K n (flags_in K t ++ K.flags j) →
@@ -87,43 +61,24 @@ module _ {A P N : Type 0} (K : Keeping A P N) where
         next_prefix [] e p f h = cc
         next_prefix (left q a ∷ s) e p f h = cc
         next_prefix (paren ∷ s) e p f h = cc
-        next_prefix (before q ∷ s) e p f h =
-            let qo : q ≡ o = cc in
-            let pss : ps ≡ parts_of K s = cc in
-            let r = h j (flags_in K s) (p ∙ ap (K.part j) (length-append (flags_in K s) (true ∷ []))) (subst (λ (fs : List Bool). Noted K n fs) (append_assoc (flags_in K s) (true ∷ []) (K.flags j)) f) in
-            record {
-              frames = s;
-              part = m.unary o j;
-              at = (pss, r);
-              same = ap (λ (z : Operator). reduce m least (m.unary z j) s) qo;
-            }
+        next_prefix (before q ∷ s) e p f h = grind (arith, length-append, append_assoc)
 
       -- nothing is pending that binds as tightly
       pub settled_is : (j : A) (t : List (Frame A)) → IsSettled least (parts_of K t) → reduce m least j t ≡ (j, t)
       settled_is j [] h = refl
-      settled_is j (left o a ∷ s) h = ap (λ (b : Bool). if b then reduce m least (m.binary o a j) s else (j, left o a ∷ s)) (lt-leb least (precedence o) h)
+      settled_is j (left o a ∷ s) h = grind (arith, lt-leb)
       settled_is j (before o ∷ s) h = absurd h
       settled_is j (paren ∷ s) h = refl
 
     -- an operator waits for its right operand
     pub waits : (o : Operator) (n : ℕ) → n ≡ precedence o → 1 ≤ n → (k : A) (s : List (Frame A)) → step m (has k s) (operator o) ≡ wait m o (reduce m n k s)
-    waits o n e l k s =
-        ap (λ (b : Bool). if b then wait m o (reduce m (precedence o) k s) else stuck) (le-leb 1 (precedence o) (subst (λ (j : ℕ). 1 ≤ j) e l))
-        ∙ ap (λ (j : ℕ). wait m o (reduce m j k s)) (sym e)
+    waits o n e l k s = grind arith
 
     -- no parenthesis is open
     pub not_closed : (k : A) (s : List (Frame A)) → IsNoParen (parts_of K s) → close m (k, s) ≡ stuck
-    not_closed k [] h = refl
-    not_closed k (left o a ∷ s) h = refl
-    not_closed k (before o ∷ s) h = refl
-    not_closed k (paren ∷ s) h = absurd h
+    not_closed k s h = grind arith
 
     -- a parenthesis is closed
     pub is_closed : (k : A) (s : List (Frame A)) (ps : List (Frame P)) (inside x : P) (n later : N) → paren ∷ ps ≡ parts_of K s → inside ≡ K.part k (length (flags_in K s)) → Noted K n (flags_in K s ++ K.flags k) →
         TakesOne K m.parens inside n x later → Represents K (Some x) ps later (close m (k, s))
-    is_closed k [] ps inside x n later e p f h = cc
-    is_closed k (left o a ∷ s) ps inside x n later e p f h = cc
-    is_closed k (before o ∷ s) ps inside x n later e p f h = cc
-    is_closed k (paren ∷ s) ps inside x n later e p f h =
-        let pss : ps ≡ parts_of K s = cc in
-        (pss, h k (flags_in K s) (p ∙ ap (K.part k) (length-append (flags_in K s) (true ∷ []))) (subst (λ (fs : List Bool). Noted K n fs) (append_assoc (flags_in K s) (true ∷ []) (K.flags k)) f))
+    is_closed k s ps inside x n later e p f h = grind (arith, length-append, append_assoc)

@@ -1,13 +1,12 @@
 -- The record that a text is read to has the residual of its tree.
 use Rattle.std.proofs.Common.{◌≡◌, ℕ, zero, ◌+◌, suc, List, [], ◌∷◌, ◌++◌, length, map, replicate, Bool, true, false, ◌&&◌, if◌then◌else◌, Option, Some, None, option_map, ℤ, refl, sym, ◌∙◌, ap, ap₂, length-append, arith}
-use Rattle.std.proofs.lemmas.Option.{none-some, same_Some}
 use Rattle.ud_model.specs.conditions.Table.{Argument}
 use Rattle.ud_model.specs.conditions.Tokens.{Token, operator}
 use Rattle.ud_model.specs.conditions.Expressions.{Expression, constant, named, is_defined, unary, binary, parens, spelling}
 use Rattle.ud_model.specs.aids.Parsing.{meaning, reads, needs, expression_of}
-use Rattle.ud_model.specs.conditions.Conditions.{Rules, tree_cond}
-use Rattle.ud_model.specs.conditions.Values.{number_of, has_unsigned}
-use Rattle.ud_model.specs.conditions.Residuals.{Residual, is_unit, settled, stands_alone, alone, residual}
+use Rattle.ud_model.specs.conditions.Conditions.{Rules}
+use Rattle.ud_model.specs.conditions.Values.{number_of}
+use Rattle.ud_model.specs.conditions.Residuals.{Residual, settled, stands_alone, alone, residual}
 use Rattle.ud_model.specs.conditions.ResidualTexts.{joined_flags, all_flags, keeps}
 use Rattle.ud_model.specs.declared.cond.Cond.{Cond}
 use Rattle.ud_model.specs.declared.operator.Operator.{Operator}
@@ -15,13 +14,13 @@ use Rattle.ud_model.specs.declared.operator.Operator.TheVariants.{Or, And, Not}
 use Rattle.ud_model.proofs.conditions.Readings.{reads_meaning}
 use Rattle.ud_model.proofs.conditions.KeptTokens.{SameLength, choose}
 use Rattle.ud_cond.specs.declared.expressions.values.Value.{Value}
-use Rattle.ud_cond.specs.expressions.Evaluation.{value_of_tree, cond_of_value}
-use Rattle.ud_cond.specs.expressions.ResidualReading.{Kept, value_by, leaf, unary_kept, joined_kept, binary_kept, parens_kept, kept_meaning, kept_of_tree}
+use Rattle.ud_cond.specs.expressions.Evaluation.{value_of_tree}
+use Rattle.ud_cond.specs.expressions.ResidualReading.{Kept, leaf, unary_kept, joined_kept, binary_kept, parens_kept, kept_meaning, kept_of_tree}
 
 -- kept parts with the same fields
 kept_same : {v w : Value} {m n : Option ℤ} {c d : Cond} {l k : Bool} {a b : Bool} {x y : Bool} {f g : List Bool} → v ≡ w → m ≡ n → c ≡ d → l ≡ k → a ≡ b → x ≡ y → f ≡ g →
     ◌≡◌ {A = Kept} (record { value = v; number = m; cond = c; lost = l; left_alone = a; alone = x; flags = f }) (record { value = w; number = n; cond = d; lost = k; left_alone = b; alone = y; flags = g })
-kept_same p q r s t u h = λ i. record { value = p i; number = q i; cond = r i; lost = s i; left_alone = t i; alone = u i; flags = h i }
+kept_same p q r s t u h = grind arith
 
 -- flags of one kind
 same_length : {A B : Type 0} (xs : List A) (ys : List B) → SameLength xs ys → length xs ≡ length ys
@@ -39,31 +38,21 @@ moved zero f fs = refl
 moved (suc n) f fs = ap (λ (gs : List Bool). f ∷ gs) (moved n f fs)
 
 one_more : (n : ℕ) (f : Bool) (fs : List Bool) → replicate (n + 1) f ++ fs ≡ replicate n f ++ f ∷ fs
-one_more n f fs = let e : n + 1 ≡ suc n = omega arith in ap (λ (m : ℕ). replicate m f ++ fs) e ∙ moved n f fs
+one_more n f fs = grind (arith, moved)
 
 module _ (table : List Argument) (rules : Rules) where
   abbrev left : Expression → Residual
   left e = residual table rules e
 
   long : (e : Expression) → length (keeps table rules e) ≡ length (spelling e)
-  long e = same_length (keeps table rules e) (spelling e) (choose table rules e).long
+  long e = grind (arith, same_length, choose)
 
   all_kept : (f : Bool) (e : Expression) → replicate (length (keeps table rules e)) f ≡ all_flags f e
-  all_kept f e = ap (λ (n : ℕ). replicate n f) (long e) ∙ all_of f (spelling e)
-
-  -- the condition of an operand of its own
-  leaf_cond : (e : Expression) → cond_of_value rules (value_by (value_of_tree table rules.strict false e) (number_of table rules.strict true e)) ≡ tree_cond e table rules
-  leaf_cond e = by (has_unsigned table e) refl
-    where
-      by : (u : Bool) → has_unsigned table e ≡ u → cond_of_value rules (if u then record (value_of_tree table rules.strict false e) { number = number_of table rules.strict true e } else value_of_tree table rules.strict false e)
-          ≡ cond_of_value rules (value_of_tree table rules.strict (has_unsigned table e) e)
-      by true h = ap (λ (b : Bool). cond_of_value rules (value_of_tree table rules.strict b e)) (sym h)
-      by false h = ap (λ (b : Bool). cond_of_value rules (value_of_tree table rules.strict b e)) (sym h)
+  all_kept f e = grind (arith, long, all_of)
 
   leaf_is : (e : Expression) (fs : List Bool) → fs ≡ keeps table rules e → left e ≡ alone table rules e →
       leaf rules (value_of_tree table rules.strict false e) (number_of table rules.strict true e) (stands_alone e) fs ≡ kept_of_tree table rules e
-  leaf_is e fs f h =
-      kept_same refl refl (leaf_cond e ∙ ap (λ (x : Residual). x.cond) (sym h)) (ap (λ (x : Residual). x.lost) (sym h)) (ap (λ (x : Residual). stands_alone x.tree) (sym h)) refl f
+  leaf_is e fs f h = grind arith
 
   -- `&&` and `||`
   module _ (o : Operator) (e f : Expression) where
@@ -79,36 +68,22 @@ module _ (table : List Argument) (rules : Rules) where
         else keeps table rules e ++ true ∷ keeps table rules f
 
     cond_by : (b d : Bool) → (if b then (left f).cond else if d then (left e).cond else settled rules.strict o (left e).cond (left f).cond) ≡ (tree_by b d).cond
-    cond_by true d = refl
-    cond_by false true = refl
-    cond_by false false = refl
+    cond_by b d = grind arith
 
     lost_by : (b d : Bool) → (if b then true else if d then true else false) ≡ (tree_by b d).lost
-    lost_by true d = refl
-    lost_by false true = refl
-    lost_by false false = refl
+    lost_by b d = grind arith
 
     alone_by : (b d : Bool) → (if b then stands_alone (left f).tree else if d then stands_alone (left e).tree else false) ≡ stands_alone (tree_by b d).tree
-    alone_by true d = refl
-    alone_by false true = refl
-    alone_by false false = refl
+    alone_by b d = grind arith
 
     joined_by : (b d : Bool) → flags_by b d ≡ joined_flags b d e f (keeps table rules e) (keeps table rules f)
-    joined_by true d = one_more (length (keeps table rules e)) false (keeps table rules f) ∙ ap (λ (fs : List Bool). fs ++ false ∷ keeps table rules f) (all_kept false e)
-    joined_by false true = ap (λ (fs : List Bool). keeps table rules e ++ false ∷ fs) (all_kept false f)
-    joined_by false false = refl
+    joined_by b d = grind (arith, one_more, all_kept)
 
   joined_and : (e f : Expression) → joined_kept rules And (kept_of_tree table rules e) (kept_of_tree table rules f) ≡ kept_of_tree table rules (binary And e f)
-  joined_and e f =
-      let b : Bool = is_unit And (left e).cond in
-      let d : Bool = is_unit And (left f).cond in
-      kept_same refl refl (cond_by And e f b d) (lost_by And e f b d) (alone_by And e f b d) refl (joined_by And e f b d)
+  joined_and e f = grind (arith, kept_same, cond_by, lost_by, alone_by, joined_by)
 
   joined_or : (e f : Expression) → joined_kept rules Or (kept_of_tree table rules e) (kept_of_tree table rules f) ≡ kept_of_tree table rules (binary Or e f)
-  joined_or e f =
-      let b : Bool = is_unit Or (left e).cond in
-      let d : Bool = is_unit Or (left f).cond in
-      kept_same refl refl (cond_by Or e f b d) (lost_by Or e f b d) (alone_by Or e f b d) refl (joined_by Or e f b d)
+  joined_or e f = grind (arith, kept_same, cond_by, lost_by, alone_by, joined_by)
 
   -- parentheses
   module _ (e : Expression) where
@@ -118,27 +93,11 @@ module _ (table : List Argument) (rules : Rules) where
     abbrev tree_in : Bool → Residual
     tree_in c = if c then left e else record (left e) { tree = parens (left e).tree }
 
-    cond_in : (c : Bool) → (left e).cond ≡ (tree_in c).cond
-    cond_in true = refl
-    cond_in false = refl
-
-    lost_in : (c : Bool) → (left e).lost ≡ (tree_in c).lost
-    lost_in true = refl
-    lost_in false = refl
-
-    second : (x y : Bool) → (x && y) ≡ true → true ≡ y
-    second true y h = sym h
-    second false y h = cc
-
-    alone_in : (c : Bool) → both ≡ c → true ≡ stands_alone (tree_in c).tree
-    alone_in true h = second (left e).lost (stands_alone (left e).tree) h
-    alone_in false h = refl
-
     enclosed_is : parens_kept (kept_of_tree table rules e) ≡ kept_of_tree table rules (parens e)
-    enclosed_is = kept_same refl refl (cond_in both) (lost_in both) (alone_in both refl) refl refl
+    enclosed_is = grind arith
 
   other_unary_flags : (o : Operator) (a : Expression) → replicate (suc (length (keeps table rules a))) true ≡ all_flags true (unary o a)
-  other_unary_flags o a = ap (λ (fs : List Bool). true ∷ fs) (all_kept true a)
+  other_unary_flags o a = grind (arith, all_kept)
 
   other_binary_flags : (o : Operator) (a b : Expression) → replicate (length (keeps table rules a) + suc (length (keeps table rules b))) true ≡ all_flags true (binary o a b)
   other_binary_flags o a b =
@@ -150,27 +109,21 @@ module _ (table : List Argument) (rules : Rules) where
   kept_is (constant w) = leaf_is (constant w) (true ∷ []) refl refl
   kept_is (named n a) = leaf_is (named n a) (true ∷ []) refl refl
   kept_is (is_defined n false) = leaf_is (is_defined n false) (true ∷ true ∷ []) refl refl
-  kept_is (is_defined n true) = leaf_is (is_defined n true) (true ∷ true ∷ true ∷ true ∷ []) refl refl
+  kept_is (is_defined n true) = grind (arith, leaf_is)
   kept_is (parens a) = ap parens_kept (kept_is a) ∙ enclosed_is a
   kept_is (unary Not a) = ap (unary_kept rules Not) (kept_is a)
   kept_is (unary o a) = ap (unary_kept rules o) (kept_is a) ∙ leaf_is (unary o a) _ (other_unary_flags o a) refl
-  kept_is (binary And a b) = ap₂ (binary_kept rules And) (kept_is a) (kept_is b) ∙ joined_and a b
-  kept_is (binary Or a b) = ap₂ (binary_kept rules Or) (kept_is a) (kept_is b) ∙ joined_or a b
+  kept_is (binary And a b) = grind (arith, joined_and, kept_is a, kept_is b)
+  kept_is (binary Or a b) = grind (arith, joined_or, kept_is a, kept_is b)
   kept_is (binary o a b) = ap₂ (binary_kept rules o) (kept_is a) (kept_is b) ∙ leaf_is (binary o a b) _ (other_binary_flags o a b) refl
 
   -- the record of a text
   pub reads_kept : (text : List ℕ) → reads (kept_meaning table rules) (needs []) text ≡ option_map (kept_of_tree table rules) (expression_of text)
-  reads_kept text = reads_meaning (kept_meaning table rules) text ∙ each (expression_of text)
-    where
-      each : (o : Option Expression) → option_map (meaning (kept_meaning table rules)) o ≡ option_map (kept_of_tree table rules) o
-      each None = refl
-      each (Some e) = ap Some (kept_is e)
+  reads_kept text = grind (arith, reads_meaning, kept_is)
 
 -- a text that is read has a tree
 pub tree_of : (f : Expression → Kept) (o : Option Expression) (k : Kept) → option_map f o ≡ Some k → (e : Expression) × (o ≡ Some e) × (k ≡ f e)
-tree_of f None k e = absurd (none-some k e)
-tree_of f (Some t) k e = (t, refl, sym (same_Some _ _ e))
+tree_of f o k e = grind arith
 
 pub no_tree : (f : Expression → Kept) (o : Option Expression) → option_map f o ≡ None → o ≡ None
-no_tree f None e = refl
-no_tree f (Some t) e = absurd (none-some (f t) (sym e))
+no_tree f o e = grind arith

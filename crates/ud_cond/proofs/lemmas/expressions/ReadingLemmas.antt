@@ -1,6 +1,6 @@
 -- Reading a text token by token: each token has at least one byte, and the text after it continues
 -- in the state that the token makes.
-use Rattle.std.proofs.Common.{◌≡◌, ℕ, zero, suc, ◌<◌, List, [], ◌∷◌, length, Option, Some, None, option_map, refl, ◌∙◌, ap, arith}
+use Rattle.std.proofs.Common.{◌≡◌, ℕ, zero, suc, ◌<◌, List, [], ◌∷◌, length, Option, None, refl, ◌∙◌, ap, arith}
 use Rattle.ud_model.specs.conditions.Tokens.{Token, NextToken, at_end, unreadable, found, next_token}
 use Rattle.ud_model.specs.aids.Parsing.{Meaning, ParseState, stuck, step, finish, parse_tokens, parse_all_tokens, prepend_token, tokens_in, tokens_of, reads}
 use Rattle.ud_model.proofs.conditions.TokenLemmas.{shorter}
@@ -12,14 +12,10 @@ Leaves n unreadable = Unit {0}
 Leaves n (found t rest) = length rest < n
 
 leaves_by : (text : List ℕ) (x : NextToken) → next_token text ≡ x → Leaves (length text) x
-leaves_by text at_end e = tt
-leaves_by text unreadable e = tt
-leaves_by text (found t rest) e = shorter text rest t e
+leaves_by text x e = grind (arith, shorter)
 
 cut_same : (k : ℕ) (f g : List ℕ → Option (List Token)) (x : NextToken) → Leaves k x → ((rest : List ℕ) → length rest < k → f rest ≡ g rest) → prepend_token f x ≡ prepend_token g x
-cut_same k f g at_end l h = refl
-cut_same k f g unreadable l h = refl
-cut_same k f g (found t rest) l h = ap (option_map (λ ts. t ∷ ts)) (h rest l)
+cut_same k f g x l h = grind arith
 
 tokens_in-enough : (n k : ℕ) (text : List ℕ) → length text < n → length text < k → tokens_in n text ≡ tokens_in k text
 tokens_in-enough zero k text l m = absurd (omega arith)
@@ -42,28 +38,17 @@ module _ {A : Type 0} (m : Meaning A) where
   reads_on s unreadable = None
   reads_on s (found t rest) = reads m (step m s t) rest
 
-  parse_all_tokens-one : (s : ParseState A) (t : Token) (ts : Option (List Token)) → parse_all_tokens m s (option_map (λ us. t ∷ us) ts) ≡ parse_all_tokens m (step m s t) ts
-  parse_all_tokens-one s t None = refl
-  parse_all_tokens-one s t (Some ts) = refl
-
-  parse_all_tokens-prepend_token : (s : ParseState A) (x : NextToken) → parse_all_tokens m s (prepend_token tokens_of x) ≡ reads_on s x
-  unfolding reads
-  parse_all_tokens-prepend_token s at_end = refl
-  parse_all_tokens-prepend_token s unreadable = refl
-  parse_all_tokens-prepend_token s (found t rest) = parse_all_tokens-one s t (tokens_of rest)
-
   -- the leading token decides the meaning of a text in a state
   pub reads-on : (s : ParseState A) (text : List ℕ) → reads m s text ≡ reads_on s (next_token text)
   unfolding reads
-  reads-on s text = ap (parse_all_tokens m s) (tokens_of-prepend_token text) ∙ parse_all_tokens-prepend_token s (next_token text)
+  reads-on s text = grind (arith, tokens_of-prepend_token)
 
   parse_tokens-stuck : (ts : List Token) → parse_tokens m stuck ts ≡ None
   parse_tokens-stuck [] = refl
   parse_tokens-stuck (t ∷ ts) = parse_tokens-stuck ts
 
   parse_all_tokens-stuck : (ts : Option (List Token)) → parse_all_tokens m stuck ts ≡ None
-  parse_all_tokens-stuck None = refl
-  parse_all_tokens-stuck (Some ts) = parse_tokens-stuck ts
+  parse_all_tokens-stuck ts = grind (arith, parse_tokens-stuck)
 
   -- no expression begins with the tokens so far, so no text completes one
   pub reads-stuck : (text : List ℕ) → reads m stuck text ≡ None

@@ -1,5 +1,5 @@
 -- Both stacks: what a push and a pop do to the frames, and how much the frames weigh.
-use Rattle.std.proofs.Common.{◌≡◌, ℕ, ◌≤◌, ◌<◌, ◌+◌, ◌*◌, ◌==◌, List, [], ◌∷◌, ◌++◌, length, reverse, Option, None, refl, sym, ◌∙◌, ap, subst, arith}
+use Rattle.std.proofs.Common.{◌≡◌, ℕ, ◌≤◌, ◌<◌, ◌+◌, ◌*◌, ◌==◌, List, [], ◌∷◌, ◌++◌, length, reverse, Option, None, refl, arith}
 use Rattle.std.proofs.lemmas.List.{length-reverse, reverse-append}
 use Rattle.ud_model.specs.conditions.Tokens.{at_end, unreadable, next_token}
 use Rattle.ud_model.specs.conditions.Expressions.{precedence}
@@ -30,23 +30,17 @@ fewer (Opening ∷ ws) vs m = let h = fewer ws vs m in omega arith
 
 -- one more operator, or one more operand too
 pub holds-push : {A : Type 0} (new ws : List PendingOp) (vs : List A) (x : PendingOp) → new ≡ ws ++ x ∷ [] → AreMatched (x ∷ reverse ws) vs → AreMatched (reverse new) vs
-holds-push new ws vs x e m = subst (λ us. AreMatched us vs) (sym (ap reverse e ∙ reverse-append ws (x ∷ []))) m
+holds-push new ws vs x e m = grind (arith, reverse-append)
 
 pub holds-both : {A : Type 0} (new ws : List PendingOp) (more vs : List A) (o : Operator) (a : A) → new ≡ ws ++ Binary o ∷ [] → more ≡ vs ++ a ∷ [] → AreMatched (reverse ws) (reverse vs) → AreMatched (reverse new) (reverse more)
-holds-both new ws more vs o a e f m =
-    holds-push new ws (reverse more) (Binary o) e (subst (λ us. AreMatched (Binary o ∷ reverse ws) us) (sym (ap reverse f ∙ reverse-append vs (a ∷ []))) m)
+holds-both new ws more vs o a e f m = grind (arith, holds-push, reverse-append)
 
 -- there is capacity for one more operator, or for an operand too
 pub room : {A : Type 0} (ws : List PendingOp) (vs : List A) (n : ℕ) → AreMatched (reverse ws) (reverse vs) → weight (frames (reverse ws) (reverse vs)) + 1 ≤ n → length ws < n
-room ws vs n m l =
-    let all = weighs (reverse ws) (reverse vs) m in
-    omega (arith, length-reverse ws, length-reverse vs)
+room ws vs n m l = grind (arith, weighs, length-reverse)
 
 pub room-left : {A : Type 0} (ws : List PendingOp) (vs : List A) (n k : ℕ) → AreMatched (reverse ws) (reverse vs) → weight (frames (reverse ws) (reverse vs)) + 2 ≤ n → n ≤ 2 * k → length vs < k
-room-left ws vs n k m l h =
-    let all = weighs (reverse ws) (reverse vs) m in
-    let some = fewer (reverse ws) (reverse vs) m in
-    omega (arith, length-reverse ws, length-reverse vs)
+room-left ws vs n k m l h = grind (arith, weighs, fewer, length-reverse)
 
 nothing_by : {A : Type 0} (ws : List PendingOp) (vs : List A) → AreMatched ws vs → (length ws == 0) ≡ is_empty (frames ws vs)
 nothing_by [] vs m = refl
@@ -57,20 +51,16 @@ nothing_by (Opening ∷ ws) vs m = grind arith
 
 -- no frame is pending if no operator is
 pub nothing : {A : Type 0} (ws : List PendingOp) (vs : List A) → AreMatched (reverse ws) (reverse vs) → (length ws == 0) ≡ is_empty (frames (reverse ws) (reverse vs))
-nothing ws vs m = ap (λ n. n == 0) (sym (length-reverse ws)) ∙ nothing_by (reverse ws) (reverse vs) m
+nothing ws vs m = grind (arith, length-reverse, nothing_by)
 
 -- a looser operator on top isn't popped
-settled-between : {A : Type 0} (j : ℕ) (o : Operator) (ws : List PendingOp) (vs : List A) → precedence o < j → IsSettled j (frames (Binary o ∷ ws) vs)
-settled-between j o ws [] l = tt
-settled-between j o ws (a ∷ vs) l = l
-
 pub settled-top : {A : Type 0} (old new : List PendingOp) (vs : List A) (j : ℕ) (o : Operator) → old ≡ new ++ Binary o ∷ [] → precedence o < j → IsSettled j (frames (reverse old) vs)
-settled-top old new vs j o e l = subst (λ ws. IsSettled j (frames ws vs)) (sym (ap reverse e ∙ reverse-append new (Binary o ∷ []))) (settled-between j o (reverse new) vs l)
+settled-top old new vs j o e l = grind (arith, reverse-append)
 
 module _ {A : Type 0} (m : Meaning A) where
   -- the meaning so far is that of the state if the text ends, and nothing if the text is unreadable
   pub ends : (all : Option A) (q : ParseState A) (text : List ℕ) → all ≡ reads m q text → at_end ≡ next_token text → finish m q ≡ all
-  ends all q text e h = sym (e ∙ reads-on m q text ∙ ap (reads_on m q) (sym h))
+  ends all q text e h = grind (arith, reads-on, reads_on)
 
   pub ends-unreadable : (all : Option A) (q : ParseState A) (text : List ℕ) → all ≡ reads m q text → unreadable ≡ next_token text → None ≡ all
-  ends-unreadable all q text e h = sym (e ∙ reads-on m q text ∙ ap (reads_on m q) (sym h))
+  ends-unreadable all q text e h = grind (arith, reads-on, reads_on)

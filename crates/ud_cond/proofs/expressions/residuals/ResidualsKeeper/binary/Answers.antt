@@ -5,7 +5,7 @@ use Rattle.ud_cond.specs.declared.expressions.parts.Part.{Part}
 use Rattle.ud_cond.specs.CondViews.{as_rules}
 use Rattle.ud_cond.specs.expressions.Evaluation.{binary_value_of}
 use Rattle.ud_cond.specs.expressions.ResidualReading.{Kept, part_of}
-use Rattle.ud_cond.proofs.lemmas.expressions.ResidualLemmas.{other_binary, joining_binary, leaf_same, to_end, all_kept-replicate, both_kept, length_with_operator}
+use Rattle.ud_cond.proofs.lemmas.expressions.ResidualLemmas.{other_binary, joining_binary, leaf_same, to_end, all_kept-replicate, none_lost, both_kept, length_with_operator}
 use Rattle.ud_cond.proofs.expressions.residuals.ResidualsKeeper.binary.Goals as goal
 
 pub returns-then-is_joining-clause-kept : goal.returns-then-is_joining-clause-kept
@@ -31,7 +31,7 @@ returns-clause-kept c = λ k j front e g f.
           ∙ leaf_same r _ _ _ _ _ _ _ _ [] (replicate (length k.flags + suc (length j.flags)) true)
           (c.binary_value-value.ensures ∙ ap₂ (λ (x y : Part). binary_value_of r.strict false c.args.operator x.value y.value) e g)
           (c.apply_binary-number.ensures ∙ ap₂ (λ (x y : Part). apply_binary r.strict true c.args.operator x.number y.number) e g)
-          refl n (all_kept-replicate (length k.flags + suc (length j.flags)))
+          refl n (all_kept-replicate (length k.flags + suc (length j.flags))) (none_lost (length k.flags + suc (length j.flags)))
           ∙ ap (λ (x : Kept). part_of x (length front)) (sym h),
       right ∙ both_kept front (length k.flags) (length j.flags) ∙ ap (λ (x : Kept). front ++ x.flags) (sym h),
     )
