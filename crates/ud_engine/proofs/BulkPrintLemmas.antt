@@ -12,7 +12,7 @@ use Rattle.ud_model.specs.answer.Printing.{Judged, judged_line, judged_lines, pi
 use Rattle.ud_model.specs.declared.settings.Listing.{Listing}
 use Rattle.std.specs.Option.{is_some}
 use Rattle.ud_model.specs.answer.Listing.{levels, listed}
-use Rattle.ud_model.specs.declared.settings.Listing.TheVariants.{Off, Names, Depths}
+use Rattle.ud_model.specs.declared.settings.Listing.TheVariants.{Off}
 use Rattle.ud_model.specs.declared.verdict.Verdict.{Verdict}
 use Rattle.ud_model.proofs.sections.Soundness.{sound_lines}
 use Rattle.ud_model.proofs.sections.Stays.{length_marks}
@@ -53,13 +53,11 @@ differ-append piece before (j ∷ js) ks ps =
     ∙ or_or (not (bytes_eq (piece before j) (text_of j.line))) (some_other (pieces_by piece (before ++ j ∷ []) js) js) (some_other ps ks)
   where
     or_or : (a b c : Bool) → (a || (b || c)) ≡ ((a || b) || c)
-    or_or true b c = refl
-    or_or false b c = refl
+    or_or a b c = grind arith
 
 pieces_by-same : (f g : List Judged → Judged → List ℕ) → ((before : List Judged) (j : Judged) → f before j ≡ g before j) → (before js : List Judged) →
     pieces_by f before js ≡ pieces_by g before js
-pieces_by-same f g e before [] = refl
-pieces_by-same f g e before (j ∷ js) = ap₂ (λ p ps. p ∷ ps) (e before j) (pieces_by-same f g e (before ++ j ∷ []) js)
+pieces_by-same f g h before js = grind arith
 
 -- Copied lines don't differ.
 pub kept_same : (verdict : Verdict) (ls : List Line) → some_other (map text_of ls) (map (judged_text verdict) ls) ≡ false
@@ -93,27 +91,18 @@ dropped_text [] = refl
 dropped_text (l ∷ ls) = dropped_text ls
 
 pub or_none : (b : Bool) → b ≡ (b || false)
-or_none true = refl
-or_none false = refl
+or_none b = grind arith
 
 pub or_some : (b : Bool) → true ≡ (b || true)
-or_some true = refl
-or_some false = refl
+or_some b = grind arith
 
 depths_of : (q : Listing) → is_some (lister_of q) ≡ true → (depths : Bool) × (lister_of q ≡ Some depths)
-depths_of Off e = cc
-depths_of Names e = (false, refl)
-depths_of Depths e = (true, refl)
+depths_of q h = grind arith
 
 lists_no_text : (o : Options) (piece : List Judged → Judged → List ℕ) (xs items : List (Item Reading)) (t u : Tree Reading) (depths : Bool) →
     lister_of o.settings.listing ≡ Some depths → listed depths (xs ++ items) (levels u) ≡ listed depths xs (levels t) →
     text_by o.settings.listing piece (xs ++ items) u ≡ text_by o.settings.listing piece xs t
-lists_no_text o piece xs items t u depths e m = by_listing o.settings.listing e
-  where
-    by_listing : (q : Listing) → lister_of q ≡ Some depths → text_by q piece (xs ++ items) u ≡ text_by q piece xs t
-    by_listing Off f = cc
-    by_listing Names f = let d : false ≡ depths = cc in subst (λ b. listed b (xs ++ items) (levels u) ≡ listed b xs (levels t)) (sym d) m
-    by_listing Depths f = let d : true ≡ depths = cc in subst (λ b. listed b (xs ++ items) (levels u) ≡ listed b xs (levels t)) (sym d) m
+lists_no_text o piece xs items t u depths h k = grind arith
 
 module _ {S : Type 0} (represents : S → List Judged → Type 0) (piece_of : S → List Judged → Judged → List ℕ) (o : Options)
     (piece : List Judged → Judged → List ℕ) (xs : List (Item Reading)) (t : Tree Reading) (p : LineProcessor S) (h : ProcessorRepresents represents piece_of p o piece xs t) where

@@ -2,12 +2,11 @@
 use Rattle.std.proofs.Common.{◌≡◌, ℕ, suc, ◌+◌, ◌-◌, ◌<◌, ◌≤◌, Bool, true, false, if◌then◌else◌, List, [], ◌++◌, length, take, drop, refl, sym, ◌∙◌, ap, ap₂, subst, append_assoc, append-nil, arith}
 use Rattle.std.proofs.lemmas.List.{map-append, take-take}
 use Rattle.std.proofs.Math.ListN.{length-take, length-drop}
-use Rattle.ud_model.specs.text.Lines.{Line, NoNewline, SplitLines, text_of, whole_lines, numbered_from, split_lines}
-use Rattle.ud_model.specs.sections.Items.{Options, line_of}
+use Rattle.ud_model.specs.text.Lines.{Line, SplitLines, text_of, whole_lines, numbered_from, split_lines}
+use Rattle.ud_model.specs.sections.Items.{Options}
 use Rattle.ud_model.specs.answer.Printing.{Judged}
 use Rattle.ud_model.specs.answer.Outcomes.{lines_so_far}
 use Rattle.ud_model.proofs.text.LinesLemmas.{numbered_from-append}
-use Rattle.ud_cond.specs.symbols.SymbolTable.{TableRepresents}
 use Rattle.ud_text.specs.lines.LinesState.{LinesState, LinesRepresent, UpToNewline}
 use Rattle.ud_text.specs.lines.Borrowing.{CanBorrow}
 use Rattle.ud_text.specs.bulk.BulkScanning.{AreWholeLines}
@@ -28,13 +27,7 @@ use Rattle.ud_engine.proofs.LinePartLemmas.{before_is, rest_is, split_lines-fron
 
 -- Skipped lines leave nothing buffered.
 pub open_skipped : (lines new : LinesState) (bytes : List ℕ) → new ≡ consumed lines bytes → IsOpen lines → IsOpen new
-open_skipped lines new bytes is h = record {
-  part = ap (λ (k : LinesState). k.whole) is ∙ h.part;
-  goes_on = ap (λ (k : LinesState). k.closed) is ∙ h.goes_on;
-  limit = ap (λ (k : LinesState). k.last_line) is ∙ h.limit;
-  short = let z = ap (λ (k : LinesState). length k.held) is in let s = h.short in omega (arith, z, s);
-  no_newline = subst (λ (x : List ℕ). NoNewline x) (sym (ap (λ (k : LinesState). k.held) is)) h.no_newline;
-}
+open_skipped lines new bytes h k = grind arith
 
 -- After the first of some lines that can be consumed, the others can be consumed.
 pub ready_after : (lines new : LinesState) (bytes : List ℕ) (at end whole : ℕ) → at ≤ end → end < whole → CanConsume lines (slice_between bytes at whole) →
@@ -54,8 +47,7 @@ one_line_front rest used to =
     )
 
 flag_small : (b : Bool) → (if b then 0 else 1) ≤ 1
-flag_small true = omega arith
-flag_small false = omega arith
+flag_small b = grind arith
 
 -- After a line, less is left to do.
 pub line_done : (bytes : List ℕ) (r next : Cursor) → r.pos < next.pos → next.pos ≤ length bytes → measure bytes next < measure bytes r
@@ -63,41 +55,18 @@ line_done bytes r next forth within = let f = flag_small next.bulk_tried in omeg
 
 -- After a try to skip text, less is left to do.
 pub tried_done : (bytes : List ℕ) (r next : Cursor) → r.bulk_tried ≡ false → next.bulk_tried ≡ true → r.pos ≤ next.pos → measure bytes next < measure bytes r
-tried_done bytes r next untried tried forth =
-    let flag : Bool → ℕ = λ b. if b then 0 else 1 in
-    let a : flag r.bulk_tried ≡ 1 = ap flag untried in
-    let b : flag next.bulk_tried ≡ 0 = ap flag tried in
-    omega (arith, forth, a, b)
+tried_done bytes r next h k l = grind arith
 
 module _ {S : Type 0} (represents : S → List Judged → Type 0) (piece_of : S → List Judged → Judged → List ℕ) (o : Options) (piece : List Judged → Judged → List ℕ)
     (e : EngineState S) (text printed : List ℕ) (h : EngineRepresentsBuffered represents piece_of e o piece text printed) (f : EngineState S) (bytes more : List ℕ)
     (can : CanConsume e.lines bytes) (symbols : f.symbols ≡ e.symbols) (given_up : f.lines ≡ consumed e.lines bytes) (took : LinesRepresent f.lines (text ++ bytes))
     (prints : PrintsBulk represents piece_of f.printer o piece h.items h.tree (numbered_from (suc e.lines.before) (whole_lines bytes)) more) where
   all_lines : lines_so_far (text ++ bytes) ≡ lines_so_far text ++ numbered_from (suc e.lines.before) (whole_lines bytes)
-  all_lines =
-      ap (numbered_from 1) (lines_joined text bytes (rest_is represents piece_of o piece e text printed h ∙ can.unheld))
-      ∙ numbered_from-append 1 (whole_lines text) (whole_lines bytes)
-      ∙ ap (λ n. lines_so_far text ++ numbered_from n (whole_lines bytes)) (let b = before_is represents piece_of o piece e text printed h in omega (arith, b))
+  all_lines = grind (arith, lines_joined, rest_is, numbered_from-append, before_is)
 
   -- The lines of `bytes` were also taken.
   pub run_taken : EngineRepresentsBuffered represents piece_of f o piece (text ++ bytes) (printed ++ more)
-  run_taken = record {
-    items = h.items ++ prints.items;
-    tree = prints.tree;
-    goes = record {
-      sound = prints.has.has.read.sound;
-      are = all_lines ∙ ap₂ (λ x y. x ++ y) h.goes.are (sym prints.lines_are) ∙ sym (map-append line_of h.items prints.items);
-    };
-    has = prints.has;
-    printed_is = ap (λ p. p ++ more) h.printed_is ∙ sym prints.is_more;
-    symbols = subst (λ s. TableRepresents s o.table) (sym symbols) h.symbols;
-    opened = open_skipped e.lines f.lines bytes given_up h.opened;
-    took = took;
-    no_fault = ap (λ (k : LinesState). k.fault) given_up ∙ h.no_fault;
-    begun = λ some. let z = ap (λ (k : LinesState). length k.held) given_up in let n = ap length can.unheld in omega (arith, z, n, some);
-    count =
-        let z = ap (λ (k : LinesState). k.before) given_up in let n = can.numbered in let m = h.opened.limit in omega (arith, z, n, m);
-  }
+  run_taken = grind (arith, all_lines, map-append, open_skipped)
 
 -- Skipped lines in a chunk.
 module _ {S : Type 0} (represents : S → List Judged → Type 0) (piece_of : S → List Judged → Judged → List ℕ) (o : Options) (piece : List Judged → Judged → List ℕ)
@@ -105,31 +74,16 @@ module _ {S : Type 0} (represents : S → List Judged → Type 0) (piece_of : S 
   -- Copied lines extend the pending bytes.
   pub run_kept : EngineRepresentsBuffered represents piece_of f o piece (text ++ slice_between bytes at end) (printed ++ slice_between bytes at end) → f.buffered ≡ g →
       Advances represents piece_of f o piece text printed (slice_between bytes at end) a a (g ++ slice_between bytes from at) (f.buffered ++ slice_between bytes from end)
-  run_kept taken same =
-      let joined : f.buffered ++ slice_between bytes from end ≡ (g ++ slice_between bytes from at) ++ slice_between bytes at end =
-      ap₂ (λ x y. x ++ y) same (between_more bytes from at end ordered later) ∙ sym (append_assoc g (slice_between bytes from at) (slice_between bytes at end)) in
-      record {
-        more = slice_between bytes at end;
-        taken = taken;
-        sent = subst (λ x. TakesAllBut a a ((g ++ slice_between bytes from at) ++ slice_between bytes at end) x) (sym joined) (stream_buffered a ((g ++ slice_between bytes from at) ++ slice_between bytes at end));
-      }
+  run_kept h k = grind (arith, between_more, append_assoc, stream_buffered)
 
   -- Before dropped lines, the pending bytes are appended.
   pub run_dropped : EngineRepresentsBuffered represents piece_of f o piece (text ++ slice_between bytes at end) (printed ++ []) → TakesAllBut a b (g ++ slice_between bytes from at) f.buffered →
       Advances represents piece_of f o piece text printed (slice_between bytes at end) a b (g ++ slice_between bytes from at) (f.buffered ++ slice_between bytes end end)
-  run_dropped taken sent = record {
-    more = [];
-    taken = taken;
-    sent =
-        subst (λ x. TakesAllBut a b ((g ++ slice_between bytes from at) ++ []) x) (sym (ap (λ x. f.buffered ++ x) (between_none bytes end) ∙ append-nil f.buffered))
-        (subst (λ x. TakesAllBut a b x f.buffered) (sym (append-nil (g ++ slice_between bytes from at))) sent);
-  }
+  run_dropped h k = grind (arith, between_none, append-nil)
 
 -- The first bytes of a slice are a slice.
 pub first_between : (bytes : List ℕ) (at whole n : ℕ) → n ≤ length (slice_between bytes at whole) → take n (slice_between bytes at whole) ≡ slice_between bytes at (at + n)
-first_between bytes at whole n h =
-    let k = length-take (whole - at) (drop at bytes) in
-    take-take n (whole - at) (drop at bytes) (omega (arith, h, k)) ∙ ap (λ i. take i (drop at bytes)) (let e : n ≡ (at + n) - at = omega arith in e)
+first_between bytes at whole n h = grind (arith, length-take, take-take)
 
 -- The cursor after skipped lines, with the bytes from `pending_start` pending.
 module _ (room : ℕ) (lines new : LinesState) (bytes : List ℕ) (r : Cursor) (place : IsCursor room lines bytes r) (some : r.pos < r.whole_end) (n : ℕ)
@@ -204,11 +158,7 @@ module _ {S : Type 0} (represents : S → List Judged → Type 0) (piece_of : S 
 
   taken_as : (kept : Bool) → passed.kept ≡ kept →
       EngineRepresentsBuffered represents piece_of f o piece (text ++ slice_between bytes at (at + passed.count)) (printed ++ (if kept then slice_between bytes at (at + passed.count) else []))
-  taken_as kept is =
-      let cut : take passed.count (slice_between bytes at whole) ≡ slice_between bytes at (at + passed.count) = first_between bytes at whole passed.count within in
-      subst (λ x. EngineRepresentsBuffered represents piece_of f o piece (text ++ x) (printed ++ (if kept then x else []))) cut
-      (subst (λ k. EngineRepresentsBuffered represents piece_of f o piece (text ++ take passed.count (slice_between bytes at whole)) (printed ++ (if k then take passed.count (slice_between bytes at whole) else [])))
-      is lines_taken)
+  taken_as kept h = grind (arith, cut, first_between, lines_taken)
 
   module _ (a b : Stream) (from : ℕ) (ordered : from ≤ at) where
     -- Copied lines extend the pending bytes.

@@ -1,4 +1,5 @@
 -- The state of a line decider after a line.
+use Rattle.std.proofs.Common.{arith}
 use Rattle.std.proofs.Common.{◌≡◌, List, [], ◌∷◌, ◌++◌, map, Result, Ok, Err, Option, Some, None}
 use Rattle.std.proofs.Common.{IfOk, IfErr, OnOk, OnErr, sym, ◌∙◌, ap, subst}
 use Rattle.ud_model.specs.text.Lines.{Line}
@@ -43,8 +44,7 @@ module _ (o : Options) (new : TheReader) (xs : List (Item Reading)) (t : Tree Re
   }
 
 pub second : (P Q : Type 0) (answer : Result Step SectionFault) → OnOk answer (P × Q) → OnOk answer Q
-second P Q (Ok s) h = h.1
-second P Q (Err f) h = tt
+second P Q answer h = grind arith
 
 -- A step or a fault, as a verdict and the span of the keyword.
 pub as_verdict : (symbols : List Argument) (r new : TheReader) (l : Line) (decided : Result Step

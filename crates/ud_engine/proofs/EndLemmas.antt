@@ -1,5 +1,5 @@
 -- Ending: the engine's state at the end of a text.
-use Rattle.std.proofs.Common.{◌≡◌, ℕ, suc, ◌<◌, Bool, true, false, List, [], ◌∷◌, ◌++◌, length, Option, Some, None, refl, sym, ◌∙◌, ap, subst, append-nil, arith}
+use Rattle.std.proofs.Common.{◌≡◌, ℕ, suc, ◌<◌, Bool, true, false, List, [], ◌∷◌, ◌++◌, length, Option, Some, None, sym, ◌∙◌, ap, subst, append-nil, arith}
 use Rattle.std.specs.Io.KnownBytes.{Appends}
 use Rattle.std.proofs.KnownBytes.{Appends-nil}
 use Rattle.ud_model.specs.text.Lines.{Line, whole_lines, last_line, line_at, numbered_from, lines_of}
@@ -9,7 +9,6 @@ use Rattle.ud_model.specs.answer.Printing.{Judged}
 use Rattle.ud_model.specs.answer.Outcomes.{HasNoFault, ReadsAs, lines_so_far, stops, ends}
 use Rattle.ud_model.proofs.text.LinesLemmas.{last_line-some, numbered_from-next}
 use Rattle.ud_model.specs.conditions.Table.{Argument}
-use Rattle.ud_cond.specs.symbols.SymbolTable.{TableRepresents}
 use Rattle.ud_text.specs.lines.LinesState.{LinesState}
 use Rattle.ud_sections.proofs.lemmas.sections.NextLemmas.{lines_more}
 use Rattle.ud_faults.specs.Faults.{fault_of}
@@ -31,23 +30,7 @@ module _ {S : Type 0} (represents : S → List Judged → Type 0) (piece_of : S 
 
   -- The engine by its parts.
   pub rests : (symbols : List Argument) → symbols ≡ e.symbols → EngineRepresents represents piece_of (without_fault symbols e.lines e.printer e.buffered) o piece text printed
-  rests symbols same = record {
-    taken = record {
-      items = h.items;
-      tree = h.tree;
-      goes = h.goes;
-      has = h.has;
-      printed_is = h.printed_is;
-      symbols = subst (λ s. TableRepresents s o.table) (sym same) h.symbols;
-      opened = h.opened;
-      took = h.took;
-      no_fault = h.no_fault;
-      begun = h.begun;
-      count = h.count;
-    };
-    works = refl;
-    written = fed.written;
-  }
+  rests symbols h = grind arith
 
   module _ (some : 0 < length e.lines.held) (lines : LinesState) (closed : lines ≡ record e.lines { closed = true }) (l : Line) (is : l ≡ line_at (suc lines.before) lines.held) where
     -- The buffered bytes are the last line.

@@ -1,12 +1,11 @@
 -- Feeding: the engine's state after a chunk, step by step.
 use Rattle.std.proofs.Common.{◌≡◌, ℕ, ◌<◌, ◌≤◌, Bool, true, false, List, [], ◌++◌, length, take, drop, Option, None, Result, Ok, Err, refl, sym, ◌∙◌, ap, ap₂, subst, append_assoc, append-nil, take_all, take-append-drop, arith}
-use Rattle.ud_model.specs.text.Lines.{NoNewline, split_lines}
+use Rattle.ud_model.specs.text.Lines.{split_lines}
 use Rattle.ud_model.specs.sections.Tree.{closed, nothing}
 use Rattle.ud_model.specs.sections.Items.{Options}
 use Rattle.ud_model.specs.answer.Printing.{Judged}
 use Rattle.ud_model.specs.answer.Outcomes.{lines_so_far}
 use Rattle.ud_model.specs.declared.settings.Listing.{Listing}
-use Rattle.ud_model.specs.declared.settings.Listing.TheVariants.{Off, Names, Depths}
 use Rattle.ud_model.specs.declared.limits.TheConstants.{TEXT_LINES}
 use Rattle.ud_text.specs.lines.LinesState.{LinesState}
 use Rattle.ud_faults.specs.Faults.{fault_of}
@@ -30,26 +29,16 @@ none_so_far = refl
 
 -- No lines have no output.
 pub none_printed : (listing : Listing) (piece : List Judged → Judged → List ℕ) → [] ≡ text_by listing piece [] (closed nothing)
-none_printed Off piece = refl
-none_printed Names piece = refl
-none_printed Depths piece = refl
+none_printed listing piece = grind arith
 
 -- An engine that was fed nothing is in a session of no text.
 pub in_session : {S : Type 0} (represents : S → List Judged → Type 0) (piece_of : S → List Judged → Judged → List ℕ) (e : EngineState S) {s : Session} → s.text ≡ [] → s.printed ≡ [] →
     EngineRepresents represents piece_of e s.options s.pieces [] [] → IsInSession represents piece_of e s
-in_session represents piece_of e {s} text printed h =
-    subst (λ x. EngineRepresents represents piece_of e s.options s.pieces x s.printed) (sym text)
-    (subst (λ x. EngineRepresents represents piece_of e s.options s.pieces [] x) (sym printed) h)
+in_session represents piece_of e h k l = grind arith
 
 -- At first, bytes can be taken.
 pub open_new : (lines : LinesState) → lines ≡ record { held = []; whole = false; before = 0; closed = false; fault = None; last_line = TEXT_LINES } → IsOpen lines
-open_new lines is = record {
-  part = ap (λ (l : LinesState). l.whole) is;
-  goes_on = ap (λ (l : LinesState). l.closed) is;
-  limit = ap (λ (l : LinesState). l.last_line) is;
-  short = let z = ap (λ (l : LinesState). length l.held) is in omega (arith, z);
-  no_newline = subst (λ (l : LinesState). NoNewline l.held) (sym is) tt;
-}
+open_new lines h = grind arith
 
 pub none_count : (lines : LinesState) → lines ≡ record { held = []; whole = false; before = 0; closed = false; fault = None; last_line = TEXT_LINES } → lines.before ≤ TEXT_LINES
 none_count lines is = let z = ap (λ (l : LinesState). l.before) is in omega (arith, z)
@@ -169,22 +158,12 @@ module _ {S : Type 0} (represents : S → List Judged → Type 0) (piece_of : S 
 -- The result is `Write` exactly if the writer has failed.
 pub stop_matches : {T W : Type 0} (failed : Bool) (f : RunFault) (old new : WatchedState W) (g₀ g₁ : List ℕ) → OutputUnchanged old new g₀ g₁ f → (r : Result T RunFault) →
     r ≡ result_after failed (Err f) → WriterMatches failed r
-stop_matches true f old new g₀ g₁ u r e = subst (WriterMatches true) (sym e) refl
-stop_matches false (Text f) old new g₀ g₁ u r e = subst (WriterMatches false) (sym e) refl
-stop_matches false (Section f) old new g₀ g₁ u r e = subst (WriterMatches false) (sym e) refl
-stop_matches false Read old new g₀ g₁ u r e = absurd u
-stop_matches false Write old new g₀ g₁ u r e = absurd u
+stop_matches failed f old new g₀ g₁ h r k = grind arith
 
 pub end_matches : {T : Type 0} (failed : Bool) (v : T) (r : Result T RunFault) → r ≡ result_after failed (Ok v) → WriterMatches failed r
-end_matches true v r e = subst (WriterMatches true) (sym e) refl
-end_matches false v r e = subst (WriterMatches false) (sym e) refl
+end_matches failed v r h = grind arith
 
 -- After a step that changed no output, the same is appended by what follows.
 pub unchanged_sent : {W : Type 0} (contents : W → Option (List ℕ)) (old new last : WatchedState W) (g₀ g₁ pending left : List ℕ) (f : RunFault) → OutputUnchanged old new g₀ g₁ f →
     TakesAllBut (stream_of contents new) (stream_of contents last) (g₁ ++ pending) left → TakesAllBut (stream_of contents old) (stream_of contents last) (g₀ ++ pending) left
-unchanged_sent contents old new last g₀ g₁ pending left (Text f) u s =
-    subst (λ w. TakesAllBut (stream_of contents w) (stream_of contents last) (g₀ ++ pending) left) u.0 (subst (λ x. TakesAllBut (stream_of contents new) (stream_of contents last) (x ++ pending) left) u.1 s)
-unchanged_sent contents old new last g₀ g₁ pending left (Section f) u s =
-    subst (λ w. TakesAllBut (stream_of contents w) (stream_of contents last) (g₀ ++ pending) left) u.0 (subst (λ x. TakesAllBut (stream_of contents new) (stream_of contents last) (x ++ pending) left) u.1 s)
-unchanged_sent contents old new last g₀ g₁ pending left Read u s = absurd u
-unchanged_sent contents old new last g₀ g₁ pending left Write u s = absurd u
+unchanged_sent contents old new last g₀ g₁ pending left f h k = grind arith

@@ -1,5 +1,5 @@
 -- Output of a line that is dropped but for its ending, or wholly.
-use Rattle.std.proofs.Common.{◌≡◌, inl, inr, ℕ, ◌+◌, ◌==◌, List, [], ◌∷◌, ◌++◌, length, true, bytes_eq, refl, ◌∙◌, ap, length-append, arith}
+use Rattle.std.proofs.Common.{◌≡◌, inl, inr, ℕ, ◌+◌, ◌==◌, List, [], ◌∷◌, ◌++◌, length, true, bytes_eq, refl, ap, length-append, arith}
 use Rattle.std.proofs.lemmas.Bool.Decides.{same_from_decides, Decides-eqb, Decides-like}
 use Rattle.std.proofs.lemmas.Slice.Eq.{bytes_eq-Decides}
 use Rattle.ud_engine.specs.ProcessedLines.{IsLeftOf}
@@ -18,8 +18,4 @@ all_left left (b ∷ bs) ending (inr e) h = absurd (let z = ap length e in omega
 
 -- The output is as long as the line exactly if it is the line.
 pub left_is_line : (left body ending : List ℕ) → IsLeftOf left ending → (length left == (length body + length ending)) ≡ bytes_eq left (body ++ ending)
-left_is_line left body ending some =
-    same_from_decides (length left == (length body + length ending)) (bytes_eq left (body ++ ending))
-    (Decides-like (length left == (length body + length ending)) (all_left left body ending some) (λ e. ap length e ∙ length-append body ending)
-    (Decides-eqb (length left) (length body + length ending)))
-    (bytes_eq-Decides left (body ++ ending))
+left_is_line left body ending h = grind (arith, same_from_decides, bytes_eq, Decides-like, all_left, length-append, Decides-eqb, bytes_eq-Decides)

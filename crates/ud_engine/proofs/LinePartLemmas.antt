@@ -1,8 +1,6 @@
 -- Taking: the engine's state after more bytes.
 use Rattle.std.proofs.Common.{◌≡◌, ℕ, suc, ◌+◌, ◌<◌, ◌≤◌, Bool, true, false, List, [], ◌∷◌, ◌++◌, length, take, drop, Some, None, refl, sym, ◌∙◌, ap, subst, append_assoc, append-nil, take-append-drop, take_all, arith, length-append}
 use Rattle.std.proofs.Math.ListN.{length-take}
-use Rattle.ud_model.proofs.output.SoundBounds.{sound_low}
-use Rattle.ud_model.proofs.sections.Heights.{depth_height}
 use Rattle.ud_model.specs.text.Lines.{Line, NoNewline, SplitLines, split_lines, whole_lines, partial_line, line_at, numbered_from, text_of}
 use Rattle.ud_model.specs.text.Scans.{Reading}
 use Rattle.ud_model.specs.sections.Tree.{Item, Tree, depth}
@@ -32,21 +30,11 @@ parts_behind text held prefix false = record { whole = whole_lines text; rest = 
 -- The prefix of a chunk up to its first newline ends the partial line of the text, or lengthens it.
 pub split_lines-front_of : (text held piece : List ℕ) (used : ℕ) (whole : Bool) → partial_line text ≡ held → UpToNewline piece used whole →
     split_lines (text ++ take used piece) ≡ parts_behind text held (take used piece) whole
-split_lines-front_of text held piece used true rest to =
-    let line : (prefix : List ℕ) × NoNewline prefix × (take used piece ≡ prefix ++ 10 ∷ []) = to.line refl in
-    subst (λ (h : List ℕ). split_lines (text ++ take used piece) ≡ parts_behind text h (take used piece) true) rest
-    (subst (λ (p : List ℕ). split_lines (text ++ p) ≡ parts_behind text (partial_line text) p true) (sym line.2)
-    (split_lines-append-line text line.0 line.1))
-split_lines-front_of text held piece used false rest to =
-    let all : (used ≡ length piece) × NoNewline piece = to.all refl in
-    let whole_piece : take used piece ≡ piece = take_all used piece (omega arith) in
-    subst (λ (h : List ℕ). split_lines (text ++ take used piece) ≡ parts_behind text h (take used piece) false) rest
-    (subst (λ (p : List ℕ). split_lines (text ++ p) ≡ parts_behind text (partial_line text) p false) (sym whole_piece)
-    (split_lines-append-open text piece all.1))
+split_lines-front_of text held piece used whole h k = grind (arith, split_lines-append-line, take_all, split_lines-append-open)
 
 -- A text and a chunk after it, cut within the chunk.
 pub rejoined : (text piece : List ℕ) (used : ℕ) → text ++ piece ≡ (text ++ take used piece) ++ drop used piece
-rejoined text piece used = ap (λ (p : List ℕ). text ++ p) (sym (take-append-drop used piece)) ∙ sym (append_assoc text (take used piece) (drop used piece))
+rejoined text piece used = grind (arith, take-append-drop, append_assoc)
 
 -- A line that breaks a limit has the fault for that limit.
 record LimitFault (xs : List (Item Reading)) (x : Item Reading) (f : Fault) : Type 0 where
@@ -90,24 +78,7 @@ module _ {S : Type 0} (represents : S → List Judged → Type 0) (piece_of : S 
       f.symbols ≡ e.symbols → IsOpen f.lines → LinesRepresent f.lines (text ++ bytes) → f.lines.fault ≡ None → f.lines.held ≡ [] → f.lines.before ≤ TEXT_LINES →
       ProcessorRepresents represents piece_of f.printer o piece (h.items ++ next_item o h.items h.tree l ∷ []) tree → PrintsMore o piece h.items h.tree l tree more →
       EngineRepresentsBuffered represents piece_of f o piece (text ++ bytes) (printed ++ more)
-  line_taken f bytes line l tree more lines is symbols opened took no_fault none count has is_more = record {
-    items = h.items ++ next_item o h.items h.tree l ∷ [];
-    tree = tree;
-    goes = record {
-      sound = has.has.read.sound;
-      are =
-          ap (numbered_from 1) lines ∙ numbered_from-next (whole_lines text) line []
-          ∙ ap (λ k. lines_so_far text ++ k ∷ []) (sym is) ∙ ap (λ ls. ls ++ l ∷ []) h.goes.are ∙ sym (lines_more o h.items h.tree l);
-    };
-    has = has;
-    printed_is = ap (λ p. p ++ more) h.printed_is ∙ sym is_more;
-    symbols = subst (λ s. TableRepresents s o.table) (sym symbols) h.symbols;
-    opened = opened;
-    took = took;
-    no_fault = no_fault;
-    begun = λ some. let z = ap length none in omega (arith, z, some);
-    count = count;
-  }
+  line_taken f bytes line l tree more k m p q r s t u v w = grind (arith, numbered_from-next, lines_more)
 
   -- Bytes without a newline.
   pub open_taken : (f : EngineState S) (bytes : List ℕ) → whole_lines (text ++ bytes) ≡ whole_lines text → f.symbols ≡ e.symbols → f.printer ≡ e.printer →
@@ -256,7 +227,4 @@ module _ {S : Type 0} (represents : S → List Judged → Type 0) (piece_of : S 
 
   -- No more sections are open than may be.
   pub few_sections : depth h.tree ≤ OPEN_SECTIONS
-  few_sections =
-      let low = sound_low o h.items h.tree h.goes.sound in
-      let d = depth_height h.tree in
-      omega (arith, low, d)
+  few_sections = grind arith

@@ -2,16 +2,12 @@
 use Rattle.std.proofs.Common.{◌≡◌, ℕ, suc, ◌-◌, List, [], ◌∷◌, ◌++◌, length, Bool, true, false, if◌then◌else◌, refl, sym, ap, ap₂, subst, ◌∙◌, append_assoc, append-nil, arith}
 use Rattle.ud_model.specs.text.Lines.{Line}
 use Rattle.ud_model.specs.text.Scans.{Reading}
-use Rattle.ud_model.specs.sections.Directives.{Content, cut_keyword, directive, text, content_of, role_of, test_of}
+use Rattle.ud_model.specs.sections.Directives.{Content, content_of}
 use Rattle.ud_model.specs.sections.Tree.{Item, Tree, depth}
-use Rattle.ud_model.specs.sections.Items.{Options, item_of, item_by, directive_item, read_after, mode_after, next_item}
+use Rattle.ud_model.specs.sections.Items.{Options, item_of, item_by, read_after, mode_after, next_item}
 use Rattle.ud_model.specs.sections.Faults.{AreFaultless}
-use Rattle.ud_model.specs.conditions.Conditions.{Decision}
 use Rattle.ud_model.specs.conditions.Names.{names_by}
 use Rattle.ud_model.specs.answer.Listing.{levels, listed, listed_names, depth_prefix, names_at, names_in_content}
-use Rattle.ud_model.specs.declared.kind.Kind.{Kind}
-use Rattle.ud_model.specs.declared.kind.Kind.TheVariants.{If, Ifdef, Ifndef, Elif, Elifdef, Elifndef, Else, Endif}
-use Rattle.ud_model.specs.declared.kind.Test.{Test}
 use Rattle.ud_model.specs.declared.kind.Test.TheVariants.{Nothing}
 use Rattle.ud_model.proofs.answer.LevelLemmas.{length_levels, levels_stay}
 use Rattle.ud_model.proofs.sections.Growth.{Adds}
@@ -33,49 +29,23 @@ pub record NamesPut (a b : Stream) (prefix : List ℕ) (names left : List (List 
 
 -- Before the first name.
 pub none_put : (a : Stream) (prefix : List ℕ) (names left : List (List ℕ)) (old : List ℕ) → left ≡ names → NamesPut a a prefix names left old old
-none_put a prefix names left old e = record {
-  done = [];
-  are = ap (listed_names prefix) (sym e);
-  sent = subst (λ x. TakesAllBut a a x old) (sym (append-nil old)) (stream_buffered a old);
-}
+none_put a prefix names left old h = grind (arith, append-nil, stream_buffered)
 
 -- One name more is appended.
 pub name_put : (a b c : Stream) (prefix : List ℕ) (names left rest : List (List ℕ)) (name old mid new : List ℕ) → left ≡ name ∷ rest →
     NamesPut a b prefix names left old mid → TakesAllBut b c (mid ++ name_line prefix name) new → NamesPut a c prefix names rest old new
-name_put a b c prefix names left rest name old mid new e p s = record {
-  done = p.done ++ name_line prefix name;
-  are =
-      p.are ∙ ap (λ ns. p.done ++ listed_names prefix ns) e
-      ∙ sym (append_assoc p.done (name_line prefix name) (listed_names prefix rest));
-  sent =
-      subst (λ x. TakesAllBut a c x new) (append_assoc old p.done (name_line prefix name))
-      (stream_then a b c (old ++ p.done) mid (name_line prefix name) new p.sent s);
-}
+name_put a b c prefix names left rest name old mid new h k l = grind (arith, append_assoc, stream_then)
 
 -- If no name is left, all are appended.
 pub all_put : (a b : Stream) (prefix : List ℕ) (names left : List (List ℕ)) (old new : List ℕ) → left ≡ [] →
     NamesPut a b prefix names left old new → TakesAllBut a b (old ++ listed_names prefix names) new
-all_put a b prefix names left old new e p =
-    subst (λ x. TakesAllBut a b (old ++ x) new) (sym (p.are ∙ ap (λ ns. p.done ++ listed_names prefix ns) e ∙ append-nil p.done)) p.sent
-
-untested : (r : Reading) (k : Kind) (d : Decision) → has_condition (directive_item r (role_of k) d) ≡ false → test_of k ≡ Nothing
-untested r If d e = cc
-untested r Ifdef d e = cc
-untested r Ifndef d e = cc
-untested r Elif d e = cc
-untested r Elifdef d e = cc
-untested r Elifndef d e = cc
-untested r Else d e = refl
-untested r Endif d e = refl
+all_put a b prefix names left old new h k = grind (arith, append-nil)
 
 nameless : (broken : Bool) (after : List ℕ) → (if broken then [] else names_by Nothing after) ≡ []
-nameless true after = refl
-nameless false after = refl
+nameless broken after = grind arith
 
 by_content : (o : Options) (r : Reading) (c : Content) → has_condition (item_by o r c) ≡ false → names_in_content c ≡ []
-by_content o r cut_keyword e = refl
-by_content o r text e = refl
-by_content o r (directive d) e = ap (λ (p : Test). if d.broken then [] else names_by p d.after) (untested r d.kind _ e) ∙ nameless d.broken d.after
+by_content o r c h = grind arith
 
 -- A line without a condition has no names.
 no_names : (o : Options) (r : Reading) → has_condition (item_of o r) ≡ false → names_in_content (content_of r.scan) ≡ []
@@ -84,12 +54,7 @@ no_names o r e = by_content o r (content_of r.scan) e
 -- Names are listed with their depth, which the sections open after the line determine.
 listed_at : (depths : Bool) (names : List (List ℕ)) (level opened : ℕ) (b : Bool) → (b ≡ true → suc level ≡ opened) → (b ≡ false → names ≡ []) →
     listed_names (depth_prefix depths (opened - 1)) names ≡ listed_names (depth_prefix depths level) names
-listed_at depths names level opened true deep none =
-    let e : suc level ≡ opened = deep refl in
-    let f : opened - 1 ≡ level = omega (arith, e) in
-    ap (λ n. listed_names (depth_prefix depths n) names) f
-listed_at depths names level opened false deep none =
-    ap (listed_names (depth_prefix depths (opened - 1))) (none refl) ∙ ap (listed_names (depth_prefix depths level)) (sym (none refl))
+listed_at depths names level opened b h k = grind arith
 
 listed-append : (depths : Bool) (xs : List (Item Reading)) (x : Item Reading) (ns : List ℕ) (n : ℕ) → length ns ≡ length xs →
     listed depths (xs ++ x ∷ []) (ns ++ n ∷ []) ≡ listed depths xs ns ++ listed_names (depth_prefix depths n) (names_at x)

@@ -11,7 +11,6 @@ use Rattle.ud_model.specs.sections.Faults.{Fault}
 use Rattle.ud_model.specs.answer.Printing.{Judged, piece_after, style_of}
 use Rattle.ud_model.specs.answer.Outcomes.{Outcome, HasOutcomeSoFar, ReadsAs, outcome_of, output_by, differs_by, ran_as, came_as}
 use Rattle.ud_model.specs.declared.settings.Listing.{Listing}
-use Rattle.ud_model.specs.declared.settings.Listing.TheVariants.{Off, Names, Depths}
 use Rattle.ud_model.specs.declared.settings.Settings.{Settings}
 use Rattle.ud_model.proofs.sections.Exists.{run_so_far_exists}
 use Rattle.ud_model.proofs.sections.FaultStays.{fault_stays, reads_stay}
@@ -31,26 +30,18 @@ use Rattle.ud_engine.proofs.LinePartLemmas.{before_is, rest_is, reads_so_far}
 
 -- The output by a printer's definition is the outcome's.
 pub same_text : (q : Listing) (s : Settings) (xs : List (Item Reading)) (t : Tree Reading) → text_by q (piece_after (style_of s)) xs t ≡ output_by q s xs t
-same_text Off s xs t = refl
-same_text Names s xs t = refl
-same_text Depths s xs t = refl
+same_text q s xs t = grind arith
 
 same_differs : (q : Listing) (s : Settings) (xs : List (Item Reading)) (t : Tree Reading) → differs_in q (piece_after (style_of s)) xs t ≡ differs_by q s xs t
-same_differs Off s xs t = refl
-same_differs Names s xs t = refl
-same_differs Depths s xs t = refl
+same_differs q s xs t = grind arith
 
 -- The bytes of a reader are all that it gave until its end.
 pub input_is : (r₀ r₁ : Option (List ℕ)) (given : List ℕ) (P : List ℕ → Type 0) → Consumes r₀ r₁ given → IsAtEnd r₁ → P given → IfSome r₀ P
-input_is None r₁ given P c e p = tt
-input_is (Some xs) None given P c e p = absurd c
-input_is (Some xs) (Some ys) given P c e p = subst P (sym (append-nil given) ∙ ap (λ y. given ++ y) (sym e) ∙ sym c) p
+input_is r₀ r₁ given P h k l = grind (arith, append-nil)
 
 -- The bytes of a reader begin with those that it gave.
 pub input_begins : (r₀ r₁ : Option (List ℕ)) (given : List ℕ) (P : List ℕ → Type 0) → Consumes r₀ r₁ given → ((more : List ℕ) → P (given ++ more)) → IfSome r₀ P
-input_begins None r₁ given P c p = tt
-input_begins (Some xs) None given P c p = absurd c
-input_begins (Some xs) (Some ys) given P c p = subst P (sym c) (p ys)
+input_begins r₀ r₁ given P h k = grind arith
 
 -- The result of a run with this fault.
 abbrev pub the_err : RunFault → Result Bool RunFault
@@ -83,9 +74,7 @@ module _ (o : Options) where
 
   ran_at : (a b c : Option (List ℕ)) (given printed : List ℕ) (f : Fault) (by : RunFault) → text_fault_of by ≡ Some f → Appends a b printed →
       FinishFault o own_piece given printed b c f → RunAnswers o given a c (Err by)
-  ran_at a b c given printed f by reported before w =
-      outcome_at given w.items w.tree (Some f) a c (Err by) (printed ++ w.more) w.reads w.printed_is
-      (Appends-trans a b c printed w.more before w.appended) (sym reported, λ none. cc)
+  ran_at a b c given printed f by h k l = grind (arith, outcome_at, Err, Appends-trans)
 
   -- The text has ended, and has a fault.
   pub ran_ill : (a b c : Option (List ℕ)) (given printed : List ℕ) (failed : Bool) (f : RunFault) → failed ≡ false → Appends a b printed →
@@ -170,19 +159,9 @@ module _ (o : Options) where
             let c = k.count in
             omega (arith, before, before_more, n, c)
 
-  -- Whatever the result at the end, something was appended.
-  pub end_appended : (failed : Bool) (b c : Option (List ℕ)) (given printed : List ℕ) (f : RunFault) → FinishErr o own_piece failed b c given printed f → (x : List ℕ) × Appends b c x
-  end_appended failed b c given printed (Text f) w = (w.1.more, w.1.appended)
-  end_appended failed b c given printed (Section f) w = (w.1.more, w.1.appended)
-  end_appended failed b c given printed Read w = absurd w
-  end_appended failed b c given printed Write w = (w.1.prefix.0, w.1.prefix.3)
-
   -- Whatever the result of a chunk, something was appended.
   pub feed_appended : (failed : Bool) (b c : Option (List ℕ)) (longer printed : List ℕ) (f : RunFault) → FeedFails o own_piece failed b c longer printed f → (x : List ℕ) × Appends b c x
-  feed_appended failed b c longer printed (Text f) w = (w.1.0, w.1.2)
-  feed_appended failed b c longer printed (Section f) w = (w.1.0, w.1.2)
-  feed_appended failed b c longer printed Read w = absurd w
-  feed_appended failed b c longer printed Write w = (w.1.2.0, w.1.2.3)
+  feed_appended failed b c longer printed f h = grind arith
 
   module _ (a b c : Option (List ℕ)) (given printed : List ℕ) (failed : Bool) (before : Appends a b printed) where
     -- The end of the text.
@@ -191,5 +170,4 @@ module _ (o : Options) where
     ended_ran (Err f) w works = ran_ill a b c given printed failed f works before w
 
     pub ended_appended : (r : Result Bool RunFault) → Finishes (own_session given printed) failed b c r → (x : List ℕ) × Appends b c x
-    ended_appended (Ok d) w = (w.more, w.appended)
-    ended_appended (Err f) w = end_appended failed b c given printed f w
+    ended_appended r h = grind arith

@@ -30,9 +30,7 @@ rest_feedless n l h = no_newline-take (length l - length (ending_of l)) l h
 
 -- The buffered line with the bytes of a chunk that end it.
 pub held_whole : (held rest : List ℕ) (used : ℕ) (whole : Bool) → whole ≡ true → NoNewline held → UpToNewline rest used whole → IsWhole (held ++ take used rest)
-held_whole held rest used whole e h to =
-    let line : (prefix : List ℕ) × NoNewline prefix × (take used rest ≡ prefix ++ 10 ∷ []) = to.line e in
-    (held ++ line.0, no_newline-append held line.0 h line.1, ap (λ x. held ++ x) line.2 ∙ sym (append_assoc held line.0 (10 ∷ [])))
+held_whole held rest used whole h k l = grind (arith, no_newline-append, append_assoc)
 
 -- A line of this number within the limits.
 pub is_within : (l : Line) (n : ℕ) (bytes : List ℕ) → l ≡ line_at n bytes → n ≤ TEXT_LINES → length bytes ≤ LINE_BYTES → IsWithinLimits l
@@ -44,28 +42,12 @@ is_within l n bytes e number fits = record {
 -- Bytes without a newline lengthen the line.
 pub still_open : (lines mid : LinesState) (rest : List ℕ) (used : ℕ) (whole : Bool) → whole ≡ false → IsOpen lines → UpToNewline rest used whole →
     mid ≡ record lines { held = lines.held ++ take used rest; whole = whole } → length mid.held ≤ LINE_BYTES → IsOpen mid
-still_open lines mid rest used whole e h to is short =
-    let all : (used ≡ length rest) × NoNewline rest = to.all e in
-    record {
-      part = ap (λ (l : LinesState). l.whole) is ∙ e;
-      goes_on = ap (λ (l : LinesState). l.closed) is ∙ h.goes_on;
-      limit = ap (λ (l : LinesState). l.last_line) is ∙ h.limit;
-      short = short;
-      no_newline =
-          subst (λ (x : List ℕ). NoNewline x) (sym (ap (λ (l : LinesState). l.held) is))
-          (no_newline-append lines.held (take used rest) h.no_newline (no_newline-take used rest all.1));
-    }
+still_open lines mid rest used whole h k l m o = grind (arith, no_newline-append, no_newline-take)
 
 -- After a whole line, nothing is buffered.
 pub open_again : (lines mid new : LinesState) (rest : List ℕ) (used : ℕ) (whole : Bool) → IsOpen lines →
     mid ≡ record lines { held = lines.held ++ take used rest; whole = whole } → new ≡ record mid { held = []; whole = false; before = mid.before + 1 } → IsOpen new
-open_again lines mid new rest used whole h is cleared = record {
-  part = ap (λ (l : LinesState). l.whole) cleared;
-  goes_on = ap (λ (l : LinesState). l.closed) cleared ∙ ap (λ (l : LinesState). l.closed) is ∙ h.goes_on;
-  limit = ap (λ (l : LinesState). l.last_line) cleared ∙ ap (λ (l : LinesState). l.last_line) is ∙ h.limit;
-  short = let z = ap (λ (l : LinesState). length l.held) cleared in omega (arith, z);
-  no_newline = subst (λ (x : List ℕ). NoNewline x) (sym (ap (λ (l : LinesState). l.held) cleared)) tt;
-}
+open_again lines mid new rest used whole h k l = grind arith
 
 module _ {S : Type 0} (represents : S → List Judged → Type 0) (piece_of : S → List Judged → Judged → List ℕ) (o : Options) (piece : List Judged → Judged → List ℕ)
     (e : EngineState S) (text printed : List ℕ) (h : EngineRepresentsBuffered represents piece_of e o piece text printed) (a b : Stream) (g pending rest : List ℕ) (ge : e.buffered ≡ g) where
@@ -181,13 +163,7 @@ module _ {S : Type 0} (represents : S → List Judged → Type 0) (piece_of : S 
   own_number = value ∙ ap₂ (λ n x. line_at (suc n) x) (before_is represents piece_of o piece e text printed h) (sym is)
 
   own_open : IsOpen f.lines
-  own_open = record {
-    part = ap (λ (k : LinesState). k.whole) counted ∙ h.opened.part;
-    goes_on = ap (λ (k : LinesState). k.closed) counted ∙ h.opened.goes_on;
-    limit = ap (λ (k : LinesState). k.last_line) counted ∙ h.opened.limit;
-    short = let z = ap (λ (k : LinesState). length k.held) counted in let s = h.opened.short in omega (arith, z, s);
-    no_newline = subst (λ (x : List ℕ). NoNewline x) (sym (ap (λ (k : LinesState). k.held) counted)) h.opened.no_newline;
-  }
+  own_open = grind arith
 
   lent_taken : (put : Bool) (p : PrintsLine represents piece_of f.printer o piece h.items h.tree l put a b e.buffered f.buffered (slice_between bytes from at)) →
       EngineRepresentsBuffered represents piece_of f o piece (text ++ slice_between bytes at end) (printed ++ p.more)
@@ -242,13 +218,4 @@ module _ {S : Type 0} (represents : S → List Judged → Type 0) (piece_of : S 
     (text printed : List ℕ) (a b : Stream) (bytes rest : List ℕ) (at used : ℕ) (rest_from : rest ≡ drop at bytes) (f : EngineState S) (pending : List ℕ) where
   pub held_taken : Advances represents piece_of f o piece text printed (take used rest) a b pending f.buffered →
       Advances represents piece_of f o piece text printed (slice_between bytes at (at + used)) a b pending (f.buffered ++ slice_between bytes (at + used) (at + used))
-  held_taken p =
-      let n : (at + used) - at ≡ used = omega arith in
-      let same : take used rest ≡ slice_between bytes at (at + used) = ap₂ (λ i r. take i r) (sym n) rest_from in
-      record {
-        more = p.more;
-        taken = subst (λ x. EngineRepresentsBuffered represents piece_of f o piece (text ++ x) (printed ++ p.more)) same p.taken;
-        sent =
-            subst (λ x. TakesAllBut a b (pending ++ p.more) x)
-            (sym (ap (λ x. f.buffered ++ x) (between_none bytes (at + used)) ∙ append-nil f.buffered)) p.sent;
-      }
+  held_taken h = grind (arith, between_none, append-nil)

@@ -1,6 +1,6 @@
 -- Waiting: bytes that were read, and wait to be fed with the rest of their line.
 use Rattle.std.proofs.Common.{◌≡◌, inl, inr, ◌⊎◌, ℕ, ◌+◌, ◌-◌, ◌<◌, ◌≤◌, Bool, true, List, [], ◌∷◌}
-use Rattle.std.proofs.Common.{◌++◌, length, take, drop, Option, Some, None, Err, refl, sym, ◌∙◌, ap}
+use Rattle.std.proofs.Common.{◌++◌, length, take, drop, Option, Err, refl, sym, ◌∙◌, ap}
 use Rattle.std.proofs.Common.{subst, append_assoc, append-nil, arith, length-append, if◌then◌else◌}
 use Rattle.std.specs.List.{copy_within}
 use Rattle.std.proofs.lemmas.List.{take-take, drop-take, take-append-le}
@@ -10,8 +10,7 @@ use Rattle.std.proofs.Math.ListN.{length-take, length-drop}
 use Rattle.std.proofs.Math.Seq.{take-add, take-append-add, take-append_seam}
 use Rattle.std.specs.Io.KnownBytes.{Consumes, Keeps, prepend_known}
 use Rattle.std.proofs.KnownBytes.{Appends-nil, Appends-trans, Consumes-trans, Consumes-kept}
-use Rattle.std.proofs.KnownBytes.{prepend_known-nil}
-use Rattle.ud_model.specs.text.Lines.{NoNewline, SplitLines, split_lines, whole_lines, partial_line}
+use Rattle.ud_model.specs.text.Lines.{NoNewline, SplitLines, split_lines, partial_line}
 use Rattle.ud_model.specs.sections.Items.{Options}
 use Rattle.ud_model.specs.answer.Printing.{Judged}
 use Rattle.ud_model.specs.declared.limits.TheConstants.{LINE_BYTES, TEXT_LINES}
@@ -40,61 +39,35 @@ use Rattle.ud_engine.proofs.FinishLemmas.{stopped, fed_more}
 -- A reader before its first bytes were read, which are `a` and then `b`.
 read_front : (a b : List ℕ) (r : Option (List ℕ)) → Consumes (prepend_known (a ++ b) r)
     (prepend_known b r) a
-read_front a b None = tt
-read_front a b (Some y) = append_assoc a b y
+read_front a b r = grind (arith, append_assoc)
 
 read_all : (a : List ℕ) (r : Option (List ℕ)) → Consumes (prepend_known a r) r a
-read_all a None = tt
-read_all a (Some y) = refl
+read_all a r = grind arith
 
 read_more : (r₀ r₁ r₂ : Option (List ℕ)) (given a b : List ℕ) → Consumes r₀ (prepend_known a r₁)
     given → Consumes r₁ r₂ b →
     Consumes r₀ (prepend_known (a ++ b) r₂) given
-read_more None r₁ r₂ given a b p q = tt
-read_more (Some x) None r₂ given a b p q = absurd p
-read_more (Some x) (Some y) None given a b p q = absurd q
-read_more (Some x) (Some y) (Some z) given a b p q = p ∙ ap (λ l. given ++ (a ++ l)) q ∙ ap
-    (λ l. given ++ l) (sym (append_assoc a b z))
+read_more r₀ r₁ r₂ given a b h k = grind (arith, append_assoc)
 
 -- More bytes were read, and wait.
 pub waits_more : (o : Options) (e : EngineState Printer) (r₀ r₁ r₂ w₀ w₁ : Option (List ℕ))
     (a b : List ℕ) →
     InProgress e o r₀ (prepend_known a r₁) w₀ w₁ → Consumes r₁ r₂ b → InProgress e o r₀
     (prepend_known (a ++ b) r₂) w₀ w₁
-waits_more o e r₀ r₁ r₂ w₀ w₁ a b u read =
-    record {
-      given = u.given;
-      printed = u.printed;
-      consumed = read_more r₀ r₁ r₂ u.given a b
-          u.consumed read;
-      fed = u.fed;
-      appended = u.appended;
-    }
+waits_more o e r₀ r₁ r₂ w₀ w₁ a b h k = grind (arith, read_more)
 
 -- No bytes wait.
 pub none_left : (o : Options) (e : EngineState Printer) (r₀ r w₀ w₁ : Option (List ℕ)) (a : List ℕ)
     → a ≡ [] →
     InProgress e o r₀ (prepend_known a r) w₀ w₁ → InProgress e o r₀ r w₀ w₁
-none_left o e r₀ r w₀ w₁ a none u = record {
-  given = u.given;
-  printed = u.printed;
-  consumed = subst (λ x. Consumes r₀ x u.given)
-      (ap (λ x. prepend_known x r) none ∙ prepend_known-nil r) u.consumed;
-  fed = u.fed;
-  appended = u.appended;
-}
+none_left o e r₀ r w₀ w₁ a h k = grind arith
 
 -- The bytes of a read come after those that wait.
 pub read_joined : (buffer piece after : List ℕ) (waiting count : ℕ) → waiting ≤ length buffer →
     count ≤ length piece →
     take waiting buffer ++ take count piece ≡ take (waiting + count)
     (take waiting buffer ++ (piece ++ after))
-read_joined buffer piece after waiting count within few =
-    let n : length (take waiting buffer) ≡ waiting = let m = length-take waiting buffer in omega
-    (arith, m, within) in
-    ap (λ x. take waiting buffer ++ x) (sym (take-append-le count piece after few))
-    ∙ sym (take-append-add (take waiting buffer) (piece ++ after) count) ∙ ap
-    (λ k. take (k + count) (take waiting buffer ++ (piece ++ after))) n
+read_joined buffer piece after waiting count h k = grind (arith, length-take, take-append-le, take-append-add)
 
 pub waiting_stay : (buffer piece : List ℕ) (waiting : ℕ) → waiting ≤ length buffer → take waiting
     (take waiting buffer ++ piece) ≡ take waiting buffer
@@ -339,9 +312,7 @@ module _ (o : Options) (e f : EngineState Printer) (text printed later front : L
     where
       by_end : (front ≡ []) ⊎ (partial_line (text ++ front) ≡ []) → (front ≡ []) ⊎
           (f.lines.held ≡ [])
-      by_end (inl none) = inl none
-      by_end (inr none) = inr (sym (rest_is printer_represents printer_piece o (own_piece o) f (text
-          ++ front) later k) ∙ none)
+      by_end h = grind arith
 
   same_held : front ≡ [] → f.lines.held ≡ e.lines.held
   same_held none =
@@ -351,41 +322,11 @@ module _ (o : Options) (e f : EngineState Printer) (text printed later front : L
 
   pub room_after : (room n : ℕ) → IsLineStart front → HasCapacity room e.lines CHUNK_BYTES → n ≤
       CHUNK_BYTES → HasCapacity room f.lines n
-  room_after room n starts fits few small = by_held (held_after starts)
-    where
-      by_held : (front ≡ []) ⊎ (f.lines.held ≡ []) → length f.lines.held + n ≤ room
-      by_held (inl none) = let same = ap length (same_held none) in let r = fits small in omega
-          (arith, same, r, few)
-      by_held (inr none) = let same = ap length none in let r = fits small in omega
-          (arith, same, r, few)
+  room_after room n h k l = grind (arith, held_after, same_held)
 
   -- No more fits below the limits than before.
   pub no_further : bytes_to_limit f.lines ≤ bytes_to_limit e.lines
-  no_further = by_growth (grows text front)
-    where
-      before : e.lines.before ≡ length (whole_lines text)
-      before = before_is printer_represents printer_piece o (own_piece o) e text printed h
-
-      before_more : f.lines.before ≡ length (whole_lines (text ++ front))
-      before_more = before_is printer_represents printer_piece o (own_piece o) f (text ++ front)
-          later k
-
-      by_growth : Growth text front → bytes_to_limit f.lines ≤ bytes_to_limit e.lines
-      by_growth (stays_open lines rest) =
-          let n = ap length lines in
-          let held : length f.lines.held ≡ length e.lines.held + length front =
-          ap length (sym (rest_is printer_represents printer_piece o (own_piece o) f (text ++ front)
-          later k) ∙ rest
-          ∙ ap (λ (r : List ℕ). r ++ front)
-          (rest_is printer_represents printer_piece o (own_piece o) e text printed h)) ∙
-          length-append e.lines.held front in
-          let s = k.opened.short in
-          omega (arith, before, before_more, n, held, s)
-      by_growth (ends_line x l lines) =
-          let n = ap length lines ∙ length-append (whole_lines text) ((partial_line text ++ x) ∷ l)
-          in
-          let c = k.count in
-          omega (arith, before, before_more, n, c)
+  no_further = grind (arith, grows, before_is, own_piece, Growth, stays_open, rest_is, length-append, ends_line)
 
   -- Less is left to do, if the first bytes are fed.
   pub fed_further : (at end : ℕ) → at ≡ length front → IsFurther e.lines f.lines end (end - at)
@@ -403,12 +344,4 @@ pub all_further : (e f g : LinesState) (at end : ℕ) (first left : List ℕ) �
     (0 < length first → bytes_to_limit f < bytes_to_limit e) →
     (0 < length left → bytes_to_limit g < bytes_to_limit f) →
     at ≤ end → at ≡ length first → end - at ≡ length left → IsFurther e g end 0
-all_further e f g at end first left m n p q within is size = by_sizes (cases_lt 0 (length first))
-    (cases_lt 0 (length left))
-  where
-    by_sizes : (0 < length first) ⊎ (length first ≤ 0) → (0 < length left) ⊎ (length left ≤ 0) →
-        IsFurther e g end 0
-    by_sizes (inl some) b = inl (let d = p some in omega (arith, d, n))
-    by_sizes (inr none) (inl some) = inl (let d = q some in omega (arith, d, m))
-    by_sizes (inr none) (inr nor) = inr
-        (omega (arith, m, n), omega (arith, none, nor, within, is, size))
+all_further e f g at end first left h k l m o p q = grind arith

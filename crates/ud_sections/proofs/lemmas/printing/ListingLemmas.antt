@@ -2,7 +2,7 @@
 -- line.
 use Rattle.std.proofs.Common.{◌≡◌, ℕ, suc, ◌+◌, [], ◌∷◌, ◌++◌, Bool, true, false, refl, append_assoc, append-nil, arith}
 use Rattle.ud_model.specs.text.Scans.{Reading}
-use Rattle.ud_model.specs.sections.Tree.{Item, Nodes, Head, Tree, text_line, if_line, elif_line, else_line, endif_line, if_head, elif_head, else_head, depth}
+use Rattle.ud_model.specs.sections.Tree.{Item, Nodes, Head, Tree, text_line, if_line, elif_line, else_line, endif_line, depth}
 use Rattle.ud_model.specs.answer.Listing.{levels_of_nodes, levels_of_groups, levels_of_head, levels_from}
 use Rattle.ud_model.proofs.sections.Growth.{Adds, adds_text, adds_if, elif_after_if, elif_after_elif, else_after_if, else_after_elif, adds_endif, adds_under, complete}
 
@@ -16,9 +16,7 @@ has_condition (endif_line r) = false
 
 groups_complete : (n : ℕ) (h : Head Reading) (b : Nodes Reading) →
     levels_of_groups n (complete h b) ≡ levels_of_head n h ++ levels_of_nodes (suc n) b
-groups_complete n (if_head o) b = refl
-groups_complete n (elif_head es o) b = refl
-groups_complete n (else_head es l) b = refl
+groups_complete n h b = grind arith
 
 -- One more line has one more level. That of a directive with a condition is one less than the
 -- number of sections that are open then.

@@ -16,30 +16,18 @@ same_front [] a b = refl
 same_front (c ∷ x) a b = ap (λ (t : Bool). t && bytes_eq (x ++ a) (x ++ b)) (same_byte c) ∙ same_front x a b
 
 not_true : (r : Bool) → (r ≡ true → ⊥) → r ≡ false
-not_true true h = absurd (h refl)
-not_true false h = refl
+not_true r h = grind arith
 
 -- a text without a prefix doesn't equal one that begins with it
 other_front : (x more y : List ℕ) → bytes_eq (take (length x) y) x ≡ false → bytes_eq (x ++ more) y ≡ false
-other_front x more y h =
-    not_true (bytes_eq (x ++ more) y) (λ e.
-    let same : x ++ more ≡ y = (bytes_eq-Decides (x ++ more) y).0 e in
-    let prefix : take (length x) y ≡ x = ap (take (length x)) (sym same) ∙ take-append_seam x more in
-    cc (h, (bytes_eq-Decides (take (length x) y) x).1 prefix))
+other_front x more y h = grind (arith, not_true, bytes_eq, bytes_eq-Decides, take-append_seam)
 
 same_truth : (p q : Bool) → (p ≡ true → q ≡ true) → (q ≡ true → p ≡ true) → p ≡ q
-same_truth true q f g = sym (f refl)
-same_truth false true f g = g refl
-same_truth false false f g = refl
+same_truth p q h k = grind arith
 
 -- texts that end alike are equal if what comes before is
 same_back : (x a b : List ℕ) → bytes_eq (a ++ x) (b ++ x) ≡ bytes_eq a b
-same_back x a b =
-    same_truth (bytes_eq (a ++ x) (b ++ x)) (bytes_eq a b)
-    (λ e. (bytes_eq-Decides a b).1
-    (append_cancel_right a b x ((bytes_eq-Decides (a ++ x) (b ++ x)).0 e)))
-    (λ e. (bytes_eq-Decides (a ++ x) (b ++ x)).1
-    (ap (λ (t : List ℕ). t ++ x) ((bytes_eq-Decides a b).0 e)))
+same_back x a b = grind (arith, same_truth, bytes_eq, bytes_eq-Decides, append_cancel_right)
 
 -- a line with a word in place of some of its bytes is the line if they are that word
 replaced_word : (before word text after : List ℕ) →
@@ -50,8 +38,7 @@ replaced_word before word text after =
 -- bytes that are cut at a position
 cut : (n : ℕ) (bytes front back : List ℕ) → front ≡ take n bytes → back ≡ drop n bytes →
     bytes ≡ front ++ back
-cut n bytes front back f b =
-    sym (take-append-drop n bytes) ∙ ap₂ (λ (x y : List ℕ). x ++ y) (sym f) (sym b)
+cut n bytes front back h k = grind (arith, take-append-drop)
 
 -- a word in place of the end of a body
 pub replaced_end : (n : ℕ) (body front back word ending : List ℕ) → front ≡ take n body →
@@ -88,18 +75,7 @@ drop_all p n e = ap (λ (k : ℕ). drop k p) e ∙ drop-length p
 
 -- a part is split at the lesser of its length and the body's
 pub split_part : (p body prefix back : List ℕ) (n : ℕ) → n ≡ min (length p) (length body) → prefix ≡ take n p → back ≡ drop n p → Split p body prefix back
-split_part p body prefix back n least f b = record {
-  whole = sym (take-append-drop n p) ∙ ap₂ (λ (x y : List ℕ). x ++ y) (sym f) (sym b);
-  within = omega (arith, len, least);
-  ends = by_less (nat_le (length p) (length body)) refl;
-}
-  where
-    len : length prefix ≡ min n (length p)
-    len = ap length f ∙ length-take n p
-
-    by_less : (t : Bool) → t ≡ nat_le (length p) (length body) → (back ≡ []) ⊎ (length body ≡ length prefix)
-    by_less true h = inl (b ∙ drop_all p n (grind (arith, nat_tests, h, least)))
-    by_less false h = inr (grind (arith, nat_tests, h, least, len))
+split_part p body prefix back n h k l = grind (arith, take-append-drop, nat_le, min, length-take, drop_all, nat_tests)
 
 stripped : (s x r : List ℕ) → bytes_eq (take (length x) s) x ≡ true → r ≡ drop (length x) s → s ≡ x ++ r
 stripped s x r h e = sym (take-append-drop (length x) s) ∙ ap₂ (λ (a b : List ℕ). a ++ b) ((bytes_eq-Decides (take (length x) s) x).0 h) (sym e)
@@ -111,21 +87,16 @@ no_rest x (c ∷ r) s e h = let k : length s ≡ length x + length (c ∷ r) = a
 -- the rests of a part and of a line whose bodies have one prefix
 in_body : (prefix back more b ending : List ℕ) → (back ≡ []) ⊎ (b ≡ []) →
     bytes_eq ((prefix ++ back) ++ more) ((prefix ++ b) ++ ending) ≡ bytes_eq (back ++ more) (b ++ ending)
-in_body prefix back more b ending ends =
-    ap₂ (λ (x y : List ℕ). bytes_eq x y) (append_assoc prefix back more) (append_assoc prefix b ending) ∙ same_front prefix (back ++ more) (b ++ ending)
+in_body prefix back more b ending h = grind (arith, bytes_eq, append_assoc, same_front)
 
 -- the rests of a part and of a line whose endings have one prefix, too
 in_ending : (back more b e : List ℕ) → (back ≡ []) ⊎ (b ≡ []) → bytes_eq (back ++ more) (b ++ (back ++ e)) ≡ bytes_eq more (b ++ e)
-in_ending back more b e (inl none) = subst (λ (x : List ℕ). bytes_eq (x ++ more) (b ++ (x ++ e)) ≡ bytes_eq more (b ++ e)) (sym none) refl
-in_ending back more b e (inr none) = subst (λ (x : List ℕ). bytes_eq (back ++ more) (x ++ (back ++ e)) ≡ bytes_eq more (x ++ e)) (sym none) (same_front back more e)
+in_ending back more b e h = grind (arith, bytes_eq, same_front)
 
 module _ (p more body ending prefix back : List ℕ) (split : Split p body prefix back) where
   -- the body doesn't begin with the part's prefix
   pub other_body : bytes_eq (take (length prefix) body) prefix ≡ false → bytes_eq (p ++ more) (body ++ ending) ≡ false
-  other_body h =
-      ap (λ (x : List ℕ). bytes_eq x (body ++ ending)) (ap (λ (x : List ℕ). x ++ more) split.whole ∙ append_assoc prefix back more)
-      ∙ other_front prefix (back ++ more) (body ++ ending)
-      (ap (λ (x : List ℕ). bytes_eq x prefix) (take-append-le (length prefix) body ending split.within) ∙ h)
+  other_body h = grind (arith, bytes_eq, append_assoc, other_front, take-append-le)
 
   module _ (b : List ℕ) (is : bytes_eq (take (length prefix) body) prefix ≡ true) (rest : b ≡ drop (length prefix) body) where
     ends : (back ≡ []) ⊎ (b ≡ [])
@@ -174,16 +145,11 @@ take_firsts zero (suc n) ps h = absurd (omega (arith, h))
 take_firsts (suc k) (suc n) [] h = take_firsts k n [] (omega (arith, h)) ∙ none n
   where
     none : (m : ℕ) → bytes_of (take m []) ≡ []
-    none zero = refl
-    none (suc m) = refl
+    none m = grind arith
 take_firsts (suc k) (suc n) (p ∷ ps) h = ap (λ (t : List ℕ). p.now ++ t) (take_firsts k n ps (omega (arith, h)))
 
 four_firsts : (ps : List (Bor (List ℕ))) → firsts 4 ps ≡ get_or ps 0 no_part ∷ get_or ps 1 no_part ∷ get_or ps 2 no_part ∷ get_or ps 3 no_part ∷ []
-four_firsts [] = refl
-four_firsts (a ∷ []) = refl
-four_firsts (a ∷ b ∷ []) = refl
-four_firsts (a ∷ b ∷ c ∷ []) = refl
-four_firsts (a ∷ b ∷ c ∷ d ∷ ps) = refl
+four_firsts ps = grind arith
 
 -- a part before at most four others
 pub one_before : (first : Bor (List ℕ)) (ps : List (Bor (List ℕ))) (n : ℕ) → n ≤ 4 →

@@ -1,9 +1,9 @@
 -- PrintedRuns: the output for the next line by its verdict, and for many text lines by that for
 -- one.
-use Rattle.std.proofs.Common.{◌≡◌, ◌∙◌, ℕ, List, [], ◌∷◌, ◌++◌, Bool, true, false, if◌then◌else◌, map, refl, sym, ap, ap₂, subst, append_assoc, append-nil}
+use Rattle.std.proofs.Common.{arith}
+use Rattle.std.proofs.Common.{◌≡◌, ℕ, List, [], ◌∷◌, ◌++◌, Bool, true, false, map, refl, sym, ap, ap₂, subst, append_assoc, append-nil}
 use Rattle.ud_model.specs.text.Lines.{Line, text_of}
-use Rattle.ud_model.specs.answer.Printing.{Judged, last_removed, piece_by, piece_after, pieces_by, complement_verdict, complemented}
-use Rattle.ud_model.specs.sections.Pruning.{is_removed}
+use Rattle.ud_model.specs.answer.Printing.{Judged, last_removed, piece_after, pieces_by, complement_verdict, complemented}
 use Rattle.ud_model.specs.declared.verdict.Verdict.{Verdict}
 use Rattle.ud_model.specs.declared.verdict.Verdict.TheVariants.{Keep, Remove}
 use Rattle.ud_model.proofs.answer.PrintingLemmas.{last_removed-more}
@@ -33,17 +33,11 @@ module _ (given : List Judged → Type 0) (piece : List Judged → Judged → Li
 
 -- after a line that isn't removed, a kept line is printed as it is, and not numbered
 pub kept_one : (removed : Bool) → removed ≡ false → PrintsOne (λ before. removed ≡ last_removed before) (piece_after renumber_style) Keep text_of
-kept_one removed e before j h v = (
-  sym (following_piece before j (sym h ∙ e)) ∙ ap (λ w. if is_removed w then [] else piece_by w j.keyword j.line) v,
-  e ∙ sym (ap is_removed v) ∙ sym (last_removed-more before j),
-)
+kept_one removed h = grind (arith, following_piece, last_removed-more)
 
 -- after a removed line, nothing is printed for a removed one
 pub removed_one : (removed : Bool) → removed ≡ true → PrintsOne (λ before. removed ≡ last_removed before) (piece_after renumber_style) Remove (λ l. [])
-removed_one removed e before j h v = (
-  sym (removed_piece before j (ap is_removed v)) ∙ ap (λ w. if is_removed w then [] else piece_by w j.keyword j.line) v,
-  e ∙ sym (ap is_removed v) ∙ sym (last_removed-more before j),
-)
+removed_one removed h = grind (arith, removed_piece, last_removed-more)
 
 module _ (given : List Judged → Type 0) (piece : List Judged → Judged → List ℕ) where
   map_more : (before js : List Judged) → map complemented (before ++ js) ≡ map complemented before ++ map complemented js
@@ -52,11 +46,7 @@ module _ (given : List Judged → Type 0) (piece : List Judged → Judged → Li
 
   complement_one : (verdict other : Verdict) (own : Line → List ℕ) → other ≡ complement_verdict verdict → PrintsOne given piece other own →
       PrintsOne (λ bs. given (map complemented bs)) (λ bs j. piece (map complemented bs) (complemented j)) verdict own
-  complement_one verdict other own e one before j h v =
-      let k = one (map complemented before) (complemented j) h (ap complement_verdict v ∙ sym e) in (
-        k.0,
-        subst given (sym (map_more before (j ∷ []))) k.1,
-      )
+  complement_one verdict other own h k = grind (arith, map_more)
 
   -- the complement prints for lines with this verdict what the printer prints for lines with the
   -- other one

@@ -14,7 +14,7 @@ use Rattle.ud_sections.specs.declared.sections.open_section.OpenSection.{OpenSec
 use Rattle.ud_sections.specs.declared.sections.open_section.StackOp.{StackOp}
 use Rattle.ud_sections.specs.declared.sections.open_section.StackOp.TheVariants.{Stay, Push, Replace, Pop}
 use Rattle.ud_sections.specs.declared.sections.open_section.Action.{Action}
-use Rattle.ud_sections.specs.sections.SectionStates.{new_state, section_state_after, next_section_state, opener_verdict_in, is_kept_in, is_in_removed}
+use Rattle.ud_sections.specs.sections.SectionStates.{new_state, section_state_after, opener_verdict_in, is_kept_in, is_in_removed}
 use Rattle.ud_sections.specs.sections.OpenSections.{section_of, section_with_group, open_sections_of, section_at, last_or, is_else_part}
 use Rattle.ud_sections.specs.sections.Actions.{act, Applies, kept_at, plain_at, text_action, if_action, opener_action, endif_action}
 use Rattle.ud_sections.specs.sections.StackOps.{applied, innermost_of}
@@ -36,9 +36,7 @@ kept_inside kept (else_head es l) = kept_last kept (conds_of_elifs es) Yes
 
 groups_complete : (kept : Bool) (h : Head Reading) (b : Nodes Reading) →
     groups_so_far kept (complete h b) ≡ head_so_far kept h ++ nodes_so_far (kept && is_inside_kept h) b
-groups_complete kept (if_head o) b = refl
-groups_complete kept (elif_head es o) b = refl
-groups_complete kept (else_head es l) b = refl
+groups_complete kept h b = grind arith
 
 -- inside one more open section
 changes_under : (c : StackOp) (l : OpenSection) (old new : List OpenSection) → Applies c old new → Applies c (l ∷ old) (l ∷ new)
@@ -55,13 +53,11 @@ pub record Moved (p kept plain : Bool) (d : Option OpenSection) (t u : Tree Read
   pub changes : Applies action.change (open_sections_of kept plain t) (open_sections_of kept plain u)
 
 if_mark : (kept : Bool) (c : Cond) → marked kept (verdict_so_far [] an_if c) ≡ record { kept = kept; verdict = opener_verdict_in (new_state kept) an_if c }
-if_mark true c = opener_mark true [] an_if c
-if_mark false c = refl
+if_mark kept c = grind arith
 
 opened_phase : (kept : Bool) (cs : List Cond) (l : OpenSection) (part : Part) (c : Cond) → l.state ≡ section_state_after (new_state kept) cs →
     record l { state = section_state_after (new_state kept) (cs ++ c ∷ []); else_seen = is_else_part part } ≡ section_with_group l part c
-opened_phase kept cs l part c e =
-    ap (λ q. record l { state = q; else_seen = is_else_part part }) (phase-last (new_state kept) cs c ∙ ap (λ q. next_section_state q c) (sym e))
+opened_phase kept cs l part c h = grind (arith, phase-last)
 
 module _ (p : Bool) where
   moved_if : (kept plain : Bool) (d : Option OpenSection) (b : Nodes Reading) (o : Opener Reading) → kept_at d ≡ kept → plain_at p d ≡ plain →
@@ -178,12 +174,10 @@ pub innermost_level : (p : Bool) (t : Tree Reading) → innermost_of (open_secti
 innermost_level p t = last_is (open_sections_of true p t) ∙ last_levels None true p t
 
 or_false : (b : Bool) → b ≡ (b || false)
-or_false true = refl
-or_false false = refl
+or_false b = grind arith
 
 or_assoc : (a b c : Bool) → ((a || b) || c) ≡ (a || (b || c))
-or_assoc true b c = refl
-or_assoc false b c = refl
+or_assoc a b c = grind arith
 
 -- the innermost section decides whether the next line is plain
 pub plain_inside : (p plain : Bool) (d : Option OpenSection) (kept : Bool) (t : Tree Reading) → plain_at p d ≡ plain →
@@ -235,23 +229,14 @@ end_opener false n (Some o) = refl
 
 -- the check of the end of the text
 pub end_is : (c : Bool) (n : ℕ) (p : Bool) (t : Tree Reading) → end_fault_of (end_in c n (section_at None true p t)) ≡ end_by c n (innermost t)
-end_is c n p t =
-    end_level c n (section_at None true p t)
-    ∙ ap (end_by_line c n) (if_line_at None None true p t refl ∙ ap line_of_opener (sym (innermost_is t)))
-    ∙ sym (end_opener c n (innermost t))
+end_is c n p t = grind (arith, end_level, end_by_line, if_line_at, innermost_is, end_opener)
 
 -- a change opens at most one section, and only if `opens_section` is true
 pub changes_depth : (c : StackOp) (old new : List OpenSection) → Applies c old new → opens_section c ≡ false → length new ≤ length old
-changes_depth Stay old new e n = rw e (omega arith)
-changes_depth (Push l) old new e n = cc
-changes_depth (Replace l) old new (outer, last, e, f) n = rw (e, f, length-append outer (l ∷ []), length-append outer (last ∷ [])) (omega arith)
-changes_depth Pop old new (last, e) n = rw (e, length-append new (last ∷ [])) (omega arith)
+changes_depth c old new h k = grind (arith, length-append)
 
 pub changes_deeper : (c : StackOp) (old new : List OpenSection) → Applies c old new → opens_section c ≡ true → length new ≡ suc (length old)
-changes_deeper Stay old new e n = cc
-changes_deeper (Push l) old new e n = rw (e, length-append old (l ∷ [])) (omega arith)
-changes_deeper (Replace l) old new e n = cc
-changes_deeper Pop old new e n = cc
+changes_deeper c old new h k = grind (arith, length-append)
 
 front_of : (ls : List OpenSection) (l : OpenSection) → take (length (ls ++ l ∷ []) - 1) (ls ++ l ∷ []) ≡ ls
 front_of ls l =

@@ -1,8 +1,8 @@
 -- CheckLemmas: what the check of a line means for the line after sound ones.
-use Rattle.std.proofs.Common.{◌≡◌, ◌≢◌, ℕ, suc, ◌<◌, ◌≤◌, ◌==◌, [], ◌∷◌, ◌++◌, length, Bool, true, false, ◌&&◌, if◌then◌else◌, Option, Some, None, Ok, Err, refl, sym, ◌∙◌, ap, subst, arith}
+use Rattle.std.proofs.Common.{◌≡◌, ◌≢◌, ℕ, ◌<◌, ◌≤◌, ◌==◌, [], ◌∷◌, ◌++◌, Bool, true, false, ◌&&◌, if◌then◌else◌, Option, Some, None, Ok, Err, refl, sym, ◌∙◌, ap, subst, arith}
 use Rattle.std.proofs.lemmas.Bool.{eqb-true}
 use Rattle.ud_model.specs.text.Scans.{Reading, is_spanning}
-use Rattle.ud_model.specs.sections.Tree.{Item, Tree, text_line, if_line, elif_line, else_line, endif_line, lines, depth}
+use Rattle.ud_model.specs.sections.Tree.{Item, Tree, lines, depth}
 use Rattle.ud_model.specs.sections.Pruning.{marks}
 use Rattle.ud_model.specs.sections.Items.{reading_of, line_of}
 use Rattle.ud_model.specs.sections.Faults.{FaultOf, is_obfuscated, is_directive, misplaced_fault, ends_removed, NoneHolds, cases}
@@ -47,11 +47,7 @@ pub record Follows (p : Bool) (t : Tree Reading) (x : Item Reading) (a : Action)
   pub changes : Applies a.change (open_sections_of true p t) (open_sections_of true p tree)
 
 directive_shape : (x : Item Reading) → is_directive_kind (item_kind x) ≡ is_directive x
-directive_shape (text_line r) = refl
-directive_shape (if_line o) = refl
-directive_shape (elif_line o) = refl
-directive_shape (else_line r) = refl
-directive_shape (endif_line r) = refl
+directive_shape x = grind arith
 
 -- the line is added, with this action
 pub record Taken (p : Bool) (t : Tree Reading) (x : Item Reading) (a : Action) : Type 0 where
@@ -66,14 +62,7 @@ not_equal n e q = let h : (OPEN_SECTIONS == OPEN_SECTIONS) ≡ false = subst (λ
 module _ (p : Bool) (t : Tree Reading) (x : Item Reading) where
   taken_by : (u : Tree Reading) → Adds t x u → Moved p true p None t u x → (a : Action) →
       act p (section_at None true p t) (item_kind x) (line_of x).number ≡ Some a → Taken p t x a
-  taken_by u grown m a e =
-      let q : m.action ≡ a = let h : Some m.action ≡ Some a = sym m.is_act ∙ e in cc in
-      subst (Taken p t x) q (record {
-        tree = u;
-        lines_are = lines-add grown;
-        marks_are = marks_so_far_same true u ∙ m.marks_are ∙ ap (λ ms. ms ++ mark_of m.action ∷ []) (sym (marks_so_far_same true t));
-        changes = m.changes;
-      })
+  taken_by u h k a l = grind (arith, lines-add, marks_so_far_same, mark_of)
 
   pub taken : (a : Action) → act p (section_at None true p t) (item_kind x) (line_of x).number ≡ Some a → Taken p t x a
   taken a e =
@@ -88,41 +77,17 @@ module _ (p : Bool) (t : Tree Reading) (x : Item Reading) where
 
   shallow : (a : Action) (k : Taken p t x a) (b : Bool) → opens_section a.change ≡ b → depth t ≤ OPEN_SECTIONS →
       (b && (depth t == OPEN_SECTIONS)) ≡ false → depth k.tree ≤ OPEN_SECTIONS
-  shallow a k false push d e =
-      let c : length (open_sections_of true p k.tree) ≤ length (open_sections_of true p t) = changes_depth a.change (open_sections_of true p t) (open_sections_of true p k.tree) k.changes push in
-      let f : length (open_sections_of true p t) ≡ depth t = depth_levels true p t in
-      let g : length (open_sections_of true p k.tree) ≡ depth k.tree = depth_levels true p k.tree in
-      omega (arith, c, f, g, d)
-  shallow a k true push d e =
-      let c : length (open_sections_of true p k.tree) ≡ suc (length (open_sections_of true p t)) = changes_deeper a.change (open_sections_of true p t) (open_sections_of true p k.tree) k.changes push in
-      let f : length (open_sections_of true p t) ≡ depth t = depth_levels true p t in
-      let g : length (open_sections_of true p k.tree) ≡ depth k.tree = depth_levels true p k.tree in
-      let n : depth t ≢ OPEN_SECTIONS = not_equal (depth t) e in
-      omega (arith, c, f, g, d, n)
+  shallow a k b h l m = grind (arith, changes_depth, depth_levels, changes_deeper, not_equal)
 
   deep : (a : Action) (k : Taken p t x a) (b : Bool) → opens_section a.change ≡ b → (b && (depth t == OPEN_SECTIONS)) ≡ true → OPEN_SECTIONS < depth k.tree
-  deep a k false push e = cc
-  deep a k true push e =
-      let c : length (open_sections_of true p k.tree) ≡ suc (length (open_sections_of true p t)) = changes_deeper a.change (open_sections_of true p t) (open_sections_of true p k.tree) k.changes push in
-      let f : length (open_sections_of true p t) ≡ depth t = depth_levels true p t in
-      let g : length (open_sections_of true p k.tree) ≡ depth k.tree = depth_levels true p k.tree in
-      let n : depth t ≡ OPEN_SECTIONS = eqb-true (depth t) OPEN_SECTIONS e in
-      omega (arith, c, f, g, n)
+  deep a k b h l = grind (arith, changes_deeper, depth_levels, eqb-true)
 
   spoils : (s : ClassifiedLine) (a : Action) → IsSeen x s → is_obfuscated_by (ends_removed (marks t)) s a ≡ is_obfuscated (marks t) x (mark_of a)
   spoils s a scanned = rw (scanned.kind, scanned.spans, scanned.joins, directive_shape x) refl
 
   misplaced_is : act p (section_at None true p t) (item_kind x) (line_of x).number ≡ None →
       misplaced_fault x ≡ Some (fault_of (misplaced_fault_by (item_kind x) (line_of x).number))
-  misplaced_is none = by_item x none
-    where
-      by_item : (y : Item Reading) → act p (section_at None true p t) (item_kind y) (line_of y).number ≡ None →
-          misplaced_fault y ≡ Some (fault_of (misplaced_fault_by (item_kind y) (line_of y).number))
-      by_item (text_line r) e = cc
-      by_item (if_line o) e = cc
-      by_item (elif_line o) e = refl
-      by_item (else_line r) e = refl
-      by_item (endif_line r) e = refl
+  misplaced_is h = grind arith
 
   module _ (s : ClassifiedLine) (scanned : IsSeen x s) (w : IsWithinLimits (line_of x)) (whole : is_cut_item x ≡ false) (d : depth t ≤ OPEN_SECTIONS) where
     well_by : (c a : Action) → Taken p t x c → (k q : Bool) → (opens_section c.change && (depth t == OPEN_SECTIONS)) ≡ k →

@@ -1,14 +1,13 @@
 -- LineFaults: when a line after sound ones is sound, and which fault it has otherwise.
-use Rattle.std.proofs.Common.{◌≡◌, ◌<◌, ◌≤◌, List, [], ◌∷◌, ◌++◌, length, Bool, true, false, IsTrue, Some, refl, sym, ◌∙◌, ap, subst, arith}
+use Rattle.std.proofs.Common.{◌≡◌, ◌<◌, ◌≤◌, List, [], ◌∷◌, ◌++◌, Bool, true, false, IsTrue, Some, refl, sym, ◌∙◌, ap, subst, arith}
 use Rattle.std.proofs.lemmas.List.{same_from_push}
 use Rattle.ud_model.specs.text.Scans.{Reading}
-use Rattle.ud_model.specs.text.Lines.{text_of}
 use Rattle.ud_model.specs.sections.Directives.{content_of}
 use Rattle.ud_model.specs.sections.Tree.{Item, Tree, lines, depth}
 use Rattle.ud_model.specs.sections.Pruning.{Mark, marks}
 use Rattle.ud_model.specs.sections.Items.{reading_of, line_of}
 use Rattle.ud_model.specs.sections.Faults.{Fault, FaultOf, Case, past_last, too_long, cut, out_of_place, too_deep, obfuscated_case, is_cut, is_obfuscated, misplaced_fault, NoneHolds, cases, obfuscated, too_many_levels}
-use Rattle.ud_model.specs.declared.limits.TheConstants.{LINE_BYTES, TEXT_LINES, OPEN_SECTIONS}
+use Rattle.ud_model.specs.declared.limits.TheConstants.{OPEN_SECTIONS}
 use Rattle.ud_model.proofs.sections.Unique.{unique}
 use Rattle.ud_sections.specs.sections.Limits.{IsWithinLimits}
 
@@ -22,10 +21,7 @@ is_cut_item x = is_cut (content_of (reading_of x).scan)
 module _ (xs : List (Item Reading)) (x : Item Reading) (w : IsWithinLimits (line_of x)) where
   -- a line within the limits isn't faulty in the first two ways
   within_first : (cs : List Case) → NoneHolds xs x cs → NoneHolds xs x (past_last ∷ too_long ∷ cs)
-  within_first cs others = (
-    λ h. let n : (line_of x).number ≤ TEXT_LINES = w.number_fits in omega (arith, h, n),
-    (λ h. let n : length (text_of (line_of x)) ≤ LINE_BYTES = w.bytes_fit in omega (arith, h, n), others),
-  )
+  within_first cs h = grind arith
 
   -- if no keyword is cut in it, the line isn't faulty in the third way either
   within_clear : (cs : List Case) → is_cut_item x ≡ false → NoneHolds xs x cs → NoneHolds xs x (past_last ∷ too_long ∷ cut ∷ cs)
@@ -38,12 +34,7 @@ module _ (xs : List (Item Reading)) (x : Item Reading) (w : IsWithinLimits (line
   -- a directive that no tree accepts has the fault of its name
   pub out_of_place_fault : (t : Tree Reading) (f : Fault) → is_cut_item x ≡ false → lines t ≡ xs →
       ((u : Tree Reading) → lines u ≡ xs ++ x ∷ [] → ⊥) → misplaced_fault x ≡ Some f → FaultOf xs x f
-  out_of_place_fault t f h e refuses named = record {
-    which = out_of_place;
-    holds = ((t, e), λ j. refuses j.0 j.1);
-    first = within_clear [] h tt;
-    named = named;
-  }
+  out_of_place_fault t f h k l m = grind arith
 
   module _ (whole : is_cut_item x ≡ false) (u : Tree Reading) (e : lines u ≡ xs ++ x ∷ []) where
     too_deep_not : depth u ≤ OPEN_SECTIONS → ((v : Tree Reading) × (lines v ≡ xs ++ x ∷ []) × (OPEN_SECTIONS < depth v)) → ⊥
@@ -53,12 +44,7 @@ module _ (xs : List (Item Reading)) (x : Item Reading) (w : IsWithinLimits (line
 
     -- a directive that opens one section too many
     pub too_deep_fault : OPEN_SECTIONS < depth u → FaultOf xs x (too_many_levels (line_of x).number)
-    too_deep_fault d = record {
-      which = too_deep;
-      holds = (u, e, d);
-      first = within_clear (out_of_place ∷ []) whole (λ k. k.1 (u, e), tt);
-      named = refl;
-    }
+    too_deep_fault h = grind arith
 
     -- a directive that spans lines and would have to be changed
     pub spoiled_fault : (before : List Mark) (m : Mark) → depth u ≤ OPEN_SECTIONS → marks u ≡ before ++ m ∷ [] →

@@ -32,8 +32,7 @@ plain_is m o xs t h =
 -- the check of the end of the text
 pub ends_well : (m : Machine) (o : Options) (xs : List (Item Reading)) (t : Tree Reading) → MachineRepresents m o xs t → (c : Bool) → c ≡ ends_in_comment xs →
     end_fault_of (end_in c m.last (innermost_of m.open_sections.items)) ≡ end_fault xs t
-ends_well m o xs t h c e =
-    rw (e, h.last, h.sections, innermost_level o.settings.plain t) (end_is (ends_in_comment xs) (last_number xs) o.settings.plain t)
+ends_well m o xs t h c k = grind (arith, innermost_level, end_is)
 
 -- a machine after the line's transition
 pub reads_line : (m new : Machine) (o : Options) (xs : List (Item Reading)) (t : Tree Reading) (l : Line) (turn : Transition) → MachineRepresents m o xs t →
@@ -76,8 +75,7 @@ mode_is : (o : Options) (t : Tree Reading) → mode_after o t ≡ mode_by (plain
 mode_is o t = ap mode_by (sym (plain_inside o.settings.plain o.settings.plain None true t refl))
 
 same_mode : (o : Options) (t u : Tree Reading) → open_sections_of true o.settings.plain u ≡ open_sections_of true o.settings.plain t → mode_after o u ≡ mode_after o t
-same_mode o t u e =
-    mode_is o u ∙ ap (λ s. mode_by (plain_at o.settings.plain s)) (same_section o t u e) ∙ sym (mode_is o t)
+same_mode o t u h = grind (arith, mode_is, same_section)
 
 same_depth : (o : Options) (t u : Tree Reading) → open_sections_of true o.settings.plain u ≡ open_sections_of true o.settings.plain t → depth t ≤ OPEN_SECTIONS → depth u ≤ OPEN_SECTIONS
 same_depth o t u e d =

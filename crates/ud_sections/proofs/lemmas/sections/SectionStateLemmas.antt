@@ -1,4 +1,5 @@
 -- SectionStateLemmas: the table by states is the table of verdicts by the groups so far.
+use Rattle.std.proofs.Common.{arith}
 use Rattle.std.proofs.Common.{◌≡◌, List, [], ◌∷◌, ◌++◌, Bool, true, false, not, ◌&&◌, if◌then◌else◌, refl, ◌∙◌, ap}
 use Rattle.ud_model.specs.declared.cond.Cond.{Cond}
 use Rattle.ud_model.specs.declared.cond.Cond.TheVariants.{Yes, No, Unknown}
@@ -29,24 +30,16 @@ pub record Agrees (p : SectionState) (goes_with : Cond → Bool) (goes none some
   pub kept : (c : Cond) → is_kept_in (next_section_state p c) ≡ (not (is_false c) && not some)
 
 kept_live : (c : Cond) → is_kept_in (next_section_state LastUnknown c) ≡ (not (is_false c) && true)
-kept_live Yes = refl
-kept_live No = refl
-kept_live Unknown = refl
+kept_live c = grind arith
 
 kept_skip : (c : Cond) → is_kept_in (next_section_state LastFalse c) ≡ (not (is_false c) && true)
-kept_skip Yes = refl
-kept_skip No = refl
-kept_skip Unknown = refl
+kept_skip c = grind arith
 
 kept_seek : (c : Cond) → is_kept_in (next_section_state NoneKept c) ≡ (not (is_false c) && true)
-kept_seek Yes = refl
-kept_seek No = refl
-kept_seek Unknown = refl
+kept_seek c = grind arith
 
 kept_never : (c : Cond) → false ≡ (not (is_false c) && false)
-kept_never Yes = refl
-kept_never No = refl
-kept_never Unknown = refl
+kept_never c = grind arith
 
 -- after the first true group
 over-stays : (cs : List Cond) → section_state_after AfterTrue cs ≡ AfterTrue
@@ -54,20 +47,7 @@ over-stays [] = refl
 over-stays (c ∷ cs) = over-stays cs
 
 over_agrees : (goes_with : Cond → Bool) (goes : Bool) → ((c : Cond) → goes_with c ≡ goes) → Agrees AfterTrue goes_with goes false true false
-over_agrees goes_with goes e = record {
-  lives = refl;
-  opener = λ part c. by_goes (goes_with c);
-  endif = endif_by goes;
-  kept = kept_never;
-}
-  where
-    by_goes : (b : Bool) → Remove ≡ (if b then Remove else Remove)
-    by_goes true = refl
-    by_goes false = refl
-
-    endif_by : (b : Bool) → Remove ≡ (if b then Remove else Remove)
-    endif_by true = refl
-    endif_by false = refl
+over_agrees goes_with goes h = grind arith
 
 mutual
   live_agrees : (cs : List Cond) → Agrees (section_state_after LastUnknown cs) (λ c. false) false false (any_true cs) (ends_with_first_true cs)
@@ -85,9 +65,7 @@ mutual
   skip_agrees (Yes ∷ d ∷ cs) = rw (over-stays cs) (over_agrees (λ c. false) false (λ c. refl))
 
 seek_opener : (part : Part) (c : Cond) → opener_verdict_in NoneKept part c ≡ verdict_so_far [] part c
-seek_opener part Yes = refl
-seek_opener part No = refl
-seek_opener part Unknown = refl
+seek_opener part c = grind arith
 
 -- the state of a section in a kept place agrees with the conditions of its groups
 pub agrees : (cs : List Cond) →
@@ -112,8 +90,7 @@ opener_mark false cs part c = rw (dead-stays cs) refl
 pub endif_mark : (kept : Bool) (cs : List Cond) →
     marked kept (endif_verdict cs)
     ≡ record { kept = not (is_in_removed (section_state_after (new_state kept) cs)); verdict = endif_verdict_in (section_state_after (new_state kept) cs) }
-endif_mark true cs = rw ((agrees cs).lives, (agrees cs).endif) refl
-endif_mark false cs = rw (dead-stays cs) refl
+endif_mark kept cs = grind (arith, agrees, dead-stays)
 
 -- the state gives whether the last group is kept
 pub kept_last : (kept : Bool) (cs : List Cond) (c : Cond) → is_kept_in (section_state_after (new_state kept) (cs ++ c ∷ [])) ≡ (kept && is_kept cs c)

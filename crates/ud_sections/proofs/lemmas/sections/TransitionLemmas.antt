@@ -1,19 +1,15 @@
 -- TransitionLemmas: the machine's transition for the line that comes next.
 use Rattle.std.proofs.Common.{◌≡◌, ◌≤◌, List, [], ◌∷◌, ◌++◌, length, true, false, Result, Ok, Err, refl, sym, ◌∙◌, ap, ap₂, subst, arith}
 use Rattle.ud_model.specs.text.Lines.{Line}
-use Rattle.ud_model.specs.text.Scans.{Scan, Reading, is_spanning}
-use Rattle.ud_model.specs.sections.Directives.{Span, Content, cut_keyword, directive, text, content_of, role_of}
-use Rattle.ud_model.specs.conditions.Conditions.{Decision, decision_on}
+use Rattle.ud_model.specs.text.Scans.{Scan, Reading}
+use Rattle.ud_model.specs.sections.Directives.{Span, Content, text, content_of}
 use Rattle.ud_model.specs.conditions.Table.{Argument}
 use Rattle.ud_model.specs.sections.Tree.{Item, Tree, lines, depth}
 use Rattle.ud_model.specs.sections.Pruning.{Mark, marks, is_removed}
-use Rattle.ud_model.specs.sections.Items.{Options, reading_of, line_of, item_by, directive_item, rules_of, mode_after, read_after, next_item}
+use Rattle.ud_model.specs.sections.Items.{Options, reading_of, line_of, item_by, rules_of, mode_after, read_after, next_item}
 use Rattle.ud_model.specs.sections.Faults.{FaultOf, NoneHolds, cases, is_cut, ends_removed, last_number, obfuscated}
 use Rattle.ud_model.specs.answer.Printing.{keyword_in, judged_line}
-use Rattle.ud_model.specs.declared.kind.Role.{Role}
-use Rattle.ud_model.specs.declared.kind.Role.TheVariants.{IfGroup, ElifGroup, ElseGroup, EndifLine}
 use Rattle.ud_model.specs.declared.limits.TheConstants.{OPEN_SECTIONS}
-use Rattle.ud_model.proofs.sections.FaultStays.{reading_of-item_by}
 use Rattle.ud_model.proofs.sections.Soundness.{reading_of-item_of, reading_of-next, sound_lines}
 use Rattle.ud_faults.specs.declared.sections.SectionFault.{SectionFault}
 use Rattle.ud_faults.specs.declared.sections.SectionFault.TheVariants.{Obfuscated}
@@ -30,18 +26,12 @@ use Rattle.ud_sections.specs.sections.OpenSections.{open_sections_of}
 use Rattle.ud_sections.specs.sections.Limits.{IsWithinLimits}
 use Rattle.ud_sections.specs.sections.MachineState.{MachineRepresents, ComesNext}
 use Rattle.ud_faults.specs.Faults.{fault_of}
-use Rattle.ud_sections.specs.sections.ClassifiedLines.{item_kind, line_kind_in, classified, classified_with}
+use Rattle.ud_sections.specs.sections.ClassifiedLines.{classified}
 use Rattle.ud_sections.specs.sections.StepViews.{as_span}
 use Rattle.ud_sections.specs.sections.Transitions.{context_of, transition_with, transition_of}
 use Rattle.ud_sections.proofs.lemmas.sections.LineFaults.{cut_fault}
 use Rattle.ud_sections.proofs.lemmas.sections.ActionLemmas.{mark_of, innermost_level, depth_levels}
 use Rattle.ud_sections.proofs.lemmas.sections.CheckLemmas.{before_next, IsSeen, Follows, judged_well, judged_ill}
-
-shape_of_role : (r : Reading) (p : Role) (d : Decision) → item_kind (directive_item r p d) ≡ line_kind_in p d
-shape_of_role r IfGroup d = refl
-shape_of_role r ElifGroup d = refl
-shape_of_role r ElseGroup d = refl
-shape_of_role r EndifLine d = refl
 
 -- the classified line of a line that carries this
 pub record SeenOn (o : Options) (r : Reading) (c : Content) (s : ClassifiedLine) : Type 0 where
@@ -51,27 +41,10 @@ pub record SeenOn (o : Options) (r : Reading) (c : Content) (s : ClassifiedLine)
 
 module _ (o : Options) (r : Reading) where
   pub seen_well : (c : Content) (s : ClassifiedLine) → classified r.scan o.table (rules_of o.settings) c ≡ Ok s → SeenOn o r c s
-  seen_well cut_keyword s e = cc
-  seen_well text s e =
-      let q : classified_with r.scan (record { at = 0; len = 0 }) (item_kind (item_by o r text)) ≡ s = cc in
-      subst (SeenOn o r text) q (record { scanned = record { kind = refl; spans = refl; joins = refl }; whole = refl; keyword = refl })
-  seen_well (directive d) s e =
-      let q : classified_with r.scan d.keyword (line_kind_in (role_of d.kind) (decision_on r.scan d o.table (rules_of o.settings))) ≡ s = cc in
-      let k : reading_of (item_by o r (directive d)) ≡ r = reading_of-item_by o r (directive d) in
-      subst (SeenOn o r (directive d)) q (record {
-        scanned = record {
-          kind = sym (shape_of_role r (role_of d.kind) (decision_on r.scan d o.table (rules_of o.settings)));
-          spans = ap (λ (v : Reading). is_spanning v.scan) (sym k);
-          joins = ap (λ (v : Reading). v.scan.joins_before) (sym k);
-        };
-        whole = refl;
-        keyword = refl;
-      })
+  seen_well c s h = grind arith
 
   pub seen_ill : (c : Content) (f : Cut) → classified r.scan o.table (rules_of o.settings) c ≡ Err f → is_cut c ≡ true
-  seen_ill cut_keyword f e = refl
-  seen_ill text f e = cc
-  seen_ill (directive d) f e = cc
+  seen_ill c f h = grind arith
 
 -- the line is sound, and this is its transition
 pub record TurnsWell (o : Options) (xs : List (Item Reading)) (t : Tree Reading) (l : Line) (turn : Transition) : Type 0 where
@@ -131,10 +104,7 @@ module _ (o : Options) (xs : List (Item Reading)) (t : Tree Reading) (l : Line) 
 
   well_by : (s : ClassifiedLine) → SeenOn o (read_after xs (mode_after o t) l) carried s → (a : Result Action SectionFault) →
       checked_by (before_next o.settings.plain t) s l.number ≡ a → (turn : Transition) → transition_with s.keyword a ≡ Ok turn → TurnsWell o xs t l turn
-  well_by s scanned (Ok a) j turn q =
-      let same : record { step = record { verdict = a.verdict; keyword = s.keyword }; change = a.change } ≡ turn = cc in
-      subst (TurnsWell o xs t l) same (well_seen s scanned a j)
-  well_by s scanned (Err f) j turn q = cc
+  well_by s h a k turn m = grind (arith, Ok, well_seen, Err)
 
   ill_by : (s : ClassifiedLine) → SeenOn o (read_after xs (mode_after o t) l) carried s → (a : Result Action SectionFault) →
       checked_by (before_next o.settings.plain t) s l.number ≡ a → (f : SectionFault) → transition_with s.keyword a ≡ Err f →
@@ -173,10 +143,7 @@ asked_is m o xs t scan l table h next = rw (before_is m o xs t h, h.settings, ne
 
 pub shallow_by : (m : Machine) (o : Options) (xs : List (Item Reading)) (t : Tree Reading) → MachineRepresents m o xs t →
     length m.open_sections.items ≤ OPEN_SECTIONS → depth t ≤ OPEN_SECTIONS
-shallow_by m o xs t h fits =
-    let a : length m.open_sections.items ≡ length (open_sections_of true o.settings.plain t) = ap length h.sections in
-    let b : length (open_sections_of true o.settings.plain t) ≡ depth t = depth_levels true o.settings.plain t in
-    omega (arith, a, b, fits)
+shallow_by m o xs t h k = grind arith
 
 module _ (m : Machine) (o : Options) (xs : List (Item Reading)) (t : Tree Reading) (scan : Scan) (l : Line) (table : List Argument)
     (h : MachineRepresents m o xs t) (next : ComesNext o xs t scan l table) (w : IsWithinLimits l) (fits : length m.open_sections.items ≤ OPEN_SECTIONS) where
