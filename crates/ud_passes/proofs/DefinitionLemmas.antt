@@ -1,5 +1,5 @@
 -- Definitions: where no `#` has a definition after it, no line has one.
-use Rattle.std.proofs.Common.{◌≡◌, ℕ, zero, suc, ◌+◌, ◌-◌, ◌≤◌, ◌==◌, Bool, true, false, ◌&&◌, if◌then◌else◌, List, [], ◌∷◌, ◌++◌, length, map, drop, Some, None, refl, sym, ◌∙◌, ap, ap₂, subst, append_assoc, length-append, arith}
+use Rattle.std.proofs.Common.{◌≡◌, ℕ, zero, suc, ◌+◌, ◌-◌, ◌≤◌, ◌==◌, Bool, true, false, ◌&&◌, if◌then◌else◌, List, [], ◌∷◌, ◌++◌, length, map, drop, Some, None, refl, sym, ◌∙◌, ap, subst, append_assoc, length-append, arith}
 use Rattle.std.specs.List.{concat}
 use Rattle.std.proofs.lemmas.Bool.{and_right}
 use Rattle.std.proofs.Math.Seq.{drop-append_seam}
@@ -9,10 +9,9 @@ use Rattle.ud_model.specs.text.Lines.{Line, AreWhole, IsWhole, line_at, numbered
 use Rattle.ud_model.specs.text.Scans.{Reading}
 use Rattle.ud_model.specs.sections.Directives.{skip_hash}
 use Rattle.ud_model.specs.conditions.Table.{Argument}
-use Rattle.ud_model.specs.conditions.Conditions.{is_listed}
 use Rattle.ud_model.proofs.text.LinesLemmas.{body-ending}
 use Rattle.ud_text.proofs.lemmas.bulk.QuietLineLemmas.{IsFeed, one, two, whole_ending}
-use Rattle.ud_passes.specs.remaining.Definitions.{is_definer, defines_by, defines_after, defines_if, defines, is_definition, IsClear}
+use Rattle.ud_passes.specs.remaining.Definitions.{defines_by, defines_after, defines_if, defines, is_definition, IsClear}
 
 -- 1. Words never go on after the end of a line.
 
@@ -24,7 +23,7 @@ data Ends : List ℕ → Type 0 where
 leading_word-ends : (t e : List ℕ) → Ends e → leading_word (t ++ e) ≡ leading_word t
 leading_word-ends [] _ (feed m) = refl
 leading_word-ends [] _ (return_feed m) = refl
-leading_word-ends (b ∷ bs) e h = ap (λ (w : List ℕ). if is_word_byte b then b ∷ w else []) (leading_word-ends bs e h)
+leading_word-ends (b ∷ bs) e h = grind (arith, leading_word-ends bs e h)
 
 -- `Longer s t`: the bytes `s` are `t` and those from the end of the line on.
 abbrev Longer : List ℕ → List ℕ → Type 0
@@ -45,8 +44,7 @@ skip_word-ends [] _ (return_feed m) = refl
 skip_word-ends (b ∷ bs) e h = by (is_word_byte b) (skip_word-ends bs e h)
   where
     by : (w : Bool) → skip_word (bs ++ e) ≡ skip_word bs ++ e → (if w then skip_word (bs ++ e) else b ∷ (bs ++ e)) ≡ (if w then skip_word bs else b ∷ bs) ++ e
-    by true more = more
-    by false more = refl
+    by w more = grind arith
 
 -- The word after the white space of a text.
 word-ends : (t e : List ℕ) → Ends e → leading_word (skip_white (t ++ e)) ≡ leading_word (skip_white t)
@@ -56,9 +54,7 @@ word-ends t e h =
 
 module _ (table : List Argument) where
   defines_by-ends : (t e : List ℕ) → Ends e → defines_by table (t ++ e) ≡ defines_by table t
-  defines_by-ends t e h =
-      ap₂ (λ (w n : List ℕ). is_definer w && is_listed table n) (leading_word-ends t e h)
-      (ap (λ (x : List ℕ). leading_word (skip_white x)) (skip_word-ends t e h) ∙ word-ends (skip_word t) e h)
+  defines_by-ends t e h = grind (arith, leading_word-ends, skip_word-ends, word-ends)
 
   defines_after-ends : (t e : List ℕ) → Ends e → defines_after table (t ++ e) ≡ defines_after table t
   defines_after-ends t e h =
@@ -68,17 +64,16 @@ module _ (table : List Argument) where
   -- 2. Clear bytes.
 
   same : (m n : ℕ) (t : List ℕ) → m ≡ n → IsClear table m t → IsClear table n t
-  same m n t e h = subst (λ (n : ℕ). IsClear table n t) e h
+  same m n t e h = grind arith
 
   none_left : (n : ℕ) → IsClear table n []
-  none_left zero = tt
-  none_left (suc n) = tt
+  none_left n = grind arith
 
   pub clear_drop : (k n : ℕ) (t : List ℕ) → IsClear table n t → IsClear table (n - k) (drop k t)
   clear_drop zero n t h = same n (n - 0) t (omega arith) h
   clear_drop (suc k) zero t h = same 0 (0 - suc k) (drop (suc k) t) (omega arith) tt
   clear_drop (suc k) (suc n) [] h = none_left (suc n - suc k)
-  clear_drop (suc k) (suc n) (b ∷ bs) h = same (n - k) (suc n - suc k) (drop k bs) (omega arith) (clear_drop k n bs h.1)
+  clear_drop (suc k) (suc n) (b ∷ bs) h = grind (arith, same, clear_drop k n bs h.1)
 
   -- Clear bytes after clear bytes.
   pub clear_more : (n m : ℕ) (t : List ℕ) → IsClear table n t → IsClear table m (drop n t) → IsClear table (n + m) t
@@ -96,8 +91,7 @@ module _ (table : List Argument) where
   )
     where
       by_test : (t : Bool) → (b == 35) ≡ t → ((b == 35) && defines_after table bs) ≡ false
-      by_test true e = absurd (none 0 (omega arith) (omega arith) e)
-      by_test false e = ap (λ (x : Bool). x && defines_after table bs) e
+      by_test t e = grind arith
 
   -- A byte more that has no definition after it.
   pub clear_one : (n : ℕ) (t : List ℕ) → IsClear table n t → defines_after table (drop (n + 1) t) ≡ false → IsClear table (n + 1) t
@@ -116,12 +110,10 @@ module _ (table : List Argument) where
   line_clear (b ∷ bs) e (suc n) h long c = by (is_white b) (line_clear bs e n h (omega arith) c.1)
     where
       by_sign : (s : Bool) → (s && defines_after table (bs ++ e)) ≡ false → defines_if table (if s then Some bs else None) ≡ false
-      by_sign true p = sym (defines_after-ends bs e h) ∙ p
-      by_sign false p = refl
+      by_sign s p = grind (arith, defines_after-ends)
 
       by : (w : Bool) → defines table bs ≡ false → defines_if table (skip_hash (if w then skip_white bs else b ∷ bs)) ≡ false
-      by true more = more
-      by false more = by_sign (b == 35) c.0
+      by w more = grind (arith, by_sign)
 
   ends_on : (e more : List ℕ) → IsFeed e → Ends (e ++ more)
   ends_on _ more one = feed more

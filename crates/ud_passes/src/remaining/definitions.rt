@@ -1,7 +1,7 @@
-//! The lines of the source that define a symbol, or undefine it.
+//! The lines of the source that define or undefine a symbol.
 //!
-//! Such a line is a text line, and text lines are passed many at once. So the bytes of a text are
-//! searched for each `#` that has a definition after it. Lines before it can't have one.
+//! Such a line is a text line, and text lines are skipped many at once. So the bytes of a text are
+//! searched for a `#` with a definition after it. No line before it can have one.
 
 ghost use Rattle.std.specs.Prelude.{◌≡◌, ◌≤◌, List, length};
 ghost use Rattle.ud_model.specs.conditions.Table.{Argument};
@@ -14,7 +14,7 @@ ghost use Rattle.ud_passes.specs.remaining.Definitions.{is_definer, IsClear};
 use crate::remaining::names::is_listed;
 use memchr::memchr;
 use ud_cond::Symbols;
-use ud_model::bytes::{skip_white, word_len};
+use ud_model::bytes::{is_word_byte, skip_white, word_len};
 
 /// Returns whether a word begins a definition.
 fn is_definer(word: &[u8]) -> bool
@@ -23,18 +23,24 @@ fn is_definer(word: &[u8]) -> bool
     word == b"define".as_slice() || word == b"undef".as_slice()
 }
 
-/// Returns whether a text begins, after white space, with the name of a symbol.
+/// Returns whether a text begins, after white space, with the name of a symbol. Most names begin
+/// with a byte that no symbol begins with.
 #[inline(always)]
 fn begins_with_name(symbols: &Symbols, text: &[u8]) -> bool
     ensures { (calls : List Argument) → TableRepresents symbols.now calls →
         result ≡ is_listed calls (leading_word (skip_white text.now)) }
 {
     let name = skip_white(text);
+    if let Some(first) = name.first() {
+        if is_word_byte(*first) && !symbols.may_begin_with(*first) {
+            return false;
+        }
+    }
     is_listed(symbols, name.split_at(word_len(name)).0)
 }
 
 /// Returns whether a text, which follows a `#`, has such a word and then the name of a symbol. Most
-/// definitions have a space between.
+/// definitions have one space between them.
 fn defines_after(symbols: &Symbols, text: &[u8]) -> bool
     ensures { (calls : List Argument) → TableRepresents symbols.now calls →
         result ≡ spec.defines_after calls text.now }
@@ -58,8 +64,8 @@ pub(crate) fn defines(symbols: &Symbols, line: &[u8]) -> bool
     }
 }
 
-/// Returns the number of bytes before the first `#` that has a definition of a symbol after it, or
-/// of all.
+/// Returns the number of bytes before the first `#` with a definition of a symbol after it, or of
+/// all bytes.
 pub(crate) fn clear_len(symbols: &Symbols, text: &[u8]) -> usize
     ensures bound { result ≤ length text.now }
     ensures clear { (calls : List Argument) → TableRepresents symbols.now calls →
