@@ -1,3 +1,4 @@
 -- Folded texts, and the way back.
 pub mod Folding
 pub mod LogicalLines
+pub mod FlatTexts

@@ -1,14 +1,14 @@
 //! Passes over a whole text: names of conditions, conditions that remain, and pruned texts.
 //!
 //! Each pass goes over a text by the same walk (`walk.rt`): line by line, and many text lines at
-//! once. `specs/Walks.antt` has how far the walk has come, and `specs/Passes.antt` what all passes
-//! say.
+//! once. `specs/Walks.antt` defines how far a walk has come, and `specs/Passes.antt` what all
+//! passes share.
 //!
-//! - `Names` keeps the lists of the files' names, and the conditions that can't be listed.
+//! - `Names` keeps the files' lists of names, and the conditions that can't be listed.
 //! - `Remaining` keeps the conditions that still name a symbol of the options.
 //! - `prune` appends a text without the operands of its conditions that the symbols decide.
-//! - `fold` appends a text with one line in place of each conditional directive over several lines,
-//!   and `restore` goes back.
+//! - `fold` appends a text with each conditional directive on one line, and `restore` goes back.
+//!   `flatten` does as `fold`, and leaves the other lines in their places.
 #![tactic(auto)]
 
 mod folding;
@@ -18,7 +18,7 @@ mod pruning;
 mod remaining;
 mod walk;
 
-pub use folding::{fold, restore};
+pub use folding::{flatten, fold, restore};
 pub use names::Names;
 pub use pruning::{law_pruned_text, prune};
 pub use remaining::{Listing, Remaining};
