@@ -1,12 +1,12 @@
 -- Cells: parts of a condition's text, and the rest of them.
-use Rattle.std.proofs.Common.{◌≡◌, ℕ, ◌-◌, List, [], ◌∷◌, ◌++◌, length, map, take, drop, Bool, true, false, not, ◌||◌, if◌then◌else◌, refl, sym, ◌∙◌, ap, subst, arith}
+use Rattle.std.proofs.Common.{◌≡◌, ℕ, ◌-◌, List, [], ◌∷◌, ◌++◌, length, map, take, drop, Bool, not, ◌||◌, if◌then◌else◌, refl, arith}
 use Rattle.std.proofs.lemmas.List.{take-map, drop-map, map-append}
 use Rattle.std.specs.Prelude.{Result, IfOk, OnOk}
 use Rattle.std.proofs.lemmas.Grind.{common_steps}
 use Rattle.ud_model.specs.text.Bytes.{are_white, skip_white}
 use Rattle.ud_model.specs.text.Lexemes.{Cell, shown}
 use Rattle.ud_model.specs.conditions.Tokens.{Token, at_end, unreadable, found, next_token}
-use Rattle.ud_model.specs.conditions.ResidualTexts.{left_by, left_from, ends_operand}
+use Rattle.ud_model.specs.conditions.ResidualTexts.{left_from, ends_operand}
 use Rattle.ud_passes.specs.pruning.Cells.{AreCells, SameLeft, byte_of}
 
 -- 1. Parts of the cells.
@@ -18,7 +18,7 @@ pub cells_back : (n : ℕ) (cells : List Cell) (bytes masked : List ℕ) → Are
 cells_back n cells bytes masked a = grind (arith, drop-map)
 
 pub cells_same : (cells : List Cell) {bytes masked more longer : List ℕ} → bytes ≡ more → masked ≡ longer → AreCells cells bytes masked → AreCells cells more longer
-cells_same cells e f a = record { bytes_are = a.bytes_are ∙ e; shown_are = a.shown_are ∙ f }
+cells_same cells e f a = grind arith
 
 -- The cells are as many as the bytes that show them.
 pub cells_count : (cells : List Cell) (bytes masked : List ℕ) → AreCells cells bytes masked → length masked ≡ length cells
@@ -37,10 +37,10 @@ module _ (prev operand f : Bool) (flags : List Bool) (cells : List Cell) where
 
   -- A text without a token stays.
   pub end_left : next_token (map shown cells) ≡ at_end → left_from prev operand (f ∷ flags) cells ≡ cells
-  end_left e = ap (left_by prev operand f (λ o c. left_from f o flags c) cells) e
+  end_left e = grind arith
 
   pub unread_left : next_token (map shown cells) ≡ unreadable → left_from prev operand (f ∷ flags) cells ≡ cells
-  unread_left e = ap (left_by prev operand f (λ o c. left_from f o flags c) cells) e
+  unread_left e = grind arith
 
 no_token : next_token [] ≡ at_end
 unfolding next_token
@@ -53,29 +53,21 @@ none_left prev operand (f ∷ flags) = end_left prev operand f flags [] no_token
 
 -- 3. The text so far.
 
-map_if : (f : Cell → ℕ) (b : Bool) (xs : List Cell) → map f (if b then xs else []) ≡ (if b then map f xs else [])
-map_if f true xs = refl
-map_if f false xs = refl
-
-three_parts : (f : Cell → ℕ) (b : List ℕ) (g h : Bool) (xs ys zs : List Cell) (x y : List ℕ) → map f xs ≡ x → map f ys ≡ y →
-    b ++ map f ((if g then xs else []) ++ ((if h then ys else []) ++ zs)) ≡ ((b ++ (if g then x else [])) ++ (if h then y else [])) ++ map f zs
-three_parts f b g h xs ys zs x y p q = grind (arith, common_steps, map-append, map_if)
-
 -- Two parts were appended, each if it stays.
 pub two_appended : (b s : List ℕ) (g h : Bool) (xs ys zs : List Cell) (x m y n : List ℕ) {b1 s1 b2 s2 : List ℕ} → AreCells xs x m → AreCells ys y n →
     b1 ≡ b ++ (if g then x else []) → s1 ≡ s ++ (if g then m else []) → b2 ≡ b1 ++ (if h then y else []) → s2 ≡ s1 ++ (if h then n else []) →
     SameLeft b s ((if g then xs else []) ++ ((if h then ys else []) ++ zs)) b2 s2 zs
-two_appended b s g h xs ys zs x m y n p q e f i j = grind (arith, three_parts)
+two_appended b s g h xs ys zs x m y n p q e f i j = grind (arith, common_steps, map-append)
 
 -- A text was appended, after which nothing is left.
 pub all_appended : (b s : List ℕ) (cells : List Cell) (bytes masked : List ℕ) {c t : List ℕ} → AreCells cells bytes masked → c ≡ b ++ bytes → t ≡ s ++ masked → SameLeft b s cells c t []
 all_appended b s cells bytes masked a e f = grind (arith, common_steps)
 
 pub same_on : (b s : List ℕ) {xs ys : List Cell} {c t : List ℕ} {zs ws : List Cell} → xs ≡ ys → zs ≡ ws → SameLeft b s ys c t ws → SameLeft b s xs c t zs
-same_on b s {xs} {ys} {c} {t} {zs} {ws} e f h = subst (λ (l : List Cell). SameLeft b s l c t zs) (sym e) (subst (λ (l : List Cell). SameLeft b s ys c t l) (sym f) h)
+same_on b s e f h = grind arith
 
 pub same_then : {b s c t d u : List ℕ} {xs ys zs : List Cell} → SameLeft b s xs c t ys → SameLeft c t ys d u zs → SameLeft b s xs d u zs
-same_then p q = record { bytes_are = p.bytes_are ∙ q.bytes_are; shown_are = p.shown_are ∙ q.shown_are }
+same_then p q = grind arith
 
 -- A result has a fact if each of its values has it.
 pub ok_all : {A E B S : Type 0} {R Q : A → Type 0} (r : Result A E) → OnOk r B → OnOk r S → IfOk r R → ((p : A) → B → S → R p → Q p) → IfOk r Q

@@ -1,14 +1,14 @@
 -- Edited lines: the line that is edited, and the line that is read.
-use Rattle.std.proofs.Common.{◌≡◌, ℕ, ◌+◌, ◌-◌, List, [], ◌++◌, length, map, take, drop, Bool, true, false, ◌&&◌, if◌then◌else◌, bytes_eq, refl, sym, ◌∙◌, ap, subst, ◌⊎◌, length-append, arith, take-append-drop}
+use Rattle.std.proofs.Common.{◌≡◌, ℕ, ◌-◌, List, [], ◌++◌, length, map, take, drop, Bool, true, false, if◌then◌else◌, bytes_eq, refl, sym, ◌∙◌, ap, subst, ◌⊎◌, length-append, arith, take-append-drop}
 use Rattle.std.proofs.lemmas.List.{drop-map, take_at, take_all}
 use Rattle.std.proofs.lemmas.Bool.{and_right}
 use Rattle.std.proofs.lemmas.Slice.Eq.{bytes_eq-Decides}
 use Rattle.ud_model.specs.text.Lines.{Line, NoNewline, IsWhole, text_of, ending_of, line_at, is_ending}
 use Rattle.ud_model.specs.text.Scans.{Scan, Reading}
-use Rattle.ud_model.specs.text.Splicing.{is_empty, is_spliced, content}
+use Rattle.ud_model.specs.text.Splicing.{is_empty, content}
 use Rattle.ud_model.specs.text.Lexemes.{Cell, shown}
 use Rattle.ud_model.specs.text.Scanning.{content_cells, scan_after_run}
-use Rattle.ud_model.specs.sections.Directives.{Content, cut_keyword, directive, text, Directive, content_of}
+use Rattle.ud_model.specs.sections.Directives.{Content, directive, Directive, content_of}
 use Rattle.ud_model.specs.conditions.Table.{Argument}
 use Rattle.ud_model.specs.conditions.Conditions.{Rules}
 use Rattle.ud_model.specs.conditions.Sublists.{IsSublist, nothing, without, with_same}
@@ -36,7 +36,7 @@ fewer (with_same p) h = (h.0, fewer p h.1)
 
 -- The texts before equal endings.
 cut_there : (b c : List ℕ) → take (length (b ++ c) - length c) (b ++ c) ≡ b
-cut_there b c = take_at b c (length (b ++ c) - length c) (let a : length (b ++ c) ≡ length b + length c = length-append b c in omega (arith, a))
+cut_there b c = grind (arith, take_at, length-append)
 
 pub same_cut : (b a c : List ℕ) → b ++ c ≡ a ++ c → b ≡ a
 same_cut b a c q = sym (cut_there b c) ∙ ap (λ (x : List ℕ). take (length x - length c) x) q ∙ cut_there a c
@@ -46,13 +46,8 @@ same_line a b p q r = grind arith
 
 -- 2. Other directives.
 
-not_if : (k j : Kind) → same_if k k ≡ false → same_if k j ≡ false
-not_if k j e = grind arith
-
 no_condition : (k : Kind) (after : List ℕ) (c : Content) → same_if k k ≡ false → has_condition k after c ≡ false
-no_condition k after (directive d) e = ap (λ (b : Bool). b && bytes_eq d.after after) (not_if k d.kind e)
-no_condition k after cut_keyword e = refl
-no_condition k after text e = refl
+no_condition k after c e = grind arith
 
 module _ (table : List Argument) (rules : Rules) (l : Line) where
   -- A directive of another kind stays.
@@ -62,11 +57,8 @@ module _ (table : List Argument) (rules : Rules) (l : Line) where
 -- 3. A line with a condition.
 
 module _ (table : List Argument) (rules : Rules) (l : Line) (d : Directive) (i : IsCondition l d) where
-  not_spliced : is_spliced l ≡ false
-  not_spliced = unspliced l i.lone
-
   body_is : content l ≡ l.body
-  body_is = ap (λ (b : Bool). if b then take (length l.body - 1) l.body else l.body) not_spliced
+  body_is = grind (arith, unspliced)
 
   pub cells_are : AreCells (condition_cells l d) (drop (keyword_end d) l.body) d.after
   cells_are = record {
@@ -75,8 +67,7 @@ module _ (table : List Argument) (rules : Rules) (l : Line) (d : Directive) (i :
   }
 
   same_either : (b : Bool) (k : Line) → text_of k ≡ text_of l → text_of (if b then k else l) ≡ text_of l
-  same_either true k e = e
-  same_either false k e = refl
+  same_either b k e = grind arith
 
   -- If all cells are left, the line stays.
   pub all_left : simplified_cells table rules (condition_cells l d) ≡ condition_cells l d → text_of (line_if_read table rules l d) ≡ text_of l
@@ -99,11 +90,7 @@ module _ (table : List Argument) (rules : Rules) (l : Line) (d : Directive) (i :
     whole = subst IsWhole (sym bytes_are) (ended k.body l.ending no_newline end)
 
     up_to_end : UpToNewline bytes (length bytes) true
-    up_to_end = record {
-      within = omega arith;
-      all = λ e. cc;
-      line = λ e. (whole.0, whole.1, take_all (length bytes) bytes (omega arith) ∙ whole.2);
-    }
+    up_to_end = grind (arith, whole, take_all)
 
     -- The line that is read of these bytes.
     module _ (e : Line) (w : Bool) (to : UpToNewline bytes (length (text_of e)) w) (is : e ≡ line_at l.number (take (length (text_of e)) bytes)) where
@@ -116,7 +103,7 @@ module _ (table : List Argument) (rules : Rules) (l : Line) (d : Directive) (i :
       read_text = ap text_of read_is ∙ text_of-line_at l.number bytes
 
       read_ending : e.ending ≡ ending_of (text_of k)
-      read_ending = ap (λ (x : Line). x.ending) read_is ∙ ap ending_of bytes_are
+      read_ending = grind (arith, read_is)
 
       -- Another ending.
       pub other_ending : bytes_eq e.ending l.ending ≡ false → text_of (line_if_read table rules l d) ≡ text_of l
@@ -124,13 +111,13 @@ module _ (table : List Argument) (rules : Rules) (l : Line) (d : Directive) (i :
 
       module _ (same : e.ending ≡ l.ending) where
         keeps : keeps_ending k ≡ true
-        keeps = (bytes_eq-Decides (ending_of (text_of k)) l.ending).1 (sym read_ending ∙ same)
+        keeps = grind (arith, bytes_eq-Decides, read_ending)
 
         body_same : e.body ≡ k.body
-        body_same = same_cut e.body k.body l.ending (ap (λ (x : List ℕ). e.body ++ x) (sym same) ∙ read_text ∙ bytes_are)
+        body_same = grind (arith, same_cut, read_text)
 
         number_is : e.number ≡ l.number
-        number_is = ap (λ (x : Line). x.number) read_is
+        number_is = grind arith
 
         e_is : e ≡ k
         e_is = same_line e k body_same same number_is

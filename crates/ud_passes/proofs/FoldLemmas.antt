@@ -1,5 +1,5 @@
 -- Folding: the line that lines form, and the folded lines after a line more.
-use Rattle.std.proofs.Common.{◌≡◌, ℕ, ◌-◌, ◌≤◌, List, [], ◌∷◌, ◌++◌, length, map, take, Bool, true, false, not, ◌&&◌, if◌then◌else◌, bytes_eq, Option, Some, None, is_some, IfSome, refl, sym, ◌∙◌, ap, ap₂, subst, append_assoc, append-nil, length-append, arith}
+use Rattle.std.proofs.Common.{◌≡◌, ℕ, ◌≤◌, List, [], ◌∷◌, ◌++◌, length, map, Bool, true, false, not, ◌&&◌, if◌then◌else◌, bytes_eq, Option, Some, None, is_some, IfSome, refl, sym, ◌∙◌, ap, ap₂, subst, append_assoc, append-nil, length-append, arith}
 use Rattle.std.specs.List.{concat, flat_map}
 use Rattle.std.proofs.lemmas.Grind.{common_steps, flat_map-append}
 use Rattle.std.proofs.lemmas.List.{append_cancel_left}
@@ -8,11 +8,11 @@ use Rattle.std.proofs.lemmas.Bool.{false≢true, leb-true, leb-false}
 use Rattle.std.proofs.lemmas.Slice.Eq.{bytes_eq-Decides}
 use Rattle.ud_model.specs.text.Lines.{Line, NoNewline, text_of, is_ending, lines_of}
 use Rattle.ud_model.specs.text.LineViews.{as_line, as_scan}
-use Rattle.ud_model.specs.text.Splicing.{is_empty, is_spliced, content, c_run_of}
+use Rattle.ud_model.specs.text.Splicing.{is_empty, is_spliced, c_run_of}
 use Rattle.ud_model.specs.text.Scans.{Scan, Reading}
 use Rattle.ud_model.specs.text.Lexemes.{kind_at_end, lex, lex_from, lexeme_at}
 use Rattle.ud_model.specs.text.Scanning.{joins, scan_after, scan_after_run, next_reading, readings_after}
-use Rattle.ud_model.specs.sections.Directives.{content_of, is_outside}
+use Rattle.ud_model.specs.sections.Directives.{content_of}
 use Rattle.ud_model.specs.output.FoldedTexts.{vertical_tab, continued, continued_part, folded_body, last_ending, folded_line, shown_break, shown_lines, is_directive, begins_directive, are_alike, fits, is_shown_as, is_foldable, folded_bytes, folded_lines}
 use Rattle.ud_model.specs.output.SimplifiedTexts.{keeps_ending}
 use Rattle.ud_model.specs.output.InsertedLines.{read_as, in_mode}
@@ -37,9 +37,8 @@ use Rattle.ud_passes.proofs.WalkLemmas.{walk_ends}
 
 pub folded_body_last : (front : List Reading) (r : Reading) → folded_body (front ++ r ∷ []) ≡ flat_map continued_part front ++ r.line.body
 folded_body_last [] r = refl
-folded_body_last (q ∷ []) r = sym (ap (λ (x : List ℕ). x ++ r.line.body) (append-nil (continued_part q)))
-folded_body_last (q ∷ s ∷ front) r =
-    ap (λ (x : List ℕ). continued_part q ++ x) (folded_body_last (s ∷ front) r) ∙ sym (append_assoc (continued_part q) (flat_map continued_part (s ∷ front)) r.line.body)
+folded_body_last (q ∷ []) r = grind (arith, append-nil)
+folded_body_last (q ∷ s ∷ front) r = grind (arith, append_assoc, folded_body_last (s ∷ front) r)
 
 pub last_ending_last : (front : List Reading) (r : Reading) → last_ending (front ++ r ∷ []) ≡ r.line.ending
 last_ending_last [] r = refl
@@ -47,16 +46,12 @@ last_ending_last (q ∷ []) r = refl
 last_ending_last (q ∷ s ∷ front) r = last_ending_last (s ∷ front) r
 
 pub shown_lines_more : (front : List Reading) (q r : Reading) → shown_lines ((front ++ q ∷ []) ++ r ∷ []) ≡ shown_lines (front ++ q ∷ []) ++ (shown_break q.scan ++ r.scan.masked)
-shown_lines_more [] q r = append_assoc q.scan.masked (shown_break q.scan) r.scan.masked
-shown_lines_more (x ∷ []) q r =
-    ap (λ (y : List ℕ). x.scan.masked ++ shown_break x.scan ++ y) (shown_lines_more [] q r)
-    ∙ sym (append_assoc (x.scan.masked ++ shown_break x.scan) q.scan.masked (shown_break q.scan ++ r.scan.masked))
-shown_lines_more (x ∷ y ∷ front) q r =
-    ap (λ (z : List ℕ). x.scan.masked ++ shown_break x.scan ++ z) (shown_lines_more (y ∷ front) q r)
-    ∙ sym (append_assoc (x.scan.masked ++ shown_break x.scan) (shown_lines (y ∷ front ++ q ∷ [])) (shown_break q.scan ++ r.scan.masked))
+shown_lines_more [] q r = grind (arith, append_assoc)
+shown_lines_more (x ∷ []) q r = grind (arith, append_assoc, shown_lines_more [] q r)
+shown_lines_more (x ∷ y ∷ front) q r = grind (arith, append_assoc, shown_lines_more (y ∷ front) q r)
 
 pub plain_lines_more : (rs : List Reading) (r : Reading) → plain_lines (rs ++ r ∷ []) ≡ plain_lines rs ++ text_of r.line
-plain_lines_more rs r = flat_map-append (λ (q : Reading). text_of q.line) rs (r ∷ []) ∙ ap (λ (x : List ℕ). plain_lines rs ++ x) (append-nil (text_of r.line))
+plain_lines_more rs r = grind (arith, flat_map-append, append-nil)
 
 -- Lines that begin with a directive and end alike are foldable if their line is shown so.
 pub foldable_if : (group : List Reading) → begins_directive group ≡ true → are_alike group (last_ending group) ≡ true → is_foldable group ≡ is_line_shown (folded_line group) (shown_lines group)
@@ -73,14 +68,12 @@ part_length r = grind (arith, common_steps)
 
 body_length : (xs : List Reading) (r : Reading) (more : List Reading) → length r.line.body ≤ length (folded_body (xs ++ r ∷ more))
 body_length [] r [] = omega arith
-body_length [] r (m ∷ more) = let p = part_length r in omega (arith, length-append (continued_part r) (folded_body (m ∷ more)))
-body_length (x ∷ []) r more = let p = body_length [] r more in omega (arith, length-append (continued_part x) (folded_body (r ∷ more)))
-body_length (x ∷ y ∷ xs) r more = let p = body_length (y ∷ xs) r more in omega (arith, length-append (continued_part x) (folded_body (y ∷ xs ++ r ∷ more)))
+body_length [] r (m ∷ more) = grind (arith, part_length, length-append)
+body_length (x ∷ []) r more = grind (arith, length-append, body_length [] r more)
+body_length (x ∷ y ∷ xs) r more = grind (arith, length-append, body_length (y ∷ xs) r more)
 
 both : (b n a f k s : Bool) → (a ≡ true → f ≡ true → ⊥) → (b && n && a && f && k && s) ≡ false
-both b n false f k s h = grind arith
-both b n true false k s h = grind arith
-both b n true true k s h = absurd (h refl refl)
+both b n a f k s h = grind arith
 
 neither : (group : List Reading) → (are_alike group (last_ending group) ≡ true → fits (folded_line group) ≡ true → ⊥) → is_foldable group ≡ false
 neither group h =
@@ -106,31 +99,25 @@ other_stays front q r more n = neither ((front ++ q ∷ []) ++ r ∷ more) (λ a
     false≢true (sym n ∙ (bytes_eq-Decides r.line.ending q.line.ending).1 (there ∙ sym here)))
 
 stays : (group : List Reading) → is_foldable group ≡ false → folded_bytes group ≡ plain_lines group
-stays group e = ap (λ (b : Bool). if b then text_of (folded_line group) else plain_lines group) e
+stays group e = grind arith
 
 -- 3. The folded lines after a line more.
 
 -- A line that continues lines.
 rest_joined : (group : List Reading) (r : Reading) (rs : List Reading) → begins_directive group ≡ true → r.scan.joins_before ≡ true →
     rest_from group (r ∷ rs) ≡ folded_bytes ((group ++ r ∷ []) ++ continued rs) ++ folded_lines rs
-rest_joined [] r rs b j = cc
-rest_joined (g ∷ group) r rs b j = grind (arith, append_assoc)
+rest_joined group r rs b j = grind (arith, append_assoc)
 
 rest_of : (group rs : List Reading) → begins_directive group ≡ true → folded_bytes (group ++ continued rs) ++ folded_lines rs ≡ rest_from group rs
-rest_of [] rs b = cc
-rest_of (g ∷ group) rs b = refl
+rest_of group rs b = grind arith
 
 pub begins_more : (group : List Reading) (r : Reading) → begins_directive group ≡ true → begins_directive (group ++ r ∷ []) ≡ true
-begins_more [] r b = cc
-begins_more (g ∷ group) r b = b
+begins_more group r b = grind arith
 
 -- A line that continues lines which form no line with it.
 pub rest_given_up : (group : List Reading) (r : Reading) (rs : List Reading) → begins_directive group ≡ true → r.scan.joins_before ≡ true →
     is_foldable (group ++ r ∷ continued rs) ≡ false → rest_from group (r ∷ rs) ≡ (plain_lines group ++ text_of r.line) ++ rest_from [] rs
-rest_given_up group r rs b j f =
-    rest_joined group r rs b j ∙ ap (λ (x : List Reading). folded_bytes x ++ folded_lines rs) (append_assoc group (r ∷ []) (continued rs))
-    ∙ ap (λ (x : List ℕ). x ++ folded_lines rs) (stays (group ++ r ∷ continued rs) f ∙ flat_map-append (λ (q : Reading). text_of q.line) group (r ∷ continued rs) ∙ sym (append_assoc (plain_lines group) (text_of r.line) (plain_lines (continued rs))))
-    ∙ append_assoc (plain_lines group ++ text_of r.line) (plain_lines (continued rs)) (folded_lines rs)
+rest_given_up group r rs b j f = grind (arith, append_assoc, flat_map-append)
 
 -- A line that continues lines which stay.
 rest_after : (r : Reading) (rs : List Reading) → r.scan.joins_before ≡ true → rest_from [] (r ∷ rs) ≡ text_of r.line ++ rest_from [] rs
@@ -138,27 +125,15 @@ rest_after r rs e = grind (arith, append_assoc)
 
 -- A line after no group, which stays.
 pub rest_first : (r : Reading) (rs : List Reading) → is_foldable (r ∷ continued rs) ≡ false → rest_from [] (r ∷ rs) ≡ text_of r.line ++ rest_from [] rs
-rest_first r rs f = by r.scan.joins_before refl
-  where
-    by : (b : Bool) → r.scan.joins_before ≡ b → rest_from [] (r ∷ rs) ≡ text_of r.line ++ rest_from [] rs
-    by true e = rest_after r rs e
-    by false e = grind (arith, append_assoc, stays)
+rest_first r rs f = grind (arith, rest_after, append_assoc, stays)
 
 -- No line continues the line.
 pub not_continued : (rs : List Reading) → FollowsBy false rs → continued rs ≡ []
-not_continued [] h = refl
-not_continued (r ∷ rs) h = ap (λ (b : Bool). if b then r ∷ continued rs else []) h
-
-one_folded : (r : Reading) → folded_bytes (r ∷ []) ≡ text_of r.line
-one_folded r = by (is_foldable (r ∷ []))
-  where
-    by : (b : Bool) → (if b then text_of (folded_line (r ∷ [])) else plain_lines (r ∷ [])) ≡ text_of r.line
-    by true = refl
-    by false = append-nil (text_of r.line)
+not_continued rs h = grind arith
 
 -- A line that no line continues.
 rest_alone : (r : Reading) (rs : List Reading) → continued rs ≡ [] → r.scan.joins_before ≡ false → rest_from [] (r ∷ rs) ≡ text_of r.line ++ rest_from [] rs
-rest_alone r rs e j = grind (arith, one_folded)
+rest_alone r rs e j = grind (arith, no_newline-take, append-nil)
 
 text_stays : (r : Reading) (more : List Reading) → is_directive (content_of r.scan) ≡ false → is_foldable (r ∷ more) ≡ false
 text_stays r more e = grind arith
@@ -166,24 +141,16 @@ text_stays r more e = grind arith
 -- 4. A line is taken.
 
 pub begins_parts : (b a d : Bool) → (not b && a && d) ≡ true → (b ≡ false) × (a ≡ true) × (d ≡ true)
-begins_parts true a d h = absurd (false≢true h)
-begins_parts false false d h = absurd (false≢true h)
-begins_parts false true d h = (refl, refl, h)
+begins_parts b a d h = grind arith
 
 module _ (r : Reading) (old : List ℕ) (l : LogicalLine) where
   pub takes_none : (group : List Reading) (more new : List ℕ) → new ≡ old ++ more → ((rs : List Reading) → FollowsBy r.scan.joins_after rs → rest_from group (r ∷ rs) ≡ more ++ rest_from [] rs) →
       Takes r group old l None new
-  takes_none group more new e h = record { more = more; appended = e; next = []; is_group = refl; goes_on = tt; rest = h }
+  takes_none group more new e h = grind arith
 
   -- No logical line of several lines begins on the line.
   pub takes_line : (new : List ℕ) → new ≡ old ++ text_of r.line → (not r.scan.joins_before && r.scan.joins_after && is_directive (content_of r.scan)) ≡ false → Takes r [] old l None new
-  takes_line new e n = takes_none [] (text_of r.line) new e (λ rs f. by r.scan.joins_before r.scan.joins_after (is_directive (content_of r.scan)) n refl refl refl rs f)
-    where
-      by : (b a d : Bool) → (not b && a && d) ≡ false → r.scan.joins_before ≡ b → r.scan.joins_after ≡ a → is_directive (content_of r.scan) ≡ d → (rs : List Reading) → FollowsBy r.scan.joins_after rs → rest_from [] (r ∷ rs) ≡ text_of r.line ++ rest_from [] rs
-      by true a d n eb ea ed rs f = rest_after r rs eb
-      by false true true n eb ea ed rs f = absurd (false≢true (sym n))
-      by false true false n eb ea ed rs f = rest_first r rs (text_stays r (continued rs) ed)
-      by false false d n eb ea ed rs f = rest_alone r rs (not_continued rs (subst (λ (b : Bool). FollowsBy b rs) ea f)) eb
+  takes_line new e n = grind (arith, takes_none, rest_after, false≢true, rest_first, text_stays, rest_alone, not_continued)
 
   pub takes_begun : (b : Last) → IsLogical l b (r ∷ []) → r.scan.joins_before ≡ false → r.scan.joins_after ≡ true → Takes r [] old l (Some b) old
   takes_begun b i j a = record {
@@ -198,7 +165,7 @@ module _ (r : Reading) (old : List ℕ) (l : LogicalLine) where
   -- The line continues a group.
   module _ (group : List Reading) (begins : begins_directive group ≡ true) (j : r.scan.joins_before ≡ true) where
     pub takes_stays : (new : List ℕ) → new ≡ (old ++ plain_lines group) ++ text_of r.line → ((more : List Reading) → is_foldable (group ++ r ∷ more) ≡ false) → Takes r group old l None new
-    takes_stays new e f = takes_none group (plain_lines group ++ text_of r.line) new (e ∙ append_assoc old (plain_lines group) (text_of r.line)) (λ rs _. rest_given_up group r rs begins j (f (continued rs)))
+    takes_stays new e f = grind (arith, takes_none, append_assoc, rest_given_up)
 
     pub takes_more : (b : Last) → IsLogical l b (group ++ r ∷ []) → r.scan.joins_after ≡ true → Takes r group old l (Some b) old
     takes_more b i a = record {
@@ -211,25 +178,13 @@ module _ (r : Reading) (old : List ℕ) (l : LogicalLine) where
     }
 
     pub takes_all : (new : List ℕ) → new ≡ old ++ folded_bytes (group ++ r ∷ []) → r.scan.joins_after ≡ false → Takes r group old l None new
-    takes_all new e a = takes_none group (folded_bytes (group ++ r ∷ [])) new e
-        (λ rs f. ends_here rs (not_continued rs (subst (λ (b : Bool). FollowsBy b rs) a f)))
-      where
-        ends_here : (rs : List Reading) → continued rs ≡ [] → rest_from group (r ∷ rs) ≡ folded_bytes (group ++ r ∷ []) ++ rest_from [] rs
-        ends_here rs e = rest_joined group r rs begins j ∙ ap₂ (λ (x y : List Reading). folded_bytes ((group ++ r ∷ []) ++ x) ++ (plain_lines y ++ folded_lines rs)) e (sym e)
-            ∙ ap (λ (x : List Reading). folded_bytes x ++ (plain_lines (continued rs) ++ folded_lines rs)) (append-nil (group ++ r ∷ []))
+    takes_all new e a = grind arith
 
 -- 5. The lines that go on.
 
 pub last_is : (b : Last) (line : ReadLine) (scan : ReadScan) (n : ℕ) → b ≡ record { line = line; comment = scan.comment; spliced = scan.spliced } →
     scan.spliced ≡ is_spliced (as_line line) → NoNewline line.body.now → IsLast b (reading_at C (as_line line) (as_scan scan) n)
-last_is b line scan n e s o = record {
-  body_is = ap (λ (x : Last). x.line.body.now) e;
-  ending_is = ap (λ (x : Last). x.line.ending.now) e;
-  comment_is = ap (λ (x : Last). x.comment) e;
-  spliced_is = ap (λ (x : Last). x.spliced) e;
-  splice_is = s;
-  one_line = o;
-}
+last_is b line scan n e s o = grind arith
 
 alike_self : (r : Reading) → are_alike (r ∷ []) r.line.ending ≡ true
 alike_self r = grind (arith, bytes_eq-Decides)
@@ -249,17 +204,10 @@ logical_begins l b r i d p o m = record {
 }
 
 alike_more : (group : List Reading) (r : Reading) (e : List ℕ) → are_alike group e ≡ true → r.line.ending ≡ e → are_alike (group ++ r ∷ []) r.line.ending ≡ true
-alike_more group r e a s =
-    list_all-append (λ (q : Reading). bytes_eq q.line.ending r.line.ending) group (r ∷ [])
-    ∙ ap₂ (λ (x y : Bool). x && y) (subst (λ (x : List ℕ). are_alike group x ≡ true) (sym s) a) (alike_self r)
+alike_more group r e a s = grind (arith, list_all-append, bytes_eq-Decides)
 
 no_newline_part : (r : Reading) → NoNewline r.line.body → NoNewline (continued_part r)
-no_newline_part r h = no_newline-append (if is_outside r.scan.comment then content r.line else r.line.body) (vertical_tab ∷ []) (by (is_outside r.scan.comment) (is_spliced r.line)) ((λ e. omega arith), tt)
-  where
-    by : (o s : Bool) → NoNewline (if o then (if s then take (length r.line.body - 1) r.line.body else r.line.body) else r.line.body)
-    by true true = no_newline-take (length r.line.body - 1) r.line.body h
-    by true false = h
-    by false s = h
+no_newline_part r h = grind (arith, no_newline-append, no_newline-take)
 
 pub logical_more : (l m : LogicalLine) (b c : Last) (group : List Reading) (r : Reading) (part break : List ℕ) → IsLogical l b group → IsLast c r → r.line.ending ≡ b.line.ending.now →
     ((q : Reading) → IsLast b q → part ++ vertical_tab ∷ [] ≡ continued_part q) → ((q : Reading) → IsLast b q → break ≡ shown_break q.scan) →
@@ -286,22 +234,10 @@ logical_more l m b c group r part break i j e p k pl bo sh =
 pub folded_as : (l : LogicalLine) (b : Last) (group : List Reading) (bytes : List ℕ) (shown : Bool) → IsLogical l b group → bytes ≡ (l.body.items ++ b.line.body.now) ++ b.line.ending.now →
     ((k : Line) → bytes ≡ text_of k → b.line.ending.now ≡ k.ending → NoNewline k.body → is_ending k.ending ≡ true → shown ≡ is_line_shown k l.shown.items) →
     is_ending b.line.ending.now ≡ true → (if shown then bytes else l.plain.items) ≡ folded_bytes group
-folded_as l b group bytes shown i e h n =
-    let q : Reading = i.last in
-    let k : Line = folded_line group in
-    let body : k.body ≡ l.body.items ++ b.line.body.now = ap folded_body i.is ∙ folded_body_last i.front q ∙ ap₂ (λ (x y : List ℕ). x ++ y) (sym i.body_is) (sym i.is_last.body_is) in
-    let ending : k.ending ≡ q.line.ending = ap last_ending i.is ∙ last_ending_last i.front q in
-    let same : b.line.ending.now ≡ k.ending = i.is_last.ending_is ∙ sym ending in
-    let whole : bytes ≡ text_of k = e ∙ ap₂ (λ (x y : List ℕ). x ++ y) (sym body) same in
-    let one : NoNewline k.body = subst NoNewline (sym body) (no_newline-append l.body.items b.line.body.now i.one_line (subst NoNewline (sym i.is_last.body_is) i.is_last.one_line)) in
-    let s : shown ≡ is_foldable group =
-    h k whole same one (subst (λ (x : List ℕ). is_ending x ≡ true) same n) ∙ ap (λ (x : List ℕ). is_line_shown k x) i.shown_is
-    ∙ sym (foldable_if group i.begins (subst (λ (x : List ℕ). are_alike group x ≡ true) (sym ending) i.alike)) in
-    ap₂ (λ (x y : List ℕ). if shown then x else y) whole i.plain_is ∙ ap (λ (t : Bool). if t then text_of k else plain_lines group) s
+folded_as l b group bytes shown i e h n = grind (arith, folded_body_last, last_ending_last, no_newline-append, foldable_if)
 
 pub other_in : (l : LogicalLine) (b : Last) (group : List Reading) → IsLogical l b group → (r : Reading) (more : List Reading) → bytes_eq r.line.ending b.line.ending.now ≡ false → is_foldable (group ++ r ∷ more) ≡ false
-other_in l b group i r more n =
-    subst (λ (x : List Reading). is_foldable (x ++ r ∷ more) ≡ false) (sym i.is) (other_stays i.front i.last r more (ap (λ (x : List ℕ). bytes_eq r.line.ending x) (sym i.is_last.ending_is) ∙ n))
+other_in l b group i r more n = grind (arith, other_stays)
 
 -- 6. Places of a walk.
 
@@ -310,8 +246,7 @@ unfolding scan_after_run
 is_spliced_by run line = refl
 
 pub if_some : {A : Type 0} {P Q : Type 0} (o : Option A) → (P → Q) → IfSome o (λ _. P) → IfSome o (λ _. Q)
-if_some None f h = tt
-if_some (Some x) f h = f h
+if_some o f h = grind arith
 
 next_joins : (read : List Reading) (k : Line) → joins (c_run_of (read ++ read_after C read k ∷ [])) ≡ (scan_after read C k).joins_after
 next_joins read k =
@@ -342,12 +277,11 @@ placed acc (l ∷ ls) (m ∷ mid) r rest e =
     placed (acc ++ q ∷ []) ls mid r rest (ap (λ (x : List Reading). x ++ r ∷ rest) more ∙ e) ∙ ap (λ (x : List Reading). scan_after x C r.line) more
 
 follows : (done : List ℕ) (read rs more : List Reading) → read ++ rs ≡ read_as C done → FollowsBy (joins (c_run_of (read ++ rs))) more → FollowsBy (joins (c_run_of read)) (rs ++ more)
-follows done read [] more e f = subst (λ (x : List Reading). FollowsBy (joins (c_run_of x)) more) (append-nil read) f
+follows done read [] more e f = grind (arith, append-nil)
 follows done read (r ∷ rs) more e f = ap (λ (s : Scan). s.joins_before) (placed [] (lines_of done) read r rs e) ∙ joins_before-code (c_run_of read) r.line
 
 no_group : (l : LogicalLine) (b : Option Last) (group : List Reading) → is_some b ≡ false → IsGroup l b group → group ≡ []
-no_group l None group n g = g
-no_group l (Some b) group n g = absurd (false≢true (sym n))
+no_group l b group n g = grind arith
 
 plain_bytes : (rs : List Reading) → plain_lines rs ≡ concat (map (λ (r : Reading). text_of r.line) rs)
 plain_bytes [] = refl
@@ -359,19 +293,12 @@ joins_none = refl
 
 -- The first line is joined to none.
 first_lines : (rs : List Reading) → FollowsBy (joins (c_run_of [])) rs → folded_lines rs ≡ rest_from [] rs
-first_lines [] f = refl
-first_lines (r ∷ rs) f =
-    let e : r.scan.joins_before ≡ false = f ∙ joins_none in
-    let others : List ℕ = folded_bytes (r ∷ continued rs) ++ folded_lines rs in
-    ap (λ (b : Bool). if b then folded_lines rs else others) e
-    ∙ sym (ap (λ (b : Bool). plain_lines (if b then r ∷ continued rs else []) ++ (if b then folded_lines rs else others)) e)
+first_lines rs f = grind (arith, joins_none)
 
 -- Text lines stay.
 texts_rest : (rs : List Reading) → AreTexts rs → (more : List Reading) → rest_from [] (rs ++ more) ≡ plain_lines rs ++ rest_from [] more
 texts_rest [] h more = refl
-texts_rest (r ∷ rs) h more =
-    rest_first r (rs ++ more) (text_stays r (continued (rs ++ more)) (ap is_directive h.0)) ∙ ap (λ (x : List ℕ). text_of r.line ++ x) (texts_rest rs h.1 more)
-    ∙ sym (append_assoc (text_of r.line) (plain_lines rs) (rest_from [] more))
+texts_rest (r ∷ rs) h more = grind (arith, rest_first, text_stays, append_assoc, texts_rest rs h.1 more)
 
 -- A line over the limit stays, and so do the lines before it.
 pub long_taken : (r : Reading) (old : List ℕ) (l : LogicalLine) (b : Option Last) (group : List Reading) (new : List ℕ) → fits r.line ≡ false → IsGroup l b group → IfSome b (λ _. r.scan.joins_before ≡ true) →
@@ -379,46 +306,18 @@ pub long_taken : (r : Reading) (old : List ℕ) (l : LogicalLine) (b : Option La
 long_taken r old l None group new f g j e m =
     subst (λ (x : List Reading). Takes r x old m None new) (sym g)
     (takes_none r old m [] (text_of r.line) new (e ∙ ap (λ (x : List Reading). (old ++ plain_lines x) ++ text_of r.line) g ∙ ap (λ (x : List ℕ). x ++ text_of r.line) (append-nil old)) (λ rs h. rest_first r rs (long_stays [] r (continued rs) f)))
-long_taken r old l (Some b) group new f g j e m = takes_stays r old m group g.begins j new e (λ more. long_stays group r more f)
+long_taken r old l (Some b) group new f g j e m = grind (arith, takes_stays, long_stays)
 
 module _ (text start : List ℕ) (l : LogicalLine) (b : Option Last) (walk : Walk) (out : List ℕ) (s : Folded text start l b walk out) (m : LogicalLine) (next : Walk) (more : List ℕ) where
   pub line_folded : (d : Option Last) (k : Line) → Walked C text (s.read ++ read_after C s.read k ∷ []) next.rest.now next.scanner → Takes (read_after C s.read k) s.group out m d more → Folded text start m d next more
-  line_folded d k w t = record {
-    read = s.read ++ read_after C s.read k ∷ [];
-    walked = w;
-    group = t.next;
-    is_group = t.is_group;
-    goes_on = if_some d (λ h. next_joins s.read k ∙ h) t.goes_on;
-    done = s.done ++ t.more;
-    list_is = t.appended ∙ ap (λ (x : List ℕ). x ++ t.more) s.list_is ∙ append_assoc start s.done t.more;
-    rest = λ rs f.
-        ap folded_lines (append_assoc s.read (read_after C s.read k ∷ []) rs) ∙ s.rest (read_after C s.read k ∷ rs) (joins_before-code (c_run_of s.read) k)
-        ∙ ap (λ (x : List ℕ). s.done ++ x) (t.rest rs (subst (λ (g : Bool). FollowsBy g rs) (next_joins s.read k) f)) ∙ sym (append_assoc s.done t.more (rest_from t.next rs));
-  }
+  line_folded d k w t = grind (arith, if_some, next_joins, append_assoc, joins_before-code)
 
   pub texts_folded : is_some b ≡ false → (bytes : List ℕ) (rs : List Reading) → AreTexts rs → HaveBytes bytes rs → Walked C text (s.read ++ rs) next.rest.now next.scanner → more ≡ out ++ bytes → Folded text start m None next more
-  texts_folded none bytes rs h t w e =
-      let plain : plain_lines rs ≡ bytes = plain_bytes rs ∙ t.bytes_are in
-      let group : s.group ≡ [] = no_group l b s.group none s.is_group in
-      record {
-        read = s.read ++ rs;
-        walked = w;
-        group = [];
-        is_group = refl;
-        goes_on = tt;
-        done = s.done ++ bytes;
-        list_is = e ∙ ap (λ (x : List ℕ). x ++ bytes) s.list_is ∙ append_assoc start s.done bytes;
-        rest = λ after f.
-            ap folded_lines (append_assoc s.read rs after) ∙ s.rest (rs ++ after) (follows w.done s.read rs after w.read_is f)
-            ∙ ap (λ (x : List Reading). s.done ++ rest_from x (rs ++ after)) group ∙ ap (λ (x : List ℕ). s.done ++ x) (texts_rest rs h after ∙ ap (λ (x : List ℕ). x ++ rest_from [] after) plain)
-            ∙ sym (append_assoc s.done bytes (rest_from [] after));
-      }
+  texts_folded none bytes rs h t w e = grind (arith, plain_bytes, no_group, append_assoc, follows, texts_rest)
 
 pub first_folded : (text start : List ℕ) (l : LogicalLine) (walk : Walk) → Walked C text [] walk.rest.now walk.scanner → Folded text start l None walk start
-first_folded text start l walk w = record { read = []; walked = w; group = []; is_group = refl; goes_on = tt; done = []; list_is = sym (append-nil start); rest = λ rs f. first_lines rs f }
+first_folded text start l walk w = grind (arith, append-nil, first_lines)
 
 pub all_folded : (text start : List ℕ) (l : LogicalLine) (b : Option Last) (walk : Walk) (out new : List ℕ) → (s : Folded text start l b walk out) → walk.rest.now ≡ [] → new ≡ out ++ rest_from s.group [] →
     new ≡ start ++ folded_lines (read_as C text)
-all_folded text start l b walk out new s e n =
-    n ∙ ap (λ (x : List ℕ). x ++ rest_from s.group []) s.list_is ∙ append_assoc start s.done (rest_from s.group [])
-    ∙ ap (λ (x : List ℕ). start ++ x) (sym (s.rest [] tt) ∙ ap folded_lines (append-nil s.read ∙ walk_ends C text s.read walk.rest.now walk.scanner s.walked e))
+all_folded text start l b walk out new s e n = grind (arith, append_assoc, append-nil, walk_ends)

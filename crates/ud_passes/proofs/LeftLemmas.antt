@@ -6,9 +6,9 @@ use Rattle.std.proofs.lemmas.Grind.{common_steps}
 use Rattle.ud_model.specs.text.Lexemes.{Cell, shown}
 use Rattle.ud_model.specs.conditions.Table.{Argument}
 use Rattle.ud_model.specs.conditions.Expressions.{Expression, spelling}
-use Rattle.ud_model.specs.conditions.Conditions.{Rules, tree_cond, tree_cond_if, expression_cond}
+use Rattle.ud_model.specs.conditions.Conditions.{Rules, tree_cond, expression_cond}
 use Rattle.ud_model.specs.conditions.Residuals.{residual, is_unknown, is_undecided}
-use Rattle.ud_model.specs.conditions.ResidualTexts.{keeps, left_cells, is_literal, may_go, is_read, simplified_tree, simplified_by, simplified_cells}
+use Rattle.ud_model.specs.conditions.ResidualTexts.{keeps, left_cells, is_literal, may_go, is_read, simplified_tree, simplified_cells}
 use Rattle.ud_model.specs.aids.Parsing.{tokens_of, expression_of}
 use Rattle.ud_model.proofs.conditions.KeptTokens.{SameLength, choose}
 use Rattle.ud_model.proofs.conditions.OneExpression.{expression_is}
@@ -23,38 +23,30 @@ same_size [] (y ∷ ys) h = absurd h
 same_size (x ∷ xs) [] h = absurd h
 
 both : (a b c : Bool) → a ≡ true → b ≡ true → c ≡ true → (a && b && c) ≡ true
-both true true true p q r = refl
-both false b c p q r = cc
-both true false c p q r = cc
-both true true false p q r = cc
+both a b c p q r = grind arith
 
 module _ (table : List Argument) (rules : Rules) where
   cond_of : (text : List ℕ) (e : Expression) → expression_of text ≡ Some e → expression_cond text table rules ≡ tree_cond e table rules
   unfolding expression_cond
-  cond_of text e p = ap (λ o. tree_cond_if o table rules) p
+  cond_of text e p = grind arith
 
   -- The text is that of a tree, and stays or not.
   by_tree : (cells : List Cell) (e : Expression) → expression_of (map shown cells) ≡ Some e → simplified_cells table rules cells ≡ simplified_tree table rules e cells
   unfolding simplified_cells
-  by_tree cells e p = ap (λ o. simplified_by table rules o cells) p
+  by_tree cells e p = grind arith
 
   without_tree : (cells : List Cell) → expression_of (map shown cells) ≡ None → simplified_cells table rules cells ≡ cells
   unfolding simplified_cells
-  without_tree cells p = ap (λ o. simplified_by table rules o cells) p
+  without_tree cells p = grind arith
 
   if_false : (b c : Bool) (xs ys : List Cell) → b ≡ false → (if b && c then xs else ys) ≡ ys
-  if_false false c xs ys e = refl
-  if_false true c xs ys e = cc
+  if_false b c xs ys e = grind arith
 
   if_false₂ : (b c : Bool) (xs ys : List Cell) → c ≡ false → (if b && c then xs else ys) ≡ ys
-  if_false₂ false c xs ys e = refl
-  if_false₂ true false xs ys e = refl
-  if_false₂ true true xs ys e = cc
+  if_false₂ b c xs ys e = grind arith
 
   if_true : (b c : Bool) (xs ys : List Cell) → b ≡ true → c ≡ true → (if b && c then xs else ys) ≡ xs
-  if_true true true xs ys e f = refl
-  if_true false c xs ys e f = cc
-  if_true true false xs ys e f = cc
+  if_true b c xs ys e f = grind arith
 
   stays : (cells : List Cell) (e : Expression) → expression_of (map shown cells) ≡ Some e → may_go table rules e cells ≡ false → simplified_cells table rules cells ≡ cells
   stays cells e p q = by_tree cells e p ∙ if_false (may_go table rules e cells) (is_read table rules e (left_cells (keeps table rules e) cells)) (left_cells (keeps table rules e) cells) cells q
@@ -86,7 +78,7 @@ module _ (table : List Argument) (rules : Rules) where
     left = left_cells (keeps table rules e) cells
 
     rest_cond : is_read table rules e left ≡ true → expression_cond (map shown left) table rules ≡ tree_cond (residual table rules e).tree table rules
-    rest_cond q = cond_of (map shown left) (residual table rules e).tree (written_left table rules e cells p left q)
+    rest_cond q = grind (arith, cond_of, written_left)
 
     goes : is_read table rules e left ≡ true → is_unknown (expression_cond (map shown left) table rules) ≡ true → simplified_cells table rules cells ≡ left
     goes q r =
@@ -97,9 +89,7 @@ module _ (table : List Argument) (rules : Rules) where
         (ap not no_quote)) q
       where
         both_of : (a b : Bool) → a ≡ true → b ≡ true → (a && b) ≡ true
-        both_of true true x y = refl
-        both_of false b x y = cc
-        both_of true false x y = cc
+        both_of a b x y = grind arith
 
     misread : is_read table rules e left ≡ false → simplified_cells table rules cells ≡ cells
     misread q = by_tree cells e p ∙ if_false₂ (may_go table rules e cells) (is_read table rules e left) left cells q
@@ -120,7 +110,7 @@ pub text_tokens : (text : List ℕ) (e : Expression) → expression_of text ≡ 
 text_tokens text e p = tokens_of_only text (spelling e) (expression_is text e p).1
 
 pub flags_long : (table : List Argument) (rules : Rules) (e : Expression) → length (keeps table rules e) ≡ length (spelling e)
-flags_long table rules e = same_size (keeps table rules e) (spelling e) (choose table rules e).long
+flags_long table rules e = grind (arith, same_size, choose)
 
 -- A text that is left alone.
 pub left_alone : {b s : List ℕ} (xs : List Cell) {c t : List ℕ} → b ≡ [] → s ≡ [] → SameLeft b s xs c t [] → AreCells xs c t

@@ -1,5 +1,5 @@
 -- Mentions: a line more, and the end of a mention.
-use Rattle.std.proofs.Common.{◌≡◌, List, [], ◌∷◌, ◌++◌, Bool, true, false, ◌&&◌, Option, Some, None, sym, ap, arith}
+use Rattle.std.proofs.Common.{◌≡◌, List, [], ◌∷◌, ◌++◌, true, false, Option, Some, None, ap, arith}
 use Rattle.std.proofs.lemmas.Grind.{common_steps}
 use Rattle.ud_model.specs.text.Scans.{Reading}
 use Rattle.ud_model.specs.sections.Directives.{Directive, Content, directive, text, content_of}
@@ -11,10 +11,10 @@ use Rattle.ud_passes.specs.declared.remaining.mentions.Class.TheVariants.{Defini
 use Rattle.ud_passes.specs.remaining.Searches.{extended, taken, rest_from, ended}
 
 pub joins_fitting : (r : Reading) → fits r.line ≡ true → r.scan.joins_after ≡ joins_next r
-joins_fitting r e = sym (ap (λ (b : Bool). b && r.scan.joins_after) e)
+joins_fitting r e = grind arith
 
 pub joins_long : (r : Reading) → fits r.line ≡ false → joins_next r ≡ false
-joins_long r e = ap (λ (b : Bool). b && r.scan.joins_after) e
+joins_long r e = grind arith
 
 module _ (table : List Argument) where
   -- A line that fits is taken as it is.
@@ -23,8 +23,7 @@ module _ (table : List Argument) where
 
   -- A line that doesn't fit adds nothing.
   pub taken_long : (p : Option Mention) (r : Reading) → fits r.line ≡ false → taken table p r ≡ p
-  taken_long None r e = grind arith
-  taken_long (Some m) r e = grind (arith, common_steps)
+  taken_long p r e = grind (arith, common_steps)
 
   -- A line more.
   pub one_line : (p : Option Mention) (r : Reading) (rs : List Reading) → rest_from table p true (r ∷ rs) ≡ rest_from table (taken table p r) (joins_next r) rs

@@ -1,11 +1,11 @@
 -- The pass: the rest of one line more, and of many text lines more.
-use Rattle.std.proofs.Common.{◌≡◌, ℕ, ◌+◌, List, [], ◌∷◌, ◌++◌, length, map, suc, Bool, true, false, not, ◌&&◌, if◌then◌else◌, bytes_eq, refl, sym, ◌∙◌, ap, ap₂, subst, append_assoc, append-nil, arith}
+use Rattle.std.proofs.Common.{◌≡◌, ℕ, ◌+◌, List, [], ◌∷◌, ◌++◌, map, Bool, true, false, ◌&&◌, if◌then◌else◌, refl, sym, ◌∙◌, ap, subst, append_assoc, append-nil, arith}
 use Rattle.std.specs.List.{concat}
 use Rattle.std.proofs.lemmas.List.{map-append}
 use Rattle.std.proofs.lemmas.Slice.Eq.{bytes_eq-Decides}
 use Rattle.ud_model.specs.text.Lines.{Line, text_of}
 use Rattle.ud_model.specs.text.Scans.{Scan, Reading}
-use Rattle.ud_model.specs.text.Scanning.{scan_after_run, scan_after, next_reading}
+use Rattle.ud_model.specs.text.Scanning.{scan_after_run, scan_after}
 use Rattle.ud_model.specs.sections.Directives.{Content, cut_keyword, directive, text, content_of}
 use Rattle.ud_model.specs.conditions.Table.{Argument}
 use Rattle.ud_model.specs.conditions.Conditions.{Rules}
@@ -13,7 +13,7 @@ use Rattle.ud_model.specs.output.SimplifiedTexts.{is_lone, keeps_ending, left_li
 use Rattle.ud_model.specs.declared.kind.Mode.TheVariants.{C}
 use Rattle.ud_model.proofs.text.ScanBytes.{scan_after-same}
 use Rattle.ud_model.proofs.output.Each.{Pairs, pair}
-use Rattle.ud_model.proofs.output.SimplifiedReadings.{ReadingSimplified, reading_stays, reading_edited, readings_simplified}
+use Rattle.ud_model.proofs.output.SimplifiedReadings.{ReadingSimplified, readings_simplified}
 use Rattle.ud_passes.specs.Passes.{fits}
 use Rattle.ud_passes.specs.Walks.{read_after, AreTexts, HaveBytes, Walked}
 use Rattle.ud_passes.specs.pruning.PrunedTexts.{pruned_line, pruned_bytes, is_edited, edited_among}
@@ -23,27 +23,26 @@ use Rattle.ud_passes.specs.declared.walk.Walk.{Walk}
 
 concat-append : (xs ys : List (List ℕ)) → concat (xs ++ ys) ≡ concat xs ++ concat ys
 concat-append [] ys = refl
-concat-append (x ∷ xs) ys = ap (λ (l : List ℕ). x ++ l) (concat-append xs ys) ∙ sym (append_assoc x (concat xs) (concat ys))
+concat-append (x ∷ xs) ys = grind (arith, append_assoc, concat-append xs ys)
 
 -- 1. One line.
 
 module _ (table : List Argument) (rules : Rules) where
   pub pruned_short : (r : Reading) → fits r.line ≡ true → pruned_line table rules r ≡ simplified_line table rules r
   unfolding pruned_line
-  pruned_short r e = ap (λ (b : Bool). if b then simplified_line table rules r else r.line) e
+  pruned_short r e = grind arith
 
   pruned_long : (r : Reading) → fits r.line ≡ false → pruned_line table rules r ≡ r.line
   unfolding pruned_line
-  pruned_long r e = ap (λ (b : Bool). if b then simplified_line table rules r else r.line) e
+  pruned_long r e = grind arith
 
   not_edited : (r : Reading) → pruned_bytes table rules r ≡ text_of r.line → is_edited table rules r ≡ false
-  not_edited r e = ap (λ (x : List ℕ). not (bytes_eq x (text_of r.line))) e ∙ ap not ((bytes_eq-Decides (text_of r.line) (text_of r.line)).1 refl)
+  not_edited r e = grind (arith, bytes_eq-Decides)
 
   -- The line that was edited or stays is what is left.
   pub next_edited : (r : Reading) (edited : Bool) (bytes old new : List ℕ) → fits r.line ≡ true → IsEditedTo edited (text_of (simplified_line table rules r)) r.line bytes →
       new ≡ old ++ (if edited then bytes else text_of r.line) → (new ≡ old ++ pruned_bytes table rules r) × (edited ≡ is_edited table rules r)
-  next_edited r true bytes old new f i e = grind (arith, pruned_short)
-  next_edited r false bytes old new f i e = grind (arith, pruned_short, not_edited)
+  next_edited r edited bytes old new f i e = grind (arith, pruned_short, bytes_eq-Decides)
 
   pub next_long : (r : Reading) (old new : List ℕ) → fits r.line ≡ false → new ≡ old ++ text_of r.line → (new ≡ old ++ pruned_bytes table rules r) × (false ≡ is_edited table rules r)
   next_long r old new f e = grind (arith, pruned_long, not_edited)
@@ -68,8 +67,7 @@ module _ (table : List Argument) (rules : Rules) where
         ∙ by (is_lone scan l && (keeps_ending (left_line table rules l d) && is_read_back table rules l d (scan_after_run [] (left_line table rules k d))))
       where
         by : (t : Bool) → text_of (if t then left_line table rules l d else l) ≡ text_of (if t then left_line table rules k d else k)
-        by true = refl
-        by false = refl
+        by t = grind arith
 
     renumbered : (scan : Scan) → pruned_bytes table rules (record { line = l; mode = C; scan = scan }) ≡ pruned_bytes table rules (record { line = k; mode = C; scan = scan })
     unfolding pruned_line
@@ -81,7 +79,7 @@ module _ (table : List Argument) (rules : Rules) where
   pieces rs = concat (map (pruned_bytes table rules) rs)
 
   pieces-append : (before rs : List Reading) → pieces (before ++ rs) ≡ pieces before ++ pieces rs
-  pieces-append before rs = ap concat (map-append (pruned_bytes table rules) before rs) ∙ concat-append (map (pruned_bytes table rules) before) (map (pruned_bytes table rules) rs)
+  pieces-append before rs = grind (arith, map-append, concat-append)
 
   count-append : (before rs : List Reading) → edited_among table rules (before ++ rs) ≡ edited_among table rules before + edited_among table rules rs
   count-append [] rs = omega arith
@@ -89,10 +87,7 @@ module _ (table : List Argument) (rules : Rules) where
 
   texts_stay : (rs : List Reading) → AreTexts rs → (pieces rs ≡ concat (map (λ (r : Reading). text_of r.line) rs)) × (edited_among table rules rs ≡ 0)
   texts_stay [] h = (refl, refl)
-  texts_stay (r ∷ rs) h =
-      let i = texts_stay rs h.1 in
-      let p : pruned_bytes table rules r ≡ text_of r.line = text_bytes r h.0 in
-      (ap₂ (λ (x y : List ℕ). x ++ y) p i.0, ap (λ (b : Bool). if b then suc (edited_among table rules rs) else edited_among table rules rs) (not_edited r p) ∙ i.1)
+  texts_stay (r ∷ rs) h = grind (arith, text_bytes, not_edited, texts_stay rs h.1)
 
   last_pair : {P : Reading → Reading → Type 0} (xs : List Reading) (x : Reading) (ys : List Reading) → Pairs P (xs ++ x ∷ []) ys → (y : Reading) × P x y
   last_pair [] x _ (pair {y = y} h q) = (y, h)
@@ -101,17 +96,10 @@ module _ (table : List Argument) (rules : Rules) where
   -- The place of a walk after more lines.
   module _ (text start : List ℕ) (count : ℕ) (walk : Walk) (out : List ℕ) (l : Pruned table rules text start count walk out) (next : Walk) (more : List ℕ) where
     lines_more : (rs : List Reading) (n : ℕ) → n ≡ count + edited_among table rules rs → more ≡ out ++ pieces rs → Walked C text (l.read ++ rs) next.rest.now next.scanner → Pruned table rules text start n next more
-    lines_more rs n c e w = record {
-      read = l.read ++ rs;
-      walked = w;
-      count_is = c ∙ ap (λ (x : ℕ). x + edited_among table rules rs) l.count_is ∙ sym (count-append l.read rs);
-      list_is = e ∙ ap (λ (x : List ℕ). x ++ pieces rs) l.list_is ∙ append_assoc start (pieces l.read) (pieces rs) ∙ ap (λ (x : List ℕ). start ++ x) (sym (pieces-append l.read rs));
-    }
+    lines_more rs n c e w = grind (arith, count-append, append_assoc, pieces-append)
 
     pub texts_more : (bytes : List ℕ) (rs : List Reading) → AreTexts rs → HaveBytes bytes rs → more ≡ out ++ bytes → Walked C text (l.read ++ rs) next.rest.now next.scanner → Pruned table rules text start count next more
-    texts_more bytes rs h b e w =
-        let i = texts_stay rs h in let z = i.1 in
-        lines_more rs count (omega (arith, z)) (e ∙ ap (λ (x : List ℕ). out ++ x) (sym b.bytes_are ∙ sym i.0)) w
+    texts_more bytes rs h b e w = grind (arith, texts_stay, lines_more)
 
     module _ (k : Line) (w : Walked C text (l.read ++ read_after C l.read k ∷ []) next.rest.now next.scanner) where
       abbrev r : Reading
@@ -121,7 +109,7 @@ module _ (table : List Argument) (rules : Rules) where
       line_more n edited c s e = lines_more (r ∷ []) n (c ∙ ap (λ (b : Bool). count + (if b then 1 else 0)) s) (e ∙ ap (λ (x : List ℕ). out ++ x) (sym (append-nil (pruned_bytes table rules r)))) w
 
       pub long_more : fits k ≡ false → more ≡ out ++ text_of k → Pruned table rules text start count next more
-      long_more f e = let h = next_long r out more f e in line_more count false (omega arith) h.1 h.0
+      long_more f e = grind (arith, next_long, line_more)
 
       -- The line is scanned as the first of a text, unless the line before joins it.
       alone : IsScannedAlone (scan_after l.read C k) k
@@ -131,14 +119,10 @@ module _ (table : List Argument) (rules : Rules) where
           λ j. by s.0 s.1 j ∙ scan_after-same [] [] C r.line k refl refl refl
         where
           by : (s : Reading) → ReadingSimplified table rules r s → IsScannedAlone r.scan r.line
-          by s (reading_stays e q h) = h
-          by s (reading_edited d i) = λ _. i.before
+          by s h = grind arith
 
       pub line_pruned : (n : ℕ) (edited : Bool) → n ≡ count + (if edited then 1 else 0) → IsPrunedNext table rules l.read k edited out more → Pruned table rules text start n next more
-      line_pruned n edited c h =
-          let i = h alone in
-          let b : pruned_bytes table rules (next_reading l.read C k) ≡ pruned_bytes table rules r = renumbered k (1 + length l.read) (scan_after l.read C k) in
-          line_more n edited c (i.1 ∙ ap (λ (x : List ℕ). not (bytes_eq x (text_of k))) b) (i.0 ∙ ap (λ (x : List ℕ). out ++ x) b)
+      line_pruned n edited c h = grind (arith, alone, renumbered, line_more)
 
   pub first_place : (all start : List ℕ) (walk : Walk) → Walked C all [] walk.rest.now walk.scanner → Pruned table rules all start 0 walk start
-  first_place all start walk w = record { read = []; walked = w; count_is = refl; list_is = sym (append-nil start) }
+  first_place all start walk w = grind (arith, append-nil)

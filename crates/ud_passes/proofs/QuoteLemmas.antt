@@ -1,5 +1,5 @@
 -- Quotes: a part of a line has a literal exactly if a quote is shown in it.
-use Rattle.std.proofs.Common.{◌≡◌, ℕ, zero, suc, List, [], ◌∷◌, ◌++◌, length, map, take, drop, Bool, true, false, ◌||◌, refl, sym, ◌∙◌, ap, ap₂, subst, ne_eqb, arith}
+use Rattle.std.proofs.Common.{◌≡◌, ℕ, zero, suc, List, [], ◌∷◌, ◌++◌, length, map, take, drop, Bool, true, false, ◌||◌, refl, sym, ◌∙◌, ap, arith}
 use Rattle.std.specs.List.{list_any}
 use Rattle.std.proofs.lemmas.Bool.{or_parts, and_parts}
 use Rattle.ud_model.specs.text.Bytes.{is_quote, is_white, are_white, is_word_byte, are_word_bytes}
@@ -57,16 +57,10 @@ unfolding lexeme_at
 goes_on a rest = grind arith
 
 inside_quiet : (k : LexemeKind) (n : ℕ) (a : ℕ) → GoesOn k (suc n) → IsQuiet k a
-inside_quiet single n a g = cc
-inside_quiet block_comment n a g = tt
-inside_quiet line_comment n a g = tt
-inside_quiet literal n a g = tt
+inside_quiet k n a g = grind arith
 
 less : (k : LexemeKind) (n : ℕ) → GoesOn k (suc n) → GoesOn k n
-less single n g = cc
-less block_comment n g = tt
-less line_comment n g = tt
-less literal n g = tt
+less k n g = grind arith
 
 quiet_from : (k : LexemeKind) (n : ℕ) (text : List ℕ) → GoesOn k n → AreQuiet (lex_from k n text)
 unfolding lex_from
@@ -89,22 +83,13 @@ quiet_take (suc n) [] q = tt
 quiet_take (suc n) (c ∷ cells) q = (q.0, quiet_take n cells q.1)
 
 -- A literal is there where a quote is shown.
-quote_cell : (k : LexemeKind) (b : ℕ) → IsQuiet k b → is_quote (shown_as k b) ≡ true → is_literal (record { byte = b; kind = k }) ≡ true
-quote_cell literal b q e = refl
-quote_cell single b q e = let f : true ≡ false = sym e ∙ q in cc
-quote_cell block_comment b q e = cc
-quote_cell line_comment b q e = cc
-
 pub quote_shown : (cells : List Cell) → AreQuiet cells → list_any is_quote (map shown cells) ≡ true → list_any is_literal cells ≡ true
 quote_shown [] q e = cc
 quote_shown (c ∷ cells) q e = by (is_quote (shown c)) (is_literal c) refl refl (quote_shown cells q.1) e
   where
     by : (a l : Bool) → is_quote (shown c) ≡ a → is_literal c ≡ l → (list_any is_quote (map shown cells) ≡ true → list_any is_literal cells ≡ true) → (a || list_any is_quote (map shown cells)) ≡ true →
         (l || list_any is_literal cells) ≡ true
-    by true true f g k h = refl
-    by false true f g k h = refl
-    by false false f g k h = k h
-    by true false f g k h = let z : false ≡ true = sym g ∙ quote_cell c.kind c.byte q.0 f in cc
+    by a l f g k h = grind arith
 
 -- No literal is there where no quote is shown.
 abbrev IsNoLiteral : LexemeKind → Type 0
@@ -114,10 +99,7 @@ IsNoLiteral block_comment = Unit {0}
 IsNoLiteral line_comment = Unit {0}
 
 no_literal_cell : (k : LexemeKind) (b : ℕ) → IsNoLiteral k → is_literal (record { byte = b; kind = k }) ≡ false
-no_literal_cell literal b n = absurd n
-no_literal_cell single b n = refl
-no_literal_cell block_comment b n = refl
-no_literal_cell line_comment b n = refl
+no_literal_cell k b n = grind arith
 
 none_at : (a : ℕ) (rest : List ℕ) → is_quote (shown_as (lexeme_at a rest).kind a) ≡ false → IsNoLiteral (lexeme_at a rest).kind
 unfolding lexeme_at
@@ -148,10 +130,10 @@ none_after (suc n) [] e = e
 none_after (suc n) (c ∷ cells) e = none_after n cells (or_parts (is_literal c) (list_any is_literal cells) e).1
 
 white_no_quote : (b : ℕ) → is_white b ≡ true → is_quote b ≡ false
-white_no_quote b e = ap₂ (λ (x y : Bool). x || y) (ne_eqb b 34 (λ q. let f : is_white 34 ≡ true = subst (λ (x : ℕ). is_white x ≡ true) q e in cc)) (ne_eqb b 39 (λ q. let f : is_white 39 ≡ true = subst (λ (x : ℕ). is_white x ≡ true) q e in cc))
+white_no_quote b e = grind arith
 
 word_no_quote : (b : ℕ) → is_word_byte b ≡ true → is_quote b ≡ false
-word_no_quote b e = ap₂ (λ (x y : Bool). x || y) (ne_eqb b 34 (λ q. let f : is_word_byte 34 ≡ true = subst (λ (x : ℕ). is_word_byte x ≡ true) q e in cc)) (ne_eqb b 39 (λ q. let f : is_word_byte 39 ≡ true = subst (λ (x : ℕ). is_word_byte x ≡ true) q e in cc))
+word_no_quote b e = grind arith
 
 whites : (bytes : List ℕ) → are_white bytes ≡ true → list_any is_quote bytes ≡ false
 whites [] e = refl

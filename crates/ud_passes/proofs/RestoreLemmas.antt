@@ -1,14 +1,14 @@
 -- Restored texts: a byte more, a line without a vertical tab, and a line more.
-use Rattle.std.proofs.Common.{◌≡◌, ℕ, ◌+◌, ◌<◌, ◌≤◌, List, [], ◌∷◌, ◌++◌, length, map, drop, get_or, Bool, true, false, if◌then◌else◌, refl, sym, ◌∙◌, ap, ap₂, append_assoc, append-nil, arith}
+use Rattle.std.proofs.Common.{◌≡◌, ℕ, ◌≤◌, List, [], ◌∷◌, ◌++◌, length, map, drop, true, false, if◌then◌else◌, refl, sym, ◌∙◌, ap, append_assoc, append-nil, arith}
 use Rattle.std.specs.List.{flat_map}
 use Rattle.std.proofs.lemmas.Grind.{flat_map-append}
-use Rattle.std.proofs.lemmas.List.{map-append, at_drop_more, at_drop_all}
+use Rattle.std.proofs.lemmas.List.{map-append, at_drop_all}
 use Rattle.std.proofs.lemmas.List.Folds.{flat_map-map}
 use Rattle.ud_model.specs.text.Lines.{Line, text_of, lines_of}
 use Rattle.ud_model.specs.text.Scans.{Scan, Reading}
 use Rattle.ud_model.specs.text.Scanning.{scan_after_run, next_reading, readings_after}
 use Rattle.ud_model.specs.output.InsertedLines.{read_as, in_mode}
-use Rattle.ud_model.specs.output.FoldedTexts.{has_tab, fits, restored_byte, restored_body, restored_line, restored_text}
+use Rattle.ud_model.specs.output.FoldedTexts.{has_tab, fits, restored_body, restored_line, restored_text}
 use Rattle.ud_model.specs.declared.kind.Mode.TheVariants.{C}
 use Rattle.ud_model.proofs.text.ScanBytes.{scan_after-same}
 use Rattle.ud_passes.specs.Walks.{read_after, Walked}
@@ -27,12 +27,6 @@ body_done ending body masked i low high =
     let e : i ≡ length masked = omega arith in
     at_drop_all (λ (x : List ℕ). restored_body ending (drop i body) x) masked i low ∙ body_ends ending (drop i body) ∙ ap (λ (n : ℕ). drop n body) e
 
-pub byte_more : (ending body masked : List ℕ) (i : ℕ) → i < length masked → length masked ≤ length body →
-    restored_body ending (drop i body) (drop i masked) ≡ restored_byte ending (get_or body i 0) (get_or masked i 0) ++ restored_body ending (drop (i + 1) body) (drop (i + 1) masked)
-byte_more ending body masked i h n =
-    at_drop_more (λ (x : List ℕ). restored_body ending x (drop i masked)) body i 0 (omega arith)
-    ∙ at_drop_more (λ (x : List ℕ). restored_body ending (get_or body i 0 ∷ drop (i + 1) body) x) masked i 0 h
-
 pub without_tab : (ending bytes masked : List ℕ) → has_tab bytes ≡ false → restored_body ending bytes masked ≡ bytes
 without_tab ending [] masked h = refl
 without_tab ending (b ∷ bytes) [] h = refl
@@ -41,17 +35,13 @@ without_tab ending (b ∷ bytes) (m ∷ masked) h = grind (arith, without_tab en
 -- 2. A line.
 
 pub line_without_tab : (l : Line) → has_tab l.body ≡ false → restored_line l ≡ text_of l
-line_without_tab l h = ap (λ (x : List ℕ). if fits l then x ++ l.ending else text_of l) (without_tab l.ending l.body (scan_after_run [] l).masked h) ∙ by (fits l)
-  where
-    by : (b : Bool) → (if b then text_of l else text_of l) ≡ text_of l
-    by true = refl
-    by false = refl
+line_without_tab l h = grind (arith, without_tab)
 
 pub line_restored : (l : Line) → fits l ≡ true → restored_line l ≡ restored_body l.ending l.body (scan_after_run [] l).masked ++ l.ending
-line_restored l h = ap (λ (b : Bool). if b then restored_body l.ending l.body (scan_after_run [] l).masked ++ l.ending else text_of l) h
+line_restored l h = grind arith
 
 pub long_restored : (l : Line) → fits l ≡ false → restored_line l ≡ text_of l
-long_restored l h = ap (λ (b : Bool). if b then restored_body l.ending l.body (scan_after_run [] l).masked ++ l.ending else text_of l) h
+long_restored l h = grind arith
 
 renumbered : (l : Line) (n : ℕ) → restored_line (record l { number = n }) ≡ restored_line l
 renumbered l n =
@@ -62,18 +52,10 @@ renumbered l n =
 
 pub line_more : (text start : List ℕ) (walk : Walk) (out : List ℕ) (s : Restored text start walk out) (next : Walk) (more : List ℕ) (k : Line) →
     Walked C text (s.read ++ read_after C s.read k ∷ []) next.rest.now next.scanner → more ≡ out ++ restored_line k → Restored text start next more
-line_more text start walk out s next more k w e =
-    let r : Reading = read_after C s.read k in
-    let f : Reading → List ℕ = λ q. restored_line q.line in
-    record {
-      read = s.read ++ r ∷ [];
-      walked = w;
-      list_is = e ∙ ap₂ (λ (x y : List ℕ). x ++ y) s.list_is (sym (renumbered k (1 + length s.read)) ∙ sym (append-nil (f r))) ∙ append_assoc start (flat_map f s.read) (flat_map f (r ∷ []))
-          ∙ ap (λ (x : List ℕ). start ++ x) (sym (flat_map-append f s.read (r ∷ [])));
-    }
+line_more text start walk out s next more k w e = grind (arith, renumbered, append-nil, append_assoc, flat_map-append)
 
 pub none_restored : (text start : List ℕ) (walk : Walk) → Walked C text [] walk.rest.now walk.scanner → Restored text start walk start
-none_restored text start walk w = record { read = []; walked = w; list_is = sym (append-nil start) }
+none_restored text start walk w = grind (arith, append-nil)
 
 lines_read : (acc : List Reading) (ls : List Line) → map (λ (r : Reading). r.line) (readings_after acc (map (in_mode C) ls)) ≡ map (λ (r : Reading). r.line) acc ++ ls
 lines_read acc [] = sym (append-nil (map (λ (r : Reading). r.line) acc))

@@ -1,5 +1,5 @@
 -- Searches: text lines are passed, a line is taken, and a mention ends.
-use Rattle.std.proofs.Common.{◌≡◌, ℕ, ◌+◌, ◌-◌, ◌≤◌, List, [], ◌∷◌, ◌++◌, length, take, drop, length-append, length-drop, take-append-drop, Bool, true, false, ◌&&◌, Option, None, Some, is_some, refl, sym, ◌∙◌, ap, subst, append_assoc, append-nil, arith}
+use Rattle.std.proofs.Common.{◌≡◌, ℕ, ◌+◌, ◌-◌, ◌≤◌, List, [], ◌∷◌, ◌++◌, length, take, drop, length-append, length-drop, take-append-drop, Bool, true, false, Option, None, Some, is_some, refl, sym, ◌∙◌, ap, subst, append_assoc, append-nil, arith}
 use Rattle.std.specs.List.{concat}
 use Rattle.std.proofs.lemmas.Bool.{and_right}
 use Rattle.std.proofs.lemmas.Grind.{common_steps, flat_map-append}
@@ -17,11 +17,9 @@ use Rattle.ud_passes.specs.Walks.{reading_at, read_after, AreTexts, HaveBytes, W
 use Rattle.ud_passes.specs.remaining.Definitions.{IsClear}
 use Rattle.ud_passes.specs.remaining.Mentions.{Mention, mentions_in, mentions_of, joins_next}
 use Rattle.ud_passes.specs.remaining.ListedNames.{names_by}
-use Rattle.ud_passes.specs.remaining.RemainingLists.{lines_for, named_count, defining_count, is_condition, is_defining}
+use Rattle.ud_passes.specs.remaining.RemainingLists.{lines_for, named_count, defining_count}
 use Rattle.ud_passes.specs.remaining.Searches.{taken, rest_from, ended, Appends, EndsLine, Searched, IsTaken, begun_as, IsClearTo}
 use Rattle.ud_passes.specs.declared.remaining.mentions.Begun.{Begun}
-use Rattle.ud_passes.specs.declared.remaining.mentions.Class.{Class}
-use Rattle.ud_passes.specs.declared.remaining.mentions.Class.TheVariants.{Condition, Definition, Closing}
 use Rattle.ud_passes.specs.declared.remaining.listing.Listing.{Listing}
 use Rattle.ud_passes.specs.declared.remaining.search.Search.{Search}
 use Rattle.ud_passes.specs.declared.remaining.search.Place.{Place}
@@ -49,7 +47,7 @@ module _ (table : List Argument) where
     where
       none : (rs : List Reading) → AreTexts rs → DefineNothing table rs → (more : List Reading) → mentions_in table false (rs ++ more) ≡ mentions_in table false more
       none [] h d more = refl
-      none (r ∷ rs) h d more = text_line table r (rs ++ more) h.0 d.0 ∙ none rs h.1 d.1 more
+      none (r ∷ rs) h d more = grind (arith, text_line, none rs h.1 d.1 more)
 
   -- Clear lines define nothing.
   pub texts_clear : (until : ℕ) (bytes rest : List ℕ) (rs : List Reading) → IsClearTo table until rest → length bytes ≤ length rest - until → bytes ≡ take (length bytes) rest →
@@ -85,23 +83,14 @@ module _ (table : List Argument) (name : List ℕ) where
   -- An unlisted mention.
   pub appends_unlisted : (found : Option Begun) (b : Begun) (after : List ℕ) (old new : Search) → found ≡ Some b → names_by table b.class after ≡ false →
       new.list.items ≡ old.list.items → new.count ≡ old.count → new.defined ≡ old.defined → new.listing ≡ old.listing → Appends table name (ended (begun_as found after)) old new
-  appends_unlisted found b after old new e none l c d g =
-      let undefined : is_defining b.class ≡ false = by b.class none in
-      let uncounted : (is_condition b.class && names_by table b.class after) ≡ false = and_right (is_condition b.class) (names_by table b.class after) none in
-      subst (λ (p : Option Begun). Appends table name (ended (begun_as p after)) old new) (sym e) (grind (arith, common_steps))
-    where
-      by : (class : Class) → names_by table class after ≡ false → is_defining class ≡ false
-      by Definition h = h
-      by (Condition kind) h = refl
-      by Closing h = refl
+  appends_unlisted found b after old new e none l c d g = grind (arith, and_right, common_steps)
 
   pub appends_kept : (ms : List Mention) (start old new : Search) → Appends table name ms start old →
       new.list.items ≡ old.list.items → new.count ≡ old.count → new.defined ≡ old.defined → new.listing ≡ old.listing → Appends table name ms start new
   appends_kept ms start old new a l c d g = grind arith
 
   pub appends_more : (ms ns : List Mention) (start mid new : Search) → Appends table name ms start mid → Appends table name ns mid new → Appends table name (ms ++ ns) start new
-  appends_more ms ns start mid new a b =
-      grind (arith, common_steps, named_count-append, defining_count-append, lines_for-append)
+  appends_more ms ns start mid new a b = grind (arith, common_steps, named_count-append, defining_count-append, lines_for-append)
 
 -- 3. The places of a search.
 
@@ -109,8 +98,7 @@ pub none_begun : (b : Option Begun) (bytes : List ℕ) → is_some b ≡ false �
 none_begun b bytes e = grind arith
 
 pub none_if : {A : Type 0} (b : Option A) (most : ℕ) → (is_some b ≡ true → most ≡ 0) → (most ≡ 0 → false ≡ true) → is_some b ≡ false
-none_if None most p q = refl
-none_if (Some b) most p q = sym (q (p refl))
+none_if b most p q = grind arith
 
 module _ (table : List Argument) (mode : Mode) (name text : List ℕ) (start old : Search) (place : Place) (walk : Walk) (s : Searched table mode name text start old place walk)
     (new : Search) (next : Place) (on : Walk) (clear : IsClearTo table next.until on.rest.now) where
@@ -153,19 +141,14 @@ module _ (table : List Argument) (mode : Mode) (name text : List ℕ) (start old
     }
       where
         kept : Appends table name s.found start mid
-        kept = appends_kept table name s.found start old mid s.appends same_list same_count same_defined same_listing
+        kept = grind arith
 
         goes : Goes table (s.read ++ r ∷ []) s.found q goes_on
-        goes = subst (λ (x : Option Mention). Goes table (s.read ++ r ∷ []) s.found x goes_on) (sym t)
-            (subst (λ (b : Bool). Goes table (s.read ++ r ∷ []) s.found (taken table begun_before r) b) (sym j) (goes_by_line table s.read s.found begun_before r s.parts))
+        goes = grind (arith, goes_by_line)
 
         by : (b : Bool) → Goes table (s.read ++ r ∷ []) s.found q b → EndsLine table name q b mid new (begun_as next.begun new.after.items) →
             (found : List Mention) × Goes table (s.read ++ r ∷ []) found (begun_as next.begun new.after.items) true × Appends table name found start new
-        by true g a = (
-          s.found,
-          subst (λ (x : Option Mention). Goes table (s.read ++ r ∷ []) s.found x true) (sym a.1) g,
-          subst (λ (ms : List Mention). Appends table name ms start new) (append-nil s.found) (appends_more table name s.found [] start mid new kept a.0),
-        )
+        by true g a = grind (arith, append-nil, appends_more, kept)
         by false g a = (
           s.found ++ ended q,
           subst (λ (x : Option Mention). Goes table (s.read ++ r ∷ []) (s.found ++ ended q) x true) (sym a.1) (goes_by_end table (s.read ++ r ∷ []) s.found q g),
@@ -177,9 +160,7 @@ module _ (table : List Argument) (mode : Mode) (name text : List ℕ) (start old
 
     pub line_searched : (q : Option Mention) (goes_on : Bool) → IsTaken table begun_before (reading_at mode k (scan_after s.read mode k) place.number) q goes_on →
         EndsLine table name q goes_on mid new (begun_as next.begun new.after.items) → Searched table mode name text start new next on
-    line_searched q goes_on i e =
-        let same : reading_at mode k (scan_after s.read mode k) place.number ≡ r = ap (λ (n : ℕ). reading_at mode k (scan_after s.read mode k) n) s.number_is in
-        line_taken q goes_on (i.0 ∙ ap (λ (x : Reading). taken table begun_before x) same) (i.1 ∙ ap (λ (x : Reading). joins_next x) same) e
+    line_searched q goes_on i e = grind (arith, line_taken)
 
     pub long_searched : fits k ≡ false → EndsLine table name begun_before false mid new (begun_as next.begun new.after.items) → Searched table mode name text start new next on
     long_searched f e = line_taken begun_before false (sym (taken_long table begun_before r f)) (sym (joins_long r f)) e

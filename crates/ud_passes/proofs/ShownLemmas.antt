@@ -1,5 +1,5 @@
 -- Masked bytes: vertical tabs beside white space, and the line that bytes are.
-use Rattle.std.proofs.Common.{◌≡◌, ◌≢◌, ℕ, suc, ◌<◌, ◌≤◌, ◌==◌, slice_index, Option, Some, None, is_some, List, [], ◌∷◌, ◌++◌, length, take, Bool, true, false, not, ◌&&◌, ◌||◌, bytes_eq, refl, sym, ◌∙◌, ap, ap₂, subst, arith}
+use Rattle.std.proofs.Common.{◌≡◌, ℕ, suc, ◌<◌, ◌≤◌, ◌==◌, slice_index, Option, is_some, List, [], ◌∷◌, ◌++◌, length, take, Bool, true, false, not, ◌&&◌, ◌||◌, bytes_eq, refl, sym, ◌∙◌, ap, ap₂, subst, arith}
 use Rattle.std.proofs.lemmas.List.{take_all}
 use Rattle.std.proofs.lemmas.List.Folds.{list_any_at}
 use Rattle.memchr.specs.Find.{IsFirstByte, is_byte}
@@ -8,8 +8,7 @@ use Rattle.ud_model.specs.text.Lines.{Line, NoNewline, IsWhole, text_of, ending_
 use Rattle.ud_model.specs.text.Splicing.{is_empty}
 use Rattle.ud_model.specs.text.Scans.{Scan}
 use Rattle.ud_model.specs.text.Scanning.{scan_after_run}
-use Rattle.ud_model.specs.sections.Directives.{content_of}
-use Rattle.ud_model.specs.output.FoldedTexts.{has_tab, is_directive, has_no_quote, vertical_tab, is_blank, blank_follows, tabs_are_beside, fits, is_shown_as}
+use Rattle.ud_model.specs.output.FoldedTexts.{has_tab, vertical_tab, blank_follows, tabs_are_beside, fits, is_shown_as}
 use Rattle.ud_model.specs.output.SimplifiedTexts.{keeps_ending}
 use Rattle.ud_model.specs.declared.kind.Mode.TheVariants.{C}
 use Rattle.ud_model.proofs.text.LinesLemmas.{text_of-line_at}
@@ -28,17 +27,11 @@ all_but a b c d e = grind arith
 if_all : (a b c d : Bool) → a ≡ true → b ≡ true → c ≡ true → (a && b && c && d) ≡ d
 if_all a b c d p q r = grind arith
 
-second : (a b c d e : Bool) → b ≡ false → (a && b && c && d && e) ≡ false
-second a b c d e f = grind arith
-
-third : (a b c d e : Bool) → c ≡ false → (a && b && c && d && e) ≡ false
-third a b c d e f = grind arith
-
 pub joins_next : (scan : Scan) (bytes : List ℕ) → scan.joins_after ≡ true → is_shown_as scan bytes ≡ false
-joins_next scan bytes e = second (is_directive (content_of scan)) (not scan.joins_after) (bytes_eq scan.masked bytes) (has_no_quote bytes) (tabs_are_beside true bytes) (ap not e)
+joins_next scan bytes e = grind arith
 
 pub other_bytes : (scan : Scan) (bytes : List ℕ) → bytes_eq scan.masked bytes ≡ false → is_shown_as scan bytes ≡ false
-other_bytes scan bytes e = third (is_directive (content_of scan)) (not scan.joins_after) (bytes_eq scan.masked bytes) (has_no_quote bytes) (tabs_are_beside true bytes) e
+other_bytes scan bytes e = grind arith
 
 -- 1. Vertical tabs.
 
@@ -47,27 +40,16 @@ other_bytes scan bytes e = third (is_directive (content_of scan)) (not scan.join
 abbrev pub left : Bool → Bool → List ℕ → Bool
 left owes blank bytes = (not owes || blank_follows bytes) && tabs_are_beside blank bytes
 
-pub left_tab : (owes blank : Bool) (rest : List ℕ) → left owes blank (vertical_tab ∷ rest) ≡ left (owes || not blank) blank rest
-left_tab true true rest = refl
-left_tab true false rest = grind arith
-left_tab false true rest = refl
-left_tab false false rest = refl
-
-pub left_byte : (owes blank : Bool) (b : ℕ) (rest : List ℕ) → b ≢ vertical_tab → left owes blank (b ∷ rest) ≡ (not owes || is_blank b) && tabs_are_beside (is_blank b) rest
-left_byte owes blank b rest n = grind arith
-
 none_there : (s : List ℕ) → ((k : ℕ) → 0 ≤ k → k < length s → is_byte vertical_tab (slice_index s k) ≡ true → ⊥) → has_tab s ≡ false
 none_there [] h = refl
 none_there (x ∷ s) h =
     ap₂ (λ (a b : Bool). a || b) (if_not (x == vertical_tab) (h 0 (omega arith) (omega arith))) (none_there s (λ k l u. h (suc k) (omega arith) (omega arith)))
   where
     if_not : (b : Bool) → (b ≡ true → ⊥) → b ≡ false
-    if_not true h = absurd (h refl)
-    if_not false h = refl
+    if_not b h = grind arith
 
 pub found_tab : (s : List ℕ) (r : Option ℕ) → IsFirstByte (is_byte vertical_tab) s r → is_some r ≡ has_tab s
-found_tab s None h = sym (none_there s h)
-found_tab s (Some k) h = sym (list_any_at (λ (b : ℕ). b == vertical_tab) s k 0 h.0.high h.1)
+found_tab s r h = grind (arith, none_there, list_any_at)
 
 -- 2. The line that bytes are.
 
@@ -76,11 +58,7 @@ module _ (k : Line) (no : NoNewline k.body) (end : IsEnd k.ending) (bytes : List
   whole = subst IsWhole (sym bytes_are) (ended k.body k.ending no end)
 
   up_to_end : UpToNewline bytes (length bytes) true
-  up_to_end = record {
-    within = omega arith;
-    all = λ e. cc;
-    line = λ e. (whole.0, whole.1, take_all (length bytes) bytes (omega arith) ∙ whole.2);
-  }
+  up_to_end = grind (arith, whole, take_all)
 
   -- The line that is read of these bytes.
   module _ (e : Line) (w : Bool) (to : UpToNewline bytes (length (text_of e)) w) (is : e ≡ line_at 1 (take (length (text_of e)) bytes)) where
@@ -90,14 +68,14 @@ module _ (k : Line) (no : NoNewline k.body) (end : IsEnd k.ending) (bytes : List
         is ∙ ap (λ (n : ℕ). line_at 1 (take n bytes)) once.1 ∙ ap (λ (x : List ℕ). line_at 1 x) (take_all (length bytes) bytes (omega arith))
 
     ending_is : e.ending ≡ ending_of (text_of k)
-    ending_is = ap (λ (l : Line). l.ending) read_is ∙ ap ending_of bytes_are
+    ending_is = grind (arith, read_is)
 
     keeps : keeps_ending k ≡ bytes_eq e.ending k.ending
-    keeps = ap (λ (x : List ℕ). bytes_eq x k.ending) (sym ending_is)
+    keeps = grind (arith, ending_is)
 
     module _ (shown : List ℕ) where
       pub other_ending : bytes_eq e.ending k.ending ≡ false → is_line_shown k shown ≡ false
-      other_ending n = all_but (not (is_empty k.ending)) (fits k) (keeps_ending k) (is_shown_as (scan_after_run [] k) shown) (keeps ∙ n)
+      other_ending n = grind (arith, all_but, keeps)
 
       pub shown_by : e.ending ≡ k.ending → is_empty k.ending ≡ false → fits k ≡ true → is_shown_as (scan_after_run [] e) shown ≡ is_line_shown k shown
       shown_by s some f =

@@ -24,7 +24,7 @@ same : (xs : List ℕ) → bytes_eq xs xs ≡ true
 same xs = (bytes_eq-Decides xs xs).1 refl
 
 flip : (xs ys : List ℕ) → bytes_eq xs ys ≡ false → bytes_eq ys xs ≡ false
-flip xs ys e = grind (arith, bytes_eq-Decides, same)
+flip xs ys e = grind (arith, bytes_eq-Decides)
 
 -- 1. Counts.
 

@@ -1,5 +1,5 @@
 -- Token lists: the tokens of a text, one after another.
-use Rattle.std.proofs.Common.{◌≡◌, ℕ, List, [], ◌∷◌, length, Bool, true, false, ◌&&◌, Option, Some, None, option_map, refl, sym, ◌∙◌, ap, arith}
+use Rattle.std.proofs.Common.{◌≡◌, ℕ, List, [], ◌∷◌, length, Bool, true, false, ◌&&◌, Option, Some, option_map, refl, arith}
 use Rattle.std.proofs.lemmas.Bool.{and_left}
 use Rattle.ud_model.specs.conditions.Tokens.{Token, NextToken, at_end, unreadable, found, next_token}
 use Rattle.ud_model.specs.conditions.ResidualTexts.{are_tokens, same_token}
@@ -7,15 +7,14 @@ use Rattle.ud_model.specs.aids.Parsing.{prepend_token, tokens_of}
 use Rattle.ud_cond.proofs.lemmas.expressions.ReadingLemmas.{tokens_of-prepend_token}
 
 by_next : (text : List ℕ) (x : NextToken) → next_token text ≡ x → tokens_of text ≡ prepend_token tokens_of x
-by_next text x e = tokens_of-prepend_token text ∙ ap (prepend_token tokens_of) e
+by_next text x e = grind (arith, tokens_of-prepend_token)
 
 -- A text that begins with a token has the tokens of the rest after it.
 first_of : (u t : Token) (o : Option (List Token)) (tokens : List Token) → are_tokens (option_map (λ ts. u ∷ ts) o) (t ∷ tokens) ≡ (same_token u t && are_tokens o tokens)
 first_of u t o tokens = grind arith
 
 and_true : (a b : Bool) → a ≡ true → (a && b) ≡ b
-and_true true b e = refl
-and_true false b e = cc
+and_true a b e = grind arith
 
 module _ (text : List ℕ) (t : Token) where
   -- The first token is this one.
@@ -30,20 +29,20 @@ module _ (text : List ℕ) (t : Token) where
 
   -- There is no token.
   pub none_first : next_token text ≡ at_end → (tokens : List Token) → are_tokens (tokens_of text) (t ∷ tokens) ≡ false
-  none_first e tokens = ap (λ o. are_tokens o (t ∷ tokens)) (by_next text at_end e)
+  none_first e tokens = grind (arith, by_next)
 
   pub unread_first : next_token text ≡ unreadable → (tokens : List Token) → are_tokens (tokens_of text) (t ∷ tokens) ≡ false
-  unread_first e tokens = ap (λ o. are_tokens o (t ∷ tokens)) (by_next text unreadable e)
+  unread_first e tokens = grind (arith, by_next)
 
 -- No tokens.
 pub none_at_end : (text : List ℕ) → next_token text ≡ at_end → are_tokens (tokens_of text) [] ≡ true
-none_at_end text e = ap (λ o. are_tokens o []) (by_next text at_end e)
+none_at_end text e = grind (arith, tokens_of-prepend_token)
 
 pub some_found : (text : List ℕ) (u : Token) (rest : List ℕ) → next_token text ≡ found u rest → are_tokens (tokens_of text) [] ≡ false
-some_found text u rest e = grind (arith, by_next)
+some_found text u rest e = grind (arith, tokens_of-prepend_token)
 
 pub none_unread : (text : List ℕ) → next_token text ≡ unreadable → are_tokens (tokens_of text) [] ≡ false
-none_unread text e = ap (λ o. are_tokens o []) (by_next text unreadable e)
+none_unread text e = grind (arith, tokens_of-prepend_token)
 
 -- The tokens of a text that begins with a token.
 pub record Splits (t : Token) (rest : List ℕ) (tokens : List Token) : Type 0 where
@@ -51,17 +50,14 @@ pub record Splits (t : Token) (rest : List ℕ) (tokens : List Token) : Type 0 w
   pub is : tokens ≡ t ∷ others
   pub rest_has : tokens_of rest ≡ Some others
 
-splits_by : (t : Token) (rest : List ℕ) (tokens : List Token) (o : Option (List Token)) → tokens_of rest ≡ o → option_map (λ ts. t ∷ ts) o ≡ Some tokens → Splits t rest tokens
-splits_by t rest tokens o e f = grind arith
-
 pub splits : (text : List ℕ) (t : Token) (rest : List ℕ) (tokens : List Token) → next_token text ≡ found t rest → tokens_of text ≡ Some tokens → Splits t rest tokens
-splits text t rest tokens e f = splits_by t rest tokens (tokens_of rest) refl (sym (by_next text (found t rest) e) ∙ f)
+splits text t rest tokens e f = grind (arith, tokens_of-prepend_token)
 
 pub ends_none : (text : List ℕ) (tokens : List Token) → next_token text ≡ at_end → tokens_of text ≡ Some tokens → length tokens ≡ 0
-ends_none text tokens e f = let g : Some [] ≡ Some tokens = sym (by_next text at_end e) ∙ f in let h : [] ≡ tokens = cc in ap (λ (l : List Token). length l) (sym h)
+ends_none text tokens e f = grind (arith, by_next)
 
 pub unread_none : (text : List ℕ) (tokens : List Token) → next_token text ≡ unreadable → tokens_of text ≡ Some tokens → ⊥
-unread_none text tokens e f = let g : None ≡ Some tokens = sym (by_next text unreadable e) ∙ f in cc
+unread_none text tokens e f = grind (arith, tokens_of-prepend_token)
 
 -- A text that begins with no token has none.
 pub ends_first : (text : List ℕ) → next_token text ≡ at_end → (t : Token) (tokens : List Token) → tokens_of text ≡ Some (t ∷ tokens) → ⊥

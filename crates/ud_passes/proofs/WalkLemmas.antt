@@ -4,8 +4,8 @@ use Rattle.std.specs.List.{concat}
 use Rattle.std.proofs.lemmas.List.{length-map}
 use Rattle.std.proofs.lemmas.Simd.{map-map}
 use Rattle.ud_model.specs.text.Lines.{Line, text_of, texts_of, line_at, numbered_from, whole_lines, split_lines}
-use Rattle.ud_model.specs.text.Scans.{Scan, Reading}
-use Rattle.ud_model.specs.text.Scanning.{scan_after, next_reading, readings_after}
+use Rattle.ud_model.specs.text.Scans.{Reading}
+use Rattle.ud_model.specs.text.Scanning.{next_reading, readings_after}
 use Rattle.ud_model.specs.output.InsertedLines.{read_as, in_mode}
 use Rattle.ud_model.specs.declared.kind.Mode.{Mode}
 use Rattle.ud_model.proofs.text.LinesLemmas.{map-numbered_from}
@@ -15,17 +15,17 @@ use Rattle.ud_text.specs.bulk.BulkScanning.{HaveNoDirective, AreWholeLines, Skip
 use Rattle.ud_text.specs.lines.LinesState.{UpToNewline}
 use Rattle.ud_text.proofs.lemmas.bulk.QuietLineLemmas.{ended_lines}
 use Rattle.ud_text.proofs.lemmas.lines.ConsumeLemmas.{lines_counted}
-use Rattle.ud_text.proofs.lemmas.scan.LongerTextLemmas.{after, still_whole, read_texts, number_after_texts, reading, read_line, number_after_line, k_scan, represents_renumbered, one_text, whole_if_more, nothing_ends}
+use Rattle.ud_text.proofs.lemmas.scan.LongerTextLemmas.{after, still_whole, read_texts, number_after_texts, reading, read_line, number_after_line, k_scan, represents_renumbered, one_text, whole_if_more}
 use Rattle.ud_passes.specs.Walks.{read_after, AreTexts, HaveBytes, Walked}
 
 -- 1. The beginning and the end.
 
 pub walk_begins : (mode : Mode) (text : List ℕ) (s : ScannerState) → ScannerRepresents s [] → Walked mode text [] text s
 unfolding split_lines
-walk_begins mode text s r = record { done = []; is = refl; ends = λ some. nothing_ends; read_is = refl; count_is = refl; represents = r }
+walk_begins mode text s r = grind arith
 
 pub walk_ends : (mode : Mode) (text : List ℕ) (read : List Reading) (rest : List ℕ) (s : ScannerState) → Walked mode text read rest s → rest ≡ [] → read ≡ read_as mode text
-walk_ends mode text read rest s w e = w.read_is ∙ ap (λ (x : List ℕ). read_as mode x) (sym (append-nil w.done) ∙ ap (λ (x : List ℕ). w.done ++ x) (sym e) ∙ w.is)
+walk_ends mode text read rest s w e = grind (arith, append-nil)
 
 -- 2. Text lines.
 
@@ -82,12 +82,10 @@ module _ (mode : Mode) (text : List ℕ) (read : List Reading) (rest : List ℕ)
 
   -- The line has its number in the text.
   same : r ≡ reading mode w.done p ends one
-  same = ap₂ (λ (l : Line) (x : Scan). record { line = l; mode = mode; scan = x })
-      (ap (λ (l : Line). record l { number = 1 + length read }) is ∙ ap (λ (n : ℕ). line_at (1 + n) p) w.count_is)
-      (ap (λ (x : List Reading). scan_after x mode k) w.read_is ∙ sym (k_scan mode w.done p ends one k is))
+  same = grind (arith, k_scan, ends, one)
 
   renumbered : next_reading read mode (record k { number = 1 + length read }) ≡ r
-  renumbered = ap (λ x. record { line = record k { number = 1 + length read }; mode = mode; scan = x }) (scan_after-same read read mode (record k { number = 1 + length read }) k refl refl refl)
+  renumbered = grind (arith, scan_after-same)
 
   pub line_next : (next : List ℕ) → next ≡ drop (length k.body + length k.ending) rest → (t : ScannerState) → ScannerRepresents t (read ++ next_reading read mode k ∷ []) → Walked mode text (read ++ r ∷ []) next t
   line_next next d t represents =

@@ -1,8 +1,9 @@
 -- Folding: what the pass that folds a text appends.
 --
---   FollowsBy b rs               the line before `rs` joins the first of them, or not
---   rest_from group rs           the folded lines `rs`, if the lines `group` before them go on
+--   FollowsBy b rs               `b`: the line before `rs` joins the first of them
+--   rest_from group rs           the folded lines `rs`, after the pending lines `group`
 --   Takes r group old ..         the line `r` was taken after the lines `group`
+--   TakesLine line scan l b ..   the same of a line with its scan
 --   Folded text start ..         the lines so far were folded
 --   Restored text start ..       the lines so far were restored
 use Rattle.std.specs.Prelude.{◌≡◌, ℕ, List, [], ◌∷◌, ◌++◌, Bool, true, Option, IfSome}
@@ -11,15 +12,16 @@ use Rattle.ud_model.specs.text.Scans.{Reading}
 use Rattle.ud_model.specs.text.Splicing.{c_run_of}
 use Rattle.ud_model.specs.text.Scanning.{joins}
 use Rattle.ud_model.specs.output.FoldedTexts.{continued, folded_bytes, folded_lines, restored_line}
+use Rattle.ud_model.specs.declared.line.Line.{Line as CodeLine}
+use Rattle.ud_model.specs.declared.scan.Scan.{Scan as CodeScan}
 use Rattle.ud_model.specs.declared.kind.Mode.TheVariants.{C}
 use Rattle.ud_passes.specs.Walks.{Walked}
-use Rattle.ud_passes.specs.folding.LogicalLines.{plain_lines, IsGroup}
+use Rattle.ud_passes.specs.folding.LogicalLines.{plain_lines, c_reading, HasItsSplice, IsGroup}
 use Rattle.ud_passes.specs.declared.folding.logical.Last.{Last}
 use Rattle.ud_passes.specs.declared.folding.logical.LogicalLine.{LogicalLine}
 use Rattle.ud_passes.specs.declared.walk.Walk.{Walk}
 
--- `FollowsBy b rs`: the line before the lines `rs` joins the first of them, if there is one and if
--- `b`.
+-- `FollowsBy b rs`: the line before joins the first of the lines `rs`, if any, exactly if `b`.
 abbrev pub FollowsBy : Bool → List Reading → Type 0
 FollowsBy b [] = Unit {0}
 FollowsBy b (r ∷ rs) = r.scan.joins_before ≡ b
@@ -31,7 +33,7 @@ rest_from [] rs = plain_lines (continued rs) ++ folded_lines rs
 rest_from (g ∷ group) rs = folded_bytes (g ∷ group ++ continued rs) ++ folded_lines rs
 
 -- `Takes r group old out l b new`: the line `r` was taken after the lines `group`. Bytes were
--- appended to `old`, and `l` and `b` have the lines that go on.
+-- appended to `old`, and `l` and `b` have the pending lines.
 pub record Takes (r : Reading) (group : List Reading) (old : List ℕ) (l : LogicalLine)
     (b : Option Last) (new : List ℕ) : Type 0 where
   pub more : List ℕ
@@ -42,8 +44,16 @@ pub record Takes (r : Reading) (group : List Reading) (old : List ℕ) (l : Logi
   pub rest : (rs : List Reading) → FollowsBy r.scan.joins_after rs →
       rest_from group (r ∷ rs) ≡ more ++ rest_from next rs
 
--- `Folded text start l b walk out`: the folded lines before the place of the walk were appended to
--- `start`, but for those of the logical line that goes on.
+-- `TakesLine line scan l b old m c new`: the line was taken after those that go on, if `l` and `b`
+-- have some.
+abbrev pub TakesLine : CodeLine → CodeScan → LogicalLine → Option Last → List ℕ → LogicalLine →
+    Option Last → List ℕ → Type 0
+TakesLine line scan l b old m c new = (n : ℕ) (group : List Reading) → IsGroup l b group →
+    IfSome b (λ _. scan.joins_before ≡ true) → HasItsSplice line scan →
+    Takes (c_reading line scan n) group old m c new
+
+-- `Folded text start l b walk out`: the folded lines before the walk's place were appended to
+-- `start`, except those of the pending logical line.
 pub record Folded (text start : List ℕ) (l : LogicalLine) (b : Option Last) (walk : Walk)
     (out : List ℕ) : Type 0 where
   pub read : List Reading
@@ -56,8 +66,8 @@ pub record Folded (text start : List ℕ) (l : LogicalLine) (b : Option Last) (w
   pub rest : (rs : List Reading) → FollowsBy (joins (c_run_of read)) rs →
       folded_lines (read ++ rs) ≡ done ++ rest_from group rs
 
--- `Restored text start walk out`: the lines before the place of the walk were appended to `start`,
--- with newlines in place of their vertical tabs.
+-- `Restored text start walk out`: the lines before the walk's place were appended to `start`, with
+-- newlines for vertical tabs.
 pub record Restored (text start : List ℕ) (walk : Walk) (out : List ℕ) : Type 0 where
   pub read : List Reading
   pub walked : Walked C text read walk.rest.now walk.scanner

@@ -3,8 +3,11 @@
 --   plain_lines rs              the bytes of the lines `rs`
 --   is_line_shown k bytes       the line `k` has an ending, fits, and is a directive by itself,
 --                               with these masked bytes
+--   c_reading line scan n       the line with its scan, as one of C
+--   HasItsSplice line scan      the scan says whether the line is spliced
 --   IsLast b r                  `b` is the line `r`
---   IsLogical l b group         the lines `group` begin a directive, the last of which is `b`
+--   IsLogical l b group         the lines `group` begin a directive, and `b` is the last one
+--   AddsLine line scan l b ..   a logical line has one line more
 --   IsGroup l b group           the same, or no logical line goes on
 use Rattle.std.specs.Prelude.{◌≡◌, ℕ, List, [], ◌∷◌, ◌++◌, Bool, true, not, ◌&&◌, Option, Some}
 use Rattle.std.specs.Prelude.{None}
@@ -13,9 +16,14 @@ use Rattle.ud_model.specs.text.Lines.{Line, NoNewline, text_of}
 use Rattle.ud_model.specs.text.Splicing.{is_empty, is_spliced}
 use Rattle.ud_model.specs.text.Scans.{Reading}
 use Rattle.ud_model.specs.text.Scanning.{scan_after_run}
+use Rattle.ud_model.specs.text.LineViews.{as_line, as_scan}
+use Rattle.ud_model.specs.declared.line.Line.{Line as CodeLine}
+use Rattle.ud_model.specs.declared.scan.Scan.{Scan as CodeScan}
+use Rattle.ud_model.specs.declared.kind.Mode.TheVariants.{C}
 use Rattle.ud_model.specs.output.FoldedTexts.{continued_part, shown_lines, begins_directive}
 use Rattle.ud_model.specs.output.FoldedTexts.{are_alike, fits, is_shown_as}
 use Rattle.ud_model.specs.output.SimplifiedTexts.{keeps_ending}
+use Rattle.ud_passes.specs.Walks.{reading_at}
 use Rattle.ud_passes.specs.declared.folding.logical.Last.{Last}
 use Rattle.ud_passes.specs.declared.folding.logical.LogicalLine.{LogicalLine}
 
@@ -24,12 +32,20 @@ abbrev pub plain_lines : List Reading → List ℕ
 plain_lines rs = flat_map (λ (r : Reading). text_of r.line) rs
 
 -- `is_line_shown k bytes`: the line `k` has an ending of its own, and fits. By itself it is a
--- directive with these masked bytes, as `is_shown_as`.
+-- directive with these masked bytes (`is_shown_as`).
 abbrev pub is_line_shown : Line → List ℕ → Bool
 is_line_shown k bytes = not (is_empty k.ending) && fits k && keeps_ending k &&
     is_shown_as (scan_after_run [] k) bytes
 
--- `IsLast b r`: `b` is the line `r`, with its scan as far as the next line's place goes.
+-- `c_reading line scan n`: the line, with its scan and the number `n`, as one of C.
+abbrev pub c_reading : CodeLine → CodeScan → ℕ → Reading
+c_reading line scan n = reading_at C (as_line line) (as_scan scan) n
+
+-- `HasItsSplice line scan`: the scan says whether the line is spliced.
+abbrev pub HasItsSplice : CodeLine → CodeScan → Type 0
+HasItsSplice line scan = scan.spliced ≡ is_spliced (as_line line)
+
+-- `IsLast b r`: `b` is the line `r`, with the part of its scan that affects the next line.
 pub record IsLast (b : Last) (r : Reading) : Type 0 where
   pub body_is : b.line.body.now ≡ r.line.body
   pub ending_is : b.line.ending.now ≡ r.line.ending
@@ -39,7 +55,7 @@ pub record IsLast (b : Last) (r : Reading) : Type 0 where
   pub one_line : NoNewline r.line.body
 
 -- `IsLogical l b group`: the lines `group` have the same ending, and the first of them has a
--- directive. `l` has their bytes, and `b` is the last of them.
+-- directive. `l` has their bytes, and `b` is the last one.
 pub record IsLogical (l : LogicalLine) (b : Last) (group : List Reading) : Type 0 where
   pub front : List Reading
   pub last : Reading
@@ -52,8 +68,14 @@ pub record IsLogical (l : LogicalLine) (b : Last) (group : List Reading) : Type 
   pub shown_is : l.shown.items ≡ shown_lines group
   pub one_line : NoNewline l.body.items
 
--- `IsGroup l b group`: `b` is the last of the lines `group`, which go on. There are none without
--- it.
+-- `AddsLine line scan l b m c`: if `l` and `b` have a logical line, then `m` and `c` have it with
+-- one line more, which has the same ending.
+abbrev pub AddsLine : CodeLine → CodeScan → LogicalLine → Last → LogicalLine → Last → Type 0
+AddsLine line scan l b m c = (n : ℕ) (group : List Reading) → IsLogical l b group →
+    line.ending.now ≡ b.line.ending.now → HasItsSplice line scan →
+    IsLogical m c (group ++ c_reading line scan n ∷ [])
+
+-- `IsGroup l b group`: `b` is the last of the pending lines `group`. Without `b` there are none.
 abbrev pub IsGroup : LogicalLine → Option Last → List Reading → Type 0
 IsGroup l None group = group ≡ []
 IsGroup l (Some b) group = IsLogical l b group

@@ -1,19 +1,17 @@
-//! A logical line that begins with a directive, as its lines are added.
+//! A logical line that begins with a directive, built line by line.
 
 ghost use Rattle.std.specs.Prelude.{◌≡◌, ◌∷◌, ◌++◌, ℕ, List, [], true, false, not, ◌&&◌, IfOk};
-ghost use Rattle.std.specs.Prelude.{OnOk, IfSome};
+ghost use Rattle.std.specs.Prelude.{OnOk, Some};
 ghost use Rattle.ud_model.specs.text.Lines.{NoNewline, text_of};
 ghost use Rattle.ud_model.specs.text.Scans.{Reading};
-ghost use Rattle.ud_model.specs.text.Splicing.{is_spliced};
 ghost use Rattle.ud_model.specs.text.LineViews.{as_line, as_scan};
 ghost use Rattle.ud_model.specs.sections.Directives.{content_of};
 ghost use Rattle.ud_model.specs.output.FoldedTexts as spec;
 ghost use Rattle.ud_model.specs.output.FoldedTexts.{folded_bytes};
-ghost use Rattle.ud_model.specs.declared.kind.Mode.TheVariants.{C};
 ghost use Rattle.ud_passes.specs.Passes.{Grows};
-ghost use Rattle.ud_passes.specs.Walks.{reading_at};
-ghost use Rattle.ud_passes.specs.folding.LogicalLines.{plain_lines, IsLast, IsLogical, IsGroup};
-ghost use Rattle.ud_passes.specs.folding.Folding.{rest_from, Takes};
+ghost use Rattle.ud_passes.specs.folding.LogicalLines.{plain_lines, c_reading, HasItsSplice};
+ghost use Rattle.ud_passes.specs.folding.LogicalLines.{AddsLine, IsLast, IsLogical, IsGroup};
+ghost use Rattle.ud_passes.specs.folding.Folding.{rest_from, Takes, TakesLine};
 
 use crate::folding::shown::{VERTICAL_TAB, is_directive, is_line_shown};
 use std::alloc::{AllocError, Global};
@@ -23,7 +21,7 @@ use ud_model::{CommentAt, Line, Scan};
 #[derive(Clone, Copy)]
 pub(crate) struct Last<'t> {
     line: Line<'t>,
-    /// The comment that is unclosed at its end, if there is one.
+    /// The comment left open at its end, if any.
     comment: CommentAt,
     /// It ends in a backslash that deletes its ending.
     spliced: bool,
@@ -34,13 +32,13 @@ pub(crate) struct Last<'t> {
 pub(crate) struct LogicalLine {
     /// The bytes of its lines.
     plain: Vec<u8>,
-    /// The body of the line that they form, as far as the last one.
+    /// The body of the line that they form, up to the last one.
     body: Vec<u8>,
     /// The masked lines.
     shown: Vec<u8>,
 }
 
-/// Returns whether a logical line of several lines begins on a line, with a directive.
+/// Returns whether a line begins a logical line of several lines, with a directive.
 fn begins(scan: &Scan<'_>) -> bool
     ensures { result ≡ (not scan.now.joins_before && scan.now.joins_after &&
         spec.is_directive (content_of (as_scan scan.now))) }
@@ -63,7 +61,7 @@ fn last_line<'t>(line: &Line<'t>, scan: &Scan<'_>) -> Last<'t>
     }
 }
 
-/// Returns the bytes of a line that stay before the vertical tab in place of its newline.
+/// Returns the bytes of a line that stay before the vertical tab that replaces its newline.
 fn kept_body<'t>(last: &Last<'t>) -> &'t [u8]
     ensures { (r : Reading) → IsLast last.now r → result.now ++ 11 ∷ [] ≡ spec.continued_part r }
 {
@@ -74,7 +72,7 @@ fn kept_body<'t>(last: &Last<'t>) -> &'t [u8]
     last.line.body
 }
 
-/// Returns how the vertical tab after a line is masked, with a backslash before it that stays.
+/// Returns the masked vertical tab after a line, with a backslash before it that stays.
 fn masked_break(last: &Last<'_>) -> &'static [u8]
     ensures { (r : Reading) → IsLast last.now r → result.now ≡ spec.shown_break r.scan }
 {
@@ -114,8 +112,8 @@ impl LogicalLine {
         requires one_line { NoNewline line.now.body.now }
         ensures { IfOk result (λ b. (n : ℕ) →
             spec.is_directive (content_of (as_scan scan.now)) ≡ true →
-            scan.now.spliced ≡ is_spliced (as_line line.now) →
-            IsLogical self.new b (reading_at C (as_line line.now) (as_scan scan.now) n ∷ [])) }
+            HasItsSplice line.now scan.now →
+            IsLogical self.new b (c_reading line.now scan.now n ∷ [])) }
     {
         self.plain.clear();
         self.body.clear();
@@ -136,11 +134,7 @@ impl LogicalLine {
         scan: &Scan<'_>,
     ) -> Result<Last<'t>, AllocError>
         requires one_line { NoNewline line.now.body.now }
-        ensures { IfOk result (λ b. (n : ℕ) (group : List Reading) →
-            IsLogical self.old last.now group → line.now.ending.now ≡ last.now.line.ending.now →
-            scan.now.spliced ≡ is_spliced (as_line line.now) →
-            IsLogical self.new b
-            (group ++ reading_at C (as_line line.now) (as_scan scan.now) n ∷ [])) }
+        ensures { IfOk result (AddsLine line.now scan.now self.old last.now self.new) }
     {
         append_line(line, &mut self.plain)?;
         self.body.extend_from_slice(kept_body(last))?;
@@ -150,7 +144,7 @@ impl LogicalLine {
         Ok(last_line(line, scan))
     }
 
-    /// Appends the lines, as one line if they are read so.
+    /// Appends the lines, as one line if that is read like them.
     ///
     /// # Errors
     /// Fails if memory runs out.
@@ -172,7 +166,7 @@ impl LogicalLine {
         Ok(())
     }
 
-    /// Appends the lines so far, if some go on, as they are.
+    /// Appends the pending lines, if any, as they are.
     ///
     /// # Errors
     /// Fails if memory runs out.
@@ -191,7 +185,7 @@ impl LogicalLine {
         Ok(())
     }
 
-    /// Appends the lines that go on at the end of the text, if there are some.
+    /// Appends the lines pending at the end of the text, if any.
     ///
     /// # Errors
     /// Fails if memory runs out.
@@ -210,7 +204,7 @@ impl LogicalLine {
         }
     }
 
-    /// Takes a line that continues no lines of a directive: begins with it, or appends it.
+    /// Takes a line that continues no directive: begins one with it, or appends it.
     ///
     /// # Errors
     /// Fails if memory runs out.
@@ -222,10 +216,8 @@ impl LogicalLine {
     ) -> Result<Option<Last<'t>>, AllocError>
         requires one_line { NoNewline line.now.body.now }
         ensures grows { Grows out.old.items out.new.items }
-        ensures taken { IfOk result (λ b. (n : ℕ) →
-            scan.now.spliced ≡ is_spliced (as_line line.now) →
-            Takes (reading_at C (as_line line.now) (as_scan scan.now) n) [] out.old.items
-            self.new b out.new.items) }
+        ensures taken { IfOk result (λ b. (n : ℕ) → HasItsSplice line.now scan.now →
+            Takes (c_reading line.now scan.now n) [] out.old.items self.new b out.new.items) }
     {
         if begins(scan) {
             let last = self.begin(line, scan)?;
@@ -248,11 +240,8 @@ impl LogicalLine {
     ) -> Result<Option<Last<'t>>, AllocError>
         requires one_line { NoNewline line.now.body.now }
         ensures grows { Grows out.old.items out.new.items }
-        ensures taken { IfOk result (λ b. (n : ℕ) (group : List Reading) →
-            IsLogical self.old last.now group → scan.now.joins_before ≡ true →
-            scan.now.spliced ≡ is_spliced (as_line line.now) →
-            Takes (reading_at C (as_line line.now) (as_scan scan.now) n) group out.old.items
-            self.new b out.new.items) }
+        ensures taken { IfOk result (λ b. TakesLine line.now scan.now self.old (Some last.now)
+            out.old.items self.new b out.new.items) }
     {
         if line.ending != last.line.ending {
             out.extend_from_slice(self.plain.as_slice())?;
@@ -267,7 +256,7 @@ impl LogicalLine {
         Ok(None)
     }
 
-    /// Takes a line that fits, after the lines that go on.
+    /// Takes a line that fits, after the pending lines.
     ///
     /// # Errors
     /// Fails if memory runs out.
@@ -280,12 +269,8 @@ impl LogicalLine {
     ) -> Result<Option<Last<'t>>, AllocError>
         requires one_line { NoNewline line.now.body.now }
         ensures grows { Grows out.old.items out.new.items }
-        ensures taken { IfOk result (λ b. (n : ℕ) (group : List Reading) →
-            IsGroup self.old begun.entry group →
-            IfSome begun.entry (λ _. scan.now.joins_before ≡ true) →
-            scan.now.spliced ≡ is_spliced (as_line line.now) →
-            Takes (reading_at C (as_line line.now) (as_scan scan.now) n) group out.old.items
-            self.new b out.new.items) }
+        ensures taken { IfOk result (λ b. TakesLine line.now scan.now self.old begun.entry
+            out.old.items self.new b out.new.items) }
     {
         match begun {
             Some(last) => self.take_next(&last, line, scan, out),
