@@ -476,7 +476,8 @@ src/a.c:8: #if X || VMS
 src/a.c:9: a comment names it: #endif /*VMS*/"
   check 'comments: not counted' same "$(tail -n 1 "$work/err")" 'unifdef-tree: 1 condition still names a symbol'
   tree -p -r -UVMS src
-  check 'comments: under -p -r' same "$(cat "$work/out")" "$listed
+  check 'comments: under -p -r' same "$(cat "$work/out")" "src/a.c:3: a comment names it: #endif /* a  VMS */
+$listed
 src/a.c:9: a comment names it: #endif /*VMS*/"
   check 'comments: they stay' same "$(grep -c VMS src/a.c)" 6
 }
@@ -658,6 +659,22 @@ prunes_over_lines() {
     prunes_to "$stays" -UVMS "$stays" "$stays"
   done
   prunes_to '-b' '-b -UVMS' '#if X || \\\n  VMS\n#endif\n' '#if X || \\\n  VMS\n#endif\n'
+  put src/a.c '#if F(VMS, \\\n  X)\n#endif\n#if VMS || A || \\\n X + VMS\n#else /* no\n VMS */\n#endif // VMS\n'
+  tree -p -r -UVMS src
+  check '-p over lines: -r' same "$(cat "$work/out")" 'src/a.c:1: among arguments of a call: #if F(VMS,    X)
+src/a.c:4: an operand is unknown: #if A ||   X + VMS
+src/a.c:6: a comment names it: #else /* no  VMS */
+src/a.c:8: a comment names it: #endif // VMS'
+  check '-p over lines: -r: the number' same "$(tail -n 1 "$work/err")" 'unifdef-tree: 2 conditions still name a symbol'
+  tree -p -r -b -UVMS src
+  # shellcheck disable=SC1003 # The backslash belongs to the line.
+  check '-p over lines: -r -b' same "$(cat "$work/out")" 'src/a.c:1: over several lines: #if F(VMS, \
+src/a.c:4: over several lines: #if A || \
+src/a.c:8: a comment names it: #endif // VMS'
+  stays='#if !VMS || \\\n  X\n#elif X ||\\\nY\n#endif\n'
+  prunes_to 'another one would have to go' -UVMS "$stays" "$stays"
+  tree -p -r -UVMS src
+  check '-p over lines: -r: line by line' same "$(cat "$work/out")" 'src/a.c:1: decided as C: #if !VMS ||    X'
   put src/a.c '#ifdef VMS\na\n#else /* no\n VMS */\nb\n#endif\n#if A || \\\n VMS || \\\n B\nq\n#endif\n'
   tree -n -p -q -UVMS src
   # shellcheck disable=SC1003 # The backslash belongs to the line.

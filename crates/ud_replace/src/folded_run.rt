@@ -1,8 +1,8 @@
-//! The run over a text whose directives over several lines are folded.
+//! The run over a text with directives over several lines folded.
 //!
-//! The output is restored. Two looks show that nothing but what the run decides is lost: the folded
-//! text is restored to the text, and the restored output is folded to the output. If not, or if the
-//! folded text has a fault, the text is left to the run as it is.
+//! The output is restored. Two checks show that only what the run decides is lost: restoring the
+//! folded text gives the text, and folding the restored output gives the output. If a check fails,
+//! or if the folded text has a fault, the run takes the text unfolded.
 
 ghost use Rattle.std.specs.Prelude.{◌≡◌, false, true, MatchResult, IfOk, IfNone};
 ghost use Rattle.ud_args.specs.Plans.{ForOptionsOf};
@@ -21,7 +21,7 @@ use ud_model::Settings;
 use ud_passes::{fold, restore};
 
 /// Returns whether a run with these settings reads C, and neither blanks nor numbers lines.
-fn may_fold(settings: Settings) -> bool
+pub fn may_fold(settings: Settings) -> bool
     ensures { result ≡ spec.may_fold settings }
 {
     !settings.plain && !settings.blank && !settings.renumber
@@ -57,7 +57,7 @@ fn restored(alloc: Global, text: &[u8]) -> Result<Vec<u8>, ReplaceError>
     }
 }
 
-/// Returns whether a folded text is another one than the text, and is restored to it.
+/// Returns whether a folded text differs from the text, and is restored to it.
 ///
 /// # Errors
 /// `OutOfMemory` if memory can't be allocated.
@@ -73,7 +73,8 @@ fn goes_back(alloc: Global, folded: &[u8], text: &[u8]) -> Result<bool, ReplaceE
 }
 
 /// Appends the output of the run over a folded text, with pruned conditions, as a restored text.
-/// Returns `None` if the folded text has a fault, or if the restored output isn't folded to it.
+/// Returns `None` if the folded text has a fault, or if its restored output isn't folded back to
+/// it.
 ///
 /// # Errors
 /// `OutOfMemory` if memory can't be allocated.
@@ -105,8 +106,8 @@ fn run_folded(
     Ok(Some(ran))
 }
 
-/// Appends the output for a text by the run over the folded text. Returns `None` if the text is
-/// left to the run as it is.
+/// Appends the output for a text by the run over the folded text. Returns `None` if the run has to
+/// take the text unfolded.
 ///
 /// # Errors
 /// `OutOfMemory` if memory can't be allocated.

@@ -1,11 +1,11 @@
-//! One file of a tree, replaced by the output for it.
+//! Replaces one file of a tree by the output for it.
 //!
-//! `replace` asks a `Folder` one call after another: to read a file, to make another one beside it,
-//! and to rename that one over the file. `Folder` notes each call with its answer, and the contract
-//! of `replace` states which calls are made (`specs/Replacing.antt`). So it holds whatever the
+//! `replace` makes one call of a `Folder` after another: to read a file, to create another one
+//! beside it, and to rename that one over the file. The `Folder` records each call with its answer,
+//! and the contract of `replace` states which calls are made (`specs/Replacing.antt`), whatever the
 //! system answers. `law_old_or_new` states what they do to the files if the answers are true.
 //!
-//! This crate makes no call of the system itself. The types that implement `Folder` do.
+//! This crate makes no system calls itself. The types that implement `Folder` do.
 #![tactic(auto)]
 
 mod append;
@@ -23,6 +23,7 @@ mod text_run;
 
 pub use call::{FolderCall, FolderWalk};
 pub use error::{ReplaceError, Update};
+pub use folded_run::may_fold;
 pub use folder::{CreateError, Folder};
 pub use history::History;
 pub use laws::{law_old_or_new, law_one_rename};

@@ -12,7 +12,7 @@ use Rattle.ud_replace.specs.declared.node.NodeKind.TheVariants.{File, Folder, Ot
 use Rattle.ud_replace.specs.Calls.{Call, walked, WalkCall, met, followed, listed}
 use Rattle.ud_replace.specs.declared.node.FileId.{FileId}
 use Rattle.ud_tree.specs.declared.arguments.Arguments.{Arguments}
-use Rattle.ud_tree.specs.declared.report.Report.{Report}
+use Rattle.ud_tree.specs.Reports.{ReportState}
 use Rattle.ud_tree.specs.declared.walk.Found.{Found}
 use Rattle.ud_tree.specs.declared.walk.Walk.{Walk}
 use Rattle.ud_tree.specs.Catching.{Catches}
@@ -120,7 +120,7 @@ pub followed_none : (path : List ℕ) (answer : Bool) (other : List ℕ) (seen :
 followed_none path answer other seen = lists_no_more (followed path answer) (met other seen ∷ []) (λ folder names listing e. absurd cc) (met_none other seen)
 
 -- A few calls were made, and none of them lists a folder.
-pub explores_few : (ws : List WalkCall) {calls calls' : List Call} (folders folders' : List (List ℕ)) (r r' : Report) → (0 < r.faulty → 0 < r'.faulty) → calls' ≡ map walked ws ++ calls → ListsNone ws → Within folders folders' →
+pub explores_few : (ws : List WalkCall) {calls calls' : List Call} (folders folders' : List (List ℕ)) (r r' : ReportState) → (0 < r.faulty → 0 < r'.faulty) → calls' ≡ map walked ws ++ calls → ListsNone ws → Within folders folders' →
     Explores calls calls' folders folders' r r'
 explores_few ws folders folders' r r' counted is none kept = record {
   kept = counted;
@@ -131,7 +131,7 @@ explores_few ws folders folders' r r' counted is none kept = record {
 }
 
 -- Nothing was asked.
-pub explores_none : (calls : List Call) (folders : List (List ℕ)) (r r' : Report) → (0 < r.faulty → 0 < r'.faulty) → Explores calls calls folders folders r r'
+pub explores_none : (calls : List Call) (folders : List (List ℕ)) (r r' : ReportState) → (0 < r.faulty → 0 < r'.faulty) → Explores calls calls folders folders r r'
 explores_none calls folders r r' counted = explores_few [] folders folders r r' counted refl lists_none (λ folder there. there)
 
 -- All folders that waited still wait, and one more may.
@@ -153,18 +153,18 @@ waits_due ws {folders = folders} h =
     (h.folder, h.is_path, inr (subst (λ (fs : List (List ℕ)). Contains fs h.folder) (sym h.grown) (Contains-push folders h.folder)))
 
 -- A path of the command line can be taken.
-pub starts_good : (ws : List WalkCall) (path : List ℕ) {calls calls' : List Call} (folders folders' : List (List ℕ)) {found' : List Found} (r : Report) → calls' ≡ map walked ws ++ calls → ListsNone ws → Within folders folders' →
+pub starts_good : (ws : List WalkCall) (path : List ℕ) {calls calls' : List Call} (folders folders' : List (List ℕ)) {found' : List Found} (r : ReportState) → calls' ≡ map walked ws ++ calls → ListsNone ws → Within folders folders' →
     Begins ws (IsDue ws folders') (IsIn found') path → Starts path calls calls' folders folders' found' r r
 unfolding explores_few
 starts_good ws path folders folders' r is none kept b = record { explores = explores_few ws folders folders' r r (λ some. some) is none kept; begins = inr b }
 
 -- A path of the command line has a fault.
-pub starts_bad : (ws : List WalkCall) (path : List ℕ) {calls calls' : List Call} (folders : List (List ℕ)) {found' : List Found} (r r' : Report) → calls' ≡ map walked ws ++ calls → ListsNone ws → 0 < r'.faulty →
+pub starts_bad : (ws : List WalkCall) (path : List ℕ) {calls calls' : List Call} (folders : List (List ℕ)) {found' : List Found} (r r' : ReportState) → calls' ≡ map walked ws ++ calls → ListsNone ws → 0 < r'.faulty →
     Starts path calls calls' folders folders found' r r'
 starts_bad ws path folders r r' is none some = record { explores = explores_few ws folders folders r r' (λ before. some) is none (waits_still folders); begins = inl some }
 
 -- A name in a folder was looked at.
-visits_met : (answer : Lookup) (path folder name : List ℕ) {calls calls' : List Call} (folders folders' : List (List ℕ)) (r r' : Report) → (0 < r.faulty → 0 < r'.faulty) → path ≡ folder ++ name → calls' ≡ walked (met path answer) ∷ calls →
+visits_met : (answer : Lookup) (path folder name : List ℕ) {calls calls' : List Call} (folders folders' : List (List ℕ)) (r r' : ReportState) → (0 < r.faulty → 0 < r'.faulty) → path ≡ folder ++ name → calls' ≡ walked (met path answer) ∷ calls →
     Within folders folders' → ((node : Node) → answer ≡ Present node → node.kind ≡ Folder → IsVersioned name ⊎ IsDue (met path answer ∷ []) folders' path) →
     VisitsOne folder name calls calls' folders folders' r r'
 unfolding explores_few
@@ -175,17 +175,17 @@ visits_met answer path folder name folders folders' r r' counted named is kept d
 }
 
 -- A name in a folder isn't UTF-8.
-pub visits_other : (folder name : List ℕ) (calls : List Call) (folders : List (List ℕ)) (r r' : Report) → ¬ (IsUtf8 name) → 0 < r'.faulty → VisitsOne folder name calls calls folders folders r r'
+pub visits_other : (folder name : List ℕ) (calls : List Call) (folders : List (List ℕ)) (r r' : ReportState) → ¬ (IsUtf8 name) → 0 < r'.faulty → VisitsOne folder name calls calls folders folders r r'
 visits_other folder name calls folders r r' other some = record { explores = explores_none calls folders r r' (λ before. some); visited = no_text other some }
 
 -- Nothing has the path of a name, or that isn't known.
-pub visits_unmet : (answer : Lookup) (path folder name : List ℕ) {calls calls' : List Call} (folders : List (List ℕ)) (r r' : Report) → (0 < r.faulty → 0 < r'.faulty) → ((node : Node) → ¬ (answer ≡ Present node)) → path ≡ folder ++ name →
+pub visits_unmet : (answer : Lookup) (path folder name : List ℕ) {calls calls' : List Call} (folders : List (List ℕ)) (r r' : ReportState) → (0 < r.faulty → 0 < r'.faulty) → ((node : Node) → ¬ (answer ≡ Present node)) → path ≡ folder ++ name →
     calls' ≡ walked (met path answer) ∷ calls → VisitsOne folder name calls calls' folders folders r r'
 visits_unmet answer path folder name folders r r' counted other named is =
     visits_met answer path folder name folders folders r r' counted named is (waits_still folders) (λ node is_node kind. absurd (other node is_node))
 
 -- A node has the path of a name, and was added.
-pub visits_node : (node : Node) (path folder name : List ℕ) {calls calls' : List Call} (folders folders' : List (List ℕ)) (r : Report) → path ≡ folder ++ name → calls' ≡ walked (met path (Present node)) ∷ calls →
+pub visits_node : (node : Node) (path folder name : List ℕ) {calls calls' : List Call} (folders folders' : List (List ℕ)) (r : ReportState) → path ≡ folder ++ name → calls' ≡ walked (met path (Present node)) ∷ calls →
     AddsFolder path name node folders folders' → VisitsOne folder name calls calls' folders folders' r r
 visits_node node path folder name folders folders' r named is (waits_folder kind w) =
     visits_met (Present node) path folder name folders folders' r r (λ some. some) named is (waits_more w) (λ n is_node k. inr (waits_due (met path (Present node) ∷ []) w))
@@ -204,7 +204,7 @@ parts_are : (xs ys : List WalkCall) (x y z : List Call) → y ≡ map walked xs 
 parts_are xs ys x y z h k = grind (arith, common_steps, map-append)
 
 -- One part after another.
-pub explores_then : {x y z : List Call} {f g h : List (List ℕ)} {a b c : Report} → Explores x y f g a b → Explores y z g h b c → Explores x z f h a c
+pub explores_then : {x y z : List Call} {f g h : List (List ℕ)} {a b c : ReportState} → Explores x y f g a b → Explores y z g h b c → Explores x z f h a c
 explores_then {x = x} {y = y} {z = z} {f = f} {g = g} {h = h} {c = c} k l = record {
   kept = λ some. l.kept (k.kept some);
   made = l.made ++ k.made;
@@ -219,17 +219,17 @@ explores_then {x = x} {y = y} {z = z} {f = f} {g = g} {h = h} {c = c} k l = reco
     by_case folder names answer (inr before) = visits_all_within names (earlier_calls k.made l.made) (due_later k.made l.made g h l.waits) l.kept (k.visits folder names answer before)
 
 -- Some names of a folder were visited.
-pub record VisitsSome (folder : List ℕ) (names : List (List ℕ)) (x y : List Call) (f g : List (List ℕ)) (a b : Report) : Type 0 where
+pub record VisitsSome (folder : List ℕ) (names : List (List ℕ)) (x y : List Call) (f g : List (List ℕ)) (a b : ReportState) : Type 0 where
   pub explores : Explores x y f g a b
   pub visited : All (Visits explores.made (IsDue explores.made g) (0 < b.faulty) folder) names
 
 -- None was yet.
-pub visits_none : (folder : List ℕ) (calls : List Call) (folders : List (List ℕ)) (r : Report) → VisitsSome folder [] calls calls folders folders r r
+pub visits_none : (folder : List ℕ) (calls : List Call) (folders : List (List ℕ)) (r : ReportState) → VisitsSome folder [] calls calls folders folders r r
 unfolding explores_none explores_few
 visits_none folder calls folders r = record { explores = explores_none calls folders r r (λ some. some); visited = All-nil (Visits [] (IsDue [] folders) (0 < r.faulty) folder) }
 
 -- One name more of a folder was visited.
-pub visits_more : {folder : List ℕ} {names : List (List ℕ)} {name : List ℕ} {x y z : List Call} {f g h : List (List ℕ)} {a b c : Report} → VisitsSome folder names x y f g a b → VisitsOne folder name y z g h b c →
+pub visits_more : {folder : List ℕ} {names : List (List ℕ)} {name : List ℕ} {x y z : List Call} {f g h : List (List ℕ)} {a b c : ReportState} → VisitsSome folder names x y f g a b → VisitsOne folder name y z g h b c →
     VisitsSome folder (names ++ name ∷ []) x z f h a c
 unfolding explores_then
 visits_more {folder = folder} {names = names} {name = name} {g = g} {h = h} {c = c} k l = record { explores = explores_then k.explores l.explores; visited = All-push here names name earlier now }
@@ -250,7 +250,7 @@ visits_more {folder = folder} {names = names} {name = name} {g = g} {h = h} {c =
     now = visits_within name (later_calls xs ys) (due_still xs ys h) (λ some. some) l.visited
 
 -- A folder was listed, and then each of its names was visited.
-pub enters_folder : {folder : List ℕ} (names : List (List ℕ)) (answer : Bool) {x y z : List Call} {f g : List (List ℕ)} {a b c : Report} → y ≡ walked (listed folder names answer) ∷ x → (0 < a.faulty → 0 < b.faulty) → VisitsSome folder names y z f g b c →
+pub enters_folder : {folder : List ℕ} (names : List (List ℕ)) (answer : Bool) {x y z : List Call} {f g : List (List ℕ)} {a b c : ReportState} → y ≡ walked (listed folder names answer) ∷ x → (0 < a.faulty → 0 < b.faulty) → VisitsSome folder names y z f g b c →
     Enters folder x z f g a c
 enters_folder {folder = folder} names answer {x = x} {y = y} {z = z} {f = f} {g = g} {c = c} is counted l = record {
   explores = record {
@@ -285,16 +285,16 @@ one_more : {X : Type 0} (f : X → List ℕ) (xs : List X) (i : ℕ) (v : X) (na
 one_more f xs i v name within is named = grind (arith, common_steps, take_more, map-append)
 
 -- A folder was listed, and some of its names were visited.
-pub record EntersNames {X : Type 0} (f : X → List ℕ) (folder : List ℕ) (xs : List X) (i : ℕ) (x y : List Call) (a b : List (List ℕ)) (r s : Report) : Type 0 where
+pub record EntersNames {X : Type 0} (f : X → List ℕ) (folder : List ℕ) (xs : List X) (i : ℕ) (x y : List Call) (a b : List (List ℕ)) (r s : ReportState) : Type 0 where
   pub answer : Bool
   pub mid : List Call
   pub is : mid ≡ walked (listed folder (map f xs) answer) ∷ x
-  pub middle : Report
+  pub middle : ReportState
   pub counted : 0 < r.faulty → 0 < middle.faulty
   pub some : VisitsSome folder (map f (take i xs)) mid y a b middle s
 
 -- None was yet.
-pub enters_begun : {X : Type 0} (f : X → List ℕ) (xs ys : List X) (folder : List ℕ) {x y : List Call} (folders : List (List ℕ)) (r s : Report) → (0 < r.faulty → 0 < s.faulty) → ys ≡ xs → (answer : Bool) × (y ≡ walked (listed folder (map f xs) answer) ∷ x) →
+pub enters_begun : {X : Type 0} (f : X → List ℕ) (xs ys : List X) (folder : List ℕ) {x y : List Call} (folders : List (List ℕ)) (r s : ReportState) → (0 < r.faulty → 0 < s.faulty) → ys ≡ xs → (answer : Bool) × (y ≡ walked (listed folder (map f xs) answer) ∷ x) →
     EntersNames f folder ys 0 x y folders folders r s
 enters_begun f xs ys folder {x = x} {y = y} folders r s counted same h = record {
   middle = s;
@@ -306,7 +306,7 @@ enters_begun f xs ys folder {x = x} {y = y} folders r s counted same h = record 
 }
 
 -- One name more was.
-pub enters_name : {X : Type 0} (f : X → List ℕ) (xs : List X) (i : ℕ) (v : X) (name : List ℕ) {folder : List ℕ} {x y z : List Call} {a b c : List (List ℕ)} {r s t : Report} → i < length xs → v ≡ get_or xs i v → name ≡ f v →
+pub enters_name : {X : Type 0} (f : X → List ℕ) (xs : List X) (i : ℕ) (v : X) (name : List ℕ) {folder : List ℕ} {x y z : List Call} {a b c : List (List ℕ)} {r s t : ReportState} → i < length xs → v ≡ get_or xs i v → name ≡ f v →
     EntersNames f folder xs i x y a b r s → VisitsOne folder name y z b c s t → EntersNames f folder xs (i + 1) x z a c r t
 enters_name f xs i v name {folder = folder} {z = z} {a = a} {c = c} {t = t} within is named h k = record {
   middle = h.middle;
@@ -318,7 +318,7 @@ enters_name f xs i v name {folder = folder} {z = z} {a = a} {c = c} {t = t} with
 }
 
 -- All of them were.
-pub enters_all : {X : Type 0} (f : X → List ℕ) (xs : List X) (i : ℕ) {folder : List ℕ} {x y : List Call} {a b : List (List ℕ)} {r s : Report} → i ≡ length xs → EntersNames f folder xs i x y a b r s → Enters folder x y a b r s
+pub enters_all : {X : Type 0} (f : X → List ℕ) (xs : List X) (i : ℕ) {folder : List ℕ} {x y : List Call} {a b : List (List ℕ)} {r s : ReportState} → i ≡ length xs → EntersNames f folder xs i x y a b r s → Enters folder x y a b r s
 enters_all f xs i {folder = folder} {y = y} {a = a} {b = b} {s = s} all h =
     enters_folder (map f xs) h.answer h.is h.counted (subst (λ l. VisitsSome folder (map f l) h.mid y a b h.middle s) (take_all i xs (omega arith)) h.some)
 
@@ -327,16 +327,16 @@ pub popped : {X : Type 0} (f : X → List ℕ) (old new : List X) (r : Option X)
 popped f old new r x name is some named = grind (arith, map-append)
 
 -- Some folders were entered.
-pub record EntersSome (count : ℕ) (x y : List Call) (f g : List (List ℕ)) (a b : Report) : Type 0 where
+pub record EntersSome (count : ℕ) (x y : List Call) (f g : List (List ℕ)) (a b : ReportState) : Type 0 where
   pub explores : Explores x y f g a b
   pub many : count ≤ length explores.made
 
 -- None was yet.
-pub enters_none : (calls : List Call) (folders : List (List ℕ)) (r : Report) → EntersSome 0 calls calls folders folders r r
+pub enters_none : (calls : List Call) (folders : List (List ℕ)) (r : ReportState) → EntersSome 0 calls calls folders folders r r
 enters_none calls folders r = record { explores = explores_none calls folders r r (λ some. some); many = omega arith }
 
 -- One folder more, which waited last, was entered.
-pub enters_more : (count : ℕ) {x y z : List Call} {f g h : List (List ℕ)} {a b c : Report} (rest : List (List ℕ)) (folder : List ℕ) → g ≡ rest ++ folder ∷ [] → EntersSome count x y f g a b → Enters folder y z rest h b c →
+pub enters_more : (count : ℕ) {x y z : List Call} {f g h : List (List ℕ)} {a b c : ReportState} (rest : List (List ℕ)) (folder : List ℕ) → g ≡ rest ++ folder ∷ [] → EntersSome count x y f g a b → Enters folder y z rest h b c →
     EntersSome (count + 1) x z f h a c
 unfolding explores_then
 enters_more count {x = x} {y = y} {z = z} {f = f} {g = g} {h = h} {b = b} {c = c} rest folder is k l = record { explores = explores_then k.explores entered; many = many }
@@ -358,7 +358,7 @@ enters_more count {x = x} {y = y} {z = z} {f = f} {g = g} {h = h} {b = b} {c = c
         omega (arith, both, some, k.many)
 
 -- Folders were entered as often as a machine counts.
-pub exhausts_count : {count : ℕ} {x y : List Call} {f g : List (List ℕ)} {a b : Report} → 2 ^ 64 ≤ count + 1 → EntersSome count x y f g a b → Exhausts x y f g a b
+pub exhausts_count : {count : ℕ} {x y : List Call} {f g : List (List ℕ)} {a b : ReportState} → 2 ^ 64 ≤ count + 1 → EntersSome count x y f g a b → Exhausts x y f g a b
 exhausts_count many k = record { explores = k.explores; done = λ few. absurd (omega (arith, many, few, k.many)) }
 
 -- A result of which two facts hold.
@@ -374,17 +374,17 @@ pub waits_pushed : {X : Type 0} (f : X → List ℕ) (before after : List X) (x 
 waits_pushed f before after x path h is = record { folder = f x; is_path = h; grown = ap (map f) is ∙ map-append f before (x ∷ []) }
 
 -- Some paths of the command line can be taken, or have a fault.
-pub record StartsSome (paths : List (List ℕ)) (x y : List Call) (f g : List (List ℕ)) (found : List Found) (first r : Report) : Type 0 where
+pub record StartsSome (paths : List (List ℕ)) (x y : List Call) (f g : List (List ℕ)) (found : List Found) (first r : ReportState) : Type 0 where
   pub explores : Explores x y f g first r
   pub begins : (0 < r.faulty) ⊎ All (Begins explores.made (IsDue explores.made g) (IsIn found)) paths
 
 -- There was none yet.
-pub starts_none : (calls : List Call) (folders : List (List ℕ)) (found : List Found) (r : Report) → StartsSome [] calls calls folders folders found r r
+pub starts_none : (calls : List Call) (folders : List (List ℕ)) (found : List Found) (r : ReportState) → StartsSome [] calls calls folders folders found r r
 unfolding explores_none explores_few
 starts_none calls folders found r = record { explores = explores_none calls folders r r (λ some. some); begins = inr (All-nil (Begins [] (IsDue [] folders) (IsIn found))) }
 
 -- One path more can be taken, or has a fault.
-starts_more : {paths : List (List ℕ)} {path : List ℕ} {x y z : List Call} {f g h : List (List ℕ)} {found found' : List Found} {first a b : Report} → All (Contains found') found → StartsSome paths x y f g found first a →
+starts_more : {paths : List (List ℕ)} {path : List ℕ} {x y z : List Call} {f g h : List (List ℕ)} {found found' : List Found} {first a b : ReportState} → All (Contains found') found → StartsSome paths x y f g found first a →
     Starts path y z g h found' a b → StartsSome (paths ++ path ∷ []) x z f h found' first b
 unfolding explores_then
 starts_more {paths = paths} {path = path} {g = g} {h = h} {found = found} {found' = found'} {a = a} {b = b} stay k l = record { explores = explores_then k.explores l.explores; begins = by_case k.begins l.begins }
@@ -406,7 +406,7 @@ starts_more {paths = paths} {path = path} {g = g} {h = h} {found = found} {found
         (begins_within (later_calls xs ys) (due_still xs ys h) (λ p id there. there) good))
 
 -- The same, by the index of the path.
-pub starts_at : {X : Type 0} (f : X → List ℕ) (xs : List X) (i : ℕ) (v : X) (path : List ℕ) {x y z : List Call} {a b c : List (List ℕ)} {found found' : List Found} {first r s : Report} → i < length xs → v ≡ get_or xs i v → path ≡ f v →
+pub starts_at : {X : Type 0} (f : X → List ℕ) (xs : List X) (i : ℕ) (v : X) (path : List ℕ) {x y z : List Call} {a b c : List (List ℕ)} {found found' : List Found} {first r s : ReportState} → i < length xs → v ≡ get_or xs i v → path ≡ f v →
     All (Contains found') found → StartsSome (map f (take i xs)) x y a b found first r → Starts path y z b c found' r s → StartsSome (map f (take (i + 1) xs)) x z a c found' first s
 starts_at f xs i v path {x = x} {z = z} {a = a} {c = c} {found' = found'} {first = first} {s = s} within is named stay h k =
     subst (λ (ps : List (List ℕ)). StartsSome ps x z a c found' first s) (sym (one_more f xs i v path within is named)) (starts_more stay h k)
@@ -424,7 +424,7 @@ same_calls : (xs ys : List WalkCall) (old : List Call) → map walked xs ++ old 
 same_calls xs ys old e = same_walked xs ys (append_cancel_right (map walked xs) (map walked ys) old e)
 
 -- All paths can be taken, and all folders were entered.
-pub covers_paths : {X : Type 0} (f : X → List ℕ) (xs : List X) (i : ℕ) {x y z : List Call} {a b c : List (List ℕ)} {found : List Found} {first r last : Report} → i ≡ length xs → ¬ (0 < r.faulty) → StartsSome (map f (take i xs)) x y a b found first r → Exhausts y z b c r last →
+pub covers_paths : {X : Type 0} (f : X → List ℕ) (xs : List X) (i : ℕ) {x y z : List Call} {a b c : List (List ℕ)} {found : List Found} {first r last : ReportState} → i ≡ length xs → ¬ (0 < r.faulty) → StartsSome (map f (take i xs)) x y a b found first r → Exhausts y z b c r last →
     {w v : Walk} → All (Contains v.found.items) found → Catches x z w v → (patterns : List (List ℕ)) → map string_bytes w.patterns.now ≡ patterns →
     CoversPaths (map f xs) patterns x z (IsIn v.found.items) (0 < last.faulty)
 unfolding explores_then
@@ -461,7 +461,7 @@ covers_paths f xs i {x = x} {y = y} {z = z} {b = b} {c = c} {found = found} {r =
         All-weaker (Begins ws (IsDue ws b) (IsIn found)) Later (λ p start. begins_within (earlier_calls ws ys) (due_later ws ys b c k.explores.waits) (is_in_later found v.found.items stay) start) (map f (take i xs)) each
 
 -- A path of the input was looked at, and isn't that of a regular file, or was found.
-takes_met : (answer : Lookup) (path name : List ℕ) {calls calls' : List Call} (found found' : List Found) (r r' : Report) → (0 < r.faulty → 0 < r'.faulty) → name ≡ path → calls' ≡ walked (met path answer) ∷ calls → All (Contains found') found →
+takes_met : (answer : Lookup) (path name : List ℕ) {calls calls' : List Call} (found found' : List Found) (r r' : ReportState) → (0 < r.faulty → 0 < r'.faulty) → name ≡ path → calls' ≡ walked (met path answer) ∷ calls → All (Contains found') found →
     ((node : Node) → answer ≡ Present node → node.kind ≡ File → IsIn found' name node.id) → ((node : Node) → answer ≡ Present node → node.kind ≡ Other → 0 < r'.faulty) → TakesOne name calls calls' found found' r r'
 takes_met answer path name found found' r r' counted same is stay has told = record {
   kept = counted;
@@ -472,13 +472,13 @@ takes_met answer path name found found' r r' counted same is stay has told = rec
 }
 
 -- Nothing has a path of the input, or that isn't known.
-pub takes_unmet : (answer : Lookup) (path name : List ℕ) {calls calls' : List Call} (found : List Found) (r r' : Report) → (0 < r.faulty → 0 < r'.faulty) → ((node : Node) → ¬ (answer ≡ Present node)) → name ≡ path → calls' ≡ walked (met path answer) ∷ calls →
+pub takes_unmet : (answer : Lookup) (path name : List ℕ) {calls calls' : List Call} (found : List Found) (r r' : ReportState) → (0 < r.faulty → 0 < r'.faulty) → ((node : Node) → ¬ (answer ≡ Present node)) → name ≡ path → calls' ≡ walked (met path answer) ∷ calls →
     TakesOne name calls calls' found found r r'
 takes_unmet answer path name found r r' counted other same is =
     takes_met answer path name found found r r' counted same is (All-contains_itself found) (λ node is_node kind. absurd (other node is_node)) (λ node is_node kind. absurd (other node is_node))
 
 -- A node of the input was added, if it is a file.
-pub takes_node : (node : Node) (path name : List ℕ) {calls calls' : List Call} (found found' : List Found) (r r' : Report) → (0 < r.faulty → 0 < r'.faulty) → (node.kind ≡ Other → 0 < r'.faulty) → name ≡ path → calls' ≡ walked (met path (Present node)) ∷ calls → AddsNode found path node found' →
+pub takes_node : (node : Node) (path name : List ℕ) {calls calls' : List Call} (found found' : List Found) (r r' : ReportState) → (0 < r.faulty → 0 < r'.faulty) → (node.kind ≡ Other → 0 < r'.faulty) → name ≡ path → calls' ≡ walked (met path (Present node)) ∷ calls → AddsNode found path node found' →
     (node.kind ≡ File → IsIn found' path node.id) → TakesOne name calls calls' found found' r r'
 takes_node node path name found found' r r' counted told same is adds has =
     takes_met (Present node) path name found found' r r' counted same is (added_stay adds) (λ n is_node kind. here n is_node kind) (λ n is_node kind. other n is_node kind)
@@ -504,7 +504,7 @@ takes_node node path name found found' r r' counted told same is adds has =
     added_stay (file_node kind h) = stay_by path node.id h
 
 -- A path of the input isn't UTF-8.
-pub takes_other : (name : List ℕ) (calls : List Call) (found : List Found) (r r' : Report) → ¬ (IsUtf8 name) → 0 < r'.faulty → TakesOne name calls calls found found r r'
+pub takes_other : (name : List ℕ) (calls : List Call) (found : List Found) (r r' : ReportState) → ¬ (IsUtf8 name) → 0 < r'.faulty → TakesOne name calls calls found found r r'
 takes_other name calls found r r' other some = record { kept = λ before. some; made = []; are = refl; gives = no_path_text other some; stay = All-contains_itself found }
 
 gives_within : {xs ys : List WalkCall} {p q : List ℕ → FileId → Type 0} {s t : Type 0} {path : List ℕ} → Within xs ys → ((path : List ℕ) (id : FileId) → p path id → q path id) → (s → t) → Gives xs p s path → Gives ys q t path
@@ -516,7 +516,7 @@ pub takes_none : (calls : List Call) (found : List Found) (told : Type 0) → Co
 takes_none calls found told = record { calls = []; are = refl; gives = All-nil (Gives [] (IsIn found) told) }
 
 -- One path more was given.
-pub takes_at : {X : Type 0} (f : X → List ℕ) (xs : List X) (i : ℕ) (v : X) (path : List ℕ) {x y z : List Call} (found found' : List Found) {r r' : Report} → i < length xs → v ≡ get_or xs i v → path ≡ f v →
+pub takes_at : {X : Type 0} (f : X → List ℕ) (xs : List X) (i : ℕ) (v : X) (path : List ℕ) {x y z : List Call} (found found' : List Found) {r r' : ReportState} → i < length xs → v ≡ get_or xs i v → path ≡ f v →
     CoversInput (map f (take i xs)) x y (IsIn found) (0 < r.faulty) → TakesOne path y z found found' r r' → CoversInput (map f (take (i + 1) xs)) x z (IsIn found') (0 < r'.faulty)
 takes_at f xs i v path {x = x} {y = y} {z = z} found found' {r = r} {r' = r'} within is named h k = record {
   calls = all;

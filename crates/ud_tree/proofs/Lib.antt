@@ -2,6 +2,7 @@ pub mod PathLemmas
 pub mod StreamLemmas
 pub mod SummaryLemmas
 pub mod VisibleLemmas
+pub mod ReportLemmas
 pub mod MessageLemmas
 pub mod WalkLemmas
 pub mod WalkTellLemmas

@@ -18,16 +18,17 @@ use Rattle.ud_tree.specs.declared.arguments.Task.{Task}
 use Rattle.ud_tree.specs.declared.arguments.Task.TheVariants.{Names}
 use Rattle.ud_tree.specs.Fates.{fate_of, is_changed, is_same, is_faulty, no_edits}
 use Rattle.ud_tree.specs.Runs.{FileResult, Unshown, EachFile, no_file, then_file, changed_in, faulty_in, edited_in, removed_in, shown_of, told_of, Counted, names_of, nothing_listed, listed_of, outputs_of}
-use Rattle.ud_tree.specs.Remainders.{FindsAll, listing_of, mode_of, texts_of, count_of, defined_of}
-use Rattle.ud_tree.proofs.RemainderLemmas.{finds_none, finds_then, finds_same}
+use Rattle.ud_tree.specs.Remainders.{FindsAll, listing_of, count_of, defined_of}
+use Rattle.ud_tree.proofs.RemainderLemmas.{finds_none, finds_kept, finds_then, finds_same}
 use Rattle.ud_tree.specs.Statuses.{tree_status}
 use Rattle.ud_tree.specs.Streams.{Source, ends_of}
 use Rattle.ud_io.specs.Streams.{Stream, Sends}
 use Rattle.ud_tree.specs.declared.job.Job.{Job}
-use Rattle.ud_tree.specs.declared.report.Report.{Report}
-use Rattle.ud_tree.specs.Messages.{IsTold, IsPlain, KeepsScreen, Tells, TellsResult, TellsIf, list_message, write_message, output_messages}
+use Rattle.ud_tree.specs.Reports.{ReportState, new_report, IsPlain, KeepsScreen, Writes, Tells, TellsOf}
+use Rattle.ud_tree.specs.Messages.{IsTold, TellsIf, list_message, write_message, output_messages}
 use Rattle.ud_tree.specs.Summaries.{last_lines, TellsEnd}
-use Rattle.ud_tree.proofs.MessageLemmas.{tells_kept, tells_then, tells_same, output_told, output_count}
+use Rattle.ud_tree.proofs.MessageLemmas.{output_told, output_count}
+use Rattle.ud_tree.proofs.ReportLemmas.{tells_none, tells_then, tells_same, writes_kept, writes_then}
 use Rattle.ud_tree.specs.Covering.{StandsIn, MissesNone}
 use Rattle.ud_tree.specs.Walks.{IsWalk}
 use Rattle.ud_tree.specs.WalkMessages.{joined, StopsWalk, FindsFiles}
@@ -37,7 +38,7 @@ use Rattle.ud_passes.specs.remaining.RemainingLists.{RemainingState}
 use Rattle.ud_replace.specs.declared.text_plan.TextPlan.{TextPlan}
 use Rattle.ud_tree.specs.Lists.{Adds, ListsInto}
 use Rattle.ud_tree.specs.Shown.{ListsOne}
-use Rattle.ud_tree.specs.Writing.{Moment, WritesOne, ProcessesOne, WritesAll, WritesList}
+use Rattle.ud_tree.specs.Writing.{Moment, Stage, WritesOne, ProcessesOne, WritesAll, WritesList}
 use Rattle.ud_tree.specs.TreeRuns.{Ending, DoesBy, DoesOne, DoesFiles, Ends, EndsWriting, RunsTree}
 use Rattle.ud_tree.proofs.DoneLemmas.{still_failed, done_later}
 use Rattle.ud_io.proofs.StreamLemmas.{sends_none, sends_then, sends_same}
@@ -108,68 +109,67 @@ adds_push : {old mid new : NameLists} (results : List FileResult) (r : FileResul
 adds_push results r h k = grind (arith, common_steps, flat_map-append, sum_by_push)
 
 -- No file has been processed, and nothing was written.
-pub writes_none : {args : Arguments} {P : List ℕ → List Call → List Call → FileResult → Type 0} {m : Moment} {r : Report} (lists : NameLists) (counts : Counts) →
-    counts.changed ≡ 0 → counts.unchanged ≡ 0 → counts.faulty ≡ 0 → counts.edits ≡ no_edits → WritesAll args P m [] r m r counts lists lists
+pub writes_none : {args : Arguments} {P : List ℕ → List Call → List Call → FileResult → Type 0} {m : Stage} (lists : NameLists) (counts : Counts) →
+    counts.changed ≡ 0 → counts.unchanged ≡ 0 → counts.faulty ≡ 0 → counts.edits ≡ no_edits → WritesAll args P m [] m counts lists lists
 unfolding counted_none
 writes_none {m = m} lists counts a b c d =
-    record { shown = []; told = []; counted = counted_none counts a b c d; sent = sends_none m.out; tells = tells_kept m.err refl refl; adds = adds_none lists; finds = finds_none refl (λ lost. lost) }
+    record { shown = []; told = []; counted = counted_none counts a b c d; sent = sends_none m.out; writes = (tells_none m.report).writes; adds = adds_none lists; finds = finds_none refl (λ lost. lost) }
 
 -- The conditions of the output for one file more were added.
-finds_push : {args : Arguments} {a b c : Report} (results : List FileResult) (r : FileResult) → FindsAll args (outputs_of results) a b → FindsAll args r.outputs b c →
+finds_push : {args : Arguments} {a b c : ReportState} (results : List FileResult) (r : FileResult) → FindsAll args (outputs_of results) a b → FindsAll args r.outputs b c →
     FindsAll args (outputs_of (results ++ r ∷ [])) a c
 finds_push results r h k = grind (arith, common_steps, finds_same, flat_map-append, finds_then)
 
 -- One file more is processed, and what is shown and told of it was written, after the number of
 -- files was shown.
-pub writes_push : {args : Arguments} {P : List ℕ → List Call → List Call → FileResult → Type 0} {old mid new : Moment} {next : Stream} {r mid_report next_report file_report after_report : Report} {before : Counts}
+pub writes_push : {args : Arguments} {P : List ℕ → List Call → List Call → FileResult → Type 0} {old mid new : Stage} {next_report file_report : ReportState} {before : Counts}
     {lists mid_lists new_lists : NameLists}
     (files : List Found) (i : ℕ) (f : Found) (name : List ℕ) (update : Result Update ReplaceError) (edits : Edits) (fate : Fate) (after : Counts) → i < length files → f ≡ get_or files i f →
-    name ≡ string_bytes f.path → WritesAll args P old (names_of (take i files)) r mid mid_report before lists mid_lists →
-    FindsAll args [] mid_report next_report → FindsAll args [] file_report after_report → Tells mid_report next_report mid.err next [] → KeepsScreen next_report file_report →
-    ProcessesOne args P name mid.calls new.calls mid.out new.out update edits mid_lists new_lists next_report file_report → TellsResult name update file_report after_report next new.err → fate ≡ fate_of update →
+    name ≡ string_bytes f.path → WritesAll args P old (names_of (take i files)) mid before lists mid_lists → Tells mid.report next_report [] → KeepsScreen next_report file_report →
+    ProcessesOne args P name (record mid { report = next_report }) (record new { report = file_report }) update edits mid_lists new_lists → TellsOf (IsTold name update) file_report new.report → fate ≡ fate_of update →
     after.changed ≡ before.changed + cond (is_changed fate) 1 0 →
     after.unchanged ≡ before.unchanged + cond (is_same fate) 1 0 →
     after.faulty ≡ before.faulty + cond (is_faulty fate) 1 0 →
     (before.edits.conditions + edits.conditions < 2 ^ 64 → after.edits.conditions ≡ before.edits.conditions + edits.conditions) →
     (before.edits.lines + edits.lines < 2 ^ 64 → after.edits.lines ≡ before.edits.lines + edits.lines) →
-    WritesAll args P old (names_of (take (i + 1) files)) r new after_report after lists new_lists
+    WritesAll args P old (names_of (take (i + 1) files)) new after lists new_lists
 unfolding counted_push
-writes_push {next = next} files i f name update edits fate after within is named h before_it after_it progress screen p t e a b c d l =
-    let quiet = tells_then progress (tells_kept next screen.terminal screen.shown) in
+writes_push files i f name update edits fate after within is named h progress screen p t e a b c d l =
     let w = p.writes in
-    let result : FileResult = record { update = update; shown = w.shown; told = t.told; edits = edits; listed = p.listed; outputs = w.outputs } in
+    let result : FileResult = record { update = update; shown = w.shown; told = t.message; edits = edits; listed = p.listed; outputs = w.outputs } in
     record {
       shown = h.shown ++ w.shown;
-      told = h.told ++ t.told;
-      counted = counted_push files i f name result after within is named h.counted (w.does t.told) t.is_told (rw e at a) (rw e at b) (rw e at c) d l;
+      told = h.told ++ t.message;
+      counted = counted_push files i f name result after within is named h.counted (w.does t.message) t.is_of (rw e at a) (rw e at b) (rw e at c) d l;
       sent = sends_then h.sent w.sent;
-      tells = tells_then h.tells (tells_then quiet t.tells);
+      writes = writes_then h.writes (writes_then (writes_then progress.writes (writes_kept screen)) t.tells.writes);
       adds = adds_push h.counted.results result h.adds p.adds;
-      finds = finds_push h.counted.results result h.finds (finds_then [] w.outputs before_it (finds_same (append-nil w.outputs) (finds_then w.outputs [] w.finds after_it)));
+      finds = finds_push h.counted.results result h.finds
+          (finds_then [] w.outputs (finds_kept progress.keeps) (finds_same (append-nil w.outputs) (finds_then w.outputs [] w.finds (finds_kept t.tells.keeps))));
     }
 
 -- All files are processed, and what is shown and told of them was written.
-pub writes_all : {args : Arguments} {P : List ℕ → List Call → List Call → FileResult → Type 0} {old new : Moment} {r s : Report} {counts : Counts} {lists lists' : NameLists} (files : List Found) (i : ℕ) →
-    i ≡ length files → WritesAll args P old (names_of (take i files)) r new s counts lists lists' → WritesAll args P old (names_of files) r new s counts lists lists'
+pub writes_all : {args : Arguments} {P : List ℕ → List Call → List Call → FileResult → Type 0} {old new : Stage} {counts : Counts} {lists lists' : NameLists} (files : List Found) (i : ℕ) →
+    i ≡ length files → WritesAll args P old (names_of (take i files)) new counts lists lists' → WritesAll args P old (names_of files) new counts lists lists'
 writes_all files i is h = grind (arith, take_all)
 
 -- A file was processed of which nothing is shown.
-pub lists_unshown : {args : Arguments} {r : Report} {plan : TextPlan} {lists : Bool} {name : List ℕ} {calls calls' : List Call} {old new : NameLists} {update : Result Update ReplaceError} (out : Stream) {n : Edits} → n ≡ no_edits →
-    ListsInto plan lists name calls calls' old new update → ProcessesOne args (Unshown (ListsOne plan lists)) name calls calls' out out update n old new r r
-lists_unshown out none h = record {
+pub lists_unshown : {args : Arguments} {plan : TextPlan} {lists : Bool} {name : List ℕ} {calls calls' : List Call} {old new : NameLists} {update : Result Update ReplaceError} (out : Stream) (r : ReportState) {n : Edits} → n ≡ no_edits →
+    ListsInto plan lists name calls calls' old new update → ProcessesOne args (Unshown (ListsOne plan lists)) name (record { calls = calls; out = out; report = r }) (record { calls = calls'; out = out; report = r }) update n old new
+lists_unshown out r none h = record {
   listed = h.listed;
   writes = record { shown = []; outputs = []; does = λ told. record { does = h.does; nothing = refl; unedited = none; no_output = refl }; sent = sends_none out; finds = finds_none refl (λ lost. lost) };
   adds = h.adds;
 }
 
 -- A file was processed of which nothing is listed.
-pub unlisted_one : {args : Arguments} {r r' : Report} {P : List ℕ → List Call → List Call → FileResult → Type 0} {name : List ℕ} {calls calls' : List Call} {out out' : Stream} {update : Result Update ReplaceError} {n : Edits} (lists : NameLists) →
-    WritesOne args P name calls calls' out out' update n nothing_listed r r' → ProcessesOne args P name calls calls' out out' update n lists lists r r'
+pub unlisted_one : {args : Arguments} {P : List ℕ → List Call → List Call → FileResult → Type 0} {name : List ℕ} {before after : Stage} {update : Result Update ReplaceError} {n : Edits} (lists : NameLists) →
+    WritesOne args P name before after update n nothing_listed → ProcessesOne args P name before after update n lists lists
 unlisted_one lists h = record { listed = nothing_listed; writes = h; adds = adds_none lists }
 
 -- The task of the arguments does what they ask for.
-pub done_by : (t : Task) (args : Arguments) {name : List ℕ} {calls calls' : List Call} {out out' : Stream} {update : Result Update ReplaceError} {n : Edits} {lists lists' : NameLists} {r r' : Report} →
-    args.task ≡ t → ProcessesOne args (DoesBy t args) name calls calls' out out' update n lists lists' r r' → ProcessesOne args (DoesOne args) name calls calls' out out' update n lists lists' r r'
+pub done_by : (t : Task) (args : Arguments) {name : List ℕ} {before after : Stage} {update : Result Update ReplaceError} {n : Edits} {lists lists' : NameLists} →
+    args.task ≡ t → ProcessesOne args (DoesBy t args) name before after update n lists lists' → ProcessesOne args (DoesOne args) name before after update n lists lists'
 done_by t args is h = grind arith
 
 -- A list was written, if it is wanted.
@@ -195,22 +195,33 @@ by_list : (b : Bool) {wanted : Bool} {listed : List ℕ} → wanted ≡ b → (w
 by_list true is off on = on is
 by_list false is off on = off is
 
+-- The report of a run before its first message.
+abbrev begun : Job → Stream → ReportState
+begun job err = new_report job.is_terminal (listing_of job.arguments.now) err
+
+plain_begun : (job : Job) (err : Stream) → job.is_terminal ≡ false → IsPlain (begun job err)
+plain_begun job err is = record { no_terminal = is; unshown = refl }
+
+-- Bytes were written since then.
+sent_begun : (job : Job) {err : Stream} {first r : ReportState} {x : List ℕ} → first ≡ begun job err → Writes first r x → job.is_terminal ≡ false → Sends err r.err x
+sent_begun job {err = err} {r = r} {x = x} is h p = (subst (λ (q : ReportState). Writes q r x) is h).sent (plain_begun job err p)
+
 -- The run ends with the status of its counts.
-pub ends : (job : Job) (files : List Found) {old mid new : Moment} {listed listed_err : Stream} {r mid_report list_report end_report : Report} {counts : Counts} (lost unwritten : Bool) (in_walk faults hidden status : ℕ) (start lists : NameLists) →
-    start.list.items ≡ [] → start.hidden ≡ 0 → start.hidden_list.items ≡ [] → hidden ≡ lists.hidden →
-    r.remaining ≡ record { listing = listing_of job.arguments.now; count = 0; defined = 0; list = [] } → (lost ≡ false → mid_report.has_lost ≡ false) → end_report.remaining ≡ mid_report.remaining →
-    DoesFiles job files old r mid mid_report counts start lists → WritesList job.arguments.now lists mid_report.remaining.list lost mid.out listed →
-    TellsIf list_message lost mid_report list_report mid.err listed_err → Sends listed new.out [] → unwritten ≡ new.out.failed → (new.out.failed ≡ false → new.out.unflushed ≡ false) →
-    (end : Stream) → TellsIf write_message unwritten list_report end_report listed_err end → TellsEnd job.arguments.now counts faults hidden end_report end new.err →
+pub ends : (job : Job) (files : List Found) {old new : Moment} {mid : Stage} {listed : Stream} {list_report end_report last_report : ReportState} {counts : Counts} (lost unwritten : Bool) (in_walk faults hidden status : ℕ) (start lists : NameLists) →
+    start.list.items ≡ [] → start.hidden ≡ 0 → start.hidden_list.items ≡ [] → hidden ≡ lists.hidden → (lost ≡ false → mid.report.has_lost ≡ false) →
+    DoesFiles job files (record { calls = old.calls; out = old.out; report = begun job old.err }) mid counts start lists → WritesList job.arguments.now lists mid.report.remaining.list lost mid.out listed →
+    TellsIf list_message lost mid.report list_report → Sends listed new.out [] → unwritten ≡ new.out.failed → (new.out.failed ≡ false → new.out.unflushed ≡ false) →
+    TellsIf write_message unwritten list_report end_report → TellsEnd job.arguments.now counts faults hidden end_report last_report → new.err ≡ last_report.err →
     new.calls ≡ mid.calls → counts.faulty ≤ faults → (in_walk + (cond lost 1 0 + cond unwritten 1 0) + counts.faulty < 2 ^ 64 → faults ≡ in_walk + (cond lost 1 0 + cond unwritten 1 0) + counts.faulty) →
-    (unheard : Bool) → unheard ≡ new.err.failed → status ≡ tree_status job.arguments.now.task job.arguments.now.plan.run.settings.exit_mode unheard faults counts.changed → (job.is_terminal ≡ false → IsPlain r) → EndsWriting job in_walk old files new status
-ends job files {old = old} {new = new} {counts = counts} lost unwritten in_walk faults hidden status start lists no_name none no_condition hidden_now no_remainder whole_report same_remainder d l t f failed flushed end u e same few all unheard heard is plain =
+    (unheard : Bool) → unheard ≡ new.err.failed → status ≡ tree_status job.arguments.now.task job.arguments.now.plan.run.settings.exit_mode unheard faults counts.changed → EndsWriting job in_walk old files new status
+ends job files {old = old} {new = new} {end_report = end_report} {counts = counts} lost unwritten in_walk faults hidden status start lists no_name none no_condition hidden_now whole_report d l t f failed flushed u e stream same few all unheard heard is =
     let w = d.does in
     let h = w.counted in
     let args = job.arguments.now in
     let of_output = joined (output_messages lost unwritten) in
     let both = tells_same (sym (output_told lost unwritten)) (tells_then t u) in
-    let last = last_lines args counts.changed counts.unchanged faults hidden counts.edits e.remaining e.defined in
+    let left = end_report.remaining in
+    let last = last_lines args counts.changed counts.unchanged faults hidden counts.edits left.count left.defined in
     let all_names : lists.list.items ≡ (listed_of h.results).names = w.adds.names ∙ ap (λ (x : List ℕ). x ++ (listed_of h.results).names) no_name in
     let all_hidden : lists.hidden_list.items ≡ (listed_of h.results).hidden_list = w.adds.hidden_list ∙ ap (λ (x : List ℕ). x ++ (listed_of h.results).hidden_list) no_condition in
     record {
@@ -223,7 +234,7 @@ ends job files {old = old} {new = new} {counts = counts} lost unwritten in_walk 
           each = subst (λ (calls : List Call). EachFile (DoesOne args) old.calls (names_of d.done) calls h.results) (sym same) h.each;
         };
         is_lost = lost;
-        tally = record { faults = faults; hidden = hidden; edits = counts.edits; remaining = e.remaining; defined = e.defined };
+        tally = record { faults = faults; hidden = hidden; edits = counts.edits; remaining = left.count; defined = left.defined };
         shows = record {
           listed = l.listed;
           shown_is = ap (λ (x : List ℕ). x ++ l.listed) h.shown_is;
@@ -232,25 +243,24 @@ ends job files {old = old} {new = new} {counts = counts} lost unwritten in_walk 
               subst (λ (x : List ℕ). Tabulates (names_in x) (listed_of h.results).hidden_list l.listed) all_names
               (subst (λ (x : List ℕ). Tabulates (names_in lists.list.items) x l.listed) all_hidden (l.table is off whole));
           remains = λ other on whole wanted calls represents.
-              l.remains other on ∙ (w.finds.added (whole_report whole) wanted calls represents).list_is
-              ∙ ap (λ (s : RemainingState). s.list ++ texts_of calls s.listing (mode_of args) (outputs_of h.results)) no_remainder;
+              l.remains other on ∙ (w.finds.added (whole_report whole) wanted calls represents).list_is;
           unsearched = λ other off. by_list args.list_remaining refl (l.is_wanted other)
-              (λ on. l.remains other on ∙ ap (λ (s : RemainingState). s.list) (w.finds.same off ∙ no_remainder));
+              (λ on. l.remains other on ∙ ap (λ (s : RemainingState). s.list) (w.finds.same off));
         };
         totals = record {
           hidden = λ small. let sum = w.adds.hidden (omega (arith, none, small)) in omega (arith, hidden_now, none, sum);
           edited = h.counts_are.edited;
           removed = h.counts_are.removed;
           remaining = λ whole wanted calls represents small.
-              e.remaining_is ∙ ap (λ (s : RemainingState). s.count) same_remainder
-              ∙ counted_from (count_of calls (mode_of args) (outputs_of h.results)) (ap (λ (s : RemainingState). s.count) no_remainder)
+              ap (λ (s : RemainingState). s.count) both.keeps.remaining
+              ∙ counted_from (count_of calls args (outputs_of h.results)) refl
               (w.finds.added (whole_report whole) wanted calls represents).count_is small;
-          none_remains = λ off. e.remaining_is ∙ ap (λ (s : RemainingState). s.count) (same_remainder ∙ w.finds.same off ∙ no_remainder);
+          none_remains = λ off. ap (λ (s : RemainingState). s.count) (both.keeps.remaining ∙ w.finds.same off);
           defined = λ whole wanted calls represents small.
-              e.defined_is ∙ ap (λ (s : RemainingState). s.defined) same_remainder
-              ∙ counted_from (defined_of calls (mode_of args) (outputs_of h.results)) (ap (λ (s : RemainingState). s.defined) no_remainder)
+              ap (λ (s : RemainingState). s.defined) both.keeps.remaining
+              ∙ counted_from (defined_of calls args (outputs_of h.results)) refl
               (w.finds.added (whole_report whole) wanted calls represents).defined_is small;
-          none_defined = λ off. e.defined_is ∙ ap (λ (s : RemainingState). s.defined) (same_remainder ∙ w.finds.same off ∙ no_remainder);
+          none_defined = λ off. ap (λ (s : RemainingState). s.defined) (both.keeps.remaining ∙ w.finds.same off);
         };
         has_status = record {
           faults_are = subst (λ (b : Bool). in_walk + length (output_messages lost b) + faulty_in h.results < 2 ^ 64 → faults ≡ in_walk + length (output_messages lost b) + faulty_in h.results) failed
@@ -262,23 +272,23 @@ ends job files {old = old} {new = new} {counts = counts} lost unwritten in_walk 
         };
         tells = record {
           told_is = ap (λ (x : List ℕ). (x ++ of_output) ++ last) h.told_is ∙ ap (λ (b : Bool). (told_of h.results ++ joined (output_messages lost b)) ++ last) failed;
-          last_is = ap (λ (x : ℕ). last_lines args x counts.unchanged faults hidden counts.edits e.remaining e.defined) h.counts_are.changed
-              ∙ ap (λ (x : ℕ). last_lines args (changed_in h.results) x faults hidden counts.edits e.remaining e.defined) h.counts_are.unchanged;
+          last_is = ap (λ (x : ℕ). last_lines args x counts.unchanged faults hidden counts.edits left.count left.defined) h.counts_are.changed
+              ∙ ap (λ (x : ℕ). last_lines args (changed_in h.results) x faults hidden counts.edits left.count left.defined) h.counts_are.unchanged;
         };
       };
       written = record {
         status_is = refl;
         streams_are = refl;
         sent = sends_same (append-nil (w.shown ++ l.listed)) (sends_then (sends_then w.sent l.sent) f);
-        ended = e.told;
-        tells = λ p. let told = tells_then w.tells both in let is_plain = plain p in sends_then (told.sent is_plain) (e.alone (told.plain is_plain).unshown);
+        ended = rw stream e.told;
+        tells = λ p. let told = writes_then w.writes both.writes in let plain = plain_begun job old.err p in rw stream (sends_then (told.sent plain) (e.alone (told.plain plain).unshown));
       };
     }
 
 -- The run made only calls of a walk, and a message says why.
-pub no_files : (job : Job) (given : Source) {left : Source} {old new : Moment} {r r' : Report} → (job.is_terminal ≡ false → IsPlain r) →
-    StopsWalk job.arguments.now.from_input left old.calls new.calls r r' old.err new.err → new.out ≡ old.out → RunsTree job given left old new 2
-no_files job given {old = old} {new = new} plain h same = record {
+pub no_files : (job : Job) (given : Source) {left : Source} {old new : Moment} {first r : ReportState} → first ≡ begun job old.err → new.err ≡ r.err →
+    StopsWalk job.arguments.now.from_input left old.calls new.calls first r → new.out ≡ old.out → RunsTree job given left old new 2
+no_files job given {old = old} {new = new} is stream h same = record {
   messages = h.messages;
   ending = record { streams = ends_of new.out new.err; shown = []; told = h.told; last = []; status = 2 };
   is_run = inl (record { walk = h.walk; stops = h.stops; unshown = refl; no_last = refl; status_is = refl });
@@ -287,7 +297,7 @@ no_files job given {old = old} {new = new} plain h same = record {
     streams_are = refl;
     sent = subst (λ (s : Stream). Sends old.out s []) (sym same) (sends_none old.out);
     ended = (new.err, sends_none new.err);
-    tells = λ p. h.tells.sent (plain p);
+    tells = λ p. rw stream (sent_begun job is h.tells.writes p);
   };
 }
 
@@ -313,10 +323,9 @@ ends_counted n m same h = record {
     same_sum n m k l faults same h small = let is : n ≡ m = same (omega arith) in let sum : faults ≡ n + k + l = h (omega arith) in omega arith
 
 -- The run processed the files that the walk found.
-pub ran_from : (job : Job) {given left : Source} {old mid new : Moment} {r r' : Report} {found files : List Found} {status : ℕ} (in_walk : ℕ) → files ≡ found → (job.is_terminal ≡ false → IsPlain r) → r.faulty ≡ 0 →
-    in_walk ≡ r'.faulty → FindsFiles job.arguments.now given left old.calls mid.calls found r r' old.err mid.err → mid.out ≡ old.out →
-    EndsWriting job in_walk mid files new status → RunsTree job given left old new status
-ran_from job {old = old} {mid = mid} {new = new} {r = r} {r' = r'} {files = files} in_walk is plain none number w same h = record {
+pub ran_from : (job : Job) {given left : Source} {old mid new : Moment} {first r : ReportState} {found files : List Found} {status : ℕ} (in_walk : ℕ) → files ≡ found → first ≡ begun job old.err → in_walk ≡ r.faulty → mid.err ≡ r.err →
+    FindsFiles job.arguments.now given left old.calls mid.calls found first r → mid.out ≡ old.out → EndsWriting job in_walk mid files new status → RunsTree job given left old new status
+ran_from job {old = old} {mid = mid} {new = new} {files = files} in_walk is first_is number stream w same h = record {
   messages = w.reports.messages;
   ending = h.ending;
   is_run = inr (record {
@@ -328,21 +337,18 @@ ran_from job {old = old} {mid = mid} {new = new} {r = r} {r' = r'} {files = file
     is_walk = subst (λ (fs : List Found). IsWalk old.calls mid.calls fs) (sym is) w.is_walk;
     walk = w.reports.walk;
     some = subst (λ (fs : List Found). job.arguments.now.from_input ≡ false → 0 < length fs) (sym is) w.some;
-    ends = ends_counted in_walk (length w.reports.messages) (walk_counted r.faulty r'.faulty in_walk (length w.reports.messages) none number w.reports.counted) h.ends;
+    ends = ends_counted in_walk (length w.reports.messages) (λ small.
+        let none = ap (λ (q : ReportState). q.faulty) first_is in
+        let counted = w.reports.counted (omega (arith, none, small)) in omega (arith, none, number, counted)) h.ends;
   });
   written = record {
     status_is = h.written.status_is;
     streams_are = h.written.streams_are;
     sent = subst (λ (s : Stream). Sends s new.out h.ending.shown) same h.written.sent;
     ended = h.written.ended;
-    tells = λ p. sends_then (w.reports.tells.sent (plain p)) (h.written.tells p);
+    tells = λ p. sends_then (sent_begun job first_is w.reports.tells.writes p) (rw stream at (h.written.tells p));
   };
 }
-  where
-    walk_counted : (a b in_walk n : ℕ) → a ≡ 0 → in_walk ≡ b → (a + n < 2 ^ 64 → b ≡ a + n) → n < 2 ^ 64 → in_walk ≡ n
-    walk_counted a b in_walk n none number h small =
-        let is : b ≡ a + n = h (omega arith) in
-        omega arith
 
 -- Faults that are added up, of which two are 0 or 1.
 pub faults_added : (p q : Bool) (walk files a b c d faults : ℕ) → a ≡ bool_byte p → b ≡ min (walk + a) (2 ^ 64 - 1) → c ≡ bool_byte q → d ≡ min (b + c) (2 ^ 64 - 1) →

@@ -13,7 +13,7 @@ use Rattle.ud_replace.specs.Calls.{Call, was_read}
 use Rattle.ud_replace.specs.TextOutcomes.{TextOptions, IsPlanned, RunsOver, FailsOver, over_memory}
 use Rattle.ud_model.specs.declared.kind.Mode.{Mode}
 use Rattle.ud_tree.specs.declared.arguments.Arguments.{Arguments}
-use Rattle.ud_tree.specs.declared.report.Report.{Report}
+use Rattle.ud_tree.specs.Reports.{ReportState}
 use Rattle.ud_tree.specs.Remainders.{FindsAll}
 use Rattle.ud_tree.specs.declared.counts.Edits.{Edits}
 use Rattle.ud_tree.specs.Fates.{no_edits, removed_by}
@@ -61,9 +61,9 @@ pub has_diff : (o : TextOptions) (name text output seen diff : List ℕ) (ran : 
 has_diff o name text output seen diff ran h e p is = grind arith
 
 -- Nothing was written of a file.
-pub shows_none : {args : Arguments} {plan : TextPlan} {into : Bool} {r r' : Report} {outputs : List Output} {name : List ℕ} {calls calls' : List Call} {update : Result Update ReplaceError} (out : Stream) {n : Edits} → n ≡ no_edits → ReadsOne name calls calls' →
+pub shows_none : {args : Arguments} {plan : TextPlan} {into : Bool} {r r' : ReportState} {outputs : List Output} {name : List ℕ} {calls calls' : List Call} {update : Result Update ReplaceError} (out : Stream) {n : Edits} → n ≡ no_edits → ReadsOne name calls calls' →
     ((o : TextOptions) → IsPlanned plan o → ShowsFile o into name calls calls' update [] no_edits outputs) →
-    FindsAll args outputs r r' → WritesOne args (ShowsOne plan into) name calls calls' out out update n nothing_listed r r'
+    FindsAll args outputs r r' → WritesOne args (ShowsOne plan into) name (record { calls = calls; out = out; report = r }) (record { calls = calls'; out = out; report = r' }) update n nothing_listed
 shows_none {into = into} {outputs = outputs} {name = name} {calls = calls} {calls' = calls'} {update = update} out none read h finds = record {
   shown = [];
   outputs = outputs;

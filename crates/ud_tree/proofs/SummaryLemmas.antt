@@ -1,22 +1,18 @@
 -- Lines from their parts.
 use Rattle.std.proofs.Common.{◌≡◌, ℕ, List, [], ◌++◌, Bool, true, false, cond, refl, sym, ap, ◌∙◌, subst, append_assoc, append-nil, codes, decimal, ◌==◌, ◌&&◌, eqb-true, arith}
 use Rattle.std.proofs.lemmas.Grind.{common_steps}
-use Rattle.ud_tree.specs.declared.report.Report.{Report}
+use Rattle.ud_tree.specs.Reports.{ReportState, Says}
 use Rattle.ud_tree.specs.declared.arguments.Arguments.{Arguments}
 use Rattle.ud_tree.specs.declared.counts.Counts.{Counts}
 use Rattle.ud_tree.specs.declared.arguments.Task.TheVariants.{Names}
 use Rattle.ud_io.specs.Streams.{Stream, Sends}
-use Rattle.ud_tree.specs.Summaries.{line_of, changes_line, files_text, hidden_text, summary, remaining_text, remaining_line, removed_line, removed_text, edited_line, edited_text, defined_line, defined_text, last_lines, TellsEnd, Says}
+use Rattle.ud_tree.specs.Summaries.{line_of, changes_line, files_text, hidden_text, summary, remaining_text, remaining_line, removed_line, removed_text, edited_line, edited_text, defined_line, defined_text, TellsEnd}
 use Rattle.ud_tree.specs.Visible.{visible}
-use Rattle.ud_io.proofs.StreamLemmas.{sends_none, sends_then, sends_same}
+use Rattle.ud_io.proofs.StreamLemmas.{sends_none, sends_then}
 
 -- A line was written in three parts.
 pub line_sent : {a b c d : Stream} (text : List ℕ) → Sends a b (codes "unifdef-tree: ") → Sends b c (visible text) → Sends c d (codes "\n") → Sends a d (line_of text)
 line_sent text h k l = sends_then (sends_then h k) l
-
--- An equal line was written.
-pub says_same : {old new : Report} {err err' : Stream} {x y : List ℕ} → x ≡ y → Says old new err err' x → Says old new err err' y
-says_same {old = old} {new = new} {err = err} {err' = err'} e h = subst (λ (z : List ℕ). Says old new err err' z) e h
 
 -- The numbers of files that changed, or would, from the six parts of their line.
 pub changes_joined : (changed unchanged faults : ℕ) (word c u f : List ℕ) → c ≡ decimal changed → u ≡ decimal unchanged → f ≡ decimal faults →
@@ -45,19 +41,15 @@ pub remaining_none : (listed : Bool) (count : ℕ) → count ≡ 0 → listed �
 remaining_none listed count p q = grind arith
 
 -- The line of conditions that are listed.
-pub remaining_listed : (listed : Bool) (count : ℕ) (number text : List ℕ) → listed ≡ true → number ≡ decimal count → text ≡ remaining_text count →
-    line_of (number ++ (text ++ [])) ≡ remaining_line listed count
-remaining_listed listed count number text on p q = grind (arith, common_steps, and_false)
+pub remaining_listed : (listed : Bool) (count : ℕ) (text : List ℕ) → listed ≡ true → text ≡ remaining_text count → line_of ((decimal count ++ text) ++ []) ≡ remaining_line listed count
+remaining_listed listed count text on p = grind (arith, common_steps, and_false)
 
 -- The line of conditions that aren't listed, of which there are some.
-pub remaining_told : (listed : Bool) (count : ℕ) (number text : List ℕ) → listed ≡ false → ¬ (count ≡ 0) → number ≡ decimal count → text ≡ remaining_text count →
-    line_of (number ++ (text ++ (codes "; -r lists them" ++ []))) ≡ remaining_line listed count
-remaining_told listed count number text off some p q =
-    subst (λ (b : Bool). line_of (number ++ (text ++ (codes "; -r lists them" ++ []))) ≡ remaining_line b count) (sym off)
-    (ap (λ x. line_of (x ++ (text ++ (codes "; -r lists them" ++ [])))) p
-    ∙ ap (λ x. line_of (decimal count ++ (x ++ (codes "; -r lists them" ++ [])))) q
-    ∙ ap line_of (sym (append_assoc (decimal count) (remaining_text count) (codes "; -r lists them")))
-    ∙ by_test (count == 0) refl)
+pub remaining_told : (listed : Bool) (count : ℕ) (text : List ℕ) → listed ≡ false → ¬ (count ≡ 0) → text ≡ remaining_text count →
+    line_of ((decimal count ++ text) ++ codes "; -r lists them") ≡ remaining_line listed count
+remaining_told listed count text off some p =
+    subst (λ (b : Bool). line_of ((decimal count ++ text) ++ codes "; -r lists them") ≡ remaining_line b count) (sym off)
+    (ap (λ x. line_of ((decimal count ++ x) ++ codes "; -r lists them")) p ∙ by_test (count == 0) refl)
   where
     line : List ℕ
     line = line_of (decimal count ++ remaining_text count ++ codes "; -r lists them")
@@ -66,62 +58,36 @@ remaining_told listed count number text off some p q =
     by_test true is = absurd (some (eqb-true count 0 is))
     by_test false is = sym (ap (λ (b : Bool). cond (b && true) [] line) is)
 
--- If no number of files was shown, only the line was written.
-pub said_unshown : {old new : Report} {err err' : Stream} {bytes : List ℕ} → Says old new err err' bytes → old.is_shown ≡ false → Sends err err' bytes
-said_unshown {err' = err'} {bytes = bytes} h hidden = subst (λ (s : Stream). Sends s err' bytes) (h.unshown hidden) h.sent
-
--- A quiet run ends with nothing.
-pub ends_quiet : (args : Arguments) (counts : Counts) (faults hidden : ℕ) (old : Report) (err : Stream) → args.quiet ≡ true → TellsEnd args counts faults hidden old err err
-ends_quiet args counts faults hidden old err quiet =
-    let none : Sends err err (last_lines args counts.changed counts.unchanged faults hidden counts.edits old.remaining.count old.remaining.defined) =
-    sends_same (sym (ap (λ (b : Bool). cond b [] (summary args.task args.list_hidden counts.changed counts.unchanged faults hidden ++ removed_line counts.edits.lines ++ edited_line args.plan.prunes counts.edits.conditions ++ remaining_line args.list_remaining old.remaining.count ++ defined_line args.list_remaining old.remaining.defined)) quiet)) (sends_none err) in
-    record { remaining = old.remaining.count; remaining_is = refl; defined = old.remaining.defined; defined_is = refl; told = (err, none); alone = λ e. none }
-
 -- No line was removed.
 pub removed_none : (count : ℕ) → count ≡ 0 → removed_line count ≡ []
 removed_none count none = grind arith
 
 -- The line with the number of removed lines.
-pub removed_told : (count : ℕ) (number text : List ℕ) → ¬ (count ≡ 0) → number ≡ decimal count → text ≡ removed_text count →
-    line_of (number ++ (text ++ [])) ≡ removed_line count
-removed_told count number text some p q = grind (arith, common_steps)
+pub removed_told : (count : ℕ) (text : List ℕ) → ¬ (count ≡ 0) → text ≡ removed_text count → line_of ((decimal count ++ text) ++ []) ≡ removed_line count
+removed_told count text some q = grind (arith, common_steps)
 
 -- The number of edited conditions isn't wanted.
 pub edited_none : (prunes : Bool) (count : ℕ) → prunes ≡ false → edited_line prunes count ≡ []
 edited_none prunes count off = subst (λ (b : Bool). edited_line b count ≡ []) (sym off) refl
 
 -- The line with the number of edited conditions.
-pub edited_told : (prunes : Bool) (count : ℕ) (number text : List ℕ) → prunes ≡ true → number ≡ decimal count → text ≡ edited_text count →
-    line_of (number ++ (text ++ [])) ≡ edited_line prunes count
-edited_told prunes count number text on p q = grind arith
+pub edited_told : (prunes : Bool) (count : ℕ) (text : List ℕ) → prunes ≡ true → text ≡ edited_text count → line_of ((decimal count ++ text) ++ []) ≡ edited_line prunes count
+edited_told prunes count text on q = grind (arith, common_steps)
 
 -- No line defines a symbol.
 pub defined_none : (listed : Bool) (count : ℕ) → count ≡ 0 → defined_line listed count ≡ []
 defined_none listed count none = grind arith
 
 -- The line with the number of lines that define a symbol.
-pub defined_told : (listed : Bool) (count : ℕ) (number text : List ℕ) → ¬ (count ≡ 0) → number ≡ decimal count → text ≡ defined_text listed count →
-    line_of (number ++ (text ++ [])) ≡ defined_line listed count
-defined_told listed count number text some p q = grind (arith, common_steps)
+pub defined_told : (listed : Bool) (count : ℕ) (text : List ℕ) → ¬ (count ≡ 0) → text ≡ defined_text listed count → line_of ((decimal count ++ text) ++ []) ≡ defined_line listed count
+defined_told listed count text some q = grind (arith, common_steps)
+
+-- A quiet run ends with nothing.
+pub ends_quiet : (args : Arguments) (counts : Counts) (faults hidden : ℕ) (r : ReportState) → args.quiet ≡ true → TellsEnd args counts faults hidden r r
+ends_quiet args counts faults hidden r quiet = rw quiet (record { told = (r.err, sends_none r.err); alone = λ e. sends_none r.err })
 
 -- Other runs end with the five lines.
-pub ends_told : (args : Arguments) (counts : Counts) (faults hidden remaining defined : ℕ) {old new : Report} (later next last : Report) {err mid more other most err' : Stream} → args.quiet ≡ false →
-    remaining ≡ old.remaining.count → defined ≡ old.remaining.defined →
-    Says old new err mid (summary args.task args.list_hidden counts.changed counts.unchanged faults hidden) → (new.is_shown ≡ false → Sends mid more (removed_line counts.edits.lines)) → (new.is_shown ≡ false → later.is_shown ≡ false) →
-    (later.is_shown ≡ false → Sends more other (edited_line args.plan.prunes counts.edits.conditions)) →
-    (later.is_shown ≡ false → next.is_shown ≡ false) → (next.is_shown ≡ false → Sends other most (remaining_line args.list_remaining remaining)) →
-    (next.is_shown ≡ false → last.is_shown ≡ false) → (last.is_shown ≡ false → Sends most err' (defined_line args.list_remaining defined)) →
-    TellsEnd args counts faults hidden old err err'
-ends_told args counts faults hidden remaining defined later next last {err = err} {err' = err'} loud same same_defined h i j k l m n o =
-    let text : List ℕ =
-    summary args.task args.list_hidden counts.changed counts.unchanged faults hidden ++ removed_line counts.edits.lines ++ edited_line args.plan.prunes counts.edits.conditions ++ remaining_line args.list_remaining remaining ++ defined_line args.list_remaining defined in
-    let is : text ≡ last_lines args counts.changed counts.unchanged faults hidden counts.edits remaining defined = sym (ap (λ (b : Bool). cond b [] text) loud) in
-    let shown = l (j h.hidden) in
-    record {
-      remaining = remaining;
-      remaining_is = same;
-      defined = defined;
-      defined_is = same_defined;
-      told = (h.cleared, sends_same is (sends_then (sends_then (sends_then (sends_then h.sent (i h.hidden)) (k (j h.hidden))) (m shown)) (o (n shown))));
-      alone = λ e. sends_same is (sends_then (sends_then (sends_then (sends_then (said_unshown h e) (i h.hidden)) (k (j h.hidden))) (m shown)) (o (n shown)));
-    }
+pub ends_told : (args : Arguments) (counts : Counts) (faults hidden : ℕ) {a b : ReportState} → args.quiet ≡ false →
+    Says a b (summary args.task args.list_hidden counts.changed counts.unchanged faults hidden ++ removed_line counts.edits.lines ++ edited_line args.plan.prunes counts.edits.conditions ++
+    remaining_line args.list_remaining a.remaining.count ++ defined_line args.list_remaining a.remaining.defined) → TellsEnd args counts faults hidden a b
+ends_told args counts faults hidden {a = a} {b = b} loud h = rw loud (record { told = (h.cleared, h.sent); alone = λ e. subst (λ (s : Stream). Sends s b.err _) (h.unshown e) h.sent })

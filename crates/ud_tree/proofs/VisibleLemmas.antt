@@ -5,8 +5,8 @@ use Rattle.std.proofs.lemmas.Grind.{flat_map-append}
 use Rattle.ud_io.specs.Watched.{AppendsAllOrPrefix}
 use Rattle.unifdef.specs.RunMessages.{fault_message}
 use Rattle.ud_faults.specs.declared.run.RunFault.{RunFault}
-use Rattle.ud_tree.specs.declared.report.Report.{Report}
-use Rattle.ud_tree.specs.Messages.{is_visible, is_raw, Tells, TellsText}
+use Rattle.ud_tree.specs.Reports.{ReportState, Tells, TellsOf}
+use Rattle.ud_tree.specs.Messages.{IsTextMessage, is_visible, is_raw}
 use Rattle.ud_io.specs.Streams.{Stream, Sends}
 use Rattle.ud_tree.specs.Visible.{visible, visible_byte}
 use Rattle.ud_io.proofs.StreamLemmas.{sent_as}
@@ -31,9 +31,9 @@ pub written_all : {s t : Stream} {x y : List ℕ} → Sends s t x → s.failed �
 written_all {s = s} {t = t} h was works first now = appended_all t.failed s.contents t.contents (sent_as was refl h) works first now
 
 -- The message of a fault of a text was written, with the visible name.
-pub text_visible : {a b : Report} {s t : Stream} (name shown : List ℕ) (f : RunFault) → shown ≡ visible name → Tells a b s t (fault_message shown f) → TellsText name f a b s t
+pub text_visible : {a b : ReportState} (name shown : List ℕ) (f : RunFault) → shown ≡ visible name → Tells a b (fault_message shown f) → TellsOf (IsTextMessage name f) a b
 text_visible name shown f is h = record { message = fault_message shown f; is_of = is_visible (ap (λ (n : List ℕ). fault_message n f) is); tells = h }
 
 -- The message of a fault of a text was written, with the name as it is.
-pub text_raw : {a b : Report} {s t : Stream} (name : List ℕ) (f : RunFault) → Tells a b s t (fault_message name f) → TellsText name f a b s t
+pub text_raw : {a b : ReportState} (name : List ℕ) (f : RunFault) → Tells a b (fault_message name f) → TellsOf (IsTextMessage name f) a b
 text_raw name f h = record { message = fault_message name f; is_of = is_raw refl; tells = h }

@@ -1,39 +1,38 @@
--- CoverParts: parts of a walk, which miss no name.
+-- CoverParts: parts of a walk that miss no name.
 --
---   waiting w                        the folders that wait to be listed
+--   waiting w                        the folders waiting to be listed
 --   Explores c c' d d' old new       a part of a walk that misses no name of a folder
 --   Starts path c c' d d' f' old new   a path of the command line was looked at
 --   VisitsOne folder name c c' d d' old new   a name in a folder was visited
 --   Enters folder c c' d d' old new  a folder was listed
---   Exhausts c c' d d' old new       no folder waits any more
+--   Exhausts c c' d d' old new       no folder is waiting any longer
 --   Waits path d d'                  a folder waits to be listed
---   AddsFolder path name node d d'   one does, if a node is a folder
+--   AddsFolder path name node d d'   a node waits to be listed, if it is a folder
 --   TakesOne path c c' f f' old new  a path of the input was given
 --
 -- `c` and `c'` are the calls before and after (`calls` and `calls'`), the newest first, and `d` and
--- `d'` the folders that wait to be listed (`folders` and `folders'`). `f` and `f'` are the files
--- that were found, and `old` and `new` the report before and after.
+-- `d'` the folders waiting to be listed (`folders` and `folders'`). `f` and `f'` are the files
+-- found, and `old` and `new` the report before and after.
 use Rattle.std.specs.Prelude.{◌≡◌, ◌⊎◌, ℕ, ◌+◌, ◌<◌, ◌^◌, List, [], ◌∷◌, ◌++◌, map, length}
 use Rattle.std.specs.Prelude.{string_bytes}
 use Rattle.std.specs.List.{All, Contains}
 use Rattle.ud_replace.specs.declared.node.NodeKind.TheVariants.{Folder}
 use Rattle.ud_replace.specs.declared.node.Node.{Node}
 use Rattle.ud_replace.specs.Calls.{Call, WalkCall, walked}
-use Rattle.ud_tree.specs.declared.report.Report.{Report}
+use Rattle.ud_tree.specs.Reports.{ReportState}
 use Rattle.ud_tree.specs.declared.walk.Found.{Found}
 use Rattle.ud_tree.specs.declared.walk.Walk.{Walk}
 use Rattle.ud_tree.specs.Covering.{IsFolderPath, WasEntered, IsDue, IsVersioned, Begins, Visits}
 use Rattle.ud_tree.specs.Covering.{VisitsAll, IsIn, Gives}
 
--- `waiting w`: the paths of the folders that wait to be listed.
+-- `waiting w`: the paths of the folders waiting to be listed.
 abbrev pub waiting : Walk → List (List ℕ)
 waiting w = map (λ d. string_bytes d) w.folders.items
 
 -- `Explores calls calls' folders folders' old new`: since `calls`, only calls of a walk were made.
--- Each folder that waited was listed or still waits. Each name of each folder that was listed was
--- visited.
+-- Each waiting folder was listed or still waits. Each name in each listed folder was visited.
 pub record Explores (calls calls' : List Call) (folders folders' : List (List ℕ))
-    (old new : Report) : Type 0 where
+    (old new : ReportState) : Type 0 where
   pub made : List WalkCall
   pub are : calls' ≡ map walked made ++ calls
   pub waits : (folder : List ℕ) → Contains folders folder →
@@ -44,7 +43,7 @@ pub record Explores (calls calls' : List Call) (folders folders' : List (List �
 -- `Starts path calls calls' folders folders' found' old new`: the same, and the path `path` of the
 -- command line can be taken, or a fault was counted.
 pub record Starts (path : List ℕ) (calls calls' : List Call) (folders folders' : List (List ℕ))
-    (found' : List Found) (old new : Report) : Type 0 where
+    (found' : List Found) (old new : ReportState) : Type 0 where
   pub explores : Explores calls calls' folders folders' old new
   pub begins : (0 < new.faulty) ⊎
       Begins explores.made (IsDue explores.made folders') (IsIn found') path
@@ -52,20 +51,20 @@ pub record Starts (path : List ℕ) (calls calls' : List Call) (folders folders'
 -- `VisitsOne folder name calls calls' folders folders' old new`: the same, and `name` in `folder`
 -- was visited.
 pub record VisitsOne (folder name : List ℕ) (calls calls' : List Call)
-    (folders folders' : List (List ℕ)) (old new : Report) : Type 0 where
+    (folders folders' : List (List ℕ)) (old new : ReportState) : Type 0 where
   pub explores : Explores calls calls' folders folders' old new
   pub visited : Visits explores.made (IsDue explores.made folders') (0 < new.faulty) folder name
 
 -- `Enters folder calls calls' folders folders' old new`: the same, and `folder` was listed.
 pub record Enters (folder : List ℕ) (calls calls' : List Call) (folders folders' : List (List ℕ))
-    (old new : Report) : Type 0 where
+    (old new : ReportState) : Type 0 where
   pub explores : Explores calls calls' folders folders' old new
   pub entered : WasEntered explores.made folder
 
--- `Exhausts calls calls' folders folders' old new`: the same, and no folder waits any more, unless
--- there were more calls than a machine counts.
+-- `Exhausts calls calls' folders folders' old new`: the same, and no folder is waiting any longer,
+-- unless there were more calls than a machine counts.
 pub record Exhausts (calls calls' : List Call) (folders folders' : List (List ℕ))
-    (old new : Report) : Type 0 where
+    (old new : ReportState) : Type 0 where
   pub explores : Explores calls calls' folders folders' old new
   pub done : length explores.made + 1 < 2 ^ 64 → folders' ≡ []
 
@@ -76,7 +75,7 @@ pub record Waits (path : List ℕ) (folders folders' : List (List ℕ)) : Type 0
   pub grown : folders' ≡ folders ++ folder ∷ []
 
 -- `AddsFolder path name node folders folders'`: if the node with this path and name is a folder,
--- and not one of version control, it waits to be listed. Else nothing more does.
+-- other than of version control, it waits to be listed. Else nothing was added.
 pub data AddsFolder (path name : List ℕ) (node : Node) (folders folders' : List (List ℕ)) :
     Type 0 where
   waits_folder : node.kind ≡ Folder → Waits path folders folders' →
@@ -87,9 +86,9 @@ pub data AddsFolder (path name : List ℕ) (node : Node) (folders folders' : Lis
       AddsFolder path name node folders folders'
 
 -- `TakesOne path calls calls' found found' old new`: since `calls`, only calls of a walk were made,
--- and the path `path` of the input was given. The files that were found before stay.
+-- and the path `path` of the input was given. The files found before stay.
 pub record TakesOne (path : List ℕ) (calls calls' : List Call) (found found' : List Found)
-    (old new : Report) : Type 0 where
+    (old new : ReportState) : Type 0 where
   pub made : List WalkCall
   pub are : calls' ≡ map walked made ++ calls
   pub gives : Gives made (IsIn found') (0 < new.faulty) path

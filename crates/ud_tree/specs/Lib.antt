@@ -2,6 +2,7 @@ pub mod Marks
 pub mod Paths
 pub mod Statuses
 pub mod Fates
+pub mod Reports
 pub mod Runs
 pub mod Patterns
 pub mod PatternPlaces

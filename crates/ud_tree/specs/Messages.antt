@@ -1,26 +1,17 @@
--- Messages: what is written of faults to the error stream.
+-- Messages: what is written about faults to the error stream.
 --
 --   fault_line name text             the line with the fault `text` of a path
---   IsFailureOf name text message    that line, or the same with a reason
+--   IsFailureOf name text message    that line, perhaps with a reason
 --   locked_line name                 the line of a file that another run replaces
 --   IsTextMessage name f message     the message of a fault of a file's text
 --   IsMessageOf name e message       the message of the error of a file
---   IsTold name update told          that message if the file has an error, and else nothing
+--   IsTold name update told          that message if the file has an error, else nothing
 --   list_message, write_message      the messages of the faults of the output
 --   output_messages is_lost is_unwritten   those of them that a run has
---   IsPlain r                        the error stream is no terminal
---   KeepsScreen old new              a terminal shows what it did
---   KeepsFinds old new               the conditions that still name a symbol stay
---   Tells old new err err' bytes     `bytes` were written to such a stream
---   ReportsOne message old new err err'   a message was written, and is counted
---   ReportsFailure name text old new err err'   so was the message of a failed call
---   TellsText name f old new err err'   the message of a fault of a file's text was written
---   TellsError name e old new err err'   the message of the error of a file was written
---   TellsResult name update old new err err'   the same, or nothing if the file has no error
---   TellsIf message faulty old new err err'   a message was written, or nothing
+--   TellsIf message faulty old new   a message was written, or nothing
 --
--- `old` and `new` are the report before and after, `err` and `err'` the error stream.
-use Rattle.std.specs.Prelude.{◌≡◌, ℕ, ◌+◌, ◌<◌, ◌^◌, List, [], ◌∷◌, ◌++◌, Bool, false, Result}
+-- `old` and `new` are the report before and after.
+use Rattle.std.specs.Prelude.{◌≡◌, ℕ, List, [], ◌∷◌, ◌++◌, Bool, Result}
 use Rattle.std.specs.Prelude.{Ok, Err, codes, if◌then◌else◌}
 use Rattle.unifdef.specs.RunMessages.{fault_message}
 use Rattle.ud_faults.specs.declared.run.RunFault.{RunFault}
@@ -31,9 +22,8 @@ use Rattle.ud_replace.specs.declared.error.ReplaceError.TheVariants.{ReadOnly, S
 use Rattle.ud_replace.specs.declared.error.ReplaceError.TheVariants.{FolderDenied, HalfWritten}
 use Rattle.ud_replace.specs.declared.error.ReplaceError.TheVariants.{ChangedMeanwhile, Locked}
 use Rattle.ud_replace.specs.declared.error.ReplaceError.TheVariants.{Write, NotRenamed}
-use Rattle.ud_tree.specs.declared.report.Report.{Report}
+use Rattle.ud_tree.specs.Reports.{ReportState, Tells}
 use Rattle.ud_tree.specs.Paths.{fresh_name}
-use Rattle.ud_io.specs.Streams.{Stream, Sends}
 use Rattle.ud_tree.specs.Summaries.{line_of}
 use Rattle.ud_tree.specs.Visible.{visible}
 
@@ -48,21 +38,19 @@ pub data IsFailureOf (name text message : List ℕ) : Type 0 where
   with_reason : (reason : List ℕ) → message ≡ fault_line name (text ++ codes ": " ++ reason) →
       IsFailureOf name text message
 
--- `locked_line name`: the line of a file beside which there is one of another run. It names that
--- one.
+-- `locked_line name`: the line of a file with another run's file beside it. It names that one.
 abbrev pub locked_line : List ℕ → List ℕ
 locked_line name = fault_line name (codes "Another run is at it; if none is, remove " ++
     fresh_name name)
 
--- `IsTextMessage name f message`: `message` is the one of unifdef for the fault `f` of the file
--- `name`, with the control bytes of the name made visible. If memory ran out for that, they are as
--- they are.
+-- `IsTextMessage name f message`: `message` is unifdef's message for the fault `f` of the file
+-- `name`, with control bytes of the name made visible, unless memory ran out for that.
 pub data IsTextMessage (name : List ℕ) (f : RunFault) (message : List ℕ) : Type 0 where
   is_visible : message ≡ fault_message (visible name) f → IsTextMessage name f message
   is_raw : message ≡ fault_message name f → IsTextMessage name f message
 
--- `IsMessageOf name e message`: `message` is that of the error `e` of the file `name`. A fault of
--- its text has the message of unifdef.
+-- `IsMessageOf name e message`: `message` is the message of the error `e` of the file `name`. A
+-- fault of its text has unifdef's message.
 abbrev pub IsMessageOf : List ℕ → ReplaceError → List ℕ → Type 0
 IsMessageOf name (Text f) message = IsTextMessage name f message
 IsMessageOf name Read message = IsFailureOf name (codes "Cannot be read") message
@@ -79,7 +67,7 @@ IsMessageOf name NotRenamed message =
     IsFailureOf name (codes "Cannot be replaced; -w writes into it") message
 IsMessageOf name HalfWritten message = IsFailureOf name (codes "Half written") message
 
--- `IsTold name update told`: `told` is the message of the error of the file `name`, and empty if it
+-- `IsTold name update told`: `told` is the message of the error of the file `name`, or empty if it
 -- has none.
 abbrev pub IsTold : List ℕ → Result Update ReplaceError → List ℕ → Type 0
 IsTold name (Ok u) told = told ≡ []
@@ -99,66 +87,6 @@ abbrev pub output_messages : Bool → Bool → List (List ℕ)
 output_messages is_lost is_unwritten = (if is_lost then list_message ∷ [] else []) ++
     (if is_unwritten then write_message ∷ [] else [])
 
--- `IsPlain r`: the error stream is no terminal, and so shows no number of files.
-pub record IsPlain (r : Report) : Type 0 where
-  pub no_terminal : r.is_terminal ≡ false
-  pub unshown : r.is_shown ≡ false
-
--- `KeepsScreen old new`: a terminal shows the number of files if it did.
-pub record KeepsScreen (old new : Report) : Type 0 where
-  pub terminal : new.is_terminal ≡ old.is_terminal
-  pub shown : new.is_shown ≡ old.is_shown
-
--- `KeepsFinds old new`: the conditions that still name a symbol stay, and so does whether memory
--- ran out for some.
-pub record KeepsFinds (old new : Report) : Type 0 where
-  pub remaining : new.remaining ≡ old.remaining
-  pub lost : new.has_lost ≡ old.has_lost
-
--- `Tells old new err err' bytes`: if the error stream is no terminal, `bytes` were written to it.
-pub record Tells (old new : Report) (err err' : Stream) (bytes : List ℕ) : Type 0 where
-  pub plain : IsPlain old → IsPlain new
-  pub sent : IsPlain old → Sends err err' bytes
-
--- `ReportsOne message old new err err'`: `message` was written, and is counted as a fault.
-pub record ReportsOne (message : List ℕ) (old new : Report) (err err' : Stream) : Type 0 where
-  pub tells : Tells old new err err' message
-  pub counted : old.faulty + 1 < 2 ^ 64 → new.faulty ≡ old.faulty + 1
-  pub some : 0 < new.faulty
-
--- `ReportsFailure name text old new err err'`: the message of a failed call for the path `name` was
--- written and counted.
-pub record ReportsFailure (name text : List ℕ) (old new : Report) (err err' : Stream) :
-    Type 0 where
-  pub message : List ℕ
-  pub is_of : IsFailureOf name text message
-  pub reports : ReportsOne message old new err err'
-
--- `TellsText name f old new err err'`: the message of the fault `f` of the text of the file `name`
--- was written.
-pub record TellsText (name : List ℕ) (f : RunFault) (old new : Report) (err err' : Stream) :
-    Type 0 where
-  pub message : List ℕ
-  pub is_of : IsTextMessage name f message
-  pub tells : Tells old new err err' message
-
--- `TellsError name e old new err err'`: the message of the error `e` of the file `name` was
--- written.
-pub record TellsError (name : List ℕ) (e : ReplaceError) (old new : Report) (err err' : Stream) :
-    Type 0 where
-  pub message : List ℕ
-  pub is_of : IsMessageOf name e message
-  pub tells : Tells old new err err' message
-
--- `TellsResult name update old new err err'`: the message of the error of the file `name` was
--- written, and nothing if it has none.
-pub record TellsResult (name : List ℕ) (update : Result Update ReplaceError) (old new : Report)
-    (err err' : Stream) : Type 0 where
-  pub told : List ℕ
-  pub is_told : IsTold name update told
-  pub tells : Tells old new err err' told
-
--- `TellsIf message faulty old new err err'`: `message` was written if `faulty`, and else nothing.
-abbrev pub TellsIf : List ℕ → Bool → Report → Report → Stream → Stream → Type 0
-TellsIf message faulty old new err err' =
-    Tells old new err err' (if faulty then message else [])
+-- `TellsIf message faulty old new`: `message` was written if `faulty`, and else nothing.
+abbrev pub TellsIf : List ℕ → Bool → ReportState → ReportState → Type 0
+TellsIf message faulty old new = Tells old new (if faulty then message else [])

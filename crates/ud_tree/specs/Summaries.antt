@@ -12,9 +12,8 @@
 --   edited_line prunes count   how many conditions were edited
 --   last_lines args changed unchanged faults hidden edits remaining defined   these lines, unless
 --                             quiet
---   TellsEnd args counts faults hidden old err err'   they were written last
+--   TellsEnd args counts faults hidden old new   they were written last
 --   EndsWith s bytes          the last bytes that were written to `s`
---   Says old new err err' bytes   `bytes` were written, after the number of files was removed
 use Rattle.std.specs.Prelude.{◌≡◌, ℕ, List, [], ◌++◌, Bool, false, not, ◌&&◌, ◌||◌, ◌==◌}
 use Rattle.std.specs.Prelude.{if◌then◌else◌, codes, decimal}
 use Rattle.ud_tree.specs.declared.arguments.Task.{Task}
@@ -22,7 +21,7 @@ use Rattle.ud_tree.specs.declared.arguments.Task.TheVariants.{Replace, Diff, Nam
 use Rattle.ud_tree.specs.declared.arguments.Arguments.{Arguments}
 use Rattle.ud_tree.specs.declared.counts.Counts.{Counts}
 use Rattle.ud_tree.specs.declared.counts.Edits.{Edits}
-use Rattle.ud_tree.specs.declared.report.Report.{Report}
+use Rattle.ud_tree.specs.Reports.{ReportState}
 use Rattle.ud_io.specs.Streams.{Stream, Sends}
 use Rattle.ud_tree.specs.Visible.{visible}
 
@@ -31,7 +30,7 @@ abbrev pub line_of : List ℕ → List ℕ
 line_of text = codes "unifdef-tree: " ++ visible text ++ codes "\n"
 
 -- `changes_line word changed unchanged faults`: the line with the numbers of files that changed, or
--- would, as `word` says, of those that didn't, and of faults.
+-- would (`word` says which), of files that didn't, and of faults.
 abbrev pub changes_line : List ℕ → ℕ → ℕ → ℕ → List ℕ
 changes_line word changed unchanged faults = line_of (decimal changed ++ word ++
     decimal unchanged ++ codes " unchanged, " ++ decimal faults ++ codes " faulty")
@@ -54,8 +53,8 @@ hidden_text listed count =
     (codes " conditions could not be listed; -r lists them")
 
 -- `summary task listed changed unchanged faults hidden`: the line with the numbers of files that
--- changed, or would, of those that didn't, and of faults. If names are listed: of files without a
--- fault, of faults, and of conditions that couldn't be listed; `listed` says if these are.
+-- changed, or would, of files that didn't, and of faults. If names are listed: of files without a
+-- fault, of faults, and of conditions that couldn't be listed; `listed`: these are.
 abbrev pub summary : Task → Bool → ℕ → ℕ → ℕ → ℕ → List ℕ
 summary Replace listed changed unchanged faults hidden =
     changes_line (codes " changed, ") changed unchanged faults
@@ -71,7 +70,7 @@ remaining_text count =
     plural count (codes " condition still names a symbol") (codes " conditions still name a symbol")
 
 -- `remaining_line listed count`: the line with the number of conditions that still name a symbol,
--- which is left out if there is none and they aren't `listed`.
+-- left out if there are none and they aren't `listed`.
 abbrev pub remaining_line : Bool → ℕ → List ℕ
 remaining_line listed count = if count == 0 && not listed then [] else line_of (decimal count ++
     remaining_text count ++ (if listed then [] else codes "; -r lists them"))
@@ -85,8 +84,8 @@ defined_text listed count =
     else plural count (codes " line of the source defines a symbol; -r lists it")
     (codes " lines of the source define a symbol; -r lists them")
 
--- `defined_line listed count`: the line with the number of lines that define a symbol, which is
--- left out if there is none.
+-- `defined_line listed count`: the line with the number of lines that define a symbol, left out if
+-- there are none.
 abbrev pub defined_line : Bool → ℕ → List ℕ
 defined_line listed count =
     if count == 0 then [] else line_of (decimal count ++ defined_text listed count)
@@ -95,8 +94,7 @@ defined_line listed count =
 abbrev pub removed_text : ℕ → List ℕ
 removed_text count = plural count (codes " line removed") (codes " lines removed")
 
--- `removed_line count`: the line with the number of removed lines, which is left out if there is
--- none.
+-- `removed_line count`: the line with the number of removed lines, left out if there are none.
 abbrev pub removed_line : ℕ → List ℕ
 removed_line count = if count == 0 then [] else line_of (decimal count ++ removed_text count)
 
@@ -104,12 +102,12 @@ removed_line count = if count == 0 then [] else line_of (decimal count ++ remove
 abbrev pub edited_text : ℕ → List ℕ
 edited_text count = plural count (codes " condition edited") (codes " conditions edited")
 
--- `edited_line prunes count`: the line with the number of edited conditions, which is left out if
--- none is to be.
+-- `edited_line prunes count`: the line with the number of edited conditions, left out unless
+-- `prunes`.
 abbrev pub edited_line : Bool → ℕ → List ℕ
 edited_line prunes count = if prunes then line_of (decimal count ++ edited_text count) else []
 
--- `EndsWith s bytes`: the last bytes that were written to `s` are `bytes`, up to its first failure.
+-- `EndsWith s bytes`: the last bytes written to `s` are `bytes`, up to its first failure.
 abbrev pub EndsWith : Stream → List ℕ → Type 0
 EndsWith s bytes = (mid : Stream) × Sends mid s bytes
 
@@ -122,24 +120,12 @@ last_lines args changed unchanged faults hidden edits remaining defined = if arg
     removed_line edits.lines ++ edited_line args.plan.prunes edits.conditions ++
     remaining_line args.list_remaining remaining ++ defined_line args.list_remaining defined
 
--- `TellsEnd args counts faults hidden old err err'`: the last lines were written, with these
--- numbers and those of conditions and definitions, which the report has. Nothing else was, unless a
--- terminal showed the number of files.
-pub record TellsEnd (args : Arguments) (counts : Counts) (faults hidden : ℕ) (old : Report)
-    (err err' : Stream) : Type 0 where
-  pub remaining : ℕ
-  pub remaining_is : remaining ≡ old.remaining.count
-  pub defined : ℕ
-  pub defined_is : defined ≡ old.remaining.defined
-  pub told : EndsWith err' (last_lines args counts.changed counts.unchanged faults hidden
-      counts.edits remaining defined)
-  pub alone : old.is_shown ≡ false → Sends err err' (last_lines args counts.changed
-      counts.unchanged faults hidden counts.edits remaining defined)
-
--- `Says old new err err' bytes`: `bytes` were written. If a terminal showed the number of files,
--- that was removed before.
-pub record Says (old new : Report) (err err' : Stream) (bytes : List ℕ) : Type 0 where
-  pub hidden : new.is_shown ≡ false
-  pub cleared : Stream
-  pub unshown : old.is_shown ≡ false → cleared ≡ err
-  pub sent : Sends cleared err' bytes
+-- `TellsEnd args counts faults hidden old new`: the last lines were written, with these numbers and
+-- those of conditions and definitions, which the report has. Nothing else was, unless a terminal
+-- showed the number of files.
+pub record TellsEnd (args : Arguments) (counts : Counts) (faults hidden : ℕ)
+    (old new : ReportState) : Type 0 where
+  pub told : EndsWith new.err (last_lines args counts.changed counts.unchanged faults hidden
+      counts.edits old.remaining.count old.remaining.defined)
+  pub alone : old.is_shown ≡ false → Sends old.err new.err (last_lines args counts.changed
+      counts.unchanged faults hidden counts.edits old.remaining.count old.remaining.defined)

@@ -1,33 +1,32 @@
--- TreeRuns: what a run over a tree asks for, and its status.
+-- TreeRuns: the calls of a run over a tree, and its status.
 --
 --   DoesBy task args name old new result   what a task does with a file
 --   DoesOne args name old new result       what the arguments ask for is done with a file
---   WritesBy task args name history contents tree tree' ..   a file was processed by the task
---   Processes args name history contents tree tree' ..       a file was processed
---   DoesJob job files before report after report' counts lists lists'   the same for each file
+--   WritesBy task args name before after update edits   a file was processed by the task
+--   DoesJob job files before after counts lists lists'   what is asked for is done with each file
 --   IsDone args failed files done           which files are processed before a run ends
---   DoesFiles job files before report after report' counts lists lists'   the same for those
+--   DoesFiles job files before after counts lists lists'   the same for those
 --   Ending, Tally                           how a run ends, and the numbers of its last lines
 --   DoesAll args failed old files new       what is done with each file: the results
 --   ShowsAll args results is_lost shown     what is shown of the files, and what is listed
---   Totals args results is_lost tally       the numbers are those of all files
+--   Totals args results is_lost tally       the numbers are the totals over all files
 --   HasStatus args in_walk results is_lost faults ending   which faults there are, and which status
 --   TellsAll args results is_lost tally ending   which messages there are, and which last lines
---   Ends args in_walk old files new ending  all of that: the files are processed
+--   Ends args in_walk old files new ending  all of this: the files are processed
 --   HasEnding is_terminal before after messages ending status   a run ends so at a moment
---   EndsWriting job in_walk before files after status   the same, and all of that was written
+--   EndsWriting job in_walk before files after status   the same, and all of it was written
 --   Run                                     the arguments of a run, its calls, and its ending
 --   StopsEarly run                          no file follows the walk
 --   ProcessesFiles run                      the files that the walk found are processed
---   IsRun run                               one of the two: a whole run
+--   IsRun run                               either of these: a whole run
 --   IsClean run                             a run in which nothing failed
---   RunsTree job given left before after status   a whole run, and all of that was written
+--   RunsTree job given left before after status   a whole run, and all of it was written
 --
 -- `old` and `new` are the calls before and after, the newest first. `given` and `left` are what the
--- input has before and after. `messages` are those of the walk, and `in_walk` is their number.
--- `is_lost` says that memory ran out for a part of what was to be shown or listed.
+-- input has before and after. `messages` are the walk's messages, and `in_walk` is their number.
+-- `is_lost`: memory ran out for something to be shown or listed.
 use Rattle.std.specs.Prelude.{◌≡◌, ◌⊎◌, ℕ, ◌+◌, ◌≤◌, ◌<◌, ◌^◌, List, [], ◌++◌, length}
-use Rattle.std.specs.Prelude.{Bool, true, false, take, Option, Result}
+use Rattle.std.specs.Prelude.{Bool, true, false, take, Result}
 use Rattle.ud_model.specs.conditions.Table.{Argument}
 use Rattle.ud_cond.specs.symbols.SymbolTable.{TableRepresents}
 use Rattle.ud_replace.specs.Calls.{Call}
@@ -39,12 +38,11 @@ use Rattle.ud_tree.specs.declared.arguments.Arguments.{Arguments}
 use Rattle.ud_tree.specs.declared.counts.Counts.{Counts}
 use Rattle.ud_tree.specs.declared.counts.Edits.{Edits}
 use Rattle.ud_tree.specs.declared.job.Job.{Job}
-use Rattle.ud_tree.specs.declared.report.Report.{Report}
 use Rattle.ud_tree.specs.declared.walk.Found.{Found}
 use Rattle.ud_tree.specs.Changes.{ReplacesShowing}
 use Rattle.ud_passes.specs.declared.names.Names.{Names as NameLists}
 use Rattle.ud_passes.specs.names.NameTables.{names_in, Tabulates}
-use Rattle.ud_tree.specs.Remainders.{is_searched, listing_of, mode_of, texts_of, count_of}
+use Rattle.ud_tree.specs.Remainders.{is_searched, listing_of, texts_of, count_of}
 use Rattle.ud_tree.specs.Remainders.{defined_of}
 use Rattle.ud_tree.specs.Runs.{FileResult, Unshown, EachFile, shown_of, told_of, listed_of}
 use Rattle.ud_tree.specs.Runs.{outputs_of, nothing_listed}
@@ -52,10 +50,9 @@ use Rattle.ud_tree.specs.Runs.{changed_in, same_in, faulty_in, edited_in, remove
 use Rattle.ud_tree.specs.Shown.{ShowsOne, ListsOne}
 use Rattle.ud_tree.specs.Messages.{output_messages}
 use Rattle.ud_tree.specs.Streams.{StreamEnds, ends_of, Source, TakesInput}
-use Rattle.ud_io.specs.Streams.{Sends, stream_of}
-use Rattle.ud_io.specs.Watched.{WatchedState}
+use Rattle.ud_io.specs.Streams.{Sends}
 use Rattle.ud_tree.specs.Summaries.{last_lines, EndsWith}
-use Rattle.ud_tree.specs.Writing.{Moment, WritesOne, ProcessesOne, WritesAll}
+use Rattle.ud_tree.specs.Writing.{Moment, Stage, WritesOne, WritesAll}
 use Rattle.ud_tree.specs.Covering.{StandsIn, MissesNone}
 use Rattle.ud_tree.specs.Walks.{IsWalk}
 use Rattle.ud_tree.specs.WalkMessages.{WalkTells, joined, Stops}
@@ -72,51 +69,38 @@ DoesBy Names args = Unshown (ListsOne args.plan args.list_hidden)
 abbrev pub DoesOne : Arguments → List ℕ → List Call → List Call → FileResult → Type 0
 DoesOne args = DoesBy args.task args
 
--- `WritesBy task args name history contents tree tree' out out' update edits report report'`: the
--- file `name` is replaced or shown, by the task (`WritesOne`). Nothing is listed of it.
-abbrev pub WritesBy : {T W : Type 0} → Task → Arguments → List ℕ → (T → List Call) →
-    (W → Option (List ℕ)) → T → T → WatchedState W → WatchedState W →
-    Result Update ReplaceError → Edits → Report → Report → Type 0
-WritesBy task args name history contents tree tree' out out' update edits report report' =
-    WritesOne args (DoesBy task args) name (history tree) (history tree')
-    (stream_of contents out) (stream_of contents out') update edits nothing_listed report report'
+-- `WritesBy task args name before after update edits`: the file `name` is replaced or shown, by the
+-- task (`WritesOne`). Nothing is listed of it.
+abbrev pub WritesBy : Task → Arguments → List ℕ → Stage → Stage → Result Update ReplaceError →
+    Edits → Type 0
+WritesBy task args name before after update edits =
+    WritesOne args (DoesBy task args) name before after update edits nothing_listed
 
--- `Processes args name history contents tree tree' out out' update edits lists lists' report
--- report'`: what the arguments ask for is done with the file `name` (`ProcessesOne`).
-abbrev pub Processes : {T W : Type 0} → Arguments → List ℕ → (T → List Call) →
-    (W → Option (List ℕ)) → T → T → WatchedState W → WatchedState W →
-    Result Update ReplaceError → Edits → NameLists → NameLists → Report → Report → Type 0
-Processes args name history contents tree tree' out out' update edits lists lists' report report' =
-    ProcessesOne args (DoesOne args) name (history tree) (history tree')
-    (stream_of contents out) (stream_of contents out') update edits lists lists' report report'
+-- `DoesJob job files before after counts lists lists'`: what the arguments ask for is done with
+-- each file in turn, what is shown and told of them was written, and what is listed of them was
+-- added to `lists`.
+abbrev pub DoesJob : Job → List Found → Stage → Stage → Counts → NameLists → NameLists → Type 0
+DoesJob job files before after counts lists lists' =
+    WritesAll job.arguments.now (DoesOne job.arguments.now) before (names_of files) after counts
+    lists lists'
 
--- `DoesJob job files before report after report' counts lists lists'`: what the arguments ask for
--- is done with each file in turn, what is shown and told of them was written, and what is listed
--- of them was added to `lists`.
-abbrev pub DoesJob : Job → List Found → Moment → Report → Moment → Report → Counts → NameLists →
-    NameLists → Type 0
-DoesJob job files before report after report' counts lists lists' =
-    WritesAll job.arguments.now (DoesOne job.arguments.now) before (names_of files) report after
-    report' counts lists lists'
-
--- `IsDone args failed files done`: `done` is `files`. Or it is the first ones of them, since their
--- changes are to be shown, and the output has failed.
+-- `IsDone args failed files done`: `done` is `files`; or only the first of them, if changes are to
+-- be shown and the output has failed.
 pub data IsDone (args : Arguments) (failed : Bool) (files : List Found) : List Found → Type 0 where
   all_done : IsDone args failed files files
   stopped : (count : ℕ) → args.task ≡ Replace → args.show_changes ≡ true → failed ≡ true →
       IsDone args failed files (take count files)
 
--- `DoesFiles job files before report after report' counts lists lists'`: `DoesJob` of the files
--- that are processed.
-pub record DoesFiles (job : Job) (files : List Found) (before : Moment) (report : Report)
-    (after : Moment) (report' : Report) (counts : Counts) (lists lists' : NameLists) :
-    Type 0 where
+-- `DoesFiles job files before after counts lists lists'`: `DoesJob` of the files that are
+-- processed.
+pub record DoesFiles (job : Job) (files : List Found) (before after : Stage) (counts : Counts)
+    (lists lists' : NameLists) : Type 0 where
   pub done : List Found
   pub is_done : IsDone job.arguments.now after.out.failed files done
-  pub does : DoesJob job done before report after report' counts lists lists'
+  pub does : DoesJob job done before after counts lists lists'
 
--- `Ending`: how a run ends after its walk: what became of both streams, what is to be written to
--- the output, to the error stream, and last to that, and the status.
+-- `Ending`: how a run ends after its walk: the ends of both streams, what is to be written to the
+-- output, to the error stream, and last to that one, and the status.
 pub record Ending : Type 0 where
   pub streams : StreamEnds
   pub shown : List ℕ
@@ -134,7 +118,7 @@ pub record Tally : Type 0 where
   pub defined : ℕ
 
 -- `DoesAll args failed old files new`: what the arguments ask for is done with each file in turn,
--- and nothing else. If the output has `failed`, these may be the first files (`IsDone`).
+-- and nothing else. If the output has `failed`, these may be only the first files (`IsDone`).
 pub record DoesAll (args : Arguments) (failed : Bool) (old : List Call) (files : List Found)
     (new : List Call) : Type 0 where
   pub done : List Found
@@ -142,10 +126,10 @@ pub record DoesAll (args : Arguments) (failed : Bool) (old : List Call) (files :
   pub results : List FileResult
   pub each : EachFile (DoesOne args) old (names_of done) new results
 
--- `ShowsAll args results is_lost shown`: what is shown of each file comes first, and then a list.
+-- `ShowsAll args results is_lost shown`: what is shown for each file comes first, and then a list.
 -- If names are listed, it is the table of the names of all files, after their conditions whose
--- names can't be listed. If they aren't, but what outputs still say of a symbol is, it is the list
--- of that for all outputs. There is no line if no option names a symbol.
+-- names can't be listed. Else, if mentions are listed, it is the list of the mentions in all
+-- outputs. This list is empty if no option names a symbol.
 pub record ShowsAll (args : Arguments) (results : List FileResult) (is_lost : Bool)
     (shown : List ℕ) : Type 0 where
   pub listed : List ℕ
@@ -156,13 +140,13 @@ pub record ShowsAll (args : Arguments) (results : List FileResult) (is_lost : Bo
   pub remains : ¬ (args.task ≡ Names) → args.list_remaining ≡ true → is_lost ≡ false →
       is_searched args ≡ true → (calls : List Argument) →
       TableRepresents args.plan.run.symbols calls →
-      listed ≡ texts_of calls (listing_of args) (mode_of args) (outputs_of results)
+      listed ≡ texts_of calls (listing_of args) args (outputs_of results)
   pub unsearched : ¬ (args.task ≡ Names) → is_searched args ≡ false → listed ≡ []
 
--- `Totals args results is_lost tally`: the tally has the numbers of all files, if a machine can
--- count these: of the conditions whose names can't be listed, of edited conditions, of removed
--- lines, and of the conditions of all outputs that still name a symbol and the lines that define
--- one, unless some was lost.
+-- `Totals args results is_lost tally`: the tally has the totals over all files, if a machine can
+-- count them: of conditions whose names can't be listed, of edited conditions, of removed lines,
+-- and (unless some were lost) of conditions in all outputs that still name a symbol and of lines
+-- that define one.
 pub record Totals (args : Arguments) (results : List FileResult) (is_lost : Bool)
     (tally : Tally) : Type 0 where
   pub hidden : (listed_of results).hidden < 2 ^ 64 → tally.hidden ≡ (listed_of results).hidden
@@ -170,18 +154,18 @@ pub record Totals (args : Arguments) (results : List FileResult) (is_lost : Bool
   pub removed : removed_in results < 2 ^ 64 → tally.edits.lines ≡ removed_in results
   pub remaining : is_lost ≡ false → is_searched args ≡ true → (calls : List Argument) →
       TableRepresents args.plan.run.symbols calls →
-      count_of calls (mode_of args) (outputs_of results) < 2 ^ 64 →
-      tally.remaining ≡ count_of calls (mode_of args) (outputs_of results)
+      count_of calls args (outputs_of results) < 2 ^ 64 →
+      tally.remaining ≡ count_of calls args (outputs_of results)
   pub none_remains : is_searched args ≡ false → tally.remaining ≡ 0
   pub defined : is_lost ≡ false → is_searched args ≡ true → (calls : List Argument) →
       TableRepresents args.plan.run.symbols calls →
-      defined_of calls (mode_of args) (outputs_of results) < 2 ^ 64 →
-      tally.defined ≡ defined_of calls (mode_of args) (outputs_of results)
+      defined_of calls args (outputs_of results) < 2 ^ 64 →
+      tally.defined ≡ defined_of calls args (outputs_of results)
   pub none_defined : is_searched args ≡ false → tally.defined ≡ 0
 
--- `HasStatus args in_walk results is_lost faults ending`: there is one fault for each of the walk,
--- for each message about the output and for each faulty file, if a machine can count these, and at
--- least one for each faulty file. The status is that of this number, and of the number of changed
+-- `HasStatus args in_walk results is_lost faults ending`: there is one fault for each fault of the
+-- walk, each message about the output and each faulty file, if a machine can count these, and at
+-- least one for each faulty file. The status depends on this number and the number of changed
 -- files. It is 2 if the error stream has failed. The output has failed or is flushed.
 pub record HasStatus (args : Arguments) (in_walk : ℕ) (results : List FileResult)
     (is_lost : Bool) (faults : ℕ) (ending : Ending) : Type 0 where
@@ -195,8 +179,8 @@ pub record HasStatus (args : Arguments) (in_walk : ℕ) (results : List FileResu
   pub flushed : ending.streams.failed ≡ false → ending.streams.unflushed ≡ false
 
 -- `TellsAll args results is_lost tally ending`: the messages of the faulty files come first, then
--- those about the output, which has one if it has failed. Then come the last lines, which have the
--- numbers of changed and unchanged files, and those of the tally.
+-- the messages about the output, which has one if it has failed. Then come the last lines, with the
+-- numbers of changed and unchanged files, and the tally.
 pub record TellsAll (args : Arguments) (results : List FileResult) (is_lost : Bool)
     (tally : Tally) (ending : Ending) : Type 0 where
   pub told_is : ending.told ≡
@@ -205,7 +189,7 @@ pub record TellsAll (args : Arguments) (results : List FileResult) (is_lost : Bo
       tally.faults tally.hidden tally.edits tally.remaining tally.defined
 
 -- `Ends args in_walk old files new ending`: the files are processed. The output, the last lines,
--- the status and the messages are those of their results.
+-- the status and the messages come from their results.
 pub record Ends (args : Arguments) (in_walk : ℕ) (old : List Call) (files : List Found)
     (new : List Call) (ending : Ending) : Type 0 where
   pub does : DoesAll args ending.streams.failed old files new
@@ -217,8 +201,8 @@ pub record Ends (args : Arguments) (in_walk : ℕ) (old : List Call) (files : Li
   pub tells : TellsAll args does.results is_lost tally ending
 
 -- `HasEnding is_terminal before after messages ending status`: a run that ends so has this status.
--- What is shown was written to the output, and the last lines were to the error stream. If that is
--- no terminal, the messages and all of `told` were written, and nothing else.
+-- What is shown was written to the output, and the last lines to the error stream. If that isn't a
+-- terminal, the messages and all of `told` were written, and nothing else.
 pub record HasEnding (is_terminal : Bool) (before after : Moment) (messages : List (List ℕ))
     (ending : Ending) (status : ℕ) : Type 0 where
   pub status_is : status ≡ ending.status
@@ -228,8 +212,8 @@ pub record HasEnding (is_terminal : Bool) (before after : Moment) (messages : Li
   pub tells : is_terminal ≡ false →
       Sends before.err after.err (joined messages ++ ending.told)
 
--- `EndsWriting job in_walk before files after status`: the files are processed, and what is to be
--- written of them was.
+-- `EndsWriting job in_walk before files after status`: the files are processed, and everything to
+-- be written for them was written.
 pub record EndsWriting (job : Job) (in_walk : ℕ) (before : Moment) (files : List Found)
     (after : Moment) (status : ℕ) : Type 0 where
   pub ending : Ending
@@ -247,8 +231,8 @@ pub record Run : Type 0 where
   pub messages : List (List ℕ)
   pub ending : Ending
 
--- `StopsEarly run`: only calls of a walk were made, which have these messages. There is a reason
--- why no file follows, nothing is shown, and the status is 2.
+-- `StopsEarly run`: only calls of a walk were made, with these messages. There is a reason why no
+-- file follows, nothing is shown, and the status is 2.
 pub record StopsEarly (run : Run) : Type 0 where
   pub walk : WalkTells run.old run.new run.messages
   pub stops : Stops run.args.from_input run.left run.messages run.ending.told
@@ -257,7 +241,7 @@ pub record StopsEarly (run : Run) : Type 0 where
   pub status_is : run.ending.status ≡ 2
 
 -- `ProcessesFiles run`: the input was read whole, if paths come from it. The walk missed none of
--- the paths, and of the names below them. It found some files, at least one if paths are those of
+-- the paths, nor of the names below them. It found some files, at least one if the paths come from
 -- the command line, and the run ends after them.
 pub record ProcessesFiles (run : Run) : Type 0 where
   pub text : List ℕ
@@ -286,7 +270,7 @@ pub record IsClean (run : Run) : Type 0 where
   pub flushed : run.ending.streams.unflushed ≡ false
   pub heard : run.ending.streams.unheard ≡ false
 
--- `RunsTree job given left before after status`: a whole run, and what is to be written of it was.
+-- `RunsTree job given left before after status`: a whole run, and all that is to be written was.
 pub record RunsTree (job : Job) (given left : Source) (before after : Moment) (status : ℕ) :
     Type 0 where
   pub messages : List (List ℕ)

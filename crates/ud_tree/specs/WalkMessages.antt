@@ -2,28 +2,27 @@
 --
 --   is_refused w                 a look found nothing, or a call failed
 --   IsRefusal w message          the message of a call that failed
---   IsRemark calls message       the message of something else that can't be taken
---   WasListed calls path         a path is that of a name in a folder that was listed
+--   IsRemark calls message       the message about something else that can't be taken
+--   WasListed calls path         a path leads to a name in a listed folder
 --   AreTold calls messages       each call that failed has its message
 --   WalkTells old new messages   only calls of a walk were made, and these are their messages
 --   joined messages              all messages, one after another
---   ReportsRefusal w old new err err'   the message of a call that failed was written and counted
---   ReportsWalk calls calls' old new err err'   so were all messages of a part of a walk
---   GoesOn history contents tree tree' w w' old new err err'   a part of a walk: files and messages
---   ReportsNames folder names calls calls' old new err err'   a folder was listed first
---   VisitTells path calls calls' old new err err'   a name of a folder was visited
---   TellsGiven path node old new err err'   a node of the input was added or left out
+--   ReportsWalk calls calls' old new   the messages of a part of a walk were written and counted
+--   GoesOn calls calls' w w' old new   a part of a walk: files and messages
+--   ReportsNames folder names calls calls' old new   a folder was listed first
+--   VisitTells path calls calls' old new   a name of a folder was visited
+--   TellsGiven path node old new   a node of the input was added or left out
 --   input_message                the message if the input couldn't be read
---   Stops from_input left messages told   why no file follows a walk, and what is written of that
---   StopsWalk from_input left calls calls' old new err err'   a walk that no file follows
+--   Stops from_input left messages told   why no file follows a walk, and its message
+--   StopsWalk from_input left calls calls' old new   a walk that no file follows
 --   TakesEach given left calls calls' has told   the input was read, and each path was given
 --   TakesPaths args given left calls calls' has told   all paths are taken
---   WalksAll history contents args given left tree tree' found ..   a walk over all paths, or not
---   FindsFiles args given left calls calls' files old new err err'   a walk that found files
---   EndsWalk history contents args given left tree tree' ..   a walk that found files, or none
+--   WalksAll args given left calls calls' found old new all   a walk over all paths, or not
+--   FindsFiles args given left calls calls' files old new   a walk that found files
+--   EndsWalk args given left calls calls' old new found   a walk that found files, or none
 --
--- `old` and `new` are the report before and after, or the calls, the newest first. `err` and `err'`
--- are the error stream, and `given` and `left` are what the input has before and after.
+-- `old` and `new` are the report before and after, or the calls, the newest first. `given` and
+-- `left` are what the input has before and after.
 use Rattle.std.specs.Prelude.{◌≡◌, ℕ, ◌+◌, ◌<◌, ◌^◌, List, [], ◌∷◌, ◌++◌, length, map, Bool, true}
 use Rattle.std.specs.Prelude.{false, not, codes, Option, IfSome, IfNone, Vec}
 use Rattle.std.specs.declared.alloc.Global.{Global}
@@ -32,20 +31,18 @@ use Rattle.ud_replace.specs.declared.node.Lookup.TheVariants.{Present, Absent, U
 use Rattle.ud_replace.specs.declared.node.Node.{Node}
 use Rattle.ud_replace.specs.declared.node.NodeKind.TheVariants.{File, Link, Other}
 use Rattle.ud_replace.specs.Calls.{Call, walked, WalkCall, met, followed, listed}
-use Rattle.ud_tree.specs.declared.report.Report.{Report}
+use Rattle.ud_tree.specs.Reports.{ReportState, Tells, ReportsOne}
 use Rattle.ud_tree.specs.declared.walk.Found.{Found}
 use Rattle.ud_tree.specs.declared.walk.Walk.{Walk}
-use Rattle.ud_tree.specs.Messages.{fault_line, IsFailureOf, Tells, ReportsOne}
+use Rattle.ud_tree.specs.Messages.{fault_line, IsFailureOf}
 use Rattle.ud_tree.specs.Streams.{Source, TakesInput, ReadsWhole}
-use Rattle.ud_io.specs.Streams.{Stream, stream_of}
-use Rattle.ud_io.specs.Watched.{WatchedState}
 use Rattle.ud_tree.specs.declared.arguments.Arguments.{Arguments}
 use Rattle.ud_replace.specs.declared.node.FileId.{FileId}
 use Rattle.ud_tree.specs.Covering.{CoversInput, paths_of, IsIn, StandsIn, MissesNone}
 use Rattle.ud_tree.specs.Summaries.{line_of}
 use Rattle.ud_tree.specs.Walks.{Finds, IsWalk}
 
--- `is_refused w`: nothing has the path that was looked at, or a call failed.
+-- `is_refused w`: nothing is at the path that was looked at, or a call failed.
 abbrev pub is_refused : WalkCall → Bool
 is_refused (met path Absent) = true
 is_refused (met path Unknown) = true
@@ -53,8 +50,8 @@ is_refused (met path (Present node)) = false
 is_refused (followed path answer) = false
 is_refused (listed folder names answer) = not answer
 
--- `IsRefusal w message`: `w` found nothing or failed, and `message` is a line with its path and
--- what failed.
+-- `IsRefusal w message`: `w` found nothing or failed, and `message` is a line with its path and the
+-- failure.
 pub data IsRefusal (w : WalkCall) (message : List ℕ) : Type 0 where
   is_missing : (path : List ℕ) → w ≡ met path Absent →
       message ≡ fault_line path (codes "No such file or folder") → IsRefusal w message
@@ -68,8 +65,8 @@ abbrev pub input_message : List ℕ
 input_message = fault_line (codes "stdin") (codes "Cannot be read")
 
 -- `IsRemark calls message`: `message` is a line with a path that can't be taken, and why, though no
--- call failed. `calls` met a link there that doesn't lead to a folder, or something else that is no
--- regular file. Or the line says that a name isn't UTF-8, or that the input couldn't be read.
+-- call failed. `calls` met a link there that doesn't lead to a folder, or something else that isn't
+-- a regular file. Or the line says that a name isn't UTF-8, or that the input couldn't be read.
 pub data IsRemark (calls : List WalkCall) (message : List ℕ) : Type 0 where
   is_link : (path : List ℕ) (node : Node) → Contains calls (met path (Present node)) →
       node.kind ≡ Link → Contains calls (followed path false) →
@@ -81,7 +78,7 @@ pub data IsRemark (calls : List WalkCall) (message : List ℕ) : Type 0 where
       IsRemark calls message
   no_input : message ≡ input_message → IsRemark calls message
 
--- `WasListed calls path`: one of `calls` listed a folder, and `path` is that of one of the names.
+-- `WasListed calls path`: one of `calls` listed a folder, and `path` leads to one of the names.
 pub record WasListed (calls : List WalkCall) (path : List ℕ) : Type 0 where
   pub folder : List ℕ
   pub name : List ℕ
@@ -91,9 +88,9 @@ pub record WasListed (calls : List WalkCall) (path : List ℕ) : Type 0 where
   pub has : Contains names name
   pub path_is : path ≡ folder ++ name
 
--- `AreTold calls messages`: `messages` are those of a walk with these calls, the newest first. Each
--- call that failed, or that found nothing, has its message, in the order of the calls. A name may
--- vanish after its folder was listed, and then needs none. Remarks may come between.
+-- `AreTold calls messages`: `messages` are the messages of a walk with these calls, the newest
+-- first. Each call that failed, or found nothing, has its message, in the order of the calls. A
+-- name that vanished after its folder was listed needs none. Remarks may come in between.
 pub data AreTold : List WalkCall → List (List ℕ) → Type 0 where
   none_told : AreTold [] []
   then_answered : {calls : List WalkCall} {messages : List (List ℕ)} (w : WalkCall) →
@@ -106,8 +103,8 @@ pub data AreTold : List WalkCall → List (List ℕ) → Type 0 where
   then_remark : {calls : List WalkCall} {messages : List (List ℕ)} (message : List ℕ) →
       AreTold calls messages → IsRemark calls message → AreTold calls (messages ++ message ∷ [])
 
--- `WalkTells old new messages`: since `old`, only calls of a walk were made, and `messages` are
--- those of this part of the walk.
+-- `WalkTells old new messages`: since `old`, only calls of a walk were made, and `messages` are the
+-- messages of this part of the walk.
 pub record WalkTells (old new : List Call) (messages : List (List ℕ)) : Type 0 where
   pub calls : List WalkCall
   pub are : new ≡ map walked calls ++ old
@@ -117,63 +114,51 @@ pub record WalkTells (old new : List Call) (messages : List (List ℕ)) : Type 0
 abbrev pub joined : List (List ℕ) → List ℕ
 joined messages = flat_map (λ m. m) messages
 
--- `ReportsRefusal w old new err err'`: the message of the call `w`, which failed, was written and
--- counted.
-pub record ReportsRefusal (w : WalkCall) (old new : Report) (err err' : Stream) : Type 0 where
-  pub message : List ℕ
-  pub is_of : IsRefusal w message
-  pub reports : ReportsOne message old new err err'
-
--- `ReportsWalk calls calls' old new err err'`: since `calls`, only calls of a walk were made, and
--- their messages were written and counted.
-pub record ReportsWalk (calls calls' : List Call) (old new : Report) (err err' : Stream) :
-    Type 0 where
+-- `ReportsWalk calls calls' old new`: since `calls`, only calls of a walk were made, and their
+-- messages were written and counted.
+pub record ReportsWalk (calls calls' : List Call) (old new : ReportState) : Type 0 where
   pub messages : List (List ℕ)
   pub walk : WalkTells calls calls' messages
-  pub tells : Tells old new err err' (joined messages)
-  pub counted : old.faulty + length messages < 2 ^ 64 →
-      new.faulty ≡ old.faulty + length messages
+  pub tells : Tells old new (joined messages)
+  pub counted : old.faulty + length messages < 2 ^ 64 → new.faulty ≡ old.faulty + length messages
 
--- `GoesOn history contents tree tree' w w' old new err err'`: a part of a walk, from `w` to `w'`.
--- Each file that it found was met (`Finds`), and its messages were written and counted.
-pub record GoesOn {T E : Type 0} (history : T → List Call) (contents : E → Option (List ℕ))
-    (tree tree' : T) (w w' : Walk) (old new : Report) (err err' : WatchedState E) : Type 0 where
-  pub finds : Finds (history tree) (history tree') w.found.items w'.found.items
-  pub told : ReportsWalk (history tree) (history tree') old new (stream_of contents err)
-      (stream_of contents err')
+-- `GoesOn calls calls' w w' old new`: a part of a walk, from `w` to `w'`. Each file that it found
+-- was met (`Finds`), and its messages were written and counted.
+pub record GoesOn (calls calls' : List Call) (w w' : Walk) (old new : ReportState) : Type 0 where
+  pub finds : Finds calls calls' w.found.items w'.found.items
+  pub told : ReportsWalk calls calls' old new
 
--- `ReportsNames folder names calls calls' old new err err'`: the same, and one of these calls
--- listed `names` in `folder`.
+-- `ReportsNames folder names calls calls' old new`: the same, and one of these calls listed `names`
+-- in `folder`.
 pub record ReportsNames (folder : List ℕ) (names : List (List ℕ)) (calls calls' : List Call)
-    (old new : Report) (err err' : Stream) : Type 0 where
+    (old new : ReportState) : Type 0 where
   pub answer : Bool
-  pub reports : ReportsWalk calls calls' old new err err'
+  pub reports : ReportsWalk calls calls' old new
   pub listing : Contains reports.walk.calls (listed folder names answer)
 
--- `VisitTells path calls calls' old new err err'`: `path` was looked at, nothing has it, and
--- nothing was written. Or that isn't so: then only calls of a walk were made, and their messages
--- were written and counted.
-pub data VisitTells (path : List ℕ) (calls calls' : List Call) (old new : Report)
-    (err err' : Stream) : Type 0 where
-  is_gone : calls' ≡ walked (met path Absent) ∷ calls → new ≡ old → err' ≡ err →
-      VisitTells path calls calls' old new err err'
-  is_told : ¬ (calls' ≡ walked (met path Absent) ∷ calls) →
-      ReportsWalk calls calls' old new err err' → VisitTells path calls calls' old new err err'
-
--- `TellsGiven path node old new err err'`: nothing was written. Or `node` has `path` and is of
--- another kind than a file, a folder and a link, and the message that it is no regular file was
--- written and counted.
-pub data TellsGiven (path : List ℕ) (node : Node) (old new : Report) (err err' : Stream) :
+-- `VisitTells path calls calls' old new`: `path` was looked at, nothing has it, and nothing was
+-- written. Or that isn't so: then only calls of a walk were made, and their messages were written
+-- and counted.
+pub data VisitTells (path : List ℕ) (calls calls' : List Call) (old new : ReportState) :
     Type 0 where
-  is_quiet : new ≡ old → err' ≡ err → TellsGiven path node old new err err'
+  is_gone : calls' ≡ walked (met path Absent) ∷ calls → new ≡ old →
+      VisitTells path calls calls' old new
+  is_told : ¬ (calls' ≡ walked (met path Absent) ∷ calls) → ReportsWalk calls calls' old new →
+      VisitTells path calls calls' old new
+
+-- `TellsGiven path node old new`: nothing was written. Or `node` has `path` and is of another kind
+-- than a file, a folder and a link, and the message that it is no regular file was written and
+-- counted.
+pub data TellsGiven (path : List ℕ) (node : Node) (old new : ReportState) : Type 0 where
+  is_quiet : new ≡ old → TellsGiven path node old new
   is_irregular : node.kind ≡ Other →
-      ReportsOne (fault_line path (codes "Is no regular file")) old new err err' →
-      TellsGiven path node old new err err'
+      ReportsOne (fault_line path (codes "Is no regular file")) old new →
+      TellsGiven path node old new
 
 -- `Stops from_input left messages told`: no file follows a walk with these messages. Memory ran
 -- out, and a line says so. Or paths come from the input, which has failed, and the one message says
--- so. Or the paths are those of the command line, and one has a fault, of which the messages tell.
--- Or no file below them matches, and a line says so.
+-- so. Or a path of the command line has a fault, reported in the messages. Or no file below the
+-- paths matches, and a line says so.
 pub data Stops (from_input : Bool) (left : Source) (messages : List (List ℕ))
     (told : List ℕ) : Type 0 where
   no_memory : told ≡ line_of (codes "Out of memory") → Stops from_input left messages told
@@ -184,15 +169,15 @@ pub data Stops (from_input : Bool) (left : Source) (messages : List (List ℕ))
   no_match : from_input ≡ false → told ≡ line_of (codes "No file matches") →
       Stops from_input left messages told
 
--- `StopsWalk from_input left calls calls' old new err err'`: since `calls`, only calls of a walk
--- were made. Their messages were written, and why no file follows.
+-- `StopsWalk from_input left calls calls' old new`: since `calls`, only calls of a walk were made.
+-- Their messages were written, and why no file follows.
 pub record StopsWalk (from_input : Bool) (left : Source) (calls calls' : List Call)
-    (old new : Report) (err err' : Stream) : Type 0 where
+    (old new : ReportState) : Type 0 where
   pub messages : List (List ℕ)
   pub told : List ℕ
   pub walk : WalkTells calls calls' messages
   pub stops : Stops from_input left messages told
-  pub tells : Tells old new err err' (joined messages ++ told)
+  pub tells : Tells old new (joined messages ++ told)
 
 -- `TakesEach given left calls calls' has told`: the input was read whole, and each of its paths was
 -- given.
@@ -210,33 +195,26 @@ pub record TakesPaths (args : Arguments) (given left : Source) (calls calls' : L
   pub takes : TakesInput args.from_input given left text
   pub misses : MissesNone args text calls calls' has told
 
--- `WalksAll history contents args given left tree tree' found old new err err' all`: if `all`, the
--- paths are taken, and the walk has found `found`. Else no file follows it.
-pub record WalksAll {T E : Type 0} (history : T → List Call) (contents : E → Option (List ℕ))
-    (args : Arguments) (given left : Source) (tree tree' : T) (found : List Found)
-    (old new : Report) (err err' : WatchedState E) (all : Bool) : Type 0 where
-  pub takes : all ≡ true → TakesPaths args given left (history tree) (history tree') (IsIn found)
-      (0 < new.faulty)
-  pub stops : all ≡ false → old.faulty ≡ 0 → StopsWalk args.from_input left (history tree)
-      (history tree') old new (stream_of contents err) (stream_of contents err')
+-- `WalksAll args given left calls calls' found old new all`: if `all`, the paths are taken, and the
+-- walk has found `found`. Else no file follows it.
+pub record WalksAll (args : Arguments) (given left : Source) (calls calls' : List Call)
+    (found : List Found) (old new : ReportState) (all : Bool) : Type 0 where
+  pub takes : all ≡ true → TakesPaths args given left calls calls' (IsIn found) (0 < new.faulty)
+  pub stops : all ≡ false → old.faulty ≡ 0 → StopsWalk args.from_input left calls calls' old new
 
--- `FindsFiles args given left calls calls' files old new err err'`: the paths are taken. Since
--- `calls`, a whole walk found `files`, at least one if the paths are those of the command line. Its
--- messages were written and counted.
+-- `FindsFiles args given left calls calls' files old new`: the paths are taken. Since `calls`, a
+-- whole walk found `files`, at least one if the paths are those of the command line. Its messages
+-- were written and counted.
 pub record FindsFiles (args : Arguments) (given left : Source) (calls calls' : List Call)
-    (files : List Found) (old new : Report) (err err' : Stream) : Type 0 where
+    (files : List Found) (old new : ReportState) : Type 0 where
   pub is_walk : IsWalk calls calls' files
   pub some : args.from_input ≡ false → 0 < length files
-  pub reports : ReportsWalk calls calls' old new err err'
-  pub paths : TakesPaths args given left calls calls' (StandsIn files)
-      (0 < length reports.messages)
+  pub reports : ReportsWalk calls calls' old new
+  pub paths : TakesPaths args given left calls calls' (StandsIn files) (0 < length reports.messages)
 
--- `EndsWalk history contents args given left tree tree' old new err err' found`: the walk found
--- these files, or no file follows it.
-pub record EndsWalk {T E : Type 0} (history : T → List Call) (contents : E → Option (List ℕ))
-    (args : Arguments) (given left : Source) (tree tree' : T) (old new : Report)
-    (err err' : WatchedState E) (found : Option (Vec Found Global)) : Type 0 where
-  pub files : IfSome found (λ files. FindsFiles args given left (history tree) (history tree')
-      files.items old new (stream_of contents err) (stream_of contents err'))
-  pub stops : IfNone found (StopsWalk args.from_input left (history tree) (history tree') old new
-      (stream_of contents err) (stream_of contents err'))
+-- `EndsWalk args given left calls calls' old new found`: the walk found these files, or no file
+-- follows it.
+pub record EndsWalk (args : Arguments) (given left : Source) (calls calls' : List Call)
+    (old new : ReportState) (found : Option (Vec Found Global)) : Type 0 where
+  pub files : IfSome found (λ files. FindsFiles args given left calls calls' files.items old new)
+  pub stops : IfNone found (StopsWalk args.from_input left calls calls' old new)

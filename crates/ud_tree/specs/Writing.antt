@@ -1,13 +1,12 @@
--- Writing: what is written of the files of a run to the output.
+-- Writing: what is written for the files of a run to the output.
 --
 --   Moment                                the calls so far, the output and the error stream
---   moment history contents reported tree out err   those of a tree and two writers
---   WritesOne args P name calls calls' out out' update edits listed report report'
---                                         a file was processed, and shown
---   ProcessesOne args P name calls calls' out out' update edits lists lists' report report'
---                                         the same, and what is listed of it was added
---   WritesAll args P before names report after report' counts lists lists'
---                                         each file in turn was processed
+--   moment history contents reported tree out err   the moment of a tree and two writers
+--   Stage                                 the calls so far, the output and the report
+--   stage history contents tree out report   those of a tree and a writer
+--   WritesOne args P name before after update edits listed   a file was processed, and shown
+--   ProcessesOne args P name before after update edits lists lists'   what is listed was added, too
+--   WritesAll args P before names after counts lists lists'   each file in turn was processed
 --   WritesList args names rest lost out out'   what is listed after the files was written
 use Rattle.std.specs.Prelude.{◌≡◌, ℕ, List, [], Option, Result, Bool, true, false}
 use Rattle.ud_io.specs.Watched.{WatchedState}
@@ -20,8 +19,7 @@ use Rattle.ud_tree.specs.declared.arguments.Arguments.{Arguments}
 use Rattle.ud_tree.specs.declared.arguments.Task.TheVariants.{Names}
 use Rattle.ud_tree.specs.declared.counts.Counts.{Counts}
 use Rattle.ud_tree.specs.declared.counts.Edits.{Edits}
-use Rattle.ud_tree.specs.declared.report.Report.{Report}
-use Rattle.ud_tree.specs.Messages.{Tells}
+use Rattle.ud_tree.specs.Reports.{ReportState, Writes}
 use Rattle.ud_tree.specs.Lists.{Adds}
 use Rattle.ud_tree.specs.Remainders.{FindsAll}
 use Rattle.ud_tree.specs.Runs.{FileResult, Counted, Listed, listed_of, Output, outputs_of}
@@ -33,8 +31,8 @@ pub record Moment : Type 0 where
   pub out : Stream
   pub err : Stream
 
--- `moment history contents reported tree out err`: the calls that a tree was asked, the output and
--- the error stream.
+-- `moment history contents reported tree out err`: the calls made to a tree, the output and the
+-- error stream.
 abbrev pub moment : {T W E : Type 0} → (T → List Call) → (W → Option (List ℕ)) →
     (E → Option (List ℕ)) → T → WatchedState W → WatchedState E → Moment
 moment history contents reported tree out err = record {
@@ -43,18 +41,30 @@ moment history contents reported tree out err = record {
   err = stream_of reported err;
 }
 
--- `WritesOne args P name calls calls' out out' update edits listed report report'`: `P` holds of a
--- file with this result, these edits, and what is listed of it. What is shown
--- of it was written, and the conditions of its output that still name a symbol were added to the
--- report. `calls` and `calls'` are the calls before and after it.
+-- `Stage`: the calls so far, the newest first, the output and the report.
+pub record Stage : Type 0 where
+  pub calls : List Call
+  pub out : Stream
+  pub report : ReportState
+
+-- `stage history contents tree out report`: the calls that a tree was asked, the output and the
+-- report.
+abbrev pub stage : {T W : Type 0} → (T → List Call) → (W → Option (List ℕ)) → T → WatchedState W →
+    ReportState → Stage
+stage history contents tree out report =
+    record { calls = history tree; out = stream_of contents out; report = report }
+
+-- `WritesOne args P name before after update edits listed`: `P` holds of a file with this result,
+-- these edits, and what is listed of it. What is shown of it was written, and the conditions of its
+-- output that still name a symbol were added to the report.
 pub record WritesOne (args : Arguments)
     (P : List ℕ → List Call → List Call → FileResult → Type 0) (name : List ℕ)
-    (calls calls' : List Call) (out out' : Stream) (update : Result Update ReplaceError)
-    (edits : Edits) (listed : Listed) (report report' : Report) : Type 0 where
+    (before after : Stage) (update : Result Update ReplaceError) (edits : Edits)
+    (listed : Listed) : Type 0 where
   pub shown : List ℕ
   pub outputs : List Output
   pub does : (told : List ℕ) →
-      P name calls calls' (record {
+      P name before.calls after.calls (record {
         update = update;
         shown = shown;
         told = told;
@@ -62,39 +72,39 @@ pub record WritesOne (args : Arguments)
         listed = listed;
         outputs = outputs;
       })
-  pub sent : Sends out out' shown
-  pub finds : FindsAll args outputs report report'
+  pub sent : Sends before.out after.out shown
+  pub finds : FindsAll args outputs before.report after.report
 
--- `ProcessesOne args P name calls calls' out out' update edits lists lists' report report'`: the
--- same, and what is listed of the file was added to `lists`.
+-- `ProcessesOne args P name before after update edits lists lists'`: the same, and what is listed
+-- of the file was added to `lists`.
 pub record ProcessesOne (args : Arguments)
     (P : List ℕ → List Call → List Call → FileResult → Type 0) (name : List ℕ)
-    (calls calls' : List Call) (out out' : Stream) (update : Result Update ReplaceError)
-    (edits : Edits) (lists lists' : NameLists) (report report' : Report) : Type 0 where
+    (before after : Stage) (update : Result Update ReplaceError) (edits : Edits)
+    (lists lists' : NameLists) : Type 0 where
   pub listed : Listed
-  pub writes : WritesOne args P name calls calls' out out' update edits listed report report'
+  pub writes : WritesOne args P name before after update edits listed
   pub adds : Adds lists lists' listed
 
--- `WritesAll args P before names report after report' counts lists lists'`: `P` holds of each file
--- in turn, `counts` has the numbers of their fates, and what is shown and told of them was written
--- in this order. What is listed of them was added to `lists`, and the conditions of their outputs
--- that still name a symbol to the report.
+-- `WritesAll args P before names after counts lists lists'`: `P` holds of each file in turn,
+-- `counts` has the numbers of their fates, and what is shown and told of them was written in this
+-- order. What is listed of them was added to `lists`, and the conditions of their outputs that
+-- still name a symbol to the report.
 pub record WritesAll (args : Arguments)
-    (P : List ℕ → List Call → List Call → FileResult → Type 0)
-    (before : Moment) (names : List (List ℕ)) (report : Report) (after : Moment)
-    (report' : Report) (counts : Counts) (lists lists' : NameLists) : Type 0 where
+    (P : List ℕ → List Call → List Call → FileResult → Type 0) (before : Stage)
+    (names : List (List ℕ)) (after : Stage) (counts : Counts) (lists lists' : NameLists) :
+    Type 0 where
   pub shown : List ℕ
   pub told : List ℕ
   pub counted : Counted P before.calls names after.calls counts shown told
   pub sent : Sends before.out after.out shown
-  pub tells : Tells report report' before.err after.err told
+  pub writes : Writes before.report after.report told
   pub adds : Adds lists lists' (listed_of counted.results)
-  pub finds : FindsAll args (outputs_of counted.results) report report'
+  pub finds : FindsAll args (outputs_of counted.results) before.report after.report
 
--- `WritesList args names rest lost out out'`: a list was written: nothing, unless names or the
--- conditions that still name a symbol are to be listed. Names are listed by a table of them, after
--- the conditions whose names can't be, unless some of that was lost for want of memory. The list of
--- the conditions that still name a symbol is `rest`.
+-- `WritesList args names rest lost out out'`: a list was written, empty unless names or the
+-- conditions that still name a symbol are to be listed. Names are listed in a table, after the
+-- conditions whose names can't be listed, unless some of that was lost for lack of memory. The list
+-- of the conditions that still name a symbol is `rest`.
 pub record WritesList (args : Arguments) (names : NameLists) (rest : List ℕ) (lost : Bool)
     (out out' : Stream) : Type 0 where
   pub listed : List ℕ

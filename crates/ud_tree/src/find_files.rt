@@ -1,10 +1,9 @@
-//! Finding the files of a run: below the paths of the command line, or those of the input.
+//! Finds the files of a run: below the paths of the command line, or listed on the input.
 
 ghost use Rattle.std.specs.Prelude.{◌≡◌, ◌<◌, ◌++◌, [], map, true, false, IfOk};
 ghost use Rattle.std.specs.Prelude.{OnErr, OnOk};
 ghost use Rattle.ud_tree.specs.Covering.{IsIn, own_path, paths_of};
 ghost use Rattle.ud_tree.specs.Streams.{source_of, ReadsWhole};
-ghost use Rattle.ud_io.specs.Streams.{stream_of};
 ghost use Rattle.ud_tree.specs.WalkMessages.{EndsWalk, GoesOn, ReportsWalk, StopsWalk};
 ghost use Rattle.ud_tree.specs.WalkMessages.{TakesEach, WalksAll};
 
@@ -25,88 +24,84 @@ pub(crate) fn find_files<T: Tree, R: Read, E: Write>(
     job: &Job<'_>,
     tree: &mut T,
     input: &mut Watched<R>,
-    report: &mut Report,
-    err: &mut Watched<E>,
+    report: &mut Report<E>,
 ) -> Result<Option<Vec<Found>>, AllocError>
-    ensures ends { report.old.faulty ≡ 0 → IfOk result (EndsWalk T.history E.contents
-        job.now.arguments.now (source_of R.remaining input.old) (source_of R.remaining input.new)
-        tree.old tree.new report.old report.new err.old err.new) }
-    ensures no_memory { OnErr result (ReportsWalk (T.history tree.old) (T.history tree.new)
-        report.old report.new (stream_of E.contents err.old) (stream_of E.contents err.new)) }
+    ensures ends { report.old.faulty ≡ 0 → IfOk result (EndsWalk job.now.arguments.now
+        (source_of R.remaining input.old) (source_of R.remaining input.new)
+        (T.history tree.old) (T.history tree.new) report.old report.new) }
+    ensures no_memory { OnErr result
+        (ReportsWalk (T.history tree.old) (T.history tree.new) report.old report.new) }
 {
     let mut walk = Walk::new(job.alloc, job.arguments.patterns.as_slice());
-    let all = walk_all(job, &mut walk, tree, input, report, err)?;
+    let all = walk_all(job, &mut walk, tree, input, report)?;
     if !all {
         return Ok(None);
     }
     let files = walk.finish()?;
     if files.is_empty() && !job.arguments.from_input {
-        report.line(err, &[b"No file matches"]);
+        report.line(&[b"No file matches"]);
         return Ok(None);
     }
     Ok(Some(files))
 }
 
 /// Walks over all paths that the arguments name. Returns false if the input can't be read, or if a
-/// path of the command line has a fault. Nothing below the paths was looked at then.
+/// path of the command line has a fault. Then nothing below the paths was looked at.
 fn walk_all<T: Tree, R: Read, E: Write>(
     job: &Job<'_>,
     walk: &mut Walk<'_>,
     tree: &mut T,
     input: &mut Watched<R>,
-    report: &mut Report,
-    err: &mut Watched<E>,
+    report: &mut Report<E>,
 ) -> Result<bool, AllocError>
     requires { walk.old.patterns.now ≡ job.now.arguments.now.patterns.items }
-    ensures goes_on { GoesOn T.history E.contents tree.old tree.new walk.old walk.new
-        report.old report.new err.old err.new }
-    ensures walks { IfOk result (WalksAll T.history E.contents job.now.arguments.now
-        (source_of R.remaining input.old) (source_of R.remaining input.new) tree.old tree.new
-        walk.new.found.items report.old report.new err.old err.new) }
+    ensures goes_on { GoesOn (T.history tree.old) (T.history tree.new) walk.old walk.new
+        report.old report.new }
+    ensures walks { IfOk result (WalksAll job.now.arguments.now
+        (source_of R.remaining input.old) (source_of R.remaining input.new)
+        (T.history tree.old) (T.history tree.new) walk.new.found.items report.old report.new) }
 {
     if job.arguments.from_input {
-        return add_input(job.alloc, walk, tree, input, report, err);
+        return add_input(job.alloc, walk, tree, input, report);
     }
     for path in job.arguments.paths.as_slice() {
-        walk.start(tree, report, err, path.as_str())?;
+        walk.start(tree, report, path.as_str())?;
     }
     if report.faulty() > 0 {
         return Ok(false);
     }
-    walk.go(tree, report, err)?;
+    walk.go(tree, report)?;
     Ok(true)
 }
 
 /// Adds the files whose paths are on the input, each ended by a NUL. Returns false after a failed
-/// read, which was reported. No path was looked at then, since the last one may be cut.
+/// read, which was reported. Then no path was looked at, since the last one may be cut.
 fn add_input<T: Tree, R: Read, E: Write>(
     alloc: Global,
     walk: &mut Walk<'_>,
     tree: &mut T,
     input: &mut Watched<R>,
-    report: &mut Report,
-    err: &mut Watched<E>,
+    report: &mut Report<E>,
 ) -> Result<bool, AllocError>
-    ensures goes_on { GoesOn T.history E.contents tree.old tree.new walk.old walk.new
-        report.old report.new err.old err.new }
+    ensures goes_on { GoesOn (T.history tree.old) (T.history tree.new) walk.old walk.new
+        report.old report.new }
     ensures takes { IfOk result (λ all. all ≡ true → TakesEach
         (source_of R.remaining input.old) (source_of R.remaining input.new)
         (T.history tree.old) (T.history tree.new) (IsIn walk.new.found.items)
         (0 < report.new.faulty)) }
     ensures stops { IfOk result (λ all. all ≡ false →
         StopsWalk true (source_of R.remaining input.new) (T.history tree.old)
-        (T.history tree.new) report.old report.new
-        (stream_of E.contents err.old) (stream_of E.contents err.new)) }
+        (T.history tree.new) report.old report.new) }
 {
     let mut text = Vec::new(alloc);
     let all = read_input(input, &mut text)?;
     if !all {
-        report.fault(err, b"stdin", b"Cannot be read");
+        report.fault(b"stdin", b"Cannot be read");
         return Ok(false);
     }
     let paths = split_paths(alloc, text.as_slice())?;
     for name in paths.as_slice() {
-        walk.add(tree, report, err, name.as_slice())?;
+        walk.add(tree, report, name.as_slice())?;
     }
     Ok(true)
 }
@@ -138,7 +133,7 @@ fn read_input<R: Read>(input: &mut Watched<R>, text: &mut Vec<u8>) -> Result<boo
     unreachable!()
 }
 
-/// Returns the paths of a text, each of which ends in a NUL. The last one may end the text.
+/// Returns the paths in a text, each ended by a NUL, or the last one by the end of the text.
 fn split_paths(alloc: Global, text: &[u8]) -> Result<Vec<Vec<u8>>, AllocError>
     ensures { IfOk result (λ paths. map (λ p. p.items) paths.items ≡ paths_of text.now) }
 {

@@ -1,7 +1,7 @@
-//! The marks of a text whose directives over several lines are folded.
+//! The marks of a text with directives over several lines folded.
 //!
-//! The run over the folded text has a mark for each of its lines. Here each of them gives the marks
-//! of the lines that it stands for.
+//! The run over the folded text gives each of its lines a mark. Here each mark becomes the marks of
+//! the lines that the folded line represents.
 
 use crate::file_diff::marks_of;
 use crate::job::Job;
@@ -13,7 +13,7 @@ use ud_text::line_in;
 /// The mark of a line that is removed.
 const REMOVED: u8 = b'-';
 
-/// The vertical tab, which stands for a newline that continues a directive.
+/// The vertical tab, which represents a newline that continues a directive.
 const VERTICAL_TAB: u8 = 11;
 
 /// Returns the first line of a text, and the rest.
@@ -23,13 +23,13 @@ fn first_line(text: &[u8]) -> (&[u8], &[u8]) {
     text.split_at(used)
 }
 
-/// Returns how many lines a folded line stands for.
+/// Returns how many lines a folded line represents.
 fn lines_of(folded: &[u8]) -> usize {
     let tabs = folded.iter().filter(|byte| **byte == VERTICAL_TAB).count();
     tabs.saturating_add(1)
 }
 
-/// Appends the mark of a line, if so many further lines stay. Returns how many stay after it.
+/// Appends the mark of a line, if `left` lines stay from here on. Returns how many stay after it.
 fn push_mark(left: usize, marks: &mut Vec<u8>) -> Result<usize, AllocError> {
     if left == 0 {
         marks.push(REMOVED)?;
@@ -39,7 +39,7 @@ fn push_mark(left: usize, marks: &mut Vec<u8>) -> Result<usize, AllocError> {
     Ok(left - 1)
 }
 
-/// Appends the marks of the lines that a folded line stands for, of which so many stay.
+/// Appends the marks of the lines that a folded line represents, of which the first `stay` stay.
 fn push_marks(folded: &[u8], stay: usize, marks: &mut Vec<u8>) -> Result<(), AllocError> {
     let mut left = push_mark(stay, marks)?;
     for byte in folded {
@@ -50,7 +50,7 @@ fn push_marks(folded: &[u8], stay: usize, marks: &mut Vec<u8>) -> Result<(), All
     Ok(())
 }
 
-/// Returns the marks of a text, by those of the folded text and by the folded output.
+/// Returns the marks of a text, by the marks of the folded text and the folded output.
 fn marks_by(
     alloc: Global,
     folded_marks: &[u8],
@@ -74,10 +74,9 @@ fn marks_by(
     Ok(marks)
 }
 
-/// Returns the marks of a text that is folded; `None` if it isn't, or if memory runs out.
+/// Returns the marks of a text that is folded; `None` if it isn't folded, or if memory runs out.
 pub(crate) fn folded_marks(job: &Job<'_>, text: &[u8], output: &[u8]) -> Option<Vec<u8>> {
-    let plan = &job.arguments.plan;
-    if !plan.prunes || plan.run.settings().blank {
+    if !job.folds() {
         return None;
     }
     let mut folded = Vec::new(job.alloc);

@@ -1,16 +1,17 @@
-//! What all files of a run share.
+//! The context that all files of a run share.
 
 ghost use Rattle.std.specs.Prelude.{◌≡◌};
-ghost use Rattle.ud_tree.specs.Remainders.{mode_of};
+ghost use Rattle.ud_tree.specs.Remainders.{folds, mode_of};
 
 use crate::arguments::Arguments;
 use std::alloc::Global;
 use ud_model::Mode;
+use ud_replace::may_fold;
 
 /// The arguments of a run, and what it may use.
 #[derive(Clone, Copy)]
 pub struct Job<'a> {
-    /// The allocator of all that the run keeps.
+    /// The allocator for all that the run keeps.
     pub alloc: Global,
     /// The arguments of the run.
     pub arguments: &'a Arguments,
@@ -28,5 +29,13 @@ impl Job<'_> {
         } else {
             Mode::C
         }
+    }
+
+    /// Returns whether the run over a text goes over the folded text, if that goes back.
+    pub(crate) fn folds(&self) -> bool
+        ensures { result ≡ folds self.now.arguments.now }
+    {
+        let plan = &self.arguments.plan;
+        plan.prunes && may_fold(plan.run.settings())
     }
 }

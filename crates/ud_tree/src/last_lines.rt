@@ -1,12 +1,11 @@
 //! The last lines of a run: how many files there were of each kind, how many lines were removed,
 //! how many conditions were edited, how many still name a symbol, and how many lines define one.
 
-ghost use Rattle.std.specs.Prelude.{◌≡◌, false};
-ghost use Rattle.ud_tree.specs.Messages.{KeepsFinds};
-ghost use Rattle.ud_tree.specs.Summaries.{Says, TellsEnd, changes_line, summary};
+ghost use Rattle.std.specs.Prelude.{◌≡◌, ◌++◌, false, decimal};
+ghost use Rattle.ud_tree.specs.Reports.{Says};
+ghost use Rattle.ud_tree.specs.Summaries.{TellsEnd, changes_line, summary};
 ghost use Rattle.ud_tree.specs.Summaries.{edited_line, hidden_text, plural, remaining_line};
-ghost use Rattle.ud_tree.specs.Summaries.{removed_line, defined_line, defined_text};
-ghost use Rattle.ud_io.specs.Streams.{Sends, stream_of};
+ghost use Rattle.ud_tree.specs.Summaries.{removed_line, defined_line, defined_text, line_of};
 
 use crate::arguments::{Arguments, Task};
 use crate::counts::Counts;
@@ -14,119 +13,91 @@ use crate::job::Job;
 use crate::report::Report;
 use itoa::Buffer;
 use std::io::Write;
-use ud_engine::Watched;
 
 /// Writes the last lines, unless the run is quiet: the counts, how many lines were removed, how
 /// many conditions were edited, how many still name a symbol, and how many lines define one.
 pub(crate) fn report_end<E: Write>(
     job: &Job<'_>,
-    report: &mut Report,
-    err: &mut Watched<E>,
+    report: &mut Report<E>,
     hidden: usize,
     counts: Counts,
     faults: usize,
 )
-    ensures { TellsEnd job.now.arguments.now counts faults hidden report.old
-        (stream_of E.contents err.old) (stream_of E.contents err.new) }
+    ensures { TellsEnd job.now.arguments.now counts faults hidden report.old report.new }
 {
     if job.arguments.quiet {
         return;
     }
-    report_counts(job.arguments, report, err, hidden, counts, faults);
-    report_removed(report, err, counts.edits.lines);
-    report_edited(
-        job.arguments.plan.prunes,
-        report,
-        err,
-        counts.edits.conditions,
-    );
-    report_remaining(job.arguments, report, err);
-    report_defined(job.arguments, report, err);
+    report_counts(job.arguments, report, hidden, counts, faults);
+    report_removed(report, counts.edits.lines);
+    report_edited(job.arguments.plan.prunes, report, counts.edits.conditions);
+    report_remaining(job.arguments, report);
+    report_defined(job.arguments, report);
 }
 
 /// Writes the counts.
 fn report_counts<E: Write>(
     arguments: &Arguments,
-    report: &mut Report,
-    err: &mut Watched<E>,
+    report: &mut Report<E>,
     hidden: usize,
     counts: Counts,
     faults: usize,
 )
-    ensures says { Says report.old report.new (stream_of E.contents err.old)
-        (stream_of E.contents err.new)
+    ensures { Says report.old report.new
         (summary arguments.now.task arguments.now.list_hidden counts.changed counts.unchanged
         faults hidden) }
-    ensures keeps { KeepsFinds report.old report.new }
 {
     match arguments.task {
-        Task::Replace => report_changes(report, err, b" changed, ", counts, faults),
-        Task::Diff => report_changes(report, err, b" would change, ", counts, faults),
+        Task::Replace => report_changes(report, b" changed, ", counts, faults),
+        Task::Diff => report_changes(report, b" would change, ", counts, faults),
         Task::Names => {
-            report_listed(arguments.list_hidden, report, err, hidden, counts, faults);
+            report_listed(arguments.list_hidden, report, hidden, counts, faults);
         }
     }
 }
 
-/// Writes how many files changed, or would, by the word that says which of the two.
-fn report_changes<E: Write>(
-    report: &mut Report,
-    err: &mut Watched<E>,
-    word: &[u8],
-    counts: Counts,
-    faults: usize,
-)
-    ensures says { Says report.old report.new (stream_of E.contents err.old)
-        (stream_of E.contents err.new)
+/// Writes how many files changed, or would change; `word` says which.
+fn report_changes<E: Write>(report: &mut Report<E>, word: &[u8], counts: Counts, faults: usize)
+    ensures { Says report.old report.new
         (changes_line word.now counts.changed counts.unchanged faults) }
-    ensures keeps { KeepsFinds report.old report.new }
 {
     let (mut first, mut second, mut third) = (Buffer::new(), Buffer::new(), Buffer::new());
     let changed = first.format(counts.changed).as_bytes();
     let unchanged = second.format(counts.unchanged).as_bytes();
     let faulty = third.format(faults).as_bytes();
-    report.line(
-        err,
-        &[
-            changed,
-            word,
-            unchanged,
-            b" unchanged, ",
-            faulty,
-            b" faulty",
-        ],
-    );
+    report.line(&[
+        changed,
+        word,
+        unchanged,
+        b" unchanged, ",
+        faulty,
+        b" faulty",
+    ]);
 }
 
 /// Writes how many files were listed, and how many conditions couldn't be.
 fn report_listed<E: Write>(
     lists_hidden: bool,
-    report: &mut Report,
-    err: &mut Watched<E>,
+    report: &mut Report<E>,
     hidden: usize,
     counts: Counts,
     faults: usize,
 )
-    ensures says { Says report.old report.new (stream_of E.contents err.old)
-        (stream_of E.contents err.new)
+    ensures { Says report.old report.new
         (summary Task.Names lists_hidden counts.changed counts.unchanged faults hidden) }
-    ensures keeps { KeepsFinds report.old report.new }
 {
     let (mut first, mut second, mut third) = (Buffer::new(), Buffer::new(), Buffer::new());
     let listed = first.format(counts.unchanged).as_bytes();
     let faulty = second.format(faults).as_bytes();
     let unlisted = third.format(hidden).as_bytes();
-    report.line(
-        err,
-        &[
-            listed,
-            plural(counts.unchanged, b" file listed, ", b" files listed, "),
-            faulty,
-            b" faulty; ",
-            unlisted,
-            hidden_text(lists_hidden, hidden),
-        ],
-    );
+    report.line(&[
+        listed,
+        plural(counts.unchanged, b" file listed, ", b" files listed, "),
+        faulty,
+        b" faulty; ",
+        unlisted,
+        hidden_text(lists_hidden, hidden),
+    ]);
 }
 
 /// Returns what follows a number: `one` if it is 1, else `many`.
@@ -137,7 +108,7 @@ fn plural<'a>(count: usize, one: &'a [u8], many: &'a [u8]) -> &'a [u8]
 }
 
 /// Returns what follows the number of conditions that couldn't be listed. Unless they are `listed`,
-/// it names the option that does.
+/// it names the option that lists them.
 fn hidden_text(listed: bool, count: usize) -> &'static [u8]
     ensures { result.now ≡ hidden_text listed count }
 {
@@ -156,84 +127,76 @@ fn hidden_text(listed: bool, count: usize) -> &'static [u8]
     }
 }
 
-/// Writes how many lines were removed, if there are some.
-fn report_removed<E: Write>(report: &mut Report, err: &mut Watched<E>, count: usize)
-    ensures line { report.old.is_shown ≡ false → Sends (stream_of E.contents err.old)
-        (stream_of E.contents err.new) (removed_line count) }
-    ensures hidden { report.old.is_shown ≡ false → report.new.is_shown ≡ false }
-    ensures keeps { KeepsFinds report.old report.new }
+/// Writes a number, what follows it, and a hint.
+fn report_number<E: Write>(report: &mut Report<E>, count: usize, text: &[u8], hint: &[u8])
+    ensures { Says report.old report.new (line_of (decimal count ++ text.now ++ hint.now)) }
+{
+    let mut digits = Buffer::new();
+    report.line(&[digits.format(count).as_bytes(), text, hint]);
+}
+
+/// Writes how many lines were removed, if any.
+fn report_removed<E: Write>(report: &mut Report<E>, count: usize)
+    ensures { report.old.is_shown ≡ false → Says report.old report.new (removed_line count) }
 {
     if count == 0 {
         return;
     }
-    let mut digits = Buffer::new();
-    let number = digits.format(count).as_bytes();
     let text = plural(count, b" line removed", b" lines removed");
-    report.line(err, &[number, text]);
+    report_number(report, count, text, b"");
 }
 
 /// Writes how many conditions were edited, if conditions are pruned.
-fn report_edited<E: Write>(prunes: bool, report: &mut Report, err: &mut Watched<E>, count: usize)
-    ensures line { report.old.is_shown ≡ false → Sends (stream_of E.contents err.old)
-        (stream_of E.contents err.new) (edited_line prunes count) }
-    ensures hidden { report.old.is_shown ≡ false → report.new.is_shown ≡ false }
-    ensures keeps { KeepsFinds report.old report.new }
+fn report_edited<E: Write>(prunes: bool, report: &mut Report<E>, count: usize)
+    ensures { report.old.is_shown ≡ false → Says report.old report.new (edited_line prunes count) }
 {
     if !prunes {
         return;
     }
-    let mut digits = Buffer::new();
-    let number = digits.format(count).as_bytes();
     let text = plural(count, b" condition edited", b" conditions edited");
-    report.line(err, &[number, text]);
+    report_number(report, count, text, b"");
 }
 
-/// Writes how many conditions still name a symbol, if they were listed or if there are some.
-fn report_remaining<E: Write>(arguments: &Arguments, report: &mut Report, err: &mut Watched<E>)
-    ensures line { report.old.is_shown ≡ false → Sends (stream_of E.contents err.old)
-        (stream_of E.contents err.new)
+/// Writes how many conditions still name a symbol, if they were listed or if there are any.
+fn report_remaining<E: Write>(arguments: &Arguments, report: &mut Report<E>)
+    ensures { report.old.is_shown ≡ false → Says report.old report.new
         (remaining_line arguments.now.list_remaining report.old.remaining.count) }
-    ensures hidden { report.old.is_shown ≡ false → report.new.is_shown ≡ false }
-    ensures keeps { KeepsFinds report.old report.new }
 {
     let count = report.remaining();
-    let mut digits = Buffer::new();
-    let number = digits.format(count).as_bytes();
     let text = plural(
         count,
         b" condition still names a symbol",
         b" conditions still name a symbol",
     );
     if arguments.list_remaining {
-        report.line(err, &[number, text]);
+        report_number(report, count, text, b"");
         return;
     }
     if count == 0 {
         return;
     }
-    report.line(err, &[number, text, b"; -r lists them"]);
+    report_number(report, count, text, b"; -r lists them");
 }
 
-/// Writes how many lines define a symbol, if there are some.
-fn report_defined<E: Write>(arguments: &Arguments, report: &mut Report, err: &mut Watched<E>)
-    ensures { report.old.is_shown ≡ false → Sends (stream_of E.contents err.old)
-        (stream_of E.contents err.new)
+/// Writes how many lines define a symbol, if any.
+fn report_defined<E: Write>(arguments: &Arguments, report: &mut Report<E>)
+    ensures { report.old.is_shown ≡ false → Says report.old report.new
         (defined_line arguments.now.list_remaining report.old.remaining.defined) }
 {
     let count = report.defined();
     if count == 0 {
         return;
     }
-    let mut digits = Buffer::new();
-    let number = digits.format(count).as_bytes();
-    report.line(
-        err,
-        &[number, defined_text(arguments.list_remaining, count)],
+    report_number(
+        report,
+        count,
+        defined_text(arguments.list_remaining, count),
+        b"",
     );
 }
 
 /// Returns what follows the number of lines that define a symbol. Unless they are `listed`, it
-/// names the option that does.
+/// names the option that lists them.
 fn defined_text(listed: bool, count: usize) -> &'static [u8]
     ensures { result.now ≡ defined_text listed count }
 {

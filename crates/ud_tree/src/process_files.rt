@@ -1,10 +1,10 @@
 //! Processing all files of a run.
 
 ghost use Rattle.std.specs.Prelude.{◌≡◌, true, false};
-ghost use Rattle.ud_tree.specs.Messages.{KeepsScreen};
 ghost use Rattle.ud_tree.specs.Fates.{no_edits};
-ghost use Rattle.ud_tree.specs.TreeRuns.{DoesFiles, Processes};
-ghost use Rattle.ud_tree.specs.Writing.{moment};
+ghost use Rattle.ud_tree.specs.Reports.{KeepsScreen};
+ghost use Rattle.ud_tree.specs.TreeRuns.{DoesFiles, DoesOne};
+ghost use Rattle.ud_tree.specs.Writing.{ProcessesOne, stage};
 
 use crate::arguments::{Arguments, Task};
 use crate::counts::{Counts, Edits};
@@ -21,10 +21,10 @@ use ud_engine::Watched;
 use ud_passes::Names;
 use ud_replace::{ReplaceError, Update};
 
-/// Does with each file in turn what the arguments ask for, and reports its fault. Returns what
-/// became of the files.
+/// Does what the arguments ask for with each file in turn, and reports its fault. Returns the
+/// counts of the files.
 ///
-/// If changes are to be shown, no file is processed once the output has failed: nothing would tell
+/// If changes are to be shown, no file is processed once the output has failed: nothing would show
 /// how to undo its change.
 pub(crate) fn process_files<T: Tree, W: Write, E: Write>(
     job: &Job<'_>,
@@ -32,32 +32,30 @@ pub(crate) fn process_files<T: Tree, W: Write, E: Write>(
     files: &[Found],
     out: &mut Watched<W>,
     names: &mut Names,
-    report: &mut Report,
-    err: &mut Watched<E>,
+    report: &mut Report<E>,
 ) -> Counts
     requires { names.old.lists_hidden ≡ job.now.arguments.now.list_hidden }
     ensures { DoesFiles job.now files.now
-        (moment T.history W.contents E.contents tree.old out.old err.old) report.old
-        (moment T.history W.contents E.contents tree.new out.new err.new) report.new result
-        names.old names.new }
+        (stage T.history W.contents tree.old out.old report.old)
+        (stage T.history W.contents tree.new out.new report.new) result names.old names.new }
 {
     let mut counts = Counts::new();
     for (done, found) in files.iter().enumerate() {
         if is_unrecorded(job.arguments, out) {
             return counts;
         }
-        report.progress(err, done, files.len());
+        report.progress(done, files.len());
         let name = found.path.as_bytes();
         let file = FileAt { name, id: found.id };
         let mut edits = Edits::none();
         let update = process_file(job, tree, file, out, names, report, &mut edits);
-        report.file_result(err, job, tree, name, update);
+        report.file_result(job, tree, name, update);
         counts.add(fate_of(update), edits);
     }
     counts
 }
 
-/// Returns whether changes are to be shown and can't be any more.
+/// Returns whether changes should be shown but no longer can be.
 fn is_unrecorded<W: Write>(arguments: &Arguments, out: &Watched<W>) -> bool
     ensures yes { result ≡ true → (arguments.now.task ≡ Task.Replace) ×
         (arguments.now.show_changes ≡ true) × (out.now.failed ≡ true) }
@@ -70,27 +68,28 @@ fn is_unrecorded<W: Write>(arguments: &Arguments, out: &Watched<W>) -> bool
     }
 }
 
-/// Does with a file what the arguments ask for. Leaves in `edits`, of which there are none before,
-/// those of its text, which were made or would be.
+/// Does what the arguments ask for with a file. Leaves the edits of its text, made or only shown,
+/// in `edits`, which has none before.
 ///
 /// # Errors
 /// As `replace_file`, `show_file` or `list_file`.
-fn process_file<T: Tree, W: Write>(
+fn process_file<T: Tree, W: Write, E: Write>(
     job: &Job<'_>,
     tree: &mut T,
     file: FileAt<'_>,
     out: &mut Watched<W>,
     names: &mut Names,
-    report: &mut Report,
+    report: &mut Report<E>,
     edits: &mut Edits,
 ) -> Result<Update, ReplaceError>
     requires none { edits.old ≡ no_edits }
     requires recorded { job.now.arguments.now.task ≡ Task.Replace →
         job.now.arguments.now.show_changes ≡ true → out.old.failed ≡ false }
     requires lists { names.old.lists_hidden ≡ job.now.arguments.now.list_hidden }
-    ensures writes { Processes job.now.arguments.now file.entry.name.now
-        T.history W.contents tree.old tree.new out.old out.new result edits.new
-        names.old names.new report.old report.new }
+    ensures writes { ProcessesOne job.now.arguments.now (DoesOne job.now.arguments.now)
+        file.entry.name.now (stage T.history W.contents tree.old out.old report.old)
+        (stage T.history W.contents tree.new out.new report.new) result edits.new
+        names.old names.new }
     ensures screen { KeepsScreen report.old report.new }
 {
     match job.arguments.task {

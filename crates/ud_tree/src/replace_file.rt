@@ -1,11 +1,12 @@
 //! Replacing one file.
 
 ghost use Rattle.std.specs.Prelude.{◌≡◌, [], true, false, Ok, is_ok};
-ghost use Rattle.ud_tree.specs.Messages.{KeepsScreen};
 ghost use Rattle.ud_tree.specs.Changes.{KeepsAs, ShowsChange};
 ghost use Rattle.ud_tree.specs.Fates.{fate_of, is_changed, no_edits, removed_by};
 ghost use Rattle.ud_tree.specs.Runs.{ReplacesOne};
+ghost use Rattle.ud_tree.specs.Reports.{KeepsScreen};
 ghost use Rattle.ud_tree.specs.TreeRuns.{WritesBy};
+ghost use Rattle.ud_tree.specs.Writing.{stage};
 
 use crate::arguments::Task;
 use crate::counts::Edits;
@@ -22,25 +23,25 @@ use ud_replace::{ReplaceError, Target, Update, replace_keeping};
 use ud_text::count_lines;
 
 /// Replaces a file, and adds the conditions of its output that still name a symbol to the report.
-/// Writes the diff of a file that was changed, if the arguments ask for it; the output hasn't
-/// failed before then. Leaves in `edits`, of which there are none before, those of its text.
+/// Writes the diff of a changed file, if the arguments ask for it; the output hasn't failed before.
+/// Leaves the edits of its text in `edits`, which has none before.
 ///
 /// # Errors
 /// As `replace_keeping`. `OutOfMemory` also if memory for the new file's name can't be allocated.
-/// If memory for the diff can't be, the file is changed, and the report has it.
-pub(crate) fn replace_file<T: Tree, W: Write>(
+/// If memory for the diff can't be, the file is changed, and the report records that.
+pub(crate) fn replace_file<T: Tree, W: Write, E: Write>(
     job: &Job<'_>,
     tree: &mut T,
     file: FileAt<'_>,
     out: &mut Watched<W>,
-    report: &mut Report,
+    report: &mut Report<E>,
     edits: &mut Edits,
 ) -> Result<Update, ReplaceError>
     requires none { edits.old ≡ no_edits }
     requires recorded { job.now.arguments.now.show_changes ≡ true → out.old.failed ≡ false }
     ensures writes { WritesBy Task.Replace job.now.arguments.now file.entry.name.now
-        T.history W.contents tree.old tree.new out.old out.new result edits.new
-        report.old report.new }
+        (stage T.history W.contents tree.old out.old report.old)
+        (stage T.history W.contents tree.new out.new report.new) result edits.new }
     ensures screen { KeepsScreen report.old report.new }
 {
     let mut text = Vec::new(job.alloc);
@@ -67,15 +68,15 @@ pub(crate) fn replace_file<T: Tree, W: Write>(
     Ok(update)
 }
 
-/// Returns the diff of a file that was changed, if the arguments ask for it; else nothing. If
-/// memory runs out, the report has it.
-fn change_of(
+/// Returns the diff of a changed file, if the arguments ask for it; else nothing. If memory runs
+/// out, the report records that.
+fn change_of<E: Write>(
     job: &Job<'_>,
     name: &[u8],
     update: Update,
     text: &[u8],
     output: &[u8],
-    report: &mut Report,
+    report: &mut Report<E>,
 ) -> Vec<u8>
     ensures change { ShowsChange job.now.arguments.now.show_changes name.now update text.now
         output.now result.items }
@@ -99,7 +100,7 @@ fn change_of(
     }
 }
 
-/// Returns how many lines the output for a file has fewer than its text, if the file was changed.
+/// Returns how many lines fewer a file's output has than its text, if the file was changed.
 pub(crate) fn removed_by(update: Update, text: &[u8], output: &[u8]) -> usize
     ensures { result ≡ removed_by update text.now output.now }
 {
@@ -120,8 +121,8 @@ fn is_change(update: Update) -> bool
     }
 }
 
-/// Replaces a file by one with a name of its own. Its text is left in `text` and the output for it
-/// in `output`, which are empty before, and in `edited` the number of its edited conditions.
+/// Replaces a file by a new one. Leaves its text in `text` and the output for it in `output`, which
+/// are empty before, and the number of its edited conditions in `edited`.
 fn replace_named<T: Tree>(
     job: &Job<'_>,
     tree: &mut T,

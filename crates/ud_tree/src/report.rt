@@ -1,47 +1,51 @@
-//! The messages of unifdef-tree, and how far it is.
+//! The messages of unifdef-tree, and its progress.
 //!
-//! A message is a line on the error stream, which begins with the program's name. Each message of a
+//! A message is a line on the error stream that begins with the program's name. Each message of a
 //! `Report` is a fault, and faults are counted. On a terminal, a line with the number of files is
 //! shown during the run, and removed before each message.
 
-ghost use Rattle.std.specs.Prelude.{◌≡◌, ◌+◌, ◌<◌, ◌^◌, [], ◌++◌, true, false};
-ghost use Rattle.std.specs.Prelude.{if◌then◌else◌};
+ghost use Rattle.std.specs.Prelude.{◌≡◌, List, [], ◌++◌, true};
+ghost use Rattle.std.specs.Prelude.{if◌then◌else◌, OnOk};
 ghost use Rattle.std.specs.List.{flat_map};
 ghost use Rattle.unifdef.specs.RunMessages.{fault_message};
 ghost use Rattle.ud_replace.specs.Calls.{met};
-ghost use Rattle.ud_tree.specs.Messages.{KeepsFinds, KeepsScreen};
-ghost use Rattle.ud_tree.specs.Messages.{IsPlain, Tells, TellsText, fault_line, locked_line};
-ghost use Rattle.ud_tree.specs.Messages.{ReportsFailure, ReportsOne};
-ghost use Rattle.ud_tree.specs.Remainders.{listing_of, Finds};
+ghost use Rattle.ud_tree.specs.Messages.{IsFailureOf, IsTextMessage, fault_line, locked_line};
+ghost use Rattle.ud_tree.specs.Reports.{KeepsScreen, ReportsOf, ReportsOne, Says, Tells, TellsOf};
+ghost use Rattle.ud_tree.specs.Reports.{counted, new_report};
+ghost use Rattle.ud_model.specs.conditions.Table.{Argument};
+ghost use Rattle.ud_cond.specs.symbols.SymbolTable.{TableRepresents};
+ghost use Rattle.ud_passes.specs.remaining.RemainingLists.{AddsAll};
+ghost use Rattle.ud_tree.specs.Remainders.{listing_of, mode_of, searched_text, Finds};
 ghost use Rattle.ud_io.specs.Streams.{Sends, stream_of};
-ghost use Rattle.ud_tree.specs.Summaries.{Says, line_of};
-ghost use Rattle.ud_tree.specs.WalkMessages.{ReportsRefusal};
+ghost use Rattle.ud_tree.specs.Summaries.{line_of};
+ghost use Rattle.ud_tree.specs.WalkMessages.{IsRefusal};
 
 use crate::arguments::{ArgumentFault, Arguments};
 use crate::job::Job;
 use crate::paths::{FRESH, folder, fresh_end};
 use crate::send::{send_visible, send_visible_parts};
 use itoa::Buffer;
-use std::alloc::Global;
+use std::alloc::{AllocError, Global};
 use std::io::{self, Write};
+use std::marker::Model;
 use ud_cond::Rules;
 use ud_faults::RunFault;
 use ud_io::{Watched, send, send_parts};
 use ud_model::Settings;
-use ud_passes::{Listing, Remaining};
+use ud_passes::{Listing, Remaining, flatten};
 use ud_replace::Lookup;
 use unifdef::report_result;
 
 /// The number of files after which the line on the terminal is shown again.
 const STEP: usize = 64;
 
-/// The fault of a file beside which there is one of another run, whose path follows.
+/// The fault of a file with another run's file beside it, whose path follows.
 const LOCKED: &[u8] = b"Another run is at it; if none is, remove ";
 
-/// Writes a message that is no fault: the program's name, the parts, and a newline. Control bytes
+/// Writes a message that isn't a fault: the program's name, the parts, and a newline. Control bytes
 /// are shown as `\x` and two hexadecimal digits.
 ///
-/// It is one write, so that messages of runs side by side tear none, unless memory runs out.
+/// Makes one write, so messages of concurrent runs don't mix, unless memory runs out.
 pub fn report_line<E: Write>(alloc: Global, err: &mut Watched<E>, parts: &[&[u8]])
     ensures { Sends (stream_of E.contents err.old) (stream_of E.contents err.new)
         (line_of (flat_map (λ p. p.now) parts.now)) }
@@ -95,7 +99,7 @@ fn without_code(text: &str) -> &str {
     }
 }
 
-/// Returns whether what outputs still say of a symbol is counted or listed. Under `-p` the line of
+/// Returns whether the mentions of symbols in outputs are counted or listed. Under `-p` the line of
 /// a condition says why it stays.
 fn listing_of(arguments: &Arguments) -> Listing
     ensures { result ≡ listing_of arguments.now }
@@ -113,10 +117,12 @@ fn listing_of(arguments: &Arguments) -> Listing
     })
 }
 
-/// The messages of a run so far, which were written to an error stream.
+/// The messages of a run so far, and the error stream to which they were written.
 #[derive(Drop)]
-pub(crate) struct Report {
+pub(crate) struct Report<E: Write> {
     alloc: Global,
+    /// The error stream.
+    err: Watched<E>,
     /// True if the error stream is a terminal.
     is_terminal: bool,
     /// True if the terminal shows the number of files.
@@ -129,27 +135,44 @@ pub(crate) struct Report {
     has_lost: bool,
 }
 
-impl Report {
+impl<E: Write> Model for Report<E> {
+    ghost use Rattle.ud_io.specs.Streams.{stream_of};
+    ghost use Rattle.ud_tree.specs.Reports.{ReportState};
+
+    ghost Value = { ReportState };
+
+    ghost view = { λ r. record {
+      err = stream_of E.contents r.err;
+      is_terminal = r.is_terminal;
+      is_shown = r.is_shown;
+      faulty = r.faulty;
+      remaining = r.remaining;
+      has_lost = r.has_lost;
+    } };
+}
+
+impl<E: Write> Report<E> {
     /// Returns a report without messages.
-    pub(crate) fn new(job: &Job<'_>) -> Report
-        ensures plain { job.now.is_terminal ≡ false → IsPlain result }
-        ensures faultless { result.faulty ≡ 0 }
-        ensures remaining { result.remaining ≡
-            record {
-              listing = listing_of job.now.arguments.now;
-              count = 0;
-              defined = 0;
-              list = [];
-            } }
+    pub(crate) fn new(job: &Job<'_>, err: Watched<E>) -> Report<E>
+        ensures { result ≡ new_report job.now.is_terminal (listing_of job.now.arguments.now)
+            (stream_of E.contents err) }
     {
         Report {
             alloc: job.alloc,
+            err,
             is_terminal: job.is_terminal,
             is_shown: false,
             faulty: 0,
             remaining: Remaining::new(job.alloc, listing_of(job.arguments)),
             has_lost: false,
         }
+    }
+
+    /// Returns the error stream.
+    pub(crate) fn into_stream(self) -> Watched<E>
+        ensures { stream_of E.contents result ≡ self.err }
+    {
+        self.err
     }
 
     /// Returns the number of faults.
@@ -173,7 +196,7 @@ impl Report {
         self.remaining.defined()
     }
 
-    /// Writes the list of what outputs still say of a symbol, if it is wanted.
+    /// Writes the list of mentions of symbols in outputs, if it is wanted.
     pub(crate) fn write_remaining<W: Write>(&self, job: &Job<'_>, out: &mut Watched<W>)
         ensures { Sends (stream_of W.contents out.old) (stream_of W.contents out.new)
             (if job.now.arguments.now.list_remaining then self.now.remaining.list else []) }
@@ -184,14 +207,14 @@ impl Report {
         send(out, self.remaining.list());
     }
 
-    /// Returns whether memory ran out for some of what was to be printed.
+    /// Returns whether memory ran out for something to be printed.
     pub(crate) fn has_lost(&self) -> bool
         ensures { result ≡ self.now.has_lost }
     {
         self.has_lost
     }
 
-    /// Adds what a file's output still says of a symbol, if that is wanted.
+    /// Adds the mentions of symbols in a file's output, if they are wanted.
     pub(crate) fn search(&mut self, job: &Job<'_>, name: &[u8], output: &[u8])
         ensures screen { KeepsScreen self.old self.new }
         ensures finds { Finds job.now.arguments.now name.now output.now self.old self.new }
@@ -199,17 +222,35 @@ impl Report {
         if !job.arguments.search_remaining() {
             return;
         }
-        let symbols = job.arguments.plan.run.symbols();
-        if self
-            .remaining
-            .add(name, output, job.mode(), symbols)
-            .is_err()
-        {
+        if self.add(job, name, output).is_err() {
             self.lose();
         }
     }
 
-    /// Records that memory ran out for some of what was to be printed.
+    /// Adds what a file's output still says of a symbol. A directive that the run folds is searched
+    /// as one line.
+    ///
+    /// # Errors
+    /// Fails if memory runs out. Nothing is then added.
+    fn add(&mut self, job: &Job<'_>, name: &[u8], output: &[u8]) -> Result<(), AllocError>
+        ensures screen { KeepsScreen self.old self.new }
+        ensures lost { self.new.has_lost ≡ self.old.has_lost }
+        ensures added { OnOk result ((calls : List Argument) →
+            TableRepresents job.now.arguments.now.plan.run.symbols calls →
+            AddsAll calls (mode_of job.now.arguments.now) name.now
+            (searched_text job.now.arguments.now output.now) self.old.remaining
+            self.new.remaining) }
+    {
+        let symbols = job.arguments.plan.run.symbols();
+        if !job.folds() {
+            return self.remaining.add(name, output, job.mode(), symbols);
+        }
+        let lines = flatten(job.alloc, output)?;
+        self.remaining
+            .add(name, lines.as_slice(), job.mode(), symbols)
+    }
+
+    /// Records that memory ran out for something to be printed.
     pub(crate) fn lose(&mut self)
         ensures screen { KeepsScreen self.old self.new }
         ensures remaining { self.new.remaining ≡ self.old.remaining }
@@ -219,25 +260,19 @@ impl Report {
     }
 
     /// Removes the number of files from the terminal.
-    fn clear<E: Write>(&mut self, err: &mut Watched<E>)
-        ensures terminal { self.new.is_terminal ≡ self.old.is_terminal }
-        ensures hidden { self.new.is_shown ≡ false }
-        ensures unshown { self.old.is_shown ≡ false → err.new ≡ err.old }
-        ensures faults { self.new.faulty ≡ self.old.faulty }
-        ensures keeps { KeepsFinds self.old self.new }
+    fn clear(&mut self)
+        ensures { Says self.old self.new [] }
     {
         if !self.is_shown {
             return;
         }
         self.is_shown = false;
-        send(err, b"\r\x1b[K");
+        send(&mut self.err, b"\r\x1b[K");
     }
 
-    /// Shows on a terminal how many of the files are done.
-    pub(crate) fn progress<E: Write>(&mut self, err: &mut Watched<E>, done: usize, all: usize)
-        ensures tells { Tells self.old self.new (stream_of E.contents err.old)
-            (stream_of E.contents err.new) [] }
-        ensures keeps { KeepsFinds self.old self.new }
+    /// Shows on a terminal how many files are done.
+    pub(crate) fn progress(&mut self, done: usize, all: usize)
+        ensures { Tells self.old self.new [] }
     {
         if !self.is_terminal {
             return;
@@ -247,136 +282,109 @@ impl Report {
             let done = first.format(done).as_bytes();
             let all = second.format(all).as_bytes();
             self.is_shown = true;
-            send_parts(err, &[b"\runifdef-tree: ", done, b" of ", all, b" files "]);
+            let parts: [&[u8]; 5] = [b"\runifdef-tree: ", done, b" of ", all, b" files "];
+            send_parts(&mut self.err, &parts);
         }
     }
 
-    /// Writes a message that is no fault.
-    pub(crate) fn line<E: Write>(&mut self, err: &mut Watched<E>, parts: &[&[u8]])
-        ensures says { Says self.old self.new (stream_of E.contents err.old)
-            (stream_of E.contents err.new) (line_of (flat_map (λ p. p.now) parts.now)) }
-        ensures tells { Tells self.old self.new (stream_of E.contents err.old)
-            (stream_of E.contents err.new) (line_of (flat_map (λ p. p.now) parts.now)) }
-        ensures faults { self.new.faulty ≡ self.old.faulty }
-        ensures keeps { KeepsFinds self.old self.new }
+    /// Writes a message that isn't a fault.
+    pub(crate) fn line(&mut self, parts: &[&[u8]])
+        ensures { Says self.old self.new (line_of (flat_map (λ p. p.now) parts.now)) }
     {
-        self.clear(err);
-        report_line(self.alloc, err, parts);
+        self.clear();
+        report_line(self.alloc, &mut self.err, parts);
+    }
+
+    /// Counts a fault.
+    fn count(&mut self)
+        ensures { self.new ≡ counted self.old }
+    {
+        self.faulty = self.faulty.saturating_add(1);
+    }
+
+    /// Writes and counts a fault.
+    fn fault_of(&mut self, parts: &[&[u8]])
+        ensures { ReportsOne (line_of (flat_map (λ p. p.now) parts.now)) self.old self.new }
+    {
+        self.count();
+        self.line(parts);
     }
 
     /// Writes a fault of a path.
-    pub(crate) fn fault<E: Write>(&mut self, err: &mut Watched<E>, path: &[u8], text: &[u8])
-        ensures says { Tells self.old self.new (stream_of E.contents err.old)
-            (stream_of E.contents err.new) (fault_line path.now text.now) }
-        ensures counted { self.old.faulty + 1 < 2 ^ 64 →
-            self.new.faulty ≡ self.old.faulty + 1 }
-        ensures some { 0 < self.new.faulty }
-        ensures keeps { KeepsFinds self.old self.new }
+    pub(crate) fn fault(&mut self, path: &[u8], text: &[u8])
+        ensures { ReportsOne (fault_line path.now text.now) self.old self.new }
     {
-        self.faulty = self.faulty.saturating_add(1);
-        self.line(err, &[path, b": ", text]);
+        self.fault_of(&[path, b": ", text]);
     }
 
     /// Writes a fault of a name in a folder, whose path ends in a slash.
-    pub(crate) fn fault_in<E: Write>(
-        &mut self,
-        err: &mut Watched<E>,
-        folder: &[u8],
-        name: &[u8],
-        text: &[u8],
-    )
-        ensures { ReportsOne (fault_line (folder.now ++ name.now) text.now) self.old self.new
-            (stream_of E.contents err.old) (stream_of E.contents err.new) }
+    pub(crate) fn fault_in(&mut self, folder: &[u8], name: &[u8], text: &[u8])
+        ensures { ReportsOne (fault_line (folder.now ++ name.now) text.now) self.old self.new }
     {
-        self.faulty = self.faulty.saturating_add(1);
-        self.line(err, &[folder, name, b": ", text]);
+        self.fault_of(&[folder, name, b": ", text]);
     }
 
-    /// Writes the fault of a file beside which there is one of another run.
-    pub(crate) fn locked<E: Write>(&mut self, err: &mut Watched<E>, path: &[u8])
-        ensures tells { Tells self.old self.new (stream_of E.contents err.old)
-            (stream_of E.contents err.new) (locked_line path.now) }
-        ensures keeps { KeepsFinds self.old self.new }
+    /// Writes the fault of a file with another run's file beside it.
+    pub(crate) fn locked(&mut self, path: &[u8])
+        ensures { ReportsOne (locked_line path.now) self.old self.new }
     {
-        self.faulty = self.faulty.saturating_add(1);
-        self.line(
-            err,
-            &[path, b": ", LOCKED, folder(path), FRESH, fresh_end(path)],
-        );
+        self.fault_of(&[path, b": ", LOCKED, folder(path), FRESH, fresh_end(path)]);
     }
 
     /// Writes a fault of a path, and why a call failed.
-    pub(crate) fn failure<E: Write>(
-        &mut self,
-        err: &mut Watched<E>,
-        path: &[u8],
-        text: &[u8],
-        reason: Option<io::Error>,
-    )
-        ensures tells { ReportsFailure path.now text.now self.old self.new
-            (stream_of E.contents err.old) (stream_of E.contents err.new) }
-        ensures keeps { KeepsFinds self.old self.new }
+    pub(crate) fn failure(&mut self, path: &[u8], text: &[u8], reason: Option<io::Error>)
+        ensures { ReportsOf (IsFailureOf path.now text.now) self.old self.new }
     {
         match reason {
-            None => self.fault(err, path, text),
+            None => self.fault(path, text),
             Some(error) => match format!(in self.alloc; "{error}") {
-                Err(_) => self.fault(err, path, text),
+                Err(_) => self.fault(path, text),
                 Ok(reason) => {
-                    self.faulty = self.faulty.saturating_add(1);
                     let reason = without_code(reason.as_str()).as_bytes();
-                    self.line(err, &[path, b": ", text, b": ", reason]);
+                    self.fault_of(&[path, b": ", text, b": ", reason]);
                 }
             },
         }
     }
 
-    /// Writes that nothing has a path.
-    pub(crate) fn missing<E: Write>(&mut self, err: &mut Watched<E>, path: &[u8])
-        ensures { ReportsRefusal (met path.now Lookup.Absent) self.old self.new
-            (stream_of E.contents err.old) (stream_of E.contents err.new) }
+    /// Writes that nothing is at a path.
+    pub(crate) fn missing(&mut self, path: &[u8])
+        ensures { ReportsOf (IsRefusal (met path.now Lookup.Absent)) self.old self.new }
     {
-        self.fault(err, path, b"No such file or folder");
+        self.fault(path, b"No such file or folder");
     }
 
-    /// Writes why it isn't known what has a path.
-    pub(crate) fn unknown<E: Write>(
-        &mut self,
-        err: &mut Watched<E>,
-        path: &[u8],
-        reason: Option<io::Error>,
-    )
-        ensures { ReportsRefusal (met path.now Lookup.Unknown) self.old self.new
-            (stream_of E.contents err.old) (stream_of E.contents err.new) }
+    /// Writes why it isn't known what is at a path.
+    pub(crate) fn unknown(&mut self, path: &[u8], reason: Option<io::Error>)
+        ensures { ReportsOf (IsRefusal (met path.now Lookup.Unknown)) self.old self.new }
     {
-        self.failure(err, path, b"Cannot be found", reason);
+        self.failure(path, b"Cannot be found", reason);
     }
 
     /// Writes the fault of a file's text, as unifdef does. Unless memory runs out, control bytes of
     /// the path are shown as `\x` and two hexadecimal digits.
-    pub(crate) fn text_fault<E: Write>(
-        &mut self,
-        err: &mut Watched<E>,
-        path: &[u8],
-        settings: Settings,
-        fault: RunFault,
-    )
-        ensures tells { TellsText path.now fault self.old self.new (stream_of E.contents err.old)
-            (stream_of E.contents err.new) }
-        ensures keeps { KeepsFinds self.old self.new }
+    pub(crate) fn text_fault(&mut self, path: &[u8], settings: Settings, fault: RunFault)
+        ensures { TellsOf (IsTextMessage path.now fault) self.old self.new }
     {
-        self.faulty = self.faulty.saturating_add(1);
-        self.clear(err);
+        self.count();
+        self.clear();
         let mut name = Watched::new(Vec::<u8>::new(self.alloc));
         send_visible(&mut name, path);
         if name.failed() {
-            report_text(self.alloc, err, path, settings, fault);
+            report_text(self.alloc, &mut self.err, path, settings, fault);
             return;
         }
-        report_text(self.alloc, err, name.inner().as_slice(), settings, fault);
+        report_text(
+            self.alloc,
+            &mut self.err,
+            name.inner().as_slice(),
+            settings,
+            fault,
+        );
     }
 }
 
-/// How the program is called.
+/// The usage of the program.
 pub(crate) const USAGE: &[u8] =
     b"usage: unifdef-tree [-dnpqrw0] [-g pattern]... [-bcKklt] [-Dsym[=val]]... [-Usym]...\n                    [-iDsym[=val]]... [-iUsym]... [-xmode] [--] path...\n       unifdef-tree -s [-qr0] [-g pattern]... [-t] [--] path...\n       unifdef-tree -h | -V\n";
 
@@ -433,7 +441,7 @@ pub fn report_argument_fault<E: Write>(alloc: Global, err: &mut Watched<E>, faul
     }
 }
 
-/// Returns what takes the place of an option of unifdef(1), version 2.12, that isn't one here.
+/// Returns what to use instead of an option of unifdef(1), version 2.12, that isn't one here.
 fn in_its_place(letter: char) -> &'static [u8] {
     match letter {
         'B' => b": blank lines stay as they are",

@@ -2,7 +2,7 @@
 
 ghost use Rattle.std.specs.Prelude.{◌≡◌, ◌++◌, [], true, false, OnOk};
 ghost use Rattle.ud_passes.specs.names.NameTables.{names_in, Tabulates};
-ghost use Rattle.ud_tree.specs.Messages.{KeepsFinds, TellsIf, list_message, write_message};
+ghost use Rattle.ud_tree.specs.Messages.{TellsIf, list_message, write_message};
 ghost use Rattle.ud_tree.specs.Statuses.{tree_status};
 ghost use Rattle.ud_tree.specs.Streams.{source_of};
 ghost use Rattle.ud_io.specs.Streams.{Sends, stream_of};
@@ -25,87 +25,96 @@ use ud_io::send;
 use ud_passes::Names;
 use unifdef::{EXIT_TROUBLE, status_by};
 
-/// Runs over the files that the arguments name, and returns the exit status.
+/// Runs over the files that the arguments name. Returns the error stream and the exit status.
 ///
 /// Paths are read from `input` if the arguments ask for that. Diffs and names are written to `out`,
-/// and messages to `err`. Those of the walk come first: one for each of its calls that failed, and
-/// one for each path that can't be taken. Those of the files follow.
+/// and messages to `err`. The walk's messages come first: one for each failed call, and one for
+/// each path that can't be taken. The files' messages follow.
 ///
 /// # Errors
 /// The status is 2, and there is a message for each fault, in each of these cases:
 ///
 /// - Memory runs out before the first file, or the input can't be read. No file was changed.
 /// - A path doesn't exist, or is a link to a file, a pipe or a device. No file was changed.
-/// - The paths name no file. If paths come from the input, that is no fault.
+/// - The paths name no file. If paths come from the input, that isn't a fault.
 /// - A folder can't be read, or a file can't be replaced. The other files are.
 /// - The output can't be written.
-/// - A message can't be written. Then there is none of that.
+/// - A message can't be written. That has no message of its own.
 pub fn run_tree<T: Tree, R: Read, W: Write, E: Write>(
     job: &Job<'_>,
     tree: &mut T,
     input: &mut Watched<R>,
     out: &mut Watched<W>,
-    err: &mut Watched<E>,
-) -> u8
+    err: Watched<E>,
+) -> (Watched<E>, u8)
     ensures { RunsTree job.now
         (source_of R.remaining input.old) (source_of R.remaining input.new)
-        (moment T.history W.contents E.contents tree.old out.old err.old)
-        (moment T.history W.contents E.contents tree.new out.new err.new) result }
+        (moment T.history W.contents E.contents tree.old out.old err)
+        (moment T.history W.contents E.contents tree.new out.new result.0) result.1 }
 {
-    let mut report = Report::new(job);
-    match find_files(job, tree, input, &mut report, err) {
+    let mut report = Report::new(job, err);
+    match find_files(job, tree, input, &mut report) {
         Err(_) => {
-            report.line(err, &[b"Out of memory"]);
-            EXIT_TROUBLE
+            report.line(&[b"Out of memory"]);
+            (report.into_stream(), EXIT_TROUBLE)
         }
-        Ok(None) => EXIT_TROUBLE,
-        Ok(Some(files)) => process_all(job, tree, files.as_slice(), report.faulty(), out, err),
+        Ok(None) => (report.into_stream(), EXIT_TROUBLE),
+        Ok(Some(files)) => {
+            let faults = report.faulty();
+            process_all(
+                job,
+                tree,
+                files.as_slice(),
+                faults,
+                out,
+                report.into_stream(),
+            )
+        }
     }
 }
 
-/// Processes the files in order, and writes the counts. Returns the exit status. `walk_faults` is
-/// the number of faults that were reported before.
+/// Processes the files in order, and writes the counts. Returns the error stream after that, and
+/// the exit status. `walk_faults` is the number of faults that were reported before.
 fn process_all<T: Tree, W: Write, E: Write>(
     job: &Job<'_>,
     tree: &mut T,
     files: &[Found],
     walk_faults: usize,
     out: &mut Watched<W>,
-    err: &mut Watched<E>,
-) -> u8
+    err: Watched<E>,
+) -> (Watched<E>, u8)
     ensures { EndsWriting job.now walk_faults
-        (moment T.history W.contents E.contents tree.old out.old err.old) files.now
-        (moment T.history W.contents E.contents tree.new out.new err.new) result }
+        (moment T.history W.contents E.contents tree.old out.old err) files.now
+        (moment T.history W.contents E.contents tree.new out.new result.0) result.1 }
 {
-    let mut report = Report::new(job);
+    let mut report = Report::new(job, err);
     let mut names = Names::new(job.alloc, job.arguments.list_hidden);
-    let counts = process_files(job, tree, files, out, &mut names, &mut report, err);
-    let list_fault = write_lists(job, out, &mut report, err, &names);
-    let out_fault = finish_output(out, &mut report, err);
+    let counts = process_files(job, tree, files, out, &mut names, &mut report);
+    let list_fault = write_lists(job, out, &mut report, &names);
+    let out_fault = finish_output(out, &mut report);
     let faults = walk_faults
         .saturating_add(usize::from(list_fault))
         .saturating_add(usize::from(out_fault))
         .saturating_add(counts.faulty);
-    report_end(job, &mut report, err, names.hidden(), counts, faults);
-    status(job.arguments, err.failed(), faults, counts.changed)
+    report_end(job, &mut report, names.hidden(), counts, faults);
+    let err = report.into_stream();
+    let status = status(job.arguments, err.failed(), faults, counts.changed);
+    (err, status)
 }
 
-/// Writes the names that were counted, after the conditions that couldn't be listed, and the
-/// conditions that still name a symbol. Returns true after a fault, which was reported.
+/// Writes the counted names, after the conditions that couldn't be listed, and the conditions that
+/// still name a symbol. Returns true after a fault, which was reported.
 fn write_lists<W: Write, E: Write>(
     job: &Job<'_>,
     out: &mut Watched<W>,
-    report: &mut Report,
-    err: &mut Watched<E>,
+    report: &mut Report<E>,
     names: &Names,
 ) -> bool
     ensures writes { WritesList job.now.arguments.now names.now
         report.old.remaining.list result
         (stream_of W.contents out.old) (stream_of W.contents out.new) }
-    ensures told { TellsIf list_message result report.old report.new
-        (stream_of E.contents err.old) (stream_of E.contents err.new) }
+    ensures told { TellsIf list_message result report.old report.new }
     ensures whole { result ≡ false → report.old.has_lost ≡ false }
-    ensures keeps { KeepsFinds report.old report.new }
 {
     let mut list = Vec::new(job.alloc);
     let listed = append_names(job, names, &mut list);
@@ -114,12 +123,12 @@ fn write_lists<W: Write, E: Write>(
     if listed && !report.has_lost() {
         return false;
     }
-    report.fault(err, b"stdout", b"Out of memory");
+    report.fault(b"stdout", b"Out of memory");
     true
 }
 
-/// Appends the names that were counted, if they are to be listed, after the conditions that
-/// couldn't be. Returns false if memory ran out.
+/// Appends the counted names, if they are to be listed, after the conditions that couldn't be.
+/// Returns false if memory ran out.
 fn append_names(job: &Job<'_>, names: &Names, list: &mut Vec<u8>) -> bool
     ensures other { ¬ (job.now.arguments.now.task ≡ Task.Names) →
         list.new.items ≡ list.old.items }
@@ -146,26 +155,20 @@ fn append_lists(names: &Names, list: &mut Vec<u8>) -> Result<(), AllocError>
 }
 
 /// Flushes the output. Returns true after a fault, which was reported.
-fn finish_output<W: Write, E: Write>(
-    out: &mut Watched<W>,
-    report: &mut Report,
-    err: &mut Watched<E>,
-) -> bool
+fn finish_output<W: Write, E: Write>(out: &mut Watched<W>, report: &mut Report<E>) -> bool
     ensures sent { Sends (stream_of W.contents out.old) (stream_of W.contents out.new) [] }
     ensures failed { result ≡ out.new.failed }
     ensures flushed { out.new.failed ≡ false → out.new.unflushed ≡ false }
-    ensures keeps { KeepsFinds report.old report.new }
-    ensures told { TellsIf write_message result report.old report.new
-        (stream_of E.contents err.old) (stream_of E.contents err.new) }
+    ensures told { TellsIf write_message result report.old report.new }
 {
     if flush(out) {
         return false;
     }
-    report.fault(err, b"stdout", b"Cannot be written");
+    report.fault(b"stdout", b"Cannot be written");
     true
 }
 
-/// Returns the exit status. `unheard` says whether a message couldn't be written.
+/// Returns the exit status. `unheard`: a message couldn't be written.
 fn status(arguments: &Arguments, unheard: bool, faults: usize, changed: usize) -> u8
     ensures { result ≡ tree_status arguments.now.task arguments.now.plan.run.settings.exit_mode
         unheard faults changed }

@@ -1,9 +1,10 @@
-//! Showing what would change of one file.
+//! Shows what would change in one file.
 
 ghost use Rattle.std.specs.Prelude.{◌≡◌, ◌⊎◌, ◌<◌, ◌≤◌, true, false};
-ghost use Rattle.ud_tree.specs.Messages.{KeepsScreen};
 ghost use Rattle.ud_tree.specs.Fates.{no_edits};
+ghost use Rattle.ud_tree.specs.Reports.{KeepsScreen};
 ghost use Rattle.ud_tree.specs.TreeRuns.{WritesBy};
+ghost use Rattle.ud_tree.specs.Writing.{stage};
 
 use crate::arguments::Task;
 use crate::counts::Edits;
@@ -19,27 +20,27 @@ use ud_io::{Watched, send};
 use ud_replace::{FileStat, ReplaceError, Update};
 
 /// Writes the diff of a file, and adds the conditions of its output that still name a symbol to the
-/// report. Returns `Replaced` if the file would change. Leaves in `edits`, of which there are none
-/// before, those of its text.
+/// report. Returns `Replaced` if the file would change. Leaves the edits of its text in `edits`,
+/// which has none before.
 ///
-/// Nothing is asked but that the file is read once.
+/// The only call reads the file, once.
 ///
 /// # Errors
 /// As `run_file`. `OutOfMemory` also if memory for the diff can't be allocated. `SeveralLinks` if
-/// the file would change, and a run would only write into it, which isn't allowed. No condition is
-/// added to the report then.
-pub(crate) fn show_file<T: Tree, W: Write>(
+/// the file would change, and a run would only write into it, which isn't allowed. Then no
+/// condition is added to the report.
+pub(crate) fn show_file<T: Tree, W: Write, E: Write>(
     job: &Job<'_>,
     tree: &mut T,
     file: FileAt<'_>,
     out: &mut Watched<W>,
-    report: &mut Report,
+    report: &mut Report<E>,
     edits: &mut Edits,
 ) -> Result<Update, ReplaceError>
     requires none { edits.old ≡ no_edits }
     ensures writes { WritesBy Task.Diff job.now.arguments.now file.entry.name.now
-        T.history W.contents tree.old tree.new out.old out.new result edits.new
-        report.old report.new }
+        (stage T.history W.contents tree.old out.old report.old)
+        (stage T.history W.contents tree.new out.new report.new) result edits.new }
     ensures screen { KeepsScreen report.old report.new }
 {
     let mut output = Watched::new(Vec::<u8>::new(job.alloc));
@@ -71,7 +72,7 @@ pub(crate) fn show_file<T: Tree, W: Write>(
     Ok(Update::Replaced)
 }
 
-/// Returns whether a run leaves a file alone since it has several links.
+/// Returns whether a run leaves a file alone because it has several links.
 fn is_left_alone(stat: &FileStat, write_into: bool) -> bool
     ensures left { result ≡ true → (1 < stat.now.links) × (write_into ≡ false) }
     ensures replaced { result ≡ false → (stat.now.links ≤ 1) ⊎ (write_into ≡ true) }

@@ -8,7 +8,6 @@ ghost use Rattle.ud_tree.specs.Catching.{Catches, Grows, IsTaken};
 ghost use Rattle.ud_tree.specs.Covering.{IsIn};
 ghost use Rattle.ud_tree.specs.CoverParts.{AddsFolder, Enters, Exhausts, Starts, TakesOne};
 ghost use Rattle.ud_tree.specs.CoverParts.{VisitsOne, Waits, waiting};
-ghost use Rattle.ud_io.specs.Streams.{stream_of};
 ghost use Rattle.ud_tree.specs.WalkMessages.{GoesOn, ReportsNames, TellsGiven, VisitTells};
 ghost use Rattle.ud_tree.specs.Walks.{Adds, AddsNode, ArePicked, Finds, IsBefore, IsFileList};
 ghost use Rattle.ud_tree.specs.Walks.{IsKept};
@@ -20,7 +19,6 @@ use crate::tree::Tree;
 use std::alloc::{AllocError, Global};
 use std::collections::BTreeSet;
 use std::io::Write;
-use ud_io::Watched;
 use ud_replace::{FileId, Lookup, Node, NodeKind};
 
 /// The fault of a file that can't be opened.
@@ -31,7 +29,7 @@ const NOT_UTF8: &[u8] = b"Its name isn't UTF-8";
 pub(crate) struct Found {
     /// The file's path.
     pub path: String,
-    /// Which file it is.
+    /// The file's identity.
     pub id: FileId,
 }
 
@@ -40,17 +38,17 @@ pub(crate) struct Found {
 pub(crate) struct FileAt<'a> {
     /// Its path.
     pub name: &'a [u8],
-    /// Which file the walk met there.
+    /// The identity of the file that the walk met there.
     pub id: FileId,
 }
 
-/// A walk: the files that were found, and the folders that weren't listed yet.
+/// A walk: the files found, and the folders not listed yet.
 #[derive(Drop)]
 pub(crate) struct Walk<'w> {
     alloc: Global,
     patterns: &'w [String],
     found: Vec<Found>,
-    /// The paths of folders, each of which ends in a slash.
+    /// The paths of folders, each ending in a slash.
     folders: Vec<String>,
 }
 
@@ -69,20 +67,19 @@ impl<'w> Walk<'w> {
         }
     }
 
-    /// Begins at a path of the command line. A file is taken whatever its name. A folder may be
-    /// named by a link.
+    /// Begins at a path of the command line. A file is taken whatever its name. A link may name a
+    /// folder.
     ///
     /// # Errors
     /// Fails if memory runs out.
     pub(crate) fn start<T: Tree, E: Write>(
         &mut self,
         tree: &mut T,
-        report: &mut Report,
-        err: &mut Watched<E>,
+        report: &mut Report<E>,
         path: &str,
     ) -> Result<(), AllocError>
-        ensures goes_on { GoesOn T.history E.contents tree.old tree.new self.old self.new
-            report.old report.new err.old err.new }
+        ensures goes_on { GoesOn (T.history tree.old) (T.history tree.new) self.old self.new
+            report.old report.new }
         ensures starts { OnOk result (Starts path.now (T.history tree.old) (T.history tree.new)
             (waiting self.old) (waiting self.new) self.new.found.items report.old report.new) }
         ensures catches { OnOk result
@@ -91,11 +88,11 @@ impl<'w> Walk<'w> {
         let node = match tree.node(path) {
             Lookup::Present(node) => node,
             Lookup::Absent => {
-                report.missing(err, path.as_bytes());
+                report.missing(path.as_bytes());
                 return Ok(());
             }
             Lookup::Unknown => {
-                report.unknown(err, path.as_bytes(), tree.reason());
+                report.unknown(path.as_bytes(), tree.reason());
                 return Ok(());
             }
         };
@@ -103,12 +100,12 @@ impl<'w> Walk<'w> {
             NodeKind::Folder => self.add_folder(path),
             NodeKind::Link if tree.leads_to_folder(path) => self.add_folder(path),
             NodeKind::Link => {
-                report.fault(err, path.as_bytes(), b"Is a symbolic link");
+                report.fault(path.as_bytes(), b"Is a symbolic link");
                 Ok(())
             }
             NodeKind::File => self.push_file(path, node.id),
             NodeKind::Other => {
-                report.fault(err, path.as_bytes(), b"Is no regular file");
+                report.fault(path.as_bytes(), b"Is no regular file");
                 Ok(())
             }
         }
@@ -121,27 +118,26 @@ impl<'w> Walk<'w> {
     pub(crate) fn add<T: Tree, E: Write>(
         &mut self,
         tree: &mut T,
-        report: &mut Report,
-        err: &mut Watched<E>,
+        report: &mut Report<E>,
         name: &[u8],
     ) -> Result<(), AllocError>
-        ensures goes_on { GoesOn T.history E.contents tree.old tree.new self.old self.new
-            report.old report.new err.old err.new }
+        ensures goes_on { GoesOn (T.history tree.old) (T.history tree.new) self.old self.new
+            report.old report.new }
         ensures takes { OnOk result (TakesOne name.now (T.history tree.old) (T.history tree.new)
             self.old.found.items self.new.found.items report.old report.new) }
     {
         let Ok(path) = std::str::from_utf8(name) else {
-            report.fault(err, escaped(self.alloc, name)?.as_slice(), NOT_UTF8);
+            report.fault(escaped(self.alloc, name)?.as_slice(), NOT_UTF8);
             return Ok(());
         };
         match tree.node(path) {
-            Lookup::Present(node) => self.add_given(report, err, path, node),
+            Lookup::Present(node) => self.add_given(report, path, node),
             Lookup::Absent => {
-                report.missing(err, name);
+                report.missing(name);
                 Ok(())
             }
             Lookup::Unknown => {
-                report.unknown(err, name, tree.reason());
+                report.unknown(name, tree.reason());
                 Ok(())
             }
         }
@@ -150,8 +146,7 @@ impl<'w> Walk<'w> {
     /// Adds a node of the input, if it is a file.
     fn add_given<E: Write>(
         &mut self,
-        report: &mut Report,
-        err: &mut Watched<E>,
+        report: &mut Report<E>,
         name: &str,
         node: Node,
     ) -> Result<(), AllocError>
@@ -160,14 +155,13 @@ impl<'w> Walk<'w> {
         ensures other { OnOk result (node.kind ≡ NodeKind.Other → 0 < report.new.faulty) }
         ensures is_in { OnOk result (node.kind ≡ NodeKind.File →
             IsIn self.new.found.items name.now node.id) }
-        ensures told { TellsGiven name.now node report.old report.new
-            (stream_of E.contents err.old) (stream_of E.contents err.new) }
+        ensures told { TellsGiven name.now node report.old report.new }
     {
         match node.kind {
             NodeKind::File => self.push_file(name, node.id),
             NodeKind::Folder | NodeKind::Link => Ok(()),
             NodeKind::Other => {
-                report.fault(err, name.as_bytes(), b"Is no regular file");
+                report.fault(name.as_bytes(), b"Is no regular file");
                 Ok(())
             }
         }
@@ -210,20 +204,19 @@ impl<'w> Walk<'w> {
         Ok(())
     }
 
-    /// Adds what has a name in a folder. A name that vanished since the folder was listed is left
-    /// out.
+    /// Adds what a name in a folder leads to. A name that vanished since the folder was listed is
+    /// left out.
     fn visit<T: Tree, E: Write>(
         &mut self,
         tree: &mut T,
-        report: &mut Report,
-        err: &mut Watched<E>,
+        report: &mut Report<E>,
         folder: &str,
         name: &[u8],
     ) -> Result<(), AllocError>
         ensures finds { Finds (T.history tree.old) (T.history tree.new) self.old.found.items
             self.new.found.items }
         ensures told { VisitTells (folder.now ++ name.now) (T.history tree.old) (T.history tree.new)
-            report.old report.new (stream_of E.contents err.old) (stream_of E.contents err.new) }
+            report.old report.new }
         ensures visits { OnOk result (VisitsOne folder.now name.now (T.history tree.old)
             (T.history tree.new) (waiting self.old) (waiting self.new) report.old report.new) }
         ensures catches { OnOk result
@@ -232,7 +225,7 @@ impl<'w> Walk<'w> {
         let mut path = String::from_str(self.alloc, folder)?;
         let Ok(text) = std::str::from_utf8(name) else {
             let name = escaped(self.alloc, name)?;
-            report.fault_in(err, path.as_bytes(), name.as_slice(), NOT_UTF8);
+            report.fault_in(path.as_bytes(), name.as_slice(), NOT_UTF8);
             return Ok(());
         };
         path.push_str(text)?;
@@ -241,7 +234,7 @@ impl<'w> Walk<'w> {
             Lookup::Present(node) => self.add_node(whole, name, node),
             Lookup::Absent => Ok(()),
             Lookup::Unknown => {
-                report.unknown(err, whole.as_bytes(), tree.reason());
+                report.unknown(whole.as_bytes(), tree.reason());
                 Ok(())
             }
         }
@@ -263,39 +256,36 @@ impl<'w> Walk<'w> {
         }
     }
 
-    /// Lists a folder, and adds what is in it.
+    /// Lists a folder, and adds its contents.
     fn enter<T: Tree, E: Write>(
         &mut self,
         tree: &mut T,
-        report: &mut Report,
-        err: &mut Watched<E>,
+        report: &mut Report<E>,
         folder: &str,
     ) -> Result<(), AllocError>
-        ensures goes_on { GoesOn T.history E.contents tree.old tree.new self.old self.new
-            report.old report.new err.old err.new }
+        ensures goes_on { GoesOn (T.history tree.old) (T.history tree.new) self.old self.new
+            report.old report.new }
         ensures enters { OnOk result (Enters folder.now (T.history tree.old) (T.history tree.new)
             (waiting self.old) (waiting self.new) report.old report.new) }
         ensures catches { OnOk result
             (Catches (T.history tree.old) (T.history tree.new) self.old self.new) }
     {
-        let names = self.list_folder(tree, report, err, folder);
+        let names = self.list_folder(tree, report, folder);
         for name in names.as_slice() {
-            self.visit(tree, report, err, folder, name.as_slice())?;
+            self.visit(tree, report, folder, name.as_slice())?;
         }
         Ok(())
     }
 
-    /// Returns the names in a folder. After a fault, which was reported, they may be some of them.
+    /// Returns the names in a folder. After a fault, which was reported, some may be missing.
     fn list_folder<T: Tree, E: Write>(
         &self,
         tree: &mut T,
-        report: &mut Report,
-        err: &mut Watched<E>,
+        report: &mut Report<E>,
         folder: &str,
     ) -> Vec<Vec<u8>>
         ensures told { ReportsNames folder.now (map (λ n. n.items) result.items)
-            (T.history tree.old) (T.history tree.new) report.old report.new
-            (stream_of E.contents err.old) (stream_of E.contents err.new) }
+            (T.history tree.old) (T.history tree.new) report.old report.new }
         ensures counted { 0 < report.old.faulty → 0 < report.new.faulty }
         ensures lists { (answer : Bool) × (T.history tree.new ≡
             walked (listed folder.now (map (λ n. n.items) result.items) answer)
@@ -306,22 +296,21 @@ impl<'w> Walk<'w> {
         if listed {
             return names;
         }
-        report.failure(err, folder.as_bytes(), b"Cannot be read", tree.reason());
+        report.failure(folder.as_bytes(), b"Cannot be read", tree.reason());
         names
     }
 
-    /// Lists all folders, and those in them.
+    /// Lists all folders, and the folders in them.
     ///
     /// # Errors
     /// Fails if memory runs out.
     pub(crate) fn go<T: Tree, E: Write>(
         &mut self,
         tree: &mut T,
-        report: &mut Report,
-        err: &mut Watched<E>,
+        report: &mut Report<E>,
     ) -> Result<(), AllocError>
-        ensures goes_on { GoesOn T.history E.contents tree.old tree.new self.old self.new
-            report.old report.new err.old err.new }
+        ensures goes_on { GoesOn (T.history tree.old) (T.history tree.new) self.old self.new
+            report.old report.new }
         ensures exhausts { OnOk result (Exhausts (T.history tree.old) (T.history tree.new)
             (waiting self.old) (waiting self.new) report.old report.new) }
         ensures catches { OnOk result
@@ -331,12 +320,12 @@ impl<'w> Walk<'w> {
             let Some(folder) = self.folders.pop() else {
                 break;
             };
-            self.enter(tree, report, err, folder.as_str())?;
+            self.enter(tree, report, folder.as_str())?;
         }
         Ok(())
     }
 
-    /// Returns the files that were found, each once, by the first of its paths.
+    /// Returns the files found, each once, by the first of its paths.
     ///
     /// # Errors
     /// Fails if memory runs out.
@@ -354,8 +343,8 @@ impl<'w> Walk<'w> {
     }
 }
 
-/// Adds a file, if its path comes after those of all files, and none of them is the same file. No
-/// path of these comes after it. `seen` has the keys of the files.
+/// Adds a file, if its path comes after the paths of all files, and none of them is the same file.
+/// No path of theirs comes after it. `seen` has the keys of the files.
 fn pick(
     files: &mut Vec<Found>,
     seen: &mut BTreeSet<(u64, u64, u64)>,
@@ -379,7 +368,7 @@ fn pick(
     Ok(())
 }
 
-/// Returns whether a file's path comes after those of all these files, which ascend.
+/// Returns whether a file's path comes after the paths of all these files, which ascend.
 fn comes_after(files: &[Found], found: &Found) -> bool
     requires { AllPairs IsBefore files.now }
     ensures after { result ≡ true → All (λ f. IsBefore f found.now) files.now }

@@ -1,7 +1,7 @@
 //! unifdef-tree(1): runs unifdef over the files of a tree, in place.
 //!
-//! The tool itself is the library `ud_tree`. This program passes it the arguments, the files of the
-//! system and the standard streams.
+//! The tool itself is the library `ud_tree`. This program passes it the arguments, the system's
+//! files and the standard streams.
 #![tactic(auto)]
 
 mod painter;
@@ -52,7 +52,7 @@ fn main(rt: HostRuntime) -> ExitCode {
     }
 }
 
-/// Runs over the files of the system. On a terminal, what would change is shown in colours.
+/// Runs over the system's files. On a terminal, shows what would change in colours.
 fn run(rt: &HostRuntime, arguments: &Arguments) -> ExitCode {
     let stdout = rt.stdout();
     if stdout.is_terminal() && allows_colours(rt, arguments) {
@@ -62,7 +62,7 @@ fn run(rt: &HostRuntime, arguments: &Arguments) -> ExitCode {
     }
 }
 
-/// Runs over the files of the system, with this writer as the output.
+/// Runs over the system's files, with this writer as the output.
 fn run_to<W: Write + Drop>(rt: &HostRuntime, arguments: &Arguments, stdout: W) -> ExitCode {
     let stderr = rt.stderr();
     let job = Job {
@@ -73,8 +73,8 @@ fn run_to<W: Write + Drop>(rt: &HostRuntime, arguments: &Arguments, stdout: W) -
     let mut disk = Disk::new(rt, rt.alloc());
     let mut input = Watched::new(rt.stdin());
     let mut out = Watched::new(stdout);
-    let mut err = Watched::new(stderr);
-    let status = run_tree(&job, &mut disk, &mut input, &mut out, &mut err);
+    let err = Watched::new(stderr);
+    let (mut err, status) = run_tree(&job, &mut disk, &mut input, &mut out, err);
     if disk.lacks_proc() && !arguments.quiet {
         report_line(rt.alloc(), &mut err, &[WITHOUT_PROC]);
     }
@@ -82,7 +82,7 @@ fn run_to<W: Write + Drop>(rt: &HostRuntime, arguments: &Arguments, stdout: W) -
 }
 
 /// Returns whether a terminal may show how many files are done. The last lines remove that, so
-/// there must be some. Nothing else may be written, since the output may go to the same terminal.
+/// there must be some. Nothing else may be written: the output may go to the same terminal.
 fn allows_counter(arguments: &Arguments) -> bool {
     let replaces = match arguments.task {
         Task::Replace => true,
@@ -91,8 +91,8 @@ fn allows_counter(arguments: &Arguments) -> bool {
     replaces && !arguments.quiet && !arguments.list_remaining && !arguments.show_changes
 }
 
-/// Returns whether a terminal may show colours: what would change is shown, and `NO_COLOR` is unset
-/// or empty.
+/// Returns whether a terminal may show colours: changes are shown, and `NO_COLOR` is unset or
+/// empty.
 fn allows_colours(rt: &HostRuntime, arguments: &Arguments) -> bool {
     match arguments.task {
         Task::Diff => match env::var(rt, "NO_COLOR") {

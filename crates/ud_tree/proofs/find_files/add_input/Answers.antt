@@ -2,24 +2,24 @@ use Rattle.ud_tree.proofs.WalkLemmas.{finds_none}
 use Rattle.std.proofs.Common.{refl, ◌<◌}
 use Rattle.ud_tree.proofs.CoverLemmas.{takes_none, takes_at}
 use Rattle.ud_tree.specs.WalkMessages.{no_input}
-use Rattle.ud_tree.proofs.WalkTellLemmas.{goes_none, goes_then, walk_remark, reported, stops_unread}
+use Rattle.ud_tree.proofs.WalkTellLemmas.{goes_none, goes_then, walk_remark, stops_unread}
 use Rattle.ud_tree.proofs.find_files.add_input.Goals as goal
 
 pub returns-in_err-all-clause-goes_on : goal.returns-in_err-all-clause-goes_on
-returns-in_err-all-clause-goes_on g c = goes_none g.T.Folder.history g.E.Write.contents c.args.tree.now c.args.walk.now c.args.report.now c.args.err.now
+returns-in_err-all-clause-goes_on g c = goes_none (g.T.Folder.history c.args.tree.now) c.args.walk.now c.args.report.now
 
 pub returns-then-not-all-clause-goes_on : goal.returns-then-not-all-clause-goes_on
 returns-then-not-all-clause-goes_on g c = record {
   finds = finds_none (g.T.Folder.history c.args.tree.now) c.args.walk.now.found.items;
-  told = walk_remark _ (g.T.Folder.history c.args.tree.now) (no_input refl) (reported c.fault.ensures.says c.fault.ensures.counted c.fault.ensures.some);
+  told = walk_remark _ (g.T.Folder.history c.args.tree.now) (no_input refl) c.fault.ensures;
 }
 
 pub returns-then-not-all-clause-stops : goal.returns-then-not-all-clause-stops
-returns-then-not-all-clause-stops g c = λ cut. stops_unread (g.T.Folder.history c.args.tree.now) (c.in_ok-all.ensures.cut c.if-not-all.true) (reported c.fault.ensures.says c.fault.ensures.counted c.fault.ensures.some)
+returns-then-not-all-clause-stops g c = λ cut. stops_unread (g.T.Folder.history c.args.tree.now) (c.in_ok-all.ensures.cut c.if-not-all.true) c.fault.ensures
 
 pub loop-name-init : goal.loop-name-init
 loop-name-init g c = (
-  goes_none g.T.Folder.history g.E.Write.contents c.args.tree.now c.args.walk.now c.args.report.now c.args.err.now,
+  goes_none (g.T.Folder.history c.args.tree.now) c.args.walk.now c.args.report.now,
   takes_none (g.T.Folder.history c.args.tree.now) c.args.walk.now.found.items (0 < c.args.report.now.faulty),
 )
 
@@ -33,4 +33,4 @@ pub returns-in_err-add-clause-goes_on : goal.returns-in_err-add-clause-goes_on
 returns-in_err-add-clause-goes_on g c = goes_then c.loop-name.invariant.0 c.add.ensures.goes_on refl
 
 pub returns-in_err-paths-clause-goes_on : goal.returns-in_err-paths-clause-goes_on
-returns-in_err-paths-clause-goes_on g c = goes_none g.T.Folder.history g.E.Write.contents c.args.tree.now c.args.walk.now c.args.report.now c.args.err.now
+returns-in_err-paths-clause-goes_on g c = goes_none (g.T.Folder.history c.args.tree.now) c.args.walk.now c.args.report.now

@@ -16,7 +16,7 @@ returns-then-job-clause-walks g c =
 
 pub loop-path-init : goal.loop-path-init
 loop-path-init g c = (
-  goes_none g.T.Folder.history g.E.Write.contents c.args.tree.now c.args.walk.now c.args.report.now c.args.err.now,
+  goes_none (g.T.Folder.history c.args.tree.now) c.args.walk.now c.args.report.now,
   starts_none (g.T.Folder.history c.args.tree.now) (map (λ d. string_bytes d) c.args.walk.now.folders.items) c.args.walk.now.found.items c.args.report.now,
   catches_none (g.T.Folder.history c.args.tree.now) c.args.walk.now c.args.walk.now (grows_same _ _ refl refl),
 )

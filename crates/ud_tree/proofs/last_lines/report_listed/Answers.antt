@@ -1,11 +1,12 @@
 -- By the parts of the line.
 use Rattle.std.proofs.Common.{◌∙◌}
-use Rattle.ud_tree.proofs.SummaryLemmas.{says_same, listed_joined}
+use Rattle.ud_tree.proofs.SummaryLemmas.{listed_joined}
+use Rattle.ud_tree.proofs.ReportLemmas.{says_same}
 use Rattle.ud_tree.proofs.last_lines.report_listed.Goals as goal
 
-pub returns-clause-says : goal.returns-clause-says
-returns-clause-says g c =
+pub returns : goal.returns
+returns g c =
     says_same
     (listed_joined c.args.lists_hidden c.args.counts.changed c.args.counts.unchanged c.args.faults c.args.hidden c.as_bytes-listed.result.now c.as_bytes-faulty.result.now c.as_bytes-unlisted.result.now c.plural.result.now c.hidden_text.result.now
     (c.as_bytes-listed.ensures.value ∙ c.format.ensures.text) (c.as_bytes-faulty.ensures.value ∙ c.format-2.ensures.text) (c.as_bytes-unlisted.ensures.value ∙ c.format-3.ensures.text) c.plural.ensures c.hidden_text.ensures)
-    c.line.ensures.says
+    c.line.ensures

@@ -14,4 +14,4 @@ returns-in-Diff-clause-writes g c =
 pub returns-in-Names-clause-writes : goal.returns-in-Names-clause-writes
 returns-in-Names-clause-writes g c =
     done_by Names c.args.job.now.arguments.now c.in-Names.is
-    (lists_unshown (stream_of g.W.Write.contents c.args.out.now) c.requires.none c.list_file.ensures)
+    (lists_unshown (stream_of g.W.Write.contents c.args.out.now) c.args.report.now c.requires.none c.list_file.ensures)

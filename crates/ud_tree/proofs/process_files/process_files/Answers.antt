@@ -1,6 +1,5 @@
 use Rattle.std.proofs.Common.{◌∙◌, take, arith}
 use Rattle.std.proofs.lemmas.Grind.{common_steps}
-use Rattle.ud_tree.proofs.RemainderLemmas.{finds_kept}
 use Rattle.ud_tree.specs.TreeRuns.{all_done, stopped}
 use Rattle.ud_tree.proofs.RunLemmas.{writes_none, writes_push, writes_all}
 use Rattle.ud_tree.proofs.process_files.process_files.Goals as goal
@@ -14,8 +13,8 @@ loop-done-preserved g c = record {
   lists = c.process_file-update.ensures.writes.adds.lists ∙ c.loop-done.invariant.lists;
   written = writes_push c.args.files.now c.loop-done.done c.index-files-done.result c.as_bytes-name.result.now c.process_file-update.result c.process_file-update.new.edits c.fate_of.result c.add.new.self c.loop-done-test.true
       c.index-files-done.is c.as_bytes-name.ensures.value c.loop-done.invariant.written
-      (finds_kept c.progress.ensures.keeps) (finds_kept c.file_result.ensures.keeps) c.progress.ensures.tells c.process_file-update.ensures.screen
-      c.process_file-update.ensures.writes c.file_result.ensures.tells c.fate_of.ensures c.add.ensures.changed c.add.ensures.unchanged c.add.ensures.faulty c.add.ensures.conditions c.add.ensures.lines;
+      c.progress.ensures c.process_file-update.ensures.screen
+      c.process_file-update.ensures.writes c.file_result.ensures c.fate_of.ensures c.add.ensures.changed c.add.ensures.unchanged c.add.ensures.faulty c.add.ensures.conditions c.add.ensures.lines;
 }
 
 pub returns-then-is_unrecorded : goal.returns-then-is_unrecorded

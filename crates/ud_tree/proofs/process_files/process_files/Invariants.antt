@@ -1,12 +1,12 @@
 use Rattle.std.proofs.Common.{◌≡◌, ◌+◌, take}
 use Rattle.ud_tree.specs.TreeRuns.{DoesJob}
-use Rattle.ud_tree.specs.Writing.{moment}
+use Rattle.ud_tree.specs.Writing.{stage}
 use Rattle.ud_tree.proofs.process_files.process_files.Given as goal
 
 abbrev pub invariant-loop-done : goal.invariant-loop-done
 invariant-loop-done g l = record {
   counted : l.counts.changed + l.counts.unchanged + l.counts.faulty ≡ l.done;
   lists : l.names.lists_hidden ≡ l.job.arguments.now.list_hidden;
-  written : DoesJob l.job (take l.done l.files) (moment g.T.Folder.history g.W.Write.contents g.E.Write.contents l.fn.tree l.fn.out l.fn.err) l.fn.report
-      (moment g.T.Folder.history g.W.Write.contents g.E.Write.contents l.tree l.out l.err) l.report l.counts l.fn.names l.names;
+  written : DoesJob l.job (take l.done l.files) (stage g.T.Folder.history g.W.Write.contents l.fn.tree l.fn.out l.fn.report)
+      (stage g.T.Folder.history g.W.Write.contents l.tree l.out l.report) l.counts l.fn.names l.names;
 }

@@ -3,13 +3,13 @@ use Rattle.ud_tree.specs.Changes.{nothing_shown, change_shown}
 use Rattle.ud_tree.proofs.replace_file.change_of.Goals as goal
 
 pub returns-then-not-job-clause-change : goal.returns-then-not-job-clause-change
-returns-then-not-job-clause-change c = nothing_shown c.new-nothing.ensures.items
+returns-then-not-job-clause-change g c = nothing_shown c.new-nothing.ensures.items
 
 pub returns-then-not-is_change-clause-change : goal.returns-then-not-is_change-clause-change
-returns-then-not-is_change-clause-change c = nothing_shown c.new-nothing.ensures.items
+returns-then-not-is_change-clause-change g c = nothing_shown c.new-nothing.ensures.items
 
 pub returns-in-Some-clause-change : goal.returns-in-Some-clause-change
-returns-in-Some-clause-change c = change_shown c.if-not-job.false (sym c.if-not-is_change.ensures) c.in-Some.ensures
+returns-in-Some-clause-change g c = change_shown c.if-not-job.false (sym c.if-not-is_change.ensures) c.in-Some.ensures
 
 pub returns-in-None-clause-change : goal.returns-in-None-clause-change
-returns-in-None-clause-change c = nothing_shown c.new-nothing.ensures.items
+returns-in-None-clause-change g c = nothing_shown c.new-nothing.ensures.items

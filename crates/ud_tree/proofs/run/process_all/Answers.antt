@@ -1,18 +1,15 @@
-use Rattle.std.proofs.Common.{refl, arith, ◌∙◌}
-use Rattle.ud_io.specs.Streams.{stream_of}
+use Rattle.std.proofs.Common.{refl, arith}
 use Rattle.ud_tree.proofs.RunLemmas.{ends, faults_added}
 use Rattle.ud_tree.proofs.run.process_all.Goals as goal
 
 pub returns : goal.returns
 returns g c =
-    ends c.args.job.now c.args.files.now c.write_lists-list_fault.result c.finish_output-out_fault.result c.args.walk_faults c.saturating_add-faults.result _ c.status.result
-    c.new-names.result c.process_files-counts.new.names c.new-names.ensures.list c.new-names.ensures.hidden c.new-names.ensures.hidden_list c.hidden.ensures c.new-report.ensures.remaining c.write_lists-list_fault.ensures.whole
-    (c.finish_output-out_fault.ensures.keeps.remaining ∙ c.write_lists-list_fault.ensures.keeps.remaining)
-    c.process_files-counts.ensures c.write_lists-list_fault.ensures.writes
+    ends c.args.job.now c.args.files.now c.write_lists-list_fault.result c.finish_output-out_fault.result c.args.walk_faults c.saturating_add-faults.result _ c.status-status.result
+    c.new-names.result c.process_files-counts.new.names c.new-names.ensures.list c.new-names.ensures.hidden c.new-names.ensures.hidden_list c.hidden.ensures c.write_lists-list_fault.ensures.whole
+    (rw c.new-report.ensures at c.process_files-counts.ensures) c.write_lists-list_fault.ensures.writes
     c.write_lists-list_fault.ensures.told c.finish_output-out_fault.ensures.sent c.finish_output-out_fault.ensures.failed c.finish_output-out_fault.ensures.flushed
-    (stream_of g.E.Write.contents c.finish_output-out_fault.new.err)
-    c.finish_output-out_fault.ensures.told c.report_end.ensures refl
+    c.finish_output-out_fault.ensures.told c.report_end.ensures c.into_stream-err.ensures refl
     (omega (arith, c.saturating_add-faults.ensures, c.process_files-counts.type_inv))
     (faults_added c.write_lists-list_fault.result c.finish_output-out_fault.result c.args.walk_faults c.process_files-counts.result.faulty _ _ _ _ _
     c.from.ensures c.saturating_add.ensures c.from-2.ensures c.saturating_add-2.ensures c.saturating_add-faults.ensures)
-    c.failed.result c.failed.ensures c.status.ensures c.new-report.ensures.plain
+    c.failed.result c.failed.ensures c.status-status.ensures

@@ -1,9 +1,8 @@
-use Rattle.std.proofs.Common.{ℕ, List, ◌++◌, true, false, refl, subst, ◌∙◌}
+use Rattle.std.proofs.Common.{ℕ, List, ◌++◌, true, false, subst, ◌∙◌}
 use Rattle.std.proofs.lemmas.Bool.{true≢false}
 use Rattle.ud_passes.specs.names.NameTables.{names_in, Tabulates}
 use Rattle.ud_tree.proofs.RunLemmas.{writes_list}
-use Rattle.ud_io.specs.Streams.{stream_of}
-use Rattle.ud_tree.proofs.MessageLemmas.{tells_kept}
+use Rattle.ud_tree.proofs.ReportLemmas.{tells_none}
 use Rattle.ud_io.proofs.StreamLemmas.{sends_same}
 use Rattle.ud_tree.proofs.run.write_lists.Goals as goal
 
@@ -21,4 +20,4 @@ returns-clause-writes g c =
     (sends_same c.as_slice.ensures.value c.send.ensures) c.write_remaining.ensures
 
 pub returns-then-not-has_lost-clause-told : goal.returns-then-not-has_lost-clause-told
-returns-then-not-has_lost-clause-told g c = tells_kept (stream_of g.E.Write.contents c.args.err.now) refl refl
+returns-then-not-has_lost-clause-told g c = tells_none c.args.report.now

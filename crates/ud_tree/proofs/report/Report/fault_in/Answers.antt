@@ -1,6 +1,5 @@
-use Rattle.std.proofs.Common.{refl}
 use Rattle.ud_tree.proofs.WalkTellLemmas.{fault_in_reported}
 use Rattle.ud_tree.proofs.report.Report.fault_in.Goals as goal
 
 pub returns : goal.returns
-returns g c = fault_in_reported c.args.folder.now c.args.name.now c.args.text.now refl refl c.saturating_add-self.ensures c.line.ensures.faults c.line.ensures.tells
+returns g c = fault_in_reported c.args.folder.now c.args.name.now c.args.text.now c.fault_of.ensures

@@ -1,5 +1,6 @@
-use Rattle.ud_tree.proofs.WalkTellLemmas.{refused_missing, reported}
+use Rattle.std.proofs.Common.{refl}
+use Rattle.ud_tree.specs.WalkMessages.{is_missing}
 use Rattle.ud_tree.proofs.report.Report.missing.Goals as goal
 
 pub returns : goal.returns
-returns g c = refused_missing c.args.path.now (reported c.fault.ensures.says c.fault.ensures.counted c.fault.ensures.some)
+returns g c = record { message = _; is_of = is_missing c.args.path.now refl refl; reports = c.fault.ensures }

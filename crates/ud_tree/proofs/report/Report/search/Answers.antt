@@ -1,9 +1,5 @@
 -- The conditions were added.
-use Rattle.std.proofs.Common.{◌≡◌, Bool, true, false, List, Result, Ok, Err, OnOk, is_err, sym, ◌∙◌, subst}
-use Rattle.ud_model.specs.conditions.Table.{Argument}
-use Rattle.ud_model.specs.declared.kind.Mode.{Mode}
-use Rattle.ud_cond.specs.symbols.SymbolTable.{TableRepresents}
-use Rattle.ud_passes.specs.remaining.RemainingLists.{AddsAll}
+use Rattle.std.proofs.Common.{◌≡◌, Bool, true, false, Result, Ok, Err, OnOk, is_err, sym, ◌∙◌}
 use Rattle.ud_tree.proofs.report.Report.search.Goals as goal
 
 on_ok : {T E : Type 0} {P : Type 0} (r : Result T E) → is_err r ≡ false → OnOk r P → P
@@ -15,11 +11,8 @@ opposite true b e f g = cc
 opposite false b e f g = cc
 
 pub returns-else-is_err-clause-finds : goal.returns-else-is_err-clause-finds
-returns-else-is_err-clause-finds c = record {
-  kept = λ lost. lost;
-  added = λ whole wanted calls h.
-      subst (λ (m : Mode). AddsAll calls m c.args.name.now c.args.output.now c.args.self.now.remaining c.add.new.self) c.mode.ensures
-      (on_ok c.add.result (sym c.is_err.ensures.value ∙ c.if-is_err.false) c.add.ensures.added calls
-      (subst (λ (t : List Argument). TableRepresents t calls) (sym c.symbols-symbols.ensures) h));
+returns-else-is_err-clause-finds g c = record {
+  kept = λ lost. c.add.ensures.lost ∙ lost;
+  added = λ whole wanted. on_ok c.add.result (sym c.is_err.ensures.value ∙ c.if-is_err.false) c.add.ensures.added;
   same = λ off. absurd (opposite c.search_remaining.result _ c.search_remaining.ensures c.if-not-search_remaining.false off);
 }

@@ -9,5 +9,5 @@ returns-then-not-job g c =
     sends_same (ap (λ (b : Bool). cond b c.args.self.now.remaining.list []) (sym c.if-not-job.true)) (sends_none (stream_of g.W.Write.contents c.args.out.now))
 
 pub returns : goal.returns
-returns g c =
-    sends_same (c.list.ensures ∙ ap (λ (b : Bool). cond b c.args.self.now.remaining.list []) (sym c.if-not-job.false)) c.send.ensures
+returns g c = rw (← c.self.view_is)
+    (sends_same (c.list.ensures ∙ ap (λ (b : Bool). cond b c.self.inside.remaining.list []) (sym c.if-not-job.false)) c.send.ensures)

@@ -1,8 +1,7 @@
 use Rattle.std.proofs.Common.{refl, sym}
 use Rattle.ud_tree.proofs.WalkLemmas.{finds_none, finds_call, finds_node}
-use Rattle.ud_io.specs.Streams.{stream_of}
 use Rattle.ud_tree.specs.WalkMessages.{is_no_text}
-use Rattle.ud_tree.proofs.WalkTellLemmas.{walk_none, walk_given, walk_unmet, walk_remark, reported}
+use Rattle.ud_tree.proofs.WalkTellLemmas.{walk_none, walk_given, walk_unmet, walk_remark}
 use Rattle.ud_replace.specs.declared.node.Lookup.TheVariants.{Absent, Unknown}
 use Rattle.std.proofs.lemmas.Result.{on_ok_weaker}
 use Rattle.ud_tree.proofs.CoverLemmas.{takes_node, takes_unmet, takes_other, on_ok_both}
@@ -11,13 +10,13 @@ use Rattle.ud_tree.proofs.walk.Walk.add.Goals as goal
 pub returns-in_err-escaped-clause-goes_on : goal.returns-in_err-escaped-clause-goes_on
 returns-in_err-escaped-clause-goes_on g c = record {
   finds = finds_none (g.T.Folder.history c.args.tree.now) c.args.self.now.found.items;
-  told = walk_none (g.T.Folder.history c.args.tree.now) c.args.report.now (stream_of g.E.Write.contents c.args.err.now);
+  told = walk_none (g.T.Folder.history c.args.tree.now) c.args.report.now;
 }
 
 pub returns-in_default-clause-goes_on : goal.returns-in_default-clause-goes_on
 returns-in_default-clause-goes_on g c = record {
   finds = finds_none (g.T.Folder.history c.args.tree.now) c.args.self.now.found.items;
-  told = walk_remark _ (g.T.Folder.history c.args.tree.now) (is_no_text _ refl) (reported c.fault.ensures.says c.fault.ensures.counted c.fault.ensures.some);
+  told = walk_remark _ (g.T.Folder.history c.args.tree.now) (is_no_text _ refl) c.fault.ensures;
 }
 
 pub returns-in-Present-clause-goes_on : goal.returns-in-Present-clause-goes_on

@@ -1,5 +1,4 @@
 use Rattle.std.proofs.Common.{map}
-use Rattle.ud_io.specs.Streams.{stream_of}
 use Rattle.ud_tree.specs.WalkMessages.{ReportsNames}
 use Rattle.ud_tree.specs.Walks.{Finds}
 use Rattle.ud_tree.specs.Catching.{Catches}
@@ -11,5 +10,5 @@ abbrev pub invariant-loop-name : goal.invariant-loop-name
 invariant-loop-name g l =
     Finds (g.T.Folder.history l.fn.tree) (g.T.Folder.history l.tree) l.fn.self.found.items l.self.found.items
     × EntersNames (λ n. n.items) l.folder l.name-items l.name-index (g.T.Folder.history l.fn.tree) (g.T.Folder.history l.tree) (map (λ d. string_bytes d) l.fn.self.folders.items) (map (λ d. string_bytes d) l.self.folders.items) l.fn.report l.report
-    × ReportsNames l.folder (map (λ n. n.items) l.name-items) (g.T.Folder.history l.fn.tree) (g.T.Folder.history l.tree) l.fn.report l.report (stream_of g.E.Write.contents l.fn.err) (stream_of g.E.Write.contents l.err)
+    × ReportsNames l.folder (map (λ n. n.items) l.name-items) (g.T.Folder.history l.fn.tree) (g.T.Folder.history l.tree) l.fn.report l.report
     × Catches (g.T.Folder.history l.fn.tree) (g.T.Folder.history l.tree) l.fn.self l.self

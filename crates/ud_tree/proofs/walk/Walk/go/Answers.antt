@@ -7,7 +7,7 @@ use Rattle.ud_tree.proofs.walk.Walk.go.Goals as goal
 
 pub folders-init : goal.folders-init
 folders-init g c = (
-  goes_none g.T.Folder.history g.E.Write.contents c.args.tree.now c.args.self.now c.args.report.now c.args.err.now,
+  goes_none (g.T.Folder.history c.args.tree.now) c.args.self.now c.args.report.now,
   enters_none (g.T.Folder.history c.args.tree.now) (map (λ d. string_bytes d) c.args.self.now.folders.items) c.args.report.now,
   catches_none (g.T.Folder.history c.args.tree.now) c.args.self.now c.args.self.now (grows_same _ _ refl refl),
 )

@@ -1,6 +1,5 @@
 use Rattle.ud_tree.proofs.WalkLemmas.{finds_call, finds_file, finds_same, finds_then}
-use Rattle.ud_io.specs.Streams.{stream_of}
-use Rattle.ud_tree.proofs.WalkTellLemmas.{walk_met, walk_followed, walk_unmet, walk_link, walk_other, other_kind, walk_then, reported}
+use Rattle.ud_tree.proofs.WalkTellLemmas.{walk_met, walk_followed, walk_unmet, walk_link, walk_other, other_kind, walk_then}
 use Rattle.std.proofs.Common.{ap, ◌∙◌, [], ◌∷◌, refl, true, false, arith, List, inl}
 use Rattle.std.specs.Prelude.{string_bytes}
 use Rattle.std.proofs.lemmas.Result.{on_ok_weaker}
@@ -26,32 +25,32 @@ returns-in-Unknown-clause-goes_on g c = record {
 pub returns-in-Folder-clause-goes_on : goal.returns-in-Folder-clause-goes_on
 returns-in-Folder-clause-goes_on g c = record {
   finds = finds_same c.add_folder.ensures.found (finds_call _ c.args.self.now.found.items c.node.ensures);
-  told = walk_met _ c.in-Present.node c.args.report.now (stream_of g.E.Write.contents c.args.err.now) c.in-Present.ensures;
+  told = walk_met _ c.in-Present.node c.args.report.now c.in-Present.ensures;
 }
 
 pub returns-in-Link-clause-goes_on : goal.returns-in-Link-clause-goes_on
 returns-in-Link-clause-goes_on g c = record {
   finds = finds_same c.add_folder-in-Link.ensures.found (finds_then (finds_call _ c.args.self.now.found.items c.node.ensures) (finds_call _ c.args.self.now.found.items c.leads_to_folder.ensures));
-  told = walk_then (walk_met _ c.in-Present.node c.args.report.now (stream_of g.E.Write.contents c.args.err.now) c.in-Present.ensures)
-      (walk_followed _ _ c.args.report.now (stream_of g.E.Write.contents c.args.err.now) c.leads_to_folder.ensures);
+  told = walk_then (walk_met _ c.in-Present.node c.args.report.now c.in-Present.ensures)
+      (walk_followed _ _ c.args.report.now c.leads_to_folder.ensures);
 }
 
 pub returns-in-Link-2-clause-goes_on : goal.returns-in-Link-2-clause-goes_on
 returns-in-Link-2-clause-goes_on g c = record {
   finds = finds_then (finds_call _ c.args.self.now.found.items c.node.ensures) (finds_call _ c.args.self.now.found.items c.leads_to_folder.ensures);
-  told = walk_link _ _ c.in-Present.node c.as_bytes-in-Link-2.ensures.value c.in-Present.ensures c.if-leads_to_folder.ensures c.in-Link.is (reported c.fault.ensures.says c.fault.ensures.counted c.fault.ensures.some);
+  told = walk_link _ _ c.in-Present.node c.as_bytes-in-Link-2.ensures.value c.in-Present.ensures c.if-leads_to_folder.ensures c.in-Link.is c.fault.ensures;
 }
 
 pub returns-in-File-clause-goes_on : goal.returns-in-File-clause-goes_on
 returns-in-File-clause-goes_on g c = record {
   finds = finds_file _ c.in-Present.node c.in-Present.ensures c.in-File.is c.push_file.ensures.adds;
-  told = walk_met _ c.in-Present.node c.args.report.now (stream_of g.E.Write.contents c.args.err.now) c.in-Present.ensures;
+  told = walk_met _ c.in-Present.node c.args.report.now c.in-Present.ensures;
 }
 
 pub returns-in-Other-clause-goes_on : goal.returns-in-Other-clause-goes_on
 returns-in-Other-clause-goes_on g c = record {
   finds = finds_call _ c.args.self.now.found.items c.node.ensures;
-  told = walk_other _ _ c.in-Present.node c.as_bytes-in-Other.ensures.value c.in-Present.ensures (other_kind _ c.in-Other.is) (reported c.fault-in-Other.ensures.says c.fault-in-Other.ensures.counted c.fault-in-Other.ensures.some);
+  told = walk_other _ _ c.in-Present.node c.as_bytes-in-Other.ensures.value c.in-Present.ensures (other_kind _ c.in-Other.is) c.fault-in-Other.ensures;
 }
 
 pub returns-in-Absent-clause-starts : goal.returns-in-Absent-clause-starts

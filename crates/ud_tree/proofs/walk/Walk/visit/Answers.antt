@@ -1,6 +1,5 @@
 use Rattle.ud_tree.proofs.WalkLemmas.{finds_none, finds_call, finds_node}
 use Rattle.std.proofs.Common.{refl}
-use Rattle.ud_io.specs.Streams.{stream_of}
 use Rattle.ud_tree.specs.WalkMessages.{is_no_text, is_gone}
 use Rattle.ud_tree.proofs.WalkTellLemmas.{met_at, visit_none, visit_met, walk_none, walk_met, walk_unmet, walk_remark}
 use Rattle.std.proofs.lemmas.Result.{on_ok_weaker}
@@ -31,22 +30,22 @@ pub returns-clause-finds : goal.returns-clause-finds
 returns-clause-finds g c = finds_call _ c.args.self.now.found.items c.node.ensures
 
 pub returns-in_err-path-clause-told : goal.returns-in_err-path-clause-told
-returns-in_err-path-clause-told g c = visit_none (walk_none (g.T.Folder.history c.args.tree.now) c.args.report.now (stream_of g.E.Write.contents c.args.err.now))
+returns-in_err-path-clause-told g c = visit_none (walk_none (g.T.Folder.history c.args.tree.now) c.args.report.now)
 
 pub returns-in_err-name-clause-told : goal.returns-in_err-name-clause-told
-returns-in_err-name-clause-told g c = visit_none (walk_none (g.T.Folder.history c.args.tree.now) c.args.report.now (stream_of g.E.Write.contents c.args.err.now))
+returns-in_err-name-clause-told g c = visit_none (walk_none (g.T.Folder.history c.args.tree.now) c.args.report.now)
 
 pub returns-in_default-clause-told : goal.returns-in_default-clause-told
 returns-in_default-clause-told g c = visit_none (walk_remark _ (g.T.Folder.history c.args.tree.now) (is_no_text _ refl) c.fault_in.ensures)
 
 pub returns-in_err-push_str-clause-told : goal.returns-in_err-push_str-clause-told
-returns-in_err-push_str-clause-told g c = visit_none (walk_none (g.T.Folder.history c.args.tree.now) c.args.report.now (stream_of g.E.Write.contents c.args.err.now))
+returns-in_err-push_str-clause-told g c = visit_none (walk_none (g.T.Folder.history c.args.tree.now) c.args.report.now)
 
 pub returns-in-Present-clause-told : goal.returns-in-Present-clause-told
-returns-in-Present-clause-told g c = visit_met (Present c.in-Present.node) _ (λ e. absurd cc) c.in-Present.ensures (walk_met _ c.in-Present.node c.args.report.now (stream_of g.E.Write.contents c.args.err.now) c.in-Present.ensures)
+returns-in-Present-clause-told g c = visit_met (Present c.in-Present.node) _ (λ e. absurd cc) c.in-Present.ensures (walk_met _ c.in-Present.node c.args.report.now c.in-Present.ensures)
 
 pub returns-in-Absent-clause-told : goal.returns-in-Absent-clause-told
-returns-in-Absent-clause-told g c = is_gone (met_at _ _ (cc (c.as_str-whole.ensures.value, c.in_ok-push_str.ensures.bytes, c.in-Ok.ensures.cases.0, c.in_ok-path.ensures.ok)) c.in-Absent.ensures) refl refl
+returns-in-Absent-clause-told g c = is_gone (met_at _ _ (cc (c.as_str-whole.ensures.value, c.in_ok-push_str.ensures.bytes, c.in-Ok.ensures.cases.0, c.in_ok-path.ensures.ok)) c.in-Absent.ensures) refl
 
 pub returns-clause-told : goal.returns-clause-told
 returns-clause-told g c = visit_met Unknown _ (λ e. absurd cc) c.in-Unknown.ensures (walk_unmet Unknown _ _ c.as_bytes-in-Unknown.ensures.value c.in-Unknown.ensures c.unknown.ensures)
