@@ -13,9 +13,9 @@ lists_of() {
     $apt update && touch "$own/updated"; }
 }
 
-# source_of PACKAGE: fetches the source of a Debian package into the temporary folder.
+# source_of PACKAGE [OPTION..]: fetches the source of a Debian package into the temporary folder.
 source_of() {
   local apt
   lists_of deb-src "$(sed -n 's/^VERSION_CODENAME=//p' /etc/os-release)" &&
-    mkdir -p "$work/source/$1" && cd "$work/source/$1" && $apt source "$1"
+    mkdir -p "$work/source/$1" && cd "$work/source/$1" && $apt source "${@:2}" "$1"
 }
