@@ -1,21 +1,21 @@
 /*
  * unifdef.h - removes preprocessor conditionals from C source, in memory
  *
- * unifdef_text does what the program unifdef(1) does, over memory in place of files. A stream does
- * it for a text that comes in chunks. unifdef_prune edits the conditions that are left. Two more
- * calls are for programs that look at directives themselves. It is proved that what each call writes
- * and returns is that of the definitions of unifdef(1). The manual page unifdef(3) has examples.
+ * unifdef_text does what the program unifdef(1) does, in memory instead of files. A stream does it
+ * for a text that comes in chunks. unifdef_prune edits the conditions that are left. Two more calls
+ * are for programs that look at directives themselves. It is proved that each call writes and
+ * returns what the definitions of unifdef(1) say. The manual page unifdef(3) has examples.
  *
  * Only a stream keeps anything between calls, and no call frees or keeps what it is passed. So any
- * number of threads may call at once, each with buffers and streams of its own. No call may be made
- * in a signal handler, or in the forked child of a process with threads, since malloc may not.
+ * number of threads may call at once, each with its own buffers and streams. Don't call from a
+ * signal handler, or in the forked child of a process with threads: malloc isn't allowed there.
  *
- * A thread that calls needs a stack of 1 MiB, for conditions with thousands of operators or
+ * A calling thread needs a stack of 1 MiB, for conditions with thousands of operators or
  * parentheses. With less, such a condition ends the process. unifdef_prune needs 4 MiB if a
  * condition has more than 8,192 bytes.
  *
- * A pointer may be null if its length is 0. What a call writes to may not overlap anything else
- * that it is passed.
+ * A pointer may be null if its length is 0. Memory that a call writes to may not overlap anything
+ * else that it is passed.
  */
 #ifndef UNIFDEF_H
 #define UNIFDEF_H
@@ -36,13 +36,13 @@ extern "C" {
  */
 int unifdef_version(void);
 
-/* The status if something is wrong. The message says what. */
+/* The status if something is wrong. The message says what it is. */
 #define UNIFDEF_TROUBLE 2
 
-/* The status if the output or the message is longer than the buffer for it. */
+/* The status if the output or the message is longer than its buffer. */
 #define UNIFDEF_TOO_SMALL 3
 
-/* The lengths of an answer in bytes, whether it fitted or not. */
+/* The lengths of an answer in bytes, whether or not it fits. */
 struct unifdef_sizes {
     size_t output;
     size_t message;
@@ -53,21 +53,21 @@ struct unifdef_sizes {
  *
  * words has the arguments of the program, without its name. A zero byte ends each word; the last
  * one may lack it. "-DA\0-UB" is two words. A word may be empty. A word that names a file is only
- * the name in messages: nothing is opened. Without one, messages name stdin.
+ * the name in messages: nothing is opened. Without one, messages say stdin.
  *
- * The output goes to output, and what the program writes to standard error to message. Neither is
- * ended by a zero byte. Their lengths are written to sizes, which may not be null.
+ * The program's output goes to output, and its standard error to message, both without a zero byte
+ * at the end. Their lengths are written to sizes, which may not be null.
  *
  * Returns the exit status of the program:
  *
- *   0 or 1               the output is a copy of the text, or differs; the other way round with -x1
+ *   0 or 1               the output is a copy of the text, or differs; vice versa with -x1
  *   UNIFDEF_TROUBLE      the arguments or the text have a fault, a word isn't UTF-8, or memory was
- *                        refused; message says which, and output has what comes before the fault
+ *                        refused; message says which, and output has the text before the fault
  *   UNIFDEF_TOO_SMALL    output_len or message_len is too small. The bytes that fit are written,
  *                        and sizes has the lengths that suffice for these arguments and this text
  *
- * A text of n bytes seldom has an output of more than n bytes: only -n, -s and -S add any. A
- * message is as long as the longest word and 80 bytes at most.
+ * The output is rarely longer than the text: only -n, -s and -S add bytes. A message has at most
+ * 80 bytes more than the longest word.
  *
  * Memory is allocated for the words, the output and the message, and freed before the call returns.
  */
@@ -78,8 +78,8 @@ int unifdef_text(const char *words, size_t words_len,
                  struct unifdef_sizes *sizes);
 
 /*
- * A stream: unifdef(1) over a text that comes in chunks. Its memory doesn't grow with the text, if
- * all output is taken after each chunk.
+ * A stream: unifdef(1) over a text that comes in chunks. Its memory doesn't grow with the text if
+ * you take all output after each chunk.
  *
  *     struct unifdef_stream stream = UNIFDEF_STREAM_INIT;
  *     int status = unifdef_open(&stream, words, words_len);
@@ -90,42 +90,42 @@ int unifdef_text(const char *words, size_t words_len,
  *     while ((taken = unifdef_take(&stream, output, sizeof output, &pending)) > 0) ..
  *     unifdef_close(&stream);
  *
- * A stream is closed if state is null, and it has to be null before the first call. Only the calls
- * below may change it. A copy of the struct may take its place, if the first one isn't used again.
- * A stream may be used by one thread at a time, and may go from one to another.
+ * A stream is closed if state is null, which it must be before the first call. Only the calls below
+ * may change it. A copy of the struct may replace it, if the original isn't used again. One thread
+ * at a time may use a stream, and it may go from one to another.
  */
 struct unifdef_stream {
     void *state;
 };
 
-/* In C++, {0} has a warning: 0 is no null pointer there. */
+/* In C++, {0} gives a warning: 0 isn't a null pointer there. */
 #ifdef __cplusplus
 #define UNIFDEF_STREAM_INIT {}
 #else
 #define UNIFDEF_STREAM_INIT {0}
 #endif
 
-/* The error if a stream is closed, or if its text has ended and is fed. */
+/* The error if a stream is closed, or is fed after its text has ended. */
 #define UNIFDEF_CLOSED (-4)
 
 /*
- * Opens a stream. One that is open is closed before.
+ * Opens a stream. If it is open, closes it first.
  *
- * words are those of unifdef_text. Returns 0, or UNIFDEF_BAD_WORDS or UNIFDEF_NO_MEMORY, and the
- * stream is closed then. unifdef_text with the same words and no text has the message.
+ * words are as for unifdef_text. Returns 0, or UNIFDEF_BAD_WORDS or UNIFDEF_NO_MEMORY; the stream
+ * is then closed. For the message, call unifdef_text with the same words and no text.
  */
 int unifdef_open(struct unifdef_stream *stream, const char *words, size_t words_len);
 
 /*
- * Processes the next chunk of the text. A chunk may end anywhere, even in a line. The output for
- * all lines that end in the chunk can be taken then. The line that it begins is kept, of at most
+ * Processes the next chunk of the text. A chunk may end anywhere, even within a line. You can then
+ * take the output for all lines that end in the chunk. A line that it only begins is kept, at most
  * UNIFDEF_LINE_BYTES bytes.
  *
  * Returns 0, or one of these:
  *
- *   UNIFDEF_TROUBLE      the text has a fault. The output for what comes before it can be taken,
- *                        and unifdef_finish says which fault it is
- *   UNIFDEF_NO_MEMORY    memory for the output was refused. Only a part of the output can be taken
+ *   UNIFDEF_TROUBLE      the text has a fault. The output for the text before it can be taken, and
+ *                        unifdef_finish says which fault it is
+ *   UNIFDEF_NO_MEMORY    memory for the output was refused. Only part of the output can be taken
  *   UNIFDEF_CLOSED       the stream is closed, or the text has ended
  *
  * After the first two, each later chunk up to unifdef_finish has the same result, and no more
@@ -134,23 +134,22 @@ int unifdef_open(struct unifdef_stream *stream, const char *words, size_t words_
 int unifdef_feed(struct unifdef_stream *stream, const char *text, size_t text_len);
 
 /*
- * Writes the output that comes next to output, as much as fits. It isn't ended by a zero byte. How
- * much is left is written to pending, which may not be null. Nothing is lost: the next call goes
- * on.
+ * Writes as much of the next output as fits to output, without a zero byte at the end, and the
+ * number of bytes left to pending, which may not be null. The next call continues from there.
  *
- * Returns how many bytes were written: 0 if none are left, or if the stream is closed.
+ * Returns how many bytes were written: 0 if none were left, or if the stream is closed.
  */
 size_t unifdef_take(struct unifdef_stream *stream, char *output, size_t output_len,
                     size_t *pending);
 
 /*
- * Ends the text. The rest of the output can be taken then: that for the last line, if it has no
- * newline. The message goes to message, and its length to size, which may not be null.
+ * Ends the text. You can then take the rest of the output: for the last line, if it has no newline.
+ * The message goes to message, and its length to size, which may not be null.
  *
  * Returns what unifdef_text returns for all chunks together, or UNIFDEF_CLOSED. UNIFDEF_TOO_SMALL
- * is for the message alone: the bytes that fit are written, and a second call with a longer buffer
+ * is only about the message: the bytes that fit are written, and a second call with a longer buffer
  * succeeds. Each further call returns the same status and message. If memory for the message is
- * refused, a call returns those of refused memory, and the next one may return the others.
+ * refused, a call returns the status and message for that, and the next one may return the others.
  */
 int unifdef_finish(struct unifdef_stream *stream, char *message, size_t message_len,
                    size_t *size);
@@ -160,17 +159,16 @@ void unifdef_close(struct unifdef_stream *stream);
 
 /*
  * Removes from the conditions of a text the operands that words decide. With -UA, "#if A || X"
- * becomes "#if X". Lines are only made shorter, and a compiler selects the same ones, if the words
- * are true of the text.
+ * becomes "#if X". Lines only get shorter, and a compiler selects the same ones if the words are
+ * true of the text.
  *
- * words are those of unifdef_text, of which -D, -U, -iD, -iU, -k and -K count. text may be the
- * output of unifdef_text for the same words, if it has no fault. It is read as C. What is left goes
- * to output, and how many bytes that takes to size, which may not be null. It is never longer than
- * the text. unifdef(3) says which conditions stay.
+ * words are as for unifdef_text; only -D, -U, -iD, -iU, -k and -K matter. text may be the output of
+ * unifdef_text for the same words, if that has no fault. It is read as C. The rest goes to output,
+ * and its length to size, which may not be null. It is never longer than the text. unifdef(3) says
+ * which conditions stay.
  *
  * Returns 1 if a condition was edited and 0 if none was, or UNIFDEF_TOO_SMALL if output_len is less
- * than what size says. The bytes that fit are written then. An error is negative, and nothing is
- * written.
+ * than size; then the bytes that fit are written. An error is negative, and nothing is written.
  */
 int unifdef_prune(const char *words, size_t words_len,
                   const char *text, size_t text_len,
@@ -193,11 +191,11 @@ int unifdef_prune(const char *words, size_t words_len,
 /*
  * Decides the expression of an #if or #elif.
  *
- * words are those of unifdef_text, of which -D, -U, -iD, -iU, -k and -K count. expression is what
- * follows the keyword, on one line, with a space in place of each comment.
+ * words are as for unifdef_text; only -D, -U, -iD, -iU, -k and -K matter. expression is the text
+ * after the keyword, on one line, with a space in place of each comment.
  *
- * Returns UNIFDEF_TRUE or UNIFDEF_FALSE if the words decide the expression. If they don't, or if it
- * can't be understood, UNIFDEF_UNKNOWN. An error is negative.
+ * Returns UNIFDEF_TRUE or UNIFDEF_FALSE if the words decide the expression, and UNIFDEF_UNKNOWN if
+ * they don't, or if it can't be understood. An error is negative.
  */
 int unifdef_condition(const char *words, size_t words_len,
                       const char *expression, size_t expression_len);
@@ -205,12 +203,12 @@ int unifdef_condition(const char *words, size_t words_len,
 /*
  * Lists the names in the expression of an #if or #elif.
  *
- * The names go to names in their order, with a zero byte after each. A name that occurs twice is
- * listed twice. An expression that can't be understood has none. How many bytes all names take is
+ * The names go to names in order, with a zero byte after each. A name that occurs twice is listed
+ * twice. An expression that can't be understood has none. The number of bytes of all names is
  * written to size, which may not be null.
  *
- * Returns 0, or UNIFDEF_TOO_SMALL if names_len is less than that. The bytes that fit are written
- * then. An error is negative, and nothing is written.
+ * Returns 0, or UNIFDEF_TOO_SMALL if names_len is less than that; then the bytes that fit are
+ * written. An error is negative, and nothing is written.
  */
 int unifdef_names(const char *expression, size_t expression_len,
                   char *names, size_t names_len, size_t *size);

@@ -2,8 +2,8 @@
  *
  * cc filter.c $(pkg-config --cflags --libs unifdef)
  *
- * It reads CHUNK bytes at once, so its memory doesn't grow with the text. If reading fails, the
- * output is that for the lines before, and the status is 2. */
+ * It reads CHUNK bytes at a time, so its memory doesn't grow with the text. If reading fails, the
+ * output is for the lines before, and the status is 2. */
 #include <stdio.h>
 #include <stdlib.h>
 #include <string.h>
@@ -13,7 +13,7 @@
 #define CHUNK 65536
 #endif
 
-/* Returns the arguments of main, each with its zero byte, and their length. Free them by free. */
+/* Returns the arguments of main, each with its zero byte, and their length. Free them with free. */
 static char *words_of(int argc, char **argv, size_t *len) {
     *len = 0;
     for (int i = 1; i < argc; i++) *len += strlen(argv[i]) + 1;
@@ -35,7 +35,7 @@ static int write_output(struct unifdef_stream *stream) {
 }
 
 /* Feeds standard input to a stream, up to its end or the first fault. Returns what has failed, or
- * NULL. A fault of the text is none: unifdef_finish says which it is. */
+ * NULL, also for a fault of the text: unifdef_finish says which fault it is. */
 static const char *feed_input(struct unifdef_stream *stream) {
     static char chunk[CHUNK];
     size_t got;

@@ -7,20 +7,20 @@
 #include <string>
 #include <unifdef.h>
 
-// Returns the arguments of main as the library takes them: each with its zero byte.
+// Returns the arguments of main in the library's form: each with its zero byte.
 static std::string words_of(int argc, char **argv) {
     std::string words;
     for (int i = 1; i < argc; i++) words.append(argv[i]).push_back('\0');
     return words;
 }
 
-// What the program writes for a text, and its exit status.
+// The program's output and message for a text, and its exit status.
 struct Answer {
     std::string output, message;
     int status;
 };
 
-// Returns what unifdef(1) gives for a text.
+// Returns the answer of unifdef(1) to a text.
 static Answer run(const std::string &words, const std::string &text) {
     Answer answer{std::string(text.size(), '\0'), std::string(words.size() + 80, '\0'), 0};
     unifdef_sizes sizes{};

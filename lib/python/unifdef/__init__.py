@@ -1,4 +1,4 @@
-"""unifdef(1) over bytes in memory, by the library libunifdef.
+"""unifdef(1) over bytes in memory, with the library libunifdef.
 
     >>> import unifdef
     >>> unifdef.run(b"#ifdef A\\nx\\n#else\\ny\\n#endif\\n", "-DA").output
@@ -7,12 +7,12 @@
 `python3 -m unifdef` runs these examples. The library is the file that the environment's
 UNIFDEF_LIBRARY names, or the installed one.
 
-A text is any object with bytes: bytes, bytearray, memoryview, mmap. Each option is an argument of
-its own, and so is the operand, the file's name in messages, which may be an os.PathLike. Such a
-path is no option, even if it begins with `-`.
+A text is any object with bytes: bytes, bytearray, memoryview, mmap. Each option is a separate
+argument. So is the operand, the file's name in messages. It may be an os.PathLike, which is never
+an option, even if it begins with `-`.
 
-Only a `Stream` keeps anything, so any number of threads may call at once, each with streams of its
-own: the interpreter's lock isn't held meanwhile.
+Only a `Stream` keeps anything, so any number of threads may call at once, each with its own
+streams. Calls release the interpreter's lock.
 """
 
 from __future__ import annotations
@@ -55,19 +55,19 @@ __version__ = "1.0"
 
 
 def __dir__() -> list[str]:
-    """Returns what is public, without the modules that are used here."""
+    """Returns the public names, without the modules that are used here."""
     return [*__all__, "__version__", "__doc__"]
 
 
 Word = Union[str, bytes, "os.PathLike[str]", "os.PathLike[bytes]"]
 
-# The bytes that are fed or taken at once, and the shortest text that is fed so.
+# The most bytes to feed or take at once, and the shortest text to feed so.
 CHUNK = 65536
 LONG = 16 * CHUNK
 
 
 class Answer(NamedTuple):
-    """What the program writes for a text, and its exit status."""
+    """The program's output and message for a text, and its exit status."""
 
     output: bytes
     message: str
@@ -75,7 +75,7 @@ class Answer(NamedTuple):
 
 
 class Trouble(Exception):
-    """The arguments or the text have a fault. `answer` has the output for what comes before it."""
+    """The arguments or the text have a fault. `answer` has the output for the text before it."""
 
     def __init__(self, answer: Answer, *arguments: Word) -> None:
         super().__init__(answer, *arguments)  # A copy is made of these, as in another process.
@@ -83,7 +83,7 @@ class Trouble(Exception):
         self.arguments = arguments
 
     def __str__(self) -> str:
-        """Returns the message, with the argument that it counts."""
+        """Returns the message, with the argument that it gives by number."""
         message = self.answer.message.rstrip("\n")
         counted = re.fullmatch(r"unifdef: Bad .* in word (\d+)", message)
         if not counted or int(counted[1]) > len(self.arguments):
@@ -93,7 +93,7 @@ class Trouble(Exception):
 
 
 def run(text: ReadableBuffer, *arguments: Word) -> Answer:
-    """Returns what unifdef(1) gives for `text` with these arguments, whether or not it is a fault.
+    """Returns the answer of unifdef(1) to `text` and these arguments, even if it is a fault.
 
     >>> run(b"#if A\\nx\\n#endif\\n", "-DA=1")
     Answer(output=b'x\\n', message='', status=1)
@@ -108,7 +108,7 @@ def run(text: ReadableBuffer, *arguments: Word) -> Answer:
 
 
 def _run_short(text: bytes, words: bytes) -> Answer:
-    """Returns what unifdef(1) gives for a text, in one call."""
+    """Returns the answer of unifdef(1) to a text, in one call."""
     sizes = Sizes(len(text), len(words) + 80)
     while True:
         output = ctypes.create_string_buffer(max(sizes.output, 1))
@@ -122,7 +122,7 @@ def _run_short(text: bytes, words: bytes) -> Answer:
 
 
 def _run_long(text: memoryview, arguments: tuple[Word, ...]) -> Answer:
-    """Returns what unifdef(1) gives for a text, by a stream, which is faster for a long text."""
+    """Returns the answer of unifdef(1) to a text by a stream, which is faster for a long text."""
     try:
         with Stream(*arguments) as stream:
             output = stream.feed(text)
@@ -135,7 +135,7 @@ def _run_long(text: memoryview, arguments: tuple[Word, ...]) -> Answer:
 def strip(text: ReadableBuffer, *arguments: Word, prune_conditions: bool = False) -> bytes:
     """Returns the output for `text` with these arguments. Raises `Trouble` if there is a fault.
 
-    With `prune_conditions`, operands that the arguments decide go from the conditions, too.
+    With `prune_conditions`, also removes operands that the arguments decide from conditions.
 
     >>> strip(b"#ifndef A\\nx\\n#endif\\ny\\n", "-DA")
     b'y\\n'
@@ -155,7 +155,7 @@ def strip(text: ReadableBuffer, *arguments: Word, prune_conditions: bool = False
 
 
 def _pruned(text: bytes, words: bytes) -> bytes:
-    """Returns what these words, which have no fault, leave of the conditions of a text."""
+    """Returns a text without the operands that these words, which have no fault, decide."""
     size = ctypes.c_size_t()
     output = ctypes.create_string_buffer(max(len(text), 1))
     pruned = library.unifdef_prune(words, len(words), text, len(text), output, len(output), size)
@@ -189,7 +189,7 @@ class Stream:
     def feed(self, chunk: ReadableBuffer) -> bytes:
         """Returns the output for the lines that end in `chunk`.
 
-        After a fault of the text that is b"", `faulty` is true, and `finish` returns the fault.
+        After a fault of the text, returns b""; `faulty` is true, and `finish` returns the fault.
         """
         output: list[bytes] = []
         for part in _parts(chunk, "chunk"):
@@ -205,7 +205,7 @@ class Stream:
         return b"".join(output)
 
     def finish(self) -> Answer:
-        """Ends the text. Returns the rest of the output, and the message and the status for all."""
+        """Ends the text. Returns the rest of the output, and the message and status for all."""
         size = ctypes.c_size_t(len(self._words) + 80)
         while True:
             message = ctypes.create_string_buffer(max(size.value, 1))
@@ -216,7 +216,7 @@ class Stream:
                 return Answer(b"".join(self._taken()), _told(message, size.value), status)
 
     def close(self) -> None:
-        """Frees the memory of the stream. What comes later raises `ValueError`."""
+        """Frees the memory of the stream. Later calls raise `ValueError`."""
         library.unifdef_close(self._stream)
 
     def _taken(self) -> Iterator[bytes]:
@@ -249,7 +249,7 @@ class Stream:
 def strip_chunks(chunks: Iterable[ReadableBuffer], *arguments: Word) -> Iterator[bytes]:
     """Yields the output for a text in chunks, as it comes.
 
-    At a fault, takes no further chunk, and raises `Trouble` after the output for what comes before.
+    At a fault, takes no further chunk, and raises `Trouble` after the output for the text before.
 
     >>> b"".join(strip_chunks([b"#ifdef A\\n", b"x\\n#endif", b"\\ny\\n"], "-UA"))
     b'y\\n'
@@ -313,14 +313,14 @@ _REASONS = {NO_MEMORY: "memory was refused", TOO_LONG: "the expression is too lo
 
 
 def _words(arguments: tuple[Word, ...]) -> bytes:
-    """Returns the arguments as the library takes them: each with a zero byte after it."""
+    """Returns the arguments in the library's form: each with a zero byte after it."""
     return b"".join(_word(number, it) + b"\0" for number, it in enumerate(arguments, 1))
 
 
 def _word(number: int, argument: Word) -> bytes:
-    """Returns the bytes of an argument, which has no zero byte, as no argument of a program has.
+    """Returns the bytes of an argument. It has no zero byte, like any argument of a program.
 
-    A path is no option, so one that begins as an option does is named from this folder.
+    A path is no option, so one that begins like an option gets `./` before it.
     """
     try:
         word = os.fspath(argument)
@@ -336,7 +336,7 @@ def _word(number: int, argument: Word) -> bytes:
 
 
 def _view(data: ReadableBuffer, name: str) -> memoryview:
-    """Returns the bytes of a buffer, which are copied only if they aren't side by side."""
+    """Returns the bytes of a buffer, copied only if they aren't contiguous."""
     try:
         view = memoryview(data)
     except TypeError:
@@ -353,7 +353,7 @@ def _bytes(data: ReadableBuffer, name: str) -> bytes:
 
 
 def _parts(data: ReadableBuffer, name: str) -> Iterator[bytes]:
-    """Yields the bytes of a buffer, `CHUNK` of them at once, or an empty part alone."""
+    """Yields the bytes of a buffer, `CHUNK` at a time, or one empty part if there are none."""
     if isinstance(data, bytes) and len(data) <= CHUNK:
         yield data
         return
