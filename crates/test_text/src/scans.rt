@@ -41,6 +41,22 @@ fn a_comment_joins_two_lines(rt: HostRuntime) -> Result<(), Fail> {
 }
 
 #[test]
+fn a_scan_outlives_its_line(rt: HostRuntime) -> Result<(), Fail> {
+    let mut scanner = Scanner::new();
+    let scan = {
+        let body = *b"#if A";
+        let line = Line {
+            body: &body,
+            ending: b"\n",
+            number: 1,
+        };
+        scanner.read(Mode::C, &line)
+    };
+    assert_eq!(rt; scan.masked, b"#if A".as_slice());
+    Ok(())
+}
+
+#[test]
 fn the_first_mark_is_found(rt: HostRuntime) -> Result<(), Fail> {
     assert_eq!(rt; first_mark(b"abc/"), 3);
     assert_eq!(rt; first_mark(b"abcd"), 4);

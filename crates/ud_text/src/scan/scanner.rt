@@ -319,23 +319,41 @@ pub(crate) fn scan_line<'a, H: LineBuffer>(
     }
 }
 
+/// Returns the scan with these flags and masked bytes.
+#[inline(always)]
+fn scan_with(flags: LineFlags, masked: &[u8]) -> Scan<'_>
+    ensures { as_scan result ≡ scan_with masked.now flags }
+{
+    Scan {
+        masked,
+        fresh: flags.fresh,
+        joins_before: flags.joins_before,
+        joins_after: flags.joins_after,
+        spliced: flags.spliced,
+        comment: flags.comment,
+    }
+}
+
 /// Returns the scan of a scanned line, whose masked bytes are in `masked` if they aren't borrowed.
 #[inline(always)]
 pub(crate) fn scan_of<'s, 'a: 's>(scanned: ScannedLine<'a>, masked: &'s [u8]) -> Scan<'s>
     ensures { as_scan result ≡ scan_with (shown_in scanned.entry.borrowed masked.now)
         scanned.entry.flags }
 {
-    let masked = match scanned.borrowed {
-        Some(bytes) => bytes,
-        None => masked,
-    };
-    Scan {
-        masked,
-        fresh: scanned.flags.fresh,
-        joins_before: scanned.flags.joins_before,
-        joins_after: scanned.flags.joins_after,
-        spliced: scanned.flags.spliced,
-        comment: scanned.flags.comment,
+    match scanned.borrowed {
+        Some(bytes) => scan_with(scanned.flags, bytes),
+        None => scan_with(scanned.flags, masked),
+    }
+}
+
+/// Copies the masked bytes of a line to `masked`, if they are bytes of the line itself.
+fn keep_masked<H: LineBuffer>(borrowed: Option<&[u8]>, masked: &mut H)
+    requires fits { length (shown_in borrowed (H.items masked.old)) ≤ H.CAPACITY }
+    ensures { H.items masked.new ≡ shown_in borrowed.entry (H.items masked.old) }
+{
+    if let Some(bytes) = borrowed {
+        masked.clear();
+        masked.try_append(bytes);
     }
 }
 
@@ -430,7 +448,8 @@ impl<H: LineBuffer> Scanner<H> {
     ///
     /// The line's body fits in an `H`, and none of its bytes is a newline. In plain mode masking
     /// leaves the line unchanged, and the next line in C mode starts afresh. In C mode each masked
-    /// byte keeps its index in the body (C11 5.1.1.2, phases 2 and 3, and 6.4.9).
+    /// byte keeps its index in the body (C11 5.1.1.2, phases 2 and 3, and 6.4.9). The masked bytes
+    /// are the scanner's: `read_into` saves their copy where it can borrow them from the line.
     ///
     /// # Examples
     /// ```rust
@@ -448,8 +467,7 @@ impl<H: LineBuffer> Scanner<H> {
     /// masked: [#if A         ]
     /// joins the next line: true
     /// ```
-    #[inline(always)]
-    pub fn read<'s, 'a: 's>(&'s mut self, mode: Mode, line: &Line<'a>) -> Scan<'s>
+    pub fn read(&mut self, mode: Mode, line: &Line<'_>) -> Scan<'_>
         requires fits { length line.now.body.now ≤ H.CAPACITY }
         requires one_line { NoNewline line.now.body.now }
         ensures* represents { sem 𝓛 (ScansLine H.row self.entry mode (as_line line.now)) }
@@ -459,7 +477,8 @@ impl<H: LineBuffer> Scanner<H> {
     {
         let scanned = scan_line(mode, self.scan_state, line, &mut self.masked);
         self.scan_state = scanned.scan_state;
-        scan_of(scanned, self.masked.as_slice())
+        keep_masked(scanned.borrowed, &mut self.masked);
+        scan_with(scanned.flags, self.masked.as_slice())
     }
 }
 
