@@ -19,7 +19,7 @@ use Rattle.std.proofs.lemmas.Slice.Eq.{bytes_eq-Decides}
 use Rattle.ud_model.specs.aids.Parsing.{tokens_of}
 use Rattle.ud_model.specs.output.InsertedLines.{in_mode, read_as}
 use Rattle.ud_model.specs.declared.kind.Mode.TheVariants.{C}
-use Rattle.ud_model.specs.output.FoldedTexts.{is_foldable, is_directive, is_shown_as, IsReadAs, spaced, has_no_quote, vertical_tab, continued, folded_body, folded_line, shown_break, shown_lines, is_blank, blank_follows, tabs_are_beside}
+use Rattle.ud_model.specs.output.FoldedTexts.{is_foldable, IsReadAs, spaced, vertical_tab, continued, folded_body, folded_line, shown_lines, is_blank, blank_follows, tabs_are_beside}
 use Rattle.ud_model.proofs.conditions.SpreadTexts.{begins_white, IsSpread, nothing, kept, behind, in_front, Spread, spread_tokens}
 use Rattle.ud_model.proofs.output.Each.{Each, each_parts, each_both}
 use Rattle.ud_model.proofs.output.LeftLines.{spliced_body}

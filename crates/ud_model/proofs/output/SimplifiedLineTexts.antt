@@ -1,5 +1,5 @@
 -- The lines of a simplified text are the simplified lines, and bytes are only removed.
-use Rattle.std.proofs.Common.{◌≡◌, ℕ, suc, ◌-◌, List, [], ◌∷◌, ◌++◌, length, map, take, refl, sym, ◌∙◌, ap, ap₂, subst, ◌⊎◌, inl, inr, length-append, arith, Bool, if◌then◌else◌, nat_eq, zero, drop}
+use Rattle.std.proofs.Common.{◌≡◌, ℕ, suc, ◌-◌, List, [], ◌∷◌, ◌++◌, length, map, take, refl, sym, ◌∙◌, ap, ap₂, subst, ◌⊎◌, inl, inr, length-append, arith, zero, drop}
 use Rattle.std.proofs.lemmas.List.{map-append, drop-map, take_at}
 use Rattle.ud_model.specs.text.Lines.{Line, NoNewline, IsWhole, IsUnterminated, AreFormed, text_of, ending_of, line_at, numbered_from, lines_of, texts_of}
 use Rattle.ud_model.specs.text.Scans.{Scan, Reading}
@@ -14,7 +14,7 @@ use Rattle.ud_model.specs.output.InsertedLines.{read_as, read_in}
 use Rattle.ud_model.specs.output.SimplifiedTexts.{keyword_end, condition_cells, left_cells_of, left_line, simplified_line, simplified_text}
 use Rattle.ud_model.specs.declared.kind.Mode.TheVariants.{C}
 use Rattle.ud_model.proofs.text.ScanBytes.{bytes-content_cells, content-prefix}
-use Rattle.ud_model.proofs.text.LinesLemmas.{no_newline-append, text_of-line_at, lines_exist, body-ending, map-lines_of}
+use Rattle.ud_model.proofs.text.LinesLemmas.{no_newline-append, text_of-line_at, lines_exist, map-lines_of}
 use Rattle.ud_model.proofs.text.Pushes.{ByPush, none as nothing_pushed, push, by_push}
 use Rattle.ud_model.proofs.output.ListComplete.{read_more}
 use Rattle.ud_model.proofs.output.Formed.{whole_ending, end_is_some, ending_none, ended, whole_body, no_feed_parts, no_feed_cut}
