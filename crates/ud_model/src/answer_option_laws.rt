@@ -32,7 +32,7 @@ ghost use Rattle.ud_model.specs.output.InsertedLines.{KeepsNumbers, Counted, rea
 ghost use Rattle.ud_model.specs.output.InsertedLines.{AnswersNumbered};
 ghost use Rattle.ud_model.specs.output.InsertedNodes.{SelectsWithInserted, StillSelects};
 ghost use Rattle.ud_model.specs.output.PresumedLines.{HasNoLineDirective, Presumed, Presumes};
-ghost use Rattle.ud_model.specs.output.PresumedLines.{HaveInputNumbers, ArePresumed};
+ghost use Rattle.ud_model.specs.output.PresumedLines.{NumbersAsInput, NumbersSelected};
 ghost use Rattle.ud_model.specs.output.PresumedLines.{HaveOwnNumbers};
 ghost use Rattle.ud_model.specs.output.Worlds.{World, selected};
 ghost use Rattle.ud_model.specs.declared.settings.Listing.{Listing};
@@ -145,16 +145,12 @@ pub fn law_answer_numbers()
 pub fn law_answer_presumed_lines()
     ensures presumed { (args more : List (List ℕ)) (input : List ℕ) (js : List Judged)
         (a c : Answer) → AnswersNumbered args more input a c → JudgesAs args input js →
-        HasNoLineDirective (mode_by (options_of args).settings.plain) a.output →
-        (ps : List Presumed) (sure : Bool) (n : ℕ) →
-        Presumes (read_as (mode_by (options_of args).settings.plain) c.output) ps sure n →
-        HaveInputNumbers js ps }
+        let mode = mode_by (options_of args).settings.plain in
+        HasNoLineDirective mode a.output → NumbersAsInput mode js c.output }
     ensures selected { (args more : List (List ℕ)) (input : List ℕ) (js : List Judged)
         (a c : Answer) → AnswersNumbered args more input a c → JudgesAs args input js →
         HasNoLineDirective (mode_by (options_of args).settings.plain) a.output →
-        (vs : Nodes Reading) → IsTreeOf (options_of args) c.output (closed vs) →
-        (x : World Reading) →
-        ArePresumed (mode_by (options_of args).settings.plain) c.output (selected x vs) }
+        NumbersSelected (options_of args) c.output }
     ensures own { (mode : Mode) (text : List ℕ) → HasNoLineDirective mode text →
         (ps : List Presumed) (sure : Bool) (n : ℕ) → Presumes (read_as mode text) ps sure n →
         HaveOwnNumbers ps }

@@ -27,7 +27,7 @@ ghost use Rattle.ud_model.specs.output.InsertedLines.{with_blank_renumber, read_
 ghost use Rattle.ud_model.specs.output.InsertedLines.{AddsNumbers, CountsLines};
 ghost use Rattle.ud_model.specs.output.InsertedNodes.{NodesWithInserted, LinesWithInserted};
 ghost use Rattle.ud_model.specs.output.InsertedNodes.{HasTreeWithInserted};
-ghost use Rattle.ud_model.specs.output.Worlds.{World, selected, openers};
+ghost use Rattle.ud_model.specs.output.Worlds.{World, selected, truths_of};
 ghost use Rattle.ud_model.specs.output.SharedLines.{OnlyDecides, with_complement, ShareLines};
 ghost use Rattle.ud_model.specs.output.SharedLines.{RunsWithComplement};
 ghost use Rattle.ud_model.specs.declared.cond.Cond.{Cond};
@@ -118,8 +118,7 @@ pub fn law_inserted_lines_change_no_section()
         (us : Nodes Reading) → IsTreeOf o r.output (closed us) →
         HasTreeWithInserted o s.output us }
     ensures selected { (us vs : Nodes Reading) → NodesWithInserted us vs → (w v : World Reading) →
-        map v (openers vs) ≡ map w (openers us) →
-        LinesWithInserted (selected w us) (selected v vs) }
+        truths_of v vs ≡ truths_of w us → LinesWithInserted (selected w us) (selected v vs) }
 {}
 
 /// Further symbols never reverse a condition.

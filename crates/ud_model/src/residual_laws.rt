@@ -1,7 +1,6 @@
 //! Laws of residuals: conditions and texts without the operands that the table decides.
 
-ghost use Rattle.std.specs.Prelude.{◌≡◌, ◌↔◌, ◌⊎◌, ℕ, List, [], ◌∷◌, ◌++◌, map};
-ghost use Rattle.std.specs.Prelude.{Some, Bool, true, false};
+ghost use Rattle.std.specs.Prelude.{◌≡◌, ◌↔◌, ◌⊎◌, ℕ, List, [], ◌∷◌, ◌++◌, map, Some, true, false};
 ghost use Rattle.std.specs.List.{flat_map};
 ghost use Rattle.ud_model.specs.text.Lines.{Line, lines_of};
 ghost use Rattle.ud_model.specs.text.Scans.{Reading};
@@ -20,18 +19,20 @@ ghost use Rattle.ud_model.specs.conditions.Choices.{Choice, IsAllowed, HasValue,
 ghost use Rattle.ud_model.specs.sections.Directives.{Directive, directive, content_of, test_of};
 ghost use Rattle.ud_model.specs.sections.Items.{Options, rules_of};
 ghost use Rattle.ud_model.specs.sections.Tree.{Nodes, closed};
-ghost use Rattle.ud_model.specs.output.Worlds.{World, openers, selected};
+ghost use Rattle.ud_model.specs.output.Worlds.{World, truths_of, selected};
 ghost use Rattle.ud_model.specs.output.Rereading.{NoneIgnores, IsTreeOf, IsPlainC, selected_bytes};
 ghost use Rattle.ud_model.specs.output.Rereading.{KeepsTruths, LinesFit};
-ghost use Rattle.ud_model.specs.output.CSelection.{IsCPair};
+ghost use Rattle.ud_model.specs.output.CSelection.{CTriple};
 ghost use Rattle.ud_model.specs.output.InsertedLines.{read_as};
 ghost use Rattle.ud_model.specs.output.SimplifiedTrees.{NodesSimplified, IsChosenWorld};
+ghost use Rattle.ud_model.specs.output.SimplifiedTrees.{SelectsChosen};
 ghost use Rattle.ud_model.specs.output.SimplifiedTexts.{simplified_line, simplified_text};
-ghost use Rattle.ud_model.specs.output.LeftOperands.{IsReduced, MayStay};
+ghost use Rattle.ud_model.specs.output.SimplifiedTexts.{simplified_under};
+ghost use Rattle.ud_model.specs.output.LeftOperands.{IsSimplified};
 ghost use Rattle.ud_model.specs.output.FoldedTexts.{folded_text, folded_line, is_foldable};
 ghost use Rattle.ud_model.specs.output.FoldedTexts.{continued, shown_lines, IsReadAs, has_tab};
 ghost use Rattle.ud_model.specs.output.FoldedTexts.{logical_lines, folded_readings, unnumbered};
-ghost use Rattle.ud_model.specs.output.FoldedTexts.{c_lines};
+ghost use Rattle.ud_model.specs.output.FoldedTexts.{c_lines, SimplifiesFolded};
 ghost use Rattle.ud_model.specs.output.LogicalTrees.{CSelects, HasNoLong};
 ghost use Rattle.ud_model.specs.answer.CommandLine.{options_of};
 ghost use Rattle.ud_model.specs.answer.Answer.{Answer, IsAnswer, Succeeds, copy_answer};
@@ -140,8 +141,7 @@ pub fn law_operands_left()
         (r : Reading) (d : Directive) →
         read_as Mode.C (simplified_text table rules bytes) ≡ before ++ r ∷ after →
         content_of r.scan ≡ directive d → test_of d.kind ≡ Test.Nonzero →
-        MayStay table rules r d ⊎ ((e : Expression) × (expression_of d.after ≡ Some e) ×
-        IsReduced table rules e) }
+        IsSimplified table rules r d }
 {}
 
 /// A simplified text has the tree of the text, with simplified openers.
@@ -153,8 +153,8 @@ pub fn law_simplified_tree()
         map (simplified_line table rules) (read_as Mode.C bytes) }
     ensures tree { (o : Options) (bytes : List ℕ) (ns : Nodes Reading) → NoneIgnores o.table →
         o.settings.plain ≡ false → IsTreeOf o bytes (closed ns) → (us : Nodes Reading) ×
-        IsTreeOf o (simplified_text o.table (rules_of o.settings) bytes) (closed us) ×
-        ((w v : World Reading) → map v (openers us) ≡ map w (openers ns) →
+        IsTreeOf o (simplified_under o bytes) (closed us) ×
+        ((w v : World Reading) → truths_of v us ≡ truths_of w ns →
         NodesSimplified o.table (rules_of o.settings) w v ns us) }
 {}
 
@@ -167,22 +167,18 @@ pub fn law_simplified_tree()
 /// A further run over the simplified output copies it, without a fault (unifdef(1)).
 pub fn law_answer_simplified()
     ensures selected { (args : List (List ℕ)) (input : List ℕ) (a : Answer) →
-        Succeeds args input a → IsPlainC (options_of args) → (ns us ss : Nodes Reading) →
-        IsTreeOf (options_of args) input (closed ns) →
-        IsTreeOf (options_of args) a.output (closed us) →
-        IsTreeOf (options_of args) (simplified_text (options_of args).table
-        (rules_of (options_of args).settings) a.output) (closed ss) → (w x v : World Reading) →
-        IsCPair (options_of args) w ns x us → map v (openers ss) ≡ map x (openers us) →
-        selected_bytes v ss ≡ selected_bytes w ns }
+        let o = options_of args in Succeeds args input a → IsPlainC o →
+        (c : CTriple o input a.output (simplified_under o a.output)) →
+        selected_bytes c.v c.ss ≡ selected_bytes c.w c.ns }
     ensures world { (o : Options) → IsPlainC o → (bytes : List ℕ) (us ss : Nodes Reading) →
         IsTreeOf o bytes (closed us) →
-        IsTreeOf o (simplified_text o.table (rules_of o.settings) bytes) (closed ss) →
-        (x v : World Reading) → map v (openers ss) ≡ map x (openers us) →
+        IsTreeOf o (simplified_under o bytes) (closed ss) → (x v : World Reading) →
+        truths_of v ss ≡ truths_of x us →
         IsChosenWorld o.table x us → IsChosenWorld o.table v ss }
     ensures again { (args : List (List ℕ)) (input : List ℕ) (a : Answer) → Succeeds args input a →
         IsPlainC (options_of args) → LinesFit (lines_of a.output) →
-        let text = simplified_text (options_of args).table (rules_of (options_of args).settings)
-        a.output in IsAnswer args text (copy_answer args text) }
+        let text = simplified_under (options_of args) a.output in
+        IsAnswer args text (copy_answer args text) }
 {}
 
 /// A folded line has the directive that its lines form.
@@ -219,7 +215,7 @@ pub fn law_folded_text()
     ensures selected { (o : Options) → IsPlainC o → (bytes : List ℕ) →
         HasNoLong (folded_text bytes) → (ns : Nodes Reading) →
         IsTreeOf o (folded_text bytes) (closed ns) → (w : World Reading) →
-        CSelects bytes (map w (openers ns)) (selected_bytes w ns) }
+        CSelects bytes (truths_of w ns) (selected_bytes w ns) }
 {}
 
 /// C selects the same lines from a text that is simplified while it is folded.
@@ -231,32 +227,19 @@ pub fn law_folded_text()
 /// fault, and no operand goes (unifdef(1)).
 pub fn law_answer_folded()
     ensures selected { (args : List (List ℕ)) (input final : List ℕ) (a : Answer) →
-        Succeeds args (folded_text input) a → IsPlainC (options_of args) →
-        folded_text final ≡ simplified_text (options_of args).table
-        (rules_of (options_of args).settings) a.output → (ns us ss : Nodes Reading) →
-        IsTreeOf (options_of args) (folded_text input) (closed ns) →
-        IsTreeOf (options_of args) a.output (closed us) →
-        IsTreeOf (options_of args) (folded_text final) (closed ss) → (w x v : World Reading) →
-        IsCPair (options_of args) w ns x us → map v (openers ss) ≡ map x (openers us) →
-        selected_bytes v ss ≡ selected_bytes w ns }
+        SimplifiesFolded args input final a →
+        (c : CTriple (options_of args) (folded_text input) a.output (folded_text final)) →
+        selected_bytes c.v c.ss ≡ selected_bytes c.w c.ns }
     ensures file { (args : List (List ℕ)) (input final : List ℕ) (a : Answer) →
-        Succeeds args (folded_text input) a → IsPlainC (options_of args) →
-        folded_text final ≡ simplified_text (options_of args).table
-        (rules_of (options_of args).settings) a.output → HasNoLong (folded_text input) →
-        HasNoLong (folded_text final) → (ns us ss : Nodes Reading) →
-        IsTreeOf (options_of args) (folded_text input) (closed ns) →
-        IsTreeOf (options_of args) a.output (closed us) →
-        IsTreeOf (options_of args) (folded_text final) (closed ss) → (w x v : World Reading) →
-        IsCPair (options_of args) w ns x us → map v (openers ss) ≡ map x (openers us) →
-        CSelects input (map w (openers ns)) (selected_bytes w ns) ×
-        CSelects final (map v (openers ss)) (selected_bytes w ns) }
+        SimplifiesFolded args input final a → HasNoLong (folded_text input) →
+        HasNoLong (folded_text final) →
+        (c : CTriple (options_of args) (folded_text input) a.output (folded_text final)) →
+        CSelects input (truths_of c.w c.ns) (selected_bytes c.w c.ns) ×
+        CSelects final (truths_of c.v c.ss) (selected_bytes c.w c.ns) }
     ensures again { (args : List (List ℕ)) (input final : List ℕ) (a : Answer) →
-        Succeeds args (folded_text input) a → IsPlainC (options_of args) →
-        folded_text final ≡ simplified_text (options_of args).table
-        (rules_of (options_of args).settings) a.output → LinesFit (lines_of a.output) →
+        SimplifiesFolded args input final a → LinesFit (lines_of a.output) →
         IsAnswer args (folded_text final) (copy_answer args (folded_text final)) ×
-        (simplified_text (options_of args).table (rules_of (options_of args).settings)
-        (folded_text final) ≡ folded_text final) }
+        (simplified_under (options_of args) (folded_text final) ≡ folded_text final) }
 {}
 
 /// C selects the same lines from the simplified output as from the input, for any numbers.
@@ -267,23 +250,15 @@ pub fn law_answer_folded()
 /// comes from. C then selects the same lines, byte by byte. Each condition of the simplified output
 /// that it evaluates has a value with this truth (C11 5.1.1.2, 6.10.1p4, p6).
 pub fn law_answer_chosen()
-    ensures tree { (args : List (List ℕ)) (input : List ℕ) (a : Answer) → Succeeds args input a →
-        IsPlainC (options_of args) → (ns : Nodes Reading) →
-        IsTreeOf (options_of args) input (closed ns) → (ss : Nodes Reading) ×
-        IsTreeOf (options_of args) (simplified_text (options_of args).table
-        (rules_of (options_of args).settings) a.output) (closed ss) }
-    ensures truths { (args : List (List ℕ)) (input : List ℕ) (a : Answer) → Succeeds args input a →
-        IsPlainC (options_of args) → (ns ss : Nodes Reading) →
-        IsTreeOf (options_of args) input (closed ns) →
-        IsTreeOf (options_of args) (simplified_text (options_of args).table
-        (rules_of (options_of args).settings) a.output) (closed ss) → (w : World Reading) →
-        (v : World Reading) × KeepsTruths w ns v ss }
+    ensures tree { (args : List (List ℕ)) (input : List ℕ) (a : Answer) →
+        let o = options_of args in Succeeds args input a → IsPlainC o → (ns : Nodes Reading) →
+        IsTreeOf o input (closed ns) →
+        (ss : Nodes Reading) × IsTreeOf o (simplified_under o a.output) (closed ss) }
+    ensures truths { (args : List (List ℕ)) (input : List ℕ) (a : Answer) →
+        let o = options_of args in Succeeds args input a → IsPlainC o → (ns ss : Nodes Reading) →
+        IsTreeOf o input (closed ns) → IsTreeOf o (simplified_under o a.output) (closed ss) →
+        (w : World Reading) → (v : World Reading) × KeepsTruths w ns v ss }
     ensures selected { (args : List (List ℕ)) (input : List ℕ) (a : Answer) →
-        Succeeds args input a → IsPlainC (options_of args) → (ns ss : Nodes Reading) →
-        IsTreeOf (options_of args) input (closed ns) →
-        IsTreeOf (options_of args) (simplified_text (options_of args).table
-        (rules_of (options_of args).settings) a.output) (closed ss) → (w v : World Reading) →
-        KeepsTruths w ns v ss → IsChosenWorld (options_of args).table w ns →
-        (selected_bytes v ss ≡ selected_bytes w ns) ×
-        IsChosenWorld (options_of args).table v ss }
+        let o = options_of args in Succeeds args input a → IsPlainC o →
+        SelectsChosen o input (simplified_under o a.output) }
 {}

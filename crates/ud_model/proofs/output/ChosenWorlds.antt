@@ -4,10 +4,10 @@ use Rattle.std.proofs.Common.{◌≡◌, ℕ, List, map, subst, arith, ◌≢◌
 use Rattle.ud_model.specs.text.Scans.{Reading}
 use Rattle.ud_model.specs.sections.Tree.{Nodes, closed, Item, Opener, Groups, Elifs, nothing, text, section, conditional, otherwise, first, elif}
 use Rattle.ud_model.specs.sections.Items.{Options, rules_of, line_of}
-use Rattle.ud_model.specs.output.Worlds.{World, openers, openers_in, EachReached, GroupsReached, ElifsReached}
+use Rattle.ud_model.specs.output.Worlds.{World, openers, openers_in, truths_of, EachReached, GroupsReached, ElifsReached}
 use Rattle.ud_model.specs.output.Rereading.{IsPlainC, IsTreeOf, CleanRun, KeepsTruths, line_bytes, selected_bytes}
 use Rattle.ud_model.specs.output.SimplifiedTrees.{NodesSimplified, IsChosen, IsChosenWorld}
-use Rattle.ud_model.specs.output.SimplifiedTexts.{simplified_text}
+use Rattle.ud_model.specs.output.SimplifiedTexts.{simplified_under}
 use Rattle.ud_model.proofs.sections.Soundness.{one_tree_of, read_lines}
 use Rattle.ud_model.proofs.output.SimplifiedTree.{Like, simplified_tree, with_truths, long}
 use Rattle.ud_model.proofs.output.SimplifiedLineTexts.{lines_left}
@@ -16,12 +16,12 @@ use Rattle.ud_model.specs.conditions.Table.{Argument}
 use Rattle.ud_model.specs.conditions.Expressions.{Expression}
 use Rattle.ud_model.specs.answer.CommandLine.{options_of}
 use Rattle.ud_model.specs.answer.Outcomes.{Outcome, HasOutcome}
-use Rattle.ud_model.specs.answer.Answer.{Answer, IsAnswer, refused, ran}
+use Rattle.ud_model.specs.answer.Answer.{Answer, IsAnswer, Succeeds, status_of, refused, ran}
 use Rattle.ud_model.specs.output.Pruned.{Edited, pruned_lines}
-use Rattle.ud_model.specs.output.CSelection.{condition_in, MayBe, IsCWorld}
+use Rattle.ud_model.specs.output.CSelection.{condition_in, MayBe, IsCWorld, CTriple}
 use Rattle.ud_model.proofs.conditions.ChoiceValues.{choice_may}
 use Rattle.ud_model.proofs.output.WorldsExist.{world_of}
-use Rattle.ud_model.proofs.output.AnswerLaws.{faultless}
+use Rattle.ud_model.proofs.output.AnswerLaws.{faultless, answered_selects}
 use Rattle.ud_model.proofs.output.RereadLaws.{Result, reread, truths_kept, reached_again, c_world_agrees, c_selected_again}
 use Rattle.ud_model.proofs.output.SimplifiedSelected.{selects, chosen_world}
 
@@ -29,14 +29,14 @@ nodes_are : (a b : Nodes Reading) → closed a ≡ closed b → a ≡ b
 nodes_are a b e = cc
 
 -- The nodes of the simplified text are those of the text, with simplified openers.
-pub nodes_alike : (o : Options) → IsPlainC o → (bytes : List ℕ) (us ss : Nodes Reading) → IsTreeOf o bytes (closed us) → IsTreeOf o (simplified_text o.table (rules_of o.settings) bytes) (closed ss) → Like o us ss
+pub nodes_alike : (o : Options) → IsPlainC o → (bytes : List ℕ) (us ss : Nodes Reading) → IsTreeOf o bytes (closed us) → IsTreeOf o (simplified_under o bytes) (closed ss) → Like o us ss
 nodes_alike o p bytes us ss i j =
     let t = simplified_tree o p.plain.none_ignores p.in_c bytes us i (lines_left o.table (rules_of o.settings) bytes) in
-    subst (λ (ns : Nodes Reading). Like o us ns) (nodes_are t.0 ss (one_tree_of o (simplified_text o.table (rules_of o.settings) bytes) (closed t.0) (closed ss) t.1 j)) t.2
+    subst (λ (ns : Nodes Reading). Like o us ns) (nodes_are t.0 ss (one_tree_of o (simplified_under o bytes) (closed t.0) (closed ss) t.1 j)) t.2
 
 -- With the same truths, both are alike in the worlds, too.
 pub nodes_simplified : (o : Options) → IsPlainC o → (bytes : List ℕ) (us ss : Nodes Reading) → IsTreeOf o bytes (closed us) →
-    IsTreeOf o (simplified_text o.table (rules_of o.settings) bytes) (closed ss) → (x v : World Reading) → map v (openers ss) ≡ map x (openers us) →
+    IsTreeOf o (simplified_under o bytes) (closed ss) → (x v : World Reading) → truths_of v ss ≡ truths_of x us →
     NodesSimplified o.table (rules_of o.settings) x v us ss
 nodes_simplified o p bytes us ss i j x v e = grind (arith, with_truths o x v (nodes_alike o p bytes us ss i j) e)
 
@@ -86,7 +86,7 @@ module _ (o : Options) (p : IsPlainC o) (input : List ℕ) {r : Outcome} (d : Ha
   }
 
   abbrev left_text : List ℕ
-  left_text = simplified_text o.table (rules_of o.settings) r.output
+  left_text = simplified_under o r.output
 
   -- The simplified output has a tree.
   pub left_tree : (ss : Nodes Reading) × IsTreeOf o left_text (closed ss)
@@ -121,22 +121,47 @@ module _ (o : Options) (p : IsPlainC o) (input : List ℕ) {r : Outcome} (d : Ha
           chosen_world o.table (rules_of o.settings) between.0 v alike
           (reached_again run w (c_world_agrees run w c_world) (IsChosen o.table) between.0 between.1 g)
 
+-- C selects the same lines of the simplified output as of the input, by the trees of both.
+pub triple_selects : {args : List (List ℕ)} {input text : List ℕ} {a : Answer} →
+    Succeeds args input a → IsPlainC (options_of args) →
+    text ≡ simplified_under (options_of args) a.output →
+    (c : CTriple (options_of args) input a.output text) →
+    selected_bytes c.v c.ss ≡ selected_bytes c.w c.ns
+triple_selects {args = args} {a = a} s p q c =
+    let o : Options = options_of args in
+    let j : IsTreeOf o (simplified_under o a.output) (closed c.ss) =
+    subst (λ (y : List ℕ). IsTreeOf o y (closed c.ss)) q c.of_text in
+    ap (λ (ls : List Reading). map line_bytes ls) (selects o.table (rules_of o.settings) c.x c.v
+    (nodes_simplified o p a.output c.us c.ss c.of_output j c.x c.v c.same))
+    ∙ answered_selects s.answer s.no_fault p.plain c.ns c.us c.of_input c.of_output c.w c.x
+    c.pair.c_world c.pair.truths
+
 -- A run's answer has its output.
-module _ {args : List (List ℕ)} {input : List ℕ} where
-  pub answer_tree : {a : Answer} → IsAnswer args input a → a.status ≢ 2 → IsPlainC (options_of args) → (ns : Nodes Reading) → IsTreeOf (options_of args) input (closed ns) →
-      (ss : Nodes Reading) × IsTreeOf (options_of args) (simplified_text (options_of args).table (rules_of (options_of args).settings) a.output) (closed ss)
-  answer_tree (refused f e) n p ns i = absurd (n refl)
-  answer_tree (ran r e d) n p ns i = left_tree (options_of args) p input d (faultless (options_of args).settings r.differs r.fault n) ns i
+module _ (args : List (List ℕ)) (p : IsPlainC (options_of args)) where
+  abbrev o : Options
+  o = options_of args
 
-  pub answer_truths : {a : Answer} → IsAnswer args input a → a.status ≢ 2 → IsPlainC (options_of args) → (ns ss : Nodes Reading) → IsTreeOf (options_of args) input (closed ns) →
-      IsTreeOf (options_of args) (simplified_text (options_of args).table (rules_of (options_of args).settings) a.output) (closed ss) → (w : World Reading) → (v : World Reading) × KeepsTruths w ns v ss
-  answer_truths (refused f e) n p ns ss i j w = absurd (n refl)
-  answer_truths (ran r e d) n p ns ss i j w = truths_left (options_of args) p input d (faultless (options_of args).settings r.differs r.fault n) ns i ss j w
+  fault_of : (r : Outcome) → status_of o.settings r.differs r.fault ≢ 2 → r.fault ≡ None
+  fault_of r n = faultless o.settings r.differs r.fault n
 
-  pub answer_selected : {a : Answer} → IsAnswer args input a → a.status ≢ 2 → IsPlainC (options_of args) → (ns ss : Nodes Reading) → IsTreeOf (options_of args) input (closed ns) →
-      IsTreeOf (options_of args) (simplified_text (options_of args).table (rules_of (options_of args).settings) a.output) (closed ss) → (w v : World Reading) → KeepsTruths w ns v ss → IsChosenWorld (options_of args).table w ns →
-      (selected_bytes v ss ≡ selected_bytes w ns) × IsChosenWorld (options_of args).table v ss
-  answer_selected (refused f e) n p ns ss i j w v t g = absurd (n refl)
-  answer_selected (ran r e d) n p ns ss i j w v t g =
-      let q : r.fault ≡ None = faultless (options_of args).settings r.differs r.fault n in
-      (selected_left (options_of args) p input d q ns i ss j w v t g, chosen_left (options_of args) p input d q ns i ss j w v t g)
+  module _ {input : List ℕ} (ns : Nodes Reading) (i : IsTreeOf o input (closed ns)) where
+    pub answer_tree : {a : Answer} → IsAnswer args input a → a.status ≢ 2 →
+        (ss : Nodes Reading) × IsTreeOf o (simplified_under o a.output) (closed ss)
+    answer_tree (refused f e) n = absurd (n refl)
+    answer_tree (ran r e d) n = left_tree o p input d (fault_of r n) ns i
+
+    module _ (ss : Nodes Reading) (w : World Reading) where
+      pub answer_truths : {a : Answer} → IsAnswer args input a → a.status ≢ 2 →
+          IsTreeOf o (simplified_under o a.output) (closed ss) →
+          (v : World Reading) × KeepsTruths w ns v ss
+      answer_truths (refused f e) n j = absurd (n refl)
+      answer_truths (ran r e d) n j = truths_left o p input d (fault_of r n) ns i ss j w
+
+      pub answer_selected : {a : Answer} → IsAnswer args input a → a.status ≢ 2 →
+          IsTreeOf o (simplified_under o a.output) (closed ss) → (v : World Reading) →
+          KeepsTruths w ns v ss → IsChosenWorld o.table w ns →
+          (selected_bytes v ss ≡ selected_bytes w ns) × IsChosenWorld o.table v ss
+      answer_selected (refused f e) n j v t g = absurd (n refl)
+      answer_selected (ran r e d) n j v t g =
+          let q : r.fault ≡ None = fault_of r n in
+          (selected_left o p input d q ns i ss j w v t g, chosen_left o p input d q ns i ss j w v t g)

@@ -1,23 +1,21 @@
 -- Laws of options, of arguments and answers.
-use Rattle.std.proofs.Common.{◌≡◌, ◌≢◌, ℕ, List, [], ◌∷◌, ◌++◌, map, Bool, true, false, None, codes, refl, sym, ◌∙◌, ap₂, subst, rules, arith}
+use Rattle.std.proofs.Common.{◌≡◌, ◌≢◌, ℕ, List, [], ◌∷◌, ◌++◌, map, true, false, None, codes, refl, sym, ◌∙◌, ap₂, subst, rules, arith}
 use Rattle.std.proofs.lemmas.Option.{none-some}
 use Rattle.ud_model.specs.text.Lines.{Line, lines_of, partial_line}
-use Rattle.ud_model.specs.text.Scans.{Reading}
-use Rattle.ud_model.specs.sections.Tree.{Nodes, closed}
 use Rattle.ud_model.specs.sections.Items.{Options, mode_by}
 use Rattle.ud_model.specs.answer.CommandLine.{has_flag, parsed_args, usage_fault, options_of}
 use Rattle.ud_model.specs.answer.OptionArguments.{AddsSymbol, AddsOption, added}
 use Rattle.ud_model.specs.answer.Answer.{Answer, IsAnswer, Succeeds, refused, ran, message_or_none}
 use Rattle.ud_model.specs.answer.Printing.{Judged}
 use Rattle.ud_model.specs.answer.Outcomes.{Outcome, HasOutcome, JudgedAs}
-use Rattle.ud_model.specs.output.Rereading.{IsPlain, IsTreeOf}
-use Rattle.ud_model.specs.output.Worlds.{World, selected}
+use Rattle.ud_model.specs.output.Rereading.{IsPlain}
+use Rattle.ud_model.specs.output.Worlds.{selected}
 use Rattle.ud_model.specs.output.ListedNames.{IsListed, IsNoValue, NeverCounts}
 use Rattle.ud_model.specs.output.BlankedLines.{Blanks, AreBlankedBy}
 use Rattle.ud_model.specs.output.SharedLines.{OnlyDecides, RunsWithComplement, ShareLines}
 use Rattle.ud_model.specs.output.StrictLines.{KeepAsMuch, pieces_of}
-use Rattle.ud_model.specs.output.InsertedLines.{KeepsNumbers, AddsNumbers, AnswersNumbered, CountsLines, read_as}
-use Rattle.ud_model.specs.output.PresumedLines.{HasNoLineDirective, Presumed, Presumes, HaveInputNumbers, ArePresumed}
+use Rattle.ud_model.specs.output.InsertedLines.{KeepsNumbers, AddsNumbers, AnswersNumbered, CountsLines}
+use Rattle.ud_model.specs.output.PresumedLines.{HasNoLineDirective, NumbersAsInput, NumbersSelected}
 use Rattle.ud_model.specs.output.InsertedNodes.{StillSelects}
 use Rattle.ud_model.specs.declared.settings.Listing.TheVariants.{Off}
 use Rattle.ud_model.proofs.answer.AddedOption.{WithOption, with_option}
@@ -109,15 +107,13 @@ answered_counted {args = args} {input = input} p right k j (ran r e d) (ran s g 
 
 pub answered_presumed : {args more : List (List ℕ)} {input : List ℕ} {js : List Judged} {a c : Answer} → IsPlain (options_of args) →
     usage_fault args ≡ None → KeepsNumbers args more → JudgedAs (options_of args) input js → IsAnswer args input a → IsAnswer more input c →
-    HasNoLineDirective (mode_by (options_of args).settings.plain) a.output →
-    (ps : List Presumed) (sure : Bool) (n : ℕ) → Presumes (read_as (mode_by (options_of args).settings.plain) c.output) ps sure n → HaveInputNumbers js ps
+    HasNoLineDirective (mode_by (options_of args).settings.plain) a.output → NumbersAsInput (mode_by (options_of args).settings.plain) js c.output
 answered_presumed {args = args} {input = input} p right k j a c none ps sure n q =
     let d = answered_counted p right k j a c in grind (arith, (right_numbers d.1 none (judged_few (options_of args) input j) ps sure n q).1)
 
 pub answered_line_numbers : {args more : List (List ℕ)} {input : List ℕ} {js : List Judged} {a c : Answer} → IsPlain (options_of args) →
     usage_fault args ≡ None → KeepsNumbers args more → JudgedAs (options_of args) input js → IsAnswer args input a → IsAnswer more input c →
-    HasNoLineDirective (mode_by (options_of args).settings.plain) a.output → (vs : Nodes Reading) → IsTreeOf (options_of args) c.output (closed vs) →
-    (x : World Reading) → ArePresumed (mode_by (options_of args).settings.plain) c.output (selected x vs)
+    HasNoLineDirective (mode_by (options_of args).settings.plain) a.output → NumbersSelected (options_of args) c.output
 answered_line_numbers {args = args} {input = input} {c = c} p right k j a d none vs i x =
     let n = answered_counted p right k j a d in
     selected_presumed (options_of args) p c.output vs i (all_clear n.1 none (judged_few (options_of args) input j)) x

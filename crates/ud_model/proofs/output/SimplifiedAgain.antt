@@ -27,7 +27,7 @@ use Rattle.ud_model.proofs.output.SimplifiedReadings.{IsLeft, ReadingSimplified,
 use Rattle.std.specs.List.{list_any}
 use Rattle.ud_model.specs.conditions.Sublists.{IsSublist, nothing, without, with_same}
 use Rattle.ud_model.specs.output.InsertedLines.{read_in, read_as}
-use Rattle.ud_model.specs.output.LeftOperands.{IsReduced, MayStay, joins_line, not_understood, has_quote, decided, rest_decided, rest_misread}
+use Rattle.ud_model.specs.output.LeftOperands.{IsReduced, MayStay, IsSimplified, joins_line, not_understood, has_quote, decided, rest_decided, rest_misread}
 use Rattle.ud_model.specs.declared.kind.Mode.TheVariants.{C}
 use Rattle.ud_model.proofs.conditions.ReducedTrees.{fixed_reduced}
 
@@ -228,7 +228,7 @@ module _ (table : List Argument) (rules : Rules) where
 
   -- Each condition is reduced, or may stay.
   pub operands_left : (bytes : List ℕ) (before after : List Reading) (s : Reading) (d : Directive) → read_as C (simplified_text table rules bytes) ≡ before ++ s ∷ after → content_of s.scan ≡ directive d →
-      MayStay table rules s d ⊎ ((e : Expression) × (expression_of d.after ≡ Some e) × IsReduced table rules e)
+      IsSimplified table rules s d
   operands_left bytes before after s d e h =
       let f = from (readings_simplified table rules bytes) before after s (ap (λ (ls : List Line). read_in C ls) (sym (lines_left table rules bytes)) ∙ e) in
       reason s d h (line_stays table rules f.0 s f.1) (lone_scan f.0 s f.1)

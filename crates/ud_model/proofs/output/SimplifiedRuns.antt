@@ -22,7 +22,7 @@ use Rattle.ud_model.specs.answer.Answer.{Answer, IsAnswer, refused, ran, copy_an
 use Rattle.ud_model.specs.output.Rereading.{IsPlainC, IsTreeOf, LinesFit}
 use Rattle.ud_model.specs.output.InsertedLines.{read_as}
 use Rattle.ud_model.specs.output.SimplifiedTrees.{no_nodes, text_stays, section_stays, conditions_alone, with_else, first_group, next_group}
-use Rattle.ud_model.specs.output.SimplifiedTexts.{condition_cells, simplified_line, simplified_text}
+use Rattle.ud_model.specs.output.SimplifiedTexts.{condition_cells, simplified_line, simplified_under}
 use Rattle.ud_model.specs.declared.cond.Cond.TheVariants.{Unknown}
 use Rattle.ud_model.specs.declared.kind.Kind.{Kind}
 use Rattle.ud_model.specs.declared.kind.Mode.TheVariants.{C}
@@ -173,7 +173,7 @@ module _ (o : Options) where
 
 module _ (o : Options) (p : IsPlainC o) (input : List ℕ) {r : Outcome} (d : HasOutcome o input r) (n : r.fault ≡ None) (f : LinesFit (lines_of r.output)) where
   abbrev left_text : List ℕ
-  left_text = simplified_text o.table (rules_of o.settings) r.output
+  left_text = simplified_under o r.output
 
   read_so : (bytes : List ℕ) (t : Tree Reading) (i : IsTreeOf o bytes t) → i.items ≡ items o (read_as C bytes)
   read_so bytes t i = grind (arith, items_are)
@@ -229,9 +229,12 @@ module _ (o : Options) (p : IsPlainC o) (input : List ℕ) {r : Outcome} (d : Ha
   copies_left = copies_of (input_tree o input d n)
 
 -- So does the answer.
-pub answered_left : {args : List (List ℕ)} {input : List ℕ} {a : Answer} → IsAnswer args input a → a.status ≢ 2 → IsPlainC (options_of args) → LinesFit (lines_of a.output) →
-    IsAnswer args (simplified_text (options_of args).table (rules_of (options_of args).settings) a.output) (copy_answer args (simplified_text (options_of args).table (rules_of (options_of args).settings) a.output))
+pub answered_left : {args : List (List ℕ)} {input : List ℕ} {a : Answer} →
+    IsAnswer args input a → a.status ≢ 2 → IsPlainC (options_of args) → LinesFit (lines_of a.output) →
+    let text : List ℕ = simplified_under (options_of args) a.output in
+    IsAnswer args text (copy_answer args text)
 answered_left (refused f e) n p fit = absurd (n refl)
 answered_left {args = args} {input = input} (ran r e d) n p fit =
-    let t : List ℕ = simplified_text (options_of args).table (rules_of (options_of args).settings) r.output in
-    ran (record { output = t; fault = None; differs = false }) e (copies_left (options_of args) p input d (faultless (options_of args).settings r.differs r.fault n) fit)
+    let o : Options = options_of args in
+    ran (record { output = simplified_under o r.output; fault = None; differs = false }) e
+    (copies_left o p input d (faultless o.settings r.differs r.fault n) fit)

@@ -21,7 +21,7 @@ use Rattle.ud_model.specs.sections.Tree.{conditional, otherwise, first, elif, cl
 use Rattle.ud_model.specs.sections.Items.{Options}
 use Rattle.ud_model.specs.output.Rereading.{IsTreeOf, line_bytes, selected_bytes}
 use Rattle.ud_model.specs.output.CSelection.{IsCPair}
-use Rattle.ud_model.specs.output.Worlds.{World, selected, openers}
+use Rattle.ud_model.specs.output.Worlds.{World, selected, truths_of}
 use Rattle.ud_model.specs.output.InsertedLines.{IsBlankLine, IsNumberLine}
 
 -- `IsSame r s`: both lines have the same bytes and the same scan.
@@ -89,7 +89,7 @@ pub record SelectsWithInserted (o : Options) (text : List ℕ) (us : Nodes Readi
   pub nodes : Nodes Reading
   pub is_tree : IsTreeOf o text (closed nodes)
   pub inserted : NodesWithInserted us nodes
-  pub selects : (x : World Reading) → map x (openers nodes) ≡ map v (openers us) →
+  pub selects : (x : World Reading) → truths_of x nodes ≡ truths_of v us →
       (rs : List Reading) × (map line_bytes rs ≡ ls) × LinesWithInserted rs (selected x nodes)
 
 -- `StillSelects o input output numbered`: whatever truths C may give the conditions of the input,

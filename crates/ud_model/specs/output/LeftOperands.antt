@@ -4,13 +4,15 @@
 --   IsReduced table rules e   this holds, and without `-K` each operand of the tree is unknown
 --   MayStay table rules r d   a reason why the condition of the directive `d` on the line `r`
 --                             may keep decided operands
+--   IsSimplified table rules r d
+--                             it has such a reason, or is reduced
 --
 -- An operand is decided as an `#if` of the operand alone would be. So a name of the table is left
 -- only in an operand that is unknown by itself, with `-K` beside an operand that decides its
 -- operator, or in a condition that may stay.
 --
 -- Example: with A undefined, `A + X` is unknown by itself, and `#if!A||X` may stay.
-use Rattle.std.specs.Prelude.{◌≡◌, List, true, false, Some, None}
+use Rattle.std.specs.Prelude.{◌≡◌, ◌⊎◌, List, true, false, Some, None}
 use Rattle.std.specs.List.{list_any}
 use Rattle.ud_model.specs.text.Scans.{Reading}
 use Rattle.ud_model.specs.sections.Directives.{Directive}
@@ -62,3 +64,8 @@ module _ (table : List Argument) (rules : Rules) where
         ≡ false → MayStay r d
     -- The edited line, read by itself, isn't read as meant.
     line_misread : is_read_alone table rules r.line d ≡ false → MayStay r d
+
+  -- `IsSimplified r d`: this condition may stay, or is reduced.
+  abbrev pub IsSimplified : Reading → Directive → Type 0
+  IsSimplified r d =
+      MayStay r d ⊎ ((e : Expression) × (expression_of d.after ≡ Some e) × IsReduced e)

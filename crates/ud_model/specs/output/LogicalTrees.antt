@@ -16,7 +16,7 @@ use Rattle.ud_model.specs.sections.Directives.{content_of, role_of}
 use Rattle.ud_model.specs.sections.Tree.{Item, Opener, Nodes, lines_of_nodes, text_line, if_line}
 use Rattle.ud_model.specs.sections.Tree.{elif_line, else_line, endif_line}
 use Rattle.ud_model.specs.output.InsertedLines.{read_as}
-use Rattle.ud_model.specs.output.Worlds.{World, selected, openers}
+use Rattle.ud_model.specs.output.Worlds.{World, selected, truths_of}
 use Rattle.ud_model.specs.output.Rereading.{line_bytes}
 use Rattle.ud_model.specs.output.FoldedTexts.{CLine, directive_line, other_lines, c_line}
 use Rattle.ud_model.specs.output.FoldedTexts.{is_directive, logical_lines}
@@ -53,7 +53,7 @@ IsLogicalTree bytes ns = lines_of_nodes ns ≡ flat_map c_items (logical_lines (
 -- processes the text lines with the bytes `ls`.
 abbrev pub CSelects : List ℕ → List Bool → List (List ℕ) → Type 0
 CSelects bytes truths ls = (ns : Nodes (List Reading)) × IsLogicalTree bytes ns ×
-    ((w : World (List Reading)) → map w (openers ns) ≡ truths →
+    ((w : World (List Reading)) → truths_of w ns ≡ truths →
     flat_map (map line_bytes) (selected w ns) ≡ ls)
 
 -- `is_long r`: the line has a directive and is joined to a neighbour.

@@ -18,6 +18,8 @@
 --                              judged lines `js`
 --   HaveInputNumbers js ps     each sure line that isn't inserted is printed for the line of
 --                              the input that has its presumed number
+--   NumbersAsInput mode js t   so does each, whatever C processes of the text `t`
+--   NumbersSelected o t        C processes and numbers what is selected of the text `t`
 --
 -- Example: under `-n -UA` the output for `#if X`, `#ifdef A`, `#endif`, `y`, `#endif`, `z` is
 -- `#if X`, `#line 4`, `y`, `#endif`, `z`. If X isn't 0, `z` has the number 6. Else C skips the
@@ -30,8 +32,12 @@ use Rattle.ud_model.specs.text.Bytes.{skip_white, leading_word, skip_word}
 use Rattle.ud_model.specs.text.Lines.{text_of}
 use Rattle.ud_model.specs.text.Scans.{Scan, Reading}
 use Rattle.ud_model.specs.sections.Directives.{skip_white_and_hash}
+use Rattle.ud_model.specs.sections.Tree.{Nodes, closed}
 use Rattle.ud_model.specs.sections.Pruning.{is_removed}
+use Rattle.ud_model.specs.sections.Items.{Options, mode_by}
 use Rattle.ud_model.specs.answer.Printing.{Judged, piece_by}
+use Rattle.ud_model.specs.output.Worlds.{World, selected}
+use Rattle.ud_model.specs.output.Rereading.{IsTreeOf}
 use Rattle.ud_model.specs.output.InsertedLines.{read_as}
 use Rattle.ud_model.specs.output.InsertedNodes.{IsInserted}
 use Rattle.ud_model.specs.declared.kind.Mode.{Mode}
@@ -126,3 +132,15 @@ HasInputNumber js p = p.sure ≡ true → IsInserted p.line ⊎ IsLineFor js p.l
 abbrev pub HaveInputNumbers : List Judged → List Presumed → Type 0
 HaveInputNumbers js [] = Unit {0}
 HaveInputNumbers js (p ∷ ps) = HasInputNumber js p × HaveInputNumbers js ps
+
+-- `NumbersAsInput mode js text`: whatever C processes of `text`, each line in this mode, the lines
+-- have their input numbers.
+abbrev pub NumbersAsInput : Mode → List Judged → List ℕ → Type 0
+NumbersAsInput mode js text = (ps : List Presumed) (sure : Bool) (n : ℕ) →
+    Presumes (read_as mode text) ps sure n → HaveInputNumbers js ps
+
+-- `NumbersSelected o text`: in each world C processes the selected lines of `text`, and numbers
+-- them.
+abbrev pub NumbersSelected : Options → List ℕ → Type 0
+NumbersSelected o text = (vs : Nodes Reading) → IsTreeOf o text (closed vs) → (x : World Reading) →
+    ArePresumed (mode_by o.settings.plain) text (selected x vs)

@@ -26,7 +26,7 @@ use Rattle.ud_model.specs.sections.Tree.{Item, Nodes, Tree, closed, nothing, lin
 use Rattle.ud_model.specs.sections.Items.{Options, line_of, next_item}
 use Rattle.ud_model.specs.answer.Printing.{piece_by, keyword_in}
 use Rattle.ud_model.specs.answer.Outcomes.{Outcome, HasOutcome}
-use Rattle.ud_model.specs.output.Worlds.{World, selected, openers, openers_in}
+use Rattle.ud_model.specs.output.Worlds.{World, selected, truths_of, openers_in}
 use Rattle.ud_model.specs.output.Pruned.{Edited, pruned_lines}
 use Rattle.ud_model.specs.declared.settings.Listing.TheVariants.{Off}
 use Rattle.ud_model.specs.declared.limits.TheConstants.{LINE_BYTES}
@@ -108,4 +108,4 @@ edited_bytes e = piece_by e.verdict (keyword_in (content_of e.line.scan)) e.line
 -- comes from has in `w`.
 abbrev pub KeepsTruths : World Reading → Nodes Reading → World Reading → Nodes Reading → Type 0
 KeepsTruths w before v after =
-    map v (openers after) ≡ map (λ e. w e.line) (openers_in (pruned_lines before))
+    truths_of v after ≡ map (λ e. w e.line) (openers_in (pruned_lines before))

@@ -5,6 +5,8 @@
 --                           are left
 --   simplified_line r       this line, or the line that was read
 --   simplified_text bytes   the text of such lines
+--   simplified_under o bytes
+--                           this text, by the table and the rules of the options `o`
 --
 -- A line changes only if it has an `#if` or an `#elif`, joins no other line, and has an ending. And
 -- the edited line, read by itself, must join no other line and have the same directive, the same
@@ -24,6 +26,7 @@ use Rattle.ud_model.specs.text.Lexemes.{Cell, shown}
 use Rattle.ud_model.specs.text.Scanning.{content_cells, scan_after_run}
 use Rattle.ud_model.specs.sections.Directives.{Content, cut_keyword, directive, text, Directive}
 use Rattle.ud_model.specs.sections.Directives.{content_of}
+use Rattle.ud_model.specs.sections.Items.{Options, rules_of}
 use Rattle.ud_model.specs.conditions.Table.{Argument}
 use Rattle.ud_model.specs.conditions.Conditions.{Rules}
 use Rattle.ud_model.specs.conditions.ResidualTexts.{simplified_cells}
@@ -101,3 +104,7 @@ module _ (table : List Argument) (rules : Rules) where
   -- `simplified_text bytes`: the text without the operands that the table decides.
   abbrev pub simplified_text : List ℕ → List ℕ
   simplified_text bytes = concat (map (λ r. text_of (simplified_line r)) (read_as C bytes))
+
+-- `simplified_under o bytes`: the text without the operands that the options `o` decide.
+abbrev pub simplified_under : Options → List ℕ → List ℕ
+simplified_under o bytes = simplified_text o.table (rules_of o.settings) bytes

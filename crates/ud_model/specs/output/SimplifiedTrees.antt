@@ -5,10 +5,12 @@
 --   IsChosen table e b            by some numbers for the uses of the open names, C finds the
 --                                 condition `e` to be `b`
 --   IsChosenWorld table w ns      each condition that C evaluates in the world `w` is so
+--   SelectsChosen o input output  in such a world of the input the same lines are selected of both,
+--                                 and the world of the output is such a world, too
 --   LineSimplified l k            `k` has the condition of the line `l`, or its residual
 --   NodesSimplified w v ns us     `us` are the nodes `ns` with such openers, and `v` gives each
 --                                 opener the truth that `w` gives the one it comes from
-use Rattle.std.specs.Prelude.{◌≡◌, Bool, Option, Some, None, List}
+use Rattle.std.specs.Prelude.{◌≡◌, ℕ, Bool, Option, Some, None, List}
 use Rattle.ud_model.specs.text.Scans.{Reading}
 use Rattle.ud_model.specs.conditions.Table.{Argument}
 use Rattle.ud_model.specs.conditions.Expressions.{Expression}
@@ -17,8 +19,10 @@ use Rattle.ud_model.specs.conditions.CValues.{Number}
 use Rattle.ud_model.specs.conditions.Residuals.{residual}
 use Rattle.ud_model.specs.conditions.Choices.{Choice, IsAllowed, HasValue}
 use Rattle.ud_model.specs.sections.Tree.{Opener, Nodes, Groups, Elifs, nothing, text, section}
-use Rattle.ud_model.specs.sections.Tree.{conditional, otherwise, first, elif}
+use Rattle.ud_model.specs.sections.Tree.{conditional, otherwise, first, elif, closed}
+use Rattle.ud_model.specs.sections.Items.{Options}
 use Rattle.ud_model.specs.output.Worlds.{World, EachReached}
+use Rattle.ud_model.specs.output.Rereading.{IsTreeOf, KeepsTruths, selected_bytes}
 use Rattle.ud_model.specs.output.CSelection.{condition_in, HasTruth}
 
 -- `IsChosen table e b`: by some numbers for its uses of names that agree with the table, the
@@ -32,6 +36,15 @@ IsChosen table (Some e) b = (m : Choice e) × IsAllowed table m × (c : Number) 
 -- that some numbers give it.
 abbrev pub IsChosenWorld : List Argument → World Reading → Nodes Reading → Type 0
 IsChosenWorld table w ns = EachReached w (λ o. IsChosen table (condition_in o.line) (w o.line)) ns
+
+-- `SelectsChosen o input output`: let some numbers give each evaluated condition of the input its
+-- truth, and let each opener of the output have the truth of the opener it comes from. The same
+-- lines are then selected, byte by byte. Some numbers give the output's conditions their truths.
+abbrev pub SelectsChosen : Options → List ℕ → List ℕ → Type 0
+SelectsChosen o input output = (ns ss : Nodes Reading) → IsTreeOf o input (closed ns) →
+    IsTreeOf o output (closed ss) → (w v : World Reading) → KeepsTruths w ns v ss →
+    IsChosenWorld o.table w ns →
+    (selected_bytes v ss ≡ selected_bytes w ns) × IsChosenWorld o.table v ss
 
 module _ (table : List Argument) (rules : Rules) where
   -- `LineSimplified l k`: `k` has the condition of the line `l`, or its residual.

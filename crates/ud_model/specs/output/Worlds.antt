@@ -9,10 +9,11 @@
 --                         No false
 --   openers ns            the lines of the openers with a condition, in order
 --   openers_in xs         these lines among the lines `xs`
+--   truths_of w ns        the truths of these lines in the world `w`
 --
 -- Example: in `#if X`, `a`, `#elif Y`, `b`, `#else`, `c`, `#endif` the line `a` is selected in a
 -- world in which X is true, and Y isn't reached. In any other world `b` or `c` is selected.
-use Rattle.std.specs.Prelude.{◌≡◌, List, [], ◌∷◌, ◌++◌, Bool, true, false, Option, Some, None}
+use Rattle.std.specs.Prelude.{◌≡◌, List, [], ◌∷◌, ◌++◌, map, Bool, true, false, Option, Some, None}
 use Rattle.ud_model.specs.declared.cond.Cond.{Cond}
 use Rattle.ud_model.specs.declared.cond.Cond.TheVariants.{Yes, No, Unknown}
 use Rattle.ud_model.specs.sections.Tree.{Item, Opener, Nodes, Groups, Elifs, nothing, section}
@@ -111,6 +112,10 @@ module _ {L : Type 0} where
     pub openers_of_elifs : Elifs L → List L
     openers_of_elifs (first o ns) = o.line ∷ openers ns
     openers_of_elifs (elif es o ns) = (openers_of_elifs es ++ o.line ∷ []) ++ openers ns
+
+  -- `truths_of w ns`: the truths that the world `w` gives these lines.
+  abbrev pub truths_of : World L → Nodes L → List Bool
+  truths_of w ns = map w (openers ns)
 
   -- `opener_line x`: the line `x`, if it is an opener with a condition.
   abbrev pub opener_line : Item L → List L
