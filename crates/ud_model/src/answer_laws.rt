@@ -1,18 +1,17 @@
 //! Laws of answers: the laws of the output, stated for arguments, an input and the answer to them.
 
-ghost use Rattle.std.specs.Prelude.{◌≡◌, ◌≢◌, ℕ, List, ◌++◌, length, map, not, false};
-ghost use Rattle.std.specs.Prelude.{bytes_eq, None};
+ghost use Rattle.std.specs.Prelude.{◌≡◌, ℕ, List, ◌++◌, length, map, not, bytes_eq, None};
 ghost use Rattle.ud_model.specs.text.Lines.{lines_of};
 ghost use Rattle.ud_model.specs.text.Scans.{Reading};
-ghost use Rattle.ud_model.specs.sections.Tree.{Nodes, Tree, closed, lines};
+ghost use Rattle.ud_model.specs.sections.Tree.{Tree, lines};
 ghost use Rattle.ud_model.specs.sections.Items.{Options, reading_of};
 ghost use Rattle.ud_model.specs.answer.CommandLine.{options_of};
 ghost use Rattle.ud_model.specs.answer.Outcomes.{Outcome, HasOutcome};
 ghost use Rattle.ud_model.specs.answer.Answer.{Answer, IsAnswer, status_by, copy_answer, Succeeds};
-ghost use Rattle.ud_model.specs.output.Worlds.{World, selected};
-ghost use Rattle.ud_model.specs.output.Rereading.{IsPlain, IsTreeOf, LinesFit, line_bytes};
-ghost use Rattle.ud_model.specs.output.Rereading.{KeepsTruths, IsPlainC, PrintsText};
-ghost use Rattle.ud_model.specs.output.CSelection.{IsCWorld, SelectsAlike};
+ghost use Rattle.ud_model.specs.output.Worlds.{selected};
+ghost use Rattle.ud_model.specs.output.Rereading.{IsPlain, IsTreeOf, LinesFit};
+ghost use Rattle.ud_model.specs.output.Rereading.{IsPlainC, PrintsText};
+ghost use Rattle.ud_model.specs.output.CSelection.{SelectsAlike};
 ghost use Rattle.ud_model.specs.conditions.Table.{Argument};
 ghost use Rattle.ud_model.specs.output.GoneSymbols.{SelectsWithout};
 ghost use Rattle.ud_model.specs.output.LiveLines.{LeavesLive, SelectsLive};
@@ -22,7 +21,6 @@ ghost use Rattle.ud_model.specs.output.Processing.{HasOneChoice};
 ghost use Rattle.ud_model.specs.output.ProcessedFiles.{FileTree};
 ghost use Rattle.ud_model.specs.output.TextsInParts.{MayBeParts, in_parts, AnswersBoth};
 ghost use Rattle.ud_model.specs.declared.kind.Mode.{Mode};
-ghost use Rattle.ud_model.specs.declared.settings.Listing.{Listing};
 
 use crate::output_laws::Preprocessing;
 

@@ -3,39 +3,27 @@
 //! `option_laws` states them for options and outcomes. The clause `answer` of the tool carries them
 //! over to the program: an answer here is what the program writes and returns.
 
-ghost use Rattle.std.specs.Prelude.{◌≡◌, ◌≢◌, ◌∷◌, ◌++◌, codes, ℕ, List, [], map, Option, None};
-ghost use Rattle.std.specs.Prelude.{Bool};
-ghost use Rattle.std.specs.Prelude.{true, false};
-ghost use Rattle.ud_model.specs.text.Lines.{Line, lines_of, partial_line};
-ghost use Rattle.ud_model.specs.text.Scans.{Reading};
-ghost use Rattle.ud_model.specs.sections.Tree.{Item, Nodes, Tree, closed};
-ghost use Rattle.ud_model.specs.sections.Pruning.{marks};
+ghost use Rattle.std.specs.Prelude.{◌≡◌, ◌≢◌, ◌∷◌, codes, ℕ, List, [], map, None, Bool, false};
+ghost use Rattle.ud_model.specs.text.Lines.{lines_of, partial_line};
 ghost use Rattle.ud_model.specs.sections.Items.{mode_by};
-ghost use Rattle.ud_model.specs.sections.Faults.{Fault};
 ghost use Rattle.ud_model.specs.answer.CommandLine.{has_flag, parsed_args, usage_fault, options_of};
-ghost use Rattle.ud_model.specs.answer.OptionArguments.{AddsSymbol, AddsOption};
+ghost use Rattle.ud_model.specs.answer.OptionArguments.{AddsOption};
 ghost use Rattle.ud_model.specs.answer.Answer.{Answer, IsAnswer, JudgesAs, Succeeds};
-ghost use Rattle.ud_model.specs.answer.Printing.{judged_lines, Judged};
-ghost use Rattle.ud_model.specs.answer.Outcomes.{ReadsAs};
-ghost use Rattle.ud_model.specs.output.Rereading.{IsPlain, IsTreeOf, KeepsTruths, line_bytes};
+ghost use Rattle.ud_model.specs.answer.Printing.{Judged};
 ghost use Rattle.ud_model.specs.output.Rereading.{IsPlainC};
-ghost use Rattle.ud_model.specs.output.CSelection.{IsCWorld};
-ghost use Rattle.ud_model.specs.output.ListedNames.{with_listing, IsListed, AgreeOnListed};
-ghost use Rattle.ud_model.specs.output.ListedNames.{IsNoValue, AreAlikeArgs, ListsNames};
+ghost use Rattle.ud_model.specs.output.ListedNames.{with_listing, AreAlikeArgs, ListsNames};
 ghost use Rattle.ud_model.specs.output.ListedNames.{NeverCounts};
-ghost use Rattle.ud_model.specs.output.BlankedLines.{AreBlankedLines, AreBlankedBy, Blanks};
-ghost use Rattle.ud_model.specs.output.BlankedLines.{endings_of};
+ghost use Rattle.ud_model.specs.output.BlankedLines.{AreBlankedBy, Blanks, endings_of};
 ghost use Rattle.ud_model.specs.output.SharedLines.{OnlyDecides, with_complement, ShareLines};
 ghost use Rattle.ud_model.specs.output.SharedLines.{AnswersWithComplement};
 ghost use Rattle.ud_model.specs.output.StrictLines.{under_strict, KeepAsMuch, pieces_of};
-ghost use Rattle.ud_model.specs.output.InsertedLines.{KeepsNumbers, Counted, read_as, CountsLines};
+ghost use Rattle.ud_model.specs.output.InsertedLines.{KeepsNumbers, read_as, CountsLines};
 ghost use Rattle.ud_model.specs.output.InsertedLines.{AnswersNumbered};
-ghost use Rattle.ud_model.specs.output.InsertedNodes.{SelectsWithInserted, StillSelects};
+ghost use Rattle.ud_model.specs.output.InsertedNodes.{StillSelects};
 ghost use Rattle.ud_model.specs.output.PresumedLines.{HasNoLineDirective, Presumed, Presumes};
 ghost use Rattle.ud_model.specs.output.PresumedLines.{NumbersAsInput, NumbersSelected};
 ghost use Rattle.ud_model.specs.output.PresumedLines.{HaveOwnNumbers};
-ghost use Rattle.ud_model.specs.output.Worlds.{World, selected};
-ghost use Rattle.ud_model.specs.declared.settings.Listing.{Listing};
+ghost use Rattle.ud_model.specs.output.Worlds.{selected};
 ghost use Rattle.ud_model.specs.declared.kind.Mode.{Mode};
 
 /// The list of `-s` is complete for arguments, too.

@@ -1,37 +1,28 @@
 //! Laws of options: what the user of an option may rely on.
 
-ghost use Rattle.std.specs.Prelude.{◌≡◌, ◌≢◌, ◌∷◌, codes, ℕ, List, [], map, Option, Some, None};
-ghost use Rattle.std.specs.Prelude.{Bool, true, false, ◌||◌, ◌⊎◌, ℤ};
-ghost use Rattle.ud_model.specs.text.Lines.{Line, lines_of, partial_line};
+ghost use Rattle.std.specs.Prelude.{◌≡◌, ◌≢◌, ℕ, List, [], Some, None, Bool, true, false, ◌⊎◌, ℤ};
+ghost use Rattle.ud_model.specs.text.Lines.{partial_line};
 ghost use Rattle.ud_model.specs.text.Scans.{Reading};
-ghost use Rattle.ud_model.specs.conditions.Table.{Argument, entry_in, HaveSameEntries};
+ghost use Rattle.ud_model.specs.conditions.Table.{Argument, HaveSameEntries};
 ghost use Rattle.ud_model.specs.conditions.Expressions.{Expression};
 ghost use Rattle.ud_model.specs.conditions.Values.{value_of};
 ghost use Rattle.ud_model.specs.conditions.Conditions.{Rules, tree_cond, with_strict};
 ghost use Rattle.ud_model.specs.conditions.Conditions.{without_strict};
-ghost use Rattle.ud_model.specs.sections.Tree.{Item, Nodes, Tree, closed};
-ghost use Rattle.ud_model.specs.sections.Pruning.{marks};
-ghost use Rattle.ud_model.specs.sections.Items.{Options, mode_by};
-ghost use Rattle.ud_model.specs.sections.Faults.{Fault};
-ghost use Rattle.ud_model.specs.answer.CommandLine.{has_flag, parsed_args, usage_fault, options_of};
-ghost use Rattle.ud_model.specs.answer.Answer.{Answer, IsAnswer};
-ghost use Rattle.ud_model.specs.answer.Printing.{judged_lines, Judged};
-ghost use Rattle.ud_model.specs.answer.Outcomes.{Outcome, ReadsAs, HasOutcome, JudgedAs};
-ghost use Rattle.ud_model.specs.output.Rereading.{NoneIgnores, IsPlain, IsTreeOf};
-ghost use Rattle.ud_model.specs.output.ListedNames.{with_listing, listing_settings, IsListed};
+ghost use Rattle.ud_model.specs.sections.Tree.{Nodes, closed};
+ghost use Rattle.ud_model.specs.sections.Items.{Options};
+ghost use Rattle.ud_model.specs.answer.Printing.{Judged};
+ghost use Rattle.ud_model.specs.answer.Outcomes.{Outcome, HasOutcome, JudgedAs};
+ghost use Rattle.ud_model.specs.output.Rereading.{IsTreeOf};
+ghost use Rattle.ud_model.specs.output.ListedNames.{with_listing, IsListed};
 ghost use Rattle.ud_model.specs.output.ListedNames.{AgreeOnListed, IsNoValue, DifferAtMostAt};
 ghost use Rattle.ud_model.specs.output.ListedNames.{ExtendsTable, AreAlikeBy, ServesAsLister};
-ghost use Rattle.ud_model.specs.output.BlankedLines.{AreBlankedLines, AreBlankedBy, Blanks};
-ghost use Rattle.ud_model.specs.output.BlankedLines.{endings_of};
-ghost use Rattle.ud_model.specs.output.InsertedLines.{with_blank_renumber, read_as, Counted};
+ghost use Rattle.ud_model.specs.output.BlankedLines.{AreBlankedBy, Blanks, endings_of};
 ghost use Rattle.ud_model.specs.output.InsertedLines.{AddsNumbers, CountsLines};
 ghost use Rattle.ud_model.specs.output.InsertedNodes.{NodesWithInserted, LinesWithInserted};
 ghost use Rattle.ud_model.specs.output.InsertedNodes.{HasTreeWithInserted};
 ghost use Rattle.ud_model.specs.output.Worlds.{World, selected, truths_of};
-ghost use Rattle.ud_model.specs.output.SharedLines.{OnlyDecides, with_complement, ShareLines};
-ghost use Rattle.ud_model.specs.output.SharedLines.{RunsWithComplement};
+ghost use Rattle.ud_model.specs.output.SharedLines.{ShareLines, RunsWithComplement};
 ghost use Rattle.ud_model.specs.declared.cond.Cond.{Cond};
-ghost use Rattle.ud_model.specs.declared.settings.Listing.{Listing};
 
 /// The list of `-s` is complete: it has every symbol that counts for the text.
 ///

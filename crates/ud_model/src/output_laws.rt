@@ -1,6 +1,6 @@
 //! Laws of the output: the meaning of a text that was pruned and printed.
 
-ghost use Rattle.std.specs.Prelude.{◌≡◌, ◌↔◌, ℕ, List, map, not, true, false, Bool, bytes_eq, None};
+ghost use Rattle.std.specs.Prelude.{◌≡◌, ◌↔◌, ℕ, List, map, not, false, Bool, bytes_eq, None};
 ghost use Rattle.ud_model.specs.text.Lines.{lines_of};
 ghost use Rattle.ud_model.specs.text.Scans.{Scan, Reading};
 ghost use Rattle.ud_model.specs.sections.Tree.{Nodes, Tree, closed, lines, with_lines};
@@ -21,7 +21,6 @@ ghost use Rattle.ud_model.specs.output.InsertedLines.{read_as};
 ghost use Rattle.ud_model.specs.output.Processing.{Condition, Processes, over_readings, agreeing};
 ghost use Rattle.ud_model.specs.output.Processing.{of_origin};
 ghost use Rattle.ud_model.specs.declared.kind.Mode.{Mode};
-ghost use Rattle.ud_model.specs.declared.settings.Listing.{Listing};
 ghost use Rattle.ud_model.specs.declared.verdict.Verdict.{Verdict};
 
 /// The exit status reports whether the output is a copy.
