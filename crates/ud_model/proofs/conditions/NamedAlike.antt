@@ -104,10 +104,6 @@ module _ (t u : List Argument) where
   decided_by_alike : (p : Test) (after : List ℕ) (rules : Rules) → Each Alike (names_by p after) → decision_by_test p after t rules ≡ decision_by_test p after u rules
   decided_by_alike p after rules h = grind (arith, expression_cond_alike, ifdef_decision_alike)
 
-  -- The decision as it is, unless a continuation cuts the directive.
-  abbrev unless_cut : Bool → Bool → Decision → Decision
-  unless_cut broken joins d = if broken then undecided else record d { ignoring = d.ignoring && not joins }
-
 module _ (o p : Options) (same : rules_of o.settings ≡ rules_of p.settings) where
   -- A line is the same item if the tables agree on its names.
   pub item_alike : (r : Reading) (c : Content) → Each (Alike o.table p.table) (names_in_content c) → item_by o r c ≡ item_by p r c

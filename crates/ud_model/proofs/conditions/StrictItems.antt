@@ -48,9 +48,6 @@ module _ (table : List Argument) (k : Bool) where
   test_loose s Nonzero after = record { cond = expression_loose s after; ignoring = refl }
   test_loose _ _ _ = record { cond = alike; ignoring = refl }
 
-  abbrev unless_cut : Bool → Bool → Decision → Decision
-  unless_cut broken joins d = if broken then undecided else record d { ignoring = d.ignoring && not joins }
-
   decision_loose : (s : Bool) (scan : Scan) (d : Directive) → LooserDecision (decision_on scan d table (record { constants = k; strict = true })) (decision_on scan d table (record { constants = k; strict = s }))
   decision_loose s scan d = grind (arith, test_loose, same_decision)
 

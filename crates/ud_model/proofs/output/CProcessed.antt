@@ -40,9 +40,6 @@ expression_is r = grind (arith, condition_skips)
 
 -- 2. Down the tree.
 
-test_ends : (p : Test) (after : List ℕ) (on : Bool) → on ≡ false → (condition_of_test p after on).goes_on ≡ false
-test_ends p after on e = grind arith
-
 ends_with : (scan : Scan) (c : Content) → scan.joins_after ≡ false → (condition_with scan c).goes_on ≡ false
 ends_with scan c h = grind arith
 

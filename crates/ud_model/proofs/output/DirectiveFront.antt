@@ -105,10 +105,6 @@ abbrev pub StartsDark : List ℕ → Type 0
 StartsDark [] = ⊥
 StartsDark (c ∷ w) = is_white c ≡ false
 
-abbrev starts_dark : List ℕ → Bool
-starts_dark [] = false
-starts_dark (c ∷ w) = not (is_white c)
-
 -- A keyword's first byte isn't white.
 pub keyword_dark : (w : List ℕ) (k : Kind) → kind_of w ≡ Some k → StartsDark w
 keyword_dark w k e = grind (arith, each_keyword)

@@ -152,9 +152,6 @@ style b n = record { blank = b; complement = false; renumber = n }
 abbrev pub piece_of : Bool → Bool → List Judged → Judged → List ℕ
 piece_of b n = piece_after (style b n)
 
-abbrev with_verdict : Judged → Verdict → Judged
-with_verdict j v = record { line = j.line; verdict = v; keyword = j.keyword }
-
 pub gone_blank : (n : Bool) (before : List Judged) (j : Judged) → j.verdict ≡ Remove → piece_of true n before j ≡ j.line.ending
 gone_blank n before j e = grind arith
 

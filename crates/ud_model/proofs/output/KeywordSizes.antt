@@ -19,10 +19,6 @@ least IfGroup = 2
 least EndifLine = 5
 least _ = 4
 
--- The kind of a keyword decides its least length.
-pub kind_size : (w : List ℕ) (k : Kind) → kind_of w ≡ Some k → least (role_of k) ≤ length w
-kind_size w k e = leb-true (least (role_of k)) (length w) (each_keyword (λ row. leb (least (role_of row.1)) (length row.0)) refl w k e)
-
 -- In this content the keyword is at least as long as its kind demands.
 abbrev pub HasSize : Content → Type 0
 HasSize (directive d) = least (role_of d.kind) ≤ d.keyword.len

@@ -110,12 +110,6 @@ module _ (s : Settings) (u : s.renumber ≡ false) (n : ℕ) where
     as_many_levels : length xs ≡ length (levels_of_nodes 0 ns)
     as_many_levels = ap (λ (zs : List (Item Reading)). length zs) (sym a) ∙ sym (length_levels (closed ns))
 
-    abbrev first_judged : List Judged
-    first_judged = judged_lines xs (marks (closed ns))
-
-    abbrev more_judged : List Judged
-    more_judged = judged_lines ys (marks t)
-
     listed_both : (d : Bool) → listed d (both n xs ns ys) (levels (grown n xs ns t)) ≡ listed d xs (levels (closed ns)) ++ listed d ys (levels t)
     listed_both d = simp (listed_more, as_many_levels, listed_later, tree_levels_then, tree_levels_with)
 

@@ -42,9 +42,6 @@ module _ (n : ℕ) where
   pub line_of-later : (x : Item Reading) → line_of (later x) ≡ line_later (line_of x)
   line_of-later x = ap (λ (r : Reading). r.line) (reading_of-later x)
 
-  directive_later : (r : Reading) (p : Role) (d : Decision) → directive_item (reading_later r) p d ≡ later (directive_item r p d)
-  directive_later r p d = grind arith
-
   item_of-later : (o : Options) (r : Reading) → item_of o (reading_later r) ≡ later (item_of o r)
   item_of-later o r = grind arith
 
@@ -55,9 +52,6 @@ module _ (n : ℕ) where
   bare_later : (ys : List (Item Reading)) → map bare (map reading_of (map later ys)) ≡ map bare (map reading_of ys)
   bare_later [] = refl
   bare_later (y ∷ ys) = ap₂ (λ (r : Reading) (rs : List Reading). r ∷ rs) (ap bare (reading_of-later y)) (bare_later ys)
-
-  misplaced_later : (x : Item Reading) → misplaced_fault (later x) ≡ fault_if_later n (misplaced_fault x)
-  misplaced_later x = grind arith
 
 ends_more : (ms : List Mark) (b : Mark) (bs : List Mark) → ends_removed (ms ++ b ∷ bs) ≡ ends_removed (b ∷ bs)
 ends_more (a ∷ c ∷ ms) b bs = ends_more (c ∷ ms) b bs
