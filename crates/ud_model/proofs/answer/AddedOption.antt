@@ -196,7 +196,7 @@ no_fault_added : {xs : List ParsedArg} → NoOperand xs → (l n : ℕ) (a : Lis
 no_fault_added none l n a {hs} {gs} f k e = none_of_both (argument_fault l n a) (first_fault hs) f (no_fault_same k e)
 no_fault_added (a_flag c h) l n a f k e = no_fault_added h l n a f k e
 no_fault_added (an_option c i v {gs = xs} h) l n a {hs} {gs} f k e =
-    let both : (argument_fault c i v ≡ None) × (first_fault (xs ++ gs) ≡ None) = both_none (argument_fault c i v) (first_fault (xs ++ gs)) e in
+    let both = both_none (argument_fault c i v) (first_fault (xs ++ gs)) e in
     none_of_both (argument_fault c i v) (first_fault (xs ++ option l n a ∷ hs)) both.0 (no_fault_added h l n a f k both.1)
 no_fault_added (an_unknown c h) l n a f k e = e
 

@@ -153,8 +153,7 @@ module _ (t u : Tree Reading) (more : List (Item Reading)) (e : lines u ≡ line
   -- The output of a longer text begins with that of the text.
   pub output_grows : (q : Listing) (s : Settings) → (rest : List ℕ) × (output_by q s (lines u) u ≡ output_by q s (lines t) t ++ rest)
   output_grows Off s =
-      let p : (rest : List (List ℕ)) × (pieces_by (piece_after (style_of s)) [] (judged_lines (lines u) (marks u)) ≡ pieces_by (piece_after (style_of s)) [] (judged_lines (lines t) (marks t)) ++ rest) =
-      pieces_grow (piece_after (style_of s)) in
+      let p = pieces_grow (piece_after (style_of s)) in
       (concat p.0, ap concat p.1 ∙ concat-append (pieces_by (piece_after (style_of s)) [] (judged_lines (lines t) (marks t))) p.0)
   output_grows Names s = listed_grow false
   output_grows Depths s = listed_grow true

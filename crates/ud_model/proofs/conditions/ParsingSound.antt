@@ -99,7 +99,7 @@ finish_holds _ _ e _ f = absurd (none-some e f)
 run_holds : (ts us : List Token) (st : ParseState Expression) (e : Expression) → Holds us st → parse_tokens itself st ts ≡ Some e → HasPrecedence 1 e × (spelling e ≡ us ++ ts)
 run_holds [] us st e h f = let q : HasPrecedence 1 e × (spelling e ≡ us) = finish_holds us st e h f in (q.0, q.1 ∙ sym (append-nil us))
 run_holds (t ∷ ts) us st e h f =
-    let q : HasPrecedence 1 e × (spelling e ≡ (us ++ t ∷ []) ++ ts) = run_holds ts (us ++ t ∷ []) (step itself st t) e (step_holds us st t h) f in
+    let q = run_holds ts (us ++ t ∷ []) (step itself st t) e (step_holds us st t h) f in
     (q.0, q.1 ∙ append_assoc us (t ∷ []) ts)
 
 -- Tokens that are parsed as a tree are those of this tree.

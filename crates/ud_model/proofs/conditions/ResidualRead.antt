@@ -37,7 +37,7 @@ module _ (table : List Argument) (rules : Rules) where
   pub written_left : (e : Expression) (cells : List Cell) → expression_of (map shown cells) ≡ Some e → (left : List Cell) → is_read table rules e left ≡ true → expression_of (map shown left) ≡ Some (rest_of e)
   written_left e cells p left q =
       let w : IsWritten (map shown cells) e = expression_is (map shown cells) e p in
-      let f : tokens_of (map shown left) ≡ Some (spelling (rest_of e)) = found_are (tokens_of (map shown left)) (spelling (rest_of e)) (and_parts (not (begins_word left)) (are_tokens (tokens_of (map shown left)) (spelling (rest_of e))) q).1 in
+      let f = found_are (tokens_of (map shown left)) (spelling (rest_of e)) (and_parts (not (begins_word left)) (are_tokens (tokens_of (map shown left)) (spelling (rest_of e))) q).1 in
       expression_only (map shown left) (rest_of e) (precedence_stays table rules e 1 w.0, tokens_of_are (map shown left) (spelling (rest_of e)) f)
 
   -- The simplified text is the text itself, or is read as the residual.

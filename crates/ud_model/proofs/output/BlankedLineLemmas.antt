@@ -105,12 +105,12 @@ unended_placed c j n t e w = by_verdict (goes_or_left (complemented_if c j).verd
 
     by_verdict : ((complemented_if c j).verdict ≡ Remove) ⊎ IsLeft (complemented_if c j).verdict → Places c (j ∷ []) n
     by_verdict (inl v) =
-        let empty : blanked c j ≡ [] = gone_piece (complemented_if c j) v ∙ ap (λ (l : Line). l.ending) (turned_line c j) ∙ none in
+        let empty = gone_piece (complemented_if c j) v ∙ ap (λ (l : Line). l.ending) (turned_line c j) ∙ none in
         record { pieces = []; formed = tt; same = sym (ap (λ (x : List ℕ). x ++ []) empty); places = lost_line j none empty }
     by_verdict (inr h) =
         let v : Verdict = (complemented_if c j).verdict in
         let k : Span = (complemented_if c j).keyword in
-        let is : blanked c j ≡ piece_by v k (line_at n t) = left_alone v k (complemented_if c j).line h ∙ ap (λ (l : Line). piece_by v k l) line in
+        let is = left_alone v k (complemented_if c j).line h ∙ ap (λ (l : Line). piece_by v k l) line in
         let d : (line_at n (blanked c j)).ending ≡ ending_of t =
         ap (λ (p : List ℕ). (line_at n p).ending) is ∙ ap (λ (l : Line). l.ending) (left_line v k n n t h (inr w)) in
         record {
@@ -195,7 +195,7 @@ as_many o input b off e (ran_as (stops xs t f s)) h = cc
 as_many o input b off e (ran_as (ends xs t g)) h =
     let js : List Judged = judged_lines xs (marks t) in
     let are : map (λ (j : Judged). j.line) js ≡ lines_of input = judged_read (ends xs t g) ∙ sym g.are in
-    let whole : texts_of input ≡ whole_lines input = ap (λ (q : List ℕ). whole_lines input ++ last_line q) e ∙ append-nil (whole_lines input) in
+    let whole = ap (λ (q : List ℕ). whole_lines input ++ last_line q) e ∙ append-nil (whole_lines input) in
     same_endings (blanked_places o input b off (ends xs t g) (ran_as (ends xs t g)))
     (all_ended 1 (whole_lines input) js (are_whole input) (are ∙ ap (λ (ts : List (List ℕ)). numbered_from 1 ts) whole))
     ∙ endings_of js ∙ ap (λ (ls : List Line). map (λ (l : Line). l.ending) ls) are

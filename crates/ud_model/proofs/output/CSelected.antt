@@ -133,7 +133,7 @@ module _ (o : Options) (w : World Reading) where
         (nodes_so_far (is_kept (conds_of_elifs es) Yes) ns) (many_both (lines_of_elifs es) (else_line l ∷ []) (elifs_so_far true es) (marked true v ∷ []) (as_many_elifs true es) refl) k in
         let q : Pairwise (Clear o) (lines_of_elifs es) (elifs_so_far true es) × Pairwise (Clear o) (else_line l ∷ []) (marked true v ∷ []) =
         pairwise_parts (Clear o) (lines_of_elifs es) (elifs_so_far true es) (else_line l ∷ []) (marked true v ∷ []) (as_many_elifs true es) p.0 in
-        let r : ElifsReached w Right es × (selected_elifs w es ≡ None → any_true (conds_of_elifs es) ≡ false) = elifs_right es q.0 h.0 in
+        let r = elifs_right es q.0 h.0 in
         (r.0, λ e. nodes_right ns (at_kept (is_kept (conds_of_elifs es) Yes) ns (ap not (r.1 e)) p.1) (h.1 e))
 
     -- If no group is processed, none is true.
@@ -153,7 +153,7 @@ module _ (o : Options) (w : World Reading) where
         (nodes_so_far (is_kept (conds_of_elifs es) p.cond) ns) (many_both (lines_of_elifs es) (elif_line p ∷ []) (elifs_so_far true es) (marked true v ∷ []) (as_many_elifs true es) refl) k in
         let f : Pairwise (Clear o) (lines_of_elifs es) (elifs_so_far true es) × Pairwise (Clear o) (elif_line p ∷ []) (marked true v ∷ []) =
         pairwise_parts (Clear o) (lines_of_elifs es) (elifs_so_far true es) (elif_line p ∷ []) (marked true v ∷ []) (as_many_elifs true es) q.0 in
-        let r : ElifsReached w Right es × (selected_elifs w es ≡ None → any_true (conds_of_elifs es) ≡ false) = elifs_right es f.0 h.0 in
+        let r = elifs_right es f.0 h.0 in
         let a : selected_elifs w es ≡ None → Right p = λ e. elif_right (conds_of_elifs es) p f.1.0 (h.1 e).0 in (
           (r.0, λ e. (a e, λ t. nodes_right ns (at_kept (is_kept (conds_of_elifs es) p.cond) ns (kept_by (conds_of_elifs es) p.cond p.line (r.1 e) (a e) t) q.1) ((h.1 e).1 t))),
           λ e. let n : (selected_elifs w es ≡ None) × (where_true (w p.line) (selected w ns) ≡ None) = or_none (selected_elifs w es) (where_true (w p.line) (selected w ns)) e in

@@ -211,7 +211,7 @@ module _ (s : Settings) (n : s.renumber ≡ false) where
       some_differ_by s (lines_of_nodes ns) (marks (closed ns)) ≡ not (bytes_eq (printed_by s (lines_of_nodes ns) (marks (closed ns))) input)
   closed_differs input ns h e =
       let js : List Judged = judged_lines (lines_of_nodes ns) (marks (closed ns)) in
-      let ps : pieces_by (piece_after (style_of s)) [] js ≡ map (lone s.blank s.complement) js = pieces_lone s.blank s.complement s.renumber [] js n in
+      let ps = pieces_lone s.blank s.complement s.renumber [] js n in
       let many : length (lines_of_nodes ns) ≡ length (marks (closed ns)) = cc (as_many_nodes true ns, marks_so_far_same true (closed ns)) in
       let back : out whole js ≡ input = cc (whole_lines_are (lines_of_nodes ns) (marks (closed ns)) many, e, lines_join input) in
       ap (λ (qs : List (List ℕ)). some_other qs js) ps

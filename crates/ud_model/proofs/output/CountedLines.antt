@@ -258,10 +258,10 @@ module _ (o : Options) (m : Mode) (b n : Bool) (some : (b || n) ≡ true) where
     ready_number f g =
         let rest : LeavesOff s.ys in_text true false = rests_after o xs t s.ys m s.between f in
         let d : List ℕ = number_line j.line in
-        let end : IsEnd (ending_or_newline j.line.ending) = feed_end j.line.ending (ends_or_not j.line (subst IsLine (sym line_j) i)) in
+        let end = feed_end j.line.ending (ends_or_not j.line (subst IsLine (sym line_j) i)) in
         let few : j.line.number < 2 ^ 64 = subst (λ (z : Line). z.number < 2 ^ 64) (sym line_j) small in
         let cut = number_quiet (suc (length s.qs)) j.line end few in
-        let quiet : IsQuiet (line_behind s.qs d) = quiet_by (line_behind s.qs d) (record { body = says_number j.line.number; ending = ending_or_newline j.line.ending; number = suc (length s.qs) }) cut (record { quiet = says_quiet j.line.number few; end = end }) in
+        let quiet = quiet_by (line_behind s.qs d) (record { body = says_number j.line.number; ending = ending_or_newline j.line.ending; number = suc (length s.qs) }) cut (record { quiet = says_quiet j.line.number few; end = end }) in
         let w = put o m s.ys s.zs s.qs s.weave rest d quiet in
         let z : Reading = read_after s.zs m (line_behind s.qs d) in
         record {
@@ -317,7 +317,7 @@ module _ (o : Options) (m : Mode) (b n : Bool) (some : (b || n) ≡ true) where
     left_state : HasEnd l → IsLeft v → State (xs ++ x ∷ []) u
     left_state end h =
         let r : Ready = ready h in
-        let pw : IsWhole p = piece_whole j.verdict j.keyword j.line (subst IsLine (sym line_j) i) (subst HasEnd (sym line_j) end) h in
+        let pw = piece_whole j.verdict j.keyword j.line (subst IsLine (sym line_j) i) (subst HasEnd (sym line_j) end) h in
         record {
           ys = with_line o m s.ys (line_behind (bytes_of s.ys) p);
           between = subst (λ (ws : List (Item Reading)). Between o m (xs ++ x ∷ []) u ws) (items_left h) (stepped.2 end);
@@ -374,8 +374,8 @@ module _ (o : Options) (m : Mode) (b n : Bool) (some : (b || n) ≡ true) where
         put_blank g =
             let d : List ℕ = j.line.ending in
             let de : IsEnd d = subst (λ (z : Line). IsEnd z.ending) (sym line_j) (has_end (ends_or_not l i)) in
-            let cut : line_behind s.qs d ≡ record { body = []; ending = d; number = suc (length s.qs) } = quiet_line (suc (length s.qs)) [] d tt de in
-            let quiet : IsQuiet (line_behind s.qs d) = quiet_by (line_behind s.qs d) (record { body = []; ending = d; number = suc (length s.qs) }) cut (record { quiet = tt; end = de }) in
+            let cut = quiet_line (suc (length s.qs)) [] d tt de in
+            let quiet = quiet_by (line_behind s.qs d) (record { body = []; ending = d; number = suc (length s.qs) }) cut (record { quiet = tt; end = de }) in
             let rest : LeavesOff s.ys in_text true false = rests_at o xs t s.ys m s.between l u i k f in
             record {
               ys = s.ys;

@@ -63,8 +63,8 @@ module _ (o : Options) (p : IsPlain o) (b n : Bool) (some : (b || n) ≡ true) w
   inside : {xs : List (Item Reading)} {t : Tree Reading} → AreFaultless o xs t → Each IsInner (map line_of xs) → InOrder 1 (map line_of xs) → The xs t
   inside no_lines h i = first_state o (the_mode o) b n some
   inside (one_more xs t s l u e w) h i =
-      let k : Each IsInner (map line_of xs) × Each IsInner (l ∷ []) = each_parts IsInner (map line_of xs) (l ∷ []) (subst (Each IsInner) (lines_with_next o xs t l) h) in
-      let c : InOrder 1 (map line_of xs) × (l.number ≡ 1 + length (map line_of xs)) = order_last 1 (map line_of xs) l (subst (InOrder 1) (lines_with_next o xs t l) i) in
+      let k = each_parts IsInner (map line_of xs) (l ∷ []) (subst (Each IsInner) (lines_with_next o xs t l) h) in
+      let c = order_last 1 (map line_of xs) l (subst (InOrder 1) (lines_with_next o xs t l) i) in
       let same : next_item o xs t l ≡ item_of o (read_after xs (the_mode o) l) = next_is o p xs t l s in
       subst (λ (x : Item Reading). The (xs ++ x ∷ []) u) (sym same)
       (next_state o (the_mode o) b n some xs t (sound_lines s) (inside s k.0 c.0) l u (c.1 ∙ ap (λ (d : ℕ). 1 + d) (order_map xs) ∙ omega arith) (few xs t l w)
@@ -73,8 +73,8 @@ module _ (o : Options) (p : IsPlain o) (b n : Bool) (some : (b || n) ≡ true) w
   to_the_end : {xs : List (Item Reading)} {t : Tree Reading} → AreFaultless o xs t → AllButLast (map line_of xs) → InOrder 1 (map line_of xs) → End xs t
   to_the_end no_lines h i = done o (the_mode o) b n some [] _ (first_state o (the_mode o) b n some)
   to_the_end (one_more xs t s l u e w) h i =
-      let k : Each IsInner (map line_of xs) × IsLine l = ends_before (map line_of xs) l (subst AllButLast (lines_with_next o xs t l) h) in
-      let c : InOrder 1 (map line_of xs) × (l.number ≡ 1 + length (map line_of xs)) = order_last 1 (map line_of xs) l (subst (InOrder 1) (lines_with_next o xs t l) i) in
+      let k = ends_before (map line_of xs) l (subst AllButLast (lines_with_next o xs t l) h) in
+      let c = order_last 1 (map line_of xs) l (subst (InOrder 1) (lines_with_next o xs t l) i) in
       let same : next_item o xs t l ≡ item_of o (read_after xs (the_mode o) l) = next_is o p xs t l s in
       subst (λ (x : Item Reading). End (xs ++ x ∷ []) u) (sym same)
       (next_done o (the_mode o) b n some xs t (sound_lines s) (inside s k.0 c.0) l u (c.1 ∙ ap (λ (d : ℕ). 1 + d) (order_map xs) ∙ omega arith) (few xs t l w)
@@ -108,7 +108,7 @@ counted_text o p b n some input {xs = xs} {t = t} {r = r} {s = s} a run other =
     ∙ ap (λ (ps : List (List ℕ)). numbered_from 1 ps) (sym (item_bytes d.ys (printed xs (marks t)) d.again.same)) ∙ sym d.again.numbered in
     let e = reads_too o (with_blank_renumber b n o) refl refl refl a in
     let out : s.output ≡ concat d.qs = cc (one_run other (ran_as e), p.unlisted, p.uncomplemented, d.same) in
-    let second : lines_of s.output ≡ map line_of d.zs = ap (λ (q : List ℕ). lines_of q) out ∙ output_lines d.qs d.formed ∙ sym d.are in (
+    let second = ap (λ (q : List ℕ). lines_of q) out ∙ output_lines d.qs d.formed ∙ sym d.are in (
       d.next,
       subst (λ (rs : List Reading). Counted js rs (read_as m s.output) d.next) (read_lines_in o m d.ys d.again.read ∙ ap (λ (ks : List Line). read_in m ks) (sym first))
           (subst (λ (ss : List Reading). Counted js (map reading_of d.ys) ss d.next) (read_lines_in o m d.zs d.read ∙ ap (λ (ks : List Line). read_in m ks) (sym second)) d.counted),

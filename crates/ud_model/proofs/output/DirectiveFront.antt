@@ -39,7 +39,7 @@ pub directive_front : (scan : Scan) (d : Directive) → content_of scan ≡ dire
 directive_front scan d e =
     let h : HasDirective scan d = (directive_is scan d).0 e in
     let p : DirectiveParts = h.parts in
-    let n : length (p.white ++ number_sign ∷ p.gap) ≡ length p.white + suc (length p.gap) = length-append p.white (number_sign ∷ p.gap) in
+    let n = length-append p.white (number_sign ∷ p.gap) in
     record {
       white = p.white;
       gap = p.gap;

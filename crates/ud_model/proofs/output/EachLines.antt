@@ -34,21 +34,21 @@ module _ {L : Type 0} (T : L → Type 0) (P : Opener L → Type 0) where
     from_items nothing h = tt
     from_items (text ns l) h = let p : Each IsOf (lines_of_nodes ns) × Each IsOf (text_line l ∷ []) = each_parts IsOf (lines_of_nodes ns) (text_line l ∷ []) h in (from_items ns p.0, p.1.0)
     from_items (section ns gs e) h =
-        let p : Each IsOf (lines_of_nodes ns ++ lines_of_groups gs) × Each IsOf (endif_line e ∷ []) = each_parts IsOf (lines_of_nodes ns ++ lines_of_groups gs) (endif_line e ∷ []) h in
-        let q : Each IsOf (lines_of_nodes ns) × Each IsOf (lines_of_groups gs) = each_parts IsOf (lines_of_nodes ns) (lines_of_groups gs) p.0 in
+        let p = each_parts IsOf (lines_of_nodes ns ++ lines_of_groups gs) (endif_line e ∷ []) h in
+        let q = each_parts IsOf (lines_of_nodes ns) (lines_of_groups gs) p.0 in
         (from_items ns q.0, groups_from gs q.1)
 
     groups_from : (gs : Groups L) → Each IsOf (lines_of_groups gs) → GroupLines T P gs
     groups_from (conditional es) h = elifs_from es h
     groups_from (otherwise es l ns) h =
-        let p : Each IsOf (lines_of_elifs es ++ else_line l ∷ []) × Each IsOf (lines_of_nodes ns) = each_parts IsOf (lines_of_elifs es ++ else_line l ∷ []) (lines_of_nodes ns) h in
+        let p = each_parts IsOf (lines_of_elifs es ++ else_line l ∷ []) (lines_of_nodes ns) h in
         (elifs_from es (each_parts IsOf (lines_of_elifs es) (else_line l ∷ []) p.0).0, from_items ns p.1)
 
     elifs_from : (es : Elifs L) → Each IsOf (lines_of_elifs es) → ElifLines T P es
     elifs_from (first o ns) h = let p : Each IsOf (if_line o ∷ []) × Each IsOf (lines_of_nodes ns) = each_parts IsOf (if_line o ∷ []) (lines_of_nodes ns) h in (p.0.0, from_items ns p.1)
     elifs_from (elif es o ns) h =
-        let p : Each IsOf (lines_of_elifs es ++ elif_line o ∷ []) × Each IsOf (lines_of_nodes ns) = each_parts IsOf (lines_of_elifs es ++ elif_line o ∷ []) (lines_of_nodes ns) h in
-        let q : Each IsOf (lines_of_elifs es) × Each IsOf (elif_line o ∷ []) = each_parts IsOf (lines_of_elifs es) (elif_line o ∷ []) p.0 in
+        let p = each_parts IsOf (lines_of_elifs es ++ elif_line o ∷ []) (lines_of_nodes ns) h in
+        let q = each_parts IsOf (lines_of_elifs es) (elif_line o ∷ []) p.0 in
         (elifs_from es q.0, q.1.0, from_items ns p.1)
 
 module _ {L M : Type 0} (f : L → M) (T : M → Type 0) (P : Opener M → Type 0) where

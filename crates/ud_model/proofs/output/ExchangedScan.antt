@@ -68,8 +68,8 @@ spelled_by w white bytes ws gs [] d q u s i n k a l e = absurd k
 spelled_by w white bytes ws gs (c ∷ word) d q u s i n k a l e =
     let some : length (ws ++ 35 ∷ gs) ≡ suc (length ws + length gs) = omega (arith, length-append ws (35 ∷ gs)) in
     let no_newline : c ≢ newline = λ h. let f : true ≡ false = sym (ap (λ (x : ℕ). x == newline) h) ∙ i.0.no_newline in cc in
-    let f : Found w bytes (ws ++ 35 ∷ gs) c (word ++ d.after) = keyword_place w bytes (ws ++ 35 ∷ gs) c (word ++ d.after) (length ws + length gs) u s n.0 no_newline q some e in
-    let r : (more : List ℕ) × (f.behind ≡ (c ∷ word) ++ more) × (masked_after in_text [] more ≡ d.after) = word_stands (c ∷ word) f.behind d.after i n f.goes_on in
+    let f = keyword_place w bytes (ws ++ 35 ∷ gs) c (word ++ d.after) (length ws + length gs) u s n.0 no_newline q some e in
+    let r = word_stands (c ∷ word) f.behind d.after i n f.goes_on in
     let long : length (ws ++ 35 ∷ gs) ≡ length f.before = ap (λ (t : List ℕ). length t) (sym f.masks) ∙ length-masked_after f.before w [] ∙ omega arith in
     record {
       before = f.before;

@@ -125,7 +125,7 @@ joins_next before l k =
 -- A line of a logical line joins the next one, if that is joined.
 pub next_joined : (r s : Reading) (rs : List Reading) → IsLogical (r ∷ s ∷ rs) → r.scan.joins_after ≡ s.scan.joins_before
 next_joined r s rs i =
-    let e : read_on [] (r.line ∷ s.line ∷ map line_of rs) ≡ r ∷ s ∷ rs = sym (read_on_is [] (r.line ∷ s.line ∷ map line_of rs)) ∙ i.read in
+    let e = sym (read_on_is [] (r.line ∷ s.line ∷ map line_of rs)) ∙ i.read in
     let p : next_reading [] C r.line ≡ r = cc in
     let q : next_reading (next_reading [] C r.line ∷ []) C s.line ≡ s = cc in
     ap (λ (x : Reading). x.scan.joins_after) (sym p) ∙ sym (joins_next [] r.line s.line) ∙ ap (λ (x : Reading). x.scan.joins_before) q
@@ -177,7 +177,7 @@ lines_from p l (k ∷ ks) i n a =
     by true e f h = rw (sym (append_assoc g (r ∷ []) (continued rest))) (f (grown g k i e))
     by false e f h =
         let end : EndsLogicalLine g = ends_with p C l (sym (joins_next p l k) ∙ e) a.0.0 in
-        let same : r ≡ next_reading [] C k = ap (λ (rs : List Reading). next_reading rs C k) (sym (append-nil g)) ∙ next_alone g [] k end in (
+        let same = ap (λ (rs : List Reading). next_reading rs C k) (sym (append-nil g)) ∙ next_alone g [] k end in (
           rw (append-nil g) i,
           inl (rw (append-nil g) (end, inner)),
           rw (on_alone g (r ∷ []) ks end, same) h,

@@ -108,7 +108,7 @@ unfolding edited_body
 unended_piece Keep k n t h (s, w) = (subst (λ (x : List ℕ). x ≢ []) (sym (body-ending t)) s, subst NoNewline (sym (body-ending t)) w)
 unended_piece Remove k n t h w = absurd h
 unended_piece ToIf k n t h (s, w) =
-    let p : NoNewline (body_of t) × NoNewline (ending_of t) = no_feed_parts (body_of t) (ending_of t) (subst NoNewline (sym (body-ending t)) w) in (
+    let p = no_feed_parts (body_of t) (ending_of t) (subst NoNewline (sym (body-ending t)) w) in (
       some_front ((take k.at (body_of t) ++ opener_keyword k.len) ++ drop (k.at + k.len) (body_of t)) (ending_of t)
           (some_front (take k.at (body_of t) ++ opener_keyword k.len) (drop (k.at + k.len) (body_of t))
           (each_length (λ w. take k.at (body_of t) ++ w ≢ []) (not_nil (take k.at (body_of t)) (codes "fdef  ") 105) (not_nil (take k.at (body_of t)) (codes "fndef  ") 105)
@@ -116,12 +116,12 @@ unended_piece ToIf k n t h (s, w) =
       no_newline-append ((take k.at (body_of t) ++ opener_keyword k.len) ++ drop (k.at + k.len) (body_of t)) (ending_of t) (edited_no_feed ToIf k (body_of t) p.0) p.1,
     )
 unended_piece ToElse k n t h (s, w) =
-    let p : NoNewline (body_of t) × NoNewline (ending_of t) = no_feed_parts (body_of t) (ending_of t) (subst NoNewline (sym (body-ending t)) w) in (
+    let p = no_feed_parts (body_of t) (ending_of t) (subst NoNewline (sym (body-ending t)) w) in (
       some_front (take k.at (body_of t) ++ codes "else") (ending_of t) (not_nil (take k.at (body_of t)) (codes "lse") 101),
       no_newline-append (take k.at (body_of t) ++ codes "else") (ending_of t) (edited_no_feed ToElse k (body_of t) p.0) p.1,
     )
 unended_piece ToEndif k n t h (s, w) =
-    let p : NoNewline (body_of t) × NoNewline (ending_of t) = no_feed_parts (body_of t) (ending_of t) (subst NoNewline (sym (body-ending t)) w) in (
+    let p = no_feed_parts (body_of t) (ending_of t) (subst NoNewline (sym (body-ending t)) w) in (
       some_front (take k.at (body_of t) ++ codes "endif") (ending_of t) (not_nil (take k.at (body_of t)) (codes "ndif") 101),
       no_newline-append (take k.at (body_of t) ++ codes "endif") (ending_of t) (edited_no_feed ToEndif k (body_of t) p.0) p.1,
     )
@@ -143,7 +143,7 @@ module _ (q : ℕ) where
   unfolding EndsIn
   end_front prefix b none e n (c, h) = absurd (n (sym e) (c, sym (append-nil prefix) ∙ ap (λ (t : List ℕ). prefix ++ t) e ∙ h))
   end_front prefix b (push {xs = d} z p) e n (c, h) =
-      let r : z ≡ q = end_back prefix d z (c, ap (λ (t : List ℕ). prefix ++ t) e ∙ h) in (d, sym e ∙ ap (λ (y : ℕ). d ++ y ∷ []) r)
+      let r = end_back prefix d z (c, ap (λ (t : List ℕ). prefix ++ t) e ∙ h) in (d, sym e ∙ ap (λ (y : ℕ). d ++ y ∷ []) r)
 
   -- A list that ends in another byte doesn't.
   pub not_end : (a d : List ℕ) (z : ℕ) → (z == q) ≡ false → EndsIn q (a ++ (d ++ z ∷ [])) → ⊥

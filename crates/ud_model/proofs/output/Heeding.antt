@@ -62,7 +62,7 @@ head_heeds (else_head es l) e = elifs_heed es (each_parts Heeds (lines_of_elifs 
 pub tree_heeds : (t : Tree Reading) → Each Heeds (lines t) → is_ignoring t ≡ false
 tree_heeds (closed ns) e = refl
 tree_heeds (open_section ns h t) e =
-    let p : Each Heeds (lines_of_nodes ns ++ lines_of_head h) × Each Heeds (lines t) = each_parts Heeds (lines_of_nodes ns ++ lines_of_head h) (lines t) e in
+    let p = each_parts Heeds (lines_of_nodes ns ++ lines_of_head h) (lines t) e in
     ap₂ (λ (a b : Bool). a || b) (head_heeds h (each_parts Heeds (lines_of_nodes ns) (lines_of_head h) p.0).1) (tree_heeds t p.1)
 
 module _ (o : Options) (n : NoneIgnores o.table) where
@@ -84,8 +84,8 @@ module _ (o : Options) (n : NoneIgnores o.table) where
   pub are_read : (ys : List (Item Reading)) → ReadIn o (the_mode o) ys → (t : Tree Reading) → lines t ≡ ys → AreRead o ys t
   are_read _ none_read t e = subst (AreRead o []) (sym (unique t (closed nothing) e)) no_items
   are_read _ (one_read ys r l) t e =
-      let b : (v : Tree Reading) × (lines v ≡ ys) × Adds v (item_of o (read_after ys (the_mode o) l)) t = tree_before ys (item_of o (read_after ys (the_mode o) l)) t e in
+      let b = tree_before ys (item_of o (read_after ys (the_mode o) l)) t e in
       let m : mode_after o b.0 ≡ the_mode o = one_mode ys b.0 b.1 (all_heed (the_mode o) ys r) in
-      let x : next_item o ys b.0 l ≡ item_of o (read_after ys (the_mode o) l) = ap (λ (q : Mode). item_of o (read_after ys q l)) m in
+      let x = ap (λ (q : Mode). item_of o (read_after ys q l)) m in
       subst (λ (y : Item Reading). AreRead o (ys ++ y ∷ []) t) x
       (one_item ys b.0 (are_read ys r b.0 b.1) l t (e ∙ ap (λ (y : Item Reading). ys ++ y ∷ []) (sym x)))

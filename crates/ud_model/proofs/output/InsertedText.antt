@@ -63,7 +63,7 @@ inserted_in_text o p b n some input {r = r} {s = s} run other us a =
     let c = counted_text o p b n some input z.3 run other in
     let zs : List (Item Reading) = items o (read_as m s.output) in
     let first : lines_of_nodes us ≡ items o (read_as m r.output) = cc (read_lines a.read, items_are o p.none_ignores a.read, a.are) in
-    let w : Woven NodesWithInserted us zs = weave_inserted us zs (subst (λ (ys : List (Item Reading)). Inserted ys zs) (sym first) (strewn_counted o c.1)) in (
+    let w = weave_inserted us zs (subst (λ (ys : List (Item Reading)). Inserted ys zs) (sym first) (strewn_counted o c.1)) in (
       w.nodes,
       record {
         items = zs;

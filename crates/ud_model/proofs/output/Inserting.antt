@@ -80,7 +80,7 @@ module _ (o : Options) (m : Mode) (ys zs : List (Item Reading)) (qs : List (List
   -- A quiet line is inserted.
   pub put : LeavesOff ys in_text true false → (q : List ℕ) → IsQuiet (line_behind qs q) → Weave o m ys (with_line o m zs (line_behind qs q)) (qs ++ q ∷ [])
   put r q h =
-      let a : LeavesOff (with_line o m zs (line_behind qs q)) in_text true false = lone_next m refl (line_behind qs q) (between_lines r) h in
+      let a = lone_next m refl (line_behind qs q) (between_lines r) h in
       record {
         place = in_text;
         white = true;
@@ -123,11 +123,11 @@ module _ (o : Options) (m : Mode) (ys zs : List (Item Reading)) (qs : List (List
   left_by C e a n q h =
       let l : Line = line_at n q in
       let k : Line = line_behind qs q in
-      let s : scan_after (map reading_of zs) C k ≡ scan_after (map reading_of ys) C l = subst (λ (k : Mode). scan_after (map reading_of zs) k (line_behind qs q) ≡ scan_after (map reading_of ys) k (line_at n q)) e (left_seen n q) in
+      let s = subst (λ (k : Mode). scan_after (map reading_of zs) k (line_behind qs q) ≡ scan_after (map reading_of ys) k (line_at n q)) e (left_seen n q) in
       let on : Bool = (scan_after (map reading_of ys) C l).joins_after in
       let place : LexState = state_after_line (stays_open l) (place_after w.place (content l)) in
-      let white : Bool = white_after_line (stays_open l) (place_after w.place (content l)) (white_after w.place w.white (content l)) in
-      let g : LeavesOff (with_line o C zs k) place white (scan_after (map reading_of zs) C k).joins_after = leaves_next o zs w.place w.white w.on k w.second in
+      let white = white_after_line (stays_open l) (place_after w.place (content l)) (white_after w.place w.white (content l)) in
+      let g = leaves_next o zs w.place w.white w.on k w.second in
       record {
         place = place;
         white = white;

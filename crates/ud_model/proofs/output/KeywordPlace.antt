@@ -92,11 +92,11 @@ pub word_stands : (word behind rest : List ℕ) → Each IsInert word → Each (
     (more : List ℕ) × (behind ≡ word ++ more) × (masked_after in_text [] more ≡ rest)
 word_stands (c ∷ word) (x ∷ behind) rest h n e =
     let q : x ≡ c = first_byte (next_state in_text x) x c behind (word ++ rest) n.0 e in
-    let f : masked_after (next_state in_text c) (c ∷ []) behind ≡ c ∷ (word ++ rest) = subst (λ (y : ℕ). masked_after (next_state in_text y) (y ∷ []) behind ≡ c ∷ (word ++ rest)) q e in
+    let f = subst (λ (y : ℕ). masked_after (next_state in_text y) (y ∷ []) behind ≡ c ∷ (word ++ rest)) q e in
     let g : masked_after in_text (c ∷ []) behind ≡ c ∷ (word ++ rest) = cc (next_inert c h.0, f) in
     let k : c ∷ masked_after in_text [] behind ≡ c ∷ (word ++ rest) = sym (text_front behind (c ∷ [])) ∙ g in
     let t : masked_after in_text [] behind ≡ word ++ rest = cc in
-    let r : (more : List ℕ) × (behind ≡ word ++ more) × (masked_after in_text [] more ≡ rest) = word_stands word behind rest h.1 n.1 t in
+    let r = word_stands word behind rest h.1 n.1 t in
     (r.0, ap₂ (λ (y : ℕ) (l : List ℕ). y ∷ l) q r.1, r.2)
 word_stands word behind rest h g k = grind arith
 

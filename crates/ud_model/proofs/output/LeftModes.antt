@@ -102,7 +102,7 @@ module _ (o : Options) where
     cut_carry : (scan_after (map reading_of xs) C l).joins_after ≡ false → (scan_after (map reading_of ys) C k).joins_after ≡ false → HasEnd l →
         Carry false (with_line xs l) (with_line ys k)
     cut_carry e f h =
-        let r : Rests (with_line ys k) = anew_rests ys k f (has_end h) in alike in_text true false (leaves_anew o xs l e h) r.off (λ g. refl) (λ g. r)
+        let r = anew_rests ys k f (has_end h) in alike in_text true false (leaves_anew o xs l e h) r.off (λ g. refl) (λ g. r)
 
     seen_before : scan_after (map reading_of xs) C l ≡ scan_from w white on l
     seen_before = scan_after_run-from (c_run_of (map reading_of xs)) l w white on a.reads a.joins_on
@@ -128,7 +128,7 @@ module _ (o : Options) where
     left_code Remove h s u m b e = absurd h
     left_code Keep h s u m b e =
         let body : k.body ≡ l.body = b.body ∙ kept_body (keyword_in (content_of (scan_after (map reading_of xs) C l))) l.body in
-        let q : scan_after (map reading_of ys) C k ≡ scan_after (map reading_of xs) C l = kept_scan xs ys C w white on l k a c body b.ending in
+        let q = kept_scan xs ys C w white on l k a c body b.ending in
         record {
           left = left_kept o (read_after xs C l) (read_after ys C k) q e u;
           carry = kept_carry (same_next w white l k body b.ending) (ap (λ (r : Scan). r.joins_after) q);

@@ -118,7 +118,7 @@ pub cut_seen : (w : LexState) (white on : Bool) (l k : Line) (d : Directive) (wo
 unfolding scan_from
 cut_seen w white on l k d word s e i n b =
     let within : d.keyword.at + d.keyword.len ≤ length (content l) = keyword_within w white on l d e in
-    let x : CutOff w white on l k d word = cut_scan w white on l k d word s e i (cut_line_content d.keyword l k within word n b) in
+    let x = cut_scan w white on l k d word s e i (cut_line_content d.keyword l k within word n b) in
     let p : is_spliced k ≡ false = cut_splice d.keyword l k within word n b in
     let v : kind_in_state (state_after_line (stays_open k) (place_after w (content k))) ≡ single =
     ap (λ (q : LexState). kind_in_state (state_after_line (stays_open k) q)) x.place_is ∙ calm_in_text (stays_open k) in

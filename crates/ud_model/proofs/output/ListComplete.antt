@@ -48,7 +48,7 @@ module _ (o p : Options) (plain : o.settings.plain ≡ p.settings.plain) (rules 
   pub sound_alike : {xs : List (Item Reading)} {t : Tree Reading} → AreFaultless o xs t → AllNames Known xs → AreFaultless p xs t
   sound_alike no_lines h = no_lines
   sound_alike (one_more xs t s l u e n) h =
-      let q : AllNames Known xs × AllNames Known (next_item o xs t l ∷ []) = each_parts (λ x. Each Known (names_at x)) xs (next_item o xs t l ∷ []) h in
+      let q = each_parts (λ x. Each Known (names_at x)) xs (next_item o xs t l ∷ []) h in
       let x : next_item o xs t l ≡ next_item p xs t l =
       next_alike xs t l (subst (NamesRead Known) (reading_of-item_of o (read_after xs (mode_after o t) l)) q.1.0) in
       subst (λ (y : Item Reading). AreFaultless p (xs ++ y ∷ []) u) (sym x)
@@ -74,7 +74,7 @@ names_then P [] rest before z h = (tt, (before, z, refl))
 names_then P (n ∷ names) rest before z h =
     let more : List ℕ = listed_names [] names in
     let flat : before ++ (listed_names [] (n ∷ names) ++ rest) ≡ (before ++ n) ++ 10 ∷ (more ++ rest) = simp (name_first, append_assoc) in
-    let moved : (before ++ n) ++ 10 ∷ (more ++ rest) ≡ (before ++ n ++ 10 ∷ []) ++ (more ++ rest) = sym (append_assoc (before ++ n) (10 ∷ []) (more ++ rest)) in
+    let moved = sym (append_assoc (before ++ n) (10 ∷ []) (more ++ rest)) in
     let k = names_then P names rest (before ++ n ++ 10 ∷ []) (rest_none (before ++ n)) (λ m i. h m (subst (IsListed m) (sym (flat ∙ moved)) i)) in
     ((h n (before, more ++ rest, z, flat), k.0), (k.1.0, k.1.1, flat ∙ moved ∙ k.1.2))
 
@@ -105,7 +105,7 @@ pub list_complete : (o p : Options) (input : List ℕ) {l r : Outcome} → HasOu
     AgreeOnListed l.output o.table p.table → HasOutcome o input r → HasOutcome p input r
 list_complete o p input (ran_as (stops xs t f s)) e same alike run = cc
 list_complete o p input (ran_as (ends xs t g)) e same alike run =
-    let here : AreFaultless o xs t = sound_alike (with_listing o) o refl refl g.sound (all_listed (Alike o.table o.table) g.sound (λ n i. the_same o.table n)) in
+    let here = sound_alike (with_listing o) o refl refl g.sound (all_listed (Alike o.table o.table) g.sound (λ n i. the_same o.table n)) in
     let names : AllNames (Alike o.table p.table) xs = all_listed (Alike o.table p.table) g.sound (λ n i m l. alike n m i l) in
     let there : AreFaultless p xs t = grind (arith, sound_alike) in
     same_settings same (ends xs t (record { sound = here; are = g.are })) (ends xs t (record { sound = there; are = g.are })) run
@@ -159,7 +159,7 @@ module _ (o p : Options) (input : List ℕ) (same : p.settings ≡ o.settings) (
       let q = each_parts Told (read_in (the_mode o) (map line_of xs) ++ next_reading (read_in (the_mode o) (map line_of xs)) (the_mode o) s.faulty ∷ []) w.0
       (subst (Each Told) (ap (λ (ls : List Line). read_in (the_mode o) ls) s.are ∙ w.1) h) in
       let k = each_parts Told (read_in (the_mode o) (map line_of xs)) (next_reading (read_in (the_mode o) (map line_of xs)) (the_mode o) s.faulty ∷ []) q.0 in
-      let names : AllNames (Alike o.table p.table) xs = each_unmap reading_of Told xs (subst (Each Told) (sym (read_so o n s.sound)) k.0) in
+      let names = each_unmap reading_of Told xs (subst (Each Told) (sym (read_so o n s.sound)) k.0) in
       let next : Told (read_after xs (mode_after o t) s.faulty) = grind (arith, mode_is, read_so, k.1.0) in
       same_settings same (stops xs t f s)
       (stops xs t f (stop_alike o p (ap (λ (s : Settings). s.plain) (sym same)) (ap (λ (s : Settings). rules_of s) (sym same)) (lines_of input) xs t f s names next))
@@ -178,7 +178,7 @@ pub list_serves : (q o p : Options) (input : List ℕ) {l r : Outcome} → q.set
     HasOutcome q input l → l.fault ≡ None → p.settings ≡ o.settings → AgreeOnListed l.output o.table p.table → HasOutcome o input r → HasOutcome p input r
 list_serves q o p input set calm n (ran_as (stops xs t f s)) e same alike run = cc
 list_serves q o p input set calm n (ran_as (ends xs t g)) e same alike run =
-    let out : output_by q.settings.listing q.settings xs t ≡ listed false xs (levels t) = ap (λ (s : Settings). output_by s.listing s xs t) set in
+    let out = ap (λ (s : Settings). output_by s.listing s xs t) set in
     let names : AllNames (Alike o.table p.table) xs =
     all_listed (Alike o.table p.table) g.sound (λ m i k l. alike m k (subst (IsListed m) (sym out) i) l) in
     let modes : the_mode q ≡ the_mode o = ap (λ (s : Settings). mode_by s.plain) set in

@@ -82,7 +82,7 @@ run_of o input r d e p ns us i j = record {
 pub answered_live : {args : List (List ℕ)} {input : List ℕ} {a : Answer} → IsAnswer args input a → a.status ≢ 2 → IsPlain (options_of args) → LeavesLive (options_of args) input a.output
 answered_live (refused f e) n p = absurd (n refl)
 answered_live {args = args} {input = input} (ran r e d) n p = λ ns us i j.
-    let k : CleanRun = run_of (options_of args) input r d (faultless (options_of args).settings r.differs r.fault n) p ns us i j in (left_lines k, left_live k, left_bytes k)
+    let k = run_of (options_of args) input r d (faultless (options_of args).settings r.differs r.fault n) p ns us i j in (left_lines k, left_live k, left_bytes k)
 
 -- Each line of the input that C may select is live.
 pub answered_c_live : {args : List (List ℕ)} {input : List ℕ} {a : Answer} → IsAnswer args input a → a.status ≢ 2 → SelectsLive (options_of args) input
@@ -94,5 +94,5 @@ answered_c_live {args = args} {input = input} (ran r e d) n = λ ns i w g l c.
 pub answered_without : {args : List (List ℕ)} {input : List ℕ} {a : Answer} → IsAnswer args input a → a.status ≢ 2 → IsPlain (options_of args) → (name : List ℕ) (u : List Argument) → SelectsWithout (options_of args) name u input a.output
 answered_without (refused f e) n p name u = absurd (n refl)
 answered_without {args = args} {input = input} (ran r e d) n p name u = λ ns us i j gone same w v pair.
-    let k : CleanRun = run_of (options_of args) input r d (faultless (options_of args).settings r.differs r.fault n) p ns us i j in
+    let k = run_of (options_of args) input r d (faultless (options_of args).settings r.differs r.fault n) p ns us i j in
     ((same_worlds (options_of args).table u name gone.no_value same us gone.unnamed v).0 (c_world_again k w pair.c_world v pair.truths), c_selected_again k w pair.c_world v pair.truths)

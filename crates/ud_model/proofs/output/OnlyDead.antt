@@ -172,8 +172,8 @@ module _ (ns : Nodes Reading) where
       let g : Truths (lines_of_heads (heads_in (lines_of_nodes ns))) (Gives (heads_in (lines_of_nodes ns)) left_heads t.truths) =
       given (heads_left (lines_of_nodes ns) (marks (closed ns))) u t.truths
       (t.long ∙ ap (λ (ls : List (Edited Reading)). length ls) (sym left_are) ∙ length-map left_heads (λ (o : Opener (Edited Reading)). o.line)) in
-      let v : (w : World Reading) × (map w (openers ns) ≡ g.truths) = world_by n ns g.truths h (g.long ∙ ap (λ (ls : List Reading). length ls) heads_are) in
-      let s : Gives (heads_in (lines_of_nodes ns)) left_heads t.truths v.0 = g.so v.0 (ap (λ (ls : List Reading). map v.0 ls) heads_are ∙ v.1) in
+      let v = world_by n ns g.truths h (g.long ∙ ap (λ (ls : List Reading). length ls) heads_are) in
+      let s = g.so v.0 (ap (λ (ls : List Reading). map v.0 ls) heads_are ∙ v.1) in
       let a : Agrees v.0 ns = each_reached (Fits v.0) v.0 ns s.agrees in
       let d : Contains (selected (out_world v.0) (folded ns)) e = grind (arith, left_are) in
       let r = from_map (edited Keep) (selected v.0 ns) e (subst (λ (ls : List (Edited Reading)). Contains ls e) (sym (selected-pruned v.0 ns a)) d) in

@@ -195,7 +195,7 @@ module _ (o : Options) (text : List ℕ) (whole : partial_line text ≡ []) (uns
       EndsLogicalLine (map reading_of (ys ++ next_item o ys t l ∷ []))
   alone_by ys t l m p are h =
       let lines : lines_of text ≡ map line_of ys ++ l ∷ [] = are ∙ lines_with_next o ys t l in
-      let read : reading_of (next_item o ys t l) ≡ read_after ys (mode_after o t) l = reading_of-item_of o (read_after ys (mode_after o t) l) in
+      let read = reading_of-item_of o (read_after ys (mode_after o t) l) in
       let closed_here : is_in_block (scan_after (map reading_of ys) (mode_after o t) l).comment ≡ false = cc (read, last_comment ys (next_item o ys t l), h) in
       subst EndsLogicalLine
       (ap (λ (r : Reading). map reading_of ys ++ r ∷ []) (sym read) ∙ sym (map-append reading_of ys (next_item o ys t l ∷ [])))
@@ -244,14 +244,13 @@ answer_in_parts args text more a b p s q c k = by_answers s.answer s.no_fault q 
     by_answers (ran r u d) n (ran z v h) (refused f e) = cc
     by_answers (ran r u d) n (ran z v h) (ran w y k) =
         let f : r.fault ≡ None = faultless (options_of args).settings r.differs r.fault n in
-        let is : in_parts (length (lines_of text)) r z ≡ w = one_run (outcome_in_parts (options_of args) text more r z p d f h) k in
+        let is = one_run (outcome_in_parts (options_of args) text more r z p d f h) k in
         let settings : Settings = (options_of args).settings in
-        let status : status_of settings (r.differs || z.differs) (fault_if_later (length (lines_of text)) z.fault) ≡ status_of settings w.differs w.fault =
-        ap (λ (m : Outcome). status_of settings m.differs m.fault) is in
+        let status = ap (λ (m : Outcome). status_of settings m.differs m.fault) is in
         record {
           output = ap (λ (m : Outcome). m.output) (sym is);
           fails = λ g. sym status ∙ status_failed settings (length (lines_of text)) (r.differs || z.differs) z.differs z.fault g;
           same = λ g.
-              let first : status_of settings r.differs r.fault ≡ status_of settings r.differs None = ap (λ (q : Option Fault). status_of settings r.differs q) f in
+              let first = ap (λ (q : Option Fault). status_of settings r.differs q) f in
               sym status ∙ status_same settings (length (lines_of text)) r.differs z.differs z.fault (sym first ∙ g) ∙ sym first;
         }

@@ -232,7 +232,7 @@ module _ (o : Options) (n : ℕ) (xs : List (Item Reading)) (ns : Nodes Reading)
     sound_both no_lines rest e = subst (λ (zs : List (Item Reading)). AreFaultless o zs (closed ns)) (sym (append-nil xs)) sound
     sound_both (one_more ys t s l u g none) rest e =
         let x : Item Reading = next_item o ys t l in
-        let are : ls ≡ map line_of ys ++ l ∷ rest = e ∙ ap (λ (ks : List Line). ks ++ rest) (lines_with_next o ys t l) ∙ append_assoc (map line_of ys) (l ∷ []) rest in
+        let are = e ∙ ap (λ (ks : List Line). ks ++ rest) (lines_with_next o ys t l) ∙ append_assoc (map line_of ys) (l ∷ []) rest in
         let b : AreFaultless o (both n xs ns ys) (grown n xs ns t) = sound_both s (l ∷ rest) are in
         let first = first_alone ys t l in
         let fits = fits_next ys t l rest are in

@@ -117,7 +117,7 @@ pub selected_presumed : (o : Options) → IsPlain o → (output : List ℕ) (vs 
     Each IsClear (read_as (mode_by o.settings.plain) output) → (x : World Reading) → ArePresumed (mode_by o.settings.plain) output (selected x vs)
 selected_presumed o p output vs i h x =
     let same : of (lines_of_nodes vs) ≡ read_as (mode_by o.settings.plain) output = read_in_one_mode o p output (closed vs) i in
-    let clear : Clear (lines_of_nodes vs) = each_unmap reading_of IsClear (lines_of_nodes vs) (subst (λ (z : List Reading). Each IsClear z) (sym same) h) in
+    let clear = each_unmap reading_of IsClear (lines_of_nodes vs) (subst (λ (z : List Reading). Each IsClear z) (sym same) h) in
     let g : Got (of (lines_of_nodes vs)) (selected x vs) =
     got_nodes x vs clear [] [] (record { lines = []; sure = true; next = 1; presumes = no_lines; are = refl }) in
     record {

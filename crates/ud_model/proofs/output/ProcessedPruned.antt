@@ -152,9 +152,9 @@ module _ {S F L : Type 0} (p : Preprocessor S F L) (files : F → Nodes L) (outp
     both_one : {gs : Groups L} {s t : S} → ProcessesOne p files gs s t → BothOne gs s t
     both_one (no_group {es = es} {s = s} {t = t} h) = record { pruned = λ r. none_alone (kept_elifs_of es) s t (none_processed r h); whole = no_group (none_same h) }
     both_one (true_group {es = es} {s = s} {t = t} h) =
-        let b : BothTrue es s t = both_true h in record { pruned = λ r. true_alone (kept_elifs_of es) s t (b.pruned r); whole = true_group b.whole }
+        let b = both_true h in record { pruned = λ r. true_alone (kept_elifs_of es) s t (b.pruned r); whole = true_group b.whole }
     both_one (true_before_else {es = es} {l = l} {ns = ns} {s = s} {t = t} h) =
-        let b : BothTrue es s t = both_true h in record { pruned = λ r. true_else (kept_elifs_of es) l (folded ns) s t (b.pruned r.0); whole = true_before_else b.whole }
+        let b = both_true h in record { pruned = λ r. true_else (kept_elifs_of es) l (folded ns) s t (b.pruned r.0); whole = true_before_else b.whole }
     both_one (else_group {es = es} {l = l} {ns = ns} {s = s} {t = t} {u = u} h g) =
         let b : Both ns t u = both g in
         record { pruned = λ r. none_else (kept_elifs_of es) l (folded ns) s t u (none_processed r.0 h) (b.pruned (r.1 s t h)); whole = else_group (none_same h) b.whole }
@@ -164,7 +164,7 @@ module _ {S F L : Type 0} (p : Preprocessor S F L) (files : F → Nodes L) (outp
         let b : Both ns t u = both g in
         record { pruned = λ r. now_true none_kept an_if o o.cond (folded ns) s s t u refl (r.0 s true t d) d (b.pruned (r.1 s t d)); whole = first_true d b.whole }
     both_true (true_before {es = es} {o = o} {ns = ns} {s = s} {t = t} h) =
-        let b : BothTrue es s t = both_true h in record { pruned = λ r. still_true (kept_elifs_of es) an_elif o o.cond (folded ns) s t (b.pruned r.0); whole = true_before b.whole }
+        let b = both_true h in record { pruned = λ r. still_true (kept_elifs_of es) an_elif o o.cond (folded ns) s t (b.pruned r.0); whole = true_before b.whole }
     both_true (elif_true {es = es} {o = o} {ns = ns} {s = s} {t = t} {u = u} {v = v} h d g) =
         let b : Both ns u v = both g in record {
           pruned = λ r. now_true (kept_elifs_of es) an_elif o o.cond (folded ns) s t u v (none_processed r.0 h) ((r.1 s t h).0 t true u d) d (b.pruned ((r.1 s t h).1 t u d));

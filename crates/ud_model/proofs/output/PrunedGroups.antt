@@ -234,7 +234,7 @@ module _ {L : Type 0} where
       section_stays stays p f.are (is_endif gs e (edited Keep e) [] (endif_line (edited Keep e) ∷ []) Keep f.others (endif_on (conds_of_groups gs) at_true s) refl refl)
   section_pruned ns gs e ps (ended es l ms (Some k)) s h p =
       let stays : gives_way (conds_of_groups gs) ≡ false = way_on (conds_of_groups gs) past s in
-      let f : Left (conds_of_groups gs) (groups_of gs) (groups_of (otherwise es l ms)) (endif_line k ∷ []) = h (conds_of_groups gs) stays in
+      let f = h (conds_of_groups gs) stays in
       section_stays stays p f.are (is_endif gs e k (endif_line k ∷ []) [] Remove f.others (endif_on (conds_of_groups gs) past s) refl refl)
 
   mutual

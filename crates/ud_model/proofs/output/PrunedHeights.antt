@@ -43,7 +43,7 @@ module _ {L : Type 0} where
     pruned_height (section ns gs e) =
         let a : height_of_nodes (folded ns) ≤ height_of_nodes ns = pruned_height ns in
         let b : height_left (kept_groups_of gs) ≤ suc (height_of_groups gs) = groups_height gs in
-        let c : height_of_nodes (then_kept (folded ns) (kept_groups_of gs) e) ≤ max (height_of_nodes (folded ns)) (height_left (kept_groups_of gs)) = left_most (folded ns) (kept_groups_of gs) e in
+        let c = left_most (folded ns) (kept_groups_of gs) e in
         omega arith
 
     groups_height : (gs : Groups L) → height_left (kept_groups_of gs) ≤ suc (height_of_groups gs)
@@ -51,18 +51,18 @@ module _ {L : Type 0} where
     groups_height (otherwise es l ns) =
         let a : height_of_nodes (folded ns) ≤ height_of_nodes ns = pruned_height ns in
         let b : height_left (kept_elifs_of es) ≤ suc (height_of_elifs es) = elifs_height es in
-        let c : height_left (with_else (kept_elifs_of es) l (folded ns)) ≤ max (height_left (kept_elifs_of es)) (suc (height_of_nodes (folded ns))) = else_most (kept_elifs_of es) l (folded ns) in
+        let c = else_most (kept_elifs_of es) l (folded ns) in
         omega arith
 
     elifs_height : (es : Elifs L) → height_left (kept_elifs_of es) ≤ suc (height_of_elifs es)
     elifs_height (first o ns) =
         let a : height_of_nodes (folded ns) ≤ height_of_nodes ns = pruned_height ns in
-        let c : height_left (with_group none_kept an_if o o.cond (folded ns)) ≤ max 0 (suc (height_of_nodes (folded ns))) = with_most none_kept an_if o o.cond (folded ns) in
+        let c = with_most none_kept an_if o o.cond (folded ns) in
         omega arith
     elifs_height (elif es o ns) =
         let a : height_of_nodes (folded ns) ≤ height_of_nodes ns = pruned_height ns in
         let b : height_left (kept_elifs_of es) ≤ suc (height_of_elifs es) = elifs_height es in
-        let c : height_left (with_group (kept_elifs_of es) an_elif o o.cond (folded ns)) ≤ max (height_left (kept_elifs_of es)) (suc (height_of_nodes (folded ns))) = with_most (kept_elifs_of es) an_elif o o.cond (folded ns) in
+        let c = with_most (kept_elifs_of es) an_elif o o.cond (folded ns) in
         omega arith
 
 module _ {L M : Type 0} (f : L → M) where

@@ -50,10 +50,9 @@ module _ (o : Options) (p : IsPlain o) where
   between : (xs : List (Item Reading)) (t : Tree Reading) → AreFaultless o xs t → Each IsInner (map line_of xs) → (ys : List (Item Reading)) × Between o (the_mode o) xs t ys
   between _ _ no_lines h = ([], start o (the_mode o))
   between _ _ (one_more xs t s l u e n) h =
-      let k : Each IsInner (map line_of xs) × Each IsInner (l ∷ []) = each_parts IsInner (map line_of xs) (l ∷ []) (subst (Each IsInner) (lines_with_next o xs t l) h) in
+      let k = each_parts IsInner (map line_of xs) (l ∷ []) (subst (Each IsInner) (lines_with_next o xs t l) h) in
       let b : (ys : List (Item Reading)) × Between o (the_mode o) xs t ys = between xs t s k.0 in
-      let z : (zs : List (Item Reading)) × Again o (the_mode o) (xs ++ next_item o xs t l ∷ []) u zs × (HasEnd l → Between o (the_mode o) (xs ++ next_item o xs t l ∷ []) u zs) =
-      one_step xs t s b.0 b.1 l u k.1.0.1 e n in
+      let z = one_step xs t s b.0 b.1 l u k.1.0.1 e n in
       (z.0, z.2 k.1.0.0)
 
   -- The items of the output, read again.

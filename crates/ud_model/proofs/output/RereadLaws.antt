@@ -105,8 +105,8 @@ module _ (o : Options) (p : IsPlain o) (input : List ℕ) where
   pub reread : {r : Outcome} → HasOutcome o input r → r.fault ≡ None → (ns : Nodes Reading) → IsTreeOf o input (closed ns) → Result r ns
   reread (ran_as (stops xs t f s)) e ns a = cc
   reread (ran_as (ends xs t g)) e ns a =
-      let same : t ≡ closed ns = one_tree_of o input t (closed ns) (record { items = xs; read = sound_read g.sound; are = g.are }) a in
-      let z : (ys : List (Item Reading)) × Again o (the_mode o) xs t ys = again o p xs t g.sound (subst AllButLast g.are (lines_end 1 (texts_of input) (lines_exist input).formed)) in
+      let same = one_tree_of o input t (closed ns) (record { items = xs; read = sound_read g.sound; are = g.are }) a in
+      let z = again o p xs t g.sound (subst AllButLast g.are (lines_end 1 (texts_of input) (lines_exist input).formed)) in
       let left : printed xs (marks t) ≡ lines_of_nodes (folded ns) = cc (sound_lines g.sound, same, printed-pruned ns) in
       let along =
       nodes_along left_seen scanned (folded ns) z.0 (z.1.same ∙ ap (λ (l : List (Item (Edited Reading))). map (item_with left_seen) l) left) in
@@ -271,7 +271,7 @@ again_law : (o : Options) → IsPlain o → (input : List ℕ) → {r : Outcome}
     (ns : Nodes Reading) → IsTreeOf o input (closed ns) → HasOutcome o r.output (record { output = r.output; fault = None; differs = false })
 again_law o p input {r} d e f ns t =
     let z : Result o p input r ns = reread o p input d e ns t in
-    let s : HasNoFault o (lines_of r.output) z.is_tree.items (closed z.tree) × (end_fault z.is_tree.items (closed z.tree) ≡ None) = output_sound o p input ns z f in
+    let s = output_sound o p input ns z f in
     runs_again o p r.output z.is_tree.items z.tree s.0 (output_undecided z.tree ns z.same) s.1
 
 pub input_nodes : (t : Tree Reading) → innermost t ≡ None → (ns : Nodes Reading) × (t ≡ closed ns)

@@ -104,7 +104,7 @@ plain_between : (o : Options) (xs : List (Item Reading)) (u : Tree Reading) (l :
     Stepped o Plain xs u l zs
 plain_between o xs u l zs a =
     let x : List (Item Reading) = xs ++ item_of o (read_after xs Plain l) ∷ [] in
-    let none : c_run_of (map reading_of x) ≡ [] = ap c_run_of (readings_last o xs xs Plain l) ∙ run_of_last (map reading_of xs) (read_after xs Plain l) in
+    let none = ap c_run_of (readings_last o xs xs Plain l) ∙ run_of_last (map reading_of xs) (read_after xs Plain l) in
     let empty : LeavesOff zs in_text true false = nowhere zs (plain_run o zs a.read) in (
       a,
       λ h. record {
@@ -178,9 +178,9 @@ module _ (o : Options) (xs : List (Item Reading)) (t : Tree Reading) (ys : List 
   code_left : (w : LexState) (white on : Bool) → LeavesOff xs w white on → LeavesOff ys w white on → IsLeft k.grown.mark.verdict → (zs : List (Item Reading)) × Stepped o C xs u l zs
   code_left w white on a c h =
       let n : Line = now o C xs t ys b l u i k in
-      let line : LeftLine k.grown.mark.verdict (keyword_in (content_of (scan_after (map reading_of xs) C l))) l n = now_line o C xs t ys b l u i k h in
+      let line = now_line o C xs t ys b l u i k h in
       let f : LeftCode o xs ys w white on a c l n line.ending k.grown.mark.verdict = search (rules, left_code, is_alone, now_text) in
-      let again : Again o C (xs ++ line_new ∷ []) u (ys ++ item_of o (read_after ys C n) ∷ []) = is_left o C xs t ys b l u i k f.left in (
+      let again = is_left o C xs t ys b l u i k f.left in (
         ys ++ item_of o (read_after ys C n) ∷ [],
         (
           again,

@@ -39,7 +39,7 @@ module _ {L : Type 0} where
     truths = s.truths ++ t.truths;
     long = length-append s.truths t.truths ∙ ap₂ (λ (m n : ℕ). m + n) s.long t.long ∙ sym (length-append os qs);
     so = λ w e.
-        let r : (map w os ≡ s.truths) × (map w qs ≡ t.truths) = parts (map w os) s.truths (map w qs) t.truths (length-map os w ∙ sym s.long) (sym (map-append w os qs) ∙ e) in
+        let r = parts (map w os) s.truths (map w qs) t.truths (length-map os w ∙ sym s.long) (sym (map-append w os qs) ∙ e) in
         (s.so w r.0, t.so w r.1);
   }
 

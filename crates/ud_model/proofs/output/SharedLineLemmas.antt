@@ -73,8 +73,8 @@ pub shared : (o : Options) (input : List ℕ) {xs : List (Item Reading)} {t : Tr
 shared o input {xs = xs} {t = t} {r = r} {s = s} p a run turned =
     let js : List Judged = judged_lines xs (marks t) in
     let d = reads_too o (with_complement o) refl refl refl a in
-    let here : r.output ≡ concat (map (lone false false) js) = printed_lone o false p.unlisted p.unblanked p.unnumbered p.uncomplemented a run in
-    let there : s.output ≡ concat (map (lone false true) js) = printed_lone (with_complement o) true p.unlisted p.unblanked p.unnumbered refl d turned in (
+    let here = printed_lone o false p.unlisted p.unblanked p.unnumbered p.uncomplemented a run in
+    let there = printed_lone (with_complement o) true p.unlisted p.unblanked p.unnumbered refl d turned in (
       ap (λ (z : Outcome). z.fault) (one_run turned (ran_as d)) ∙ ap (λ (z : Outcome). z.fault) (one_run (ran_as a) run),
       subst (λ (q : List ℕ). ShareLines js r.output q) (sym there) (subst (λ (q : List ℕ). ShareLines js q (concat (map (lone false true) js))) (sym here) (share_all js)),
     )

@@ -68,7 +68,7 @@ module _ (table : List Argument) (rules : Rules) where
         let scanned : s.scan ≡ scan_after_run [] s.line = i.after ∙ ap (λ (k : Line). scan_after_run [] k) (sym i.line) in
         let q : expression_of (map shown (condition_cells s.line now)) ≡ Some (residual table rules e).tree =
         ap expression_of (after_is table rules s.line s.scan now scanned has_now ∙ i.edited.after) ∙ p in
-        let w : left_line table rules s.line now ≡ s.line = whole_line s.line now still_lone (residual_stays table rules e (condition_cells s.line now) q) in
+        let w = whole_line s.line now still_lone (residual_stays table rules e (condition_cells s.line now) q) in
         ap (λ (c : Content). line_by table rules s.scan s.line c) has_now ∙ by (may_change table rules s.scan s.line now) w
       where
         by : (b : Bool) → left_line table rules s.line i.edited.now ≡ s.line → (if b then left_line table rules s.line i.edited.now else s.line) ≡ s.line
@@ -131,11 +131,11 @@ module _ (table : List Argument) (rules : Rules) where
       let left : List Cell = left_cells_of table rules l d in
       let cells : List Cell = condition_cells l d in
       let c : content l ≡ l.body = ap (λ (b : Bool). if b then take (length l.body - 1) l.body else l.body) s in
-      let k : drop n l.body ≡ map byte_of cells = ap (λ (x : List ℕ). drop n x) (sym (bytes-content_cells [] l ∙ c)) ∙ drop-map byte_of n (content_cells [] l) in
+      let k = ap (λ (x : List ℕ). drop n x) (sym (bytes-content_cells [] l ∙ c)) ∙ drop-map byte_of n (content_cells [] l) in
       let a : length (take n l.body ++ map byte_of left) ≡ length l.body = ap (λ (x : Line). length x.body) e in
-      let b : length (take n l.body ++ map byte_of left) ≡ length (take n l.body) + length (map byte_of left) = length-append (take n l.body) (map byte_of left) in
-      let f : length (take n l.body ++ drop n l.body) ≡ length (take n l.body) + length (drop n l.body) = length-append (take n l.body) (drop n l.body) in
-      let g : length (take n l.body ++ drop n l.body) ≡ length l.body = ap (λ (x : List ℕ). length x) (take-append-drop n l.body) in
+      let b = length-append (take n l.body) (map byte_of left) in
+      let f = length-append (take n l.body) (drop n l.body) in
+      let g = ap (λ (x : List ℕ). length x) (take-append-drop n l.body) in
       let i : length (map byte_of left) ≡ length left = length-map left byte_of in
       let j : length (drop n l.body) ≡ length cells = ap (λ (x : List ℕ). length x) k ∙ length-map cells byte_of in
       sub_same (cells_go table rules cells) (omega (arith, a, b, f, g, i, j))
@@ -175,12 +175,12 @@ module _ (table : List Argument) (rules : Rules) where
             is_read_alone table rules r.line d ≡ true → IsReduced table rules e
         unfolding simplified_cells
         reduced g q u z =
-            let a : left_cells_of table rules r.line d ≡ cells = all_left r.line d unspliced_line (same_now (and_from (is_lone r.scan r.line) (is_read_alone table rules r.line d) lone z)) in
+            let a = all_left r.line d unspliced_line (same_now (and_from (is_lone r.scan r.line) (is_read_alone table rules r.line d) lone z)) in
             let b : left_cells_of table rules r.line d ≡ left_cells (keeps table rules e) cells =
             ap (λ o. simplified_by table rules o cells) tree_is
             ∙ ap (λ (t : Bool). if t then left_cells (keeps table rules e) cells else cells) (and_from (may_go table rules e cells) (is_read table rules e (left_cells (keeps table rules e) cells)) g q) in
-            let w : expression_of (map shown (left_cells (keeps table rules e) cells)) ≡ Some (residual table rules e).tree = written_left table rules e cells tree_is (left_cells (keeps table rules e) cells) q in
-            let f : (residual table rules e).tree ≡ e = is_some (sym w ∙ ap (λ (cs : List Cell). expression_of (map shown cs)) (sym b ∙ a) ∙ tree_is) in
+            let w = written_left table rules e cells tree_is (left_cells (keeps table rules e) cells) q in
+            let f = is_some (sym w ∙ ap (λ (cs : List Cell). expression_of (map shown cs)) (sym b ∙ a) ∙ tree_is) in
             fixed_reduced table rules e f (and_parts (is_unknown (residual table rules e).cond) (is_unknown (tree_cond (residual table rules e).tree table rules)) u).0
 
         by_line : may_go table rules e cells ≡ true → is_read table rules e (left_cells (keeps table rules e) cells) ≡ true → is_undecided table rules (residual table rules e) ≡ true →

@@ -84,8 +84,8 @@ module _ (table : List Argument) (rules : Rules) where
       let i : HasDirective scan d = (directive_is scan d).0 h in
       let front : List ℕ = i.parts.white ++ number_sign ∷ (i.parts.gap ++ i.parts.word) in
       let split : scan.masked ≡ front ++ i.parts.rest = simp (append_assoc, i.are.joined) in
-      let a : length front ≡ length i.parts.white + length (number_sign ∷ (i.parts.gap ++ i.parts.word)) = length-append i.parts.white (number_sign ∷ (i.parts.gap ++ i.parts.word)) in
-      let b : length (i.parts.gap ++ i.parts.word) ≡ length i.parts.gap + length i.parts.word = length-append i.parts.gap i.parts.word in
+      let a = length-append i.parts.white (number_sign ∷ (i.parts.gap ++ i.parts.word)) in
+      let b = length-append i.parts.gap i.parts.word in
       let n : keyword_end d ≡ length front = ap₂ (λ (x y : ℕ). x + y) i.at i.len ∙ omega (arith, a, b) in
       sym (drop-map shown (keyword_end d) (content_cells [] l))
       ∙ ap (λ (x : List ℕ). drop (keyword_end d) x) (sym (masked-content_cells [] l) ∙ ap (λ (s : Scan). s.masked) (sym e) ∙ split)

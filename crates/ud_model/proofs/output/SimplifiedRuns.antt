@@ -112,9 +112,9 @@ module _ (table : List Argument) (rules : Rules) where
   still_unknown : (r s : Reading) (d : Directive) (i : IsLeft table rules r s d) → (decision_on r.scan d table rules).cond ≡ Unknown → (decision_on s.scan i.edited.now table rules).cond ≡ Unknown
   still_unknown r s d i h =
       let now : Directive = i.edited.now in
-      let a : expression_cond d.after table rules ≡ Unknown = sym (cond_first d.kind now.kind d.after i.edited.kind).0 ∙ known_by r.scan d d.broken (unbroken r s d i) h in
-      let b : expression_cond (map shown (condition_cells r.line d)) table rules ≡ Unknown = ap (λ (xs : List ℕ). expression_cond xs table rules) (after_is table rules r.line r.scan d i.before i.edited.has) ∙ a in
-      let c : expression_cond now.after table rules ≡ Unknown = ap (λ (xs : List ℕ). expression_cond xs table rules) i.edited.after ∙ left_unknown table rules (condition_cells r.line d) b in
+      let a = sym (cond_first d.kind now.kind d.after i.edited.kind).0 ∙ known_by r.scan d d.broken (unbroken r s d i) h in
+      let b = ap (λ (xs : List ℕ). expression_cond xs table rules) (after_is table rules r.line r.scan d i.before i.edited.has) ∙ a in
+      let c = ap (λ (xs : List ℕ). expression_cond xs table rules) i.edited.after ∙ left_unknown table rules (condition_cells r.line d) b in
       unknown_by s.scan now now.broken ((cond_first d.kind now.kind now.after i.edited.kind).1 ∙ c)
 
 -- 3. The items of the simplified text.

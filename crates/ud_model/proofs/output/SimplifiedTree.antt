@@ -102,13 +102,13 @@ module _ (o : Options) where
       with_truths no_nodes t = no_nodes
       with_truths (text_stays p) t = text_stays (with_truths p t)
       with_truths (section_stays {ns = ns} {us = us} {gs = gs} {hs = hs} p q) t =
-          let r : (map v (openers us) ≡ map w (openers ns)) × (map v (openers_of_groups hs) ≡ map w (openers_of_groups gs)) = apart (openers us) (openers_of_groups hs) (openers ns) (openers_of_groups gs) (long p) t in
+          let r = apart (openers us) (openers_of_groups hs) (openers ns) (openers_of_groups gs) (long p) t in
           section_stays (with_truths p r.0) (groups_truths q r.1)
 
       groups_truths : {gs hs : Groups Reading} → GroupsLike gs hs → map v (openers_of_groups hs) ≡ map w (openers_of_groups gs) → GroupsSimplified o.table (rules_of o.settings) w v gs hs
       groups_truths (conditions_alone p) t = conditions_alone (elifs_truths p t)
       groups_truths (with_else {es = es} {fs = fs} {ns = ns} {us = us} p q) t =
-          let r : (map v (openers_of_elifs fs) ≡ map w (openers_of_elifs es)) × (map v (openers us) ≡ map w (openers ns)) = apart (openers_of_elifs fs) (openers us) (openers_of_elifs es) (openers ns) (long_elifs p) t in
+          let r = apart (openers_of_elifs fs) (openers us) (openers_of_elifs es) (openers ns) (long_elifs p) t in
           with_else (elifs_truths p r.0) (with_truths q r.1)
 
       elifs_truths : {es fs : Elifs Reading} → ElifsLike es fs → map v (openers_of_elifs fs) ≡ map w (openers_of_elifs es) → ElifsSimplified o.table (rules_of o.settings) w v es fs
@@ -120,7 +120,7 @@ module _ (o : Options) where
           let r : (map v (openers_of_elifs fs ++ q.line ∷ []) ≡ map w (openers_of_elifs es ++ p.line ∷ [])) × (map v (openers us) ≡ map w (openers ns)) =
           apart (openers_of_elifs fs ++ q.line ∷ []) (openers us) (openers_of_elifs es ++ p.line ∷ []) (openers ns)
           (more_long (openers_of_elifs fs) (openers_of_elifs es) q.line p.line (long_elifs e)) t in
-          let s : (map v (openers_of_elifs fs) ≡ map w (openers_of_elifs es)) × (v q.line ∷ [] ≡ w p.line ∷ []) = apart (openers_of_elifs fs) (q.line ∷ []) (openers_of_elifs es) (p.line ∷ []) (long_elifs e) r.0 in
+          let s = apart (openers_of_elifs fs) (q.line ∷ []) (openers_of_elifs es) (p.line ∷ []) (long_elifs e) r.0 in
           let a : v q.line ≡ w p.line = cc (s.1) in
           next_group (elifs_truths e s.0) (record { line = i.line; truth = a }) (with_truths n r.1)
 

@@ -78,7 +78,7 @@ or_false_parts a b e = grind arith
 none_other : (f : Judged → List ℕ) (js : List Judged) → some_other (map f js) js ≡ false → out f js ≡ out whole js
 none_other f [] e = refl
 none_other f (j ∷ js) e =
-    let s : (bytes_eq (f j) (whole j) ≡ true) × (some_other (map f js) js ≡ false) = or_false_parts (bytes_eq (f j) (whole j)) (some_other (map f js) js) e in
+    let s = or_false_parts (bytes_eq (f j) (whole j)) (some_other (map f js) js) e in
     ap₂ (λ (a b : List ℕ). a ++ b) ((bytes_eq-Decides (f j) (whole j)).0 s.0) (none_other f js s.1)
 
 -- Texts are compared part by part, if the first parts have one length.

@@ -179,7 +179,7 @@ keep_by o input xs ys t u a b = go (fronts (map line_of xs) (map line_of ys) a.l
     go : ((m : List Line) × (map line_of xs ≡ map line_of ys ++ m)) ⊎ ((m : List Line) × (map line_of ys ≡ map line_of xs ++ m)) →
         KeepAsMuch (judged_lines ys (marks u)) (judged_lines xs (marks t))
     go (inl k) =
-        let f : Front (under_strict o) (map line_of ys) (judged_lines xs (marks t)) = front (under_strict o) (map line_of ys) (by_push k.0) xs t a.sound k.1 in
+        let f = front (under_strict o) (map line_of ys) (by_push k.0) xs t a.sound k.1 in
         subst (λ (ks : List Judged). KeepAsMuch (judged_lines ys (marks u)) ks) (sym f.judged) (more_with (alongside o f.sound b.sound f.are).judged f.rest)
     go (inr k) =
         let f : Front o (map line_of xs) (judged_lines ys (marks u)) = front o (map line_of xs) (by_push k.0) ys u b.sound k.1 in

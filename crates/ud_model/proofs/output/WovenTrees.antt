@@ -150,9 +150,9 @@ module _ {A B : Type 0} (R : Item A → Item B → Type 0) (IsPut : B → Type 0
           append_assoc (lines_of_nodes n.nodes) (text_line i.0 ∷ []) c.later
           ∙ ap₂ (λ (b : List (Item B)) (x : Item B). b ++ x ∷ c.later) n.lines (sym i.1) ∙ sym c.are) (more_texts (text ns l) (text n.nodes i.0) c.later (i.2 ns n.nodes n.alike) c.second_part)
       weave_nodes (section ns gs e) zs s =
-          let c : SplitAt (lines_of_nodes ns ++ lines_of_groups gs) (endif_line e) [] zs = split_at (lines_of_nodes ns ++ lines_of_groups gs) (endif_line e) [] zs s in
+          let c = split_at (lines_of_nodes ns ++ lines_of_groups gs) (endif_line e) [] zs s in
           let i = w.endif_goes e c.here c.alike in
-          let b : SplitBoth (lines_of_nodes ns) (lines_of_groups gs) c.before = split_both (lines_of_nodes ns) (lines_of_groups gs) c.before c.first_part in
+          let b = split_both (lines_of_nodes ns) (lines_of_groups gs) c.before c.first_part in
           let n : Woven N ns b.before = weave_nodes ns b.before b.first_part in
           let g : WovenGroups gs b.later = weave_groups gs b.later b.second_part in
           let m : Woven N ns (lines_of_nodes n.nodes ++ g.texts) = more_texts ns n.nodes g.texts n.alike g.put_in in

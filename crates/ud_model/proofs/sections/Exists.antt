@@ -181,7 +181,7 @@ reading_exists o input = go (gone o (lines_of input))
 -- So each text has an outcome.
 pub run_exists : (o : Options) (input : List ℕ) → (r : Outcome) × HasOutcome o input r
 run_exists o input =
-    let r : (xs : List (Item Reading)) × (t : Tree Reading) × (f : Option Fault) × ReadsAs o input xs t f = reading_exists o input in
+    let r = reading_exists o input in
     (outcome_of o.settings r.0 r.1 r.2, ran_as r.3)
 
 -- The rest of a text that goes on breaks a limit, or it doesn't.
@@ -233,7 +233,7 @@ reading_so_far_exists o given = go (gone o (lines_so_far given))
 -- So each text that goes on has an outcome so far.
 pub run_so_far_exists : (o : Options) (given : List ℕ) → (r : Outcome) × HasOutcomeSoFar o given r
 run_so_far_exists o given =
-    let r : (xs : List (Item Reading)) × (t : Tree Reading) × (f : Option Fault) × ReadsSoFar o given xs t f = reading_so_far_exists o given in
+    let r = reading_so_far_exists o given in
     (outcome_of o.settings r.0 r.1 r.2, came_as r.3)
 
 -- Arguments and an input have an answer.

@@ -47,7 +47,7 @@ module _ (o : Options) where
   read_same _ _ _ _ no_items (one_item ys u b k v d) e = absurd (push_not_nil (map line_of ys) k (sym (lines_with_next ys u k) ∙ sym e))
   read_same _ _ _ _ (one_item xs t a l w c) no_items e = absurd (push_not_nil (map line_of xs) l (sym (lines_with_next xs t l) ∙ e))
   read_same _ _ _ _ (one_item xs t a l w c) (one_item ys u b k v d) e =
-      let s : (map line_of xs ≡ map line_of ys) × (l ≡ k) = same_from_push (map line_of xs) (map line_of ys) l k (sym (lines_with_next xs t l) ∙ e ∙ lines_with_next ys u k) in
+      let s = same_from_push (map line_of xs) (map line_of ys) l k (sym (lines_with_next xs t l) ∙ e ∙ lines_with_next ys u k) in
       let q : xs ≡ ys = read_same xs ys t u a b s.0 in
       let p : t ≡ u = read_once a b q in
       rw (q, p, s.1)
@@ -86,7 +86,7 @@ pub one_fault : (xs : List (Item Reading)) (x : Item Reading) (f g : Fault) → 
 one_fault xs x f g a b =
     let c : (later : List Case) × (earlier a.which ++ a.which ∷ later ≡ cases) = case_in_order a.which in
     let d : (later : List Case) × (earlier b.which ++ b.which ∷ later ≡ cases) = case_in_order b.which in
-    let w : a.which ≡ b.which = one_case xs x (earlier a.which) (earlier b.which) a.which b.which c.0 d.0 (c.1 ∙ sym d.1) a.holds a.first b.holds b.first in
+    let w = one_case xs x (earlier a.which) (earlier b.which) a.which b.which c.0 d.0 (c.1 ∙ sym d.1) a.holds a.first b.holds b.first in
     cc (a.named, w, b.named)
 
 -- A faultless line has no fault.
@@ -144,7 +144,7 @@ module _ (o : Options) (ls : List Line) where
           → (xs ≡ ys) × (t ≡ u) × (f ≡ g)
       go (inl s) =
           let q : xs ≡ ys = sound_same o xs ys t u a.sound b.sound s.0 in
-          let r : next_item o xs t a.faulty ≡ next_item o ys u b.faulty = same_next o xs ys t u a.faulty b.faulty a.sound b.sound q s.1 in (
+          let r = same_next o xs ys t u a.faulty b.faulty a.sound b.sound q s.1 in (
             q,
             sound_once (subst (λ zs. AreFaultless o zs t) q a.sound) b.sound,
             one_fault ys (next_item o ys u b.faulty) f g

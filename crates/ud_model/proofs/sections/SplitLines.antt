@@ -181,7 +181,7 @@ split_is scan = (to (split_line scan), back)
     to : Split scan → content_of scan ≡ cut_keyword → HasSplitKeyword scan
     to (unsigned t) e = let q : text ≡ cut_keyword = sym t ∙ e in cc
     to (signed p h) e =
-        let s : splits scan p ≡ true = to_cut scan p (splits scan p) scan.fresh (kind_of p.word) (sym (content_is scan p h) ∙ e) in
+        let s = to_cut scan p (splits scan p) scan.fresh (kind_of p.word) (sym (content_is scan p h) ∙ e) in
         record { parts = p; are = h; split = to_split scan p h s }
 
     back : HasSplitKeyword scan → content_of scan ≡ cut_keyword

@@ -69,7 +69,7 @@ module _ {L : Type 0} where
   marks_add kept (adds_endif {ns = ns} {b = b} {h = h}) =
       (marked kept (endif_verdict (conds_of_groups (complete h b))), rw (groups_so_far-complete kept h b) simp append_assoc)
   marks_add kept (adds_under {ns = ns} {h = h} {t = t} {u = u} a) =
-      let m : (m : Mark) × (marks_so_far (kept && is_inside_kept h) u ≡ marks_so_far (kept && is_inside_kept h) t ++ m ∷ []) = marks_add (kept && is_inside_kept h) a in
+      let m = marks_add (kept && is_inside_kept h) a in
       (m.0, rw m.1 simp append_assoc)
 
   -- Each line has one mark.

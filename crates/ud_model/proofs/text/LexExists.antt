@@ -167,7 +167,7 @@ cut_within n [] h = ([], refl)
 cut_within zero (a ∷ text) h = absurd (omega arith)
 cut_within (suc n) (a ∷ text) h =
     let f : First (a ∷ text) = first_piece a text in
-    let later : (pieces : List Lexeme) × AreLexemes pieces f.rest = cut_within n f.rest (less_left (a ∷ text) f.bytes f.rest n f.splits f.is h) in
+    let later = cut_within n f.rest (less_left (a ∷ text) f.bytes f.rest n f.splits f.is h) in
     ((record { kind = f.kind; bytes = f.bytes } ∷ later.0), (f.rest, f.splits, f.is, later.1))
 
 -- Each text has lexemes.

@@ -141,6 +141,6 @@ cut_unique text (p ∷ pieces) [] (more, f, is, rest) e =
     empty_first : (k : LexemeKind) (bytes behind : List ℕ) → bytes ++ behind ≡ [] → IsLexeme bytes behind k → ⊥
     empty_first k bytes behind e p = grind arith
 cut_unique text (p ∷ pieces) (q ∷ others) (rest, e, is, behind) (more, f, are, beyond) =
-    let same : (p.kind ≡ q.kind) × (p.bytes ≡ q.bytes) × (rest ≡ more) = first_same p.kind q.kind p.bytes q.bytes rest more is are (sym e ∙ f) in
+    let same = first_same p.kind q.kind p.bytes q.bytes rest more is are (sym e ∙ f) in
     let first : p ≡ q = ap₂ (λ (k : LexemeKind) (b : List ℕ). let x : Lexeme = record { kind = k; bytes = b } in x) same.0 same.1 in
     ap₂ (λ (x : Lexeme) (xs : List Lexeme). x ∷ xs) first (cut_unique rest pieces others behind (subst (λ (t : List ℕ). AreLexemes others t) (sym same.2) beyond))

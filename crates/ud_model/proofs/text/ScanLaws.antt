@@ -83,7 +83,7 @@ starts_anew run last alone some =
     or_parts (is_spliced last) (is_block (kind_at_end (spliced_text run ++ spliced_part last))) (sym (joins_last run last) ∙ alone) in
     let closed : stays_open last ≡ false = ap₂ (λ (s t : Bool). s || t) parts.0 (not_empty last.ending some) in
     let v : LexState = place_after (place_after in_text (spliced_text run)) (content last) in
-    let white : Bool = white_after (place_after in_text (spliced_text run)) (white_after in_text true (spliced_text run)) (content last) in
+    let white = white_after (place_after in_text (spliced_text run)) (white_after in_text true (spliced_text run)) (content last) in
     let inside : LexesTo (spliced_text run ++ content last) v white = grind (arith, LexesTo-append, place_after, LexesTo-all) in
     let read : LexesTo (spliced_text run ++ spliced_part last) (next_state v newline) (stays_white v white newline) =
     LexesTo-same refl (ap (λ (o : Bool). state_after_line o v) closed) (ap (λ (o : Bool). white_after_line o v white) closed) (LexesTo-close (spliced_text run) last v white inside) in
@@ -175,12 +175,11 @@ readings_after-append before (l ∷ lines) more = readings_after-append (before 
 pub readings_after-prefix : (before : List Reading) (lines : List (Mode × Line)) → (rest : List Reading) × (readings_after before lines ≡ before ++ rest)
 readings_after-prefix before [] = ([], sym (append-nil before))
 readings_after-prefix before (l ∷ lines) =
-    let later : (rest : List Reading) × (readings_after (before ++ next_reading before l.0 l.1 ∷ []) lines ≡ (before ++ next_reading before l.0 l.1 ∷ []) ++ rest) =
-    readings_after-prefix (before ++ next_reading before l.0 l.1 ∷ []) lines in
+    let later = readings_after-prefix (before ++ next_reading before l.0 l.1 ∷ []) lines in
     (next_reading before l.0 l.1 ∷ later.0, later.1 ∙ append_assoc before (next_reading before l.0 l.1 ∷ []) later.0)
 
 -- A longer list of lines begins with the readings of the shorter one.
 pub readings_grow : (lines more : List (Mode × Line)) → (rest : List Reading) × (readings_of (lines ++ more) ≡ readings_of lines ++ rest)
 readings_grow lines more =
-    let later : (rest : List Reading) × (readings_after (readings_of lines) more ≡ readings_of lines ++ rest) = readings_after-prefix (readings_of lines) more in
+    let later = readings_after-prefix (readings_of lines) more in
     (later.0, readings_after-append [] lines more ∙ later.1)
