@@ -1,5 +1,5 @@
 -- Kept tokens: the flags choose the tokens of the residual.
-use Rattle.std.proofs.Common.{◌≡◌, Bool, true, false, not, ◌&&◌, if◌then◌else◌, List, [], ◌∷◌, ◌++◌, map, refl, sym, ◌∙◌, ap, ap₂, arith}
+use Rattle.std.proofs.Common.{◌≡◌, Bool, true, false, not, ◌&&◌, if◌then◌else◌, List, [], ◌∷◌, ◌++◌, map, refl, sym, ◌∙◌, ap, ap₂, arith, append-nil}
 use Rattle.ud_model.specs.conditions.Table.{Argument}
 use Rattle.ud_model.specs.conditions.Tokens.{operator}
 use Rattle.ud_model.specs.conditions.Expressions.{Expression, unary, binary, parens, spelling}
@@ -38,30 +38,29 @@ chosen_none : {A : Type 0} (xs : List A) → chosen (map (λ t. false) xs) xs �
 chosen_none [] = refl
 chosen_none (x ∷ xs) = chosen_none xs
 
-to_nil : {A : Type 0} (xs : List A) → xs ++ [] ≡ xs
-to_nil [] = refl
-to_nil (x ∷ xs) = ap (λ zs. x ∷ zs) (to_nil xs)
-
 -- The flags of a tree are as many as its tokens, and choose the tokens of the residual.
 pub record Chooses (flags : List Bool) (e : Expression) (left : Expression) : Type 0 where
   pub long : SameLength flags (spelling e)
   pub are : chosen flags (spelling e) ≡ spelling left
 
-joined_choose : (b d : Bool) (o : Operator) (c : Cond) (x y : Residual) (e f : Expression) (xs ys : List Bool) → Chooses xs e x.tree → Chooses ys f y.tree →
-    Chooses (joined_flags b d e f xs ys) (binary o e f) (if b then record y { lost = true } else if d then record x { lost = true } else record { cond = c; tree = binary o x.tree y.tree; lost = false }).tree
+joined_choose : (b d : Bool) (o : Operator) (c : Cond) (x y : Residual) (e f : Expression) (xs ys : List Bool) →
+    Chooses xs e x.tree → Chooses ys f y.tree →
+    let both : Residual = record { cond = c; tree = binary o x.tree y.tree; lost = false } in
+    Chooses (joined_flags b d e f xs ys) (binary o e f)
+    (if b then record y { lost = true } else if d then record x { lost = true } else both).tree
 joined_choose true d o c x y e f xs ys p q = record {
   long = same_both (all_flags false e) (false ∷ ys) (spelling e) (operator o ∷ spelling f) (same_all false (spelling e)) q.long;
   are = chosen_both (all_flags false e) (false ∷ ys) (spelling e) (operator o ∷ spelling f) (same_all false (spelling e)) ∙ ap₂ (λ us vs. us ++ vs) (chosen_none (spelling e)) q.are;
 }
 joined_choose false true o c x y e f xs ys p q = record {
   long = same_both xs (false ∷ all_flags false f) (spelling e) (operator o ∷ spelling f) p.long (same_all false (spelling f));
-  are = chosen_both xs (false ∷ all_flags false f) (spelling e) (operator o ∷ spelling f) p.long ∙ ap₂ (λ us vs. us ++ vs) p.are (chosen_none (spelling f)) ∙ to_nil (spelling x.tree);
+  are = chosen_both xs (false ∷ all_flags false f) (spelling e) (operator o ∷ spelling f) p.long ∙ ap₂ (λ us vs. us ++ vs) p.are (chosen_none (spelling f)) ∙ append-nil (spelling x.tree);
 }
 joined_choose false false o c x y e f xs ys p q = grind (arith, same_both, chosen_both)
 
 enclosed_choose : (b : Bool) (x : Residual) (e : Expression) (xs : List Bool) → Chooses xs e x.tree →
     Chooses (not b ∷ xs ++ not b ∷ []) (parens e) (if b then x else record x { tree = parens x.tree }).tree
-enclosed_choose b x e xs p = grind (arith, same_both, chosen_both, to_nil)
+enclosed_choose b x e xs p = grind (arith, same_both, chosen_both, append-nil)
 
 not_choose : (x : Residual) (e : Expression) (xs : List Bool) → Chooses xs e x.tree → Chooses (true ∷ xs) (unary Not e) (unary Not x.tree)
 not_choose x e xs p = record { long = p.long; are = ap (λ us. operator Not ∷ us) p.are }

@@ -90,17 +90,13 @@ module _ (blank : Bool) where
       Moves was v now → Held was xs ms → Held now (xs ++ x ∷ []) (ms ++ marked true v ∷ [])
   opener_step xs ms x true true Remove e w m a = held_then true xs (x ∷ []) ms (marked true Remove ∷ []) e a (one_fits x true Remove tt)
   opener_step xs ms x true false v e w m a = let q : false ≡ true = m.1 in cc
-  opener_step xs ms x true true Keep e w m a = let q : Keep ≡ Remove = m.0 in cc
-  opener_step xs ms x true true ToIf e w m a = let q : ToIf ≡ Remove = m.0 in cc
-  opener_step xs ms x true true ToElse e w m a = let q : ToElse ≡ Remove = m.0 in cc
-  opener_step xs ms x true true ToEndif e w m a = let q : ToEndif ≡ Remove = m.0 in cc
+  opener_step xs ms x true true v e w m a = let q : v ≡ Remove = m.0 in cc
   opener_step xs ms x false true ToEndif e w m a =
       then_loose xs (x ∷ []) ms (marked true ToEndif ∷ []) e a (loose_one f (judged_line x (marked true ToEndif)) (word_size x w ToEndif))
   opener_step xs ms x false false ToEndif e w m a = let q : false ≡ true = m in cc
-  opener_step xs ms x false now Keep e w m a = to_held now (xs ++ x ∷ []) (ms ++ marked true Keep ∷ []) (items_then xs (x ∷ []) ms (marked true Keep ∷ []) e a (fits_one f (judged_line x (marked true Keep)) (word_size x w Keep)))
-  opener_step xs ms x false now Remove e w m a = to_held now (xs ++ x ∷ []) (ms ++ marked true Remove ∷ []) (items_then xs (x ∷ []) ms (marked true Remove ∷ []) e a (fits_one f (judged_line x (marked true Remove)) (word_size x w Remove)))
-  opener_step xs ms x false now ToIf e w m a = to_held now (xs ++ x ∷ []) (ms ++ marked true ToIf ∷ []) (items_then xs (x ∷ []) ms (marked true ToIf ∷ []) e a (fits_one f (judged_line x (marked true ToIf)) (word_size x w ToIf)))
-  opener_step xs ms x false now ToElse e w m a = to_held now (xs ++ x ∷ []) (ms ++ marked true ToElse ∷ []) (items_then xs (x ∷ []) ms (marked true ToElse ∷ []) e a (fits_one f (judged_line x (marked true ToElse)) (word_size x w ToElse)))
+  opener_step xs ms x false now v e w m a =
+      to_held now (xs ++ x ∷ []) (ms ++ marked true v ∷ [])
+      (items_then xs (x ∷ []) ms (marked true v ∷ []) e a (fits_one f (judged_line x (marked true v)) (word_size x w v)))
 
   opener_any : (kept : Bool) (xs : List (Item Reading)) (ms : List Mark) (x : Item Reading) (was now : Bool) (v : Verdict) → length xs ≡ length ms →
       HasWord (reading_of x) 4 → Moves was v now → Held (kept && was) xs ms → Held (kept && now) (xs ++ x ∷ []) (ms ++ marked kept v ∷ [])

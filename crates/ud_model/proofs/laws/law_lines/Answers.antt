@@ -20,4 +20,6 @@ pub returns-clause-whole : goal.returns-clause-whole
 returns-clause-whole c = split_lines-are
 
 pub returns-clause-only_whole : goal.returns-clause-only_whole
-returns-clause-only_whole c = λ text ls rest h. (ap (λ (p : SplitLines). p.whole) (parts_are text (record { whole = ls; rest = rest }) h), ap (λ (p : SplitLines). p.rest) (parts_are text (record { whole = ls; rest = rest }) h))
+returns-clause-only_whole c = λ text ls rest h.
+    let same = parts_are text (record { whole = ls; rest = rest }) h in
+    (ap (λ (p : SplitLines). p.whole) same, ap (λ (p : SplitLines). p.rest) same)
