@@ -53,8 +53,10 @@ pub record Reduced (j : ℕ) (x : Expression) (s : List (Frame Expression)) (r :
   pub tight : HasPrecedence j r.0
   pub further : 1 ≤ j → hole r.1 ≤ j
 
-left_if : (b : Bool) (j : ℕ) (o : Operator) (a x : Expression) (s : List (Frame Expression)) (r : Expression × List (Frame Expression)) → leb j (precedence o) ≡ b → Fits (left o a ∷ s) → HasPrecedence (precedence o + 1) x →
-    HasPrecedence j x → (j ≤ precedence o → Reduced j (binary o a x) s r) → Reduced j x (left o a ∷ s) (if b then r else (x, left o a ∷ s))
+left_if : (b : Bool) (j : ℕ) (o : Operator) (a x : Expression) (s : List (Frame Expression))
+    (r : Expression × List (Frame Expression)) → leb j (precedence o) ≡ b → Fits (left o a ∷ s) →
+    HasPrecedence (precedence o + 1) x → HasPrecedence j x → (j ≤ precedence o → Reduced j (binary o a x) s r) →
+    Reduced j x (left o a ∷ s) (if b then r else (x, left o a ∷ s))
 left_if b j o a x s r e f i t g = grind (arith, append_assoc)
 
 reduced : (j : ℕ) (x : Expression) (s : List (Frame Expression)) → Fits s → HasPrecedence (hole s) x → HasPrecedence j x → Reduced j x s (reduce itself j x s)

@@ -34,7 +34,8 @@ module _ (table : List Argument) (rules : Rules) where
   abbrev rest_of : Expression → Expression
   rest_of e = (residual table rules e).tree
 
-  pub written_left : (e : Expression) (cells : List Cell) → expression_of (map shown cells) ≡ Some e → (left : List Cell) → is_read table rules e left ≡ true → expression_of (map shown left) ≡ Some (rest_of e)
+  pub written_left : (e : Expression) (cells : List Cell) → expression_of (map shown cells) ≡ Some e →
+      (left : List Cell) → is_read table rules e left ≡ true → expression_of (map shown left) ≡ Some (rest_of e)
   written_left e cells p left q =
       let w : IsWritten (map shown cells) e = expression_is (map shown cells) e p in
       let f = found_are (tokens_of (map shown left)) (spelling (rest_of e)) (and_parts (not (begins_word left)) (are_tokens (tokens_of (map shown left)) (spelling (rest_of e))) q).1 in
@@ -77,11 +78,13 @@ of_parts (suc n) (x ∷ xs) (with_same p) q = with_same (of_parts n xs p q)
 some_or_none : {A : Type 0} (c : Bool) (xs : List A) → IsSublist (if c then xs else []) xs
 some_or_none h xs = grind (arith, all_of_it, none_of_it)
 
-token_sub : (f : Bool) (further : Bool → List Cell → List Cell) (rest : List ℕ) (o : Bool) (cells : List Cell) → ((o : Bool) (c : List Cell) → IsSublist (further o c) c) → IsSublist (token_left f further rest o cells) cells
+token_sub : (f : Bool) (further : Bool → List Cell → List Cell) (rest : List ℕ) (o : Bool) (cells : List Cell) →
+    ((o : Bool) (c : List Cell) → IsSublist (further o c) c) → IsSublist (token_left f further rest o cells) cells
 token_sub f further rest o cells h =
     of_parts (length cells - length rest) cells (some_or_none f (cells_before rest cells)) (h o (cells_after rest cells))
 
-by_sub : (prev operand f : Bool) (further : Bool → List Cell → List Cell) (cells : List Cell) (x : NextToken) → ((o : Bool) (c : List Cell) → IsSublist (further o c) c) → IsSublist (left_by prev operand f further cells x) cells
+by_sub : (prev operand f : Bool) (further : Bool → List Cell → List Cell) (cells : List Cell) (x : NextToken) →
+    ((o : Bool) (c : List Cell) → IsSublist (further o c) c) → IsSublist (left_by prev operand f further cells x) cells
 by_sub prev operand f further cells (found t rest) h =
     let s : List ℕ = skip_white (map shown cells) in
     of_parts (length cells - length s) cells

@@ -111,9 +111,11 @@ module _ (table : List Argument) (rules : Rules) where
   pub again : (e : Expression) → residual table rules (residual table rules e).tree ≡ settled_down (residual table rules e)
   again (unary Not a) = ap negated (again a)
   again (binary And a b) =
-      joined_again rules.strict And (is_unit And (left table rules a).cond) (is_unit And (left table rules b).cond) (left table rules a) (left table rules b) (residual table rules) refl refl (λ s t. refl) (again a) (again b)
+      joined_again rules.strict And (is_unit And (left table rules a).cond) (is_unit And (left table rules b).cond)
+      (left table rules a) (left table rules b) (residual table rules) refl refl (λ s t. refl) (again a) (again b)
   again (binary Or a b) =
-      joined_again rules.strict Or (is_unit Or (left table rules a).cond) (is_unit Or (left table rules b).cond) (left table rules a) (left table rules b) (residual table rules) refl refl (λ s t. refl) (again a) (again b)
+      joined_again rules.strict Or (is_unit Or (left table rules a).cond) (is_unit Or (left table rules b).cond)
+      (left table rules a) (left table rules b) (residual table rules) refl refl (λ s t. refl) (again a) (again b)
   again (parens a) = enclosed_again ((left table rules a).lost && stands_alone (left table rules a).tree) (left table rules a) (residual table rules) (λ s. refl) (again a)
   again _ = refl
 

@@ -19,5 +19,7 @@ module _ (table : List Argument) (rules : Rules) where
           tree_cond_if (expression_of (map shown (if b then left_cells (keeps table rules e) cells else cells))) table rules ≡ Unknown
       go e p b q = grind (arith, written_left)
 
-      by : (o : Option Expression) → expression_of (map shown cells) ≡ o → tree_cond_if (expression_of (map shown (simplified_by table rules (expression_of (map shown cells)) cells))) table rules ≡ Unknown
+      by : (o : Option Expression) → expression_of (map shown cells) ≡ o →
+          tree_cond_if (expression_of (map shown (simplified_by table rules (expression_of (map shown cells)) cells)))
+          table rules ≡ Unknown
       by o p = grind (arith, go)

@@ -44,11 +44,15 @@ module _ (table : List Argument) (k : Bool) where
   unfolding expression_cond
   expression_loose s after = tree_if_loose s (expression_of after)
 
-  test_loose : (s : Bool) (t : Test) (after : List ℕ) → LooserDecision (decision_by_test t after table (record { constants = k; strict = true })) (decision_by_test t after table (record { constants = k; strict = s }))
+  test_loose : (s : Bool) (t : Test) (after : List ℕ) →
+      LooserDecision (decision_by_test t after table (record { constants = k; strict = true }))
+      (decision_by_test t after table (record { constants = k; strict = s }))
   test_loose s Nonzero after = record { cond = expression_loose s after; ignoring = refl }
   test_loose _ _ _ = record { cond = alike; ignoring = refl }
 
-  decision_loose : (s : Bool) (scan : Scan) (d : Directive) → LooserDecision (decision_on scan d table (record { constants = k; strict = true })) (decision_on scan d table (record { constants = k; strict = s }))
+  decision_loose : (s : Bool) (scan : Scan) (d : Directive) →
+      LooserDecision (decision_on scan d table (record { constants = k; strict = true }))
+      (decision_on scan d table (record { constants = k; strict = s }))
   decision_loose s scan d = grind (arith, test_loose, same_decision)
 
 -- The openers differ in such conditions at most.

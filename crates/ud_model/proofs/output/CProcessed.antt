@@ -85,7 +85,9 @@ module _ (o : Options) {S F : Type 0} (takes : S → List ℕ → Scan → S →
     nodes_right (section ns gs e) k =
         let h : Pairwise (Clear o) (lines_of_nodes ns ++ lines_of_groups gs) (nodes_so_far true ns ++ groups_so_far true gs) =
         (pairwise_parts (Clear o) (lines_of_nodes ns ++ lines_of_groups gs) (nodes_so_far true ns ++ groups_so_far true gs) (endif_line e ∷ [])
-        (marked true (endif_verdict (conds_of_groups gs)) ∷ []) (many_both (lines_of_nodes ns) (lines_of_groups gs) (nodes_so_far true ns) (groups_so_far true gs) (as_many_nodes true ns) (as_many_groups true gs)) k).0 in
+        (marked true (endif_verdict (conds_of_groups gs)) ∷ [])
+        (many_both (lines_of_nodes ns) (lines_of_groups gs) (nodes_so_far true ns) (groups_so_far true gs)
+        (as_many_nodes true ns) (as_many_groups true gs)) k).0 in
         let q : Pairwise (Clear o) (lines_of_nodes ns) (nodes_so_far true ns) × Pairwise (Clear o) (lines_of_groups gs) (groups_so_far true gs) =
         pairwise_parts (Clear o) (lines_of_nodes ns) (nodes_so_far true ns) (lines_of_groups gs) (groups_so_far true gs) (as_many_nodes true ns) h in
         (nodes_right ns q.0, groups_right gs q.1)

@@ -118,7 +118,9 @@ module _ (o : Options) (w : World Reading) where
     nodes_right (section ns gs e) k h =
         let p : Pairwise (Clear o) (lines_of_nodes ns ++ lines_of_groups gs) (nodes_so_far true ns ++ groups_so_far true gs) =
         (pairwise_parts (Clear o) (lines_of_nodes ns ++ lines_of_groups gs) (nodes_so_far true ns ++ groups_so_far true gs) (endif_line e ∷ [])
-        (marked true (endif_verdict (conds_of_groups gs)) ∷ []) (many_both (lines_of_nodes ns) (lines_of_groups gs) (nodes_so_far true ns) (groups_so_far true gs) (as_many_nodes true ns) (as_many_groups true gs)) k).0 in
+        (marked true (endif_verdict (conds_of_groups gs)) ∷ [])
+        (many_both (lines_of_nodes ns) (lines_of_groups gs) (nodes_so_far true ns) (groups_so_far true gs)
+        (as_many_nodes true ns) (as_many_groups true gs)) k).0 in
         let q : Pairwise (Clear o) (lines_of_nodes ns) (nodes_so_far true ns) × Pairwise (Clear o) (lines_of_groups gs) (groups_so_far true gs) =
         pairwise_parts (Clear o) (lines_of_nodes ns) (nodes_so_far true ns) (lines_of_groups gs) (groups_so_far true gs) (as_many_nodes true ns) p in
         (nodes_right ns q.0 h.0, groups_right gs q.1 h.1)

@@ -132,9 +132,6 @@ some_ending t w = end_is_some (ending_of t) (whole_ending t w)
 piece_unended : (v : Verdict) (k : Span) (l : Line) → IsLine l → l.ending ≡ [] → IsLeft v → IsUnterminated (piece_by v k l)
 piece_unended v k l h g left = grind (arith, some_ending, unended_piece)
 
-quiet_by : (l k : Line) → l ≡ k → IsQuiet k → IsQuiet l
-quiet_by l k e q = subst IsQuiet (sym e) q
-
 -- 4. The lines, one at a time.
 
 module _ (o : Options) (m : Mode) (b n : Bool) (some : (b || n) ≡ true) where
@@ -261,7 +258,8 @@ module _ (o : Options) (m : Mode) (b n : Bool) (some : (b || n) ≡ true) where
         let end = feed_end j.line.ending (ends_or_not j.line (subst IsLine (sym line_j) i)) in
         let few : j.line.number < 2 ^ 64 = subst (λ (z : Line). z.number < 2 ^ 64) (sym line_j) small in
         let cut = number_quiet (suc (length s.qs)) j.line end few in
-        let quiet = quiet_by (line_behind s.qs d) (record { body = says_number j.line.number; ending = ending_or_newline j.line.ending; number = suc (length s.qs) }) cut (record { quiet = says_quiet j.line.number few; end = end }) in
+        let quiet : IsQuiet (line_behind s.qs d) =
+        subst IsQuiet (sym cut) (record { quiet = says_quiet j.line.number few; end = end }) in
         let w = put o m s.ys s.zs s.qs s.weave rest d quiet in
         let z : Reading = read_after s.zs m (line_behind s.qs d) in
         record {
@@ -271,7 +269,8 @@ module _ (o : Options) (m : Mode) (b n : Bool) (some : (b || n) ≡ true) where
           whole = whole_more s.qs d s.whole (quiet_whole (says_number j.line.number) (ending_or_newline j.line.ending) (says_quiet j.line.number few) end);
           same = cc (concat_more s.qs d, append_assoc (concat s.qs) d (piece_by j.verdict j.keyword j.line), s.same, g, shown_u);
           count = λ r p h. subst (λ (js : List Judged). Counted js (map reading_of s.ys ++ r ∷ []) (map reading_of (with_line o m s.zs (line_behind s.qs d)) ++ p ∷ []) (suc j.line.number)) (sym js_u)
-              (subst (λ (rs : List Reading). Counted (so_far xs t ++ j ∷ []) (map reading_of s.ys ++ r ∷ []) (rs ++ p ∷ []) (suc j.line.number)) (sym (readings_last o s.zs s.zs m (line_behind s.qs d)))
+              (subst (λ (rs : List Reading). Counted (so_far xs t ++ j ∷ []) (map reading_of s.ys ++ r ∷ [])
+              (rs ++ p ∷ []) (suc j.line.number)) (sym (readings_last o s.zs s.zs m (line_behind s.qs d)))
               (starts_anew s.counted j z (ap (λ (y : Line). y.body) cut, put_lone o m s.ys s.zs s.qs s.weave rest d quiet) r p h));
         }
 
@@ -375,7 +374,7 @@ module _ (o : Options) (m : Mode) (b n : Bool) (some : (b || n) ≡ true) where
             let d : List ℕ = j.line.ending in
             let de : IsEnd d = subst (λ (z : Line). IsEnd z.ending) (sym line_j) (has_end (ends_or_not l i)) in
             let cut = quiet_line (suc (length s.qs)) [] d tt de in
-            let quiet = quiet_by (line_behind s.qs d) (record { body = []; ending = d; number = suc (length s.qs) }) cut (record { quiet = tt; end = de }) in
+            let quiet : IsQuiet (line_behind s.qs d) = subst IsQuiet (sym cut) (record { quiet = tt; end = de }) in
             let rest : LeavesOff s.ys in_text true false = rests_at o xs t s.ys m s.between l u i k f in
             record {
               ys = s.ys;

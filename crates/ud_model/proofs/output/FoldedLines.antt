@@ -216,7 +216,9 @@ break_by {white = white} true spliced r rs i p f =
         subst (λ (w : Bool). IsSpread w (vertical_tab ∷ shown_lines (r ∷ rs)) (all_masked (r ∷ rs))) (sym (p.blank_white b)) (behind vertical_tab refl (f (next_place p)))
     by (inr b) = in_front vertical_tab refl (lines_white r rs i p.spaces.1 b) (f (next_place p))
 break_by {white = white} false spliced r rs i p f =
-    subst (λ (w : Bool). IsSpread w (shown_after false spliced (r ∷ rs)) (all_masked (r ∷ rs))) (sym (p.space_white (space_before p.before spliced (folded_body (r ∷ rs)) (shown_lines (r ∷ rs)) p.spaces))) (by spliced p)
+    subst (λ (w : Bool). IsSpread w (shown_after false spliced (r ∷ rs)) (all_masked (r ∷ rs)))
+    (sym (p.space_white (space_before p.before spliced (folded_body (r ∷ rs)) (shown_lines (r ∷ rs)) p.spaces)))
+    (by spliced p)
   where
     by : (spliced : Bool) →
         IsPlace white (bytes_after false spliced (r ∷ rs)) (shown_after false spliced (r ∷ rs)) →
@@ -231,7 +233,9 @@ spread_by : {white : Bool} (p m : List ℕ) (outside spliced : Bool) (rs : List 
 spread_by p m outside spliced [] i l q = kept_all p m l q (λ now j. nothing)
 spread_by p m outside spliced (r ∷ rs) i l q =
     kept_all p m l q (λ now j. break_by outside spliced r rs i j (λ k.
-    subst (λ (ms : List ℕ). IsSpread true ms (all_masked (r ∷ rs))) (sym (shown_parts r rs)) (spread_by (content r.line) r.scan.masked (is_outside r.scan.comment) r.scan.spliced rs i.1 i.0.size (parts_place r rs i.0 k))))
+    subst (λ (ms : List ℕ). IsSpread true ms (all_masked (r ∷ rs))) (sym (shown_parts r rs))
+    (spread_by (content r.line) r.scan.masked (is_outside r.scan.comment) r.scan.spliced rs i.1 i.0.size
+    (parts_place r rs i.0 k))))
 
 -- But for white space the bytes are the same.
 spaced_front : (white : Bool) (t : List ℕ) → begins_white t ≡ true → spaced true t ≡ spaced white t
@@ -291,7 +295,8 @@ gap_stays : (word rest more : List ℕ) (k : Kind) → kind_of word ≡ Some k �
     first_is is_white (word ++ rest) ≡ false → first_is is_white (word ++ (rest ++ more)) ≡ false
 gap_stays word rest more k h g = search (rules, absurd)
 
-module _ (r : Reading) (rs : List Reading) (d : Directive) (i : Each IsMeasured (r ∷ rs)) (s : IsShown (scan_after_run [] (folded_line (r ∷ rs))) (shown_lines (r ∷ rs))) (h : HasDirective r.scan d) where
+module _ (r : Reading) (rs : List Reading) (d : Directive) (i : Each IsMeasured (r ∷ rs))
+    (s : IsShown (scan_after_run [] (folded_line (r ∷ rs))) (shown_lines (r ∷ rs))) (h : HasDirective r.scan d) where
   abbrev rest : List ℕ
   rest = h.parts.rest
 
@@ -339,7 +344,8 @@ module _ (r : Reading) (rs : List Reading) (d : Directive) (i : Each IsMeasured 
       subst (λ (ms : List ℕ). IsPlace true (take (length front) (content r.line) ++ (drop (length front) (content r.line) ++ bytes_behind r rs)) ms)
       (ap (λ (m : List ℕ). m ++ shown_behind r rs) masked_so ∙ append_assoc front rest (shown_behind r rs))
       (subst (λ (u : List ℕ). IsPlace true u (r.scan.masked ++ shown_behind r rs))
-      (ap (λ (u : List ℕ). u ++ bytes_behind r rs) (sym (take-append-drop (length front) (content r.line))) ∙ append_assoc (take (length front) (content r.line)) (drop (length front) (content r.line)) (bytes_behind r rs))
+      (ap (λ (u : List ℕ). u ++ bytes_behind r rs) (sym (take-append-drop (length front) (content r.line)))
+      ∙ append_assoc (take (length front) (content r.line)) (drop (length front) (content r.line)) (bytes_behind r rs))
       (folded_place r rs i.0 s))
 
   rest_place : (white : Bool) × IsPlace white (drop (length front) (content r.line) ++ bytes_behind r rs) (rest ++ shown_behind r rs)

@@ -327,7 +327,8 @@ read_alike before others (l ∷ ls) (k ∷ ks) e q =
     let same : unnumbered_line l ≡ unnumbered_line k = cc in
     let more : map unnumbered_line ls ≡ map unnumbered_line ks = cc in
     let scans : scan_after before C l ≡ scan_after others C k =
-    scan_after-same before others C l k (bare_all before ∙ ap (λ (rs : List Reading). map unscanned rs) e ∙ sym (bare_all others)) (ap (λ (j : Line). j.body) same) (ap (λ (j : Line). j.ending) same) in
+    scan_after-same before others C l k (bare_all before ∙ ap (λ (rs : List Reading). map unscanned rs) e
+    ∙ sym (bare_all others)) (ap (λ (j : Line). j.body) same) (ap (λ (j : Line). j.ending) same) in
     let next : unnumbered (next_reading before C l) ≡ unnumbered (next_reading others C k) = ap₂ (λ (j : Line) (s : Scan). record { line = j; mode = C; scan = s }) same scans in
     read_alike (with_next before C l) (with_next others C k) ls ks
     (rw (map-append unnumbered before (next_reading before C l ∷ []), map-append unnumbered others (next_reading others C k ∷ []), e, next) refl) more
@@ -353,7 +354,9 @@ module _ (bytes : List ℕ) (no_tab : has_tab bytes ≡ false) where
   readings_there : map unnumbered (read_as C (folded_text bytes)) ≡ map unnumbered result
   readings_there =
       ap (λ (ls : List Line). map unnumbered (read_in C ls)) lines_there
-      ∙ read_alike [] [] (numbered_from 1 (bytes_of result)) (map line_of result) refl (all_renumbered 1 (map line_of result) (are_lines (map line_of result) (all_lines (map folded_readings groups) logical)))
+      ∙ read_alike [] [] (numbered_from 1 (bytes_of result)) (map line_of result) refl
+      (all_renumbered 1 (map line_of result)
+      (are_lines (map line_of result) (all_lines (map folded_readings groups) logical)))
       ∙ ap (λ (rs : List Reading). map unnumbered rs) (reread (map folded_readings groups) logical)
 
 -- 6. What C reads.

@@ -71,11 +71,14 @@ module _ (o : Options) where
   else_item r q d f e h n g b = grind arith
 
   -- A directive that opens a further group, or an `#else`, becomes an `#endif`.
-  pub endif_item : (r q : Reading) (d f : Directive) → content_of r.scan ≡ directive d → (role_of d.kind ≡ ElifGroup) ⊎ (role_of d.kind ≡ ElseGroup) → content_of q.scan ≡ directive f → f.kind ≡ Endif →
+  pub endif_item : (r q : Reading) (d f : Directive) → content_of r.scan ≡ directive d →
+      (role_of d.kind ≡ ElifGroup) ⊎ (role_of d.kind ≡ ElseGroup) → content_of q.scan ≡ directive f → f.kind ≡ Endif →
       line_bytes q ≡ edited_bytes (edited ToEndif r) → IsLeftOf ToEndif (item_of o r) (item_of o q)
   endif_item r q d f e h n g b = grind arith
 
-  if_content : (r : Reading) (c : Content) → Suits ToIf (item_by o r c) → (d : Directive) × (c ≡ directive d) × (role_of d.kind ≡ ElifGroup) × ((decision_on r.scan d o.table (rules_of o.settings)).cond ≡ Unknown)
+  if_content : (r : Reading) (c : Content) → Suits ToIf (item_by o r c) →
+      (d : Directive) × (c ≡ directive d) × (role_of d.kind ≡ ElifGroup) ×
+      ((decision_on r.scan d o.table (rules_of o.settings)).cond ≡ Unknown)
   if_content r c s = grind arith
 
   else_content : (r : Reading) (c : Content) → Suits ToElse (item_by o r c) → (d : Directive) × (c ≡ directive d) × (role_of d.kind ≡ ElifGroup)
@@ -86,7 +89,9 @@ module _ (o : Options) where
 
   -- A line that becomes an `#if` has a directive that opens a further group, and whose condition is
   -- unknown.
-  pub becomes_if : (r : Reading) → Suits ToIf (item_of o r) → (d : Directive) × (content_of r.scan ≡ directive d) × (role_of d.kind ≡ ElifGroup) × ((decision_on r.scan d o.table (rules_of o.settings)).cond ≡ Unknown)
+  pub becomes_if : (r : Reading) → Suits ToIf (item_of o r) →
+      (d : Directive) × (content_of r.scan ≡ directive d) × (role_of d.kind ≡ ElifGroup) ×
+      ((decision_on r.scan d o.table (rules_of o.settings)).cond ≡ Unknown)
   becomes_if r s = if_content r (content_of r.scan) s
 
   -- A line that becomes an `#else` has such a directive.
@@ -112,7 +117,9 @@ module _ (o : Options) (r q : Reading) where
 
   -- The case of a directive that opens a further group, with the keyword of a first one in place of
   -- its own.
-  pub left_if : (d : Directive) → content_of r.scan ≡ directive d → role_of d.kind ≡ ElifGroup → (decision_on r.scan d o.table (rules_of o.settings)).cond ≡ Unknown → SeenAsIf r.scan q.scan d → line_bytes q ≡ edited_bytes (edited ToIf r) → Left o ToIf r q
+  pub left_if : (d : Directive) → content_of r.scan ≡ directive d → role_of d.kind ≡ ElifGroup →
+      (decision_on r.scan d o.table (rules_of o.settings)).cond ≡ Unknown → SeenAsIf r.scan q.scan d →
+      line_bytes q ≡ edited_bytes (edited ToIf r) → Left o ToIf r q
   left_if d e k u s b =
       let c = to_if_content r.scan q.scan d e s.fresh_is s.cut_is s.masked_is in
       record {

@@ -91,7 +91,9 @@ answered_c_live {args = args} {input = input} (ran r e d) n = λ ns i w g l c.
     (w, c_agrees (options_of args) w ns (clear_run d (faultless (options_of args).settings r.differs r.fault n) ns i) g, c)
 
 -- C selects the same lines of the output without a symbol that is gone.
-pub answered_without : {args : List (List ℕ)} {input : List ℕ} {a : Answer} → IsAnswer args input a → a.status ≢ 2 → IsPlain (options_of args) → (name : List ℕ) (u : List Argument) → SelectsWithout (options_of args) name u input a.output
+pub answered_without : {args : List (List ℕ)} {input : List ℕ} {a : Answer} → IsAnswer args input a → a.status ≢ 2 →
+    IsPlain (options_of args) → (name : List ℕ) (u : List Argument) →
+    SelectsWithout (options_of args) name u input a.output
 answered_without (refused f e) n p name u = absurd (n refl)
 answered_without {args = args} {input = input} (ran r e d) n p name u = λ ns us i j gone same w v pair.
     let k = run_of (options_of args) input r d (faultless (options_of args).settings r.differs r.fault n) p ns us i j in

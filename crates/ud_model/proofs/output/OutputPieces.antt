@@ -78,7 +78,9 @@ formed_last : (v : Verdict) (x : Item Reading) (n : ℕ) (t : List ℕ) → line
 unfolding LeftOne all_pieces
 formed_last v x n t e w = go (left_one v x)
   where
-    piece : IsWhole t ⊎ IsUnterminated t → IsLeft v → IsWhole (piece_by v (keyword_in (content_of (reading_of x).scan)) (line_at n t)) ⊎ IsUnterminated (piece_by v (keyword_in (content_of (reading_of x).scan)) (line_at n t))
+    piece : IsWhole t ⊎ IsUnterminated t → IsLeft v →
+        IsWhole (piece_by v (keyword_in (content_of (reading_of x).scan)) (line_at n t)) ⊎
+        IsUnterminated (piece_by v (keyword_in (content_of (reading_of x).scan)) (line_at n t))
     piece h g = grind (arith, whole_piece, unended_piece)
 
     go : (v ≡ Remove) ⊎ LeftOne v x → AreFormed (all_pieces (kept_line v x ++ []))

@@ -141,7 +141,9 @@ right_numbers (blanked {js = js} {ss = ss} j c g d k) h w =
     right_line (js ++ j ∷ []) ss d j.line.number (blank_operand d k) (right_further js j ss j.line.number (right_numbers c h (each_parts IsFew js (j ∷ []) w).0)) (λ i e. inl (inl k))
 right_numbers (counts_on {js = js} {rs = rs} {ss = ss} j c r s p) h w =
     let q = none_last rs r h in
-    right_line (js ++ j ∷ []) ss s j.line.number (ap line_operand p.scanned ∙ q.1) (right_further js j ss j.line.number (right_numbers c q.0 (each_parts IsFew js (j ∷ []) w).0)) (printed_for js j r s p)
+    right_line (js ++ j ∷ []) ss s j.line.number (ap line_operand p.scanned ∙ q.1)
+    (right_further js j ss j.line.number (right_numbers c q.0 (each_parts IsFew js (j ∷ []) w).0))
+    (printed_for js j r s p)
 right_numbers (starts_anew {js = js} {rs = rs} {ss = ss} {n = n} c j d k r s p) h w =
     let q = none_last rs r h in
     let few = each_parts IsFew js (j ∷ []) w in

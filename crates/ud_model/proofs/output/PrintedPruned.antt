@@ -106,14 +106,17 @@ module _ {L : Type 0} where
     pub groups_gone : (gs : Groups L) → printed (lines_of_groups gs) (groups_so_far false gs) ≡ []
     groups_gone (conditional es) = elifs_gone es
     groups_gone (otherwise es l ns) =
-        printed_between (lines_of_elifs es) (else_line l) (lines_of_nodes ns) (elifs_so_far false es) (marked false (verdict_so_far (conds_of_elifs es) an_else Yes)) (nodes_so_far false ns) (as_many_elifs false es)
+        printed_between (lines_of_elifs es) (else_line l) (lines_of_nodes ns) (elifs_so_far false es)
+        (marked false (verdict_so_far (conds_of_elifs es) an_else Yes)) (nodes_so_far false ns) (as_many_elifs false es)
         ∙ two_empty (printed (lines_of_elifs es) (elifs_so_far false es) ++ []) (printed (lines_of_nodes ns) (nodes_so_far false ns))
         (two_empty (printed (lines_of_elifs es) (elifs_so_far false es)) [] (elifs_gone es) refl) (nodes_gone ns)
 
     pub elifs_gone : (es : Elifs L) → printed (lines_of_elifs es) (elifs_so_far false es) ≡ []
     elifs_gone (first o ns) = nodes_gone ns
     elifs_gone (elif es o ns) =
-        printed_between (lines_of_elifs es) (elif_line o) (lines_of_nodes ns) (elifs_so_far false es) (marked false (verdict_so_far (conds_of_elifs es) an_elif o.cond)) (nodes_so_far false ns) (as_many_elifs false es)
+        printed_between (lines_of_elifs es) (elif_line o) (lines_of_nodes ns) (elifs_so_far false es)
+        (marked false (verdict_so_far (conds_of_elifs es) an_elif o.cond)) (nodes_so_far false ns)
+        (as_many_elifs false es)
         ∙ two_empty (printed (lines_of_elifs es) (elifs_so_far false es) ++ []) (printed (lines_of_nodes ns) (nodes_so_far false ns))
         (two_empty (printed (lines_of_elifs es) (elifs_so_far false es)) [] (elifs_gone es) refl) (nodes_gone ns)
 

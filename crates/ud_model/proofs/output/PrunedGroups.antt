@@ -163,7 +163,8 @@ module _ {L : Type 0} where
   }
 
   -- One more group isn't kept.
-  one_gone : (all : List Cond) (gs : List (Group L)) (hs : List (Group (Edited L))) (g : Group L) (ends m : List (Item (Edited L))) → Left all gs hs ends → is_kept_group g ≡ false → left_of all g ≡ m →
+  one_gone : (all : List Cond) (gs : List (Group L)) (hs : List (Group (Edited L))) (g : Group L)
+      (ends m : List (Item (Edited L))) → Left all gs hs ends → is_kept_group g ≡ false → left_of all g ≡ m →
       Left all (gs ++ g ∷ []) hs (ends ++ m)
   one_gone all gs hs g ends m l e o = grind (arith, kept_longer, others_then)
 

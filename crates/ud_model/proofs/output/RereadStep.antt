@@ -73,7 +73,8 @@ the_more o m xs t l u q e n =
           ∙ false_from_ne_true (is_cut (content_of (reading_of x).scan)) (λ h. n.1.1.0 h);
     }
 
-module _ (o : Options) (m : Mode) (xs : List (Item Reading)) (t : Tree Reading) (ys : List (Item Reading)) (b : Between o m xs t ys) (l : Line) (u : Tree Reading) (i : IsLine l) (k : More o m xs t l u) where
+module _ (o : Options) (m : Mode) (xs : List (Item Reading)) (t : Tree Reading) (ys : List (Item Reading))
+    (b : Between o m xs t ys) (l : Line) (u : Tree Reading) (i : IsLine l) (k : More o m xs t l u) where
   abbrev new : Item Reading
   new = item_of o (read_after xs m l)
 
@@ -114,7 +115,8 @@ plain_between o xs u l zs a =
       },
     )
 
-plain_step : (o : Options) (xs : List (Item Reading)) (t : Tree Reading) (ys : List (Item Reading)) (b : Between o Plain xs t ys) (l : Line) (u : Tree Reading) (i : IsLine l) (k : More o Plain xs t l u) →
+plain_step : (o : Options) (xs : List (Item Reading)) (t : Tree Reading) (ys : List (Item Reading))
+    (b : Between o Plain xs t ys) (l : Line) (u : Tree Reading) (i : IsLine l) (k : More o Plain xs t l u) →
     (zs : List (Item Reading)) × Stepped o Plain xs u l zs
 plain_step o xs t ys b l u i k = go (goes_or_left k.grown.mark.verdict)
   where

@@ -36,6 +36,9 @@ pub unspliced : (l : Line) → (scan_after_run [] l).joins_after ≡ false → i
 unspliced l h =
     (or_parts (is_spliced l) (is_block (kind_at_end (spliced_text [] ++ spliced_part l))) (sym (joins_last [] l) ∙ sym (joins_after-code [] l) ∙ h)).0
 
+abbrev TrueOrFalse : Bool → Type 0
+TrueOrFalse b = (b ≡ true) ⊎ (b ≡ false)
+
 module _ (table : List Argument) (rules : Rules) where
   -- A line of which all cells are left is the line.
   whole_line : (l : Line) (d : Directive) → is_spliced l ≡ false → simplified_cells table rules (condition_cells l d) ≡ condition_cells l d → left_line table rules l d ≡ l
@@ -49,6 +52,9 @@ module _ (table : List Argument) (rules : Rules) where
 
   -- The line is edited to itself.
   module _ (r s : Reading) (d : Directive) (i : IsLeft table rules r s d) where
+    abbrev cells_before : List Cell
+    cells_before = condition_cells r.line d
+
     same_line : left_line table rules r.line d ≡ r.line → simplified_line table rules s ≡ s.line
     same_line w = grind arith
 
@@ -62,7 +68,8 @@ module _ (table : List Argument) (rules : Rules) where
     has_now = ap content_of i.after ∙ i.edited.has_now
 
     -- The edited line has the residual, which stays.
-    left_again : (e : Expression) → expression_of (map shown (simplified_cells table rules (condition_cells r.line d))) ≡ Some (residual table rules e).tree → simplified_line table rules s ≡ s.line
+    left_again : (e : Expression) → expression_of (map shown (simplified_cells table rules cells_before)) ≡ Some (residual table rules e).tree →
+        simplified_line table rules s ≡ s.line
     left_again e p =
         let now : Directive = i.edited.now in
         let scanned : s.scan ≡ scan_after_run [] s.line = i.after ∙ ap (λ (k : Line). scan_after_run [] k) (sym i.line) in
@@ -75,15 +82,17 @@ module _ (table : List Argument) (rules : Rules) where
         by b w = grind arith
 
     edited_again : simplified_line table rules s ≡ s.line
-    edited_again = by (option_is (expression_of (map shown (condition_cells r.line d))))
+    edited_again = by (option_is (expression_of (map shown cells_before)))
       where
-        go : (e : Expression) → (simplified_cells table rules (condition_cells r.line d) ≡ condition_cells r.line d) ⊎ (expression_of (map shown (simplified_cells table rules (condition_cells r.line d))) ≡ Some (residual table rules e).tree) →
+        go : (e : Expression) → (simplified_cells table rules cells_before ≡ cells_before) ⊎
+            (expression_of (map shown (simplified_cells table rules cells_before)) ≡ Some (residual table rules e).tree) →
             simplified_line table rules s ≡ s.line
         go e h = grind (arith, whole_line, lone, left_again)
 
-        by : (expression_of (map shown (condition_cells r.line d)) ≡ None) ⊎ ((e : Expression) × (expression_of (map shown (condition_cells r.line d)) ≡ Some e)) → simplified_line table rules s ≡ s.line
-        by (inl n) = same_line (whole_line r.line d lone (untouched table rules (condition_cells r.line d) n))
-        by (inr (e, p)) = go e (same_or_left table rules e (condition_cells r.line d) p)
+        by : (expression_of (map shown cells_before) ≡ None) ⊎
+            ((e : Expression) × (expression_of (map shown cells_before) ≡ Some e)) → simplified_line table rules s ≡ s.line
+        by (inl n) = same_line (whole_line r.line d lone (untouched table rules cells_before n))
+        by (inr (e, p)) = go e (same_or_left table rules e cells_before p)
 
   abbrev left_text : Reading → List ℕ
   left_text r = text_of (simplified_line table rules r)
@@ -147,7 +156,7 @@ module _ (table : List Argument) (rules : Rules) where
     cells = condition_cells r.line d
 
     abbrev Reason : Type 0
-    Reason = MayStay table rules r d ⊎ ((e : Expression) × (expression_of d.after ≡ Some e) × IsReduced table rules e)
+    Reason = IsSimplified table rules r d
 
     -- The line is edited to itself.
     same_now : may_change table rules r.scan r.line d ≡ true → left_line table rules r.line d ≡ r.line
@@ -170,37 +179,39 @@ module _ (table : List Argument) (rules : Rules) where
         tree_is : expression_of (map shown cells) ≡ Some e
         tree_is = ap expression_of text_is ∙ p
 
-        -- All cells are left, so the tree is its own residual.
-        reduced : may_go table rules e cells ≡ true → is_read table rules e (left_cells (keeps table rules e) cells) ≡ true → is_undecided table rules (residual table rules e) ≡ true →
-            is_read_alone table rules r.line d ≡ true → IsReduced table rules e
-        unfolding simplified_cells
-        reduced g q u z =
-            let a = all_left r.line d unspliced_line (same_now (and_from (is_lone r.scan r.line) (is_read_alone table rules r.line d) lone z)) in
-            let b : left_cells_of table rules r.line d ≡ left_cells (keeps table rules e) cells =
-            ap (λ o. simplified_by table rules o cells) tree_is
-            ∙ ap (λ (t : Bool). if t then left_cells (keeps table rules e) cells else cells) (and_from (may_go table rules e cells) (is_read table rules e (left_cells (keeps table rules e) cells)) g q) in
-            let w = written_left table rules e cells tree_is (left_cells (keeps table rules e) cells) q in
-            let f = is_some (sym w ∙ ap (λ (cs : List Cell). expression_of (map shown cs)) (sym b ∙ a) ∙ tree_is) in
-            fixed_reduced table rules e f (and_parts (is_unknown (residual table rules e).cond) (is_unknown (tree_cond (residual table rules e).tree table rules)) u).0
+        abbrev rest : List Cell
+        rest = left_cells (keeps table rules e) cells
 
-        by_line : may_go table rules e cells ≡ true → is_read table rules e (left_cells (keeps table rules e) cells) ≡ true → is_undecided table rules (residual table rules e) ≡ true →
-            (is_read_alone table rules r.line d ≡ true) ⊎ (is_read_alone table rules r.line d ≡ false) → Reason
-        by_line g q u h = grind (arith, reduced)
+        module _ (g : may_go table rules e cells ≡ true) (u : is_undecided table rules (residual table rules e) ≡ true) where
+          -- All cells are left, so the tree is its own residual.
+          reduced : is_read table rules e rest ≡ true → is_read_alone table rules r.line d ≡ true → IsReduced table rules e
+          unfolding simplified_cells
+          reduced q z =
+              let a = all_left r.line d unspliced_line (same_now (and_from (is_lone r.scan r.line) (is_read_alone table rules r.line d) lone z)) in
+              let b : left_cells_of table rules r.line d ≡ rest =
+              ap (λ o. simplified_by table rules o cells) tree_is
+              ∙ ap (λ (t : Bool). if t then rest else cells) (and_from (may_go table rules e cells) (is_read table rules e rest) g q) in
+              let w = written_left table rules e cells tree_is rest q in
+              let f = is_some (sym w ∙ ap (λ (cs : List Cell). expression_of (map shown cs)) (sym b ∙ a) ∙ tree_is) in
+              fixed_reduced table rules e f (and_parts (is_unknown (residual table rules e).cond) (is_unknown (tree_cond (residual table rules e).tree table rules)) u).0
 
-        by_rest : may_go table rules e cells ≡ true → is_undecided table rules (residual table rules e) ≡ true →
-            (is_read table rules e (left_cells (keeps table rules e) cells) ≡ true) ⊎ (is_read table rules e (left_cells (keeps table rules e) cells) ≡ false) → Reason
-        by_rest g u (inl q) = by_line g q u (cases_Bool (is_read_alone table rules r.line d))
-        by_rest g u (inr q) = inl (rest_misread e p q)
+          by_line : is_read table rules e rest ≡ true → TrueOrFalse (is_read_alone table rules r.line d) → Reason
+          by_line q h = grind (arith, reduced)
 
-        by_quote : is_unknown (tree_cond e table rules) ≡ true → is_undecided table rules (residual table rules e) ≡ true → (list_any is_literal cells ≡ true) ⊎ (list_any is_literal cells ≡ false) → Reason
+          by_rest : TrueOrFalse (is_read table rules e rest) → Reason
+          by_rest (inl q) = by_line q (cases_Bool (is_read_alone table rules r.line d))
+          by_rest (inr q) = inl (rest_misread e p q)
+
+        by_quote : is_unknown (tree_cond e table rules) ≡ true → is_undecided table rules (residual table rules e) ≡ true →
+            TrueOrFalse (list_any is_literal cells) → Reason
         by_quote k u (inl q) = inl (has_quote q)
         by_quote k u (inr q) = search (rules, by_rest, and_from, not_from_false, cases_Bool)
 
-        by_residual : is_unknown (tree_cond e table rules) ≡ true → (is_undecided table rules (residual table rules e) ≡ true) ⊎ (is_undecided table rules (residual table rules e) ≡ false) → Reason
+        by_residual : is_unknown (tree_cond e table rules) ≡ true → TrueOrFalse (is_undecided table rules (residual table rules e)) → Reason
         by_residual k (inl u) = by_quote k u (cases_Bool (list_any is_literal cells))
         by_residual k (inr u) = inl (rest_decided e p u)
 
-        by_cond : (is_unknown (tree_cond e table rules) ≡ true) ⊎ (is_unknown (tree_cond e table rules) ≡ false) → Reason
+        by_cond : TrueOrFalse (is_unknown (tree_cond e table rules)) → Reason
         by_cond (inl k) = by_residual k (cases_Bool (is_undecided table rules (residual table rules e)))
         by_cond (inr k) = inl (decided e p k)
 
@@ -211,7 +222,7 @@ module _ (table : List Argument) (rules : Rules) where
     reason : Reason
     reason = by (cases_Bool (is_lone r.scan r.line))
       where
-        by : (is_lone r.scan r.line ≡ true) ⊎ (is_lone r.scan r.line ≡ false) → Reason
+        by : TrueOrFalse (is_lone r.scan r.line) → Reason
         by (inl l) = by_tree l (option_is (expression_of d.after))
         by (inr l) = inl (joins_line l)
 
@@ -220,14 +231,17 @@ module _ (table : List Argument) (rules : Rules) where
   lone_scan : (r s : Reading) → ReadingSimplified table rules r s → s.scan.joins_before ≡ false → s.scan ≡ scan_after [] C s.line
   lone_scan r s h = grind arith
 
-  from : {rs ss : List Reading} → Pairs (ReadingSimplified table rules) rs ss → (before after : List Reading) (s : Reading) → ss ≡ before ++ s ∷ after → (r : Reading) × ReadingSimplified table rules r s
+  from : {rs ss : List Reading} → Pairs (ReadingSimplified table rules) rs ss →
+      (before after : List Reading) (s : Reading) → ss ≡ before ++ s ∷ after →
+      (r : Reading) × ReadingSimplified table rules r s
   from no_pair [] after s e = cc
   from no_pair (b ∷ before) after s e = cc
   from (pair {x = r} {y = t} i p) [] after s e = let q : t ≡ s = cc in (r, subst (λ (x : Reading). ReadingSimplified table rules r x) q i)
   from (pair {ys = ss} i p) (b ∷ before) after s e = let q : ss ≡ before ++ s ∷ after = cc in from p before after s q
 
   -- Each condition is reduced, or may stay.
-  pub operands_left : (bytes : List ℕ) (before after : List Reading) (s : Reading) (d : Directive) → read_as C (simplified_text table rules bytes) ≡ before ++ s ∷ after → content_of s.scan ≡ directive d →
+  pub operands_left : (bytes : List ℕ) (before after : List Reading) (s : Reading) (d : Directive) →
+      read_as C (simplified_text table rules bytes) ≡ before ++ s ∷ after → content_of s.scan ≡ directive d →
       IsSimplified table rules s d
   operands_left bytes before after s d e h =
       let f = from (readings_simplified table rules bytes) before after s (ap (λ (ls : List Line). read_in C ls) (sym (lines_left table rules bytes)) ∙ e) in

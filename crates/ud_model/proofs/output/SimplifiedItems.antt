@@ -35,7 +35,8 @@ module _ (o : Options) where
   by_kind : (r s : Reading) (j k : Kind) (d e : Decision) → SameIf j k → Simplified r s → ItemSimplified (directive_item r (role_of j) d) (directive_item s (role_of k) e)
   by_kind r s j k d e h g = grind (arith, an_if, an_elif)
 
-  edited_item : (r s : Reading) (d e : Directive) → content_of r.scan ≡ directive d → content_of s.scan ≡ directive e → SameIf d.kind e.kind → Simplified r s → ItemSimplified (item_of o r) (item_of o s)
+  edited_item : (r s : Reading) (d e : Directive) → content_of r.scan ≡ directive d → content_of s.scan ≡ directive e →
+      SameIf d.kind e.kind → Simplified r s → ItemSimplified (item_of o r) (item_of o s)
   edited_item r s d e p q i j = grind (arith, by_kind)
 
   item_simplified : (r s : Reading) → ReadingSimplified o.table (rules_of o.settings) r s → ItemSimplified (item_of o r) (item_of o s)

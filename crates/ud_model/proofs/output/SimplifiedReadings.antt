@@ -101,12 +101,17 @@ module _ (table : List Argument) (rules : Rules) where
       let k : Line = left_line table rules l d in
       let x : Begins before = b (or_parts (scan_after before C l).joins_before (scan_after before C l).joins_after i.lone).0 in
       let y : Begins after = ends_alike p x in
-      let e : scan_after before C l ≡ scan_after [] C l = scanned_alone before l x in
+      let scan : Scan = scan_after before C l in
+      let e : scan ≡ scan_after [] C l = scanned_alone before l x in
       record {
         reading = reading_edited d (record { edited = i; line = refl; simplified = q; before = e; after = scanned_alone after k y });
         alike =
             other_line p l k
-            (record { begins = x; alone = ap (λ (s : Scan). s.joins_after) (sym e) ∙ (or_parts (scan_after before C l).joins_before (scan_after before C l).joins_after i.lone).1; has_ending = i.some })
+            (record {
+              begins = x;
+              alone = ap (λ (s : Scan). s.joins_after) (sym e) ∙ (or_parts scan.joins_before scan.joins_after i.lone).1;
+              has_ending = i.some;
+            })
             (record { begins = y; alone = i.alone; has_ending = i.some });
       }
 

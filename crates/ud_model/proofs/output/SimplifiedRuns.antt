@@ -87,7 +87,9 @@ module _ (table : List Argument) (rules : Rules) where
   calm_left : (r s : Reading) → ReadingSimplified table rules r s → is_in_block r.scan.comment ≡ false → is_in_block s.scan.comment ≡ false
   calm_left r s h g = grind (arith, out_of_comment)
 
-  cond_first : (j k : Kind) (after : List ℕ) → SameIf j k → ((condition_of j after table rules).cond ≡ expression_cond after table rules) × ((condition_of k after table rules).cond ≡ expression_cond after table rules)
+  cond_first : (j k : Kind) (after : List ℕ) → SameIf j k →
+      ((condition_of j after table rules).cond ≡ expression_cond after table rules) ×
+      ((condition_of k after table rules).cond ≡ expression_cond after table rules)
   cond_first j k after h = grind arith
 
   -- The decision on a directive, by whether it is broken.
@@ -130,7 +132,8 @@ module _ (o : Options) where
   of_reading : (P : Reading → Type 0) (r s : Reading) → (P r → P s) → P (reading_of (item_of o r)) → P (reading_of (item_of o s))
   of_reading P r s f h = subst P (sym (reading_of-item_of o s)) (f (subst P (reading_of-item_of o r) h))
 
-  each_left : (P : Item Reading → Type 0) → ((r s : Reading) → Simplified r s → P (item_of o r) → P (item_of o s)) → {rs ss : List Reading} → Pairs Simplified rs ss → Each P (items o rs) → Each P (items o ss)
+  each_left : (P : Item Reading → Type 0) → ((r s : Reading) → Simplified r s → P (item_of o r) → P (item_of o s)) →
+      {rs ss : List Reading} → Pairs Simplified rs ss → Each P (items o rs) → Each P (items o ss)
   each_left P f no_pair h = tt
   each_left P f (pair {x = r} {y = s} i p) h = (f r s i h.0, each_left P f p h.1)
 
@@ -205,7 +208,8 @@ module _ (o : Options) (p : IsPlainC o) (input : List ℕ) {r : Outcome} (d : Ha
 
     undecided_now : IsUndecided us → IsUndecided ss
     undecided_now h =
-        from_items Any IsUnknown ss (subst (Each IsOpen) (sym (read_lines j.read)) (subst (Each IsOpen) zs (all_open o both_read (subst (Each IsOpen) ys (subst (Each IsOpen) (read_lines i.read) (to_items Any IsUnknown us h))))))
+        let before = subst (Each IsOpen) (read_lines i.read ∙ ys) (to_items Any IsUnknown us h) in
+        from_items Any IsUnknown ss (subst (Each IsOpen) (zs ∙ sym (read_lines j.read)) (all_open o both_read before))
 
     copies_by : Each IsUncut i.items → Each IsFew i.items → height_of_nodes us ≤ OPEN_SECTIONS → ends_in_comment i.items ≡ false → IsUndecided us →
         HasOutcome o left_text (record { output = left_text; fault = None; differs = false })
@@ -214,8 +218,10 @@ module _ (o : Options) (p : IsPlainC o) (input : List ℕ) {r : Outcome} (d : Ha
         (record { sound = sound_again o j.items (closed ss) j.read (uncut_now a) (few_now b) short_now (low_now c) (undecided_stay ss (undecided_now u)); are = j.are }) (undecided_now u)
         (ap (λ (x : Bool). end_by x (last_number j.items) None) (calm_now e))
 
-  copies_with : (us : Nodes Reading) (i : IsTreeOf o r.output (closed us)) → Each IsUncut i.items → Each IsFew i.items → height_of_nodes us ≤ OPEN_SECTIONS → ends_in_comment i.items ≡ false → IsUndecided us →
-      (ss : Nodes Reading) × IsTreeOf o left_text (closed ss) × Like o us ss → HasOutcome o left_text (record { output = left_text; fault = None; differs = false })
+  copies_with : (us : Nodes Reading) (i : IsTreeOf o r.output (closed us)) → Each IsUncut i.items → Each IsFew i.items →
+      height_of_nodes us ≤ OPEN_SECTIONS → ends_in_comment i.items ≡ false → IsUndecided us →
+      (ss : Nodes Reading) × IsTreeOf o left_text (closed ss) × Like o us ss →
+      HasOutcome o left_text (record { output = left_text; fault = None; differs = false })
   copies_with us i a b c e u (ss, j, like) = copies_by us ss i j like a b c e u
 
   copies_from : (ns : Nodes Reading) → Result o p.plain input r ns → HasOutcome o left_text (record { output = left_text; fault = None; differs = false })

@@ -27,6 +27,9 @@ record Same (t u : List Argument) (n : List ℕ) : Type 0 where
 same_back : (t u : List Argument) (n : List ℕ) → Same t u n → Same u t n
 same_back t u n h = record { value = λ b. sym (h.value b); has_u = sym h.has_u; is_set = sym h.is_set }
 
+abbrev May : List Argument → World Reading → Reading → Type 0
+May t w r = MayBe t (condition_in r) (w r)
+
 module _ (t u : List Argument) where
   -- A value that C may give an expression by the one table is one by the other.
   value_over : (b : Bool) {e : Expression} {c : Number} → Each (Same t u) (names_in e) → CValue t b e c → CValue u b e c
@@ -96,10 +99,10 @@ module _ (t u : List Argument) (name : List ℕ) (none : IsNoValue t name) (same
   signs_alike : (o : Option Expression) → Each (Alike t u) (names_in_tree o) → (e : Expression) → o ≡ Some e → has_unsigned t e ≡ has_unsigned u e
   signs_alike o h e is = has_unsigned_alike t u e (subst (λ (x : Option Expression). Each (Alike t u) (names_in_tree x)) is h)
 
-  over : (w : World Reading) (r : Reading) → Each (Alike t u) (names_in_tree (condition_in r)) → MayBe t (condition_in r) (w r) → MayBe u (condition_in r) (w r)
+  over : (w : World Reading) (r : Reading) → Each (Alike t u) (names_in_tree (condition_in r)) → May t w r → May u w r
   over w r h = may_be_over t u (condition_in r) (w r) (signs_alike (condition_in r) h) (each_same (names_in_tree (condition_in r)) h)
 
-  back : (w : World Reading) (r : Reading) → Each (Alike t u) (names_in_tree (condition_in r)) → MayBe u (condition_in r) (w r) → MayBe t (condition_in r) (w r)
+  back : (w : World Reading) (r : Reading) → Each (Alike t u) (names_in_tree (condition_in r)) → May u w r → May t w r
   back w r h = may_be_over u t (condition_in r) (w r) (λ e is. sym (signs_alike (condition_in r) h e is))
       (each_back (names_in_tree (condition_in r)) (each_same (names_in_tree (condition_in r)) h))
 
@@ -115,6 +118,6 @@ module _ (t u : List Argument) (name : List ℕ) (none : IsNoValue t name) (same
   -- C has the same choices by both tables.
   pub same_worlds : (ns : Nodes Reading) → (Contains (names_in_conditions ns) name → ⊥) → (w : World Reading) → IsCWorld t w ns ↔ IsCWorld u w ns
   same_worlds ns out w = (
-    reached_over w (λ r. MayBe t (condition_in r) (w r)) (λ r. MayBe u (condition_in r) (w r)) ns (each_line (λ r. MayBe t (condition_in r) (w r) → MayBe u (condition_in r) (w r)) (over w) (openers ns) out),
-    reached_over w (λ r. MayBe u (condition_in r) (w r)) (λ r. MayBe t (condition_in r) (w r)) ns (each_line (λ r. MayBe u (condition_in r) (w r) → MayBe t (condition_in r) (w r)) (back w) (openers ns) out),
+    reached_over w (May t w) (May u w) ns (each_line (λ r. May t w r → May u w r) (over w) (openers ns) out),
+    reached_over w (May u w) (May t w) ns (each_line (λ r. May u w r → May t w r) (back w) (openers ns) out),
   )

@@ -170,7 +170,9 @@ module _ {A B : Type 0} (R : Item A → Item B → Type 0) (IsPut : B → Type 0
           record { texts = r.texts; groups = conditional r.elifs; lines = r.lines; put_in = r.put_in; alike = w.groups_go es r.elifs r.alike }
       weave_groups (otherwise es l ns) zs s =
           let c : SplitAt (lines_of_elifs es) (else_line l) (lines_of_nodes ns) zs =
-          split_at (lines_of_elifs es) (else_line l) (lines_of_nodes ns) zs (subst (λ (ys : List (Item A)). Strewn ys zs) (append_assoc (lines_of_elifs es) (else_line l ∷ []) (lines_of_nodes ns)) s) in
+          split_at (lines_of_elifs es) (else_line l) (lines_of_nodes ns) zs
+          (subst (λ (ys : List (Item A)). Strewn ys zs)
+          (append_assoc (lines_of_elifs es) (else_line l ∷ []) (lines_of_nodes ns)) s) in
           let i = w.else_goes l c.here c.alike in
           let r : WovenElifs es c.before = weave_elifs es c.before c.first_part in
           let n : Woven N ns c.later = weave_nodes ns c.later c.second_part in
@@ -196,7 +198,9 @@ module _ {A B : Type 0} (R : Item A → Item B → Type 0) (IsPut : B → Type 0
           }
       weave_elifs (elif es o ns) zs s =
           let c : SplitAt (lines_of_elifs es) (elif_line o) (lines_of_nodes ns) zs =
-          split_at (lines_of_elifs es) (elif_line o) (lines_of_nodes ns) zs (subst (λ (ys : List (Item A)). Strewn ys zs) (append_assoc (lines_of_elifs es) (elif_line o ∷ []) (lines_of_nodes ns)) s) in
+          split_at (lines_of_elifs es) (elif_line o) (lines_of_nodes ns) zs
+          (subst (λ (ys : List (Item A)). Strewn ys zs)
+          (append_assoc (lines_of_elifs es) (elif_line o ∷ []) (lines_of_nodes ns)) s) in
           let i = w.elif_goes o c.here c.alike in
           let r : WovenElifs es c.before = weave_elifs es c.before c.first_part in
           let n : Woven N ns c.later = weave_nodes ns c.later c.second_part in

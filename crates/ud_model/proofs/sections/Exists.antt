@@ -196,7 +196,9 @@ module _ (o : Options) (given : List ℕ) (xs : List (Item Reading)) (t : Tree R
   within_limits : (Holds xs rest_item past_last → ⊥) → (Holds xs rest_item too_long → ⊥) → (c : Case) → IsLimit c → Holds xs rest_item c → ⊥
   within_limits h g c k m = grind arith
 
-  breaks_by : (partial_line given ≡ []) ⊎ (partial_line given ≢ []) → Holds xs rest_item past_last ⊎ (Holds xs rest_item past_last → ⊥) → Holds xs rest_item too_long ⊎ (Holds xs rest_item too_long → ⊥) → Breaks o given xs t
+  breaks_by : (partial_line given ≡ []) ⊎ (partial_line given ≢ []) →
+      Holds xs rest_item past_last ⊎ (Holds xs rest_item past_last → ⊥) →
+      Holds xs rest_item too_long ⊎ (Holds xs rest_item too_long → ⊥) → Breaks o given xs t
   unfolding rest_item
   breaks_by (inl none) b c = unbroken (λ f h. h.some none)
   breaks_by (inr some) (inl h) c =

@@ -37,7 +37,8 @@ white_front : (t : List ℕ) → (ws : List ℕ) × (t ≡ ws ++ skip_white t) �
 white_front [] = ([], refl, refl)
 white_front (b ∷ t) = by_white (is_white b) refl (white_front t)
   where
-    by_white : (w : Bool) → is_white b ≡ w → ((ws : List ℕ) × (t ≡ ws ++ skip_white t) × (are_white ws ≡ true)) → (ws : List ℕ) × (b ∷ t ≡ ws ++ (if w then skip_white t else b ∷ t)) × (are_white ws ≡ true)
+    by_white : (w : Bool) → is_white b ≡ w → ((ws : List ℕ) × (t ≡ ws ++ skip_white t) × (are_white ws ≡ true)) →
+        (ws : List ℕ) × (b ∷ t ≡ ws ++ (if w then skip_white t else b ∷ t)) × (are_white ws ≡ true)
     by_white true e r = (b ∷ r.0, ap (λ (l : List ℕ). b ∷ l) r.1, ap₂ (λ (x y : Bool). x && y) e r.2)
     by_white false e r = ([], refl, refl)
 
