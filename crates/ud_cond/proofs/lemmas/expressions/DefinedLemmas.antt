@@ -7,10 +7,6 @@ use Rattle.ud_cond.specs.expressions.Keepings.{tokens_asked}
 use Rattle.ud_cond.proofs.lemmas.expressions.ReadingLemmas.{reads-on, reads-stuck}
 
 module _ {A : Type 0} (m : Meaning A) (s : List (Frame A)) where
-  -- what a text means after a name that a `defined` asks for
-  abbrev reads_asked : Option (List ℕ × Bool × List ℕ) → Option A
-  reads_asked None = None
-  reads_asked (Some r) = reads m (has (m.is_defined r.0 r.1) s) r.2
 
   -- the name that a `defined` asks for
   pub asked : (text n : List ℕ) (p : Bool) (rest : List ℕ) → asked_name (next_token text) ≡ Some (n, p, rest) → reads m (asks s) text ≡ reads m (has (m.is_defined n p) s) rest

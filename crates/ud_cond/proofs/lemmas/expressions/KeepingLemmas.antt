@@ -69,16 +69,3 @@ module _ {A P N : Type 0} (K : Keeping A P N) where
       settled_is j (left o a ∷ s) h = grind (arith, lt-leb)
       settled_is j (before o ∷ s) h = absurd h
       settled_is j (paren ∷ s) h = refl
-
-    -- an operator waits for its right operand
-    pub waits : (o : Operator) (n : ℕ) → n ≡ precedence o → 1 ≤ n → (k : A) (s : List (Frame A)) → step m (has k s) (operator o) ≡ wait m o (reduce m n k s)
-    waits o n e l k s = grind arith
-
-    -- no parenthesis is open
-    pub not_closed : (k : A) (s : List (Frame A)) → IsNoParen (parts_of K s) → close m (k, s) ≡ stuck
-    not_closed k s h = grind arith
-
-    -- a parenthesis is closed
-    pub is_closed : (k : A) (s : List (Frame A)) (ps : List (Frame P)) (inside x : P) (n later : N) → paren ∷ ps ≡ parts_of K s → inside ≡ K.part k (length (flags_in K s)) → Noted K n (flags_in K s ++ K.flags k) →
-        TakesOne K m.parens inside n x later → Represents K (Some x) ps later (close m (k, s))
-    is_closed k s ps inside x n later e p f h = grind (arith, length-append, append_assoc)

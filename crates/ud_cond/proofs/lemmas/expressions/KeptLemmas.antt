@@ -87,11 +87,6 @@ module _ (table : List Argument) (rules : Rules) where
 
   -- parentheses
   module _ (e : Expression) where
-    abbrev both : Bool
-    both = (left e).lost && stands_alone (left e).tree
-
-    abbrev tree_in : Bool → Residual
-    tree_in c = if c then left e else record (left e) { tree = parens (left e).tree }
 
     enclosed_is : parens_kept (kept_of_tree table rules e) ≡ kept_of_tree table rules (parens e)
     enclosed_is = grind arith

@@ -96,9 +96,9 @@ filled_right old new front ks js start end e s q fill =
     let size = length-append w.0 (true ∷ []) in
     let front_size = length-append front lost in
     let lost_size = length-replicate (lost_len ks) false in
-    let all : length ks ≡ lost_len ks + length w.0 = ap (λ (xs : List Bool). length xs) w.1 ∙ length-append lost w.0 ∙ ap (λ (i : ℕ). i + length w.0) lost_size in
+    let all = ap (λ (xs : List Bool). length xs) w.1 ∙ length-append lost w.0 ∙ ap (λ (i : ℕ). i + length w.0) lost_size in
     let parts : ks ++ true ∷ [] ≡ lost ++ ys = ap (λ (xs : List Bool). xs ++ true ∷ []) w.1 ∙ append_assoc lost w.0 (true ∷ []) in
-    let split : old ≡ (front ++ lost) ++ ys ++ js = with_operator old front ks js e ∙ ap (λ (xs : List Bool). front ++ xs ++ js) parts ∙ ap (λ (xs : List Bool). xs ++ js) (sym (append_assoc front lost ys)) in
+    let split = with_operator old front ks js e ∙ ap (λ (xs : List Bool). front ++ xs ++ js) parts ∙ ap (λ (xs : List Bool). xs ++ js) (sym (append_assoc front lost ys)) in
     let sum : lost_len ks + length ys ≡ length ks + 1 = omega (arith, size, all) in
     fill (front ++ lost) ys js split (omega (arith, s, front_size, lost_size)) (omega (arith, q, size, all, front_size, lost_size))
     ∙ ap (λ (xs : List Bool). xs ++ js) (append_assoc front lost (replicate (length ys) false) ∙ ap (λ (xs : List Bool). front ++ xs) (replicate-append-replicate (lost_len ks) (length ys) false ∙ ap (λ (i : ℕ). replicate i false) sum))
@@ -121,9 +121,6 @@ module _ (rules : Rules) (o : Operator) (k j : Kept) (n q : ℕ) (a b : Part) (v
 
   right_unit : {c : Bool} → is_unit o b.cond ≡ c → is_unit o j.cond ≡ c
   right_unit h = grind arith
-
-  abbrev joined_by : Bool → Bool → List Bool
-  joined_by t s = if t then replicate (length k.flags + 1) false ++ j.flags else if s then k.flags ++ replicate (suc (length j.flags)) false else k.flags ++ true ∷ j.flags
 
   pub flags_right : is_unit o a.cond ≡ true → replicate (length k.flags + 1) false ++ j.flags ≡ (joined_kept rules o k j).flags
   flags_right h = grind arith

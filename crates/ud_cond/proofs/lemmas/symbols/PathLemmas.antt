@@ -88,9 +88,9 @@ pub none_at_name : (rows t : List Argument) → rows ≡ t → (paths seen : Lis
     true ≡ ltb i (length seen) → p ≡ get_or seen i d → p ≡ Name j → (n : List ℕ) → name_at t i ≡ n → None ≡ resolve t n
 none_at_name rows t same paths seen all lead i j p d within at is n named =
     let low : i < length seen = ltb-true i (length seen) (sym within) in
-    let first : get_or paths i Nothing ≡ Name j = ap (λ l. get_or l i Nothing) (sym all) ∙ get_or_default seen i Nothing d low ∙ sym at ∙ is in
+    let first = ap (λ l. get_or l i Nothing) (sym all) ∙ get_or_default seen i Nothing d low ∙ sym at ∙ is in
     let few : i < length paths = subst (λ l. i < length l) all low in
-    let goes : LeadsTo rows (name_at rows i) (length rows) (Name j) = subst (λ q. LeadsTo rows (name_at rows i) (length rows) q) first (lead i few) in
+    let goes = subst (λ q. LeadsTo rows (name_at rows i) (length rows) q) first (lead i few) in
     sym (ap (resolve t) (sym named) ∙ ap (λ r. resolve r (name_at r i)) (sym same) ∙ ended_at_name rows (name_at rows i) j goes)
 
 -- The entry of a row: its text is that of the row's name.

@@ -6,10 +6,10 @@ use Rattle.ud_cond.proofs.expressions.constants.number.Goals as goal
 
 pub returns-in_default-checked_mul : goal.returns-in_default-checked_mul
 returns-in_default-checked_mul c =
-    let times : c.digits.number * c.radix-times.result ≡ c.digits.number * base_of c.args.base = ap (λ b. c.digits.number * b) c.radix-times.ensures in
+    let times = ap (λ b. c.digits.number * b) c.radix-times.ensures in
     sym (ap limited c.digits.invariant ∙ unknown-above c.args.base c.digits.number c.digits.rest.now c.in-len1-up.len_at_least (omega (arith, c.in_default-checked_mul.ensures)))
 
 pub returns-in_default-checked_add : goal.returns-in_default-checked_add
 returns-in_default-checked_add c =
-    let times : c.digits.number * c.radix-times.result ≡ c.digits.number * base_of c.args.base = ap (λ b. c.digits.number * b) c.radix-times.ensures in
+    let times = ap (λ b. c.digits.number * b) c.radix-times.ensures in
     sym (ap limited c.digits.invariant ∙ unknown-above c.args.base c.digits.number c.digits.rest.now c.in-len1-up.len_at_least (omega (arith, c.digit_value.ensures, c.from.ensures, c.in_default-checked_add.ensures)))

@@ -13,5 +13,5 @@ returns-else-not-is_digit c =
     let digit : is_digit b ≡ true = sym c.is_digit.ensures ∙ c.if-not-is_digit.false in
     let value = one-digit b c.digit_value.result digit c.digit_value.ensures c.digit_value.type_inv in
     let few : c.digit_value.result < 2 ^ 63 = omega (arith, c.digit_value.type_inv) in
-    let named : IsOneDigit c.args.word.now (pos c.digit_value.result) = subst (λ w. IsOneDigit w (pos c.digit_value.result)) (sym is) value in
+    let named = subst (λ w. IsOneDigit w (pos c.digit_value.result)) (sym is) value in
     subst (λ z. IsOneDigit c.args.word.now z) (sym (to_z_pos w64 c.digit_value.result few)) named

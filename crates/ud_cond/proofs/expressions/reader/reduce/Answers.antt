@@ -12,8 +12,8 @@ waiting-preserved-in-Some-operand g c =
     let o = c.in-Some.operator in
     let p : c.waiting.stacks ≡ popped o (Some c.in-Some-operand.operand) ∷ c.pop_operator.new.self =
     c.in-Some.ensures.some.0 ∙ ap (λ (x : Option g.row.K-Part.Denot). popped o x ∷ c.pop_operator.new.self) c.in-Some-operand.is in
-    let l : c.args.least ≤ precedence o = subst (λ (x : Option g.row.K-Part.Denot). BindsAsTightly c.args.least o x) c.in-Some-operand.is c.in-Some.ensures.some.1 in
-    let w : weight c.waiting.stacks ≡ weight (popped o (Some c.in-Some-operand.operand) ∷ c.pop_operator.new.self) = ap (λ (ps : List (Frame g.row.K-Part.Denot)). weight ps) p in (
+    let l = subst (λ (x : Option g.row.K-Part.Denot). BindsAsTightly c.args.least o x) c.in-Some-operand.is c.in-Some.ensures.some.1 in
+    let w = ap (λ (ps : List (Frame g.row.K-Part.Denot)). weight ps) p in (
       λ s k e.
           let i = c.waiting.invariant.0 s k e in
           let n = next_binary K (g.K.Keeper.meaning c.args.keeper.now) c.args.least o _ _ _ _ _ i.1 _ i.0 (sym p ∙ i.2.0) l i.2.1.0 i.2.1.1 c.binary.ensures.kept in
@@ -28,7 +28,7 @@ waiting-preserved g c =
     let o = c.in-Some.operator in
     let p : c.waiting.stacks ≡ popped o None ∷ c.pop_operator.new.self =
     c.in-Some.ensures.some.0 ∙ ap (λ (x : Option g.row.K-Part.Denot). popped o x ∷ c.pop_operator.new.self) c.in-None.is in
-    let w : weight c.waiting.stacks ≡ weight (popped {A = g.row.K-Part.Denot} o None ∷ c.pop_operator.new.self) = ap (λ (ps : List (Frame g.row.K-Part.Denot)). weight ps) p in (
+    let w = ap (λ (ps : List (Frame g.row.K-Part.Denot)). weight ps) p in (
       λ s k e.
           let i = c.waiting.invariant.0 s k e in
           let n = next_prefix K (g.K.Keeper.meaning c.args.keeper.now) c.args.least o _ _ _ _ _ i.1 i.0 (sym p ∙ i.2.0) i.2.1.0 i.2.1.1 c.unary.ensures.kept in
@@ -41,6 +41,6 @@ pub returns-clause-kept : goal.returns-clause-kept
 returns-clause-kept g c = λ s k e.
     let K = g.K.Keeper.keeping in
     let i = c.waiting.invariant.0 s k e in
-    let h : IsSettled c.args.least (parts_of K i.0) = subst (λ (ps : List (Frame g.row.K-Part.Denot)). IsSettled c.args.least ps) i.2.0 c.in_default.ensures.none.1 in
+    let h = subst (λ (ps : List (Frame g.row.K-Part.Denot)). IsSettled c.args.least ps) i.2.0 c.in_default.ensures.none.1 in
     subst (λ (q : g.K.Keeper.Meant × List (Frame g.K.Keeper.Meant)). IsAt K c.pop_operator.new.self c.waiting.part c.waiting.notes q) (sym (i.3 ∙ settled_is K (g.K.Keeper.meaning c.args.keeper.now) c.args.least i.1 i.0 h))
     (c.in_default.ensures.none.0 ∙ i.2.0, i.2.1)

@@ -13,8 +13,8 @@ use Rattle.ud_cond.proofs.symbols.Symbols.find.Goals.{After-entry, In-Err, Then-
 -- the entry of the row is the table's entry
 found : (c : After-entry) → Some (as_entry c.entry.result) ≡ entry_in c.args.self.now c.args.name.now
 found c =
-    let row : IsRowOf c.self.inside.rows.items c.in-Ok.i c.args.name.now = subst (λ rows. IsRowOf rows c.in-Ok.i c.args.name.now) (sym c.self.view_is) c.in-Ok.ensures.found in
-    let read : c.index.result.now ≡ get_or c.self.inside.rows.items c.in-Ok.i no_row = get_or_read c.self.inside.rows.items c.in-Ok.i c.index.result.now row.within c.index.ensures no_row in
+    let row = subst (λ rows. IsRowOf rows c.in-Ok.i c.args.name.now) (sym c.self.view_is) c.in-Ok.ensures.found in
+    let read = get_or_read c.self.inside.rows.items c.in-Ok.i c.index.result.now row.within c.index.ensures no_row in
     ap Some (c.entry.ensures ∙ ap (λ a. a.entry) read)
     ∙ sym (entry_from-last None c.self.inside.rows.items c.in-Ok.i c.args.name.now (last-row c.self.inside.rows.items c.self.invariant.0 c.in-Ok.i c.args.name.now row))
     ∙ ap (λ rows. entry_in rows c.args.name.now) c.self.view_is

@@ -9,9 +9,9 @@ use Rattle.ud_cond.proofs.symbols.Symbols.insert_at.Goals as goal
 
 pub invariant_of-self : goal.invariant_of-self
 invariant_of-self c =
-    let gap : IsGapFor c.self.inside.rows.items c.args.i c.args.row.name = subst (λ rows. IsGapFor rows c.args.i c.args.row.name) (sym c.self.view_is) c.requires.gap in
-    let new : slot_is_set c.insert.new.self.words (key_of c.args.row.name) ≡ true = ap (slot_is_set c.insert.new.self.words) (sym c.requires.keyed) ∙ c.insert.ensures.inserted in
-    let first : has_first c.insert-2.new.self.bytes c.args.row.name ≡ true = ap (has_first c.insert-2.new.self.bytes) (sym c.name.ensures) ∙ c.insert-2.ensures.inserted in
+    let gap = subst (λ rows. IsGapFor rows c.args.i c.args.row.name) (sym c.self.view_is) c.requires.gap in
+    let new = ap (slot_is_set c.insert.new.self.words) (sym c.requires.keyed) ∙ c.insert.ensures.inserted in
+    let first = ap (has_first c.insert-2.new.self.bytes) (sym c.name.ensures) ∙ c.insert-2.ensures.inserted in
     rw c.insert-added.ensures.items (
       sorted-added c.self.inside.rows.items c.args.i c.args.row (is_ok c.insert-added.result) c.self.invariant.0 gap,
       noted-added (has_slot c.insert.new.self.words) c.self.inside.rows.items c.args.i c.args.row (is_ok c.insert-added.result)

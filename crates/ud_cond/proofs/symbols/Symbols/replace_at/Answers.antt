@@ -9,7 +9,7 @@ use Rattle.ud_cond.proofs.symbols.Symbols.replace_at.Goals as goal
 
 pub invariant_of-self : goal.invariant_of-self
 invariant_of-self c =
-    let at : IsRowOf c.self.inside.rows.items c.args.i c.args.row.name = subst (λ rows. IsRowOf rows c.args.i c.args.row.name) (sym c.self.view_is) c.requires.row in (
+    let at = subst (λ rows. IsRowOf rows c.args.i c.args.row.name) (sym c.self.view_is) c.requires.row in (
       sorted-set c.self.inside.rows.items c.args.i c.args.row c.self.invariant.0 at,
       noted-set (has_slot c.self.inside.filter.words) c.self.inside.rows.items c.args.i c.args.row c.self.invariant.1 at.within at.named,
       none_lead _ _ c.clear.new.self.items c.clear.ensures.items,

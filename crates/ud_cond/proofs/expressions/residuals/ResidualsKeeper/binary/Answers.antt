@@ -22,10 +22,10 @@ returns-clause-kept c = λ k j front e g f.
     let n : c.args.a.first ≡ length front = ap (λ (p : Part). p.first) e in
     let q : c.args.b.first ≡ length front + (length k.flags + 1) = ap (λ (p : Part). p.first) g in
     let ks : List Bool = replicate (length k.flags) true in
-    let behind : length (front ++ ks ++ true ∷ []) ≡ length front + (length k.flags + 1) = length_with_operator front ks ∙ ap (λ (i : ℕ). length front + (i + 1)) (length-replicate (length k.flags) true) in
+    let behind = length_with_operator front ks ∙ ap (λ (i : ℕ). length front + (i + 1)) (length-replicate (length k.flags) true) in
     let left = c.keep_whole.ensures.kept front k.flags (true ∷ j.flags) f n (omega (arith, q, c.saturating_sub.ensures)) (ap (λ (p : Part). p.whole) e) in
     let split = left ∙ sym (append_assoc (front ++ ks) (true ∷ []) j.flags) in
-    let whole : length c.keep_whole.new.flags ≡ length (front ++ ks ++ true ∷ []) + length j.flags = ap (λ (xs : List Bool). length xs) split ∙ length-append (front ++ ks ++ true ∷ []) j.flags in
+    let whole = ap (λ (xs : List Bool). length xs) split ∙ length-append (front ++ ks ++ true ∷ []) j.flags in
     let right = c.keep_whole-2.ensures.kept (front ++ ks ++ true ∷ []) j.flags [] (to_end _ (front ++ ks ++ true ∷ []) j.flags split) (q ∙ sym behind) (c.len.ensures ∙ whole) (ap (λ (p : Part). p.whole) g) in (
       c.leaf_part.ensures
           ∙ leaf_same r _ _ _ _ _ _ _ _ [] (replicate (length k.flags + suc (length j.flags)) true)

@@ -9,10 +9,10 @@ returns-clause-kept c = λ k front e f.
     let n : c.args.a.first ≡ length front + 1 = ap (λ (p : Part). p.first) e in
     let g : c.saturating_sub-first.result ≡ length front = omega (arith, n, c.saturating_sub-first.ensures) in
     let b : c.both-stay.result ≡ (k.lost && k.left_alone) = c.both-stay.ensures ∙ ap (λ (p : Part). p.lost && p.left_alone) e in
-    let size : c.len-end.result ≡ length front + suc (length k.flags) = c.len-end.ensures ∙ ap (λ (xs : List Bool). length xs) f ∙ length-append front (true ∷ k.flags) in
+    let size = c.len-end.ensures ∙ ap (λ (xs : List Bool). length xs) f ∙ length-append front (true ∷ k.flags) in
     let longer : c.len-longer.result ≡ c.len-end.result + 1 =
     c.len-longer.ensures ∙ ap (λ (xs : List Bool). length xs) c.push.ensures ∙ length-append _ (not c.both-stay.result ∷ []) ∙ ap (λ (i : ℕ). i + 1) (c.fill.ensures.long ∙ sym c.len-end.ensures) in
-    let first : c.args.a.kept ≡ c.saturating_sub-first.result + 1 + lost_len k.flags = ap (λ (p : Part). p.kept) e ∙ ap (λ (i : ℕ). i + 1 + lost_len k.flags) (sym g) in
+    let first = ap (λ (p : Part). p.kept) e ∙ ap (λ (i : ℕ). i + 1 + lost_len k.flags) (sym g) in
     let kept = c.kept_in_parens.ensures k.flags first (omega (arith, size, g)) longer in (
       ap₂ (λ (w : Bool) (s : ℕ). record c.args.a { left_alone = true; alone = true; whole = w; first = c.saturating_sub-first.result; kept = s })
           (c.both.ensures ∙ ap₂ (λ (x y : Bool). not x && y) b (ap (λ (p : Part). p.whole) e) ∙ all_kept-parens (not (k.lost && k.left_alone)) k.flags)

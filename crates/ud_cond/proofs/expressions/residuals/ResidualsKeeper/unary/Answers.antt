@@ -13,7 +13,7 @@ returns-clause-kept c = λ k front e f.
     let h = other_unary r c.args.operator k (sym c.is_not.ensures ∙ c.if-is_not.false) in
     let n : c.args.a.first ≡ length front + 1 = ap (λ (p : Part). p.first) e in
     let g : c.saturating_sub-first.result ≡ length front = omega (arith, n, c.saturating_sub-first.ensures) in
-    let whole : length c.args.flags.now ≡ length front + length (true ∷ k.flags) = ap (λ (xs : List Bool). length xs) f ∙ length-append front (true ∷ k.flags) in (
+    let whole = ap (λ (xs : List Bool). length xs) f ∙ length-append front (true ∷ k.flags) in (
       c.leaf_part.ensures
           ∙ leaf_same r _ _ _ _ _ _ _ _ [] (replicate (suc (length k.flags)) true)
           (c.unary-value.ensures ∙ ap (λ (u : Bool). unary_value_of u c.args.operator c.args.a.value) c.scope.ensures.unsigned ∙ ap (λ (x : Part). unary_value_of false c.args.operator x.value) e)
