@@ -27,7 +27,9 @@ module _ {A : Type 0} (m : Meaning A) where
     shorter = omega (arith, shorter text rest defined (sym f), h.shorter);
   }
 
-  pub needs-definition : {B : Type 0} (f : B → List ℕ) (text rest : List ℕ) (v : A) (r : Option B) → found defined rest ≡ next_token text → IfSome r (λ b. Asked m asks rest v (f b)) → IfSome r (λ b. Asked m needs text v (f b))
+  pub needs-definition : {B : Type 0} (f : B → List ℕ) (text rest : List ℕ) (v : A) (r : Option B) →
+      found defined rest ≡ next_token text → IfSome r (λ b. Asked m asks rest v (f b)) →
+      IfSome r (λ b. Asked m needs text v (f b))
   needs-definition f text rest v None e h = tt
   needs-definition f text rest v (Some b) e h = needs-defined text rest v (f b) e h
 

@@ -2,10 +2,9 @@
 use Rattle.std.proofs.Common.{◌≡◌, ℕ, ◌≤◌, List, [], ◌∷◌, ◌++◌, length, Bool, true, Option, Some, None, IfSome, IfNone, refl, append_assoc, length-append, arith}
 use Rattle.std.proofs.lemmas.Bool.{le-leb, lt-leb}
 use Rattle.ud_model.specs.conditions.Expressions.{precedence}
-use Rattle.ud_model.specs.conditions.Tokens.{operator}
-use Rattle.ud_model.specs.aids.Parsing.{Meaning, Frame, left, before, paren, ParseState, needs, has, stuck, step, reduce, close, wait, alone}
+use Rattle.ud_model.specs.aids.Parsing.{Meaning, Frame, left, before, paren, ParseState, needs, has, reduce, alone}
 use Rattle.ud_model.specs.declared.operator.Operator.{Operator}
-use Rattle.ud_cond.specs.expressions.Stacks.{popped, IsSettled, IsNoParen, is_empty}
+use Rattle.ud_cond.specs.expressions.Stacks.{popped, IsSettled, is_empty}
 use Rattle.ud_cond.specs.expressions.Keepings.{Keeping, number_of, count, Noted, IsKept, TakesOne, TakesTwo, flags_in, parts_of, Awaits, IsAt, Represents}
 
 -- what holds of a result, if there is one
@@ -48,7 +47,8 @@ module _ {A P N : Type 0} (K : Keeping A P N) where
 
       module _ (o : Operator) (ps : List (Frame P)) (part now : P) (n later : N) (j : A) where
         -- an operator with its left operand
-        pub next_binary : (x : P) (t : List (Frame A)) → popped o (Some x) ∷ ps ≡ parts_of K t → least ≤ precedence o → part ≡ K.part j (length (flags_in K t)) → Noted K n (flags_in K t ++ K.flags j) →
+        pub next_binary : (x : P) (t : List (Frame A)) → popped o (Some x) ∷ ps ≡ parts_of K t → least ≤ precedence o →
+            part ≡ K.part j (length (flags_in K t)) → Noted K n (flags_in K t ++ K.flags j) →
             TakesTwo K (m.binary o) x part n now later → Next ps now later j t
         next_binary x [] e l p f h = cc
         next_binary x (before q ∷ s) e l p f h = cc

@@ -1,5 +1,5 @@
 -- The record that a text is read to has the residual of its tree.
-use Rattle.std.proofs.Common.{◌≡◌, ℕ, zero, ◌+◌, suc, List, [], ◌∷◌, ◌++◌, length, map, replicate, Bool, true, false, ◌&&◌, if◌then◌else◌, Option, Some, None, option_map, ℤ, refl, sym, ◌∙◌, ap, ap₂, length-append, arith}
+use Rattle.std.proofs.Common.{◌≡◌, ℕ, zero, ◌+◌, suc, List, [], ◌∷◌, ◌++◌, length, map, replicate, Bool, true, false, if◌then◌else◌, Option, Some, None, option_map, refl, sym, ◌∙◌, ap, ap₂, length-append, arith}
 use Rattle.ud_model.specs.conditions.Table.{Argument}
 use Rattle.ud_model.specs.conditions.Tokens.{Token, operator}
 use Rattle.ud_model.specs.conditions.Expressions.{Expression, constant, named, is_defined, unary, binary, parens, spelling}
@@ -8,19 +8,18 @@ use Rattle.ud_model.specs.conditions.Conditions.{Rules}
 use Rattle.ud_model.specs.conditions.Values.{number_of}
 use Rattle.ud_model.specs.conditions.Residuals.{Residual, settled, stands_alone, alone, residual}
 use Rattle.ud_model.specs.conditions.ResidualTexts.{joined_flags, all_flags, keeps}
-use Rattle.ud_model.specs.declared.cond.Cond.{Cond}
 use Rattle.ud_model.specs.declared.operator.Operator.{Operator}
 use Rattle.ud_model.specs.declared.operator.Operator.TheVariants.{Or, And, Not}
 use Rattle.ud_model.proofs.conditions.Readings.{reads_meaning}
 use Rattle.ud_model.proofs.conditions.KeptTokens.{SameLength, choose}
-use Rattle.ud_cond.specs.declared.expressions.values.Value.{Value}
 use Rattle.ud_cond.specs.expressions.Evaluation.{value_of_tree}
 use Rattle.ud_cond.specs.expressions.ResidualReading.{Kept, leaf, unary_kept, joined_kept, binary_kept, parens_kept, kept_meaning, kept_of_tree}
 
 -- kept parts with the same fields
-kept_same : {v w : Value} {m n : Option ℤ} {c d : Cond} {l k : Bool} {a b : Bool} {x y : Bool} {f g : List Bool} → v ≡ w → m ≡ n → c ≡ d → l ≡ k → a ≡ b → x ≡ y → f ≡ g →
-    ◌≡◌ {A = Kept} (record { value = v; number = m; cond = c; lost = l; left_alone = a; alone = x; flags = f }) (record { value = w; number = n; cond = d; lost = k; left_alone = b; alone = y; flags = g })
-kept_same p q r s t u h = grind arith
+kept_same : {k j : Kept} → k.value ≡ j.value → k.number ≡ j.number → k.cond ≡ j.cond → k.lost ≡ j.lost →
+    k.left_alone ≡ j.left_alone → k.alone ≡ j.alone → k.flags ≡ j.flags → k ≡ j
+kept_same v n c l a b f =
+    λ i. record { value = v i; number = n i; cond = c i; lost = l i; left_alone = a i; alone = b i; flags = f i }
 
 -- flags of one kind
 same_length : {A B : Type 0} (xs : List A) (ys : List B) → SameLength xs ys → length xs ≡ length ys
@@ -87,7 +86,6 @@ module _ (table : List Argument) (rules : Rules) where
 
   -- parentheses
   module _ (e : Expression) where
-
     enclosed_is : parens_kept (kept_of_tree table rules e) ≡ kept_of_tree table rules (parens e)
     enclosed_is = grind arith
 

@@ -27,7 +27,8 @@ end-here t n v e f = end_found t n v (at_text n v e f)
 abbrev worth_by : Bool → Bool → Option (List ℕ) → Option Entry → Value
 worth_by u arguments end e = record { number = name_value_by u end e; unsigned = end_has_u end; listed = is_some e; calls_undefined = arguments && undefined_by e }
 
-by_entry : (t : List Argument) (u : Bool) (n : List ℕ) (arguments : Bool) (end : Option (List ℕ)) (e : Option Entry) → resolve t n ≡ end → entry_in t n ≡ e → name_value_of t u n arguments ≡ worth_by u arguments end e
+by_entry : (t : List Argument) (u : Bool) (n : List ℕ) (arguments : Bool) (end : Option (List ℕ)) (e : Option Entry) →
+    resolve t n ≡ end → entry_in t n ≡ e → name_value_of t u n arguments ≡ worth_by u arguments end e
 unfolding name_value name_has_u
 by_entry t u n arguments end e f h = grind arith
 
@@ -35,10 +36,13 @@ unlisted_by : (u arguments : Bool) → worth_by u arguments None None ≡ record
 unlisted_by u arguments = grind arith
 
 -- the value of a name that isn't listed
-pub worth-unlisted : (t : List Argument) (u : Bool) (n : List ℕ) (arguments : Bool) → entry_in t n ≡ None → record { number = None; unsigned = false; listed = false; calls_undefined = false } ≡ name_value_of t u n arguments
+pub worth-unlisted : (t : List Argument) (u : Bool) (n : List ℕ) (arguments : Bool) → entry_in t n ≡ None →
+    record { number = None; unsigned = false; listed = false; calls_undefined = false } ≡ name_value_of t u n arguments
 worth-unlisted t u n arguments e = grind (arith, by_entry, end-none, unlisted_by)
 
-undefined_by_entry : (u arguments ignoring : Bool) → worth_by u arguments None (Some (record { value = None; ignoring = ignoring })) ≡ record { number = Some (pos 0); unsigned = false; listed = true; calls_undefined = arguments }
+undefined_by_entry : (u arguments ignoring : Bool) →
+    worth_by u arguments None (Some (record { value = None; ignoring = ignoring })) ≡
+    record { number = Some (pos 0); unsigned = false; listed = true; calls_undefined = arguments }
 undefined_by_entry u arguments ignoring = grind arith
 
 -- the value of a name that is undefined
@@ -46,12 +50,16 @@ pub worth-undefined : (t : List Argument) (u : Bool) (n : List ℕ) (arguments i
     record { number = Some (pos 0); unsigned = false; listed = true; calls_undefined = arguments } ≡ name_value_of t u n arguments
 worth-undefined t u n arguments ignoring e = grind (arith, by_entry, end-none, undefined_by_entry)
 
-defined_by_entry : (t : List Argument) (u : Bool) (n : List ℕ) (arguments ignoring : Bool) (v : List ℕ) → worth_by u arguments (resolve t n) (Some (record { value = Some v; ignoring = ignoring })) ≡ defined_name_value_of t u n
+defined_by_entry : (t : List Argument) (u : Bool) (n : List ℕ) (arguments ignoring : Bool) (v : List ℕ) →
+    worth_by u arguments (resolve t n) (Some (record { value = Some v; ignoring = ignoring })) ≡
+    defined_name_value_of t u n
 unfolding name_has_u
 defined_by_entry t u n arguments ignoring v = grind arith
 
 -- the value of a name that is defined
-pub worth-defined : (t : List Argument) (u : Bool) (n : List ℕ) (arguments ignoring : Bool) (v : List ℕ) → entry_in t n ≡ Some (record { value = Some v; ignoring = ignoring }) → defined_name_value_of t u n ≡ name_value_of t u n arguments
+pub worth-defined : (t : List Argument) (u : Bool) (n : List ℕ) (arguments ignoring : Bool) (v : List ℕ) →
+    entry_in t n ≡ Some (record { value = Some v; ignoring = ignoring }) →
+    defined_name_value_of t u n ≡ name_value_of t u n arguments
 worth-defined t u n arguments ignoring v e = grind (arith, by_entry, defined_by_entry)
 
 -- the value of a name that is defined as one digit

@@ -1,5 +1,5 @@
 -- The program's part after an operator: its fields, and its flags after a fill.
-use Rattle.std.proofs.Common.{◌≡◌, ◌≤◌, ◌<◌, ℕ, zero, ◌+◌, suc, List, [], ◌∷◌, ◌++◌, length, replicate, Bool, true, false, ◌&&◌, if◌then◌else◌, Option, ℤ, refl, sym, ◌∙◌, ap, append_assoc, append-nil, length-append, arith}
+use Rattle.std.proofs.Common.{◌≡◌, ◌≤◌, ◌<◌, ℕ, zero, ◌+◌, suc, List, [], ◌∷◌, ◌++◌, length, replicate, Bool, true, false, ◌&&◌, Option, ℤ, refl, sym, ◌∙◌, ap, append_assoc, append-nil, length-append, arith}
 use Rattle.std.proofs.lemmas.List.{length-replicate, replicate-append-replicate}
 use Rattle.ud_model.specs.conditions.Conditions.{Rules}
 use Rattle.ud_model.specs.conditions.Values.{apply_unary, apply_binary}
@@ -12,10 +12,10 @@ use Rattle.ud_cond.specs.expressions.Evaluation.{unary_value_of, binary_value_of
 use Rattle.ud_cond.specs.expressions.ResidualReading.{is_joining, is_not, Kept, leaf, unary_kept, joined_kept, binary_kept, are_all_kept, lost_len, part_of}
 
 -- parts with the same fields
-pub part_same : {v w : Value} {m n : Option ℤ} {c d : Cond} {l k : Bool} {a b : Bool} {x y : Bool} {z o : Bool} {f g : ℕ} {h j : ℕ} → v ≡ w → m ≡ n → c ≡ d → l ≡ k → a ≡ b → x ≡ y → z ≡ o → f ≡ g → h ≡ j →
-    ◌≡◌ {A = Part} (record { value = v; number = m; cond = c; lost = l; left_alone = a; alone = x; whole = z; first = f; kept = h })
-    (record { value = w; number = n; cond = d; lost = k; left_alone = b; alone = y; whole = o; first = g; kept = j })
-part_same p q r s t u z h j = grind arith
+pub part_same : {p q : Part} → p.value ≡ q.value → p.number ≡ q.number → p.cond ≡ q.cond → p.lost ≡ q.lost →
+    p.left_alone ≡ q.left_alone → p.alone ≡ q.alone → p.whole ≡ q.whole → p.first ≡ q.first → p.kept ≡ q.kept → p ≡ q
+part_same v n c l a b w f k =
+    λ i. record { value = v i; number = n i; cond = c i; lost = l i; left_alone = a i; alone = b i; whole = w i; first = f i; kept = k i }
 
 -- how many tokens are lost before the first one that is kept
 pub lost-replicate : (n : ℕ) (xs : List Bool) → n + lost_len xs ≡ lost_len (replicate n false ++ xs)
@@ -101,7 +101,9 @@ filled_right old new front ks js start end e s q fill =
     let split = with_operator old front ks js e ∙ ap (λ (xs : List Bool). front ++ xs ++ js) parts ∙ ap (λ (xs : List Bool). xs ++ js) (sym (append_assoc front lost ys)) in
     let sum : lost_len ks + length ys ≡ length ks + 1 = omega (arith, size, all) in
     fill (front ++ lost) ys js split (omega (arith, s, front_size, lost_size)) (omega (arith, q, size, all, front_size, lost_size))
-    ∙ ap (λ (xs : List Bool). xs ++ js) (append_assoc front lost (replicate (length ys) false) ∙ ap (λ (xs : List Bool). front ++ xs) (replicate-append-replicate (lost_len ks) (length ys) false ∙ ap (λ (i : ℕ). replicate i false) sum))
+    ∙ ap (λ (xs : List Bool). xs ++ js) (append_assoc front lost (replicate (length ys) false)
+    ∙ ap (λ (xs : List Bool). front ++ xs) (replicate-append-replicate (lost_len ks) (length ys) false
+    ∙ ap (λ (i : ℕ). replicate i false) sum))
     ∙ append_assoc front (replicate (length ks + 1) false) js
 
 -- the joined operands, by which of them is removed
@@ -145,7 +147,9 @@ module _ (rules : Rules) (o : Operator) (k j : Kept) (n q : ℕ) (a b : Part) (v
 
 -- an operator other than `&&` and `||` makes an operand of its own
 pub other_binary : (rules : Rules) (o : Operator) (k j : Kept) → is_joining o ≡ false →
-    binary_kept rules o k j ≡ leaf rules (binary_value_of rules.strict false o k.value j.value) (apply_binary rules.strict true o k.number j.number) false (replicate (length k.flags + suc (length j.flags)) true)
+    binary_kept rules o k j ≡
+    leaf rules (binary_value_of rules.strict false o k.value j.value)
+    (apply_binary rules.strict true o k.number j.number) false (replicate (length k.flags + suc (length j.flags)) true)
 other_binary rules o k j e = grind arith
 
 pub joining_binary : (rules : Rules) (o : Operator) (k j : Kept) → is_joining o ≡ true → binary_kept rules o k j ≡ joined_kept rules o k j

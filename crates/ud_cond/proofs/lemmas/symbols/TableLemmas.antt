@@ -17,7 +17,8 @@ pub record IsLastRow (rows : List Argument) (i : ℕ) (name : List ℕ) : Type 0
   pub last : NoneFrom rows (i + 1) name
 
 -- one more call, after the others
-pub entry_from-push : (e : Option Entry) (rows : List Argument) (a : Argument) (name : List ℕ) → entry_from e (rows ++ a ∷ []) name ≡ (if bytes_eq a.name name then Some a.entry else entry_from e rows name)
+pub entry_from-push : (e : Option Entry) (rows : List Argument) (a : Argument) (name : List ℕ) →
+    entry_from e (rows ++ a ∷ []) name ≡ (if bytes_eq a.name name then Some a.entry else entry_from e rows name)
 entry_from-push e [] a name = refl
 entry_from-push e (r ∷ rows) a name = entry_from-push (if bytes_eq r.name name then Some r.entry else e) rows a name
 
@@ -42,11 +43,16 @@ entry_from-last e (r ∷ rows) (suc i) name last =
     (record { within = let w : suc i < length (r ∷ rows) = last.within in omega arith; named = last.named; last = λ k low high. last.last (suc k) (omega arith) (omega arith) })
 
 -- the first row is changed, and no other row has its name
-changed_front : (t : Bool) (e : Option Entry) (new old : Entry) (rows : List Argument) (name : List ℕ) → (t ≡ true → NoneFrom rows 0 name) → entry_from (if t then Some new else e) rows name ≡ (if t then Some new else entry_from (if t then Some old else e) rows name)
+changed_front : (t : Bool) (e : Option Entry) (new old : Entry) (rows : List Argument) (name : List ℕ) →
+    (t ≡ true → NoneFrom rows 0 name) →
+    entry_from (if t then Some new else e) rows name ≡
+    (if t then Some new else entry_from (if t then Some old else e) rows name)
 changed_front t e new old rows name none = grind (arith, entry_from-none)
 
 -- the last row of a name is changed; `e` is the entry before the rows
-pub entry_from-set : (e : Option Entry) (rows : List Argument) (i : ℕ) (a : Argument) → IsLastRow rows i a.name → (name : List ℕ) → entry_from e (set rows i a) name ≡ (if bytes_eq a.name name then Some a.entry else entry_from e rows name)
+pub entry_from-set : (e : Option Entry) (rows : List Argument) (i : ℕ) (a : Argument) → IsLastRow rows i a.name →
+    (name : List ℕ) →
+    entry_from e (set rows i a) name ≡ (if bytes_eq a.name name then Some a.entry else entry_from e rows name)
 entry_from-set e [] i a last name = absurd (let w : i < 0 = last.within in omega arith)
 entry_from-set e (r ∷ rows) zero a last name =
     let none : bytes_eq a.name name ≡ true → NoneFrom rows 0 name =
@@ -61,11 +67,15 @@ pub changes-set : (rows old : List Argument) (i : ℕ) (row a : Argument) → ro
 changes-set rows old i row a view same last name = grind (arith, set, entry_from-set)
 
 -- a row is inserted as the first one, and no other row has its name
-added_front : (t : Bool) (e : Option Entry) (new : Entry) (rows : List Argument) (name : List ℕ) → (t ≡ true → NoneFrom rows 0 name) → entry_from (if t then Some new else e) rows name ≡ (if t then Some new else entry_from e rows name)
+added_front : (t : Bool) (e : Option Entry) (new : Entry) (rows : List Argument) (name : List ℕ) →
+    (t ≡ true → NoneFrom rows 0 name) →
+    entry_from (if t then Some new else e) rows name ≡ (if t then Some new else entry_from e rows name)
 added_front t e new rows name none = grind (arith, entry_from-none)
 
 -- a row is inserted, and no row from there on has its name; `e` is the entry before the rows
-pub entry_from-insert : (e : Option Entry) (rows : List Argument) (i : ℕ) (a : Argument) → i ≤ length rows → NoneFrom rows i a.name → (name : List ℕ) → entry_from e (insert rows i a) name ≡ (if bytes_eq a.name name then Some a.entry else entry_from e rows name)
+pub entry_from-insert : (e : Option Entry) (rows : List Argument) (i : ℕ) (a : Argument) → i ≤ length rows →
+    NoneFrom rows i a.name → (name : List ℕ) →
+    entry_from e (insert rows i a) name ≡ (if bytes_eq a.name name then Some a.entry else entry_from e rows name)
 entry_from-insert e rows zero a within none name =
     added_front (bytes_eq a.name name) e a.entry rows name (λ t k low high. subst (λ n. bytes_eq (name_at rows k) n ≡ false) ((bytes_eq-Decides a.name name).0 t) (none k low high))
 entry_from-insert e [] (suc i) a within none name = absurd (omega arith)

@@ -1,6 +1,5 @@
-use Rattle.std.proofs.Common.{◌≡◌, ◌∙◌, ◌*◌, sym, ap, arith}
+use Rattle.std.proofs.Common.{◌∙◌, ◌*◌, sym, ap, arith}
 use Rattle.ud_model.specs.conditions.Values.{limited}
-use Rattle.ud_cond.specs.CondViews.{base_of}
 use Rattle.ud_cond.proofs.lemmas.expressions.DigitLemmas.{unknown-above}
 use Rattle.ud_cond.proofs.expressions.constants.number.Goals as goal
 
@@ -12,4 +11,5 @@ returns-in_default-checked_mul c =
 pub returns-in_default-checked_add : goal.returns-in_default-checked_add
 returns-in_default-checked_add c =
     let times = ap (λ b. c.digits.number * b) c.radix-times.ensures in
-    sym (ap limited c.digits.invariant ∙ unknown-above c.args.base c.digits.number c.digits.rest.now c.in-len1-up.len_at_least (omega (arith, c.digit_value.ensures, c.from.ensures, c.in_default-checked_add.ensures)))
+    sym (ap limited c.digits.invariant ∙ unknown-above c.args.base c.digits.number c.digits.rest.now
+    c.in-len1-up.len_at_least (omega (arith, c.digit_value.ensures, c.from.ensures, c.in_default-checked_add.ensures)))

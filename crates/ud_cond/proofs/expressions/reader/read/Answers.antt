@@ -46,7 +46,8 @@ returns-in_err-next-in-None-clause-none g c =
     let i = c.tokens.invariant.0 in
     let h = needs_of K c.tokens.stacks c.tokens.notes i.0 (subst (λ o. Represents K o c.tokens.stacks c.tokens.notes i.0) c.in-None.is i.1) in
     rw c.from_residual.ensures
-    (i.2 ∙ ap (λ p. reads m p c.tokens.rest.now) h.1 ∙ reads-found m (needs h.0) c.tokens.rest.now (as_token c.in-Found.token) c.in-Found.after.now (sym c.in-Found.ensures) ∙ c.in_err-next-in-None.ensures.none h.0)
+    (i.2 ∙ ap (λ p. reads m p c.tokens.rest.now) h.1 ∙ reads-found m (needs h.0) c.tokens.rest.now
+    (as_token c.in-Found.token) c.in-Found.after.now (sym c.in-Found.ensures) ∙ c.in_err-next-in-None.ensures.none h.0)
 
 pub tokens-smaller-in-None : goal.tokens-smaller-in-None
 tokens-smaller-in-None g c =
@@ -95,7 +96,13 @@ tokens-preserved g c =
     let less = shorter c.tokens.rest.now c.in-Found.after.now t (sym c.in-Found.ensures) in
     let some : operand_weight c.tokens.operand ≡ 1 = ap operand_weight c.in-Some.is in
     let h = has_of K c.tokens.stacks c.tokens.notes c.in-Some.part i.0 (subst (λ o. Represents K o c.tokens.stacks c.tokens.notes i.0) c.in-Some.is i.1) in (
-      (step m (has h.0 h.1) t, c.in_ok-operand-in-Some.ensures.some h.1 h.0 h.3, i.2 ∙ ap (λ p. reads m p c.tokens.rest.now) h.2 ∙ reads-found m (has h.0 h.1) c.tokens.rest.now t c.in-Found.after.now (sym c.in-Found.ensures)),
+      (
+        step m (has h.0 h.1) t,
+        c.in_ok-operand-in-Some.ensures.some h.1 h.0 h.3,
+        i.2
+            ∙ ap (λ p. reads m p c.tokens.rest.now) h.2 ∙ reads-found m (has h.0 h.1) c.tokens.rest.now t c.in-Found.after.now
+            (sym c.in-Found.ensures),
+      ),
       omega (arith, c.in_ok-operand-in-Some.ensures.lighter, c.tokens.invariant.1),
       omega (arith, c.in_ok-operand-in-Some.ensures.long, c.tokens.invariant.2),
     )

@@ -28,8 +28,11 @@ returns-in-Number-clause-some g c = λ s h.
 
 pub returns-in-Name-clause-some : goal.returns-in-Name-clause-some
 returns-in-Name-clause-some g c = λ s h.
-    let m = g.K.Keeper.meaning c.args.keeper.now in
-    (has (m.named c.in-Name.name.now c.in-Name.arguments) s, (h.0, c.named-part.ensures.kept (flags_in g.K.Keeper.keeping s) h.1), ap (λ t. reads m (step m (needs s) (as_token t)) c.args.rest.now) c.in-Name.is)
+    let m = g.K.Keeper.meaning c.args.keeper.now in (
+      has (m.named c.in-Name.name.now c.in-Name.arguments) s,
+      (h.0, c.named-part.ensures.kept (flags_in g.K.Keeper.keeping s) h.1),
+      ap (λ t. reads m (step m (needs s) (as_token t)) c.args.rest.now) c.in-Name.is,
+    )
 
 pub returns-in_ok-name-in-Defined-clause-some : goal.returns-in_ok-name-in-Defined-clause-some
 returns-in_ok-name-in-Defined-clause-some g c = λ s h.
@@ -52,8 +55,14 @@ returns-else-not-is_prefix-clause-some g c = λ s h.
 
 pub returns-in-Opening-clause-some : goal.returns-in-Opening-clause-some
 returns-in-Opening-clause-some g c = λ s h.
-    let m = g.K.Keeper.meaning c.args.keeper.now in
-    (needs (paren ∷ s), (c.push_paren.ensures ∙ ap (λ ps. paren ∷ ps) h.0, c.note-in-Opening.ensures.noted (flags_in g.K.Keeper.keeping s) h.1), ap (λ t. reads m (step m (needs s) (as_token t)) c.args.rest.now) c.in-Opening.is)
+    let m = g.K.Keeper.meaning c.args.keeper.now in (
+      needs (paren ∷ s),
+      (
+        c.push_paren.ensures ∙ ap (λ ps. paren ∷ ps) h.0,
+        c.note-in-Opening.ensures.noted (flags_in g.K.Keeper.keeping s) h.1,
+      ),
+      ap (λ t. reads m (step m (needs s) (as_token t)) c.args.rest.now) c.in-Opening.is,
+    )
 
 pub returns-in-Closing-clause-none : goal.returns-in-Closing-clause-none
 returns-in-Closing-clause-none g c = λ s.

@@ -7,7 +7,8 @@ use Rattle.ud_cond.proofs.expressions.reader.reduce.Given as goal
 abbrev pub invariant-waiting : goal.invariant-waiting
 invariant-waiting g l =
     ((s : List (Frame g.K.Keeper.Meant)) (k : g.K.Keeper.Meant) → IsAt g.K.Keeper.keeping l.fn.stacks l.fn.last l.fn.notes (k, s) →
-    (t : List (Frame g.K.Keeper.Meant)) × (j : g.K.Keeper.Meant) × IsAt g.K.Keeper.keeping l.stacks l.part l.notes (j, t) × (reduce (g.K.Keeper.meaning l.keeper) l.least k s ≡ reduce (g.K.Keeper.meaning l.keeper) l.least j t))
+    (t : List (Frame g.K.Keeper.Meant)) × (j : g.K.Keeper.Meant) × IsAt g.K.Keeper.keeping l.stacks l.part l.notes
+    (j, t) × (reduce (g.K.Keeper.meaning l.keeper) l.least k s ≡ reduce (g.K.Keeper.meaning l.keeper) l.least j t))
     × (weight l.stacks ≤ weight l.fn.stacks) × (count g.K.Keeper.keeping l.notes ≤ count g.K.Keeper.keeping l.fn.notes)
 
 abbrev pub decreases-waiting : goal.decreases-waiting

@@ -1,4 +1,4 @@
-use Rattle.std.proofs.Common.{Some, None, ◌≡◌, ◌∙◌, sym, ap, subst, get_or}
+use Rattle.std.proofs.Common.{Some, None, ◌≡◌, ◌∙◌, sym, ap, subst}
 use Rattle.std.proofs.lemmas.List.{get_or_read}
 use Rattle.ud_model.specs.conditions.Table.{entry_in}
 use Rattle.ud_cond.specs.symbols.SymbolTable.{no_row, IsRowOf}
@@ -26,7 +26,9 @@ missed c = sym (entry_from-none None c.args.self.now c.args.name.now (none-at_al
 -- a name whose slot isn't set has no row
 unmarked : (c : Then-not-may_contain) → None ≡ entry_in c.args.self.now c.args.name.now
 unmarked c =
-    let none = none-unmarked (has_slot c.self.inside.filter.words) c.self.inside.rows.items c.args.name.now c.self.invariant.1 (ap (slot_is_set c.self.inside.filter.words) (sym c.key_of-key.ensures) ∙ sym c.may_contain.ensures ∙ c.if-not-may_contain.true) in
+    let none = none-unmarked (has_slot c.self.inside.filter.words) c.self.inside.rows.items c.args.name.now
+    c.self.invariant.1 (ap (slot_is_set c.self.inside.filter.words) (sym c.key_of-key.ensures)
+    ∙ sym c.may_contain.ensures ∙ c.if-not-may_contain.true) in
     sym (entry_from-none None c.self.inside.rows.items c.args.name.now none) ∙ ap (λ rows. entry_in rows c.args.name.now) c.self.view_is
 
 pub returns-then-not-may_contain-clause-value : goal.returns-then-not-may_contain-clause-value

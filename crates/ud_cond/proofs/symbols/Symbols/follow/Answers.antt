@@ -13,4 +13,5 @@ pub steps-preserved : goal.steps-preserved
 steps-preserved c =
     let one : c.count-most.result - c.steps.counter ≡ suc (c.count-most.result - (c.steps.counter + 1)) = omega arith in
     c.steps.invariant ∙ ap (λ k. resolve_within k c.args.self.now c.steps.at.now) one
-    ∙ ends_behind c.args.self.now (c.count-most.result - (c.steps.counter + 1)) c.steps.at.now c.in_ok-text.text.now (sym c.in_ok-text.ensures) (sym c.is_identifier.ensures ∙ c.if-not-is_identifier.false)
+    ∙ ends_behind c.args.self.now (c.count-most.result - (c.steps.counter + 1)) c.steps.at.now c.in_ok-text.text.now
+    (sym c.in_ok-text.ensures) (sym c.is_identifier.ensures ∙ c.if-not-is_identifier.false)

@@ -1,4 +1,4 @@
-use Rattle.std.proofs.Common.{◌≡◌, ◌∙◌, true, is_ok, sym, ap, subst}
+use Rattle.std.proofs.Common.{◌∙◌, is_ok, sym, ap, subst}
 use Rattle.ud_cond.specs.symbols.Keys.{key_of}
 use Rattle.ud_cond.specs.symbols.SymbolTable.{IsGapFor}
 use Rattle.ud_cond.specs.symbols.NameFilters.{slot_is_set, has_slot, has_first}
@@ -15,7 +15,8 @@ invariant_of-self c =
     rw c.insert-added.ensures.items (
       sorted-added c.self.inside.rows.items c.args.i c.args.row (is_ok c.insert-added.result) c.self.invariant.0 gap,
       noted-added (has_slot c.insert.new.self.words) c.self.inside.rows.items c.args.i c.args.row (is_ok c.insert-added.result)
-          (noted-kept (has_slot c.self.inside.filter.words) (has_slot c.insert.new.self.words) c.self.inside.rows.items (λ name. c.insert.ensures.others_kept (key_of name)) c.self.invariant.1) gap.within new,
+          (noted-kept (has_slot c.self.inside.filter.words) (has_slot c.insert.new.self.words) c.self.inside.rows.items
+          (λ name. c.insert.ensures.others_kept (key_of name)) c.self.invariant.1) gap.within new,
       none_lead _ _ c.clear.new.self.items c.clear.ensures.items,
       noted-added (has_first c.insert-2.new.self.bytes) c.self.inside.rows.items c.args.i c.args.row (is_ok c.insert-added.result)
           (noted-kept (has_first c.self.inside.first_bytes.bytes) (has_first c.insert-2.new.self.bytes) c.self.inside.rows.items c.insert-2.ensures.others_kept c.self.invariant.3) gap.within first,

@@ -22,7 +22,8 @@ returns-then-is_unit-2-clause-kept c = λ k j front e g f.
     let start : c.saturating_sub-end.result ≡ length (front ++ k.flags) = omega (arith, q, long, c.saturating_sub-end.ensures) in
     let whole : length c.args.flags.now ≡ length (front ++ k.flags) + length (true ∷ j.flags) =
     ap (λ (xs : List Bool). length xs) f ∙ length-append (front ++ k.flags) (true ∷ j.flags) in
-    let kept = c.kept_of_longer.ensures (length front) (suc (length j.flags)) k.flags (ap (λ (p : Part). p.kept) e) (start ∙ long) (c.len-longer.ensures ∙ whole ∙ ap (λ (i : ℕ). i + suc (length j.flags)) (sym start)) in (
+    let kept = c.kept_of_longer.ensures (length front) (suc (length j.flags)) k.flags (ap (λ (p : Part). p.kept) e)
+    (start ∙ long) (c.len-longer.ensures ∙ whole ∙ ap (λ (i : ℕ). i + suc (length j.flags)) (sym start)) in (
       join_left (as_rules c.args.self.now.rules) c.args.operator k j _ _ c.args.a c.args.b _ _ e g c.binary_value.ensures c.apply_binary.ensures _ kept h i,
       c.fill-then-is_unit-2.ensures.filled (front ++ k.flags) (true ∷ j.flags) [] (to_end _ (front ++ k.flags) (true ∷ j.flags) f) start (c.len-longer.ensures ∙ whole)
           ∙ append-nil ((front ++ k.flags) ++ replicate (suc (length j.flags)) false)

@@ -26,7 +26,9 @@ returns-clause-kept c = λ k j front e g f.
     let left = c.keep_whole.ensures.kept front k.flags (true ∷ j.flags) f n (omega (arith, q, c.saturating_sub.ensures)) (ap (λ (p : Part). p.whole) e) in
     let split = left ∙ sym (append_assoc (front ++ ks) (true ∷ []) j.flags) in
     let whole = ap (λ (xs : List Bool). length xs) split ∙ length-append (front ++ ks ++ true ∷ []) j.flags in
-    let right = c.keep_whole-2.ensures.kept (front ++ ks ++ true ∷ []) j.flags [] (to_end _ (front ++ ks ++ true ∷ []) j.flags split) (q ∙ sym behind) (c.len.ensures ∙ whole) (ap (λ (p : Part). p.whole) g) in (
+    let right = c.keep_whole-2.ensures.kept (front ++ ks ++ true ∷ []) j.flags []
+    (to_end _ (front ++ ks ++ true ∷ []) j.flags split) (q ∙ sym behind) (c.len.ensures ∙ whole)
+    (ap (λ (p : Part). p.whole) g) in (
       c.leaf_part.ensures
           ∙ leaf_same r _ _ _ _ _ _ _ _ [] (replicate (length k.flags + suc (length j.flags)) true)
           (c.binary_value-value.ensures ∙ ap₂ (λ (x y : Part). binary_value_of r.strict false c.args.operator x.value y.value) e g)

@@ -1,4 +1,4 @@
-use Rattle.std.proofs.Common.{◌≡◌, ℕ, ◌+◌, suc, List, [], ◌∷◌, ◌++◌, length, Bool, true, not, ◌&&◌, sym, ◌∙◌, ap, ap₂, append_assoc, length-append, arith}
+use Rattle.std.proofs.Common.{◌≡◌, ℕ, ◌+◌, List, [], ◌∷◌, ◌++◌, length, Bool, true, not, ◌&&◌, sym, ◌∙◌, ap, ap₂, append_assoc, length-append, arith}
 use Rattle.ud_cond.specs.declared.expressions.parts.Part.{Part}
 use Rattle.ud_cond.specs.expressions.ResidualReading.{parens_kept, are_all_kept, lost_len}
 use Rattle.ud_cond.proofs.lemmas.expressions.ResidualLemmas.{one_apart, all_kept-parens}
@@ -18,7 +18,9 @@ returns-clause-kept c = λ k front e f.
           (c.both.ensures ∙ ap₂ (λ (x y : Bool). not x && y) b (ap (λ (p : Part). p.whole) e) ∙ all_kept-parens (not (k.lost && k.left_alone)) k.flags)
           (kept ∙ ap₂ (λ (i : ℕ) (x : Bool). i + lost_len (not x ∷ k.flags ++ not x ∷ [])) g b)
           ∙ ap₂ (λ (p : Part) (m : ℕ). record p { left_alone = true; alone = true; whole = are_all_kept (parens_kept k).flags; first = m; kept = length front + lost_len (parens_kept k).flags }) e g,
-      c.push.ensures ∙ ap (λ (xs : List Bool). xs ++ not c.both-stay.result ∷ []) (c.fill.ensures.filled front (true ∷ []) k.flags (one_apart _ front k.flags f) g n ∙ append_assoc front (not c.both-stay.result ∷ []) k.flags)
+      c.push.ensures ∙ ap (λ (xs : List Bool). xs ++ not c.both-stay.result ∷ [])
+          (c.fill.ensures.filled front (true ∷ []) k.flags (one_apart _ front k.flags f) g n
+          ∙ append_assoc front (not c.both-stay.result ∷ []) k.flags)
           ∙ append_assoc front (not c.both-stay.result ∷ k.flags) (not c.both-stay.result ∷ [])
           ∙ ap (λ (x : Bool). front ++ (not x ∷ (k.flags ++ not x ∷ []))) b,
     )

@@ -12,8 +12,11 @@ push-requires g c =
 pub push-requires-2 : goal.push-requires-2
 push-requires-2 g c =
     let most = c.self.invariant.2.0 in
-    let fewer = c.self.invariant.2.1 in
-    (omega arith, room-left c.self.inside.operators.items c.self.inside.operands.items g.row.BYTES _ c.self.invariant.0 (subst (λ s. weight s + 2 ≤ g.row.BYTES) (sym c.self.view_is) c.requires) c.self.invariant.2.2)
+    let fewer = c.self.invariant.2.1 in (
+      omega arith,
+      room-left c.self.inside.operators.items c.self.inside.operands.items g.row.BYTES _ c.self.invariant.0
+          (subst (λ s. weight s + 2 ≤ g.row.BYTES) (sym c.self.view_is) c.requires) c.self.invariant.2.2,
+    )
 
 pub invariant_of-self : goal.invariant_of-self
 invariant_of-self g c =
