@@ -141,8 +141,7 @@ named name value e = rw e refl
 -- `-D` or `-U` with a name, and what comes after it
 gives_by : (b : ℕ) (name t : List ℕ) (l : ℕ) (e : Entry) → nat_lt l 128 ≡ true → is_flag l ≡ false → takes_argument l ≡ true → (hyphen == l) ≡ false →
     has_letter (codes "x") l ≡ false → nat_lt b 128 ≡ true → IsUtf8 (b ∷ t) → parse_symbol l (b ∷ t) ≡ Some (record { name = name; entry = e }) → GivesSymbol name (hyphen ∷ l ∷ b ∷ t)
-gives_by b name t l e small no_flag takes no_end no_mode first u sets =
-    grind (arith, argument_in_word)
+gives_by b name t l e small no_flag takes no_end no_mode first u sets = grind (arith, argument_in_word)
 
 pub gives_symbol : (name w : List ℕ) → is_name name ≡ true → IsSymbolOption name w → GivesSymbol name w
 gives_symbol [] w e o = absurd (grind (arith, e))

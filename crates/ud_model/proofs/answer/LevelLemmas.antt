@@ -17,14 +17,12 @@ module _ {L : Type 0} where
   levels_add n adds_text = (n, refl)
   levels_add n adds_if = (n, simp append-nil)
   levels_add n (adds_endif {b = b} {h = h}) = (n, rw (levels-complete n h b) simp append_assoc)
-  levels_add n (adds_under {h = h} {t = t} {u = u} a) =
-      grind (arith, append_assoc, levels_add (suc n) a)
+  levels_add n (adds_under {h = h} {t = t} {u = u} a) = grind (arith, append_assoc, levels_add (suc n) a)
   levels_add n _ = (n, simp (append-nil, append_assoc))
 
   -- Each line has one level.
   pub length_levels : (t : Tree L) → length (levels t) ≡ length (lines t)
-  length_levels t =
-      length_by (levels_from 0) (λ t u x a. levels_add 0 a) (by_push (lines t)) refl t refl
+  length_levels t = length_by (levels_from 0) (λ t u x a. levels_add 0 a) (by_push (lines t)) refl t refl
 
   -- The levels of a longer text begin with those of the text.
   pub levels_stay : (t u : Tree L) (more : List (Item L)) → lines u ≡ lines t ++ more → (rest : List ℕ) × (levels u ≡ levels t ++ rest)

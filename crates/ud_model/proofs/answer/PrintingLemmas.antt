@@ -27,5 +27,4 @@ pub differ-more : (piece : List Judged → Judged → List ℕ) (before js : Lis
     some_other (pieces_by piece before (js ++ j ∷ [])) (js ++ j ∷ [])
     ≡ (some_other (pieces_by piece before js) js || not (bytes_eq (piece (before ++ js) j) (text_of j.line)))
 differ-more piece before [] j = grind (arith, append-nil)
-differ-more piece before (k ∷ js) j =
-    grind (arith, append_assoc, differ-more piece (before ++ k ∷ []) js j)
+differ-more piece before (k ∷ js) j = grind (arith, append_assoc, differ-more piece (before ++ k ∷ []) js j)

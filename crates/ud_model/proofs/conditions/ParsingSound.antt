@@ -63,8 +63,7 @@ reduced : (j : ℕ) (x : Expression) (s : List (Frame Expression)) → Fits s �
 reduced j x (left o a ∷ s) f i t =
     left_if (leb j (precedence o)) j o a x s (reduce itself j (binary o a x) s) refl f i t
     (λ l. reduced j (binary o a x) s f.3 (f.2, f.0, i) (l, f.0, i))
-reduced j x (before o ∷ s) f i t =
-    grind (arith, append_assoc, reduced j (unary o x) s f.1 (f.0, i) (f.0, i))
+reduced j x (before o ∷ s) f i t = grind (arith, append_assoc, reduced j (unary o x) s f.1 (f.0, i) (f.0, i))
 reduced j x s h g k = grind arith
 
 -- The end of the tokens so far.

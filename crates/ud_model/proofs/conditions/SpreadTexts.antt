@@ -18,8 +18,7 @@ begins_white (b ∷ t) = is_white b
 -- end. White space or the start is before both if `white`.
 pub data IsSpread : Bool → List ℕ → List ℕ → Type 0 where
   nothing : {white : Bool} → IsSpread white [] []
-  kept : {white : Bool} {u t : List ℕ} (b : ℕ) → IsSpread (is_white b) u t →
-      IsSpread white (b ∷ u) (b ∷ t)
+  kept : {white : Bool} {u t : List ℕ} (b : ℕ) → IsSpread (is_white b) u t → IsSpread white (b ∷ u) (b ∷ t)
   behind : {u t : List ℕ} (b : ℕ) → is_white b ≡ true → IsSpread true u t → IsSpread true (b ∷ u) t
   in_front : {white : Bool} {u t : List ℕ} (b : ℕ) → is_white b ≡ true → begins_white t ≡ true →
       IsSpread true u t → IsSpread white (b ∷ u) t
@@ -36,8 +35,7 @@ Spread u t = (white : Bool) × IsSpread white u t
 -- Both texts are empty, or begin with the same byte, which isn't white space.
 data SameFront : List ℕ → List ℕ → Type 0 where
   no_front : SameFront [] []
-  front : {u t : List ℕ} (b : ℕ) → is_white b ≡ false → IsSpread false u t →
-      SameFront (b ∷ u) (b ∷ t)
+  front : {u t : List ℕ} (b : ℕ) → is_white b ≡ false → IsSpread false u t → SameFront (b ∷ u) (b ∷ t)
 
 skip_kept : {u t : List ℕ} (b : ℕ) (w : Bool) → is_white b ≡ w → IsSpread w u t →
     SameFront (skip_white u) (skip_white t) →
@@ -55,8 +53,7 @@ record SameFirst (c : ℕ) (u t : List ℕ) : Type 0 where
   pub same : starts_with_byte c u ≡ starts_with_byte c t
   pub rest : starts_with_byte c u ≡ true → Spread (drop 1 u) (drop 1 t)
 
-other_front : (c : ℕ) (t : List ℕ) → begins_white t ≡ true → is_white c ≡ false →
-    starts_with_byte c t ≡ false
+other_front : (c : ℕ) (t : List ℕ) → begins_white t ≡ true → is_white c ≡ false → starts_with_byte c t ≡ false
 other_front c t h g = grind arith
 
 same_first : (c : ℕ) {u t : List ℕ} → is_white c ≡ false → IsSpread false u t → SameFirst c u t
@@ -98,8 +95,7 @@ next_by : {c : ℕ} {u t : List ℕ} {x y v z : NextToken} → SameFirst c u t �
     SameNext (if starts_with_byte c u then x else y) (if starts_with_byte c t then v else z)
 next_by {c = c} {u = u} {x = x} {y = y} {v = v} {z = z} f p q = grind arith
 
-one_or_two : (c : ℕ) (long short : Operator) {u t : List ℕ} → is_white c ≡ false →
-    IsSpread false u t →
+one_or_two : (c : ℕ) (long short : Operator) {u t : List ℕ} → is_white c ≡ false → IsSpread false u t →
     SameNext (one_or_two_bytes c long short u) (one_or_two_bytes c long short t)
 one_or_two c long short n s =
     next_by (same_first c n s) (λ r. finds (operator long) r) (finds (operator short) (false, s))
@@ -149,12 +145,10 @@ signs_agree : {u t : List ℕ} → IsSpread false u t →
 signs_agree s = ap₂ (λ (a b : Bool). a || b) (same_first 43 refl s).same (same_first 45 refl s).same
 
 -- The name `w` has arguments before both rests, or before neither.
-same_name : (w : List ℕ) {u t : List ℕ} → IsSpread false u t →
-    SameNext (name_token w u) (name_token w t)
+same_name : (w : List ℕ) {u t : List ℕ} → IsSpread false u t → SameNext (name_token w u) (name_token w t)
 same_name w {u = u} {t = t} s = by (skipped s)
   where
-    by_rest : {x y : Option (List ℕ)} → SameRest x y →
-        SameNext (with_arguments w x) (with_arguments w y)
+    by_rest : {x y : Option (List ℕ)} → SameRest x y → SameNext (with_arguments w x) (with_arguments w y)
     by_rest no_rest = unread
     by_rest (some_rest r) = finds (name w true) r
 
@@ -164,8 +158,7 @@ same_name w {u = u} {t = t} s = by (skipped s)
     by no_front = finds (name w false) (false, s)
     by (front b n r) = next_if (b == 40) (by_rest (closed 0 r)) (finds (name w false) (false, s))
 
-same_token : (w : List ℕ) {u t : List ℕ} → IsSpread false u t →
-    SameNext (word_token w u) (word_token w t)
+same_token : (w : List ℕ) {u t : List ℕ} → IsSpread false u t → SameNext (word_token w u) (word_token w t)
 same_token w {u = u} {t = t} s = next_if (is_digit (slice_index w 0))
     (subst (λ (b : Bool). SameNext (if is_constant w && not (has_exponent_sign w u) then found (number w) u else unreadable)
     (if is_constant w && not ((slice_index w (length w - 1) == 101 || slice_index w (length w - 1) == 69) && b) then found (number w) t else unreadable)) (signs_agree s)
@@ -183,16 +176,14 @@ same_next : {u t : List ℕ} → Spread u t → SameNext (next_token u) (next_to
 unfolding next_token
 same_next (w, s) = same_leading (skipped s)
 
-same_after : (n m : ℕ) (u t : List ℕ) {x y : NextToken} → next_token u ≡ x → next_token t ≡ y →
-    SameNext x y →
+same_after : (n m : ℕ) (u t : List ℕ) {x y : NextToken} → next_token u ≡ x → next_token t ≡ y → SameNext x y →
     ((v z : List ℕ) → Spread v z → length v < length u → length z < length t → tokens_in n v ≡ tokens_in m z) →
     prepend_token (λ (v : List ℕ). tokens_in n v) x ≡ prepend_token (λ (z : List ℕ). tokens_in m z) y
 same_after n m u t p q ends f = refl
 same_after n m u t p q unread f = refl
 same_after n m u t p q (finds {u = v} {t = z} k s) f = cc (f v z s (shorter u v k p) (shorter t z k q))
 
-same_in : (n m : ℕ) (u t : List ℕ) → Spread u t → length u < n → length t < m →
-    tokens_in n u ≡ tokens_in m t
+same_in : (n m : ℕ) (u t : List ℕ) → Spread u t → length u < n → length t < m → tokens_in n u ≡ tokens_in m t
 same_in (suc n) (suc m) u t s l k =
     same_after n m u t refl refl (same_next s) (λ v z r i j. same_in n m v z r (omega arith) (omega arith))
 same_in n m u t h g k = grind arith

@@ -32,8 +32,7 @@ past_word_most (b ∷ t) = grind (arith, past_word_most t)
 
 behind_within : (n : ℕ) (t : List ℕ) → Within (length t) (after_matching_paren n t)
 behind_within zero (b ∷ t) = grind (arith, behind_within 1 t, behind_within 0 t)
-behind_within (suc n) (b ∷ t) =
-    grind (arith, behind_within (suc (suc n)) t, behind_within n t, behind_within (suc n) t)
+behind_within (suc n) (b ∷ t) = grind (arith, behind_within (suc (suc n)) t, behind_within n t, behind_within (suc n) t)
 behind_within _ [] = tt
 
 name_shorter : (k : ℕ) (w rest : List ℕ) → length rest < k → Shorter k (name_token w rest)

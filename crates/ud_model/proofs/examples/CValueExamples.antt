@@ -132,8 +132,7 @@ is_nought y h = grind arith
 no_remainder : (x z : Number) → Gives Remainder x (signed (pos 0)) z → ⊥
 no_remainder x z g = grind arith
 
-nought_of : {table : List Argument} {u : Bool} {y : Number} → CValue table u (c (codes "0")) y →
-    y ≡ signed (pos 0)
+nought_of : {table : List Argument} {u : Bool} {y : Number} → CValue table u (c (codes "0")) y → y ≡ signed (pos 0)
 nought_of {y = y} (of_constant p) = is_nought y p
 
 -- It has no known value, and no C value.
@@ -141,6 +140,5 @@ pub remainder_by_zero_unknown : number_of five false false remainder_by_zero ≡
 unfolding apply_binary_known apply_unary_known
 remainder_by_zero_unknown = refl
 
-pub remainder_by_zero_none : (table : List Argument) (u : Bool) (z : Number) →
-    CValue table u remainder_by_zero z → ⊥
+pub remainder_by_zero_none : (table : List Argument) (u : Bool) (z : Number) → CValue table u remainder_by_zero z → ⊥
 remainder_by_zero_none table u z h = grind (arith, nought_of)

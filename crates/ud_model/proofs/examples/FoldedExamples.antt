@@ -15,12 +15,10 @@ use Rattle.ud_model.specs.declared.kind.Mode.TheVariants.{C}
 
 -- A splice becomes a vertical tab: `#if A || \\n  B\nx\n`.
 abbrev text_a : List ℕ
-text_a =
-    35 ∷ 105 ∷ 102 ∷ 32 ∷ 65 ∷ 32 ∷ 124 ∷ 124 ∷ 32 ∷ 92 ∷ 10 ∷ 32 ∷ 32 ∷ 66 ∷ 10 ∷ 120 ∷ 10 ∷ []
+text_a = 35 ∷ 105 ∷ 102 ∷ 32 ∷ 65 ∷ 32 ∷ 124 ∷ 124 ∷ 32 ∷ 92 ∷ 10 ∷ 32 ∷ 32 ∷ 66 ∷ 10 ∷ 120 ∷ 10 ∷ []
 
 abbrev line_a : List ℕ
-line_a =
-    35 ∷ 105 ∷ 102 ∷ 32 ∷ 65 ∷ 32 ∷ 124 ∷ 124 ∷ 32 ∷ 11 ∷ 32 ∷ 32 ∷ 66 ∷ 10 ∷ 120 ∷ 10 ∷ []
+line_a = 35 ∷ 105 ∷ 102 ∷ 32 ∷ 65 ∷ 32 ∷ 124 ∷ 124 ∷ 32 ∷ 11 ∷ 32 ∷ 32 ∷ 66 ∷ 10 ∷ 120 ∷ 10 ∷ []
 
 folded_a : folded_text text_a ≡ line_a
 unfolding split_lines joins scan_after_run lexeme_at lex_from lex kind_at_end
@@ -45,12 +43,10 @@ items_a = refl
 
 -- So does a newline in a comment: `#else /* a\n b */\n`.
 abbrev text_b : List ℕ
-text_b =
-    35 ∷ 101 ∷ 108 ∷ 115 ∷ 101 ∷ 32 ∷ 47 ∷ 42 ∷ 32 ∷ 97 ∷ 10 ∷ 32 ∷ 98 ∷ 32 ∷ 42 ∷ 47 ∷ 10 ∷ []
+text_b = 35 ∷ 101 ∷ 108 ∷ 115 ∷ 101 ∷ 32 ∷ 47 ∷ 42 ∷ 32 ∷ 97 ∷ 10 ∷ 32 ∷ 98 ∷ 32 ∷ 42 ∷ 47 ∷ 10 ∷ []
 
 abbrev line_b : List ℕ
-line_b =
-    35 ∷ 101 ∷ 108 ∷ 115 ∷ 101 ∷ 32 ∷ 47 ∷ 42 ∷ 32 ∷ 97 ∷ 11 ∷ 32 ∷ 98 ∷ 32 ∷ 42 ∷ 47 ∷ 10 ∷ []
+line_b = 35 ∷ 101 ∷ 108 ∷ 115 ∷ 101 ∷ 32 ∷ 47 ∷ 42 ∷ 32 ∷ 97 ∷ 11 ∷ 32 ∷ 98 ∷ 32 ∷ 42 ∷ 47 ∷ 10 ∷ []
 
 folded_b : folded_text text_b ≡ line_b
 unfolding split_lines joins scan_after_run lexeme_at lex_from lex kind_at_end
@@ -62,8 +58,7 @@ restored_b = refl
 
 -- No white space is beside the splice: `#if A\\n|| B\n`.
 abbrev text_c : List ℕ
-text_c =
-    35 ∷ 105 ∷ 102 ∷ 32 ∷ 65 ∷ 92 ∷ 10 ∷ 124 ∷ 124 ∷ 32 ∷ 66 ∷ 10 ∷ []
+text_c = 35 ∷ 105 ∷ 102 ∷ 32 ∷ 65 ∷ 92 ∷ 10 ∷ 124 ∷ 124 ∷ 32 ∷ 66 ∷ 10 ∷ []
 
 folded_c : folded_text text_c ≡ text_c
 unfolding split_lines joins scan_after_run lexeme_at lex_from lex kind_at_end
@@ -75,8 +70,7 @@ restored_c = refl
 
 -- Text: `x \\n#if A\n`.
 abbrev text_d : List ℕ
-text_d =
-    120 ∷ 32 ∷ 92 ∷ 10 ∷ 35 ∷ 105 ∷ 102 ∷ 32 ∷ 65 ∷ 10 ∷ []
+text_d = 120 ∷ 32 ∷ 92 ∷ 10 ∷ 35 ∷ 105 ∷ 102 ∷ 32 ∷ 65 ∷ 10 ∷ []
 
 folded_d : folded_text text_d ≡ text_d
 unfolding split_lines joins scan_after_run lexeme_at lex_from lex kind_at_end
@@ -107,8 +101,7 @@ restored_e = refl
 
 -- A cut keyword: `#el\\nse\n`.
 abbrev text_f : List ℕ
-text_f =
-    35 ∷ 101 ∷ 108 ∷ 92 ∷ 10 ∷ 115 ∷ 101 ∷ 10 ∷ []
+text_f = 35 ∷ 101 ∷ 108 ∷ 92 ∷ 10 ∷ 115 ∷ 101 ∷ 10 ∷ []
 
 folded_f : folded_text text_f ≡ text_f
 unfolding split_lines joins scan_after_run lexeme_at lex_from lex kind_at_end
@@ -120,12 +113,10 @@ restored_f = refl
 
 -- Carriage returns: `#endif \\r\n\r\n`.
 abbrev text_g : List ℕ
-text_g =
-    35 ∷ 101 ∷ 110 ∷ 100 ∷ 105 ∷ 102 ∷ 32 ∷ 92 ∷ 13 ∷ 10 ∷ 13 ∷ 10 ∷ []
+text_g = 35 ∷ 101 ∷ 110 ∷ 100 ∷ 105 ∷ 102 ∷ 32 ∷ 92 ∷ 13 ∷ 10 ∷ 13 ∷ 10 ∷ []
 
 abbrev line_g : List ℕ
-line_g =
-    35 ∷ 101 ∷ 110 ∷ 100 ∷ 105 ∷ 102 ∷ 32 ∷ 11 ∷ 13 ∷ 10 ∷ []
+line_g = 35 ∷ 101 ∷ 110 ∷ 100 ∷ 105 ∷ 102 ∷ 32 ∷ 11 ∷ 13 ∷ 10 ∷ []
 
 folded_g : folded_text text_g ≡ line_g
 unfolding split_lines joins scan_after_run lexeme_at lex_from lex kind_at_end
@@ -156,8 +147,7 @@ read_h = refl
 
 -- A literal: `#if 'a' \\n B\n`.
 abbrev text_i : List ℕ
-text_i =
-    35 ∷ 105 ∷ 102 ∷ 32 ∷ 39 ∷ 97 ∷ 39 ∷ 32 ∷ 92 ∷ 10 ∷ 32 ∷ 66 ∷ 10 ∷ []
+text_i = 35 ∷ 105 ∷ 102 ∷ 32 ∷ 39 ∷ 97 ∷ 39 ∷ 32 ∷ 92 ∷ 10 ∷ 32 ∷ 66 ∷ 10 ∷ []
 
 folded_i : folded_text text_i ≡ text_i
 unfolding split_lines joins scan_after_run lexeme_at lex_from lex kind_at_end

@@ -18,16 +18,14 @@ use Rattle.ud_model.specs.output.SimplifiedTexts.{simplified_text}
 use Rattle.ud_model.proofs.examples.CValueExamples.{sets, undefines}
 
 abbrev symbols : List Argument
-symbols =
-    undefines (codes "A") ∷ sets (codes "B") (codes "1") ∷ sets (codes "N") (codes "-1") ∷ []
+symbols = undefines (codes "A") ∷ sets (codes "B") (codes "1") ∷ sets (codes "N") (codes "-1") ∷ []
 
 abbrev usual : Rules
 usual = record { constants = false; strict = false }
 
 -- The condition `before`, in cells, is `after` when it is simplified.
 abbrev CellsBecome : List Cell → List ℕ → Type 0
-CellsBecome before after =
-    map (λ (c : Cell). c.byte) (simplified_cells symbols usual before) ≡ after
+CellsBecome before after = map (λ (c : Cell). c.byte) (simplified_cells symbols usual before) ≡ after
 
 -- The condition `before`, without comments and quotes, is `after`, or stays.
 abbrev Becomes : List ℕ → List ℕ → Type 0
@@ -38,9 +36,8 @@ Stays text = Becomes text text
 
 -- White space goes with its token. The rest never begins with a word byte: `#ifX` would be no
 -- directive.
-pub operands_go : Becomes (codes "\tdefined(A)  ||  X ") (codes "\tX ") ×
-    Becomes (codes " X\t||\tA\t||\tY") (codes " X\t||\tY") ×
-    Becomes (codes " ( defined(X) || defined A ) && Y") (codes " defined(X) && Y") ×
+pub operands_go : Becomes (codes "\tdefined(A)  ||  X ") (codes "\tX ") × Becomes (codes " X\t||\tA\t||\tY")
+    (codes " X\t||\tY") × Becomes (codes " ( defined(X) || defined A ) && Y") (codes " defined(X) && Y") ×
     Becomes (codes "!A&&!X") (codes "!X") × Stays (codes "!B||X") × Stays (codes "(A)||X")
 unfolding simplified_cells expression_of reads tokens_of next_token suffix_sign
     apply_binary_known apply_unary_known name_value name_has_u resolve defined_value
@@ -48,8 +45,7 @@ operands_go = (refl, refl, refl, refl, refl, refl)
 
 -- A condition that is decided stays, and so does one that names no symbol. And so does one that
 -- would be decided: the `u` hides that N is less than 0.
-pub decided_stay : Stays (codes " A || B") × Stays (codes " X || Y") ×
-    Stays (codes " N < 0 || X && B == 1u")
+pub decided_stay : Stays (codes " A || B") × Stays (codes " X || Y") × Stays (codes " N < 0 || X && B == 1u")
 unfolding simplified_cells expression_of reads tokens_of next_token suffix_sign
     apply_binary_known apply_unary_known name_value name_has_u resolve defined_value
 decided_stay = (refl, refl, refl)

@@ -40,8 +40,7 @@ with_else n = section nothing
     (otherwise (first (opener n Unknown) (text nothing 2)) 3 (text nothing 4)) 6
 
 -- The first group is selected if its condition is true, else that of `#else`.
-pub one_selected : (selected some_world (with_else 1) ≡ 2 ∷ []) ×
-    (selected some_world (with_else 7) ≡ 4 ∷ [])
+pub one_selected : (selected some_world (with_else 1) ≡ 2 ∷ []) × (selected some_world (with_else 7) ≡ 4 ∷ [])
 one_selected = (refl, refl)
 
 -- A world agrees with the decision on each opener that is reached: the one on line 2 isn't.

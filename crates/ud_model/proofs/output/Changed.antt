@@ -119,8 +119,7 @@ module _ (blank : Bool) where
   group_held : (kept : Bool) (cs : List Cond) (part : Part) (c : Cond) (xs : List (Item Reading)) (ms : List Mark) (x : Item Reading) (ys : List (Item Reading)) (ns : List Mark) →
       length xs ≡ length ms → HasWord (reading_of x) 4 → Held (kept && is_past cs) xs ms → ItemsFit ys ns →
       Held (kept && is_past (cs ++ c ∷ [])) ((xs ++ x ∷ []) ++ ys) ((ms ++ marked kept (verdict_so_far cs part c) ∷ []) ++ ns)
-  group_held kept cs part c xs ms x ys ns e w a b =
-      grind (arith, held_then, more_long, opener_any, opener_moves)
+  group_held kept cs part c xs ms x ys ns e w a b = grind (arith, held_then, more_long, opener_any, opener_moves)
 
   -- The case of nodes, and then a section.
   section_fits : (kept past : Bool) (xs ys : List (Item Reading)) (ms ns : List Mark) (l : Reading) (v : Verdict) → length xs ≡ length ms → length ys ≡ length ns →

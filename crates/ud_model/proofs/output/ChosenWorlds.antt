@@ -122,11 +122,9 @@ module _ (o : Options) (p : IsPlainC o) (input : List ℕ) {r : Outcome} (d : Ha
           (reached_again run w (c_world_agrees run w c_world) (IsChosen o.table) between.0 between.1 g)
 
 -- C selects the same lines of the simplified output as of the input, by the trees of both.
-pub triple_selects : {args : List (List ℕ)} {input text : List ℕ} {a : Answer} →
-    Succeeds args input a → IsPlainC (options_of args) →
-    text ≡ simplified_under (options_of args) a.output →
-    (c : CTriple (options_of args) input a.output text) →
-    selected_bytes c.v c.ss ≡ selected_bytes c.w c.ns
+pub triple_selects : {args : List (List ℕ)} {input text : List ℕ} {a : Answer} → Succeeds args input a →
+    IsPlainC (options_of args) → text ≡ simplified_under (options_of args) a.output →
+    (c : CTriple (options_of args) input a.output text) → selected_bytes c.v c.ss ≡ selected_bytes c.w c.ns
 triple_selects {args = args} {a = a} s p q c =
     let o : Options = options_of args in
     let j : IsTreeOf o (simplified_under o a.output) (closed c.ss) =
@@ -152,15 +150,13 @@ module _ (args : List (List ℕ)) (p : IsPlainC (options_of args)) where
 
     module _ (ss : Nodes Reading) (w : World Reading) where
       pub answer_truths : {a : Answer} → IsAnswer args input a → a.status ≢ 2 →
-          IsTreeOf o (simplified_under o a.output) (closed ss) →
-          (v : World Reading) × KeepsTruths w ns v ss
+          IsTreeOf o (simplified_under o a.output) (closed ss) → (v : World Reading) × KeepsTruths w ns v ss
       answer_truths (refused f e) n j = absurd (n refl)
       answer_truths (ran r e d) n j = truths_left o p input d (fault_of r n) ns i ss j w
 
       pub answer_selected : {a : Answer} → IsAnswer args input a → a.status ≢ 2 →
-          IsTreeOf o (simplified_under o a.output) (closed ss) → (v : World Reading) →
-          KeepsTruths w ns v ss → IsChosenWorld o.table w ns →
-          (selected_bytes v ss ≡ selected_bytes w ns) × IsChosenWorld o.table v ss
+          IsTreeOf o (simplified_under o a.output) (closed ss) → (v : World Reading) → KeepsTruths w ns v ss →
+          IsChosenWorld o.table w ns → (selected_bytes v ss ≡ selected_bytes w ns) × IsChosenWorld o.table v ss
       answer_selected (refused f e) n j v t g = absurd (n refl)
       answer_selected (ran r e d) n j v t g =
           let q : r.fault ≡ None = fault_of r n in

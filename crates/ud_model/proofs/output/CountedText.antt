@@ -122,8 +122,7 @@ counted_lines o input k (judged_as reads) = counted_text o k.plain k.blank k.ren
 module _ (o : Options) where
   few_items : {xs : List (Item Reading)} {t : Tree Reading} → AreFaultless o xs t → Each (λ (l : Line). l.number ≤ TEXT_LINES) (map line_of xs)
   few_items no_lines = tt
-  few_items (one_more xs t s l u e w) =
-      grind (arith, lines_with_next, reading_of-next, each_both, few_items s)
+  few_items (one_more xs t s l u e w) = grind (arith, lines_with_next, reading_of-next, each_both, few_items s)
 
 each_line : (js : List Judged) → Each (λ (l : Line). l.number ≤ TEXT_LINES) (map (λ (j : Judged). j.line) js) → Each (λ (j : Judged). j.line.number ≤ TEXT_LINES) js
 each_line [] h = tt

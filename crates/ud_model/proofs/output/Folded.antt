@@ -26,8 +26,7 @@ module _ {L : Type 0} where
   abbrev pub with_group : KeptGroups L → Part → Opener L → Cond → Nodes (Edited L) → KeptGroups L
   with_group none_kept part o Yes ns = replaced ns
   with_group none_kept part o No ns = none_kept
-  with_group none_kept part o Unknown ns =
-      kept_groups (first (edited_opener (first_kept_verdict part) o) ns)
+  with_group none_kept part o Unknown ns = kept_groups (first (edited_opener (first_kept_verdict part) o) ns)
   with_group (replaced ms) part o c ns = replaced ms
   with_group (kept_groups es) part o Yes ns = ended es (edited ToElse o.line) ns None
   with_group (kept_groups es) part o No ns = kept_groups es

@@ -30,8 +30,7 @@ use Rattle.ud_model.proofs.output.LeftLines.{spliced_body}
 abbrev pub HaveSpaces : Bool → List ℕ → List ℕ → Type 0
 HaveSpaces before [] masked = Unit {0}
 HaveSpaces before (b ∷ bytes) [] = Unit {0}
-HaveSpaces before (b ∷ bytes) (m ∷ masked) =
-    (b ≢ slash → m ≢ b → before ≡ true) × HaveSpaces (m == space) bytes masked
+HaveSpaces before (b ∷ bytes) (m ∷ masked) = (b ≢ slash → m ≢ b → before ≡ true) × HaveSpaces (m == space) bytes masked
 
 comment_shown : (k : LexemeKind) (a b : ℕ) → shown_as k b ≢ b → (shown_as k a == space) ≡ true
 comment_shown k a b h = grind arith
@@ -41,8 +40,7 @@ unfolding lexeme_at
 begins_slash a u n = grind arith
 
 spaces_from : (k : LexemeKind) (n : ℕ) (before : Bool) (u : List ℕ) →
-    (0 < n → (b : ℕ) → shown_as k b ≢ b → before ≡ true) →
-    HaveSpaces before u (map shown (lex_from k n u))
+    (0 < n → (b : ℕ) → shown_as k b ≢ b → before ≡ true) → HaveSpaces before u (map shown (lex_from k n u))
 unfolding lex_from
 spaces_from k n before [] h = tt
 spaces_from k zero before (a ∷ u) h =
@@ -51,15 +49,13 @@ spaces_from k zero before (a ∷ u) h =
 spaces_from k (suc n) before (a ∷ u) h =
     (λ s d. h (omega arith) a d, spaces_from k n (shown_as k a == space) u (λ l b d. comment_shown k a b d))
 
-fewer : (n : ℕ) (before : Bool) (u ms : List ℕ) → HaveSpaces before u ms →
-    HaveSpaces before u (take n ms)
+fewer : (n : ℕ) (before : Bool) (u ms : List ℕ) → HaveSpaces before u ms → HaveSpaces before u (take n ms)
 fewer n before [] ms h = tt
 fewer zero before (b ∷ u) ms h = tt
 fewer (suc n) before (b ∷ u) [] h = tt
 fewer (suc n) before (b ∷ u) (m ∷ ms) h = (h.0, fewer n (m == space) u ms h.1)
 
-front_bytes : (before : Bool) (u v ms : List ℕ) → HaveSpaces before (u ++ v) ms →
-    HaveSpaces before u ms
+front_bytes : (before : Bool) (u v ms : List ℕ) → HaveSpaces before (u ++ v) ms → HaveSpaces before u ms
 front_bytes before (b ∷ u) v (m ∷ ms) h = (h.0, front_bytes (m == space) u v ms h.1)
 front_bytes before u v ms h = grind arith
 
@@ -97,8 +93,7 @@ break_bytes outside spliced =
     if outside then vertical_tab ∷ [] else if spliced then backslash ∷ vertical_tab ∷ [] else vertical_tab ∷ []
 
 abbrev break_shown : Bool → Bool → List ℕ
-break_shown outside spliced =
-    if outside then vertical_tab ∷ [] else if spliced then space ∷ space ∷ [] else space ∷ []
+break_shown outside spliced = if outside then vertical_tab ∷ [] else if spliced then space ∷ space ∷ [] else space ∷ []
 
 -- The bytes after the content of a line in the folded line, with such a break, and how they are
 -- masked.
@@ -116,8 +111,7 @@ bytes_behind r rs = bytes_after (is_outside r.scan.comment) r.scan.spliced rs
 abbrev shown_behind : Reading → List Reading → List ℕ
 shown_behind r rs = shown_after (is_outside r.scan.comment) r.scan.spliced rs
 
-shown_parts : (r : Reading) (rs : List Reading) →
-    shown_lines (r ∷ rs) ≡ r.scan.masked ++ shown_behind r rs
+shown_parts : (r : Reading) (rs : List Reading) → shown_lines (r ∷ rs) ≡ r.scan.masked ++ shown_behind r rs
 shown_parts r rs = grind (arith, append-nil, append_assoc)
 
 blank_is_white : (b : ℕ) → is_blank b ≡ true → is_white b ≡ true
@@ -145,8 +139,7 @@ kept_all [] (c ∷ m) l i f = absurd (omega arith)
 kept_all (b ∷ p) [] l i f = absurd (omega arith)
 
 -- The masked bytes after a line are empty or begin with white space.
-shown_white : (outside spliced : Bool) (rs : List Reading) →
-    begins_white (shown_after outside spliced rs) ≡ true
+shown_white : (outside spliced : Bool) (rs : List Reading) → begins_white (shown_after outside spliced rs) ≡ true
 shown_white outside spliced rs = grind arith
 
 part_by : (l : Line) (outside spliced : Bool) → is_spliced l ≡ spliced →
@@ -156,8 +149,7 @@ part_by l false true e = cc (spliced_body l e, append_assoc (content l) (backsla
 part_by l false false e = cc e
 
 body_parts : (before : Bool) (r : Reading) (rs : List Reading) (masked : List ℕ) → IsMeasured r →
-    HaveSpaces before (folded_body (r ∷ rs)) masked →
-    HaveSpaces before (content r.line ++ bytes_behind r rs) masked
+    HaveSpaces before (folded_body (r ∷ rs)) masked → HaveSpaces before (content r.line ++ bytes_behind r rs) masked
 body_parts before r [] masked i h =
     let p = content-prefix r.line in
     subst (λ (u : List ℕ). HaveSpaces before u masked) (sym (append-nil (content r.line))) (front_bytes before (content r.line) p.0 masked (subst (λ (u : List ℕ). HaveSpaces before u masked) p.1 h))
@@ -179,13 +171,11 @@ parts_place r rs i p = grind (arith, parts_spaces, shown_parts)
 
 -- A space is before a break that lies in a comment.
 space_before : (before spliced : Bool) (u masked : List ℕ) →
-    HaveSpaces before (break_bytes false spliced ++ u) (break_shown false spliced ++ masked) →
-    before ≡ true
+    HaveSpaces before (break_bytes false spliced ++ u) (break_shown false spliced ++ masked) → before ≡ true
 space_before before spliced u masked h = grind arith
 
 -- If white space follows the vertical tabs, the joined lines begin with white space.
-white_by : (p m : List ℕ) (outside spliced : Bool) (rs : List Reading) → Each IsMeasured rs →
-    length m ≡ length p →
+white_by : (p m : List ℕ) (outside spliced : Bool) (rs : List Reading) → Each IsMeasured rs → length m ≡ length p →
     HaveSpaces false (p ++ bytes_after outside spliced rs) (m ++ shown_after outside spliced rs) →
     blank_follows (m ++ shown_after outside spliced rs) ≡ true → begins_white (m ++ all_masked rs) ≡ true
 white_by [] [] outside spliced [] i l h e = refl
@@ -202,11 +192,10 @@ lines_white : (r : Reading) (rs : List Reading) → Each IsMeasured (r ∷ rs) �
     blank_follows (shown_lines (r ∷ rs)) ≡ true → begins_white (all_masked (r ∷ rs)) ≡ true
 lines_white r rs i h e = grind (arith, white_by, parts_spaces, shown_parts)
 
-break_by : {white : Bool} (outside spliced : Bool) (r : Reading) (rs : List Reading) →
-    Each IsMeasured (r ∷ rs) →
+break_by : {white : Bool} (outside spliced : Bool) (r : Reading) (rs : List Reading) → Each IsMeasured (r ∷ rs) →
     IsPlace white (bytes_after outside spliced (r ∷ rs)) (shown_after outside spliced (r ∷ rs)) →
-    (IsPlace true (folded_body (r ∷ rs)) (shown_lines (r ∷ rs)) → IsSpread true (shown_lines (r ∷ rs)) (all_masked (r ∷ rs))) →
-    IsSpread white (shown_after outside spliced (r ∷ rs)) (all_masked (r ∷ rs))
+    (IsPlace true (folded_body (r ∷ rs)) (shown_lines (r ∷ rs)) → IsSpread true (shown_lines (r ∷ rs))
+    (all_masked (r ∷ rs))) → IsSpread white (shown_after outside spliced (r ∷ rs)) (all_masked (r ∷ rs))
 break_by {white = white} true spliced r rs i p f =
     by (or_cases p.blank (blank_follows (shown_lines (r ∷ rs))) (and_parts (p.blank || blank_follows (shown_lines (r ∷ rs))) (tabs_are_beside p.blank (shown_lines (r ∷ rs))) p.tabs).0)
   where
@@ -220,15 +209,13 @@ break_by {white = white} false spliced r rs i p f =
     (sym (p.space_white (space_before p.before spliced (folded_body (r ∷ rs)) (shown_lines (r ∷ rs)) p.spaces)))
     (by spliced p)
   where
-    by : (spliced : Bool) →
-        IsPlace white (bytes_after false spliced (r ∷ rs)) (shown_after false spliced (r ∷ rs)) →
+    by : (spliced : Bool) → IsPlace white (bytes_after false spliced (r ∷ rs)) (shown_after false spliced (r ∷ rs)) →
         IsSpread true (shown_after false spliced (r ∷ rs)) (all_masked (r ∷ rs))
     by true q = behind space refl (behind space refl (f (next_place (next_place q))))
     by false q = behind space refl (f (next_place q))
 
-spread_by : {white : Bool} (p m : List ℕ) (outside spliced : Bool) (rs : List Reading) →
-    Each IsMeasured rs → length m ≡ length p →
-    IsPlace white (p ++ bytes_after outside spliced rs) (m ++ shown_after outside spliced rs) →
+spread_by : {white : Bool} (p m : List ℕ) (outside spliced : Bool) (rs : List Reading) → Each IsMeasured rs →
+    length m ≡ length p → IsPlace white (p ++ bytes_after outside spliced rs) (m ++ shown_after outside spliced rs) →
     IsSpread white (m ++ shown_after outside spliced rs) (m ++ all_masked rs)
 spread_by p m outside spliced [] i l q = kept_all p m l q (λ now j. nothing)
 spread_by p m outside spliced (r ∷ rs) i l q =
@@ -386,8 +373,7 @@ each_continued : (rs : List Reading) → Each IsMeasured rs → Each IsMeasured 
 each_continued [] i = tt
 each_continued (r ∷ rs) i = by r.scan.joins_before (each_continued rs i.1)
   where
-    by : (b : Bool) → Each IsMeasured (continued rs) →
-        Each IsMeasured (if b then r ∷ continued rs else [])
+    by : (b : Bool) → Each IsMeasured (continued rs) → Each IsMeasured (if b then r ∷ continued rs else [])
     by true j = (i.0, j)
     by false j = tt
 

@@ -119,8 +119,7 @@ reread (g ∷ gs) (i, inr (e, n), a) = grind (arith, append-nil, i.read, e)
 
 joins_next : (before : List Reading) (l k : Line) →
     (scan_after (with_next before C l) C k).joins_before ≡ (scan_after before C l).joins_after
-joins_next before l k =
-    simp (joins_before-code, joins_after-code, run_of_last) refl
+joins_next before l k = simp (joins_before-code, joins_after-code, run_of_last) refl
 
 -- A line of a logical line joins the next one, if that is joined.
 pub next_joined : (r s : Reading) (rs : List Reading) → IsLogical (r ∷ s ∷ rs) → r.scan.joins_after ≡ s.scan.joins_before

@@ -230,5 +230,4 @@ unended_keeps v k t (s, w) =
 -- The output for a line, split again into body and ending.
 pub left_line : (v : Verdict) (k : Span) (n m : ℕ) (t : List ℕ) → IsLeft v → IsWhole t ⊎ IsUnterminated t →
     line_at m (piece_by v k (line_at n t)) ≡ record { body = edited_body v k (body_of t); ending = ending_of t; number = m }
-left_line v k n m t h w =
-    grind (arith, piece_parts, whole_keeps, unended_keeps, take_at, length-append)
+left_line v k n m t h w = grind (arith, piece_parts, whole_keeps, unended_keeps, take_at, length-append)

@@ -199,8 +199,7 @@ module _ (b : Bool) where
 
   text_items : (rs : List Reading) → Each IsTextLine rs → map (item_with bytes_now) (map (λ (r : Reading). text_line (r ∷ [])) rs) ≡ map bytes_item rs
   text_items [] h = refl
-  text_items (r ∷ rs) h =
-      grind (arith, one_now r, text_as (content_of r.scan) (one r) h.0, text_items rs h.1)
+  text_items (r ∷ rs) h = grind (arith, one_now r, text_as (content_of r.scan) (one r) h.0, text_items rs h.1)
 
   -- A directive, with the readings of its one line.
   directive_items : (r : Reading) (rs : List Reading) (d e : Directive) (k : Reading) → content_of r.scan ≡ directive d → content_of k.scan ≡ directive e →

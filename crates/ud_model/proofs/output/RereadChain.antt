@@ -58,5 +58,4 @@ module _ (o : Options) (p : IsPlain o) where
   -- The items of the output, read again.
   pub again : (xs : List (Item Reading)) (t : Tree Reading) → AreFaultless o xs t → AllButLast (map line_of xs) → (ys : List (Item Reading)) × Again o (the_mode o) xs t ys
   again _ _ no_lines h = ([], (start o (the_mode o)).again)
-  again _ _ (one_more xs t s l u e n) h =
-      grind (arith, ends_before, lines_with_next, between, one_step)
+  again _ _ (one_more xs t s l u e n) h = grind (arith, ends_before, lines_with_next, between, one_step)

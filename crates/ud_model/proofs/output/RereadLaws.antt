@@ -263,8 +263,7 @@ module _ (o : Options) (p : IsPlain o) (text : List ℕ) (ys : List (Item Readin
 -- No line of the output is faulty, and neither is its end.
 output_sound : (o : Options) (p : IsPlain o) (input : List ℕ) {r : Outcome} (ns : Nodes Reading) (z : Result o p input r ns) → LinesFit (lines_of r.output) →
     HasNoFault o (lines_of r.output) z.is_tree.items (closed z.tree) × (end_fault z.is_tree.items (closed z.tree) ≡ None)
-output_sound o p input ns z f =
-    grind (arith, sound_again, fit_short, undecided_stay, output_undecided)
+output_sound o p input ns z f = grind (arith, sound_again, fit_short, undecided_stay, output_undecided)
 
 -- An output whose lines fit is printed as it is, if the input has this tree.
 again_law : (o : Options) → IsPlain o → (input : List ℕ) → {r : Outcome} → HasOutcome o input r → r.fault ≡ None → LinesFit (lines_of r.output) →

@@ -50,8 +50,7 @@ record MarkedMore (t t2 u u2 : Tree Reading) (x y : Item Reading) : Type 0 where
 
 -- A directive keeps as much, since it is no text.
 directive_keeps : (x y : Item Reading) (m n : Mark) → reading_of y ≡ reading_of x →
-    1 ≤ (keyword_in (content_of (reading_of x).scan)).len →
-    KeepsAsMuch (judged_line y n) (judged_line x m)
+    1 ≤ (keyword_in (content_of (reading_of x).scan)).len → KeepsAsMuch (judged_line y n) (judged_line x m)
 directive_keeps x y m n e h = grind arith
 
 marked_more : {t t2 u u2 : Tree Reading} {x y : Item Reading} → Adds t x t2 → Adds u y u2 → LooserTree t u → LooserItem x y → HasSome x → MarkedMore t t2 u u2 x y

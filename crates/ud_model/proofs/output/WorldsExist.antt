@@ -40,8 +40,7 @@ with_truth n b v r = if r.line.number == n then b else v r
 
 later_same : (n m : ℕ) (b : Bool) (v : World Reading) (rs : List Reading) → n < m → Rise m rs → map (with_truth n b v) rs ≡ map v rs
 later_same n m b v [] l h = refl
-later_same n m b v (r ∷ rs) l h =
-    grind (arith, later_same n (suc r.line.number) b v rs (omega (arith, l, h.0)) h.1)
+later_same n m b v (r ∷ rs) l h = grind (arith, later_same n (suc r.line.number) b v rs (omega (arith, l, h.0)) h.1)
 
 truths_by : (n : ℕ) (rs : List Reading) (bs : List Bool) → length bs ≡ length rs → Rise n rs → (v : World Reading) × (map v rs ≡ bs)
 truths_by n [] [] e h = ((λ r. true), refl)

@@ -39,8 +39,7 @@ inside_size : (q : ℕ) {inside : List ℕ} (rest : List ℕ) → is_quote q ≡
 inside_size q rest h nothing = sym (zero-add (literal_size q false rest))
 inside_size q rest h (plain {a = a} {rest = inside} no_newline no_quote no_backslash i) =
     grind (arith, inside_size q rest h i)
-inside_size q rest h (passed {b = b} {rest = inside} no_newline i) =
-    grind (arith, inside_size q rest h i)
+inside_size q rest h (passed {b = b} {rest = inside} no_newline i) = grind (arith, inside_size q rest h i)
 
 -- A lexeme of this kind with so many bytes after its first.
 abbrev pub extent : LexemeKind → ℕ → Extent
@@ -63,10 +62,8 @@ piece_single b rest h f = grind arith
 pub piece_size : {k : LexemeKind} (a : ℕ) (tail rest : List ℕ) → IsLexeme (a ∷ tail) rest k → lexeme_at a (tail ++ rest) ≡ extent k (length tail)
 unfolding lexeme_at
 piece_size a tail rest (closed_comment inside e n) = grind (arith, extent, close_size)
-piece_size a tail rest (open_comment inside e n none) =
-    grind (arith, extent, append-nil, open_size)
-piece_size a tail rest (to_line_end inside e n at_end) =
-    grind (arith, extent, line_inside_size)
+piece_size a tail rest (open_comment inside e n none) = grind (arith, extent, append-nil, open_size)
+piece_size a tail rest (to_line_end inside e n at_end) = grind (arith, extent, line_inside_size)
 piece_size a tail rest (closed_literal q inside h e i) =
     at_bytes literal a q tail (inside ++ q ∷ []) rest e
     (piece_literal q ((inside ++ q ∷ []) ++ rest) h
@@ -111,8 +108,7 @@ cut_piece k (a ∷ tail) rest p =
 pub cut_cells : (text : List ℕ) (pieces : List Lexeme) → AreLexemes pieces text → cells_of pieces ≡ lex text
 unfolding lex lex_from
 cut_cells text [] e = sym (ap lex e)
-cut_cells text (p ∷ pieces) (rest, e, is, others) =
-    grind (arith, cut_piece, cut_cells rest pieces others)
+cut_cells text (p ∷ pieces) (rest, e, is, others) = grind (arith, cut_piece, cut_cells rest pieces others)
 
 -- Two texts with parts of the same length are equal part by part.
 pub same_front : (s t rest more : List ℕ) → s ++ rest ≡ t ++ more → length s ≡ length t → (s ≡ t) × (rest ≡ more)

@@ -196,8 +196,7 @@ texts_of-formed [] h = refl
 texts_of-formed (l ∷ []) (inl whole) = grind (arith, split_lines-line-prefix)
 texts_of-formed (l ∷ []) (inr (some, none)) =
     sym (ap texts_of (append-nil l) ∙ ap (λ (q : SplitLines). q.whole ++ last_line q.rest) (split_lines-open l none) ∙ last_line-some l some)
-texts_of-formed (l ∷ m ∷ ls) (whole, rest) =
-    grind (arith, split_lines-line-prefix, texts_of-formed (m ∷ ls) rest)
+texts_of-formed (l ∷ m ∷ ls) (whole, rest) = grind (arith, split_lines-line-prefix, texts_of-formed (m ∷ ls) rest)
 
 -- The lines of a text are these and no others.
 pub lines_are : (t : List ℕ) (ls : List (List ℕ)) → AreLines t ls → ls ≡ texts_of t

@@ -42,8 +42,7 @@ fresh_clean text w white s r none =
     let size : length r.settled ≡ length text = omega (arith, settled_all r, ap (λ (cells : List Cell). length cells) none) in
     cc (r.splits s, take_at r.settled (cells_after w s) (length text) size, r.white_is)
 
-slash_first : (t c : Bool) (s : List ℕ) (x : List Cell) (m n : ℕ) →
-    (let piece : Extent =
+slash_first : (t c : Bool) (s : List ℕ) (x : List Cell) (m n : ℕ) → (let piece : Extent =
     if t then record { kind = block_comment; more = m }
     else if c then record { kind = line_comment; more = n }
     else record { kind = single; more = 0 } in
@@ -89,8 +88,7 @@ LexesTo-close text line w white r = grind (arith, append_assoc, append-nil, Lexe
 
 shown_at_end : (o : Bool) (text c : List ℕ) (w : LexState) (white : Bool) → LexesTo (text ++ c) w white →
     take (length c) (drop (length text) (mask ((text ++ c) ++ (if o then [] else newline ∷ [])))) ≡ drop (length text) (mask (text ++ c))
-shown_at_end true text c w white r =
-    grind (arith, append-nil, take_all, length-drop, length-mask, length-append)
+shown_at_end true text c w white r = grind (arith, append-nil, take_all, length-drop, length-mask, length-append)
 shown_at_end false text c w white r =
     ap (λ (l : List ℕ). take (length c) (drop (length text) l))
     (mask_step (text ++ c) w white newline r

@@ -92,8 +92,7 @@ step-in_literal q b u = literal_by q (b == newline) (b == q) (b == backslash) b 
 cells_from : ℕ → Extent → List ℕ → List Cell
 cells_from b e u = cell e.kind b ∷ lex_from e.kind e.more u
 
-text_by : (s q : Bool) (b : ℕ) (u : List ℕ) (x y : Extent) → s ≡ false →
-    cells_from b
+text_by : (s q : Bool) (b : ℕ) (u : List ℕ) (x y : Extent) → s ≡ false → cells_from b
     (if s && starts_with_byte star u then x
     else if s && starts_with_byte slash u then y
     else if q then record { kind = literal; more = literal_size b false u }
@@ -112,8 +111,7 @@ step-in_text : (b : ℕ) (u : List ℕ) → cells_after in_text (b ∷ u) ≡ se
 unfolding cells_after
 step-in_text b u = grind (arith, text_other)
 
-slash_by : (t s : Bool) (b : ℕ) (u : List ℕ) → (b == slash) ≡ s →
-    cells_from slash
+slash_by : (t s : Bool) (b : ℕ) (u : List ℕ) → (b == slash) ≡ s → cells_from slash
     (if t then record { kind = block_comment; more = suc (comment_size u) }
     else if s then record { kind = line_comment; more = suc (line_comment_size u) }
     else record { kind = single; more = 0 }) (b ∷ u)

@@ -102,8 +102,7 @@ stays bytes b rest more (single_byte c e h f) = single_byte c e h f
 -- A space after a text that begins with a lexeme, and goes on.
 behind_first : (before k : LexemeKind) (text bytes rest : List ℕ) → text ≡ bytes ++ rest → IsLexeme bytes rest k → (c : ℕ) (more : List ℕ) → rest ≡ c ∷ more →
     last_kind before (lex (spaced text)) ≡ last_kind k (lex (spaced rest))
-behind_first before k text bytes rest e p c more f =
-    grind (arith, stays, append_assoc, behind_piece)
+behind_first before k text bytes rest e p c more f = grind (arith, stays, append_assoc, behind_piece)
 
 -- A space after an open lexeme has its kind.
 behind_open : (before k : LexemeKind) (bytes : List ℕ) → IsOpen bytes k → last_kind before (lex (spaced bytes)) ≡ k
