@@ -1,22 +1,16 @@
 -- Examples: the values that C may give an expression, computed by the checker.
-use Rattle.std.proofs.Common.{◌≡◌, refl, ℕ, List, [], ◌∷◌, codes, Some, None, true}
-use Rattle.std.proofs.Common.{false, Bool, inl, inr, arith, pos, negsuc}
+use Rattle.std.proofs.Common.{◌≡◌, refl, ℕ, List, [], ◌∷◌, codes, Some, None, true, false, Bool, inl, inr, arith, pos, negsuc}
 use Rattle.ud_model.specs.conditions.Table.{Argument}
 use Rattle.ud_model.specs.conditions.Constants.{suffix_sign}
 use Rattle.ud_model.specs.conditions.Tokens.{next_token}
-use Rattle.ud_model.specs.conditions.Expressions.{Expression, constant, named, is_defined, unary}
-use Rattle.ud_model.specs.conditions.Expressions.{binary}
+use Rattle.ud_model.specs.conditions.Expressions.{Expression, constant, named, is_defined, unary, binary}
 use Rattle.ud_model.specs.aids.Parsing.{tokens_of, reads, expression_of}
 use Rattle.ud_model.specs.conditions.Symbols.{resolve}
-use Rattle.ud_model.specs.conditions.Values.{apply_binary_known, apply_unary_known, name_value}
-use Rattle.ud_model.specs.conditions.Values.{name_has_u, defined_value, number_of, value_of}
-use Rattle.ud_model.specs.conditions.CValues.{Number, Gives, IsConstantValue, signed, unsigned}
-use Rattle.ud_model.specs.conditions.CValues.{number, plain, by_suffix, by_size, CValue}
-use Rattle.ud_model.specs.conditions.CValues.{of_constant, of_known_name, of_known_defined}
-use Rattle.ud_model.specs.conditions.CValues.{of_open_defined, of_unary, of_binary, of_and_both}
+use Rattle.ud_model.specs.conditions.Values.{apply_binary_known, apply_unary_known, name_value, name_has_u, defined_value, number_of, value_of}
+use Rattle.ud_model.specs.conditions.CValues.{Number, Gives, IsConstantValue, signed, unsigned, number, plain, by_suffix, by_size, CValue}
+use Rattle.ud_model.specs.conditions.CValues.{of_constant, of_known_name, of_known_defined, of_open_defined, of_unary, of_binary, of_and_both}
 use Rattle.ud_model.specs.conditions.CValues.{of_or_both, IsCValue}
-use Rattle.ud_model.specs.declared.operator.Operator.TheVariants.{Or, And, Equal, Less, Plus, Minus}
-use Rattle.ud_model.specs.declared.operator.Operator.TheVariants.{Over, Remainder, Not, Complement}
+use Rattle.ud_model.specs.declared.operator.Operator.TheVariants.{Or, And, Equal, Less, Plus, Minus, Over, Remainder, Not, Complement}
 
 -- The argument that defines a name as a value, and the one that undefines it.
 abbrev pub sets : List ℕ → List ℕ → Argument

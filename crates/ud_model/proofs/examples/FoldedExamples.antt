@@ -4,8 +4,7 @@ use Rattle.std.specs.List.{flat_map}
 use Rattle.ud_model.specs.text.Lines.{split_lines, line_at}
 use Rattle.ud_model.specs.text.Lexemes.{lexeme_at, lex_from, lex, kind_at_end}
 use Rattle.ud_model.specs.text.Scanning.{joins, scan_after_run, next_reading}
-use Rattle.ud_model.specs.output.FoldedTexts.{folded_text, restored_text, unnumbered}
-use Rattle.ud_model.specs.output.FoldedTexts.{directive_line, other_lines, c_lines, logical_lines}
+use Rattle.ud_model.specs.output.FoldedTexts.{folded_text, restored_text, unnumbered, directive_line, other_lines, c_lines, logical_lines}
 use Rattle.ud_model.specs.output.LogicalTrees.{unknown_opener, c_items}
 use Rattle.ud_model.specs.output.InsertedLines.{read_as}
 use Rattle.ud_model.specs.sections.Tree.{if_line, text_line, item_with}

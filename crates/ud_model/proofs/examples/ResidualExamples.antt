@@ -2,16 +2,14 @@
 -- texts worked out by hand. A is undefined, B is 1 and N is -1.
 use Rattle.std.proofs.Common.{◌≡◌, refl, ℕ, List, [], ◌∷◌, ◌++◌, map, codes, false}
 use Rattle.ud_model.specs.text.Lines.{split_lines}
-use Rattle.ud_model.specs.text.Lexemes.{Cell, cells_in, single, literal, block_comment}
-use Rattle.ud_model.specs.text.Lexemes.{line_comment, lexeme_at, lex_from, lex, kind_at_end}
+use Rattle.ud_model.specs.text.Lexemes.{Cell, cells_in, single, literal, block_comment, line_comment, lexeme_at, lex_from, lex, kind_at_end}
 use Rattle.ud_model.specs.text.Scanning.{joins, scan_after_run}
 use Rattle.ud_model.specs.conditions.Table.{Argument}
 use Rattle.ud_model.specs.conditions.Constants.{suffix_sign}
 use Rattle.ud_model.specs.conditions.Tokens.{next_token}
 use Rattle.ud_model.specs.aids.Parsing.{tokens_of, reads, expression_of}
 use Rattle.ud_model.specs.conditions.Symbols.{resolve}
-use Rattle.ud_model.specs.conditions.Values.{name_value, name_has_u, defined_value}
-use Rattle.ud_model.specs.conditions.Values.{apply_binary_known, apply_unary_known}
+use Rattle.ud_model.specs.conditions.Values.{name_value, name_has_u, defined_value, apply_binary_known, apply_unary_known}
 use Rattle.ud_model.specs.conditions.Conditions.{Rules}
 use Rattle.ud_model.specs.conditions.ResidualTexts.{simplified_cells}
 use Rattle.ud_model.specs.output.SimplifiedTexts.{simplified_text}

@@ -1,7 +1,6 @@
 -- Examples: what is selected in a world, and in the worlds that C may give a text, computed by the
 -- checker.
-use Rattle.std.proofs.Common.{◌≡◌, refl, ℕ, ◌==◌, ◌||◌, List, [], ◌∷◌, codes, Some, None, Bool}
-use Rattle.std.proofs.Common.{true, false, arith, pos}
+use Rattle.std.proofs.Common.{◌≡◌, refl, ℕ, ◌==◌, ◌||◌, List, [], ◌∷◌, codes, Some, None, Bool, true, false, arith, pos}
 use Rattle.std.specs.List.{Contains}
 use Rattle.ud_model.specs.text.Scans.{Reading, plain_scan}
 use Rattle.ud_model.specs.conditions.Table.{Argument}
@@ -11,10 +10,8 @@ use Rattle.ud_model.specs.aids.Parsing.{tokens_of, reads, expression_of}
 use Rattle.ud_model.specs.conditions.Symbols.{resolve}
 use Rattle.ud_model.specs.conditions.Constants.{suffix_sign}
 use Rattle.ud_model.specs.conditions.Values.{name_value, name_has_u, apply_binary_known}
-use Rattle.ud_model.specs.conditions.CValues.{signed, of_and_left}
-use Rattle.ud_model.specs.conditions.CValues.{of_open_name, of_known_name}
-use Rattle.ud_model.specs.sections.Tree.{Nodes, Opener, nothing, text, section, conditional}
-use Rattle.ud_model.specs.sections.Tree.{otherwise, first, elif}
+use Rattle.ud_model.specs.conditions.CValues.{signed, of_and_left, of_open_name, of_known_name}
+use Rattle.ud_model.specs.sections.Tree.{Nodes, Opener, nothing, text, section, conditional, otherwise, first, elif}
 use Rattle.ud_model.specs.output.Worlds.{World, selected, Agrees}
 use Rattle.ud_model.specs.output.CSelection.{condition_in, MayBe, IsCWorld}
 use Rattle.ud_model.specs.output.GoneSymbols.{names_in_conditions}

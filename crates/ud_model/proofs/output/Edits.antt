@@ -26,8 +26,7 @@ ends_behind : (cs : List Cond) (c : Cond) → any_true cs ≡ true → (any_true
 ends_behind [] c e = cc
 ends_behind (Yes ∷ []) c e = (refl, refl)
 ends_behind (Yes ∷ d ∷ cs) c e = (refl, refl)
-ends_behind (No ∷ cs) c e = ends_behind cs c e
-ends_behind (Unknown ∷ cs) c e = ends_behind cs c e
+ends_behind (_ ∷ cs) c e = ends_behind cs c e
 
 -- Each opener does so.
 pub opener_moves : (cs : List Cond) (part : Part) (c : Cond) → Moves (is_past cs) (verdict_so_far cs part c) (is_past (cs ++ c ∷ []))

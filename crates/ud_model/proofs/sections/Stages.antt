@@ -26,8 +26,7 @@ abbrev pub stage_inside : List Cond → Stage
 stage_inside [] = going
 stage_inside (Yes ∷ []) = at_true
 stage_inside (Yes ∷ c ∷ cs) = past
-stage_inside (No ∷ cs) = stage_inside cs
-stage_inside (Unknown ∷ cs) = stage_inside cs
+stage_inside (_ ∷ cs) = stage_inside cs
 
 -- The stage after groups with these conditions.
 abbrev pub stage : List Cond → Stage
