@@ -15,10 +15,11 @@ one_change o x c d p q = grind arith
 one_constant : (w : List ℕ) (c d : Number) → IsConstantValue w c → IsConstantValue w d → c ≡ d
 one_constant w c d h g = grind arith
 
-no_and : (x y c : Number) → Gives And x y c → ⊥
+-- `&&` and `||` give no value by the operators between numbers.
+pub no_and : (x y c : Number) → Gives And x y c → ⊥
 no_and x y c g = grind arith
 
-no_or : (x y c : Number) → Gives Or x y c → ⊥
+pub no_or : (x y c : Number) → Gives Or x y c → ⊥
 no_or x y c g = grind arith
 
 zero_alike : (x y : Number) → x ≡ y → IsZero x → IsZero y

@@ -15,6 +15,7 @@ use Rattle.ud_model.specs.declared.cond.Cond.TheVariants.{Yes, No}
 use Rattle.ud_model.specs.declared.operator.Operator.TheVariants.{Or, And, Not}
 use Rattle.ud_model.proofs.conditions.ChoiceValues.{choice_may}
 use Rattle.ud_model.proofs.conditions.DecidedConditions.{yes_is_true, no_is_false}
+use Rattle.ud_model.proofs.conditions.OneValue.{no_and, no_or}
 
 -- The residual's condition is the truth of the value `c`, and so is the truth of its tree.
 pub record Tells (x : Residual) (m : Choice x.tree) (c : Number) : Type 0 where
@@ -181,14 +182,6 @@ module _ (strict : Bool) (x y : Residual) (m : Choice x.tree) (k : Choice y.tree
           has = of_or_both t.has (t.same.0 z) s.has (truth_alike (IsZero w → ⊥) (IsZero s.value → ⊥) c g (not_alike s.same));
           same = ((λ q. q), (λ q. q));
         }
-
--- 6. `&&` and `||` give no value by the operators between numbers.
-
-no_and : (x y c : Number) → Gives And x y c → ⊥
-no_and x y c g = grind arith
-
-no_or : (x y c : Number) → Gives Or x y c → ⊥
-no_or x y c g = grind arith
 
 module _ (table : List Argument) (rules : Rules) where
   -- The residual tells the truth of the whole.

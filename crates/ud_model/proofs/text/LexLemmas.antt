@@ -123,19 +123,14 @@ first_same k l [] t rest more p q e = absurd (some_bytes rest p)
 first_same k l (a ∷ s) [] rest more p q e = absurd (some_bytes more q)
 first_same k l (a ∷ s) (b ∷ t) rest more p q e = grind (arith, piece_size, same_front)
 
+empty_first : (k : LexemeKind) (bytes behind : List ℕ) → bytes ++ behind ≡ [] → IsLexeme bytes behind k → ⊥
+empty_first k bytes behind e p = grind arith
+
 -- A text has lexemes in one way at most.
 pub cut_unique : (text : List ℕ) (pieces others : List Lexeme) → AreLexemes pieces text → AreLexemes others text → pieces ≡ others
 cut_unique text [] [] e f = refl
-cut_unique text [] (q ∷ others) e (more, f, is, rest) =
-    absurd (empty_first q.kind q.bytes more (sym f ∙ e) is)
-  where
-    empty_first : (k : LexemeKind) (bytes behind : List ℕ) → bytes ++ behind ≡ [] → IsLexeme bytes behind k → ⊥
-    empty_first k bytes behind e p = grind arith
-cut_unique text (p ∷ pieces) [] (more, f, is, rest) e =
-    absurd (empty_first p.kind p.bytes more (sym f ∙ e) is)
-  where
-    empty_first : (k : LexemeKind) (bytes behind : List ℕ) → bytes ++ behind ≡ [] → IsLexeme bytes behind k → ⊥
-    empty_first k bytes behind e p = grind arith
+cut_unique text [] (q ∷ others) e (more, f, is, rest) = absurd (empty_first q.kind q.bytes more (sym f ∙ e) is)
+cut_unique text (p ∷ pieces) [] (more, f, is, rest) e = absurd (empty_first p.kind p.bytes more (sym f ∙ e) is)
 cut_unique text (p ∷ pieces) (q ∷ others) (rest, e, is, behind) (more, f, are, beyond) =
     let same = first_same p.kind q.kind p.bytes q.bytes rest more is are (sym e ∙ f) in
     let first : p ≡ q = ap₂ (λ (k : LexemeKind) (b : List ℕ). let x : Lexeme = record { kind = k; bytes = b } in x) same.0 same.1 in
