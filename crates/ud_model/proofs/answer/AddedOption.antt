@@ -43,9 +43,7 @@ letters_none n (c ∷ cs) = go (is_flag c) (takes_argument c) (letters_none n cs
 
     go : (f t : Bool) → NoOperand (letters_give n cs).given →
         NoOperand (if f then then_gives (flag c) (letters_give n cs) else if t then option_gives c n cs else then_gives (unknown c) (letters_give n cs)).given
-    go true t k = a_flag c k
-    go false true k = by_rest cs
-    go false false k = an_unknown c k
+    go b t k = grind (arith, a_flag, by_rest, an_unknown)
 
 -- which option waits doesn't depend on the word's number
 waits_same : (n m : ℕ) (cs : List ℕ) → (letters_give n cs).waits ≡ (letters_give m cs).waits

@@ -1,6 +1,6 @@
 -- Conditions: two tables decide a condition alike if they have the same entry for each of its
 -- names, and for those to which these lead.
-use Rattle.std.proofs.Common.{◌≡◌, ℕ, List, Bool, true, not, ◌&&◌, ◌||◌, Option, Some, None, is_some, if◌then◌else◌, refl, sym, ◌∙◌, ap, ap₂, arith, rules}
+use Rattle.std.proofs.Common.{◌≡◌, ℕ, List, Bool, true, ◌&&◌, ◌||◌, Option, Some, None, is_some, refl, sym, ◌∙◌, ap, ap₂, arith, rules}
 use Rattle.ud_model.specs.text.Bytes.{is_identifier}
 use Rattle.ud_model.specs.text.Scans.{Reading}
 use Rattle.ud_model.specs.sections.Directives.{Content}
@@ -9,7 +9,7 @@ use Rattle.ud_model.specs.conditions.Symbols.{defined_text, text_in, ResolvesTo,
 use Rattle.ud_model.specs.conditions.Expressions.{Expression, constant, named, is_defined, unary, binary, parens}
 use Rattle.ud_model.specs.aids.Parsing.{expression_of}
 use Rattle.ud_model.specs.conditions.Values.{apply_unary, apply_binary, name_value, name_value_by, name_has_u, end_has_u, defined_value, defined_value_by, number_of, has_unsigned}
-use Rattle.ud_model.specs.conditions.Conditions.{Rules, mentions_listed, undefined_by, calls_undefined, tree_cond_if, expression_cond, decision_by_test, Decision, ifdef_by, ifdef_decision, undecided}
+use Rattle.ud_model.specs.conditions.Conditions.{Rules, mentions_listed, undefined_by, calls_undefined, tree_cond_if, expression_cond, decision_by_test, ifdef_by, ifdef_decision}
 use Rattle.ud_model.specs.conditions.Names.{names_in, names_in_tree, name_alone, names_by}
 use Rattle.ud_model.specs.sections.Items.{Options, rules_of, item_by}
 use Rattle.ud_model.specs.answer.Listing.{names_in_content}

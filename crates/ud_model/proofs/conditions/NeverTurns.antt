@@ -92,10 +92,7 @@ right_back b _ x y _ (or_some h) = back (Some (pos 1)) (apply_binary_known b Or 
 
 -- Two operands that decide give the same value.
 two_decide : (o : Operator) (x y : ℤ) (d e : Option ℤ) → Decides o x d → Decides o y e → After d e
-two_decide o x y _ _ by_none k z f = absurd (none-some z f)
-two_decide _ x y _ _ (and_zero h) (and_zero k) z f = inl f
-two_decide _ x y _ _ (or_some h) (or_some k) z f = inl f
-two_decide _ _ _ _ _ _ by_none _ _ = inr refl
+two_decide o x y d e g k z f = grind (arith, none-some)
 
 -- 2. Expressions.
 

@@ -1,5 +1,5 @@
 -- A text in two parts, computed: which texts may come first, and the fault of the second one.
-use Rattle.std.proofs.Common.{◌≡◌, [], codes, true, false, None, Some, refl, ◌⊎◌, inl, inr, arith}
+use Rattle.std.proofs.Common.{◌≡◌, [], codes, true, false, None, Some, refl, ◌⊎◌, inr, arith}
 use Rattle.ud_model.specs.text.Lines.{lines_of, split_lines}
 use Rattle.ud_model.specs.text.Splicing.{last_is_spliced}
 use Rattle.ud_model.specs.sections.Items.{Options}
@@ -28,8 +28,7 @@ unfolding split_lines
 joined_line h = no_case h.unspliced
   where
     no_case : (false ≡ true) ⊎ (last_is_spliced (lines_of (codes "x\\\n")) ≡ false) → ⊥
-    no_case (inl e) = cc
-    no_case (inr e) = cc
+    no_case e = grind arith
 
 -- A line without a newline goes on with it.
 pub open_line : ¬ (MayBeParts no_options (codes "x") (codes "#if A\n"))

@@ -16,7 +16,7 @@ use Rattle.ud_model.specs.sections.Pruning.{marked, any_true, is_kept, an_if, an
 use Rattle.ud_model.specs.aids.SoFar.{verdict_so_far, nodes_so_far, groups_so_far, elifs_so_far}
 use Rattle.ud_model.specs.sections.Items.{Options}
 use Rattle.ud_model.specs.output.CSelection.{condition_by_test, condition_in, MayBe}
-use Rattle.ud_model.specs.output.Processing.{Condition, condition_of_test, condition_with, condition_on, expression_written, Preprocessor, over_readings, DecidesAsC, AgreesAs, NoneTrue, first_false, elif_false}
+use Rattle.ud_model.specs.output.Processing.{Condition, condition_with, condition_on, expression_written, Preprocessor, over_readings, DecidesAsC, AgreesAs, NoneTrue, first_false, elif_false}
 use Rattle.ud_model.proofs.conditions.SpacesInFront.{condition_past}
 use Rattle.ud_model.proofs.output.Each.{Pairwise, pairwise_parts}
 use Rattle.ud_model.proofs.output.CConditions.{item_fits}

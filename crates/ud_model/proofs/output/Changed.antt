@@ -10,12 +10,12 @@ use Rattle.ud_model.specs.sections.Items.{Options, reading_of, line_of, mode_aft
 use Rattle.ud_model.specs.sections.Pruning.{Mark, Part, an_if, an_elif, an_else, marked, marks, is_kept, endif_verdict, conds_of_elifs, conds_of_groups}
 use Rattle.ud_model.specs.aids.SoFar.{verdict_so_far, nodes_so_far, groups_so_far, elifs_so_far}
 use Rattle.ud_model.specs.sections.Faults.{AreFaultless, no_lines, one_more, end_by}
-use Rattle.ud_model.specs.answer.Printing.{Judged, style_of, piece_alone, piece_after, pieces_by, some_other, judged_line, judged_lines, keyword_in, complemented, printed_by, some_differ_by}
+use Rattle.ud_model.specs.answer.Printing.{Judged, piece_alone, piece_after, pieces_by, some_other, judged_line, judged_lines, keyword_in, complemented, printed_by, some_differ_by}
 use Rattle.ud_model.specs.answer.Outcomes.{Outcome, HasOutcome}
 use Rattle.ud_model.specs.declared.cond.Cond.{Cond}
 use Rattle.ud_model.specs.declared.cond.Cond.TheVariants.{Yes}
 use Rattle.ud_model.specs.declared.verdict.Verdict.{Verdict}
-use Rattle.ud_model.specs.declared.verdict.Verdict.TheVariants.{Keep, Remove, ToIf, ToElse, ToEndif}
+use Rattle.ud_model.specs.declared.verdict.Verdict.TheVariants.{Keep, Remove, ToEndif}
 use Rattle.ud_model.specs.declared.kind.Mode.{Mode}
 use Rattle.ud_model.specs.declared.settings.Settings.{Settings}
 use Rattle.ud_model.specs.declared.settings.Listing.TheVariants.{Off}

@@ -25,7 +25,6 @@ use Rattle.ud_model.proofs.output.LeavesOff.{readings_last}
 use Rattle.ud_model.proofs.output.OutputPieces.{all_formed, all_pieces, output_lines}
 use Rattle.ud_model.proofs.output.RereadChain.{AllButLast, IsInner, ends_before, lines_end, next_is}
 use Rattle.ud_model.proofs.output.RereadLaws.{plain_output, left_piece, item_bytes}
-use Rattle.ud_model.proofs.output.RereadMore.{IsLine}
 use Rattle.ud_model.proofs.output.SharedLineLemmas.{reads_too}
 use Rattle.ud_model.proofs.output.Inserting.{lines_last}
 

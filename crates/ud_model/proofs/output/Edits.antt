@@ -7,7 +7,7 @@ use Rattle.ud_model.specs.sections.Pruning.{Part, an_if, any_true, gives_way, en
 use Rattle.ud_model.specs.aids.SoFar.{verdict_so_far}
 use Rattle.ud_model.specs.answer.Printing.{Judged, opener_keyword, piece_alone, complemented}
 use Rattle.ud_model.specs.declared.cond.Cond.{Cond}
-use Rattle.ud_model.specs.declared.cond.Cond.TheVariants.{Yes, No, Unknown}
+use Rattle.ud_model.specs.declared.cond.Cond.TheVariants.{Yes, No}
 use Rattle.ud_model.specs.declared.verdict.Verdict.{Verdict}
 use Rattle.ud_model.specs.declared.verdict.Verdict.TheVariants.{Keep, Remove, ToEndif}
 use Rattle.ud_model.proofs.output.Sizes.{whole}

@@ -226,8 +226,7 @@ spread_by p m outside spliced (r ∷ rs) i l q =
 
 -- But for white space the bytes are the same.
 spaced_front : (white : Bool) (t : List ℕ) → begins_white t ≡ true → spaced true t ≡ spaced white t
-spaced_front white [] e = refl
-spaced_front white (b ∷ t) e = grind arith
+spaced_front white t e = grind arith
 
 spread_bytes : {white : Bool} {u t : List ℕ} → IsSpread white u t → spaced white u ≡ spaced white t
 spread_bytes nothing = refl
@@ -236,10 +235,7 @@ spread_bytes (behind b e s) = grind (arith, spread_bytes s)
 spread_bytes {white = white} (in_front {t = t} b e f s) = grind (arith, spread_bytes s, spaced_front white t f)
 
 spread_more : {white : Bool} {u t : List ℕ} → IsSpread white u t → IsSpread true u t
-spread_more nothing = nothing
-spread_more (kept b s) = kept b s
-spread_more (behind b e s) = behind b e s
-spread_more (in_front b e f s) = in_front b e f s
+spread_more s = grind (arith, nothing, kept, behind, in_front)
 
 -- 3. The directive of the folded line.
 

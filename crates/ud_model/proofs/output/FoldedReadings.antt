@@ -62,8 +62,7 @@ joined_first [] (r ∷ more) j s = (ap (λ (b : Bool). if b then r ∷ continued
 joined_first (r ∷ rs) more j s = let q = joined_first rs more j.1 s in grind (arith, q)
 
 one_first : (g more : List Reading) → IsOne g → StartsAnew more → logical_lines (g ++ more) ≡ g ∷ logical_lines more
-one_first [] more o s = absurd o
-one_first (r ∷ rs) more o s = let q = joined_first rs more o.1 s in grind (arith, q)
+one_first rs more o s = grind (arith, joined_first)
 
 -- The lines are one logical line, read by itself.
 pub record IsLogical (g : List Reading) : Type 0 where
@@ -130,8 +129,7 @@ next_joined r s rs i =
     ap (λ (x : Reading). x.scan.joins_after) (sym p) ∙ sym (joins_next [] r.line s.line) ∙ ap (λ (x : Reading). x.scan.joins_before) q
 
 one_more : (g : List Reading) (r : Reading) → IsOne g → IsJoined r → IsOne (g ++ r ∷ [])
-one_more [] r o j = absurd o
-one_more (q ∷ rs) r o j = (o.0, each_both IsJoined rs (r ∷ []) o.1 (j, tt))
+one_more rs r o j = grind (arith, each_both)
 
 grown : (g : List Reading) (l : Line) → IsLogical g → IsJoined (next_reading g C l) → IsLogical (with_next g C l)
 grown g l i j = record {
@@ -207,13 +205,11 @@ inner_lines [] n = tt
 inner_lines (l ∷ ls) n = (n.0.1, inner_lines ls n.1)
 
 lines_of_one : (g : List Reading) (gs : List (List Reading)) → Ends g gs → Each IsLine (map line_of g)
-lines_of_one g gs (inl (e, n)) = inner_lines (map line_of g) n
-lines_of_one g gs (inr (e, a)) = are_lines (map line_of g) a
+lines_of_one g gs c = grind (arith, inner_lines, are_lines)
 
 -- A line has no newline in its body.
 body_open : (l : Line) → IsLine l → NoNewline l.body
-body_open l (n, t, e, inl w) = rw e (whole_body t w)
-body_open l (n, t, e, inr w) = rw e (no_feed_cut _ t w.1).0
+body_open l h = grind (arith, whole_body, no_feed_cut)
 
 part_open : (outside : Bool) (l : Line) → NoNewline l.body → NoNewline ((if outside then content l else l.body) ++ vertical_tab ∷ [])
 part_open true l n =

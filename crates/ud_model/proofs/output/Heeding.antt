@@ -11,7 +11,6 @@ use Rattle.ud_model.specs.sections.Faults.{AreFaultless, no_lines, one_more}
 use Rattle.ud_model.specs.output.Rereading.{NoneIgnores, AreRead, no_items, one_item}
 use Rattle.ud_model.specs.declared.kind.Mode.{Mode}
 use Rattle.ud_model.proofs.output.Each.{Each, each_parts, each_both}
-use Rattle.ud_model.proofs.sections.Growth.{Adds}
 use Rattle.ud_model.proofs.sections.Unique.{unique, tree_before}
 
 -- The items, each of a line that is read in this mode after those before.

@@ -19,7 +19,6 @@ use Rattle.ud_model.proofs.output.Heeding.{ReadIn, none_read, one_read, the_mode
 use Rattle.ud_model.proofs.output.CountedText.{counted_text}
 use Rattle.ud_model.proofs.output.ListComplete.{read_more}
 use Rattle.ud_model.proofs.output.InsertedTree.{items, Inserted, strewn_counted, weave_inserted}
-use Rattle.ud_model.proofs.output.WovenTrees.{Woven}
 
 -- The readings of items are those from which they come.
 pub readings_back : (o : Options) (rs : List Reading) → map reading_of (items o rs) ≡ rs

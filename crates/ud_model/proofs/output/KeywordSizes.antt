@@ -1,15 +1,11 @@
 -- The lengths of keywords, and their positions in a line.
-use Rattle.std.proofs.Common.{◌≡◌, ℕ, ◌+◌, ◌≤◌, List, length, Bool, Some, if◌then◌else◌, refl, arith, rules}
-use Rattle.std.proofs.lemmas.Bool.{leb-true}
-use Rattle.std.proofs.Math.Dec.{leb}
+use Rattle.std.proofs.Common.{◌≡◌, ℕ, ◌+◌, ◌≤◌, length, Bool, if◌then◌else◌, refl, arith, rules}
 use Rattle.ud_model.specs.text.Scans.{Scan, Reading}
-use Rattle.ud_model.specs.sections.Directives.{Content, cut_keyword, directive, content_of, skip_white_and_hash, has_split_keyword, content_after_hash, kind_of, role_of}
+use Rattle.ud_model.specs.sections.Directives.{Content, cut_keyword, directive, content_of, skip_white_and_hash, has_split_keyword, content_after_hash, role_of}
 use Rattle.ud_model.specs.sections.Tree.{Item, elif_line, else_line, endif_line}
 use Rattle.ud_model.specs.sections.Items.{Options, item_by, item_of}
 use Rattle.ud_model.specs.answer.Printing.{keyword_in}
 use Rattle.ud_model.proofs.sections.KeywordLies.{keyword_lies}
-use Rattle.ud_model.proofs.sections.Keywords.{each_keyword}
-use Rattle.ud_model.specs.declared.kind.Kind.{Kind}
 use Rattle.ud_model.specs.declared.kind.Role.{Role}
 use Rattle.ud_model.specs.declared.kind.Role.TheVariants.{IfGroup, ElifGroup, ElseGroup, EndifLine}
 

@@ -16,7 +16,7 @@ use Rattle.ud_model.proofs.output.ByLength.{each_length}
 use Rattle.ud_model.proofs.output.Each.{Each}
 use Rattle.ud_model.proofs.output.Formed.{EndsIn, edited_body}
 use Rattle.ud_model.proofs.output.DirectiveFront.{Front, directive_front, StartsDark, are_inert, inert_word}
-use Rattle.ud_model.proofs.output.ExchangedScan.{Sane, drop_two, Exchanged, exchanged_scan, CutOff, cut_scan}
+use Rattle.ud_model.proofs.output.ExchangedScan.{Sane, drop_two, Exchanged, exchanged_scan, cut_scan}
 use Rattle.ud_model.proofs.sections.KeywordLies.{keyword_lies}
 use Rattle.ud_model.proofs.output.KeywordPlace.{IsInert, length-masked_after}
 use Rattle.ud_model.proofs.output.LeftLines.{LeftLine, same_open, if_splice, if_line_content, cut_splice, cut_line_content}

@@ -18,7 +18,6 @@ use Rattle.ud_model.specs.output.LogicalTrees.{unknown_opener, role_item, items_
 use Rattle.ud_model.specs.declared.kind.Kind.{Kind}
 use Rattle.ud_model.specs.declared.kind.Mode.TheVariants.{C}
 use Rattle.ud_model.specs.declared.kind.Role.{Role}
-use Rattle.ud_model.specs.declared.kind.Role.TheVariants.{IfGroup, ElifGroup, ElseGroup, EndifLine}
 use Rattle.ud_model.proofs.sections.Soundness.{read_lines}
 use Rattle.ud_model.proofs.output.Each.{Each, each_parts, each_both}
 use Rattle.ud_model.proofs.output.InsertedText.{items_are}
@@ -105,16 +104,13 @@ module _ {L : Type 0} (P : L → Type 0) (w : World L) where
   IfEach (Some ls) = Each P ls
 
   each_or : (s : Option (List L)) (ls : List L) → IfEach s → Each P ls → Each P (lines_or s ls)
-  each_or None ls a b = b
-  each_or (Some ks) ls a b = a
+  each_or o ls a b = grind arith
 
   each_else : (s t : Option (List L)) → IfEach s → IfEach t → IfEach (or_else s t)
-  each_else None t a b = b
-  each_else (Some ks) t a b = a
+  each_else o t a b = grind arith
 
   each_true : (b : Bool) (ls : List L) → Each P ls → IfEach (where_true b ls)
-  each_true true ls a = a
-  each_true false ls a = tt
+  each_true b ls a = grind arith
 
   mutual
     texts_selected : (ns : Nodes L) → Each IsText (lines_of_nodes ns) → Each P (selected w ns)
@@ -253,10 +249,7 @@ module _ (b : Bool) where
   IsOwn g = bytes_now g ≡ map line_bytes g
 
   own_role : (p : Role) (g : List Reading) (w : World (List Reading)) → IsText IsOwn w (role_item p g)
-  own_role IfGroup g w = tt
-  own_role ElifGroup g w = tt
-  own_role ElseGroup g w = tt
-  own_role EndifLine g w = tt
+  own_role role g w = grind arith
 
   own_items : (l : CLine) (g : List Reading) (w : World (List Reading)) → Each (IsText IsOwn w) (items_as l g)
   own_items (directive_line kind after) g w = (own_role (role_of kind) g w, tt)

@@ -1,5 +1,5 @@
 -- A text without a `#line`: each line's presumed number is its own.
-use Rattle.std.proofs.Common.{◌≡◌, ℕ, suc, ◌+◌, List, [], ◌∷◌, ◌++◌, length, map, Bool, true, Some, None, decimal, refl, sym, ◌∙◌, ap, subst, append_assoc, append-nil, length-append, arith}
+use Rattle.std.proofs.Common.{◌≡◌, ℕ, suc, ◌+◌, List, [], ◌∷◌, ◌++◌, length, map, Bool, true, None, refl, sym, ◌∙◌, ap, subst, append_assoc, append-nil, length-append, arith}
 use Rattle.std.proofs.lemmas.List.{map-append, length-map}
 use Rattle.ud_model.specs.text.Lines.{Line, lines_of, texts_of}
 use Rattle.ud_model.specs.text.Scans.{Reading}
@@ -9,7 +9,7 @@ use Rattle.ud_model.specs.output.PresumedLines.{line_operand, HaveNoLineDirectiv
 use Rattle.ud_model.specs.declared.kind.Mode.{Mode}
 use Rattle.ud_model.proofs.text.Pushes.{ByPush, none, push, by_push, push_not_nil}
 use Rattle.ud_model.proofs.output.CountedText.{InOrder, numbered_in_order, order_last}
-use Rattle.ud_model.proofs.output.PresumedNumbers.{LastLine, passed, processed, obeyed, last_by, none_last}
+use Rattle.ud_model.proofs.output.PresumedNumbers.{LastLine, last_by, none_last}
 
 abbrev line_of : Reading → Line
 line_of r = r.line
@@ -43,9 +43,7 @@ own_line ls d nil at h ps sure m p = by_last (last_by p ls d refl)
     longer = let e = length-append ls (d ∷ []) in omega (arith, e)
 
     by_last : {qs : List Presumed} {b : Bool} {k : ℕ} → LastLine ls d qs b k → (b ≡ true) × (k ≡ suc (length (ls ++ d ∷ []))) × HaveOwnNumbers qs
-    by_last (passed {ps = qs} {sure = b} {n = k} q) = grind (arith, longer)
-    by_last (processed {ps = qs} {sure = b} {n = k} q e) = grind (arith, longer, own_both)
-    by_last (obeyed {ps = qs} {sure = b} {n = k} q i g) = let e : None ≡ Some (decimal i) = sym nil ∙ g.operand in cc
+    by_last q = grind (arith, longer, own_both)
 
 own_first : Own []
 own_first ps sure m p = grind (arith, push_not_nil)

@@ -8,9 +8,9 @@ use Rattle.ud_model.specs.text.Lexemes.{LexemeKind, kind_at_end}
 use Rattle.ud_model.specs.text.Scans.{Reading}
 use Rattle.ud_model.specs.text.Scanning.{EndsLogicalLine, ends_with, is_block, comment_at, scan_after, scan_after_run}
 use Rattle.ud_model.specs.sections.Tree.{Item, Nodes, Tree, closed, nothing, lines, lines_of_nodes, is_ignoring}
-use Rattle.ud_model.specs.sections.Pruning.{Mark, marks, marks_of_nodes}
+use Rattle.ud_model.specs.sections.Pruning.{Mark, marks_of_nodes}
 use Rattle.ud_model.specs.sections.Items.{Options, reading_of, line_of, mode_by, mode_after, read_after, next_item}
-use Rattle.ud_model.specs.sections.Faults.{Fault, AreFaultless, no_lines, one_more, last_number, ends_in_comment, is_in_block, end_fault}
+use Rattle.ud_model.specs.sections.Faults.{Fault, AreFaultless, last_number, ends_in_comment, is_in_block, end_fault}
 use Rattle.ud_model.specs.answer.Printing.{Judged, piece_after, style_of, pieces_by, some_other, judged_lines}
 use Rattle.ud_model.specs.answer.Listing.{levels, levels_of_nodes, listed}
 use Rattle.ud_model.specs.answer.Outcomes.{Outcome, outcome_of, output_by, differs_by, HasNoFault, ReadsAs, HasOutcome, ran_as}
@@ -210,8 +210,7 @@ module _ (o : Options) (text : List ℕ) (whole : partial_line text ≡ []) (uns
 
   ends_alone : {xs : List (Item Reading)} {t : Tree Reading} → AreFaultless o xs t → lines_of text ≡ map line_of xs → ends_in_comment xs ≡ false →
       (map reading_of xs ≡ []) ⊎ EndsLogicalLine (map reading_of xs)
-  ends_alone no_lines are h = inl refl
-  ends_alone (one_more ys t s l u e none) are h = inr (alone_by ys t l (mode_after o t) refl are h)
+  ends_alone s are h = grind (arith, alone_by)
 
 -- 5. The law.
 

@@ -6,14 +6,12 @@ use Rattle.ud_model.specs.text.Scans.{Reading}
 use Rattle.ud_model.specs.text.Lexemes.{kind_at_end, lex, lex_from, lexeme_at}
 use Rattle.ud_model.specs.text.Scanning.{EndsLogicalLine, scan_after, joins}
 use Rattle.ud_model.specs.sections.Directives.{content_of}
-use Rattle.ud_model.specs.conditions.Conditions.{Decision}
 use Rattle.ud_model.specs.sections.Tree.{Item, Nodes, Tree, closed, lines, item_with}
 use Rattle.ud_model.specs.sections.Pruning.{Mark, marks, marks_of_nodes}
-use Rattle.ud_model.specs.sections.Items.{Options, reading_of, line_of, item_of, directive_item, mode_after, read_after, next_item}
-use Rattle.ud_model.specs.sections.Faults.{Fault, Case, past_last, too_long, cut, out_of_place, too_deep, obfuscated_case, cases, Holds, NoneHolds, is_cut, is_obfuscated, ends_removed, misplaced_fault, FaultOf, AreFaultless, no_lines, one_more}
-use Rattle.ud_model.specs.output.TextsInParts.{fault_later, fault_if_later}
+use Rattle.ud_model.specs.sections.Items.{Options, reading_of, line_of, item_of, mode_after, read_after, next_item}
+use Rattle.ud_model.specs.sections.Faults.{Fault, Case, past_last, too_long, cut, out_of_place, too_deep, obfuscated_case, cases, Holds, NoneHolds, is_cut, is_obfuscated, ends_removed, FaultOf, AreFaultless, no_lines, one_more}
+use Rattle.ud_model.specs.output.TextsInParts.{fault_later}
 use Rattle.ud_model.specs.declared.kind.Mode.{Mode}
-use Rattle.ud_model.specs.declared.kind.Role.{Role}
 use Rattle.ud_model.specs.declared.limits.TheConstants.{LINE_BYTES, TEXT_LINES}
 use Rattle.ud_model.proofs.text.ScanBytes.{bare, scan_after-same}
 use Rattle.ud_model.proofs.text.ScanLaws.{scan_alone, joins_before-code}

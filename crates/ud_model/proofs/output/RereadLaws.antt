@@ -38,7 +38,7 @@ use Rattle.ud_model.proofs.sections.Stays.{length_marks}
 use Rattle.std.proofs.lemmas.Slice.Eq.{bytes_eq-Decides}
 use Rattle.ud_model.proofs.output.Heeding.{the_mode, are_read}
 use Rattle.ud_model.proofs.output.OutputPieces.{line_in, pieces_formed, output_lines}
-use Rattle.ud_model.proofs.output.RereadMore.{Again, IsUncut}
+use Rattle.ud_model.proofs.output.RereadMore.{IsUncut}
 use Rattle.ud_model.proofs.output.SoundAgain.{sound_again, IsFew, fit_short, sound_low, sound_few, again_few}
 use Rattle.ud_model.proofs.output.PrunedHeights.{pruned_height, height-with}
 use Rattle.ud_model.specs.aids.Height.{height, height_of_nodes}

@@ -1,6 +1,6 @@
 -- Simplified again: a simplified text stays as it is, and each of its conditions is reduced, or may
 -- stay.
-use Rattle.std.proofs.Common.{◌≡◌, ℕ, ◌-◌, List, [], ◌∷◌, ◌++◌, length, map, take, drop, Bool, false, Some, None, if◌then◌else◌, refl, sym, ◌∙◌, ap, ap₂, subst, ◌⊎◌, inl, inr, arith, ◌+◌, ◌≤◌, true, not, Option, length-append}
+use Rattle.std.proofs.Common.{◌≡◌, ℕ, ◌-◌, List, [], ◌∷◌, ◌++◌, length, map, take, drop, Bool, false, Some, None, if◌then◌else◌, refl, sym, ◌∙◌, ap, ap₂, subst, ◌⊎◌, inl, inr, arith, ◌≤◌, true, not, Option, length-append}
 use Rattle.std.proofs.lemmas.List.{drop-map, take-append-drop, length-map}
 use Rattle.std.proofs.lemmas.Bool.{or_parts, cases_Bool, and_from, not_from_false, and_parts, not-true}
 use Rattle.ud_model.specs.text.Lines.{Line, text_of}
@@ -27,7 +27,7 @@ use Rattle.ud_model.proofs.output.SimplifiedReadings.{IsLeft, ReadingSimplified,
 use Rattle.std.specs.List.{list_any}
 use Rattle.ud_model.specs.conditions.Sublists.{IsSublist, nothing, without, with_same}
 use Rattle.ud_model.specs.output.InsertedLines.{read_in, read_as}
-use Rattle.ud_model.specs.output.LeftOperands.{IsReduced, MayStay, IsSimplified, joins_line, not_understood, has_quote, decided, rest_decided, rest_misread}
+use Rattle.ud_model.specs.output.LeftOperands.{IsReduced, IsSimplified, joins_line, not_understood, has_quote, decided, rest_decided, rest_misread}
 use Rattle.ud_model.specs.declared.kind.Mode.TheVariants.{C}
 use Rattle.ud_model.proofs.conditions.ReducedTrees.{fixed_reduced}
 

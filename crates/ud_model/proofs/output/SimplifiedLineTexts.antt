@@ -136,8 +136,7 @@ module _ (table : List Argument) (rules : Rules) where
 
   -- Of a line bytes are only removed.
   pub line_bytes : (l : Line) (scan : Scan) (k : Line) → Becomes table rules l scan k → IsSublist (text_of k) (text_of l)
-  line_bytes l scan _ it_stays = all_of_it (text_of l)
-  line_bytes l scan _ (it_changes d i) = of_both (left_body l d) (all_of_it l.ending)
+  line_bytes l scan c b = grind (arith, all_of_it, of_both, left_body)
 
   left_bytes : (rs : List Reading) → IsSublist (concat (map (λ (r : Reading). text_of (simplified_line table rules r)) rs)) (concat (map (λ (r : Reading). text_of r.line) rs))
   left_bytes [] = nothing

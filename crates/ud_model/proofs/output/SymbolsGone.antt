@@ -1,6 +1,6 @@
 -- Two tables give C the same choices for the conditions of nodes if they differ at a name alone that
 -- no condition has.
-use Rattle.std.proofs.Common.{◌≡◌, ◌≢◌, ◌↔◌, ℕ, List, [], ◌∷◌, ◌++◌, Bool, None, Some, Option, refl, sym, ◌∙◌, subst, arith}
+use Rattle.std.proofs.Common.{◌≡◌, ◌≢◌, ◌↔◌, ℕ, List, [], ◌∷◌, ◌++◌, Bool, Some, Option, sym, ◌∙◌, subst, arith}
 use Rattle.std.proofs.lemmas.List.Elements.{Contains-append_left, Contains-append_right}
 use Rattle.std.specs.List.{Contains, flat_map}
 use Rattle.ud_model.specs.text.Scans.{Reading}
@@ -49,8 +49,7 @@ module _ (t u : List Argument) where
 
   -- A truth that C may give a condition by the one table is one by the other.
   may_be_over : (o : Option Expression) (b : Bool) → ((e : Expression) → o ≡ Some e → has_unsigned t e ≡ has_unsigned u e) → Each (Same t u) (names_in_tree o) → MayBe t o b → MayBe u o b
-  may_be_over None b s h m = tt
-  may_be_over (Some e) b s h m = (m.0, value_over (has_unsigned u e) h (subst (λ (x : Bool). CValue t x e m.0) (s e refl) m.1), m.2)
+  may_be_over o b s h m = grind (arith, value_over)
 
 module _ {L : Type 0} (w : World L) (R S : L → Type 0) where
   abbrev pub Over : L → Type 0
