@@ -129,7 +129,7 @@ module _ (table : List Argument) (rules : Rules) where
 
   -- The simplified form of an unknown condition is unknown.
   pub simplified_unknown : (e : Expression) → tree_cond e table rules ≡ Unknown → tree_cond (simplified table rules e) table rules ≡ Unknown
-  simplified_unknown e h = unknown_by (residual table rules e) e (is_unknown (residual table rules e).cond) (is_unknown (tree_cond (residual table rules e).tree table rules)) refl refl h
+  simplified_unknown e h = grind (arith, unknown_by)
 
 -- 5. Each operand that is left is undecided.
 

@@ -1,5 +1,5 @@
 -- Under `-b` each line of the output has the position of the line that it is the output for.
-use Rattle.std.proofs.Common.{◌≡◌, ◌≢◌, None, append-nil, ℕ, suc, List, [], ◌∷◌, ◌++◌, length, map, Bool, true, ◌⊎◌, inl, inr, Option, refl, sym, ◌∙◌, ap, ap₂, subst, arith, rules}
+use Rattle.std.proofs.Common.{◌≡◌, ◌≢◌, None, append-nil, ℕ, suc, List, [], ◌∷◌, ◌++◌, map, Bool, true, ◌⊎◌, inl, inr, Option, refl, sym, ◌∙◌, ap, ap₂, subst, arith, rules}
 use Rattle.std.specs.List.{concat}
 use Rattle.ud_model.specs.text.Lines.{Line, line_at, lines_of, texts_of, numbered_from, ending_of, IsWhole, IsUnterminated, AreWhole, AreFormed, whole_lines, partial_line, last_line}
 use Rattle.ud_model.specs.text.Scans.{Reading}
@@ -153,7 +153,7 @@ lines_read {input = input} (ends xs t g) = (texts_of input, (lines_exist input).
 -- Each judged line is the line that was read.
 pub judged_read : {o : Options} {input : List ℕ} {xs : List (Item Reading)} {t : Tree Reading} {f : Option Fault} → ReadsAs o input xs t f →
     map (λ (j : Judged). j.line) (judged_lines xs (marks t)) ≡ map line_of xs
-judged_read {xs = xs} {t = t} a = judged_all xs (marks t) (length_marks true t ∙ ap (λ (ys : List (Item Reading)). length ys) (read_lines a))
+judged_read {xs = xs} {t = t} a = grind (arith, judged_all, length_marks, read_lines)
 
 pub blanked_places : (o : Options) (input : List ℕ) {xs : List (Item Reading)} {t : Tree Reading} {f : Option Fault} {r : Outcome} → o.settings.blank ≡ true → o.settings.listing ≡ Off →
     ReadsAs o input xs t f → HasOutcome o input r → AreBlankedLines o.settings.complement (judged_lines xs (marks t)) (lines_of r.output)

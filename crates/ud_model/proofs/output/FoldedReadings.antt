@@ -11,7 +11,7 @@ use Rattle.ud_model.specs.text.Splicing.{content}
 use Rattle.ud_model.specs.text.Scanning.{scan_after_run, scan_after, next_reading, with_next, readings_after, EndsLogicalLine, ends_with}
 use Rattle.ud_model.specs.sections.Directives.{Content, directive, Directive, content_of, is_outside}
 use Rattle.ud_model.specs.output.InsertedLines.{in_mode, read_in, read_as}
-use Rattle.ud_model.specs.output.FoldedTexts.{IsReadAs, vertical_tab, has_tab, continued, continued_part, folded_body, last_ending, folded_line, is_foldable, is_directive, spaced, logical_lines, folded_bytes, folded_lines, folded_text, folded_readings, unnumbered, CLine, directive_line, other_lines, c_line_by, c_line_in, c_line, c_lines}
+use Rattle.ud_model.specs.output.FoldedTexts.{IsReadAs, vertical_tab, has_tab, continued, continued_part, folded_body, last_ending, folded_line, is_foldable, is_directive, logical_lines, folded_bytes, folded_lines, folded_text, folded_readings, unnumbered, CLine, other_lines, c_line_by, c_line, c_lines}
 use Rattle.ud_model.specs.declared.kind.Mode.TheVariants.{C}
 use Rattle.ud_model.proofs.text.ScanBytes.{bare, content-prefix, scan_after-same, unnumbered as unnumbered_line}
 use Rattle.ud_model.proofs.text.ScanLaws.{joins_before-code, joins_after-code, readings_after-append}
@@ -382,12 +382,7 @@ both_directives r rs i f =
 
 same_directive : (r : Reading) (rs : List Reading) → BothDirectives r rs → (other : CLine) →
     c_line_by (content_of (scan_after_run [] (folded_line (r ∷ rs)))) [] other ≡ c_line_of (r ∷ rs)
-same_directive r rs h other =
-    ap (λ (c : Content). c_line_by c [] other) h.has_now
-    ∙ ap₂ directive_line h.alike.kind
-    (ap (λ (t : List ℕ). spaced true t) (append-nil h.now.after) ∙ h.alike.bytes
-    ∙ ap (λ (t : List ℕ). spaced true (h.before.after ++ t)) (sym (flat_map-map (λ (s : Reading). s.scan.masked) unnumbered rs)))
-    ∙ sym (ap (λ (c : Content). c_line_by c (map unnumbered rs) (c_line_in (map unnumbered (r ∷ rs)) (map unnumbered rs))) h.has)
+same_directive r rs h other = grind (arith, append-nil, flat_map-map)
 
 same_c_line : (g : List Reading) → IsLogical g → c_line_of (folded_readings g) ≡ c_line_of g
 same_c_line [] i = absurd i.one
@@ -423,8 +418,7 @@ all_there bytes =
 -- The readings of the folded text.
 pub readings_folded : (bytes : List ℕ) → has_tab bytes ≡ false →
     map unnumbered (read_as C (folded_text bytes)) ≡ map unnumbered (flat_map folded_readings (logical_lines (read_as C bytes)))
-readings_folded bytes e =
-    readings_there bytes e ∙ ap (λ (rs : List Reading). map unnumbered rs) (flat_map-map (λ (g : List Reading). g) folded_readings (logical_lines (read_as C bytes)))
+readings_folded bytes e = grind (arith, readings_there, flat_map-map)
 
 -- C reads the logical lines of the text in the folded text.
 pub same_c_lines : (bytes : List ℕ) → c_lines (folded_text bytes) ≡ c_lines bytes

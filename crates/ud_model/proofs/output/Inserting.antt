@@ -64,7 +64,7 @@ with_line o m zs l = zs ++ item_of o (read_after zs m l) ∷ []
 
 module _ (o : Options) (m : Mode) (ys zs : List (Item Reading)) (qs : List (List ℕ)) (w : Weave o m ys zs qs) where
   pub are_more : (q : List ℕ) → map line_of (with_line o m zs (line_behind qs q)) ≡ numbered_from 1 (qs ++ q ∷ [])
-  are_more q = lines_last o zs m (line_behind qs q) ∙ ap (λ (ls : List Line). ls ++ line_behind qs q ∷ []) w.are ∙ sym (numbered_from-next qs q [])
+  are_more q = grind (arith, lines_last, numbered_from-next)
 
   between_lines : LeavesOff ys in_text true false → LeavesOff zs in_text true false
   between_lines r = w.rests (w.first.joins_on ∙ sym r.joins_on)

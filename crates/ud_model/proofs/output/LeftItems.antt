@@ -48,7 +48,7 @@ same_seen x y z w = cc
 module _ (o : Options) where
   item_as : (r : Reading) (d : Directive) (p : Role) → content_of r.scan ≡ directive d → role_of d.kind ≡ p →
       item_of o r ≡ directive_item r p (decision_on r.scan d o.table (rules_of o.settings))
-  item_as r d p e h = ap (λ (c : Content). item_by o r c) e ∙ ap (λ (i : Role). directive_item r i (decision_on r.scan d o.table (rules_of o.settings))) h
+  item_as r d p e h = grind arith
 
   -- A directive that opens a further group becomes one that begins the section, its condition being
   -- tested alike.

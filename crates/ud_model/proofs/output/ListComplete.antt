@@ -123,7 +123,7 @@ each_unmap f Q (x ∷ xs) h = (h.0, each_unmap f Q xs h.1)
 
 -- The readings of lines with one more.
 pub read_more : (m : Mode) (ls : List Line) (l : Line) → read_in m (ls ++ l ∷ []) ≡ read_in m ls ++ next_reading (read_in m ls) m l ∷ []
-read_more m ls l = ap (λ (ks : List (Mode × Line)). readings_of ks) (map-append (in_mode m) ls (l ∷ [])) ∙ readings_after-append [] (map (in_mode m) ls) (in_mode m l ∷ [])
+read_more m ls l = grind (arith, map-append, readings_after-append)
 
 -- The readings of longer lists of lines begin so.
 read_front : (m : Mode) (ls : List Line) (l : Line) (later : List Line) →

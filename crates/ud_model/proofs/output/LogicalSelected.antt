@@ -3,19 +3,17 @@ use Rattle.std.proofs.Common.{◌≡◌, ℕ, List, [], ◌∷◌, ◌++◌, map
 use Rattle.std.specs.List.{flat_map, list_any}
 use Rattle.std.proofs.lemmas.Bool.{and_parts, or_parts}
 use Rattle.std.proofs.lemmas.List.{map-append}
-use Rattle.ud_model.specs.text.Lines.{Line}
 use Rattle.ud_model.specs.text.Scans.{Reading}
 use Rattle.ud_model.specs.text.Scanning.{next_reading}
 use Rattle.ud_model.specs.sections.Directives.{Content, cut_keyword, directive, text as text_content, Directive, content_of, role_of}
 use Rattle.ud_model.specs.sections.Tree.{Item, Nodes, Groups, Elifs, text_line, if_line, elif_line, else_line, endif_line, nothing, text, section, conditional, otherwise, first, elif, closed, lines_of_nodes, lines_of_groups, lines_of_elifs, item_with, with_lines}
 use Rattle.ud_model.specs.conditions.Conditions.{Decision}
-use Rattle.ud_model.specs.sections.Items.{Options, item_of, directive_item, mode_by}
-use Rattle.ud_model.specs.output.InsertedLines.{read_in, read_as}
+use Rattle.ud_model.specs.sections.Items.{Options, item_of, directive_item}
+use Rattle.ud_model.specs.output.InsertedLines.{read_as}
 use Rattle.ud_model.specs.output.Worlds.{World, selected, selected_groups, selected_elifs, or_else, lines_or, where_true, openers, openers_of_groups, openers_of_elifs}
 use Rattle.ud_model.specs.output.Rereading.{IsPlainC, IsTreeOf, line_bytes, selected_bytes}
 use Rattle.ud_model.specs.output.FoldedTexts.{has_tab, folded_line, folded_text, is_foldable, is_directive, logical_lines, unnumbered, CLine, directive_line, other_lines, c_line_by, c_line_in, c_line, folded_lines}
 use Rattle.ud_model.specs.output.LogicalTrees.{unknown_opener, role_item, items_as, c_items, CSelects, is_long, HasNoLong}
-use Rattle.ud_model.specs.declared.kind.Kind.{Kind}
 use Rattle.ud_model.specs.declared.kind.Mode.TheVariants.{C}
 use Rattle.ud_model.specs.declared.kind.Role.{Role}
 use Rattle.ud_model.proofs.sections.Soundness.{read_lines}
@@ -200,11 +198,7 @@ module _ (b : Bool) where
   -- A directive, with the readings of its one line.
   directive_items : (r : Reading) (rs : List Reading) (d e : Directive) (k : Reading) → content_of r.scan ≡ directive d → content_of k.scan ≡ directive e →
       e.kind ≡ d.kind → bytes_now (r ∷ rs) ≡ one k → map (item_with bytes_now) (c_items (r ∷ rs)) ≡ bytes_item k ∷ []
-  directive_items r rs d e k p q s t =
-      let all : List Reading = r ∷ rs in
-      ap (λ (c : Content). map (item_with bytes_now) (items_as (c_line_by c rs (c_line_in all rs)) all)) p
-      ∙ ap (λ (x : Item (List (List ℕ))). x ∷ [])
-      (role_with bytes_now (role_of d.kind) all ∙ ap₂ (λ (j : Kind) (u : List (List ℕ)). role_item (role_of j) u) (sym s) t ∙ sym (ap (λ (c : Content). item_as c (one k)) q))
+  directive_items r rs d e k p q s t = grind (arith, role_with)
 
   -- A directive that isn't folded is on one line.
   whole_items : (r : Reading) (rs : List Reading) → IsLogical (r ∷ rs) → NotLong r → (d : Directive) → content_of r.scan ≡ directive d →
@@ -307,10 +301,7 @@ module _ (o : Options) (p : IsPlainC o) where
   items_there (r ∷ rs) = grind (arith, item_there r, items_there rs)
 
   of_text : (bytes : List ℕ) (ns : Nodes Reading) → IsTreeOf o bytes (closed ns) → lines_of_nodes ns ≡ map (item_of o) (read_as C bytes)
-  of_text bytes ns t =
-      read_lines t.read ∙ items_are o p.plain.none_ignores t.read
-      ∙ ap (λ (ls : List Line). map (item_of o) (read_in (mode_by o.settings.plain) ls)) (sym t.are)
-      ∙ ap (λ (b : Bool). map (item_of o) (read_as (mode_by b) bytes)) p.in_c
+  of_text bytes ns t = grind (arith, read_lines, items_are)
 
   -- C selects of a text the lines that it selects of the folded text.
   pub text_selects : (bytes : List ℕ) → HasNoLong (folded_text bytes) → (ns : Nodes Reading) → IsTreeOf o (folded_text bytes) (closed ns) → (w : World Reading) →

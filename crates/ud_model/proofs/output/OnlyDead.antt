@@ -161,7 +161,7 @@ module _ (ns : Nodes Reading) where
   heads_are = head_lines (lines_of_nodes ns) ∙ openers_lines ns
 
   left_are : lines_of_heads left_heads ≡ openers (folded ns)
-  left_are = ap (λ (xs : List (Item (Edited Reading))). lines_of_heads (heads_in xs)) (printed-pruned ns) ∙ head_lines (lines_of_nodes (folded ns)) ∙ openers_lines (folded ns)
+  left_are = grind (arith, printed-pruned, head_lines, openers_lines)
 
   -- A text line that is left is live.
   left_lives : (n : ℕ) → Rise n (map reading_of (lines_of_nodes ns)) → (e : Edited Reading) → Contains left_texts e → (edited Keep e.line ≡ e) × IsLive ns e.line

@@ -1,5 +1,5 @@
 -- The presumed numbers of an output under `-n` or `-b` are those that the count of its lines gives.
-use Rattle.std.proofs.Common.{◌≡◌, ℕ, suc, ◌+◌, ◌%◌, ◌<◌, ◌≤◌, ◌^◌, List, [], ◌∷◌, ◌++◌, Bool, true, false, not, ◌&&◌, Option, Some, None, is_some, if◌then◌else◌, codes, decimal, inl, inr, ◌⊎◌, refl, sym, ◌∙◌, ap, subst, append_assoc, arith}
+use Rattle.std.proofs.Common.{◌≡◌, ℕ, suc, ◌+◌, ◌%◌, ◌<◌, ◌≤◌, ◌^◌, List, [], ◌∷◌, ◌++◌, Bool, true, false, not, ◌&&◌, Option, Some, None, is_some, if◌then◌else◌, codes, decimal, inl, ◌⊎◌, refl, sym, ◌∙◌, ap, subst, append_assoc, arith}
 use Rattle.std.proofs.lemmas.Fmt.{decimal_by_steps, decimal_injective}
 use Rattle.std.proofs.lemmas.List.{same_from_push}
 use Rattle.ud_model.specs.text.Bytes.{is_white, skip_white}
@@ -128,7 +128,7 @@ none_last [] r h = (tt, h.0)
 none_last (s ∷ rs) r h = let k = none_last rs r h.1 in ((h.0, k.0), k.1)
 
 printed_for : (js : List Judged) (j : Judged) (r s : Reading) → IsPrinted j r s → (k : ℕ) → k ≡ j.line.number → IsInserted s ⊎ IsLineFor (js ++ j ∷ []) s k
-printed_for js j r s p k e = inr (record { judged = j; before = js; later = []; among = refl; number = sym e; stays = p.stays; bytes = p.same ∙ p.bytes })
+printed_for js j r s p k e = grind arith
 
 right_first : Right [] [] 1
 right_first ps sure m p = grind (arith, push_not_nil)

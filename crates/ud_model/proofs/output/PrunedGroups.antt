@@ -219,7 +219,7 @@ module _ {L : Type 0} where
   -- The section's `#endif`, by the stage at its end.
   is_endif : (gs : Groups L) (e : L) (k : Edited L) (ends m : List (Item (Edited L))) (v : Verdict) → others_left (conds_of_groups gs) (groups_of gs) ≡ ends → endif_verdict (conds_of_groups gs) ≡ v →
       kept_line v (endif_line e) ≡ m → ends ++ m ≡ endif_line k ∷ [] → IsEndif (conds_of_groups gs) (groups_of gs) e k
-  is_endif gs e k ends m v o f g h = ap₂ (λ (x y : List (Item (Edited L))). x ++ y) o (ap (λ (w : Verdict). kept_line w (endif_line e)) f ∙ g) ∙ h
+  is_endif gs e k ends m v o f g h = grind arith
 
   section_pruned : (ns : Nodes L) (gs : Groups L) (e : L) (ps : Nodes (Edited L)) (left : KeptGroups L) → stage (conds_of_groups gs) ≡ stage_of left → Leaves (groups_of gs) left →
       ArePruned ns ps → ArePruned (section ns gs e) (then_kept ps left e)

@@ -6,7 +6,6 @@ use Rattle.ud_model.specs.sections.Tree.{Item, Tree, lines}
 use Rattle.ud_model.specs.sections.Items.{Options, line_of, item_of, read_after, next_item}
 use Rattle.ud_model.specs.sections.Faults.{AreFaultless, no_lines, one_more, NoneHolds, cases}
 use Rattle.ud_model.specs.output.Rereading.{IsPlain}
-use Rattle.ud_model.specs.declared.kind.Mode.{Mode}
 use Rattle.ud_model.proofs.output.Each.{Each, each_parts}
 use Rattle.ud_model.proofs.output.Formed.{whole_ending, end_is_some}
 use Rattle.ud_model.proofs.output.Heeding.{the_mode, one_mode, sound_heed}
@@ -37,7 +36,7 @@ lines_end n ts h = grind arith
 
 module _ (o : Options) (p : IsPlain o) where
   pub next_is : (xs : List (Item Reading)) (t : Tree Reading) (l : Line) → AreFaultless o xs t → next_item o xs t l ≡ item_of o (read_after xs (the_mode o) l)
-  next_is xs t l s = ap (λ (m : Mode). item_of o (read_after xs m l)) (one_mode o p.none_ignores xs t (sound_lines s) (sound_heed o p.none_ignores xs t s))
+  next_is xs t l s = grind (arith, one_mode, sound_lines, sound_heed)
 
   -- The last line of longer ones.
   one_step : (xs : List (Item Reading)) (t : Tree Reading) (s : AreFaultless o xs t) (ys : List (Item Reading)) → Between o (the_mode o) xs t ys → (l : Line) (u : Tree Reading) → IsLine l →

@@ -176,7 +176,7 @@ module _ (k : CleanRun) where
       ∙ map-twice left_seen (λ (q : Seen). q.condition) (openers (folded k.before)) ∙ kept_conditions (openers (folded k.before)) (pruned_keeps k.before)
 
   pub conditions_same : map condition_in (openers k.after) ≡ map (λ (e : Edited Reading). condition_in e.line) (openers_in (pruned_lines k.before))
-  conditions_same = conditions_folded ∙ ap (λ (l : List (Edited Reading)). map (λ (e : Edited Reading). condition_in e.line) l) (sym (pruned_openers k.before))
+  conditions_same = grind (arith, conditions_folded, pruned_openers)
 
   -- The openers of the output can be given the truths of those from which they come.
   pub truths_kept : (w : World Reading) → (v : World Reading) × KeepsTruths w k.before v k.after

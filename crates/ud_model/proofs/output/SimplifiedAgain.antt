@@ -4,7 +4,7 @@ use Rattle.std.proofs.Common.{◌≡◌, ℕ, ◌-◌, List, [], ◌∷◌, ◌+
 use Rattle.std.proofs.lemmas.List.{drop-map, take-append-drop, length-map}
 use Rattle.std.proofs.lemmas.Bool.{or_parts, cases_Bool, and_from, not_from_false, and_parts, not-true}
 use Rattle.ud_model.specs.text.Lines.{Line, text_of}
-use Rattle.ud_model.specs.text.Scans.{Scan, Reading, is_spanning}
+use Rattle.ud_model.specs.text.Scans.{Reading, is_spanning}
 use Rattle.ud_model.specs.text.Splicing.{is_spliced, content, spliced_text, spliced_part, is_empty}
 use Rattle.ud_model.specs.text.Lexemes.{Cell, shown, kind_at_end}
 use Rattle.ud_model.specs.text.Scanning.{is_block, content_cells, scan_after_run, scan_after}
@@ -59,7 +59,7 @@ module _ (table : List Argument) (rules : Rules) where
     same_line w = grind arith
 
     pub lone : is_spliced r.line ≡ false
-    lone = unspliced r.line (ap (λ (x : Scan). x.joins_after) (sym i.before) ∙ (or_parts r.scan.joins_before r.scan.joins_after i.edited.lone).1)
+    lone = grind (arith, unspliced, or_parts)
 
     still_lone : is_spliced s.line ≡ false
     still_lone = unspliced s.line (ap (λ (k : Line). (scan_after_run [] k).joins_after) i.line ∙ i.edited.alone)
@@ -170,7 +170,7 @@ module _ (table : List Argument) (rules : Rules) where
       scan_is = alone (or_parts r.scan.joins_before r.scan.joins_after joins_none).0
 
       unspliced_line : is_spliced r.line ≡ false
-      unspliced_line = unspliced r.line (ap (λ (s : Scan). s.joins_after) (sym scan_is) ∙ (or_parts r.scan.joins_before r.scan.joins_after joins_none).1)
+      unspliced_line = grind (arith, unspliced, scan_is, or_parts, joins_none)
 
       text_is : map shown cells ≡ d.after
       text_is = after_is table rules r.line r.scan d scan_is has

@@ -106,7 +106,7 @@ module _ (table : List Argument) (rules : Rules) where
       go (inr (e, i)) = by e i (read_as table rules e cells i)
 
   shown_by : (scan : Scan) (d : Directive) (c : Content) → c ≡ directive d → scan.joins_after ≡ false → condition_by scan c ≡ condition_after d.kind d.after
-  shown_by scan d c e h = ap (λ (x : Content). condition_by scan x) e ∙ ap (λ (b : Bool). if b then None else condition_after d.kind d.after) h
+  shown_by scan d c e h = grind arith
 
   first_of : (j : Kind) (k : Kind) (after : List ℕ) → SameIf j k → (condition_after j after ≡ expression_of after) × (condition_after k after ≡ expression_of after)
   first_of j k after h = grind arith

@@ -141,7 +141,7 @@ module _ (o : Options) where
   all_open p h = each_left IsOpen open_left p h
 
   pub all_uncut : {rs ss : List Reading} → Pairs Simplified rs ss → Each IsUncut (items o rs) → Each IsUncut (items o ss)
-  all_uncut p h = each_left IsUncut (λ r s i. of_reading (λ (x : Reading). is_cut (content_of x.scan) ≡ false) r s (uncut_left o.table (rules_of o.settings) r s i)) p h
+  all_uncut p h = grind (arith, each_left, of_reading, uncut_left)
 
   pub all_few : {rs ss : List Reading} → Pairs Simplified rs ss → Each IsFew (items o rs) → Each IsFew (items o ss)
   all_few p h =

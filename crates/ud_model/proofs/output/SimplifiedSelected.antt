@@ -44,7 +44,7 @@ module _ (table : List Argument) (rules : Rules) where
       elifs_select (next_group p o q) = ap₂ or_else (elifs_select p) (ap₂ where_true o.truth (selects q))
 
     opener_chosen : (o p : Opener Reading) → OpenerSimplified table rules w v o p → IsChosen table (condition_in o.line) (w o.line) → IsChosen table (condition_in p.line) (v p.line)
-    opener_chosen o p q h = subst (λ b. IsChosen table (condition_in p.line) b) (sym q.truth) (line_chosen o.line p.line (w o.line) q.line h)
+    opener_chosen o p q h = grind (arith, line_chosen)
 
     abbrev Before : Opener Reading → Type 0
     Before o = IsChosen table (condition_in o.line) (w o.line)

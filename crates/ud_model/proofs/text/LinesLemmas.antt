@@ -96,10 +96,7 @@ partial_line-open t = (split_lines-are t).no_newline
 
 -- Bytes without a newline are added to the rest.
 pub split_lines-append-open : (t p : List ℕ) → NoNewline p → split_lines (t ++ p) ≡ record { whole = whole_lines t; rest = partial_line t ++ p }
-split_lines-append-open t p h =
-    split_lines-append t p ∙ ap (λ (q : SplitLines). record { whole = whole_lines t ++ q.whole; rest = q.rest })
-    (split_lines-open (partial_line t ++ p) (no_newline-append (partial_line t) p (partial_line-open t) h))
-    ∙ ap (λ (ls : List (List ℕ)). record { whole = ls; rest = partial_line t ++ p }) (append-nil (whole_lines t))
+split_lines-append-open t p h = grind (arith, split_lines-append, split_lines-open, no_newline-append, partial_line-open, append-nil)
 
 -- A newline ends the line that the rest begins.
 pub split_lines-append-line : (t p : List ℕ) → NoNewline p →

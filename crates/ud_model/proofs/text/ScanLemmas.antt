@@ -114,7 +114,7 @@ spliced_text-append lines more = flat_map-append spliced_part lines more
 
 -- The spliced text of lines with one more.
 pub joined_last : (lines : List Line) (line : Line) → spliced_text (lines ++ line ∷ []) ≡ spliced_text lines ++ spliced_part line
-joined_last lines line = spliced_text-append lines (line ∷ []) ∙ ap (λ (l : List ℕ). spliced_text lines ++ l) (append-nil (spliced_part line))
+joined_last lines line = grind (arith, spliced_text-append, append-nil)
 
 -- The last of lines with one more is spliced if that one is.
 pub last_is_spliced_last : (lines : List Line) (line : Line) → last_is_spliced (lines ++ line ∷ []) ≡ is_spliced line
