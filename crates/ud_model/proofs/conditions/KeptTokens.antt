@@ -4,7 +4,7 @@ use Rattle.ud_model.specs.conditions.Table.{Argument}
 use Rattle.ud_model.specs.conditions.Tokens.{operator}
 use Rattle.ud_model.specs.conditions.Expressions.{Expression, unary, binary, parens, spelling}
 use Rattle.ud_model.specs.conditions.Conditions.{Rules}
-use Rattle.ud_model.specs.conditions.Residuals.{Residual, stands_alone, residual}
+use Rattle.ud_model.specs.conditions.Residuals.{Residual, joined_if, stands_alone, residual}
 use Rattle.ud_model.specs.conditions.ResidualTexts.{chosen, all_flags, joined_flags, keeps}
 use Rattle.ud_model.specs.declared.cond.Cond.{Cond}
 use Rattle.ud_model.specs.declared.operator.Operator.{Operator}
@@ -45,9 +45,7 @@ pub record Chooses (flags : List Bool) (e : Expression) (left : Expression) : Ty
 
 joined_choose : (b d : Bool) (o : Operator) (c : Cond) (x y : Residual) (e f : Expression) (xs ys : List Bool) →
     Chooses xs e x.tree → Chooses ys f y.tree →
-    let both : Residual = record { cond = c; tree = binary o x.tree y.tree; lost = false } in
-    Chooses (joined_flags b d e f xs ys) (binary o e f)
-    (if b then record y { lost = true } else if d then record x { lost = true } else both).tree
+    Chooses (joined_flags b d e f xs ys) (binary o e f) (joined_if b d o c x y).tree
 joined_choose true d o c x y e f xs ys p q = record {
   long = same_both (all_flags false e) (false ∷ ys) (spelling e) (operator o ∷ spelling f) (same_all false (spelling e)) q.long;
   are = chosen_both (all_flags false e) (false ∷ ys) (spelling e) (operator o ∷ spelling f) (same_all false (spelling e)) ∙ ap₂ (λ us vs. us ++ vs) (chosen_none (spelling e)) q.are;

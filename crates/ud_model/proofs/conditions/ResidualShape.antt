@@ -5,7 +5,7 @@ use Rattle.ud_model.specs.conditions.Table.{Argument}
 use Rattle.ud_model.specs.conditions.Tokens.{operator, opening, closing}
 use Rattle.ud_model.specs.conditions.Expressions.{Expression, unary, binary, parens, precedence, spelling, HasPrecedence}
 use Rattle.ud_model.specs.conditions.Conditions.{Rules, tree_cond}
-use Rattle.ud_model.specs.conditions.Residuals.{Residual, is_unit, is_unknown, settled, joined, negated, stands_alone, enclosed, residual, operands, simplified, AreUndecided}
+use Rattle.ud_model.specs.conditions.Residuals.{Residual, is_unit, is_unknown, settled, joined_if, joined, negated, stands_alone, enclosed, residual, operands, simplified, AreUndecided}
 use Rattle.ud_model.specs.conditions.Sublists.{IsSublist, nothing, without, with_same}
 use Rattle.ud_model.specs.declared.cond.Cond.{Cond}
 use Rattle.ud_model.specs.declared.cond.Cond.TheVariants.{Unknown}
@@ -40,11 +40,11 @@ of_right (y ∷ ys) p = without (of_right ys p)
 -- 2. Tokens are only removed.
 
 module _ (b d : Bool) (o : Operator) (c : Cond) (x y : Residual) (e f : Expression) (p : IsSublist (spelling x.tree) (spelling e)) (q : IsSublist (spelling y.tree) (spelling f)) where
-  joined_spelling : IsSublist (spelling (if b then record y { lost = true } else if d then record x { lost = true } else record { cond = c; tree = binary o x.tree y.tree; lost = false }).tree)
+  joined_spelling : IsSublist (spelling (joined_if b d o c x y).tree)
       (spelling e ++ operator o ∷ spelling f)
   joined_spelling = by b d
     where
-      by : (b d : Bool) → IsSublist (spelling (if b then record y { lost = true } else if d then record x { lost = true } else record { cond = c; tree = binary o x.tree y.tree; lost = false }).tree)
+      by : (b d : Bool) → IsSublist (spelling (joined_if b d o c x y).tree)
           (spelling e ++ operator o ∷ spelling f)
       by true d = of_right (spelling e) (without q)
       by false true = of_left (operator o ∷ spelling f) p
@@ -98,8 +98,8 @@ settled_down x = record { cond = x.cond; tree = x.tree; lost = false }
 joined_again : (strict : Bool) (o : Operator) (b d : Bool) (x y : Residual) (res : Expression → Residual) → is_unit o x.cond ≡ b → is_unit o y.cond ≡ d →
     ((s t : Expression) → res (binary o s t) ≡ joined strict o (res s) (res t)) →
     res x.tree ≡ settled_down x → res y.tree ≡ settled_down y →
-    res (if b then record y { lost = true } else if d then record x { lost = true } else record { cond = settled strict o x.cond y.cond; tree = binary o x.tree y.tree; lost = false }).tree
-    ≡ settled_down (if b then record y { lost = true } else if d then record x { lost = true } else record { cond = settled strict o x.cond y.cond; tree = binary o x.tree y.tree; lost = false })
+    res (joined_if b d o (settled strict o x.cond y.cond) x y).tree
+    ≡ settled_down (joined_if b d o (settled strict o x.cond y.cond) x y)
 joined_again strict o b d x y res e f r p q = grind arith
 
 enclosed_again : (b : Bool) (x : Residual) (res : Expression → Residual) → ((s : Expression) → res (parens s) ≡ enclosed (res s)) → res x.tree ≡ settled_down x →

@@ -8,7 +8,7 @@ use Rattle.ud_model.specs.conditions.Expressions.{Expression, constant, named, i
 use Rattle.ud_model.specs.conditions.Conditions.{Rules, negate}
 use Rattle.ud_model.specs.conditions.Values.{truth}
 use Rattle.ud_model.specs.conditions.CValues.{Number, signed, IsTruth, IsZero}
-use Rattle.ud_model.specs.conditions.Residuals.{Residual, is_unit, settled, joined, negated, alone, residual}
+use Rattle.ud_model.specs.conditions.Residuals.{Residual, is_unit, settled, joined_if, joined, negated, alone, residual}
 use Rattle.ud_model.specs.conditions.Choices.{Choice, for_constant, for_name, for_defined, for_unary, for_binary, IsAllowed, HasValue, of_constant, of_name, of_defined, of_unary, of_binary, of_and_left, of_and_both, of_or_left, of_or_both, of_parens, one_or_both, bare_or_not, stay}
 use Rattle.ud_model.specs.declared.cond.Cond.{Cond}
 use Rattle.ud_model.specs.declared.cond.Cond.TheVariants.{Yes, No}
@@ -113,7 +113,7 @@ module _ (strict : Bool) (x y : Residual) (m : Choice x.tree) (k : Choice y.tree
   and_left z = by (is_unit And x.cond) (is_unit And y.cond) refl
     where
       by : (b d : Bool) → is_unit And x.cond ≡ b →
-          Tells (if b then record y { lost = true } else if d then record x { lost = true } else record { cond = settled strict And x.cond y.cond; tree = binary And x.tree y.tree; lost = false })
+          Tells (joined_if b d And (settled strict And x.cond y.cond) x y)
           (one_or_both b d And (settled strict And x.cond y.cond) x y m k) (signed (pos 0))
       by true d e = absurd (t.yes (and_unit x.cond e) z)
       by false true e = one_tells x m v (signed (pos 0)) t (both refl z)
@@ -130,7 +130,7 @@ module _ (strict : Bool) (x y : Residual) (m : Choice x.tree) (k : Choice y.tree
   or_left n = by (is_unit Or x.cond) (is_unit Or y.cond) refl
     where
       by : (b d : Bool) → is_unit Or x.cond ≡ b →
-          Tells (if b then record y { lost = true } else if d then record x { lost = true } else record { cond = settled strict Or x.cond y.cond; tree = binary Or x.tree y.tree; lost = false })
+          Tells (joined_if b d Or (settled strict Or x.cond y.cond) x y)
           (one_or_both b d Or (settled strict Or x.cond y.cond) x y m k) (signed (pos 1))
       by true d e = absurd (n (t.no (or_unit x.cond e)))
       by false true e = one_tells x m v (signed (pos 1)) t (neither one_is_not n)
@@ -151,7 +151,7 @@ module _ (strict : Bool) (x y : Residual) (m : Choice x.tree) (k : Choice y.tree
         no_by h = grind arith
 
         by : (b d : Bool) → is_unit And y.cond ≡ d →
-            Tells (if b then record y { lost = true } else if d then record x { lost = true } else record { cond = settled strict And x.cond y.cond; tree = binary And x.tree y.tree; lost = false })
+            Tells (joined_if b d And (settled strict And x.cond y.cond) x y)
             (one_or_both b d And (settled strict And x.cond y.cond) x y m k) c
         by true d e = one_tells y k w c s (truth_same w c g)
         by false true e = one_tells x m v c t (neither (λ z. s.yes (and_unit y.cond e) ((truth_same w c g).0 z)) n)
@@ -171,7 +171,7 @@ module _ (strict : Bool) (x y : Residual) (m : Choice x.tree) (k : Choice y.tree
         yes_by h q = grind arith
 
         by : (b d : Bool) → is_unit Or y.cond ≡ d →
-            Tells (if b then record y { lost = true } else if d then record x { lost = true } else record { cond = settled strict Or x.cond y.cond; tree = binary Or x.tree y.tree; lost = false })
+            Tells (joined_if b d Or (settled strict Or x.cond y.cond) x y)
             (one_or_both b d Or (settled strict Or x.cond y.cond) x y m k) c
         by true d e = one_tells y k w c s (truth_same w c g)
         by false true e = one_tells x m v c t (both ((truth_same w c g).1 (s.no (or_unit y.cond e))) z)

@@ -21,7 +21,7 @@ use Rattle.ud_model.specs.conditions.Conditions.{Rules}
 use Rattle.ud_model.specs.conditions.CValues.{Number, signed, IsInRange, IsTruth, IsZero, Gives}
 use Rattle.ud_model.specs.conditions.CValues.{GivesUnary, IsConstantValue, typed}
 use Rattle.ud_model.specs.conditions.Residuals.{Residual, is_unit, stands_alone}
-use Rattle.ud_model.specs.conditions.Residuals.{residual, settled}
+use Rattle.ud_model.specs.conditions.Residuals.{residual, settled, joined_if}
 use Rattle.ud_model.specs.declared.cond.Cond.{Cond}
 use Rattle.ud_model.specs.declared.operator.Operator.{Operator}
 use Rattle.ud_model.specs.declared.operator.Operator.TheVariants.{Or, And, Not}
@@ -78,8 +78,7 @@ pub data HasValue : (e : Expression) → Choice e → Number → Type 0 where
 -- `b`, `m` for its left one if `d`, else both.
 abbrev pub one_or_both : (b d : Bool) (o : Operator) (c : Cond) (x y : Residual) → Choice x.tree →
     Choice y.tree →
-    Choice (if b then record y { lost = true } else if d then record x { lost = true }
-    else record { cond = c; tree = binary o x.tree y.tree; lost = false }).tree
+    Choice (joined_if b d o c x y).tree
 one_or_both true d o c x y m k = k
 one_or_both false true o c x y m k = m
 one_or_both false false o c x y m k = for_binary m k

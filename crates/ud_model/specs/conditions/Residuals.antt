@@ -5,6 +5,8 @@
 --   Residual        a condition, and the expression that is left for it
 --   operands e      the operands of the tree: what its `&&`, `||` and `!` join, unless they are
 --                   inside an operand of another operator
+--   joined_if b d o c x y
+--                   the residual `y` if `b`, else `x` if `d`, else `o` between both
 --   residual e      the tree `e` without each operand that the table decides, and without its
 --                   operator, unless the operand decides that operator's value
 --   simplified e    the residual of a whole condition, or `e` itself if that is decided
@@ -57,16 +59,18 @@ settled strict o c d =
     else if settles o d && not (strict && is_unknown c) then d
     else Unknown
 
+-- `joined_if b d o c x y`: the residual `y` if `b`, else `x` if `d`, else the tree of `o` between
+-- both, with the condition `c`.
+abbrev pub joined_if : Bool → Bool → Operator → Cond → Residual → Residual → Residual
+joined_if b d o c x y =
+    if b then record y { lost = true }
+    else if d then record x { lost = true }
+    else record { cond = c; tree = binary o x.tree y.tree; lost = false }
+
 -- `joined strict o x y`: the residual of `o` between operands with the residuals `x` and `y`.
 abbrev pub joined : Bool → Operator → Residual → Residual → Residual
 joined strict o x y =
-    if is_unit o x.cond then record y { lost = true }
-    else if is_unit o y.cond then record x { lost = true }
-    else record {
-      cond = settled strict o x.cond y.cond;
-      tree = binary o x.tree y.tree;
-      lost = false;
-    }
+    joined_if (is_unit o x.cond) (is_unit o y.cond) o (settled strict o x.cond y.cond) x y
 
 -- `negated x`: the residual of `!` before an operand with the residual `x`.
 abbrev pub negated : Residual → Residual
