@@ -47,13 +47,16 @@ module _ (table : List Argument) (u : Bool) where
   value_may a (of_defined {n = n} {p = p} {b = b}) v = defined_may n p b a
   value_may a (of_unary d g) v = may.of_unary (value_may a d v) g
   value_may h (of_binary {a = a} {b = b} d f g) v =
-      may.of_binary (value_may h.0 d (λ e. v (or_left (has_unsigned table a) (has_unsigned table b) e))) (value_may h.1 f (λ e. v (or_right (has_unsigned table a) (has_unsigned table b) e))) g
+      may.of_binary (value_may h.0 d (λ e. v (or_left (has_unsigned table a) (has_unsigned table b) e)))
+      (value_may h.1 f (λ e. v (or_right (has_unsigned table a) (has_unsigned table b) e))) g
   value_may h (of_and_left {a = a} {b = b} d z) v = may.of_and_left (value_may h.0 d (λ e. v (or_left (has_unsigned table a) (has_unsigned table b) e))) z
   value_may h (of_and_both {a = a} {b = b} d z f t) v =
-      may.of_and_both (value_may h.0 d (λ e. v (or_left (has_unsigned table a) (has_unsigned table b) e))) z (value_may h.1 f (λ e. v (or_right (has_unsigned table a) (has_unsigned table b) e))) t
+      may.of_and_both (value_may h.0 d (λ e. v (or_left (has_unsigned table a) (has_unsigned table b) e))) z
+      (value_may h.1 f (λ e. v (or_right (has_unsigned table a) (has_unsigned table b) e))) t
   value_may h (of_or_left {a = a} {b = b} d z) v = may.of_or_left (value_may h.0 d (λ e. v (or_left (has_unsigned table a) (has_unsigned table b) e))) z
   value_may h (of_or_both {a = a} {b = b} d z f t) v =
-      may.of_or_both (value_may h.0 d (λ e. v (or_left (has_unsigned table a) (has_unsigned table b) e))) z (value_may h.1 f (λ e. v (or_right (has_unsigned table a) (has_unsigned table b) e))) t
+      may.of_or_both (value_may h.0 d (λ e. v (or_left (has_unsigned table a) (has_unsigned table b) e))) z
+      (value_may h.1 f (λ e. v (or_right (has_unsigned table a) (has_unsigned table b) e))) t
   value_may a (of_parens d) v = may.of_parens (value_may a d v)
 
 -- The value by an allowed choice is one that C may give the whole expression.

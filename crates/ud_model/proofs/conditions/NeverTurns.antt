@@ -109,14 +109,18 @@ combine_after s b c o (Some p) None v w h k z e = by (h p refl) w
   where
     by : Or_none p v → (d : Option ℤ) → Or_none z (apply_binary s c o v d)
     by (inl f) None = inl (ap (λ (d : Option ℤ). apply_binary s c o d None) f ∙ e)
-    by (inl f) (Some q) = subst (λ (d : Option ℤ). Or_none z d) (sym (ap (λ (d : Option ℤ). apply_binary s c o d (Some q)) f)) (left_decides c o p q (short_circuits s o p) (decides_is s o p) z e)
+    by (inl f) (Some q) =
+        subst (λ (d : Option ℤ). Or_none z d) (sym (ap (λ (d : Option ℤ). apply_binary s c o d (Some q)) f))
+        (left_decides c o p q (short_circuits s o p) (decides_is s o p) z e)
     by (inr f) None = inr (ap (λ (d : Option ℤ). apply_binary s c o d None) f)
     by (inr f) (Some q) = grind (arith, two_decide, decides_is, f)
 combine_after s b c o None (Some q) v w h k z e = by (k q refl) v
   where
     by : Or_none q w → (d : Option ℤ) → Or_none z (apply_binary s c o d w)
     by (inl f) None = inl (ap (λ (d : Option ℤ). apply_binary s c o None d) f ∙ e)
-    by (inl f) (Some p) = subst (λ (d : Option ℤ). Or_none z d) (sym (ap (λ (d : Option ℤ). apply_binary s c o (Some p) d) f)) (right_decides c o p q (short_circuits s o q) (decides_is s o q) z e)
+    by (inl f) (Some p) =
+        subst (λ (d : Option ℤ). Or_none z d) (sym (ap (λ (d : Option ℤ). apply_binary s c o (Some p) d) f))
+        (right_decides c o p q (short_circuits s o q) (decides_is s o q) z e)
     by (inr f) None = inr (ap (λ (d : Option ℤ). apply_binary s c o None d) f)
     by (inr f) (Some p) = grind (arith, two_decide, decides_is, f)
 

@@ -28,7 +28,8 @@ stops_ten ts = grind arith
 
 module _ {A : Type 0} (m : Meaning A) where
   -- An operator takes its right operand if no tighter one comes next.
-  take_left : (o : Operator) (a x : A) (s : List (Frame A)) (ts : List Token) → Stops (precedence o) ts → parse_tokens m (has x (left o a ∷ s)) ts ≡ parse_tokens m (has (m.binary o a x) s) ts
+  take_left : (o : Operator) (a x : A) (s : List (Frame A)) (ts : List Token) → Stops (precedence o) ts →
+      parse_tokens m (has x (left o a ∷ s)) ts ≡ parse_tokens m (has (m.binary o a x) s) ts
   take_left o a x s ts h = grind arith
 
   wait_step : (o : Operator) (x : A) (s : List (Frame A)) (ts : List Token) → 1 ≤ precedence o → Below (precedence o) s →

@@ -49,7 +49,8 @@ module _ (table : List Argument) (rules : Rules) where
       (by (may_go table rules e cells && is_read table rules e (left_cells (keeps table rules e) cells)) refl)
     where
       by : (b : Bool) → (may_go table rules e cells && is_read table rules e (left_cells (keeps table rules e) cells)) ≡ b →
-          ((if b then left_cells (keeps table rules e) cells else cells) ≡ cells) ⊎ (expression_of (map shown (if b then left_cells (keeps table rules e) cells else cells)) ≡ Some (rest_of e))
+          ((if b then left_cells (keeps table rules e) cells else cells) ≡ cells) ⊎
+          (expression_of (map shown (if b then left_cells (keeps table rules e) cells else cells)) ≡ Some (rest_of e))
       by b q = grind (arith, written_left)
 
   -- A text without a tree stays.

@@ -77,7 +77,8 @@ any_precedence : (e : Expression) (j k : ℕ) → stands_alone e ≡ true → Ha
 any_precedence (binary o a b) j k s h = cc
 any_precedence _ _ _ _ h = h
 
-enclosed_precedence : (b : Bool) (x : Residual) (k : ℕ) → (x.lost && stands_alone x.tree) ≡ b → HasPrecedence 1 x.tree → HasPrecedence k (if b then x else record x { tree = parens x.tree }).tree
+enclosed_precedence : (b : Bool) (x : Residual) (k : ℕ) → (x.lost && stands_alone x.tree) ≡ b → HasPrecedence 1 x.tree →
+    HasPrecedence k (if b then x else record x { tree = parens x.tree }).tree
 enclosed_precedence b x k e p = grind (arith, any_precedence)
 
 module _ (table : List Argument) (rules : Rules) where

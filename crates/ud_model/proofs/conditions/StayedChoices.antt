@@ -11,7 +11,8 @@ use Rattle.ud_model.specs.declared.operator.Operator.{Operator}
 use Rattle.ud_model.specs.declared.operator.Operator.TheVariants.{Or, And, Not}
 
 module _ (table : List Argument) where
-  one_allowed : (b d : Bool) (o : Operator) (c : Cond) (x y : Residual) (m : Choice x.tree) (k : Choice y.tree) → IsAllowed table m → IsAllowed table k → IsAllowed table (one_or_both b d o c x y m k)
+  one_allowed : (b d : Bool) (o : Operator) (c : Cond) (x y : Residual) (m : Choice x.tree) (k : Choice y.tree) →
+      IsAllowed table m → IsAllowed table k → IsAllowed table (one_or_both b d o c x y m k)
   one_allowed true d o c x y m k p q = q
   one_allowed false true o c x y m k p q = p
   one_allowed false false o c x y m k p q = (p, q)

@@ -40,7 +40,9 @@ module _ (table : List Argument) (k : Bool) where
   tree_if_loose : (s : Bool) (e : Option Expression) → Looser (tree_cond_if e table (record { constants = k; strict = true })) (tree_cond_if e table (record { constants = k; strict = s }))
   tree_if_loose s e = grind (arith, alike, tree_loose)
 
-  expression_loose : (s : Bool) (after : List ℕ) → Looser (expression_cond after table (record { constants = k; strict = true })) (expression_cond after table (record { constants = k; strict = s }))
+  expression_loose : (s : Bool) (after : List ℕ) →
+      Looser (expression_cond after table (record { constants = k; strict = true }))
+      (expression_cond after table (record { constants = k; strict = s }))
   unfolding expression_cond
   expression_loose s after = tree_if_loose s (expression_of after)
 

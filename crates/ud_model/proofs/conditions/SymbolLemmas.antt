@@ -105,8 +105,8 @@ follows n t m w d = grind (arith, bytes_eq, bytes_eq-Decides, without_none, with
 abbrev pub Splits : ℕ → List Argument → List ℕ → List ℕ → List ℕ → Type 0
 Splits k t n w v = (resolve_within k (without n t) w ≡ Some v) ⊎ ((j : ℕ) × (j ≤ k) × (resolve_within j t n ≡ Some v))
 
-split_by : (k : ℕ) (t : List Argument) (n w v : List ℕ) (b : Bool) → bytes_eq n w ≡ b → resolve_within (suc k) t w ≡ Some v → ((x : List ℕ) → resolve_within k t x ≡ Some v → Splits k t n x v) →
-    Splits (suc k) t n w v
+split_by : (k : ℕ) (t : List Argument) (n w v : List ℕ) (b : Bool) → bytes_eq n w ≡ b → resolve_within (suc k) t w ≡ Some v →
+    ((x : List ℕ) → resolve_within k t x ≡ Some v → Splits k t n x v) → Splits (suc k) t n w v
 split_by k t n w v true q e further = inr (suc k, omega arith, subst (λ m. resolve_within (suc k) t m ≡ Some v) (sym ((bytes_eq-Decides n w).0 q)) e)
 split_by k t n w v false q e further = grind (arith, goes, without_other)
 

@@ -50,7 +50,8 @@ module _ {S : Type 0} where
   not_yes : (c : Cond) (s t : S) → AgreesAs c false s t → c ≡ Yes → ⊥
   not_yes c s t h g = grind arith
 
-module _ (o : Options) {S F : Type 0} (takes : S → List ℕ → Scan → S → Type 0) (enters : S → List ℕ → Scan → F → S → Type 0) (leaves : S → S → Type 0) (decides : S → Condition → Bool → S → Type 0)
+module _ (o : Options) {S F : Type 0} (takes : S → List ℕ → Scan → S → Type 0) (enters : S → List ℕ → Scan → F → S → Type 0)
+    (leaves : S → S → Type 0) (decides : S → Condition → Bool → S → Type 0)
     (as_c : DecidesAsC o.table decides) where
   abbrev p : Preprocessor S F Reading
   p = over_readings takes enters leaves decides
@@ -106,7 +107,8 @@ module _ (o : Options) {S F : Type 0} (takes : S → List ℕ → Scan → S →
         (r.0, λ s t g. nodes_right ns (at_kept (is_kept (conds_of_elifs es) Yes) ns (ap not (r.1 s t g)) h.1))
 
     -- If none of the groups is processed, none is decided to be true.
-    elifs_right : (es : Elifs Reading) → Pairwise (Clear o) (lines_of_elifs es) (elifs_so_far true es) → ElifsRight p es × ((s t : S) → NoneTrue p es s t → any_true (conds_of_elifs es) ≡ false)
+    elifs_right : (es : Elifs Reading) → Pairwise (Clear o) (lines_of_elifs es) (elifs_so_far true es) →
+        ElifsRight p es × ((s t : S) → NoneTrue p es s t → any_true (conds_of_elifs es) ≡ false)
     elifs_right (first q ns) k =
         let a : IsRight p q = if_right q k.0 in (
           (a, λ s t d. nodes_right ns (at_kept (is_kept [] q.cond) ns (kept_by [] q.cond s t refl (a s true t d)) k.1)),
@@ -117,7 +119,9 @@ module _ (o : Options) {S F : Type 0} (takes : S → List ℕ → Scan → S →
         let h : Pairwise (Clear o) (lines_of_elifs es ++ elif_line q ∷ []) (elifs_so_far true es ++ marked true v ∷ [])
         × Pairwise (Clear o) (lines_of_nodes ns) (nodes_so_far (is_kept (conds_of_elifs es) q.cond) ns) =
         pairwise_parts (Clear o) (lines_of_elifs es ++ elif_line q ∷ []) (elifs_so_far true es ++ marked true v ∷ []) (lines_of_nodes ns)
-        (nodes_so_far (is_kept (conds_of_elifs es) q.cond) ns) (many_both (lines_of_elifs es) (elif_line q ∷ []) (elifs_so_far true es) (marked true v ∷ []) (as_many_elifs true es) refl) k in
+        (nodes_so_far (is_kept (conds_of_elifs es) q.cond) ns)
+        (many_both (lines_of_elifs es) (elif_line q ∷ []) (elifs_so_far true es) (marked true v ∷ []) (as_many_elifs true es)
+        refl) k in
         let f : Pairwise (Clear o) (lines_of_elifs es) (elifs_so_far true es) × Pairwise (Clear o) (elif_line q ∷ []) (marked true v ∷ []) =
         pairwise_parts (Clear o) (lines_of_elifs es) (elifs_so_far true es) (elif_line q ∷ []) (marked true v ∷ []) (as_many_elifs true es) h.0 in
         let r : ElifsRight p es × ((s t : S) → NoneTrue p es s t → any_true (conds_of_elifs es) ≡ false) = elifs_right es f.0 in

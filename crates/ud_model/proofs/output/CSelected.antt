@@ -152,7 +152,9 @@ module _ (o : Options) (w : World Reading) where
         let q : Pairwise (Clear o) (lines_of_elifs es ++ elif_line p ∷ []) (elifs_so_far true es ++ marked true v ∷ [])
         × Pairwise (Clear o) (lines_of_nodes ns) (nodes_so_far (is_kept (conds_of_elifs es) p.cond) ns) =
         pairwise_parts (Clear o) (lines_of_elifs es ++ elif_line p ∷ []) (elifs_so_far true es ++ marked true v ∷ []) (lines_of_nodes ns)
-        (nodes_so_far (is_kept (conds_of_elifs es) p.cond) ns) (many_both (lines_of_elifs es) (elif_line p ∷ []) (elifs_so_far true es) (marked true v ∷ []) (as_many_elifs true es) refl) k in
+        (nodes_so_far (is_kept (conds_of_elifs es) p.cond) ns)
+        (many_both (lines_of_elifs es) (elif_line p ∷ []) (elifs_so_far true es) (marked true v ∷ []) (as_many_elifs true es)
+        refl) k in
         let f : Pairwise (Clear o) (lines_of_elifs es) (elifs_so_far true es) × Pairwise (Clear o) (elif_line p ∷ []) (marked true v ∷ []) =
         pairwise_parts (Clear o) (lines_of_elifs es) (elifs_so_far true es) (elif_line p ∷ []) (marked true v ∷ []) (as_many_elifs true es) q.0 in
         let r = elifs_right es f.0 h.0 in

@@ -268,7 +268,10 @@ module _ (o : Options) (m : Mode) (b n : Bool) (some : (b || n) ≡ true) where
           weave = w;
           whole = whole_more s.qs d s.whole (quiet_whole (says_number j.line.number) (ending_or_newline j.line.ending) (says_quiet j.line.number few) end);
           same = cc (concat_more s.qs d, append_assoc (concat s.qs) d (piece_by j.verdict j.keyword j.line), s.same, g, shown_u);
-          count = λ r p h. subst (λ (js : List Judged). Counted js (map reading_of s.ys ++ r ∷ []) (map reading_of (with_line o m s.zs (line_behind s.qs d)) ++ p ∷ []) (suc j.line.number)) (sym js_u)
+          count =
+              λ r p h. subst
+              (λ (js : List Judged). Counted js (map reading_of s.ys ++ r ∷ [])
+              (map reading_of (with_line o m s.zs (line_behind s.qs d)) ++ p ∷ []) (suc j.line.number)) (sym js_u)
               (subst (λ (rs : List Reading). Counted (so_far xs t ++ j ∷ []) (map reading_of s.ys ++ r ∷ [])
               (rs ++ p ∷ []) (suc j.line.number)) (sym (readings_last o s.zs s.zs m (line_behind s.qs d)))
               (starts_anew s.counted j z (ap (λ (y : Line). y.body) cut, put_lone o m s.ys s.zs s.qs s.weave rest d quiet) r p h));

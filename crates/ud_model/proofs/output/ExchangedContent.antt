@@ -96,7 +96,8 @@ module _ (scan now : Scan) (d : Directive) (e : content_of scan ≡ directive d)
 
   -- With the keyword of a first directive in place of its own, the line has a first directive, with
   -- the same text after two spaces.
-  pub to_if_content : now.masked ≡ take d.keyword.at scan.masked ++ (opener_keyword d.keyword.len ++ d.after) → content_of now ≡ directive (spaced d (if_kind d.keyword.len) (if_len d.keyword.len))
+  pub to_if_content : now.masked ≡ take d.keyword.at scan.masked ++ (opener_keyword d.keyword.len ++ d.after) →
+      content_of now ≡ directive (spaced d (if_kind d.keyword.len) (if_len d.keyword.len))
   to_if_content m = search (rules, by_words, and-false)
 
 -- A line that ends after `else` or `endif` in place of its keyword, and joins no other.

@@ -152,7 +152,8 @@ body_parts : (before : Bool) (r : Reading) (rs : List Reading) (masked : List �
     HaveSpaces before (folded_body (r ∷ rs)) masked → HaveSpaces before (content r.line ++ bytes_behind r rs) masked
 body_parts before r [] masked i h =
     let p = content-prefix r.line in
-    subst (λ (u : List ℕ). HaveSpaces before u masked) (sym (append-nil (content r.line))) (front_bytes before (content r.line) p.0 masked (subst (λ (u : List ℕ). HaveSpaces before u masked) p.1 h))
+    subst (λ (u : List ℕ). HaveSpaces before u masked) (sym (append-nil (content r.line)))
+    (front_bytes before (content r.line) p.0 masked (subst (λ (u : List ℕ). HaveSpaces before u masked) p.1 h))
 body_parts before r (s ∷ rs) masked i h =
     subst (λ (u : List ℕ). HaveSpaces before u masked)
     (ap (λ (x : List ℕ). x ++ folded_body (s ∷ rs)) (part_by r.line (is_outside r.scan.comment) r.scan.spliced (sym i.spliced))

@@ -73,7 +73,8 @@ strewn_counted o (starts_anew {rs = rs} {ss = ss} c j d q r s k) =
     (subst (λ (zs : List (Item Reading)). Inserted (items o rs ++ item_of o r ∷ []) zs) (sym (last_item o (ss ++ d ∷ []) s))
     (inserted_both
     (subst (λ (zs : List (Item Reading)). Inserted (items o rs) zs) (sym (last_item o ss d))
-    (subst (λ (ys : List (Item Reading)). Inserted ys (items o ss ++ item_of o d ∷ [])) (append-nil (items o rs)) (inserted_both (strewn_counted o c) (put_one o d (inr (j.line.number, q))))))
+    (subst (λ (ys : List (Item Reading)). Inserted ys (items o ss ++ item_of o d ∷ [])) (append-nil (items o rs))
+    (inserted_both (strewn_counted o c) (put_one o d (inr (j.line.number, q))))))
     (same_one o j r s k)))
 
 -- 2. Nodes.

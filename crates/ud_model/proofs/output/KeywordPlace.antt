@@ -100,7 +100,8 @@ word_stands (c ∷ word) (x ∷ behind) rest h n e =
     (r.0, ap₂ (λ (y : ℕ) (l : List ℕ). y ∷ l) q r.1, r.2)
 word_stands word behind rest h g k = grind arith
 
-module _ (w : LexState) (before more prefix rest : List ℕ) (place : place_after w before ≡ in_text) (masks : masked_after w [] before ≡ prefix) (ends : masked_after in_text [] more ≡ rest) where
+module _ (w : LexState) (before more prefix rest : List ℕ) (place : place_after w before ≡ in_text)
+    (masks : masked_after w [] before ≡ prefix) (ends : masked_after in_text [] more ≡ rest) where
   -- After another word at this position, the rest is shown as before.
   pub masked_other : (word : List ℕ) → Each IsInert word → masked_after w [] (before ++ (word ++ more)) ≡ prefix ++ (word ++ rest)
   masked_other word h = grind (arith, masked_after-append, text_front, place_inert, masked_inert)

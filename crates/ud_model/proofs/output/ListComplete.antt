@@ -192,5 +192,6 @@ pub led_to : (t : List Argument) (n m : List ℕ) → LeadsTo t n m → (m ≡ n
 led_to t _ _ (itself n) = inl refl
 led_to t _ _ (by_value n v m d i l) = elim (led_to t v m l) [ inl e ↦ inr (n, d ∙ ap (λ (w : List ℕ). Some w) (sym e)) | inr k ↦ inr k ]
 
-pub alike_but_one : (list name : List ℕ) (t u : List Argument) → (IsListed name list → ⊥) → IsNoValue t name → ((n : List ℕ) → n ≢ name → entry_in t n ≡ entry_in u n) → AgreeOnListed list t u
+pub alike_but_one : (list name : List ℕ) (t u : List Argument) → (IsListed name list → ⊥) → IsNoValue t name →
+    ((n : List ℕ) → n ≢ name → entry_in t n ≡ entry_in u n) → AgreeOnListed list t u
 alike_but_one list name t u out none same n m i l = grind (arith, led_to)

@@ -72,7 +72,8 @@ formed_with v x rest n t e w f = go (left_one v x)
     go (inr (y, is, bytes, left)) =
         subst (λ (ys : List (Item (Edited Reading))). AreFormed (all_pieces (ys ++ rest))) (sym is)
         (formed_more (edited_bytes (line_in y)) (all_pieces rest)
-        (subst IsWhole (sym (bytes ∙ ap (λ (l : Line). piece_by v (keyword_in (content_of (reading_of x).scan)) l) e)) (whole_piece v (keyword_in (content_of (reading_of x).scan)) n t left w)) f)
+        (subst IsWhole (sym (bytes ∙ ap (λ (l : Line). piece_by v (keyword_in (content_of (reading_of x).scan)) l) e))
+        (whole_piece v (keyword_in (content_of (reading_of x).scan)) n t left w)) f)
 
 formed_last : (v : Verdict) (x : Item Reading) (n : ℕ) (t : List ℕ) → line_of x ≡ line_at n t → IsWhole t ⊎ IsUnterminated t → AreFormed (all_pieces (kept_line v x ++ []))
 unfolding LeftOne all_pieces

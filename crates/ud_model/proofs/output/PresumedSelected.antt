@@ -99,7 +99,8 @@ module _ (x : World Reading) where
     got_groups (otherwise es l ns) h {ls} {ss} g =
         let k = clear_parts (lines_of_elifs es ++ else_line l ∷ []) (lines_of_nodes ns) h in
         let m = clear_parts (lines_of_elifs es) (else_line l ∷ []) k.0 in
-        moved (ap (λ (z : List Reading). z ++ of (lines_of_nodes ns)) (after ls (lines_of_elifs es) (else_line l ∷ [])) ∙ after ls (lines_of_elifs es ++ else_line l ∷ []) (lines_of_nodes ns)) refl
+        moved (ap (λ (z : List Reading). z ++ of (lines_of_nodes ns)) (after ls (lines_of_elifs es) (else_line l ∷ []))
+        ∙ after ls (lines_of_elifs es ++ else_line l ∷ []) (lines_of_nodes ns)) refl
         (got_else ns (got_nodes ns k.1) (selected_elifs x es) ((ls ++ of (lines_of_elifs es)) ++ l ∷ []) ss (pass_one (got_elifs es m.0 g) l))
 
     got_elifs : (es : Elifs Reading) → Clear (lines_of_elifs es) → {ls ss : List Reading} → Got ls ss → Got (ls ++ of (lines_of_elifs es)) (ss ++ lines_or (selected_elifs x es) [])
@@ -109,7 +110,8 @@ module _ (x : World Reading) where
     got_elifs (elif es o ns) h {ls} {ss} g =
         let k = clear_parts (lines_of_elifs es ++ elif_line o ∷ []) (lines_of_nodes ns) h in
         let m = clear_parts (lines_of_elifs es) (elif_line o ∷ []) k.0 in
-        moved (ap (λ (z : List Reading). z ++ of (lines_of_nodes ns)) (after ls (lines_of_elifs es) (elif_line o ∷ [])) ∙ after ls (lines_of_elifs es ++ elif_line o ∷ []) (lines_of_nodes ns)) refl
+        moved (ap (λ (z : List Reading). z ++ of (lines_of_nodes ns)) (after ls (lines_of_elifs es) (elif_line o ∷ []))
+        ∙ after ls (lines_of_elifs es ++ elif_line o ∷ []) (lines_of_nodes ns)) refl
         (got_group ns (got_nodes ns k.1) (selected_elifs x es) (x o.line) ((ls ++ of (lines_of_elifs es)) ++ o.line ∷ []) ss (pass_one (got_elifs es m.0 g) o.line))
 
 -- The selected lines of a text whose lines are clear have presumed numbers.

@@ -103,7 +103,8 @@ mutual
       section_alike (nodes_alike ms us a h.0) (groups_alike gs hs b h.1)
   nodes_alike _ _ q h = cc
 
-  groups_alike : (gs : Groups (Edited Reading)) (hs : Groups Reading) → groups_with_lines left_seen gs ≡ groups_with_lines scanned hs → GroupLines TextStays OpenerStays gs → GroupsAlike gs hs
+  groups_alike : (gs : Groups (Edited Reading)) (hs : Groups Reading) →
+      groups_with_lines left_seen gs ≡ groups_with_lines scanned hs → GroupLines TextStays OpenerStays gs → GroupsAlike gs hs
   groups_alike (conditional es) (conditional fs) q h =
       let a : elifs_with_lines left_seen es ≡ elifs_with_lines scanned fs = cc in conditional_alike (elifs_alike es fs a h)
   groups_alike (otherwise es e ms) (otherwise fs l us) q h =

@@ -44,7 +44,10 @@ own_items o _ _ (one_item xs t r l u e) =
     (item_own o (next_item o xs t l) (ap (item_of o) (sym (reading_of-item_of o (read_after xs (mode_after o t) l)))), tt)
 
 lines_text : (o : Options) (input : List ℕ) (ns : Nodes Reading) → IsTreeOf o input (closed ns) → LinesText ns
-lines_text o input ns i = from_items IsText AnyOpener ns (subst (λ (xs : List (Item Reading)). Each (IsOf IsText AnyOpener) xs) (sym (read_lines i.read)) (own_items o i.items (closed ns) i.read))
+lines_text o input ns i =
+    from_items IsText AnyOpener ns
+    (subst (λ (xs : List (Item Reading)). Each (IsOf IsText AnyOpener) xs) (sym (read_lines i.read))
+    (own_items o i.items (closed ns) i.read))
 
 -- 2. The nodes that pruning leaves of each file.
 

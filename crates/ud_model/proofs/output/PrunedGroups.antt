@@ -138,7 +138,8 @@ module _ {L : Type 0} where
   other_gone : (all : List Cond) (g : Group L) (l : List (Item (Edited L))) → is_kept_group g ≡ false → left_of all g ≡ l → others_left all (g ∷ []) ≡ l
   other_gone all g l e f = ap (λ (b : Bool). (if b then [] else left_of all g) ++ []) e ∙ append-nil (left_of all g) ∙ f
 
-  others_then : (all : List Cond) (gs : List (Group L)) (g : Group L) (l m : List (Item (Edited L))) → others_left all gs ≡ l → others_left all (g ∷ []) ≡ m → others_left all (gs ++ g ∷ []) ≡ l ++ m
+  others_then : (all : List Cond) (gs : List (Group L)) (g : Group L) (l m : List (Item (Edited L))) →
+      others_left all gs ≡ l → others_left all (g ∷ []) ≡ m → others_left all (gs ++ g ∷ []) ≡ l ++ m
   others_then all gs g l m e f = others_both all gs (g ∷ []) ∙ ap₂ (λ (x y : List (Item (Edited L))). x ++ y) e f
 
   -- These groups are kept, and this line is left of the openers of the others.
@@ -155,8 +156,9 @@ module _ {L : Type 0} where
   Leaves gs (ended es l ms (Some k)) = (all : List Cond) → gives_way all ≡ false → Left all gs (groups_of (otherwise es l ms)) (endif_line k ∷ [])
 
   -- One more group is kept.
-  one_kept : (all : List Cond) (gs : List (Group L)) (hs : List (Group (Edited L))) (g : Group L) (h : Group (Edited L)) → Left all gs hs [] → is_kept_group g ≡ true → left_of all g ≡ h.opener ∷ [] →
-      ArePruned g.nodes h.nodes → Left all (gs ++ g ∷ []) (hs ++ h ∷ []) []
+  one_kept : (all : List Cond) (gs : List (Group L)) (hs : List (Group (Edited L))) (g : Group L) (h : Group (Edited L)) →
+      Left all gs hs [] → is_kept_group g ≡ true → left_of all g ≡ h.opener ∷ [] → ArePruned g.nodes h.nodes →
+      Left all (gs ++ g ∷ []) (hs ++ h ∷ []) []
   one_kept all gs hs g h l e o p = record {
     are = kept_both (g ∷ []) (h ∷ []) l.are (with_this e o p no_groups);
     others = others_then all gs g [] [] l.others (other_kept all g e);
@@ -193,7 +195,8 @@ module _ {L : Type 0} where
       λ all stays. one_gone all gs (groups_of_elifs es) (group an_elif cs No (elif_line o) ns) [] [] (h all stays)
       (kept_on cs No going s) (ap (λ (v : Verdict). kept_line v (elif_line o)) (going_verdict all cs stays s an_elif No))
   elif_leaves cs gs (kept_groups es) s h o Unknown ns ps p =
-      λ all stays. one_kept all gs (groups_of_elifs es) (group an_elif cs Unknown (elif_line o) ns) (group an_elif (conds_of_elifs es) o.cond (elif_line (edited_opener Keep o)) ps) (h all stays)
+      λ all stays. one_kept all gs (groups_of_elifs es) (group an_elif cs Unknown (elif_line o) ns)
+      (group an_elif (conds_of_elifs es) o.cond (elif_line (edited_opener Keep o)) ps) (h all stays)
       (kept_on cs Unknown going s) (ap (λ (v : Verdict). kept_line v (elif_line o)) (going_verdict all cs stays s an_elif Unknown)) p
   elif_leaves cs gs (ended es l ms None) s h o c ns ps p =
       λ all stays. one_gone all gs (groups_of (otherwise es l ms)) (group an_elif cs c (elif_line o) ns) [] (endif_line (edited ToEndif o.line) ∷ []) (h all stays)
@@ -217,7 +220,8 @@ module _ {L : Type 0} where
       (kept_on cs Yes past s) (ap (λ (v : Verdict). kept_line v (else_line l)) (past_verdict all cs stays s an_else Yes))
 
   -- The section's `#endif`, by the stage at its end.
-  is_endif : (gs : Groups L) (e : L) (k : Edited L) (ends m : List (Item (Edited L))) (v : Verdict) → others_left (conds_of_groups gs) (groups_of gs) ≡ ends → endif_verdict (conds_of_groups gs) ≡ v →
+  is_endif : (gs : Groups L) (e : L) (k : Edited L) (ends m : List (Item (Edited L))) (v : Verdict) →
+      others_left (conds_of_groups gs) (groups_of gs) ≡ ends → endif_verdict (conds_of_groups gs) ≡ v →
       kept_line v (endif_line e) ≡ m → ends ++ m ≡ endif_line k ∷ [] → IsEndif (conds_of_groups gs) (groups_of gs) e k
   is_endif gs e k ends m v o f g h = grind arith
 

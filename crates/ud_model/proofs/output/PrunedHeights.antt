@@ -21,7 +21,8 @@ module _ {L : Type 0} where
   height_left (kept_groups es) = suc (height_of_elifs es)
   height_left (ended es l ms k) = suc (max (height_of_elifs es) (height_of_nodes ms))
 
-  with_most : (left : KeptGroups L) (part : Part) (o : Opener L) (c : Cond) (ps : Nodes (Edited L)) → height_left (with_group left part o c ps) ≤ max (height_left left) (suc (height_of_nodes ps))
+  with_most : (left : KeptGroups L) (part : Part) (o : Opener L) (c : Cond) (ps : Nodes (Edited L)) →
+      height_left (with_group left part o c ps) ≤ max (height_left left) (suc (height_of_nodes ps))
   with_most left part o c ps = grind arith
 
   else_most : (left : KeptGroups L) (l : L) (ps : Nodes (Edited L)) → height_left (with_else left l ps) ≤ max (height_left left) (suc (height_of_nodes ps))

@@ -16,7 +16,8 @@ module _ {L : Type 0} (T : L → Type 0) (P : Opener L → Type 0) (U : Edited L
   LeftLines (kept_groups es) = ElifLines U Q es
   LeftLines (ended es l ms k) = ElifLines U Q es × EachLine U Q ms
 
-  group_lines : (left : KeptGroups L) (part : Part) (o : Opener L) (c : Cond) (ps : Nodes (Edited L)) → o.cond ≡ c → P o → LeftLines left → EachLine U Q ps → LeftLines (with_group left part o c ps)
+  group_lines : (left : KeptGroups L) (part : Part) (o : Opener L) (c : Cond) (ps : Nodes (Edited L)) → o.cond ≡ c → P o →
+      LeftLines left → EachLine U Q ps → LeftLines (with_group left part o c ps)
   group_lines none_kept part o Unknown ps e p h n = (openers part o e p, n)
   group_lines (kept_groups es) part o Unknown ps e p h n = (h, openers an_if o e p, n)
   group_lines left part o c ps e p h n = grind arith

@@ -61,7 +61,8 @@ module _ {L K M : Type 0} (f : L → M) (g : K → M) (v : World L) (w : World K
         let oe : opener_with_line f o ≡ opener_with_line g p = cc in
         let le : f o.line ≡ g p.line = ap (λ (x : Opener M). x.line) oe in
         let prefix : map f (openers_of_elifs es ++ o.line ∷ []) ≡ map g (openers_of_elifs ds ++ p.line ∷ []) =
-        map-append f (openers_of_elifs es) (o.line ∷ []) ∙ ap₂ (λ (a : List M) (b : M). a ++ b ∷ []) (long_elifs f g v w es ds d) le ∙ sym (map-append g (openers_of_elifs ds) (p.line ∷ [])) in
+        map-append f (openers_of_elifs es) (o.line ∷ []) ∙ ap₂ (λ (a : List M) (b : M). a ++ b ∷ [])
+        (long_elifs f g v w es ds d) le ∙ sym (map-append g (openers_of_elifs ds) (p.line ∷ [])) in
         let r : (map v (openers_of_elifs es ++ o.line ∷ []) ≡ map w (openers_of_elifs ds ++ p.line ∷ [])) × (map v (openers ns) ≡ map w (openers ms)) =
         openers_apart f g v w (openers_of_elifs es ++ o.line ∷ []) (openers ns) (openers_of_elifs ds ++ p.line ∷ []) (openers ms) prefix t in
         let s : (map v (openers_of_elifs es) ≡ map w (openers_of_elifs ds)) × (v o.line ∷ [] ≡ w p.line ∷ []) =

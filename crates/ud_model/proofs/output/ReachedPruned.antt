@@ -47,7 +47,8 @@ module _ {L : Type 0} (w : World L) (P : L → Type 0) (Q : Edited L → Type 0)
   group_reached s (ended es l ms None) part o c ps h r a n = r
   group_reached s (ended es l ms (Some k)) part o c ps h r a n = r
 
-  else_reached : (s : Option (List L)) (left : KeptGroups L) (l : L) (ps : Nodes (Edited L)) → Chosen w s left → LeftReached left → (s ≡ None → Reached ps) → LeftReached (with_else left l ps)
+  else_reached : (s : Option (List L)) (left : KeptGroups L) (l : L) (ps : Nodes (Edited L)) → Chosen w s left →
+      LeftReached left → (s ≡ None → Reached ps) → LeftReached (with_else left l ps)
   else_reached s left l ps h r n = grind arith
 
   then_reached : (ms ns : Nodes (Edited L)) → Reached ms → Reached ns → Reached (then_nodes ms ns)

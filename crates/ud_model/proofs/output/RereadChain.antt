@@ -44,7 +44,8 @@ module _ (o : Options) (p : IsPlain o) where
       (zs : List (Item Reading)) × Again o (the_mode o) (xs ++ next_item o xs t l ∷ []) u zs × (HasEnd l → Between o (the_mode o) (xs ++ next_item o xs t l ∷ []) u zs)
   one_step xs t s ys b l u i e n =
       subst (λ (x : Item Reading). (zs : List (Item Reading)) × Again o (the_mode o) (xs ++ x ∷ []) u zs × (HasEnd l → Between o (the_mode o) (xs ++ x ∷ []) u zs)) (sym (next_is xs t l s))
-      (step o (the_mode o) xs t (sound_lines s) ys b l u i (e ∙ ap (λ (x : Item Reading). xs ++ x ∷ []) (next_is xs t l s)) (subst (λ (x : Item Reading). NoneHolds xs x cases) (next_is xs t l s) n))
+      (step o (the_mode o) xs t (sound_lines s) ys b l u i (e ∙ ap (λ (x : Item Reading). xs ++ x ∷ []) (next_is xs t l s))
+      (subst (λ (x : Item Reading). NoneHolds xs x cases) (next_is xs t l s) n))
 
   between : (xs : List (Item Reading)) (t : Tree Reading) → AreFaultless o xs t → Each IsInner (map line_of xs) → (ys : List (Item Reading)) × Between o (the_mode o) xs t ys
   between _ _ no_lines h = ([], start o (the_mode o))

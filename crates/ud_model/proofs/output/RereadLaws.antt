@@ -183,7 +183,8 @@ module _ (k : CleanRun) where
   truths_kept w =
       world_of k.outcome.output k.after (map (λ (e : Edited Reading). w e.line) (openers_in (pruned_lines k.before)))
       (ap (λ (ys : List (Item Reading)). map line_of ys) (read_lines k.of_output.read) ∙ sym k.of_output.are)
-      (length-map (openers_in (pruned_lines k.before)) (λ (e : Edited Reading). w e.line) ∙ sym (length-map (openers_in (pruned_lines k.before)) (λ (e : Edited Reading). condition_in e.line))
+      (length-map (openers_in (pruned_lines k.before)) (λ (e : Edited Reading). w e.line)
+      ∙ sym (length-map (openers_in (pruned_lines k.before)) (λ (e : Edited Reading). condition_in e.line))
       ∙ ap (λ (l : List (Option Expression)). length l) (sym conditions_same) ∙ length-map (openers k.after) condition_in)
 
 -- Each line of an input without a fault is clear.

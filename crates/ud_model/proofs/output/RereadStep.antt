@@ -140,7 +140,8 @@ gone_on o xs ys w white on l a r h true e =
     (white_after_line (stays_open l) (place_after w (content l)) (white_after w white (content l))) j) e (leaves_next o xs w white on l a)) r refl
 gone_on o xs ys w white on l a r h false e = alike in_text true false (leaves_anew o xs l e h) r.off (λ f. cc) (λ f. r)
 
-module _ (o : Options) (xs : List (Item Reading)) (t : Tree Reading) (ys : List (Item Reading)) (b : Between o C xs t ys) (l : Line) (u : Tree Reading) (i : IsLine l) (k : More o C xs t l u) where
+module _ (o : Options) (xs : List (Item Reading)) (t : Tree Reading) (ys : List (Item Reading)) (b : Between o C xs t ys)
+    (l : Line) (u : Tree Reading) (i : IsLine l) (k : More o C xs t l u) where
   abbrev line_new : Item Reading
   line_new = item_of o (read_after xs C l)
 
@@ -210,7 +211,8 @@ module _ (o : Options) (xs : List (Item Reading)) (t : Tree Reading) (ys : List 
 
 -- The output for lines and the item that is left of one more are the output for them with it, read
 -- again. Between it and the next line the same facts are known as before.
-pub step : (o : Options) (m : Mode) (xs : List (Item Reading)) (t : Tree Reading) → lines t ≡ xs → (ys : List (Item Reading)) → Between o m xs t ys → (l : Line) (u : Tree Reading) → IsLine l →
+pub step : (o : Options) (m : Mode) (xs : List (Item Reading)) (t : Tree Reading) → lines t ≡ xs →
+    (ys : List (Item Reading)) → Between o m xs t ys → (l : Line) (u : Tree Reading) → IsLine l →
     lines u ≡ xs ++ item_of o (read_after xs m l) ∷ [] → NoneHolds xs (item_of o (read_after xs m l)) cases →
     (zs : List (Item Reading)) × Again o m (xs ++ item_of o (read_after xs m l) ∷ []) u zs
     × (HasEnd l → Between o m (xs ++ item_of o (read_after xs m l) ∷ []) u zs)

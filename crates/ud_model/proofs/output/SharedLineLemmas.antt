@@ -92,7 +92,8 @@ pub shared_lines : (o : Options) (input : List ℕ) {js : List Judged} {r s : Ou
 shared_lines o input k (judged_as reads) = (shared o input k.decides reads k.runs k.complement).1
 
 -- Tables with the same entry for every name give a text the same outcome.
-pub same_names : (o p : Options) (input : List ℕ) {r : Outcome} → p.settings ≡ o.settings → ((n : List ℕ) → entry_in o.table n ≡ entry_in p.table n) → HasOutcome o input r → HasOutcome p input r
+pub same_names : (o p : Options) (input : List ℕ) {r : Outcome} → p.settings ≡ o.settings →
+    ((n : List ℕ) → entry_in o.table n ≡ entry_in p.table n) → HasOutcome o input r → HasOutcome p input r
 same_names o p input same every run = by_run run
   where
     names : (xs : List (Item Reading)) → AllNames (Alike o.table p.table) xs

@@ -44,7 +44,9 @@ module _ (table : List Argument) (rules : Rules) where
       let p = content-prefix l in
       let c : NoNewline (content l) = (no_feed_parts (content l) p.0 (subst NoNewline p.1 h)).0 in
       let f : NoNewline (map byte_of (condition_cells l d)) =
-      subst NoNewline (drop-map byte_of (keyword_end d) (content_cells [] l)) (no_feed_cut (keyword_end d) (map byte_of (content_cells [] l)) (subst NoNewline (sym (bytes-content_cells [] l)) c)).1 in
+      subst NoNewline (drop-map byte_of (keyword_end d) (content_cells [] l))
+      (no_feed_cut (keyword_end d) (map byte_of (content_cells [] l))
+      (subst NoNewline (sym (bytes-content_cells [] l)) c)).1 in
       no_newline-append (take (keyword_end d) l.body) (map byte_of (left_cells_of table rules l d)) (no_feed_cut (keyword_end d) l.body h).0
       (fewer (cells_go table rules (condition_cells l d)) f)
 
@@ -150,5 +152,6 @@ module _ (table : List Argument) (rules : Rules) where
   pub bytes_left : (bytes : List ℕ) → IsSublist (simplified_text table rules bytes) bytes
   bytes_left bytes =
       subst (λ (xs : List ℕ). IsSublist (simplified_text table rules bytes) xs)
-      (ap concat (texts_back (read_as C bytes) ∙ ap (λ (ls : List Line). map text_of ls) (read_back_by table rules (by_push (lines_of bytes))) ∙ map-lines_of bytes) ∙ sym (lines_exist bytes).joined)
+      (ap concat (texts_back (read_as C bytes) ∙ ap (λ (ls : List Line). map text_of ls)
+      (read_back_by table rules (by_push (lines_of bytes))) ∙ map-lines_of bytes) ∙ sym (lines_exist bytes).joined)
       (left_bytes (read_as C bytes))

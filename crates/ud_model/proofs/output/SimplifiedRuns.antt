@@ -111,7 +111,8 @@ module _ (table : List Argument) (rules : Rules) where
       h.broken ∙ ap (λ (b : Bool). b && is_outside r.scan.comment) p
 
   -- The condition of an edited line stays unknown.
-  still_unknown : (r s : Reading) (d : Directive) (i : IsLeft table rules r s d) → (decision_on r.scan d table rules).cond ≡ Unknown → (decision_on s.scan i.edited.now table rules).cond ≡ Unknown
+  still_unknown : (r s : Reading) (d : Directive) (i : IsLeft table rules r s d) →
+      (decision_on r.scan d table rules).cond ≡ Unknown → (decision_on s.scan i.edited.now table rules).cond ≡ Unknown
   still_unknown r s d i h =
       let now : Directive = i.edited.now in
       let a = sym (cond_first d.kind now.kind d.after i.edited.kind).0 ∙ known_by r.scan d d.broken (unbroken r s d i) h in
@@ -145,11 +146,15 @@ module _ (o : Options) where
 
   pub all_few : {rs ss : List Reading} → Pairs Simplified rs ss → Each IsFew (items o rs) → Each IsFew (items o ss)
   all_few p h =
-      each_left IsFew (λ r s i. of_reading (λ (x : Reading). x.line.number ≤ TEXT_LINES) r s (λ l. subst (λ (n : ℕ). n ≤ TEXT_LINES) (sym (number_left o.table (rules_of o.settings) r s i)) l)) p h
+      each_left IsFew
+      (λ r s i. of_reading (λ (x : Reading). x.line.number ≤ TEXT_LINES) r s
+      (λ l. subst (λ (n : ℕ). n ≤ TEXT_LINES) (sym (number_left o.table (rules_of o.settings) r s i)) l)) p h
 
   pub all_short : {rs ss : List Reading} → Pairs Simplified rs ss → Each IsShort (items o rs) → Each IsShort (items o ss)
   all_short p h =
-      each_left IsShort (λ r s i. of_reading (λ (x : Reading). length (text_of x.line) ≤ LINE_BYTES) r s (λ l. let m = short_left o.table (rules_of o.settings) r s i in omega (arith, l, m))) p h
+      each_left IsShort
+      (λ r s i. of_reading (λ (x : Reading). length (text_of x.line) ≤ LINE_BYTES) r s
+      (λ l. let m = short_left o.table (rules_of o.settings) r s i in omega (arith, l, m))) p h
 
   pub all_calm : {rs ss : List Reading} → Pairs Simplified rs ss → ends_in_comment (items o rs) ≡ false → ends_in_comment (items o ss) ≡ false
   all_calm no_pair h = refl

@@ -148,7 +148,8 @@ module _ {A B : Type 0} (R : Item A → Item B → Type 0) (IsPut : B → Type 0
           let n : Woven N ns c.before = weave_nodes ns c.before c.first_part in
           subst (Woven N (text ns l)) (
           append_assoc (lines_of_nodes n.nodes) (text_line i.0 ∷ []) c.later
-          ∙ ap₂ (λ (b : List (Item B)) (x : Item B). b ++ x ∷ c.later) n.lines (sym i.1) ∙ sym c.are) (more_texts (text ns l) (text n.nodes i.0) c.later (i.2 ns n.nodes n.alike) c.second_part)
+          ∙ ap₂ (λ (b : List (Item B)) (x : Item B). b ++ x ∷ c.later) n.lines (sym i.1) ∙ sym c.are)
+          (more_texts (text ns l) (text n.nodes i.0) c.later (i.2 ns n.nodes n.alike) c.second_part)
       weave_nodes (section ns gs e) zs s =
           let c = split_at (lines_of_nodes ns ++ lines_of_groups gs) (endif_line e) [] zs s in
           let i = w.endif_goes e c.here c.alike in

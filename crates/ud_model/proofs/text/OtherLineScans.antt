@@ -20,7 +20,8 @@ ends_there : (before : List Reading) (l : Line) → StandsAlone before l → End
 ends_there before l s = ends_with before C l (ap (λ (c : Scan). c.joins_after) (scanned_alone before l s.begins) ∙ s.alone) s.has_ending
 
 -- Whatever follows is scanned alike.
-pub scanned_alike : {before after : List Reading} → AreReadAlike before after → (group : List Reading) (m : Mode) (l : Line) → scan_after (before ++ group) m l ≡ scan_after (after ++ group) m l
+pub scanned_alike : {before after : List Reading} → AreReadAlike before after →
+    (group : List Reading) (m : Mode) (l : Line) → scan_after (before ++ group) m l ≡ scan_after (after ++ group) m l
 scanned_alike no_lines group m l = refl
 scanned_alike (same_line {before = before} {after = after} p k) group m l =
     let same : next_reading before C k ≡ next_reading after C k = cc (append-nil before, scanned_alike p [] C k, append-nil after) in

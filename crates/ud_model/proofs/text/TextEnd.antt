@@ -147,7 +147,8 @@ unfolding kind_at_end
 end_in_open text pieces h k n = (end_open single text pieces h k n, open_end single text pieces h k)
 
 -- Lines join the next one if the last is spliced, or if the last lexeme is an open block comment.
-pub joins_open : (lines : List Line) (pieces : List Lexeme) → AreLexemes pieces (spliced_text lines) → (joins lines ≡ true) ↔ ((last_is_spliced lines ≡ true) ⊎ LastIsOpen block_comment pieces)
+pub joins_open : (lines : List Line) (pieces : List Lexeme) → AreLexemes pieces (spliced_text lines) →
+    (joins lines ≡ true) ↔ ((last_is_spliced lines ≡ true) ⊎ LastIsOpen block_comment pieces)
 unfolding joins
 joins_open lines pieces h = grind (arith, end_in_open)
 

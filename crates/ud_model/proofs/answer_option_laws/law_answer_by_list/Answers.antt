@@ -7,4 +7,6 @@ pub returns-clause-lists : goal.returns-clause-lists
 returns-clause-lists c = λ args off. lists_names args off
 
 pub returns-clause-same : goal.returns-clause-same
-returns-clause-same c = λ args more input l a k s h. answered_by_list k.lists.answer k.lists.no_fault (lists_names args k.no_depths) s.answer s.no_fault h.no_fault h.alike.settings h.alike.entries
+returns-clause-same c =
+    λ args more input l a k s h. answered_by_list k.lists.answer k.lists.no_fault (lists_names args k.no_depths) s.answer
+    s.no_fault h.no_fault h.alike.settings h.alike.entries

@@ -11,6 +11,9 @@ use Rattle.ud_model.proofs.output_laws.law_processed_tree.Goals as goal
 pub returns : goal.returns
 returns g c = λ files outputs h f s t r.
     processed (agreeing (over_readings g.P.Preprocessing.takes g.P.Preprocessing.enters g.P.Preprocessing.leaves g.P.Preprocessing.decides)) files outputs
-    (λ f. subst (λ (ms : Nodes (Edited Reading)). HasOutput (agreeing (over_readings g.P.Preprocessing.takes g.P.Preprocessing.enters g.P.Preprocessing.leaves g.P.Preprocessing.decides)) (files f) ms)
+    (λ f. subst (λ (ms : Nodes (Edited Reading)).
+    HasOutput (agreeing
+    (over_readings g.P.Preprocessing.takes g.P.Preprocessing.enters g.P.Preprocessing.leaves g.P.Preprocessing.decides))
+    (files f) ms)
     (is_folded (files f) (outputs f) (h f))
     (is_pruned (agreeing_right (over_readings g.P.Preprocessing.takes g.P.Preprocessing.enters g.P.Preprocessing.leaves g.P.Preprocessing.decides) (files f)))) f s t r
