@@ -51,7 +51,7 @@ represents_same old new gs g p free right none said same index =
 pub represents_flag : (old new : PlanState) (gs : List ParsedArg) (c : ℕ) → PlanRepresents old gs → old.operand ≡ None
     → new.settings ≡ with_flag old.settings c → new.symbols ≡ old.symbols → new.operand ≡ old.operand → PlanRepresents new (gs ++ flag c ∷ [])
 represents_flag old new gs c p free said same index =
-    let settings : new.settings ≡ settings_in (gs ++ flag c ∷ []) = said ∙ ap (λ (s : Settings). with_flag s c) p.said ∙ sym (settings_in-flag_last gs c) in
+    let settings = said ∙ ap (λ (s : Settings). with_flag s c) p.said ∙ sym (settings_in-flag_last gs c) in
     represents_same old new gs (flag c) p free refl refl settings same (index ∙ free)
 
 -- an exit mode replaces the one before
@@ -140,8 +140,8 @@ represents_none (a ∷ rows) h some =
 -- a failed allocation for the table, which has a symbol then, is one that `plan` may return
 pub IsUsageOf-table : (plan : PlanState) (gs : List ParsedArg) (u : Usage) → PlanRepresents plan gs → u ≡ OutOfMemory → (plan.symbols ≡ [] → ⊥) → IsUsageOf gs u
 IsUsageOf-table plan gs u p out some =
-    let one : SymbolIn gs = symbol_in gs (λ none. represents_none plan.symbols (subst (TableRepresents plan.symbols) none p.represents) some) in
-    let whole : gs ≡ (one.before ++ one.symbol ∷ []) ++ one.more = one.is ∙ sym (append_assoc one.before (one.symbol ∷ []) one.more) in
+    let one = symbol_in gs (λ none. represents_none plan.symbols (subst (TableRepresents plan.symbols) none p.represents) some) in
+    let whole = one.is ∙ sym (append_assoc one.before (one.symbol ∷ []) one.more) in
     let puts : StoresSymbol gs = record {
       before = one.before;
       symbol = one.symbol;

@@ -18,8 +18,7 @@ returns-in_err-parse_arg-clause-err c =
     let before = c.given.invariant in
     let scanned : is_some (operand_in before.0) ≡ c.is_some.result =
     ap is_some (sym before.3) ∙ is_some-turned as_operand c.given.operand ∙ sym c.is_some.ensures in
-    let all : parsed_args (map string_bytes c.args.args.now) ≡ before.0 ++ parsed_arg c.in-Some.given ∷ remaining_args c.in-Some.after =
-    before.1 ∙ ap (λ (gs : List Parsed). before.0 ++ map as_arg gs) c.in-Some.ensures in
+    let all = before.1 ∙ ap (λ (gs : List Parsed). before.0 ++ map as_arg gs) c.in-Some.ensures in
     rw (p.1, p.2, all) (c.in_err-parse_arg.ensures.err before.0 (remaining_args c.in-Some.after) before.2 scanned)
 
 pub given-preserved : goal.given-preserved

@@ -21,6 +21,5 @@ pub returns-in_err-apply-clause-err : goal.returns-in_err-apply-clause-err
 returns-in_err-apply-clause-err c =
     let p = err_from_is_err_and c.from_residual.result c.from_residual.ensures.1 in
     let before = c.given.invariant in
-    let all : parsed_args (map string_bytes c.args.args.now) ≡ before.0 ++ parsed_arg c.in-Some.given ∷ remaining_args c.in-Some.after =
-    before.1 ∙ ap (λ (gs : List Parsed). before.0 ++ map as_arg gs) c.in-Some.ensures in
+    let all = before.1 ∙ ap (λ (gs : List Parsed). before.0 ++ map as_arg gs) c.in-Some.ensures in
     rw (p.1, p.2, all) (c.in_err-apply.ensures.err before.0 before.2 (remaining_args c.in-Some.after))

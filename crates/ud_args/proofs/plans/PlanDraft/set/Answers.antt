@@ -26,7 +26,9 @@ pub returns-in-Symbol-clause-ok : goal.returns-in-Symbol-clause-ok
 returns-in-Symbol-clause-ok c = λ gs g p free is.
     let sets : SetsSymbol g (as_argument c.in-Symbol.symbol) = rw (c.in-Symbol.is) at is in
     let table : TableRepresents (c.args.self.now.symbols ++ as_argument c.in-Symbol.symbol ∷ []) (filter_map argument_in gs ++ as_argument c.in-Symbol.symbol ∷ []) =
-    represents-changes c.args.self.now.symbols (c.args.self.now.symbols ++ as_argument c.in-Symbol.symbol ∷ []) (filter_map argument_in gs) (as_argument c.in-Symbol.symbol) (λ name. entry_from-push None c.args.self.now.symbols (as_argument c.in-Symbol.symbol) name) p.represents in
+    represents-changes c.args.self.now.symbols (c.args.self.now.symbols ++ as_argument c.in-Symbol.symbol ∷ [])
+    (filter_map argument_in gs) (as_argument c.in-Symbol.symbol)
+    (λ name. entry_from-push None c.args.self.now.symbols (as_argument c.in-Symbol.symbol) name) p.represents in
     on_ok_weaker c.set_symbol.result
     (λ pushed. represents_symbol c.args.self.now c.set_symbol.new.self gs g (as_argument c.in-Symbol.symbol) p free sets c.set_symbol.ensures.same.0
     (subst (λ t. TableRepresents t (filter_map argument_in gs ++ as_argument c.in-Symbol.symbol ∷ [])) (sym pushed) table) c.set_symbol.ensures.same.1)
