@@ -68,8 +68,10 @@ quiet_confirms {name = name} {text = text} q (other_facts seen other is) = quiet
 quiet_confirms {name = name} {text = text} q (other_version seen kept l) = quiet_looks (quiet_next (was_read name text (Some seen)) q (λ n bytes h. refl)) l
 
 -- the fresh file is filled, up to the last look
-quiet_filled : {o : TextOptions} {name fresh before text : List ℕ} {stat : FileStat} {first : Files} {old base new : List Call} {r : Result Unit ReplaceError} (taken : List Call) →
-    Apart first old fresh → Quiet o name first old base → AppendsAll fresh text base taken true → Confirms name before stat (synced fresh true ∷ given fresh stat true ∷ taken) new r → Quiet o name first old new
+quiet_filled : {o : TextOptions} {name fresh before text : List ℕ} {stat : FileStat} {first : Files}
+    {old base new : List Call} {r : Result Unit ReplaceError} (taken : List Call) → Apart first old fresh →
+    Quiet o name first old base → AppendsAll fresh text base taken true →
+    Confirms name before stat (synced fresh true ∷ given fresh stat true ∷ taken) new r → Quiet o name first old new
 quiet_filled {fresh = fresh} {stat = stat} taken a q h l = quiet_confirms (quiet_next (synced fresh true) (quiet_next (given fresh stat true) (quiet_appends a q h) a) (λ n bytes h. refl)) l
 
 -- a rename that failed

@@ -14,14 +14,17 @@ use Rattle.ud_replace.specs.Replacing.{Overwrites, Renames, Judges}
 pub looks_from : {name : List ℕ} {stat : FileStat} {old base new : List Call} {b : Bool} → old ≡ base → LooksAgain name stat old new b → LooksAgain name stat base new b
 looks_from {name = name} {stat = stat} {new = new} {b = b} e h = subst (λ (l : List Call). LooksAgain name stat l new b) e h
 
-pub confirms_from : {name text : List ℕ} {stat : FileStat} {old base new : List Call} {r : Result Unit ReplaceError} → old ≡ base → Confirms name text stat old new r → Confirms name text stat base new r
+pub confirms_from : {name text : List ℕ} {stat : FileStat} {old base new : List Call} {r : Result Unit ReplaceError} →
+    old ≡ base → Confirms name text stat old new r → Confirms name text stat base new r
 confirms_from {name = name} {text = text} {stat = stat} {new = new} {r = r} e h = subst (λ (l : List Call). Confirms name text stat l new r) e h
 
 pub fills_from : {name fresh before text : List ℕ} {stat : FileStat} {old base new : List Call} {r : Result Bool ReplaceError} → old ≡ base →
     Fills name fresh before text stat old new r → Fills name fresh before text stat base new r
 fills_from e h = grind arith
 
-pub overwrites_from : {name before text : List ℕ} {stat : FileStat} {old base new : List Call} {r : Result Update ReplaceError} → old ≡ base → Overwrites name before text stat old new r → Overwrites name before text stat base new r
+pub overwrites_from : {name before text : List ℕ} {stat : FileStat} {old base new : List Call}
+    {r : Result Update ReplaceError} → old ≡ base → Overwrites name before text stat old new r →
+    Overwrites name before text stat base new r
 overwrites_from {name = name} {before = before} {text = text} {stat = stat} {new = new} {r = r} e h = subst (λ (l : List Call). Overwrites name before text stat l new r) e h
 
 pub renames_from : {into : Bool} {name fresh before text : List ℕ} {stat : FileStat} {old base new : List Call} {r : Result Update ReplaceError} → old ≡ base →

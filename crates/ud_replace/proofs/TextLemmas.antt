@@ -88,7 +88,7 @@ pub runs_pruned : (o : Options) {text start whole seen before left : List ℕ} {
     ran.edited ≡ n → start ≡ [] → RunsUnpruned o text start whole d → seen ≡ whole → PrunesInto o seen before left n → RunsPruned o text before left ran
 runs_pruned o {text = text} {start = start} {whole = whole} {before = before} {left = left} {d = d} {n = n} ran differs edited none started is p =
     let h : RunsUnpruned o text [] whole d = subst (λ (b : List ℕ). RunsUnpruned o text b whole d) none started in
-    let same : PrunesInto o h.outcome.output before left n = subst (λ (t : List ℕ). PrunesInto o t before left n) (is ∙ h.appended) p in
+    let same = subst (λ (t : List ℕ). PrunesInto o t before left n) (is ∙ h.appended) p in
     record {
       outcome = h.outcome;
       runs = h.runs;
@@ -113,7 +113,7 @@ runs_over o ran wanted stays h = record {
 pub folds_over : (o : TextOptions) {text before left lines : List ℕ} (ran : TextRun) → o.prunes ≡ true → may_fold o.run.settings ≡ true → goes_back lines text ≡ true → lines ≡ folded_text text →
     RunsFolded o.run lines before left ran → RunsOver o text before left ran
 folds_over o {text = text} {before = before} {left = left} ran wanted may goes e given =
-    let h : RunsFolded o.run (folded_text text) before left ran = subst (λ (x : List ℕ). RunsFolded o.run x before left ran) e given in
+    let h = subst (λ (x : List ℕ). RunsFolded o.run x before left ran) e given in
     record {
       outcome = folded o.run h.outcome;
       runs = as_folded (record { prunes = wanted; may = may; goes = subst (λ (x : List ℕ). goes_back x text ≡ true) e goes; runs = h.runs; faultless = h.faultless; comes = h.again });
@@ -160,7 +160,8 @@ module _ (o : Options) {text start whole lines back shown again seen : List ℕ}
     edited_is = h.edited_is;
   }
 
-pub folds_or_stays : (o : TextOptions) (text lines old new : List ℕ) (ran : Option TextRun) → o.prunes ≡ true → may_fold o.run.settings ≡ true → goes_back lines text ≡ true → lines ≡ folded_text text →
+pub folds_or_stays : (o : TextOptions) (text lines old new : List ℕ) (ran : Option TextRun) → o.prunes ≡ true →
+    may_fold o.run.settings ≡ true → goes_back lines text ≡ true → lines ≡ folded_text text →
     TriesFolded o.run lines old new ran → FoldsOrStays o text old new ran
 folds_or_stays o text lines old new None wanted may goes e h = stays_over o text lines e h
 folds_or_stays o text lines old new (Some ran) wanted may goes e h = folds_over o ran wanted may goes e h

@@ -19,4 +19,6 @@ pub returns-clause-tries : goal.returns-clause-tries
 returns-clause-tries c = λ o s t.
     let h = c.in-Ok.ensures o s t in
     runs_folded o (ap (λ v. v.items) c.new-output.ensures.inner ∙ c.new.ensures.items) h (c.as_slice-lines.ensures.value ∙ ap (λ v. v.items) c.inner.ensures)
-    c.in_ok-back.ensures c.as_slice-3.ensures.value (c.in_ok-again.ensures ∙ ap folded_text (c.as_slice.ensures.value ∙ sym c.as_slice-3.ensures.value)) c.as_slice-2.ensures.value (not-false _ (sym c.ne.ensures ∙ c.if-ne.false)) c.in_ok-write_bytes.ensures
+    c.in_ok-back.ensures c.as_slice-3.ensures.value
+    (c.in_ok-again.ensures ∙ ap folded_text (c.as_slice.ensures.value ∙ sym c.as_slice-3.ensures.value))
+    c.as_slice-2.ensures.value (not-false _ (sym c.ne.ensures ∙ c.if-ne.false)) c.in_ok-write_bytes.ensures

@@ -6,7 +6,10 @@ pub returns-in-Ok-true : goal.returns-in-Ok-true
 returns-in-Ok-true g c = renames (fills_from c.in-Ok.ensures (rw c.in-Ok-true.field-0-test at c.in-Ok-true.ensures))
 
 pub returns-then-target : goal.returns-then-target
-returns-then-target g c = unrenamed_writes _ c.remove-gone.result c.if-target.true (fills_from c.in-Ok.ensures (rw c.in-Ok-false.field-0-test at c.in-Ok-false.ensures)) (overwrites_from c.remove-gone.ensures c.overwrite.ensures)
+returns-then-target g c =
+    unrenamed_writes _ c.remove-gone.result c.if-target.true
+    (fills_from c.in-Ok.ensures (rw c.in-Ok-false.field-0-test at c.in-Ok-false.ensures))
+    (overwrites_from c.remove-gone.ensures c.overwrite.ensures)
 
 pub returns-else-target : goal.returns-else-target
 returns-else-target g c = unrenamed _ c.remove-gone.result c.if-target.false (fills_from c.in-Ok.ensures (rw c.in-Ok-false.field-0-test at c.in-Ok-false.ensures)) c.remove-gone.ensures

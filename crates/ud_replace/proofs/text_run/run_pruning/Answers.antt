@@ -25,4 +25,5 @@ returns-in_ok-ran-in-None c = λ o p.
     let stays = subst (λ r. FoldsOrStays o c.args.text.now c.args.out.now.inner.items c.try_folded.new.out.inner.items r) c.in-None.is (c.in_ok-ran.ensures.folds o p) in
     let same = subst (λ r. IfNone r (c.try_folded.new.out ≡ c.args.out.now)) c.in-None.is c.in_ok-ran.ensures.untouched in
     runs_over o _ (p.prunes ∙ c.requires.prunes) stays
-    (subst (λ (x : List ℕ). RunsPruned o.run c.args.text.now x c.run_pruned.new.out.inner.items c.in_ok-ran-in-None.ran) (ap (λ v. v.inner.items) same) (c.in_ok-ran-in-None.ensures o.run p.settings p.table))
+    (subst (λ (x : List ℕ). RunsPruned o.run c.args.text.now x c.run_pruned.new.out.inner.items c.in_ok-ran-in-None.ran)
+    (ap (λ v. v.inner.items) same) (c.in_ok-ran-in-None.ensures o.run p.settings p.table))
