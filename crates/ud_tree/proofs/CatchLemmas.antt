@@ -45,7 +45,8 @@ taken_later w v h path id (inl there) = inl (there.0, All-contains (Contains v.f
 taken_later w v h path id (inr left) = inr (subst (λ ps. IsLeft (map string_bytes ps) path) (sym h.same) left)
 
 -- A file whose name isn't chosen is taken.
-pub taken_left : (w : Walk) (path : List ℕ) (id : FileId) (chosen : Bool) (name : List ℕ) → (¬ (map string_bytes w.patterns.now ≡ []) → IsChosen (map string_bytes w.patterns.now) name → chosen ≡ true) →
+pub taken_left : (w : Walk) (path : List ℕ) (id : FileId) (chosen : Bool) (name : List ℕ) →
+    (¬ (map string_bytes w.patterns.now ≡ []) → IsChosen (map string_bytes w.patterns.now) name → chosen ≡ true) →
     chosen ≡ false → name ≡ last_name path → IsTaken w path id
 taken_left w path id chosen name h is named = grind (arith, common_steps)
 

@@ -120,8 +120,9 @@ pub followed_none : (path : List ℕ) (answer : Bool) (other : List ℕ) (seen :
 followed_none path answer other seen = lists_no_more (followed path answer) (met other seen ∷ []) (λ folder names listing e. absurd cc) (met_none other seen)
 
 -- A few calls were made, and none of them lists a folder.
-pub explores_few : (ws : List WalkCall) {calls calls' : List Call} (folders folders' : List (List ℕ)) (r r' : ReportState) → (0 < r.faulty → 0 < r'.faulty) → calls' ≡ map walked ws ++ calls → ListsNone ws → Within folders folders' →
-    Explores calls calls' folders folders' r r'
+pub explores_few : (ws : List WalkCall) {calls calls' : List Call} (folders folders' : List (List ℕ))
+    (r r' : ReportState) → (0 < r.faulty → 0 < r'.faulty) → calls' ≡ map walked ws ++ calls → ListsNone ws →
+    Within folders folders' → Explores calls calls' folders folders' r r'
 explores_few ws folders folders' r r' counted is none kept = record {
   kept = counted;
   made = ws;
@@ -153,20 +154,24 @@ waits_due ws {folders = folders} h =
     (h.folder, h.is_path, inr (subst (λ (fs : List (List ℕ)). Contains fs h.folder) (sym h.grown) (Contains-push folders h.folder)))
 
 -- A path of the command line can be taken.
-pub starts_good : (ws : List WalkCall) (path : List ℕ) {calls calls' : List Call} (folders folders' : List (List ℕ)) {found' : List Found} (r : ReportState) → calls' ≡ map walked ws ++ calls → ListsNone ws → Within folders folders' →
+pub starts_good : (ws : List WalkCall) (path : List ℕ) {calls calls' : List Call} (folders folders' : List (List ℕ))
+    {found' : List Found} (r : ReportState) → calls' ≡ map walked ws ++ calls → ListsNone ws → Within folders folders' →
     Begins ws (IsDue ws folders') (IsIn found') path → Starts path calls calls' folders folders' found' r r
 unfolding explores_few
 starts_good ws path folders folders' r is none kept b = record { explores = explores_few ws folders folders' r r (λ some. some) is none kept; begins = inr b }
 
 -- A path of the command line has a fault.
-pub starts_bad : (ws : List WalkCall) (path : List ℕ) {calls calls' : List Call} (folders : List (List ℕ)) {found' : List Found} (r r' : ReportState) → calls' ≡ map walked ws ++ calls → ListsNone ws → 0 < r'.faulty →
+pub starts_bad : (ws : List WalkCall) (path : List ℕ) {calls calls' : List Call} (folders : List (List ℕ))
+    {found' : List Found} (r r' : ReportState) → calls' ≡ map walked ws ++ calls → ListsNone ws → 0 < r'.faulty →
     Starts path calls calls' folders folders found' r r'
 starts_bad ws path folders r r' is none some = record { explores = explores_few ws folders folders r r' (λ before. some) is none (waits_still folders); begins = inl some }
 
 -- A name in a folder was looked at.
-visits_met : (answer : Lookup) (path folder name : List ℕ) {calls calls' : List Call} (folders folders' : List (List ℕ)) (r r' : ReportState) → (0 < r.faulty → 0 < r'.faulty) → path ≡ folder ++ name → calls' ≡ walked (met path answer) ∷ calls →
-    Within folders folders' → ((node : Node) → answer ≡ Present node → node.kind ≡ Folder → IsVersioned name ⊎ IsDue (met path answer ∷ []) folders' path) →
-    VisitsOne folder name calls calls' folders folders' r r'
+visits_met : (answer : Lookup) (path folder name : List ℕ) {calls calls' : List Call} (folders folders' : List (List ℕ))
+    (r r' : ReportState) → (0 < r.faulty → 0 < r'.faulty) → path ≡ folder ++ name →
+    calls' ≡ walked (met path answer) ∷ calls → Within folders folders' →
+    ((node : Node) → answer ≡ Present node → node.kind ≡ Folder → IsVersioned name ⊎
+    IsDue (met path answer ∷ []) folders' path) → VisitsOne folder name calls calls' folders folders' r r'
 unfolding explores_few
 visits_met answer path folder name folders folders' r r' counted named is kept due = record {
   explores = explores_few (met path answer ∷ []) folders folders' r r' counted is (met_none path answer) kept;
@@ -179,14 +184,18 @@ pub visits_other : (folder name : List ℕ) (calls : List Call) (folders : List 
 visits_other folder name calls folders r r' other some = record { explores = explores_none calls folders r r' (λ before. some); visited = no_text other some }
 
 -- Nothing has the path of a name, or that isn't known.
-pub visits_unmet : (answer : Lookup) (path folder name : List ℕ) {calls calls' : List Call} (folders : List (List ℕ)) (r r' : ReportState) → (0 < r.faulty → 0 < r'.faulty) → ((node : Node) → ¬ (answer ≡ Present node)) → path ≡ folder ++ name →
-    calls' ≡ walked (met path answer) ∷ calls → VisitsOne folder name calls calls' folders folders r r'
+pub visits_unmet : (answer : Lookup) (path folder name : List ℕ) {calls calls' : List Call} (folders : List (List ℕ))
+    (r r' : ReportState) → (0 < r.faulty → 0 < r'.faulty) → ((node : Node) → ¬ (answer ≡ Present node)) →
+    path ≡ folder ++ name → calls' ≡ walked (met path answer) ∷ calls →
+    VisitsOne folder name calls calls' folders folders r r'
 visits_unmet answer path folder name folders r r' counted other named is =
     visits_met answer path folder name folders folders r r' counted named is (waits_still folders) (λ node is_node kind. absurd (other node is_node))
 
 -- A node has the path of a name, and was added.
-pub visits_node : (node : Node) (path folder name : List ℕ) {calls calls' : List Call} (folders folders' : List (List ℕ)) (r : ReportState) → path ≡ folder ++ name → calls' ≡ walked (met path (Present node)) ∷ calls →
-    AddsFolder path name node folders folders' → VisitsOne folder name calls calls' folders folders' r r
+pub visits_node : (node : Node) (path folder name : List ℕ) {calls calls' : List Call}
+    (folders folders' : List (List ℕ)) (r : ReportState) → path ≡ folder ++ name →
+    calls' ≡ walked (met path (Present node)) ∷ calls → AddsFolder path name node folders folders' →
+    VisitsOne folder name calls calls' folders folders' r r
 visits_node node path folder name folders folders' r named is (waits_folder kind w) =
     visits_met (Present node) path folder name folders folders' r r (λ some. some) named is (waits_more w) (λ n is_node k. inr (waits_due (met path (Present node) ∷ []) w))
 visits_node node path folder name folders folders' r named is (left_folder left same) =
@@ -229,7 +238,8 @@ unfolding explores_none explores_few
 visits_none folder calls folders r = record { explores = explores_none calls folders r r (λ some. some); visited = All-nil (Visits [] (IsDue [] folders) (0 < r.faulty) folder) }
 
 -- One name more of a folder was visited.
-pub visits_more : {folder : List ℕ} {names : List (List ℕ)} {name : List ℕ} {x y z : List Call} {f g h : List (List ℕ)} {a b c : ReportState} → VisitsSome folder names x y f g a b → VisitsOne folder name y z g h b c →
+pub visits_more : {folder : List ℕ} {names : List (List ℕ)} {name : List ℕ} {x y z : List Call} {f g h : List (List ℕ)}
+    {a b c : ReportState} → VisitsSome folder names x y f g a b → VisitsOne folder name y z g h b c →
     VisitsSome folder (names ++ name ∷ []) x z f h a c
 unfolding explores_then
 visits_more {folder = folder} {names = names} {name = name} {g = g} {h = h} {c = c} k l = record { explores = explores_then k.explores l.explores; visited = All-push here names name earlier now }
@@ -250,8 +260,9 @@ visits_more {folder = folder} {names = names} {name = name} {g = g} {h = h} {c =
     now = visits_within name (later_calls xs ys) (due_still xs ys h) (λ some. some) l.visited
 
 -- A folder was listed, and then each of its names was visited.
-pub enters_folder : {folder : List ℕ} (names : List (List ℕ)) (answer : Bool) {x y z : List Call} {f g : List (List ℕ)} {a b c : ReportState} → y ≡ walked (listed folder names answer) ∷ x → (0 < a.faulty → 0 < b.faulty) → VisitsSome folder names y z f g b c →
-    Enters folder x z f g a c
+pub enters_folder : {folder : List ℕ} (names : List (List ℕ)) (answer : Bool) {x y z : List Call} {f g : List (List ℕ)}
+    {a b c : ReportState} → y ≡ walked (listed folder names answer) ∷ x → (0 < a.faulty → 0 < b.faulty) →
+    VisitsSome folder names y z f g b c → Enters folder x z f g a c
 enters_folder {folder = folder} names answer {x = x} {y = y} {z = z} {f = f} {g = g} {c = c} is counted l = record {
   explores = record {
     kept = λ some. l.explores.kept (counted some);
@@ -294,7 +305,9 @@ pub record EntersNames {X : Type 0} (f : X → List ℕ) (folder : List ℕ) (xs
   pub some : VisitsSome folder (map f (take i xs)) mid y a b middle s
 
 -- None was yet.
-pub enters_begun : {X : Type 0} (f : X → List ℕ) (xs ys : List X) (folder : List ℕ) {x y : List Call} (folders : List (List ℕ)) (r s : ReportState) → (0 < r.faulty → 0 < s.faulty) → ys ≡ xs → (answer : Bool) × (y ≡ walked (listed folder (map f xs) answer) ∷ x) →
+pub enters_begun : {X : Type 0} (f : X → List ℕ) (xs ys : List X) (folder : List ℕ) {x y : List Call}
+    (folders : List (List ℕ)) (r s : ReportState) → (0 < r.faulty → 0 < s.faulty) → ys ≡ xs →
+    (answer : Bool) × (y ≡ walked (listed folder (map f xs) answer) ∷ x) →
     EntersNames f folder ys 0 x y folders folders r s
 enters_begun f xs ys folder {x = x} {y = y} folders r s counted same h = record {
   middle = s;
@@ -306,8 +319,10 @@ enters_begun f xs ys folder {x = x} {y = y} folders r s counted same h = record 
 }
 
 -- One name more was.
-pub enters_name : {X : Type 0} (f : X → List ℕ) (xs : List X) (i : ℕ) (v : X) (name : List ℕ) {folder : List ℕ} {x y z : List Call} {a b c : List (List ℕ)} {r s t : ReportState} → i < length xs → v ≡ get_or xs i v → name ≡ f v →
-    EntersNames f folder xs i x y a b r s → VisitsOne folder name y z b c s t → EntersNames f folder xs (i + 1) x z a c r t
+pub enters_name : {X : Type 0} (f : X → List ℕ) (xs : List X) (i : ℕ) (v : X) (name : List ℕ) {folder : List ℕ}
+    {x y z : List Call} {a b c : List (List ℕ)} {r s t : ReportState} → i < length xs → v ≡ get_or xs i v → name ≡ f v →
+    EntersNames f folder xs i x y a b r s → VisitsOne folder name y z b c s t →
+    EntersNames f folder xs (i + 1) x z a c r t
 enters_name f xs i v name {folder = folder} {z = z} {a = a} {c = c} {t = t} within is named h k = record {
   middle = h.middle;
   counted = h.counted;
@@ -318,7 +333,9 @@ enters_name f xs i v name {folder = folder} {z = z} {a = a} {c = c} {t = t} with
 }
 
 -- All of them were.
-pub enters_all : {X : Type 0} (f : X → List ℕ) (xs : List X) (i : ℕ) {folder : List ℕ} {x y : List Call} {a b : List (List ℕ)} {r s : ReportState} → i ≡ length xs → EntersNames f folder xs i x y a b r s → Enters folder x y a b r s
+pub enters_all : {X : Type 0} (f : X → List ℕ) (xs : List X) (i : ℕ) {folder : List ℕ} {x y : List Call}
+    {a b : List (List ℕ)} {r s : ReportState} → i ≡ length xs → EntersNames f folder xs i x y a b r s →
+    Enters folder x y a b r s
 enters_all f xs i {folder = folder} {y = y} {a = a} {b = b} {s = s} all h =
     enters_folder (map f xs) h.answer h.is h.counted (subst (λ l. VisitsSome folder (map f l) h.mid y a b h.middle s) (take_all i xs (omega arith)) h.some)
 
@@ -336,7 +353,8 @@ pub enters_none : (calls : List Call) (folders : List (List ℕ)) (r : ReportSta
 enters_none calls folders r = record { explores = explores_none calls folders r r (λ some. some); many = omega arith }
 
 -- One folder more, which waited last, was entered.
-pub enters_more : (count : ℕ) {x y z : List Call} {f g h : List (List ℕ)} {a b c : ReportState} (rest : List (List ℕ)) (folder : List ℕ) → g ≡ rest ++ folder ∷ [] → EntersSome count x y f g a b → Enters folder y z rest h b c →
+pub enters_more : (count : ℕ) {x y z : List Call} {f g h : List (List ℕ)} {a b c : ReportState} (rest : List (List ℕ))
+    (folder : List ℕ) → g ≡ rest ++ folder ∷ [] → EntersSome count x y f g a b → Enters folder y z rest h b c →
     EntersSome (count + 1) x z f h a c
 unfolding explores_then
 enters_more count {x = x} {y = y} {z = z} {f = f} {g = g} {h = h} {b = b} {c = c} rest folder is k l = record { explores = explores_then k.explores entered; many = many }
@@ -353,7 +371,7 @@ enters_more count {x = x} {y = y} {z = z} {f = f} {g = g} {h = h} {b = b} {c = c
 
     many : count + 1 ≤ length (l.explores.made ++ k.explores.made)
     many =
-        let both : length (l.explores.made ++ k.explores.made) ≡ length l.explores.made + length k.explores.made = length-append l.explores.made k.explores.made in
+        let both = length-append l.explores.made k.explores.made in
         let some : l.entered.2.0 < length l.explores.made = l.entered.2.1 in
         omega (arith, both, some, k.many)
 
@@ -384,10 +402,13 @@ unfolding explores_none explores_few
 starts_none calls folders found r = record { explores = explores_none calls folders r r (λ some. some); begins = inr (All-nil (Begins [] (IsDue [] folders) (IsIn found))) }
 
 -- One path more can be taken, or has a fault.
-starts_more : {paths : List (List ℕ)} {path : List ℕ} {x y z : List Call} {f g h : List (List ℕ)} {found found' : List Found} {first a b : ReportState} → All (Contains found') found → StartsSome paths x y f g found first a →
-    Starts path y z g h found' a b → StartsSome (paths ++ path ∷ []) x z f h found' first b
+starts_more : {paths : List (List ℕ)} {path : List ℕ} {x y z : List Call} {f g h : List (List ℕ)}
+    {found found' : List Found} {first a b : ReportState} → All (Contains found') found →
+    StartsSome paths x y f g found first a → Starts path y z g h found' a b →
+    StartsSome (paths ++ path ∷ []) x z f h found' first b
 unfolding explores_then
-starts_more {paths = paths} {path = path} {g = g} {h = h} {found = found} {found' = found'} {a = a} {b = b} stay k l = record { explores = explores_then k.explores l.explores; begins = by_case k.begins l.begins }
+starts_more {paths = paths} {path = path} {g = g} {h = h} {found = found} {found' = found'} {a = a} {b = b} stay k l =
+    record { explores = explores_then k.explores l.explores; begins = by_case k.begins l.begins }
   where
     xs : List WalkCall
     xs = k.explores.made
@@ -402,12 +423,16 @@ starts_more {paths = paths} {path = path} {g = g} {h = h} {found = found} {found
     by_case (inl some) e = inl (l.explores.kept some)
     by_case (inr each) (inl some) = inl some
     by_case (inr each) (inr good) = inr (All-push Later paths path
-        (All-weaker (Begins xs (IsDue xs g) (IsIn found)) Later (λ p start. begins_within (earlier_calls xs ys) (due_later xs ys g h l.explores.waits) (is_in_later found found' stay) start) paths each)
+        (All-weaker (Begins xs (IsDue xs g) (IsIn found)) Later
+        (λ p start. begins_within (earlier_calls xs ys) (due_later xs ys g h l.explores.waits)
+        (is_in_later found found' stay) start) paths each)
         (begins_within (later_calls xs ys) (due_still xs ys h) (λ p id there. there) good))
 
 -- The same, by the index of the path.
-pub starts_at : {X : Type 0} (f : X → List ℕ) (xs : List X) (i : ℕ) (v : X) (path : List ℕ) {x y z : List Call} {a b c : List (List ℕ)} {found found' : List Found} {first r s : ReportState} → i < length xs → v ≡ get_or xs i v → path ≡ f v →
-    All (Contains found') found → StartsSome (map f (take i xs)) x y a b found first r → Starts path y z b c found' r s → StartsSome (map f (take (i + 1) xs)) x z a c found' first s
+pub starts_at : {X : Type 0} (f : X → List ℕ) (xs : List X) (i : ℕ) (v : X) (path : List ℕ) {x y z : List Call}
+    {a b c : List (List ℕ)} {found found' : List Found} {first r s : ReportState} → i < length xs → v ≡ get_or xs i v →
+    path ≡ f v → All (Contains found') found → StartsSome (map f (take i xs)) x y a b found first r →
+    Starts path y z b c found' r s → StartsSome (map f (take (i + 1) xs)) x z a c found' first s
 starts_at f xs i v path {x = x} {z = z} {a = a} {c = c} {found' = found'} {first = first} {s = s} within is named stay h k =
     subst (λ (ps : List (List ℕ)). StartsSome ps x z a c found' first s) (sym (one_more f xs i v path within is named)) (starts_more stay h k)
 
@@ -424,8 +449,11 @@ same_calls : (xs ys : List WalkCall) (old : List Call) → map walked xs ++ old 
 same_calls xs ys old e = same_walked xs ys (append_cancel_right (map walked xs) (map walked ys) old e)
 
 -- All paths can be taken, and all folders were entered.
-pub covers_paths : {X : Type 0} (f : X → List ℕ) (xs : List X) (i : ℕ) {x y z : List Call} {a b c : List (List ℕ)} {found : List Found} {first r last : ReportState} → i ≡ length xs → ¬ (0 < r.faulty) → StartsSome (map f (take i xs)) x y a b found first r → Exhausts y z b c r last →
-    {w v : Walk} → All (Contains v.found.items) found → Catches x z w v → (patterns : List (List ℕ)) → map string_bytes w.patterns.now ≡ patterns →
+pub covers_paths : {X : Type 0} (f : X → List ℕ) (xs : List X) (i : ℕ) {x y z : List Call} {a b c : List (List ℕ)}
+    {found : List Found} {first r last : ReportState} → i ≡ length xs → ¬ (0 < r.faulty) →
+    StartsSome (map f (take i xs)) x y a b found first r → Exhausts y z b c r last → {w v : Walk} →
+    All (Contains v.found.items) found → Catches x z w v → (patterns : List (List ℕ)) →
+    map string_bytes w.patterns.now ≡ patterns →
     CoversPaths (map f xs) patterns x z (IsIn v.found.items) (0 < last.faulty)
 unfolding explores_then
 covers_paths f xs i {x = x} {y = y} {z = z} {b = b} {c = c} {found = found} {r = r} all fine h k {w = w} {v = v} stay caught patterns are = record {
@@ -458,11 +486,17 @@ covers_paths f xs i {x = x} {y = y} {z = z} {b = b} {c = c} {found = found} {r =
     by_case : (0 < r.faulty) ⊎ All (Begins ws (IsDue ws b) (IsIn found)) (map f (take i xs)) → All Later (map f (take i xs))
     by_case (inl some) = absurd (fine some)
     by_case (inr each) =
-        All-weaker (Begins ws (IsDue ws b) (IsIn found)) Later (λ p start. begins_within (earlier_calls ws ys) (due_later ws ys b c k.explores.waits) (is_in_later found v.found.items stay) start) (map f (take i xs)) each
+        All-weaker (Begins ws (IsDue ws b) (IsIn found)) Later
+        (λ p start. begins_within (earlier_calls ws ys) (due_later ws ys b c k.explores.waits)
+        (is_in_later found v.found.items stay) start) (map f (take i xs)) each
 
 -- A path of the input was looked at, and isn't that of a regular file, or was found.
-takes_met : (answer : Lookup) (path name : List ℕ) {calls calls' : List Call} (found found' : List Found) (r r' : ReportState) → (0 < r.faulty → 0 < r'.faulty) → name ≡ path → calls' ≡ walked (met path answer) ∷ calls → All (Contains found') found →
-    ((node : Node) → answer ≡ Present node → node.kind ≡ File → IsIn found' name node.id) → ((node : Node) → answer ≡ Present node → node.kind ≡ Other → 0 < r'.faulty) → TakesOne name calls calls' found found' r r'
+takes_met : (answer : Lookup) (path name : List ℕ) {calls calls' : List Call} (found found' : List Found)
+    (r r' : ReportState) → (0 < r.faulty → 0 < r'.faulty) → name ≡ path → calls' ≡ walked (met path answer) ∷ calls →
+    All (Contains found') found →
+    ((node : Node) → answer ≡ Present node → node.kind ≡ File → IsIn found' name node.id) →
+    ((node : Node) → answer ≡ Present node → node.kind ≡ Other → 0 < r'.faulty) →
+    TakesOne name calls calls' found found' r r'
 takes_met answer path name found found' r r' counted same is stay has told = record {
   kept = counted;
   made = met path answer ∷ [];
@@ -472,13 +506,16 @@ takes_met answer path name found found' r r' counted same is stay has told = rec
 }
 
 -- Nothing has a path of the input, or that isn't known.
-pub takes_unmet : (answer : Lookup) (path name : List ℕ) {calls calls' : List Call} (found : List Found) (r r' : ReportState) → (0 < r.faulty → 0 < r'.faulty) → ((node : Node) → ¬ (answer ≡ Present node)) → name ≡ path → calls' ≡ walked (met path answer) ∷ calls →
-    TakesOne name calls calls' found found r r'
+pub takes_unmet : (answer : Lookup) (path name : List ℕ) {calls calls' : List Call} (found : List Found)
+    (r r' : ReportState) → (0 < r.faulty → 0 < r'.faulty) → ((node : Node) → ¬ (answer ≡ Present node)) → name ≡ path →
+    calls' ≡ walked (met path answer) ∷ calls → TakesOne name calls calls' found found r r'
 takes_unmet answer path name found r r' counted other same is =
     takes_met answer path name found found r r' counted same is (All-contains_itself found) (λ node is_node kind. absurd (other node is_node)) (λ node is_node kind. absurd (other node is_node))
 
 -- A node of the input was added, if it is a file.
-pub takes_node : (node : Node) (path name : List ℕ) {calls calls' : List Call} (found found' : List Found) (r r' : ReportState) → (0 < r.faulty → 0 < r'.faulty) → (node.kind ≡ Other → 0 < r'.faulty) → name ≡ path → calls' ≡ walked (met path (Present node)) ∷ calls → AddsNode found path node found' →
+pub takes_node : (node : Node) (path name : List ℕ) {calls calls' : List Call} (found found' : List Found)
+    (r r' : ReportState) → (0 < r.faulty → 0 < r'.faulty) → (node.kind ≡ Other → 0 < r'.faulty) → name ≡ path →
+    calls' ≡ walked (met path (Present node)) ∷ calls → AddsNode found path node found' →
     (node.kind ≡ File → IsIn found' path node.id) → TakesOne name calls calls' found found' r r'
 takes_node node path name found found' r r' counted told same is adds has =
     takes_met (Present node) path name found found' r r' counted same is (added_stay adds) (λ n is_node kind. here n is_node kind) (λ n is_node kind. other n is_node kind)
@@ -507,7 +544,8 @@ takes_node node path name found found' r r' counted told same is adds has =
 pub takes_other : (name : List ℕ) (calls : List Call) (found : List Found) (r r' : ReportState) → ¬ (IsUtf8 name) → 0 < r'.faulty → TakesOne name calls calls found found r r'
 takes_other name calls found r r' other some = record { kept = λ before. some; made = []; are = refl; gives = no_path_text other some; stay = All-contains_itself found }
 
-gives_within : {xs ys : List WalkCall} {p q : List ℕ → FileId → Type 0} {s t : Type 0} {path : List ℕ} → Within xs ys → ((path : List ℕ) (id : FileId) → p path id → q path id) → (s → t) → Gives xs p s path → Gives ys q t path
+gives_within : {xs ys : List WalkCall} {p q : List ℕ → FileId → Type 0} {s t : Type 0} {path : List ℕ} → Within xs ys →
+    ((path : List ℕ) (id : FileId) → p path id → q path id) → (s → t) → Gives xs p s path → Gives ys q t path
 gives_within w d e (no_path_text other told) = no_path_text other (e told)
 gives_within {path = path} w d e (was_given answer seen k l) = was_given answer (w (met path answer) seen) (λ node is kind. d path node.id (k node is kind)) (λ node is kind. e (l node is kind))
 
@@ -516,14 +554,18 @@ pub takes_none : (calls : List Call) (found : List Found) (told : Type 0) → Co
 takes_none calls found told = record { calls = []; are = refl; gives = All-nil (Gives [] (IsIn found) told) }
 
 -- One path more was given.
-pub takes_at : {X : Type 0} (f : X → List ℕ) (xs : List X) (i : ℕ) (v : X) (path : List ℕ) {x y z : List Call} (found found' : List Found) {r r' : ReportState} → i < length xs → v ≡ get_or xs i v → path ≡ f v →
-    CoversInput (map f (take i xs)) x y (IsIn found) (0 < r.faulty) → TakesOne path y z found found' r r' → CoversInput (map f (take (i + 1) xs)) x z (IsIn found') (0 < r'.faulty)
+pub takes_at : {X : Type 0} (f : X → List ℕ) (xs : List X) (i : ℕ) (v : X) (path : List ℕ) {x y z : List Call}
+    (found found' : List Found) {r r' : ReportState} → i < length xs → v ≡ get_or xs i v → path ≡ f v →
+    CoversInput (map f (take i xs)) x y (IsIn found) (0 < r.faulty) → TakesOne path y z found found' r r' →
+    CoversInput (map f (take (i + 1) xs)) x z (IsIn found') (0 < r'.faulty)
 takes_at f xs i v path {x = x} {y = y} {z = z} found found' {r = r} {r' = r'} within is named h k = record {
   calls = all;
   are = parts_are h.calls k.made x y z h.are k.are;
   gives = subst (All (Gives all (IsIn found') (0 < r'.faulty))) (sym (one_more f xs i v path within is named))
       (All-push (Gives all (IsIn found') (0 < r'.faulty)) (map f (take i xs)) path
-      (All-weaker (Gives h.calls (IsIn found) (0 < r.faulty)) (Gives all (IsIn found') (0 < r'.faulty)) (λ p g. gives_within (earlier_calls h.calls k.made) (is_in_later found found' k.stay) k.kept g) (map f (take i xs)) h.gives)
+      (All-weaker (Gives h.calls (IsIn found) (0 < r.faulty)) (Gives all (IsIn found') (0 < r'.faulty))
+      (λ p g. gives_within (earlier_calls h.calls k.made) (is_in_later found found' k.stay) k.kept g)
+      (map f (take i xs)) h.gives)
       (gives_within (later_calls h.calls k.made) (λ p id there. there) (λ some. some) k.gives));
 }
   where
@@ -542,18 +584,25 @@ stands_in found files kept path id h = by_case (All-contains (IsKept files) foun
         by_same (inr same) = inr (same ∙ h.3)
 
 -- A file that was found is kept, and one that isn't chosen isn't.
-left_kept : {patterns : List (List ℕ)} (found files : List Found) → All (IsKept files) found → (path : List ℕ) (id : FileId) → IsIn found path id ⊎ IsLeft patterns path → StandsIn files path id ⊎ IsLeft patterns path
+left_kept : {patterns : List (List ℕ)} (found files : List Found) → All (IsKept files) found →
+    (path : List ℕ) (id : FileId) → IsIn found path id ⊎ IsLeft patterns path →
+    StandsIn files path id ⊎ IsLeft patterns path
 left_kept found files kept path id (inl there) = inl (stands_in found files kept path id there)
 left_kept found files kept path id (inr left) = inr left
 
 -- No path is missed, and the files that were found are kept.
-pub misses_kept : (args : Arguments) (text : List ℕ) {x y : List Call} (found files : List Found) (s t : Type 0) → (s → t) → All (IsKept files) found → MissesNone args text x y (IsIn found) s → MissesNone args text x y (StandsIn files) t
+pub misses_kept : (args : Arguments) (text : List ℕ) {x y : List Call} (found files : List Found) (s t : Type 0) →
+    (s → t) → All (IsKept files) found → MissesNone args text x y (IsIn found) s →
+    MissesNone args text x y (StandsIn files) t
 misses_kept args text found files s t e kept (misses_no_path none h) = misses_no_path none (record {
   calls = h.calls;
   are = h.are;
   waiting = h.waiting;
   all_listed = h.all_listed;
-  begins = All-weaker (Begins h.calls (IsDue h.calls h.waiting) (IsIn found)) (Begins h.calls (IsDue h.calls h.waiting) (StandsIn files)) (λ p start. begins_within (λ w here. here) (λ path due. due) (stands_in found files kept) start)
+  begins =
+      All-weaker (Begins h.calls (IsDue h.calls h.waiting) (IsIn found))
+      (Begins h.calls (IsDue h.calls h.waiting) (StandsIn files))
+      (λ p start. begins_within (λ w here. here) (λ path due. due) (stands_in found files kept) start)
       (map (λ p. string_bytes p) args.paths.items) h.begins;
   visits = λ folder names answer there. visits_all_within names (λ w here. here) (λ path due. due) e (h.visits folder names answer there);
   taken = λ path node there kind. left_kept found files kept path node.id (h.taken path node there kind);
@@ -565,7 +614,9 @@ misses_kept args text found files s t e kept (misses_no_input input h) = misses_
 })
 
 -- The paths are taken, and the files that were found are kept.
-pub paths_kept : {args : Arguments} {given left : Source} {x y : List Call} (found files : List Found) (s t : Type 0) → (s → t) → All (IsKept files) found → TakesPaths args given left x y (IsIn found) s → TakesPaths args given left x y (StandsIn files) t
+pub paths_kept : {args : Arguments} {given left : Source} {x y : List Call} (found files : List Found) (s t : Type 0) →
+    (s → t) → All (IsKept files) found → TakesPaths args given left x y (IsIn found) s →
+    TakesPaths args given left x y (StandsIn files) t
 paths_kept {args = args} found files s t e kept h = record { text = h.text; takes = h.takes; misses = misses_kept args h.text found files s t e kept h.misses }
 
 -- A file that was pushed is among those found.

@@ -54,8 +54,9 @@ same_path f g a b = by_order (slice_cmp nat_cmp (string_bytes f.path) (string_by
     by_order Greater e = absurd (b (nat_list_cmp_total.antisymm (string_bytes g.path) (string_bytes f.path) ∙ ap ordering_reverse e))
 
 -- A file of a sorted list is before none of the earlier ones.
-sorted_before : (cmp : Found → Found → Ordering) (all : List Found) → ((f g : Found) → IsBefore f g → is_lt (cmp f g) ≡ true) → IsSorted cmp all → (n : ℕ) (x : Found) → n < length all → x ≡ get_or all n x →
-    All (λ f. ¬ (IsBefore x f)) (take n all)
+sorted_before : (cmp : Found → Found → Ordering) (all : List Found) →
+    ((f g : Found) → IsBefore f g → is_lt (cmp f g) ≡ true) → IsSorted cmp all → (n : ℕ) (x : Found) → n < length all →
+    x ≡ get_or all n x → All (λ f. ¬ (IsBefore x f)) (take n all)
 sorted_before cmp all test sorted zero x within is = All-nil (λ f. ¬ (IsBefore x f))
 sorted_before cmp all test sorted (suc n) x within is =
     subst (λ (fs : List Found). All (λ f. ¬ (IsBefore x f)) fs) (sym (ap (λ (i : ℕ). take i all) next_index ∙ take_more all n x (omega arith)))
@@ -73,8 +74,11 @@ sorted_before cmp all test sorted (suc n) x within is =
         true≢false (sym (test (get_or all (n + 1) x) (get_or all n x) (subst (λ (y : Found). IsBefore y (get_or all n x)) same b)) ∙ lt)
 
 -- The same, of files that are among the earlier ones.
-pub sorted_files : (cmp : Found → Found → Ordering) (all yielded files : List Found) → ((f g : Found) → IsBefore f g → is_lt (cmp f g) ≡ true) → IsSorted cmp all → (x : Found) → length yielded < length all →
-    x ≡ get_or all (length yielded) x → map (λ (y : Found). y) yielded ≡ take (length yielded) all → All (Contains yielded) files → All (λ f. ¬ (IsBefore x f)) files
+pub sorted_files : (cmp : Found → Found → Ordering) (all yielded files : List Found) →
+    ((f g : Found) → IsBefore f g → is_lt (cmp f g) ≡ true) → IsSorted cmp all → (x : Found) →
+    length yielded < length all → x ≡ get_or all (length yielded) x →
+    map (λ (y : Found). y) yielded ≡ take (length yielded) all → All (Contains yielded) files →
+    All (λ f. ¬ (IsBefore x f)) files
 sorted_files cmp all yielded files test sorted x within is so_far h =
     All-weaker (Contains yielded) (λ f. ¬ (IsBefore x f)) (λ f there. All-contains (λ f. ¬ (IsBefore x f)) yielded f earlier there) files h
   where

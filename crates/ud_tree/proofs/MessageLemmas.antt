@@ -12,7 +12,8 @@ pub error_is : {a b : ReportState} {e : ReplaceError} (name : List ℕ) (kind : 
 error_is {a = a} {b = b} name kind is h = subst (λ (k : ReplaceError). TellsOf (IsMessageOf name k) a b) (sym is) h
 
 -- The message of a failed write was written, of either kind.
-pub unwritten_is : {a b : ReportState} {e : ReplaceError} (name : List ℕ) → (e ≡ ReadOnly) ⊎ (e ≡ Write) → ReportsOf (IsFailureOf name (codes "Cannot be written")) a b → TellsOf (IsMessageOf name e) a b
+pub unwritten_is : {a b : ReportState} {e : ReplaceError} (name : List ℕ) → (e ≡ ReadOnly) ⊎ (e ≡ Write) →
+    ReportsOf (IsFailureOf name (codes "Cannot be written")) a b → TellsOf (IsMessageOf name e) a b
 unwritten_is name (inl is) h = error_is name ReadOnly is (reports_tells h)
 unwritten_is name (inr is) h = error_is name Write is (reports_tells h)
 

@@ -47,7 +47,7 @@ set_shorter (d ∷ rest) b t e = by_first (negates d) e
   where
     by_first : (n : Bool) → cond n (opposite (set_from rest b)) (set_from (d ∷ rest) b) ≡ Some t → length t.after ≤ length (d ∷ rest)
     by_first true is =
-        let short : length t.after ≤ length rest = opposite_shorter (length rest) (set_from rest b) (λ u same. within_shorter (length rest) true false rest b u same) t is in
+        let short = opposite_shorter (length rest) (set_from rest b) (λ u same. within_shorter (length rest) true false rest b u same) t is in
         omega arith
     by_first false is = within_shorter (length (d ∷ rest)) true false (d ∷ rest) b t is
 

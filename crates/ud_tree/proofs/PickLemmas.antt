@@ -50,9 +50,16 @@ key_cases : (seen new : BTreeSet Key) (key q : Key) → Updates key_cmp seen new
 key_cases seen new key q u there = grind arith
 
 -- The set has a key more that it had, and the files are the same.
-pub picked_same : (seen new : BTreeSet Key) (files : List Found) (key : Key) (added : Bool) → added ≡ not (contains key_cmp seen key) → added ≡ false → Updates key_cmp seen new key true → ArePicked seen files →
+pub picked_same : (seen new : BTreeSet Key) (files : List Found) (key : Key) (added : Bool) →
+    added ≡ not (contains key_cmp seen key) → added ≡ false → Updates key_cmp seen new key true → ArePicked seen files →
     ArePicked new files
-picked_same seen new files key added is old u h = record { ascend = h.ascend; once = h.once; marked = still_marked seen new key u files h.marked; only = λ q there. by_case q (key_cases seen new key q u there) }
+picked_same seen new files key added is old u h =
+    record {
+      ascend = h.ascend;
+      once = h.once;
+      marked = still_marked seen new key u files h.marked;
+      only = λ q there. by_case q (key_cases seen new key q u there);
+    }
   where
     not_false : (b : Bool) → not b ≡ false → b ≡ true
     not_false true e = refl
@@ -101,11 +108,12 @@ after_got files last found r ascend got test holds =
     grind (arith, slice_get_within, slice_get-get_or, after_last, is_less)
 
 -- A file that isn't after the element that `last` returns.
-pub before_got : (files : List Found) (last found : Found) (r : Bool) → Some last ≡ slice_get files (length files - 1) → r ≡ is_lt (slice_cmp nat_cmp (string_bytes last.path) (string_bytes found.path)) → r ≡ false →
+pub before_got : (files : List Found) (last found : Found) (r : Bool) → Some last ≡ slice_get files (length files - 1) →
+    r ≡ is_lt (slice_cmp nat_cmp (string_bytes last.path) (string_bytes found.path)) → r ≡ false →
     (g : Found) × Contains files g × (¬ (IsBefore g found))
 before_got files last found r got test fails =
     let within : length files - 1 < length files = slice_get_within files (length files - 1) last (sym got) in
-    let both : Some last ≡ Some (get_or files (length files - 1) last) = got ∙ slice_get-get_or files (length files - 1) last within in
+    let both = got ∙ slice_get-get_or files (length files - 1) last within in
     let is : last ≡ get_or files (length files - 1) last = cc in
     (last, (length files - 1, within, sym is), λ b. true≢false (sym (test ∙ ap is_lt b) ∙ fails))
 
@@ -127,8 +135,9 @@ pub picked_begun : (seen : BTreeSet Key) (files found : List Found) → seen.key
 picked_begun seen files found none empty = grind arith
 
 -- One file more was looked at.
-pub picked_next : {seen new : BTreeSet Key} {files after found yielded : List Found} (x : Found) → PickedSome seen files found yielded → ArePicked new after → Contains found x → All (OldOrThis x files) after → All (Contains after) files →
-    IsKept after x → PickedSome new after found (yielded ++ x ∷ [])
+pub picked_next : {seen new : BTreeSet Key} {files after found yielded : List Found} (x : Found) →
+    PickedSome seen files found yielded → ArePicked new after → Contains found x → All (OldOrThis x files) after →
+    All (Contains after) files → IsKept after x → PickedSome new after found (yielded ++ x ∷ [])
 picked_next {files = files} {after = after} {found = found} {yielded = yielded} x h picked inside from others kept = record {
   picked = picked;
   from = from_more x found files after inside h.from from;

@@ -21,7 +21,8 @@ finds_none same kept = grind (arith, common_steps, adds_same)
 pub finds_kept : {args : Arguments} {old new : ReportState} → KeepsFinds old new → FindsAll args [] old new
 finds_kept h = finds_none h.remaining (λ lost. h.lost ∙ lost)
 
-adds_output : {table : List Argument} {args : Arguments} {name bytes : List ℕ} {s t : RemainingState} → AddsAll table (mode_of args) name (searched_text args bytes) s t → AddsOutputs table args (made name bytes) s t
+adds_output : {table : List Argument} {args : Arguments} {name bytes : List ℕ} {s t : RemainingState} →
+    AddsAll table (mode_of args) name (searched_text args bytes) s t → AddsOutputs table args (made name bytes) s t
 adds_output h = grind (arith, common_steps)
 
 -- The conditions of one output were added.
@@ -32,7 +33,8 @@ finds_output h = record {
   same = h.same;
 }
 
-adds_both : {table : List Argument} {args : Arguments} {s t u : RemainingState} (xs ys : List Output) → AddsOutputs table args xs s t → AddsOutputs table args ys t u → AddsOutputs table args (xs ++ ys) s u
+adds_both : {table : List Argument} {args : Arguments} {s t u : RemainingState} (xs ys : List Output) →
+    AddsOutputs table args xs s t → AddsOutputs table args ys t u → AddsOutputs table args (xs ++ ys) s u
 adds_both xs ys h k = grind (arith, common_steps, flat_map-append, sum_by-append)
 
 not_lost : {a b : Bool} → (a ≡ true → b ≡ true) → b ≡ false → a ≡ false

@@ -43,7 +43,16 @@ says_none a hidden = record { terminal = refl; hidden = hidden; faults = refl; k
 
 -- The number of files was removed.
 pub says_cleared : {s : Stream} (a : ReportState) → a.is_shown ≡ true → Says a (record a { err = s; is_shown = false }) []
-says_cleared {s = s} a is = record { terminal = refl; hidden = refl; faults = refl; keeps = record { remaining = refl; lost = refl }; cleared = s; unshown = λ e. absurd (true≢false (sym is ∙ e)); sent = sends_none s }
+says_cleared {s = s} a is =
+    record {
+      terminal = refl;
+      hidden = refl;
+      faults = refl;
+      keeps = record { remaining = refl; lost = refl };
+      cleared = s;
+      unshown = λ e. absurd (true≢false (sym is ∙ e));
+      sent = sends_none s;
+    }
 
 -- Bytes were written after others.
 pub says_then : {a b c : ReportState} {x y : List ℕ} → Says a b x → Says b c y → Says a c (x ++ y)

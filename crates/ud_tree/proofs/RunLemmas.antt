@@ -60,7 +60,19 @@ told_push results r = grind (arith, common_steps, flat_map-append)
 counted_none : {P : List ℕ → List Call → List Call → FileResult → Type 0} {old : List Call} (counts : Counts) →
     counts.changed ≡ 0 → counts.unchanged ≡ 0 → counts.faulty ≡ 0 → counts.edits ≡ no_edits → Counted P old [] old counts [] []
 counted_none counts a b c d =
-    record { results = []; each = no_file; counts_are = record { changed = a; unchanged = b; faulty = c; edited = λ small. ap (λ (e : Edits). e.conditions) d; removed = λ small. ap (λ (e : Edits). e.lines) d }; shown_is = refl; told_is = refl }
+    record {
+      results = [];
+      each = no_file;
+      counts_are = record {
+        changed = a;
+        unchanged = b;
+        faulty = c;
+        edited = λ small. ap (λ (e : Edits). e.conditions) d;
+        removed = λ small. ap (λ (e : Edits). e.lines) d;
+      };
+      shown_is = refl;
+      told_is = refl;
+    }
 
 -- The path of a file more follows those of the files before.
 pub names_push : (files : List Found) (i : ℕ) (f : Found) → i < length files → f ≡ get_or files i f →
@@ -93,8 +105,13 @@ counted_push {P = P} {old = old} {mid = mid} {new = new} {before = before} {show
         changed = a ∙ ap (λ (n : ℕ). n + cond (is_changed (fate_of r.update)) 1 0) k.changed ∙ sym (count_push is_changed h.results r);
         unchanged = b ∙ ap (λ (n : ℕ). n + cond (is_same (fate_of r.update)) 1 0) k.unchanged ∙ sym (count_push is_same h.results r);
         faulty = c ∙ ap (λ (n : ℕ). n + cond (is_faulty (fate_of r.update)) 1 0) k.faulty ∙ sym (count_push is_faulty h.results r);
-        edited = edits_push (edited_in h.results) (edited_in (h.results ++ r ∷ [])) before.edits.conditions r.edits.conditions after.edits.conditions (sum_by_push (λ (s : FileResult). s.edits.conditions) h.results r) k.edited d;
-        removed = edits_push (removed_in h.results) (removed_in (h.results ++ r ∷ [])) before.edits.lines r.edits.lines after.edits.lines (sum_by_push (λ (s : FileResult). s.edits.lines) h.results r) k.removed e;
+        edited =
+            edits_push (edited_in h.results) (edited_in (h.results ++ r ∷ [])) before.edits.conditions
+            r.edits.conditions after.edits.conditions (sum_by_push (λ (s : FileResult). s.edits.conditions) h.results r)
+            k.edited d;
+        removed =
+            edits_push (removed_in h.results) (removed_in (h.results ++ r ∷ [])) before.edits.lines r.edits.lines
+            after.edits.lines (sum_by_push (λ (s : FileResult). s.edits.lines) h.results r) k.removed e;
       };
       shown_is = ap (λ (x : List ℕ). x ++ r.shown) h.shown_is ∙ sym (shown_push h.results r);
       told_is = ap (λ (x : List ℕ). x ++ r.told) h.told_is ∙ sym (told_push h.results r);
@@ -113,7 +130,15 @@ pub writes_none : {args : Arguments} {P : List ℕ → List Call → List Call �
     counts.changed ≡ 0 → counts.unchanged ≡ 0 → counts.faulty ≡ 0 → counts.edits ≡ no_edits → WritesAll args P m [] m counts lists lists
 unfolding counted_none
 writes_none {m = m} lists counts a b c d =
-    record { shown = []; told = []; counted = counted_none counts a b c d; sent = sends_none m.out; writes = (tells_none m.report).writes; adds = adds_none lists; finds = finds_none refl (λ lost. lost) }
+    record {
+      shown = [];
+      told = [];
+      counted = counted_none counts a b c d;
+      sent = sends_none m.out;
+      writes = (tells_none m.report).writes;
+      adds = adds_none lists;
+      finds = finds_none refl (λ lost. lost);
+    }
 
 -- The conditions of the output for one file more were added.
 finds_push : {args : Arguments} {a b c : ReportState} (results : List FileResult) (r : FileResult) → FindsAll args (outputs_of results) a b → FindsAll args r.outputs b c →
@@ -126,7 +151,8 @@ pub writes_push : {args : Arguments} {P : List ℕ → List Call → List Call �
     {lists mid_lists new_lists : NameLists}
     (files : List Found) (i : ℕ) (f : Found) (name : List ℕ) (update : Result Update ReplaceError) (edits : Edits) (fate : Fate) (after : Counts) → i < length files → f ≡ get_or files i f →
     name ≡ string_bytes f.path → WritesAll args P old (names_of (take i files)) mid before lists mid_lists → Tells mid.report next_report [] → KeepsScreen next_report file_report →
-    ProcessesOne args P name (record mid { report = next_report }) (record new { report = file_report }) update edits mid_lists new_lists → TellsOf (IsTold name update) file_report new.report → fate ≡ fate_of update →
+    ProcessesOne args P name (record mid { report = next_report }) (record new { report = file_report }) update edits
+    mid_lists new_lists → TellsOf (IsTold name update) file_report new.report → fate ≡ fate_of update →
     after.changed ≡ before.changed + cond (is_changed fate) 1 0 →
     after.unchanged ≡ before.unchanged + cond (is_same fate) 1 0 →
     after.faulty ≡ before.faulty + cond (is_faulty fate) 1 0 →
@@ -154,17 +180,29 @@ pub writes_all : {args : Arguments} {P : List ℕ → List Call → List Call �
 writes_all files i is h = grind (arith, take_all)
 
 -- A file was processed of which nothing is shown.
-pub lists_unshown : {args : Arguments} {plan : TextPlan} {lists : Bool} {name : List ℕ} {calls calls' : List Call} {old new : NameLists} {update : Result Update ReplaceError} (out : Stream) (r : ReportState) {n : Edits} → n ≡ no_edits →
-    ListsInto plan lists name calls calls' old new update → ProcessesOne args (Unshown (ListsOne plan lists)) name (record { calls = calls; out = out; report = r }) (record { calls = calls'; out = out; report = r }) update n old new
+pub lists_unshown : {args : Arguments} {plan : TextPlan} {lists : Bool} {name : List ℕ} {calls calls' : List Call}
+    {old new : NameLists} {update : Result Update ReplaceError} (out : Stream) (r : ReportState) {n : Edits} →
+    n ≡ no_edits → ListsInto plan lists name calls calls' old new update →
+    ProcessesOne args (Unshown (ListsOne plan lists)) name (record { calls = calls; out = out; report = r })
+    (record { calls = calls'; out = out; report = r }) update n old new
 lists_unshown out r none h = record {
   listed = h.listed;
-  writes = record { shown = []; outputs = []; does = λ told. record { does = h.does; nothing = refl; unedited = none; no_output = refl }; sent = sends_none out; finds = finds_none refl (λ lost. lost) };
+  writes =
+      record {
+        shown = [];
+        outputs = [];
+        does = λ told. record { does = h.does; nothing = refl; unedited = none; no_output = refl };
+        sent = sends_none out;
+        finds = finds_none refl (λ lost. lost);
+      };
   adds = h.adds;
 }
 
 -- A file was processed of which nothing is listed.
-pub unlisted_one : {args : Arguments} {P : List ℕ → List Call → List Call → FileResult → Type 0} {name : List ℕ} {before after : Stage} {update : Result Update ReplaceError} {n : Edits} (lists : NameLists) →
-    WritesOne args P name before after update n nothing_listed → ProcessesOne args P name before after update n lists lists
+pub unlisted_one : {args : Arguments} {P : List ℕ → List Call → List Call → FileResult → Type 0} {name : List ℕ}
+    {before after : Stage} {update : Result Update ReplaceError} {n : Edits} (lists : NameLists) →
+    WritesOne args P name before after update n nothing_listed →
+    ProcessesOne args P name before after update n lists lists
 unlisted_one lists h = record { listed = nothing_listed; writes = h; adds = adds_none lists }
 
 -- The task of the arguments does what they ask for.
@@ -207,14 +245,24 @@ sent_begun : (job : Job) {err : Stream} {first r : ReportState} {x : List ℕ} �
 sent_begun job {err = err} {r = r} {x = x} is h p = (subst (λ (q : ReportState). Writes q r x) is h).sent (plain_begun job err p)
 
 -- The run ends with the status of its counts.
-pub ends : (job : Job) (files : List Found) {old new : Moment} {mid : Stage} {listed : Stream} {list_report end_report last_report : ReportState} {counts : Counts} (lost unwritten : Bool) (in_walk faults hidden status : ℕ) (start lists : NameLists) →
-    start.list.items ≡ [] → start.hidden ≡ 0 → start.hidden_list.items ≡ [] → hidden ≡ lists.hidden → (lost ≡ false → mid.report.has_lost ≡ false) →
-    DoesFiles job files (record { calls = old.calls; out = old.out; report = begun job old.err }) mid counts start lists → WritesList job.arguments.now lists mid.report.remaining.list lost mid.out listed →
-    TellsIf list_message lost mid.report list_report → Sends listed new.out [] → unwritten ≡ new.out.failed → (new.out.failed ≡ false → new.out.unflushed ≡ false) →
-    TellsIf write_message unwritten list_report end_report → TellsEnd job.arguments.now counts faults hidden end_report last_report → new.err ≡ last_report.err →
-    new.calls ≡ mid.calls → counts.faulty ≤ faults → (in_walk + (cond lost 1 0 + cond unwritten 1 0) + counts.faulty < 2 ^ 64 → faults ≡ in_walk + (cond lost 1 0 + cond unwritten 1 0) + counts.faulty) →
-    (unheard : Bool) → unheard ≡ new.err.failed → status ≡ tree_status job.arguments.now.task job.arguments.now.plan.run.settings.exit_mode unheard faults counts.changed → EndsWriting job in_walk old files new status
-ends job files {old = old} {new = new} {end_report = end_report} {counts = counts} lost unwritten in_walk faults hidden status start lists no_name none no_condition hidden_now whole_report d l t f failed flushed u e stream same few all unheard heard is =
+pub ends : (job : Job) (files : List Found) {old new : Moment} {mid : Stage} {listed : Stream}
+    {list_report end_report last_report : ReportState} {counts : Counts} (lost unwritten : Bool)
+    (in_walk faults hidden status : ℕ) (start lists : NameLists) → start.list.items ≡ [] → start.hidden ≡ 0 →
+    start.hidden_list.items ≡ [] → hidden ≡ lists.hidden → (lost ≡ false → mid.report.has_lost ≡ false) →
+    DoesFiles job files (record { calls = old.calls; out = old.out; report = begun job old.err }) mid counts start
+    lists → WritesList job.arguments.now lists mid.report.remaining.list lost mid.out listed →
+    TellsIf list_message lost mid.report list_report → Sends listed new.out [] → unwritten ≡ new.out.failed →
+    (new.out.failed ≡ false → new.out.unflushed ≡ false) → TellsIf write_message unwritten list_report end_report →
+    TellsEnd job.arguments.now counts faults hidden end_report last_report → new.err ≡ last_report.err →
+    new.calls ≡ mid.calls → counts.faulty ≤ faults →
+    (in_walk + (cond lost 1 0 + cond unwritten 1 0) + counts.faulty < 2 ^ 64 →
+    faults ≡ in_walk + (cond lost 1 0 + cond unwritten 1 0) + counts.faulty) → (unheard : Bool) →
+    unheard ≡ new.err.failed →
+    status ≡ tree_status job.arguments.now.task job.arguments.now.plan.run.settings.exit_mode unheard faults
+    counts.changed → EndsWriting job in_walk old files new status
+ends job files {old = old} {new = new} {end_report = end_report} {counts = counts} lost unwritten in_walk faults hidden
+    status start lists no_name none no_condition hidden_now whole_report d l t f failed flushed u e stream same few all
+    unheard heard is =
     let w = d.does in
     let h = w.counted in
     let args = job.arguments.now in
@@ -222,8 +270,8 @@ ends job files {old = old} {new = new} {end_report = end_report} {counts = count
     let both = tells_same (sym (output_told lost unwritten)) (tells_then t u) in
     let left = end_report.remaining in
     let last = last_lines args counts.changed counts.unchanged faults hidden counts.edits left.count left.defined in
-    let all_names : lists.list.items ≡ (listed_of h.results).names = w.adds.names ∙ ap (λ (x : List ℕ). x ++ (listed_of h.results).names) no_name in
-    let all_hidden : lists.hidden_list.items ≡ (listed_of h.results).hidden_list = w.adds.hidden_list ∙ ap (λ (x : List ℕ). x ++ (listed_of h.results).hidden_list) no_condition in
+    let all_names = w.adds.names ∙ ap (λ (x : List ℕ). x ++ (listed_of h.results).names) no_name in
+    let all_hidden = w.adds.hidden_list ∙ ap (λ (x : List ℕ). x ++ (listed_of h.results).hidden_list) no_condition in
     record {
       ending = record { streams = ends_of new.out new.err; shown = w.shown ++ l.listed; told = (w.told ++ of_output) ++ last; last = last; status = status };
       ends = record {
@@ -323,8 +371,10 @@ ends_counted n m same h = record {
     same_sum n m k l faults same h small = let is : n ≡ m = same (omega arith) in let sum : faults ≡ n + k + l = h (omega arith) in omega arith
 
 -- The run processed the files that the walk found.
-pub ran_from : (job : Job) {given left : Source} {old mid new : Moment} {first r : ReportState} {found files : List Found} {status : ℕ} (in_walk : ℕ) → files ≡ found → first ≡ begun job old.err → in_walk ≡ r.faulty → mid.err ≡ r.err →
-    FindsFiles job.arguments.now given left old.calls mid.calls found first r → mid.out ≡ old.out → EndsWriting job in_walk mid files new status → RunsTree job given left old new status
+pub ran_from : (job : Job) {given left : Source} {old mid new : Moment} {first r : ReportState}
+    {found files : List Found} {status : ℕ} (in_walk : ℕ) → files ≡ found → first ≡ begun job old.err →
+    in_walk ≡ r.faulty → mid.err ≡ r.err → FindsFiles job.arguments.now given left old.calls mid.calls found first r →
+    mid.out ≡ old.out → EndsWriting job in_walk mid files new status → RunsTree job given left old new status
 ran_from job {old = old} {mid = mid} {new = new} {files = files} in_walk is first_is number stream w same h = record {
   messages = w.reports.messages;
   ending = h.ending;

@@ -61,9 +61,13 @@ pub has_diff : (o : TextOptions) (name text output seen diff : List ℕ) (ran : 
 has_diff o name text output seen diff ran h e p is = grind arith
 
 -- Nothing was written of a file.
-pub shows_none : {args : Arguments} {plan : TextPlan} {into : Bool} {r r' : ReportState} {outputs : List Output} {name : List ℕ} {calls calls' : List Call} {update : Result Update ReplaceError} (out : Stream) {n : Edits} → n ≡ no_edits → ReadsOne name calls calls' →
+pub shows_none : {args : Arguments} {plan : TextPlan} {into : Bool} {r r' : ReportState} {outputs : List Output}
+    {name : List ℕ} {calls calls' : List Call} {update : Result Update ReplaceError} (out : Stream) {n : Edits} →
+    n ≡ no_edits → ReadsOne name calls calls' →
     ((o : TextOptions) → IsPlanned plan o → ShowsFile o into name calls calls' update [] no_edits outputs) →
-    FindsAll args outputs r r' → WritesOne args (ShowsOne plan into) name (record { calls = calls; out = out; report = r }) (record { calls = calls'; out = out; report = r' }) update n nothing_listed
+    FindsAll args outputs r r' →
+    WritesOne args (ShowsOne plan into) name (record { calls = calls; out = out; report = r })
+    (record { calls = calls'; out = out; report = r' }) update n nothing_listed
 shows_none {into = into} {outputs = outputs} {name = name} {calls = calls} {calls' = calls'} {update = update} out none read h finds = record {
   shown = [];
   outputs = outputs;
@@ -73,8 +77,10 @@ shows_none {into = into} {outputs = outputs} {name = name} {calls = calls} {call
 }
 
 -- Nothing is shown of a file whose output doesn't differ.
-pub shows_same : (o : TextOptions) (into : Bool) (name text old output : List ℕ) (ran : TextRun) (stat : FileStat) (calls calls' : List Call) →
-    {seen : List ℕ} → seen ≡ output → old ≡ [] → ran.differs ≡ false → WasRead name text stat calls calls' → RunsOver o text old output ran → ShowsFile o into name calls calls' (Ok Unchanged) [] no_edits (made name seen)
+pub shows_same : (o : TextOptions) (into : Bool) (name text old output : List ℕ) (ran : TextRun) (stat : FileStat)
+    (calls calls' : List Call) → {seen : List ℕ} → seen ≡ output → old ≡ [] → ran.differs ≡ false →
+    WasRead name text stat calls calls' → RunsOver o text old output ran →
+    ShowsFile o into name calls calls' (Ok Unchanged) [] no_edits (made name seen)
 shows_same o into name text old output ran stat calls calls' q e is was h =
     subst (λ (x : List ℕ). ShowsFile o into name calls calls' (Ok Unchanged) [] no_edits (made name x)) (sym q) (same text output stat ran was (from_nothing e h) is)
 
@@ -91,5 +97,7 @@ pub shows_changed : (o : TextOptions) (into : Bool) (name text read old output s
     ShowsFile o into name calls calls' (Ok Replaced) diff (record { conditions = ran.edited; lines = lines }) (made name seen)
 unfolding has_diff from_nothing
 shows_changed o into name text read old output seen diff ran stat calls calls' e is was h may r q diffs lines fewer =
-    changed text seen diff (record { conditions = ran.edited; lines = lines }) stat was may (has_diff o name text output seen diff ran (from_nothing e h) is q (subst (λ (x : List ℕ). IsDiff name x seen diff) r diffs))
+    changed text seen diff (record { conditions = ran.edited; lines = lines }) stat was may
+    (has_diff o name text output seen diff ran (from_nothing e h) is q
+    (subst (λ (x : List ℕ). IsDiff name x seen diff) r diffs))
     (q ∙ (from_nothing e h).appended) fewer

@@ -10,7 +10,8 @@ use Rattle.ud_tree.specs.Runs.{changed_in}
 use Rattle.ud_tree.specs.TreeRuns.{Run, IsRun, IsClean}
 
 -- The status is 2 if there is a fault, or if the error stream has failed.
-none_by_status : (task : Task) (mode : ExitMode) (unheard : Bool) (faults changed status : ℕ) → status ≡ tree_status task mode unheard faults changed → ¬ (status ≡ 2) → (faults ≡ 0) × (unheard ≡ false)
+none_by_status : (task : Task) (mode : ExitMode) (unheard : Bool) (faults changed status : ℕ) →
+    status ≡ tree_status task mode unheard faults changed → ¬ (status ≡ 2) → (faults ≡ 0) × (unheard ≡ false)
 none_by_status task mode unheard faults changed status is other = grind arith
 
 -- There is a message if the output failed.

@@ -27,8 +27,10 @@ listed_parts : (a b c d e f : List ℕ) → a ++ (b ++ (c ++ (d ++ (e ++ (f ++ [
 listed_parts a b c d e f = simp (append_assoc, append-nil)
 
 -- The summary of a run that lists names.
-pub listed_joined : (listed : Bool) (changed unchanged faults hidden : ℕ) (u f h v w : List ℕ) → u ≡ decimal unchanged → f ≡ decimal faults → h ≡ decimal hidden → v ≡ files_text unchanged → w ≡ hidden_text listed hidden →
-    line_of (u ++ (v ++ (f ++ (codes " faulty; " ++ (h ++ (w ++ [])))))) ≡ summary Names listed changed unchanged faults hidden
+pub listed_joined : (listed : Bool) (changed unchanged faults hidden : ℕ) (u f h v w : List ℕ) → u ≡ decimal unchanged →
+    f ≡ decimal faults → h ≡ decimal hidden → v ≡ files_text unchanged → w ≡ hidden_text listed hidden →
+    line_of (u ++ (v ++ (f ++ (codes " faulty; " ++ (h ++ (w ++ [])))))) ≡
+    summary Names listed changed unchanged faults hidden
 listed_joined listed changed unchanged faults hidden u f h v w p q r m n =
     grind (arith, common_steps, listed_parts)
 

@@ -56,10 +56,13 @@ reads_touch : {P : List ℕ → List Call → List Call → FileResult → Type 
 reads_touch w no_file = no_call
 reads_touch w (then_file {mid = mid} {next = next} {name = name} {result = result} h k t) = each_then (reads_touch w h) (read_touches (w name mid next result k))
 
-shows_touch : {plan : TextPlan} {into : Bool} {old : List Call} {names : List (List ℕ)} {new : List Call} {results : List FileResult} → EachFile (ShowsOne plan into) old names new results → EachCall TouchesNothing old new
+shows_touch : {plan : TextPlan} {into : Bool} {old : List Call} {names : List (List ℕ)} {new : List Call}
+    {results : List FileResult} → EachFile (ShowsOne plan into) old names new results → EachCall TouchesNothing old new
 shows_touch h = reads_touch (λ name old new result k. k.reads) h
 
-lists_touch : {plan : TextPlan} {lists : Bool} {old : List Call} {names : List (List ℕ)} {new : List Call} {results : List FileResult} → EachFile (Unshown (ListsOne plan lists)) old names new results → EachCall TouchesNothing old new
+lists_touch : {plan : TextPlan} {lists : Bool} {old : List Call} {names : List (List ℕ)} {new : List Call}
+    {results : List FileResult} → EachFile (Unshown (ListsOne plan lists)) old names new results →
+    EachCall TouchesNothing old new
 lists_touch h = reads_touch (λ name old new result k. k.does.reads) h
 
 reads_by : (args : Arguments) (t : Task) → args.task ≡ t → ¬ (t ≡ Replace) → {old : List Call} {names : List (List ℕ)} {new : List Call} {results : List FileResult} →
@@ -124,7 +127,8 @@ moments_none : (o : TextOptions) (first : Files) (old : List Call) → Moments o
 moments_none o first old = record { each = no_call; last = λ n bytes e. inl e }
 
 -- Calls that touch nothing.
-moments_still : {o : TextOptions} {first : Files} {old mid : List Call} {names : List (List ℕ)} {new : List Call} → Moments o first old names mid → EachCall TouchesNothing mid new → Moments o first old names new
+moments_still : {o : TextOptions} {first : Files} {old mid : List Call} {names : List (List ℕ)} {new : List Call} →
+    Moments o first old names mid → EachCall TouchesNothing mid new → Moments o first old names new
 moments_still m no_call = m
 moments_still {o = o} {first = first} {old = old} {names = names} m (then_call {c = c} {calls = calls} h t) =
     let before = moments_still m h in
@@ -167,7 +171,7 @@ moments_more {o = o} {first = first} {old = old} {mid = mid} {names = names} nam
     record { each = m.each; last = moment_more o first old mid mid names name fresh m.last (λ n bytes e. inl e) }
 moments_more {o = o} {first = first} {old = old} {mid = mid} {names = names} name fresh m (then_call {c = c} {calls = calls} h k) =
     let before = moments_more name fresh m h in
-    let now : OutputIn o first old (names ++ name ∷ []) (c ∷ calls) = moment_more o first old mid (c ∷ calls) names name fresh m.last k in
+    let now = moment_more o first old mid (c ∷ calls) names name fresh m.last k in
     record { each = then_call before.each (forget o first old (names ++ name ∷ []) (c ∷ calls) now); last = now }
 
 -- True answers up to the end were true before.
@@ -195,8 +199,10 @@ last_is_new names name h inside =
     both (at_k ∙ sym at_end)
 
 -- One file more of a run.
-moments_one : {o : TextOptions} {plan : TextPlan} {first : Files} {old : List Call} {names : List (List ℕ)} {mid next : List Call} {name : List ℕ} {update : Result Update ReplaceError} → IsPlanned plan o →
-    IsNew names name → ReplacesOne plan false name mid next update → AreTrue first next → (AreTrue first mid → Moments o first old names mid) → Moments o first old (names ++ name ∷ []) next
+moments_one : {o : TextOptions} {plan : TextPlan} {first : Files} {old : List Call} {names : List (List ℕ)}
+    {mid next : List Call} {name : List ℕ} {update : Result Update ReplaceError} → IsPlanned plan o → IsNew names name →
+    ReplacesOne plan false name mid next update → AreTrue first next →
+    (AreTrue first mid → Moments o first old names mid) → Moments o first old (names ++ name ∷ []) next
 moments_one {o = o} {first = first} {mid = mid} {next = next} {name = name} p fresh_name (replaces r id fresh is k) t m =
     let moments = old_or_new o first id name fresh mid next r (k o p) t in
     moments_more name fresh_name (m (true_before first moments t)) moments
@@ -217,7 +223,7 @@ not_before_itself f g h e = grind (arith, tied_itself, nat_list_cmp_total)
 apart_names : (files : List Found) → AllPairs IsBefore files → AllPairs Apart (names_of files)
 apart_names [] h i j d below within = absurd (omega arith)
 apart_names (f ∷ files) h i j d below within =
-    let in_files : j < length (f ∷ files) = subst (λ (n : ℕ). j < n) (length-map (f ∷ files) (λ (g : Found). string_bytes g.path)) within in
+    let in_files = subst (λ (n : ℕ). j < n) (length-map (f ∷ files) (λ (g : Found). string_bytes g.path)) within in
     let at_i : get_or (names_of (f ∷ files)) i d ≡ string_bytes (get_or (f ∷ files) i f).path =
     get_or-map (λ (g : Found). string_bytes g.path) (f ∷ files) i f d (omega arith) in
     let at_j : get_or (names_of (f ∷ files)) j d ≡ string_bytes (get_or (f ∷ files) j f).path =

@@ -30,7 +30,9 @@ pub fault_reported : {a b : ReportState} (name text : List ℕ) → ReportsOne (
 fault_reported name text h = reports_same (ap line_of (simp (append_assoc, append-nil))) h
 
 -- The line of a fault of a name in a folder was written, from its parts.
-pub fault_in_reported : {a b : ReportState} (folder name text : List ℕ) → ReportsOne (line_of (folder ++ (name ++ (codes ": " ++ (text ++ []))))) a b → ReportsOne (fault_line (folder ++ name) text) a b
+pub fault_in_reported : {a b : ReportState} (folder name text : List ℕ) →
+    ReportsOne (line_of (folder ++ (name ++ (codes ": " ++ (text ++ []))))) a b →
+    ReportsOne (fault_line (folder ++ name) text) a b
 fault_in_reported folder name text h = reports_same (ap line_of (simp (append_assoc, append-nil))) h
 
 -- The line of a file that another run replaces was written, from its parts.
@@ -67,8 +69,16 @@ pub walk_call : (w : WalkCall) {calls calls' : List Call} (r : ReportState) → 
 walk_call w r fine is = walk_quiet (w ∷ []) r is (then_answered w none_told fine)
 
 -- Calls were made of which there is one message.
-walk_one : (ws : List WalkCall) {calls calls' : List Call} {r r' : ReportState} {message : List ℕ} → calls' ≡ map walked ws ++ calls → AreTold ws (message ∷ []) → ReportsOne message r r' → ReportsWalk calls calls' r r'
-walk_one ws {message = message} is told h = record { messages = message ∷ []; walk = record { calls = ws; are = is; told = told }; tells = tells_same (sym (append-nil message)) h.tells; counted = h.counted }
+walk_one : (ws : List WalkCall) {calls calls' : List Call} {r r' : ReportState} {message : List ℕ} →
+    calls' ≡ map walked ws ++ calls → AreTold ws (message ∷ []) → ReportsOne message r r' →
+    ReportsWalk calls calls' r r'
+walk_one ws {message = message} is told h =
+    record {
+      messages = message ∷ [];
+      walk = record { calls = ws; are = is; told = told };
+      tells = tells_same (sym (append-nil message)) h.tells;
+      counted = h.counted;
+    }
 
 -- A call failed, and its message was written.
 pub walk_refused : (w : WalkCall) {calls calls' : List Call} {r r' : ReportState} → calls' ≡ walked w ∷ calls → ReportsOf (IsRefusal w) r r' → ReportsWalk calls calls' r r'
@@ -94,7 +104,8 @@ pub given_other : (path name : List ℕ) (node : Node) {r r' : ReportState} → 
 given_other path name node same is h = is_irregular is (reports_same (ap (λ (n : List ℕ). fault_line n (codes "Is no regular file")) same) h)
 
 -- A node of the input was met, and added or left out.
-pub walk_given : (path : List ℕ) (node : Node) {calls calls' : List Call} {r r' : ReportState} → calls' ≡ walked (met path (Present node)) ∷ calls → TellsGiven path node r r' → ReportsWalk calls calls' r r'
+pub walk_given : (path : List ℕ) (node : Node) {calls calls' : List Call} {r r' : ReportState} →
+    calls' ≡ walked (met path (Present node)) ∷ calls → TellsGiven path node r r' → ReportsWalk calls calls' r r'
 walk_given path node {calls = calls} {calls' = calls'} {r = r} is (is_quiet same) =
     subst (λ (q : ReportState). ReportsWalk calls calls' r q) (sym same) (walk_call (met path (Present node)) r refl is)
 walk_given path node is (is_irregular other h) = walk_other path path node refl is (other_kind node.kind other) h
@@ -160,8 +171,8 @@ walk_then {calls = calls} {a = a} {b = b} {c = c} h k = record {
   where
     by_length : a.faulty + length (h.messages ++ k.messages) < 2 ^ 64 → c.faulty ≡ a.faulty + length (h.messages ++ k.messages)
     by_length small =
-        let both : length (h.messages ++ k.messages) ≡ length h.messages + length k.messages = length-append h.messages k.messages in
-        let small_sum : a.faulty + (length h.messages + length k.messages) < 2 ^ 64 = subst (λ (n : ℕ). a.faulty + n < 2 ^ 64) both small in
+        let both = length-append h.messages k.messages in
+        let small_sum = subst (λ (n : ℕ). a.faulty + n < 2 ^ 64) both small in
         counted_both a.faulty b.faulty c.faulty (length h.messages) (length k.messages) h.counted k.counted small_sum ∙ ap (λ (n : ℕ). a.faulty + n) (sym both)
 
 -- Faults that were counted have messages.
@@ -184,7 +195,8 @@ stops_unread calls failed h = record {
 }
 
 -- The same, by what the arguments say of the input.
-pub stops_by : {from_input : Bool} {left : Source} {calls calls' : List Call} {r r' : ReportState} → from_input ≡ true → StopsWalk true left calls calls' r r' → StopsWalk from_input left calls calls' r r'
+pub stops_by : {from_input : Bool} {left : Source} {calls calls' : List Call} {r r' : ReportState} → from_input ≡ true →
+    StopsWalk true left calls calls' r r' → StopsWalk from_input left calls calls' r r'
 stops_by {left = left} {calls = calls} {calls' = calls'} {r = r} {r' = r'} is h = subst (λ (b : Bool). StopsWalk b left calls calls' r r') (sym is) h
 
 -- No file follows, and a line says why.
@@ -283,7 +295,9 @@ pub some_unless : (from_input : Bool) (n : ℕ) → from_input ≡ true → from
 some_unless from_input n input args = absurd (true≢false (sym input ∙ args))
 
 -- Each path of the input was given.
-pub paths_given : (args : Arguments) {given left : Source} {calls calls' : List Call} {has : List ℕ → FileId → Type 0} {told : Type 0} → args.from_input ≡ true → TakesEach given left calls calls' has told → TakesPaths args given left calls calls' has told
+pub paths_given : (args : Arguments) {given left : Source} {calls calls' : List Call} {has : List ℕ → FileId → Type 0}
+    {told : Type 0} → args.from_input ≡ true → TakesEach given left calls calls' has told →
+    TakesPaths args given left calls calls' has told
 paths_given args input h = record { text = h.text; takes = takes_all input h.reads; misses = misses_no_input input h.covers }
 
 -- The paths of the command line are covered, and nothing was read.

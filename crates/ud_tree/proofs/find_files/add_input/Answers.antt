@@ -26,7 +26,9 @@ loop-name-init g c = (
 pub loop-name-preserved : goal.loop-name-preserved
 loop-name-preserved g c = (
   goes_then c.loop-name.invariant.0 c.add.ensures.goes_on refl,
-  takes_at (λ p. p.items) c.as_slice-name-items.result.now c.loop-name.name-index c.name-item.result c.as_slice-in-loop-name.result.now _ _ c.loop-name-test.true c.name-item.is c.as_slice-in-loop-name.ensures.value c.loop-name.invariant.1 c.in_ok-add.ensures.takes,
+  takes_at (λ p. p.items) c.as_slice-name-items.result.now c.loop-name.name-index c.name-item.result
+      c.as_slice-in-loop-name.result.now _ _ c.loop-name-test.true c.name-item.is c.as_slice-in-loop-name.ensures.value
+      c.loop-name.invariant.1 c.in_ok-add.ensures.takes,
 )
 
 pub returns-in_err-add-clause-goes_on : goal.returns-in_err-add-clause-goes_on

@@ -11,7 +11,9 @@ returns-in-Replace g c =
 
 pub returns-in-Diff : goal.returns-in-Diff
 returns-in-Diff g c =
-    says_same (ap (λ (t : Task). summary t c.args.arguments.now.list_hidden c.args.counts.changed c.args.counts.unchanged c.args.faults c.args.hidden) (sym c.in-Diff.is)) c.report_changes-in-Diff.ensures
+    says_same (ap
+    (λ (t : Task). summary t c.args.arguments.now.list_hidden c.args.counts.changed c.args.counts.unchanged
+    c.args.faults c.args.hidden) (sym c.in-Diff.is)) c.report_changes-in-Diff.ensures
 
 pub returns-in-Names : goal.returns-in-Names
 returns-in-Names g c =

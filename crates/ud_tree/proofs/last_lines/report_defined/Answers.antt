@@ -11,4 +11,5 @@ returns-then-count-eq0 g c = λ hidden.
 
 pub returns : goal.returns
 returns g c = λ hidden.
-    says_same (defined_told c.args.arguments.now.list_remaining _ _ c.if-count-eq0.false c.defined_text.ensures ∙ ap (defined_line c.args.arguments.now.list_remaining) c.defined-count.ensures) c.report_number.ensures
+    says_same (defined_told c.args.arguments.now.list_remaining _ _ c.if-count-eq0.false c.defined_text.ensures
+    ∙ ap (defined_line c.args.arguments.now.list_remaining) c.defined-count.ensures) c.report_number.ensures

@@ -38,7 +38,10 @@ returns-in-Ok-add_hidden g c = record {
         (ap (λ v. v.items) c.new-listed.ensures.inner ∙ c.new.ensures.items) c.in-Ok.ensures.text (c.in-Ok.ensures.ran o p);
   };
   adds = record {
-    names = c.add_hidden.ensures.list ∙ c.add-added.ensures.list ∙ all_added (is_ok c.add-added.result) _ _ _ (grind (arith, c.is_err.ensures.value, c.is_err.ensures.negation, c.if-is_err.false)) (c.as_slice.ensures.value ∙ ap (λ v. v.items) c.inner.ensures);
+    names =
+        c.add_hidden.ensures.list ∙ c.add-added.ensures.list ∙ all_added (is_ok c.add-added.result) _ _ _
+        (grind (arith, c.is_err.ensures.value, c.is_err.ensures.negation, c.if-is_err.false))
+        (c.as_slice.ensures.value ∙ ap (λ v. v.items) c.inner.ensures);
     hidden = rw (c.mode.ensures, c.as_slice-2.ensures.value, c.add-added.ensures.hidden) at c.in-Ok-add_hidden.ensures.hidden;
     hidden_list = rw (c.mode.ensures, c.as_slice-2.ensures.value, c.add-added.ensures.lists, c.requires.lists, c.add-added.ensures.hidden_list) at c.in-Ok-add_hidden.ensures.hidden_list;
     lists = c.add_hidden.ensures.lists ∙ c.add-added.ensures.lists;

@@ -28,7 +28,11 @@ returns-clause-writes g c = record {
     does = c.in-Ok.ensures.replaces;
     change = after_update _ _ _ (λ o p. rw (← (c.as_slice-3.ensures.value ∙ ap (λ v. v.items) c.inner-2.ensures)) at (c.in-Ok.ensures.keeps refl o p))
         (rw (c.as_slice.ensures.value, c.as_slice-2.ensures.value ∙ ap (λ v. v.items) c.inner.ensures, ← (c.as_slice-3.ensures.value ∙ ap (λ v. v.items) c.inner-2.ensures)) at c.removed_by.ensures)
-        (rw (c.as_slice-4.ensures.value, c.as_slice-5.ensures.value ∙ ap (λ v. v.items) c.inner-3.ensures, ← (c.as_slice-3.ensures.value ∙ ap (λ v. v.items) c.inner-2.ensures)) at c.change_of-diff.ensures.change);
+        (rw (
+          c.as_slice-4.ensures.value,
+          c.as_slice-5.ensures.value ∙ ap (λ v. v.items) c.inner-3.ensures,
+          ← (c.as_slice-3.ensures.value ∙ ap (λ v. v.items) c.inner-2.ensures),
+        ) at c.change_of-diff.ensures.change);
   };
   sent = sends_same c.as_slice-6.ensures.value c.send.ensures;
   finds = finds_then (made c.args.file.name.now c.as_slice-3.result.now) [] (finds_output c.search.ensures.finds) (finds_none c.change_of-diff.ensures.remaining c.change_of-diff.ensures.lost);

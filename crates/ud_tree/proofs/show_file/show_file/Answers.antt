@@ -20,7 +20,8 @@ pub returns-then-not-ran-clause-writes : goal.returns-then-not-ran-clause-writes
 returns-then-not-ran-clause-writes g c =
     shows_none (stream_of g.W.Write.contents c.args.out.now) c.requires.none c.run_file.ensures.reads
     (λ o p.
-    shows_same o _ _ _ _ _ _ _ _ _ (c.as_slice.ensures.value ∙ ap (λ v. v.items) c.inner.ensures) (ap (λ v. v.items) c.new-output.ensures.inner ∙ c.new.ensures.items) c.if-not-ran.true c.in-Ok.ensures.text
+    shows_same o _ _ _ _ _ _ _ _ _ (c.as_slice.ensures.value ∙ ap (λ v. v.items) c.inner.ensures)
+    (ap (λ v. v.items) c.new-output.ensures.inner ∙ c.new.ensures.items) c.if-not-ran.true c.in-Ok.ensures.text
     (c.in-Ok.ensures.ran o p)) (finds_output c.search.ensures.finds)
 
 pub returns-then-is_left_alone-clause-writes : goal.returns-then-is_left_alone-clause-writes
@@ -39,7 +40,11 @@ returns-clause-writes g c = record {
     shows = λ o p. shows_changed o _ _ _ _ _ _ _ _ _ _ _ _ (ap (λ v. v.items) c.new-output.ensures.inner ∙ c.new.ensures.items) c.if-not-ran.false
         c.in-Ok.ensures.text (c.in-Ok.ensures.ran o p) (c.is_left_alone.ensures.replaced c.if-is_left_alone.false) c.as_slice-2.ensures.value
         (c.as_slice-3.ensures.value ∙ ap (λ v. v.items) c.inner-2.ensures) c.in-Some.ensures _
-        (rw (c.as_slice-4.ensures.value, c.as_slice-5.ensures.value ∙ ap (λ v. v.items) c.inner-3.ensures, ← (c.as_slice-3.ensures.value ∙ ap (λ v. v.items) c.inner-2.ensures)) at c.removed_by.ensures);
+        (rw (
+          c.as_slice-4.ensures.value,
+          c.as_slice-5.ensures.value ∙ ap (λ v. v.items) c.inner-3.ensures,
+          ← (c.as_slice-3.ensures.value ∙ ap (λ v. v.items) c.inner-2.ensures),
+        ) at c.removed_by.ensures);
   };
   sent = sends_same c.as_slice-7.ensures.value c.send.ensures;
   finds = finds_same

@@ -11,7 +11,9 @@ use Rattle.ud_tree.proofs.walk.pick.Goals as goal
 pub returns-in_ok-push-clause-picked : goal.returns-in_ok-push-clause-picked
 returns-in_ok-push-clause-picked c =
     picked_new c.args.seen.now c.insert.new.self c.args.files.now.items c.push.new.self.items c.args.found c.in_ok-is_new.is_new c.in_ok-is_new.ensures.added c.if-is_new.true
-    c.in_ok-is_new.ensures.updates (subst (λ (fs : List Found). All (λ f. IsBefore f c.args.found) fs) c.as_slice.ensures.value (c.if-not-comes_after.ensures.after refl)) c.in_ok-push.ensures.items c.requires.picked
+    c.in_ok-is_new.ensures.updates
+    (subst (λ (fs : List Found). All (λ f. IsBefore f c.args.found) fs) c.as_slice.ensures.value
+    (c.if-not-comes_after.ensures.after refl)) c.in_ok-push.ensures.items c.requires.picked
 
 pub returns-in_ok-push-clause-others : goal.returns-in_ok-push-clause-others
 returns-in_ok-push-clause-others c = others_kept c.args.files.now.items c.push.new.self.items c.args.found c.in_ok-push.ensures.items

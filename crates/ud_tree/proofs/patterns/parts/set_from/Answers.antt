@@ -13,7 +13,7 @@ items-preserved c =
     let rest : c.items.rest.now ≡ c.in-Some.low.now ∷ c.in-Some.after.now = grind (arith, common_steps) in
     let goes_on : ends_set c.items.first c.in-Some.low.now ≡ false = grind (arith, common_steps) in
     let found : c.if-found.found ≡ (c.items.found || within c.in-Some.low.now (item_high c.in-Some.low.now c.in-Some.after.now) c.args.byte) = grind (arith, common_steps) in
-    let few : length (c.in-Some.low.now ∷ c.in-Some.after.now) ≤ c.items.invariant.0 = subst (λ (r : List ℕ). length r ≤ c.items.invariant.0) rest c.items.invariant.1 in
+    let few = subst (λ (r : List ℕ). length r ≤ c.items.invariant.0) rest c.items.invariant.1 in
     next_is c.args.byte _ _ _ (c.items.invariant.2 ∙ ap (λ (r : List ℕ). set_within c.items.invariant.0 c.items.first c.items.found r c.args.byte) rest)
     (within_next c.items.invariant.0 c.items.first c.items.found c.in-Some.low.now c.in-Some.after.now c.args.byte few goes_on) found c.set_item-item.ensures.after
 

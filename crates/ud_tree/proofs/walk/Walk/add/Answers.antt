@@ -43,11 +43,16 @@ returns-in_default-clause-takes g c = takes_other c.args.name.now (g.T.Folder.hi
 pub returns-in-Present-clause-takes : goal.returns-in-Present-clause-takes
 returns-in-Present-clause-takes g c =
     on_ok_weaker c.add_given.result
-    (λ both. takes_node c.in-Present.node _ c.args.name.now _ _ c.args.report.now _ c.add_given.ensures.counted both.1 (sym c.in-Ok.ensures.cases.0) c.in-Present.ensures c.add_given.ensures.adds both.0)
+    (λ both. takes_node c.in-Present.node _ c.args.name.now _ _ c.args.report.now _ c.add_given.ensures.counted both.1
+    (sym c.in-Ok.ensures.cases.0) c.in-Present.ensures c.add_given.ensures.adds both.0)
     (on_ok_both _ _ c.add_given.result c.add_given.ensures.is_in c.add_given.ensures.other)
 
 pub returns-in-Absent-clause-takes : goal.returns-in-Absent-clause-takes
-returns-in-Absent-clause-takes g c = takes_unmet Absent _ c.args.name.now c.args.self.now.found.items c.args.report.now _ (λ before. c.missing.ensures.reports.some) (λ node e. absurd cc) (sym c.in-Ok.ensures.cases.0) c.in-Absent.ensures
+returns-in-Absent-clause-takes g c =
+    takes_unmet Absent _ c.args.name.now c.args.self.now.found.items c.args.report.now _
+    (λ before. c.missing.ensures.reports.some) (λ node e. absurd cc) (sym c.in-Ok.ensures.cases.0) c.in-Absent.ensures
 
 pub returns-in-Unknown-clause-takes : goal.returns-in-Unknown-clause-takes
-returns-in-Unknown-clause-takes g c = takes_unmet Unknown _ c.args.name.now c.args.self.now.found.items c.args.report.now _ (λ before. c.unknown.ensures.reports.some) (λ node e. absurd cc) (sym c.in-Ok.ensures.cases.0) c.in-Unknown.ensures
+returns-in-Unknown-clause-takes g c =
+    takes_unmet Unknown _ c.args.name.now c.args.self.now.found.items c.args.report.now _
+    (λ before. c.unknown.ensures.reports.some) (λ node e. absurd cc) (sym c.in-Ok.ensures.cases.0) c.in-Unknown.ensures

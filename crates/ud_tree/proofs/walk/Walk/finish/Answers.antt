@@ -24,7 +24,9 @@ pick-requires c =
 pub loop-found-preserved : goal.loop-found-preserved
 loop-found-preserved c =
     let b = c.into_iter-found-iterator.ensures.into_iter_gives in
-    let t = YieldsList-turn (YieldsList-from_vec c.sort.new.self.items b.0 (b.1 ∙ c.sort.new.self.ok.0)) c.loop-found.yielded c.loop-found.found-iterator c.loop-found.yielded_by c.next.result c.next.new.self c.in-Some.found c.in-Some.is c.next.ensures.steps in
+    let t = YieldsList-turn (YieldsList-from_vec c.sort.new.self.items b.0 (b.1 ∙ c.sort.new.self.ok.0))
+    c.loop-found.yielded c.loop-found.found-iterator c.loop-found.yielded_by c.next.result c.next.new.self
+    c.in-Some.found c.in-Some.is c.next.ensures.steps in
     picked_next c.in-Some.found c.loop-found.invariant c.in_ok-pick.ensures.picked
     (Contains-permutation c.sort.new.self.items c.args.self.found.items c.in-Some.found (IsPermutation-sym _ _ c.sort.ensures.permutation) (_, t.0, sym t.1))
     c.pick.ensures.from c.in_ok-pick.ensures.others c.in_ok-pick.ensures.kept
@@ -32,7 +34,9 @@ loop-found-preserved c =
 pub returns : goal.returns
 returns c =
     let b = c.into_iter-found-iterator.ensures.into_iter_gives in
-    let ends = YieldsList-end (YieldsList-from_vec c.sort.new.self.items b.0 (b.1 ∙ c.sort.new.self.ok.0)) c.loop-found.yielded c.loop-found.found-iterator c.loop-found.yielded_by c.next.result c.next.new.self c.in-None.is c.next.ensures.steps in
+    let ends = YieldsList-end (YieldsList-from_vec c.sort.new.self.items b.0 (b.1 ∙ c.sort.new.self.ok.0))
+    c.loop-found.yielded c.loop-found.found-iterator c.loop-found.yielded_by c.next.result c.next.new.self c.in-None.is
+    c.next.ensures.steps in
     record {
       from = c.loop-found.invariant.from;
       kept = kept_all c.loop-found.files.items c.loop-found.yielded c.sort.new.self.items c.args.self.found.items ends.0

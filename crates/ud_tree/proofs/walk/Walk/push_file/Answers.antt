@@ -9,7 +9,8 @@ returns-clause-adds c = adds_one (record { path = c.in_ok-path.path; id = c.args
 
 pub returns-clause-is_in : goal.returns-clause-is_in
 returns-clause-is_in c =
-    is_in_pushed c.args.self.now.found.items c.push.new.self.items (record { path = c.in_ok-path.path; id = c.args.id }) c.args.path.now c.args.id c.in_ok-path.ensures.ok refl c.in_ok-push.ensures.items
+    is_in_pushed c.args.self.now.found.items c.push.new.self.items (record { path = c.in_ok-path.path; id = c.args.id })
+    c.args.path.now c.args.id c.in_ok-path.ensures.ok refl c.in_ok-push.ensures.items
 
 pub returns-clause-grows : goal.returns-clause-grows
 returns-clause-grows c = grows_pushed c.args.self.now _ (record { path = c.in_ok-path.path; id = c.args.id }) refl c.in_ok-push.ensures.items

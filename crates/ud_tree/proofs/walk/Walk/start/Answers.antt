@@ -62,7 +62,8 @@ returns-in-Unknown-clause-starts g c = starts_bad (met c.args.path.now Unknown �
 pub returns-in-Folder-clause-starts : goal.returns-in-Folder-clause-starts
 returns-in-Folder-clause-starts g c =
     on_ok_weaker c.add_folder.result
-    (λ w. starts_good (met c.args.path.now (Present c.in-Present.node) ∷ []) c.args.path.now _ _ c.args.report.now c.in-Present.ensures (met_none c.args.path.now (Present c.in-Present.node)) (waits_more w)
+    (λ w. starts_good (met c.args.path.now (Present c.in-Present.node) ∷ []) c.args.path.now _ _ c.args.report.now
+    c.in-Present.ensures (met_none c.args.path.now (Present c.in-Present.node)) (waits_more w)
     (at_folder c.in-Present.node (0, omega arith, refl) c.in-Folder.is (waits_due (met c.args.path.now (Present c.in-Present.node) ∷ []) w)))
     c.add_folder.ensures.waits
 
@@ -89,7 +90,9 @@ returns-in-File-clause-starts g c =
     c.push_file.ensures.is_in
 
 pub returns-in-Other-clause-starts : goal.returns-in-Other-clause-starts
-returns-in-Other-clause-starts g c = starts_bad (met c.args.path.now (Present c.in-Present.node) ∷ []) c.args.path.now _ _ _ c.in-Present.ensures (met_none c.args.path.now (Present c.in-Present.node)) c.fault-in-Other.ensures.some
+returns-in-Other-clause-starts g c =
+    starts_bad (met c.args.path.now (Present c.in-Present.node) ∷ []) c.args.path.now _ _ _ c.in-Present.ensures
+    (met_none c.args.path.now (Present c.in-Present.node)) c.fault-in-Other.ensures.some
 
 pub returns-in-Absent-clause-catches : goal.returns-in-Absent-clause-catches
 returns-in-Absent-clause-catches g c = catches_met c.args.path.now Absent _ c.args.self.now c.in-Absent.ensures (grows_same _ _ refl refl) (λ node e kind. cc)

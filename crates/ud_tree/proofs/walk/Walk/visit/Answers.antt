@@ -56,16 +56,24 @@ returns-in_default-clause-visits g c = visits_other c.args.folder.now c.args.nam
 pub returns-in-Present-clause-visits : goal.returns-in-Present-clause-visits
 returns-in-Present-clause-visits g c =
     on_ok_weaker c.add_node.result
-    (λ w. visits_node c.in-Present.node _ c.args.folder.now c.args.name.now _ _ c.args.report.now (cc (c.as_str-whole.ensures.value, c.in_ok-push_str.ensures.bytes, c.in-Ok.ensures.cases.0, c.in_ok-path.ensures.ok)) c.in-Present.ensures w)
+    (λ w. visits_node c.in-Present.node _ c.args.folder.now c.args.name.now _ _ c.args.report.now
+    (cc (c.as_str-whole.ensures.value, c.in_ok-push_str.ensures.bytes, c.in-Ok.ensures.cases.0, c.in_ok-path.ensures.ok))
+    c.in-Present.ensures w)
     c.add_node.ensures.waits
 
 pub returns-in-Absent-clause-visits : goal.returns-in-Absent-clause-visits
 returns-in-Absent-clause-visits g c =
-    visits_unmet Absent _ c.args.folder.now c.args.name.now _ c.args.report.now c.args.report.now (λ some. some) (λ node e. absurd cc) (cc (c.as_str-whole.ensures.value, c.in_ok-push_str.ensures.bytes, c.in-Ok.ensures.cases.0, c.in_ok-path.ensures.ok)) c.in-Absent.ensures
+    visits_unmet Absent _ c.args.folder.now c.args.name.now _ c.args.report.now c.args.report.now (λ some. some)
+    (λ node e. absurd cc)
+    (cc (c.as_str-whole.ensures.value, c.in_ok-push_str.ensures.bytes, c.in-Ok.ensures.cases.0, c.in_ok-path.ensures.ok))
+    c.in-Absent.ensures
 
 pub returns-clause-visits : goal.returns-clause-visits
 returns-clause-visits g c =
-    visits_unmet Unknown _ c.args.folder.now c.args.name.now _ c.args.report.now _ (λ before. c.unknown.ensures.reports.some) (λ node e. absurd cc) (cc (c.as_str-whole.ensures.value, c.in_ok-push_str.ensures.bytes, c.in-Ok.ensures.cases.0, c.in_ok-path.ensures.ok)) c.in-Unknown.ensures
+    visits_unmet Unknown _ c.args.folder.now c.args.name.now _ c.args.report.now _
+    (λ before. c.unknown.ensures.reports.some) (λ node e. absurd cc)
+    (cc (c.as_str-whole.ensures.value, c.in_ok-push_str.ensures.bytes, c.in-Ok.ensures.cases.0, c.in_ok-path.ensures.ok))
+    c.in-Unknown.ensures
 
 pub returns-in_default-clause-catches : goal.returns-in_default-clause-catches
 returns-in_default-clause-catches g c = catches_none (g.T.Folder.history c.args.tree.now) c.args.self.now c.args.self.now (grows_same _ _ refl refl)
