@@ -157,7 +157,8 @@ module _ (args : List (List ℕ)) (text given : List ℕ) (s t : Stream) where
       let o = options_of args in
       let ends = shifted t.output.failed r uncut g.of.within (ap (λ x. x.taken) e.rest) (e.finishes (session o text (given ++ pending s)) g.fed) in
       of_stream args text given t r (ap (λ x. x.name.items) e.rest ∙ g.of.named) (ap (λ x. x.settings) e.rest ∙ g.of.set) (is_answer args text (given ++ pending t) r g.of.right
-      (ended_ran o (Some []) (Some (given ++ pending s)) (Some (given ++ pending t)) text (given ++ pending s) t.output.failed refl r ends (works_at_end t.output.failed r uncut (e.writer g.fed.works))))
+      (ended_ran o (Some []) (Some (given ++ pending s)) (Some (given ++ pending t)) text (given ++ pending s)
+      t.output.failed refl r ends (works_at_end t.output.failed r uncut (e.writer g.fed.works))))
   answers_by _ g (after_failure fails rest) uncut = absurd (uncut refl)
 
   pub answers : (r : Result Bool RunFault) → GoesOn args text given s → EndsStream s t r → ¬ (r ≡ Err Write) → IsAnswerOf args text given t r

@@ -19,8 +19,10 @@ returns-in-Ok c =
     let left : c.in-Ok.pruned.text.items ≡ text = c.in-Ok.ensures.ok.left in
     let edited : c.in-Ok.pruned.edited ≡ some_edited (words_of c.args.words.now) c.args.text.now = c.in-Ok.ensures.ok.edited in
     let h : HandsOutPruned text (some_edited (words_of c.args.words.now) c.args.text.now) c.args.output.now c.hand_out_pruned.new.output c.hand_out_pruned.new.size c.hand_out_pruned.result =
-    subst (λ (x : List ℕ). HandsOutPruned x (some_edited (words_of c.args.words.now) c.args.text.now) c.args.output.now c.hand_out_pruned.new.output c.hand_out_pruned.new.size c.hand_out_pruned.result) left
-    (subst (λ (b : Bool). HandsOutPruned c.in-Ok.pruned.text.items b c.args.output.now c.hand_out_pruned.new.output c.hand_out_pruned.new.size c.hand_out_pruned.result) edited c.hand_out_pruned.ensures) in
+    subst (λ (x : List ℕ). HandsOutPruned x (some_edited (words_of c.args.words.now) c.args.text.now) c.args.output.now
+    c.hand_out_pruned.new.output c.hand_out_pruned.new.size c.hand_out_pruned.result) left
+    (subst (λ (b : Bool). HandsOutPruned c.in-Ok.pruned.text.items b c.args.output.now c.hand_out_pruned.new.output
+    c.hand_out_pruned.new.size c.hand_out_pruned.result) edited c.hand_out_pruned.ensures) in
     let same : to_z w32 (of_z w32 c.hand_out_pruned.result) ≡ c.hand_out_pruned.result =
     ap (λ (z : ℤ). to_z w32 (of_z w32 z)) h.returned ∙ same_status (nat_le (length text) (length c.args.output.now)) (some_edited (words_of c.args.words.now) c.args.text.now) ∙ sym h.returned in
     subst (λ (z : ℤ). PruneAnswer c.args.words.now c.args.text.now c.args.output.now c.hand_out_pruned.new.output c.args.size.now c.hand_out_pruned.new.size z) (sym same)
