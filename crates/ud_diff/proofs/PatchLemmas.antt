@@ -73,7 +73,7 @@ makes : (m n : ℕ) (hunks : List Hunk) (old new : List (List ℕ)) → TurnsFro
 makes _ _ _ _ _ (done m n ls) = refl
 makes _ _ _ _ _ (next m n h hunks ls old new a b r) =
     let so_many : length ls ≡ h.old_before - m = omega arith in
-    let all : length (ls ++ (old_lines h.lines ++ old)) ≡ length ls + length (old_lines h.lines ++ old) = length-append ls (old_lines h.lines ++ old) in
+    let all = length-append ls (old_lines h.lines ++ old) in
     made_is (is_within m h (ls ++ (old_lines h.lines ++ old))) (take (h.old_before - m) (ls ++ (old_lines h.lines ++ old)))
     (rest_after (old_lines h.lines) (drop (h.old_before - m) (ls ++ (old_lines h.lines ++ old))))
     (patched_from (h.old_before + length (old_lines h.lines)) hunks) ls old (new_lines h.lines) new

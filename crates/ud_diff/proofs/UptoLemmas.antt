@@ -125,7 +125,7 @@ ends_in_context : (ls : List DiffLine) (at start end m n : ℕ) (next : IsNextHu
     IsContext (between next.last end ls) (EndsTexts (old_lines (signed_lines ls)) (new_lines (signed_lines ls)) (hunk_of m n (take (end - start) (drop start ls))))
 ends_in_context ls at start end m n next a b =
     let places : NextPlaces ls at start next.first next.last end = next_places ls at start end next in
-    let all : length (between next.last end ls) ≡ end - next.last = length-between ls next.last end places.upto places.within in record {
+    let all = length-between ls next.last end places.upto places.within in record {
       kept = kept_range ls next.last end (λ k d low high inside. kept_at ls next.last (next.last + gap) next.later k d low (omega arith) inside);
       few = omega arith;
       fewer = λ short. let ends = next.ends in let last : length ls ≤ end = omega arith in

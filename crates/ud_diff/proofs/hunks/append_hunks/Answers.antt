@@ -35,14 +35,16 @@ overflow_add-old_before-in-Some c =
     let few = upto_few is_old c.args.script.now c.loop-start.at c.loop-start.old_before c.loop-start.invariant.2 in
     let lines : List DiffLine = take (c.in-Some.end - c.in-Some.start) (drop c.in-Some.start c.args.script.now) in
     let counted = count_by-le-length (λ (l : DiffLine). is_old l.sign) lines in
-    omega (arith, c.count_old-old_before.ensures, c.in-Some.ensures.after, c.in-Some.ensures.some, c.in-Some.ensures.fits, taken_few (drop c.in-Some.start c.args.script.now) (c.in-Some.end - c.in-Some.start))
+    let taken = taken_few (drop c.in-Some.start c.args.script.now) (c.in-Some.end - c.in-Some.start) in
+    omega (arith, taken, c.count_old-old_before.ensures, c.in-Some.ensures.after, c.in-Some.ensures.some, c.in-Some.ensures.fits)
 
 pub overflow_add-new_before-in-Some : goal.overflow_add-new_before-in-Some
 overflow_add-new_before-in-Some c =
     let few = upto_few is_new c.args.script.now c.loop-start.at c.loop-start.new_before c.loop-start.invariant.3 in
     let lines : List DiffLine = take (c.in-Some.end - c.in-Some.start) (drop c.in-Some.start c.args.script.now) in
     let counted = count_by-le-length (λ (l : DiffLine). is_new l.sign) lines in
-    omega (arith, c.count_new-new_before.ensures, c.in-Some.ensures.after, c.in-Some.ensures.some, c.in-Some.ensures.fits, taken_few (drop c.in-Some.start c.args.script.now) (c.in-Some.end - c.in-Some.start))
+    let taken = taken_few (drop c.in-Some.start c.args.script.now) (c.in-Some.end - c.in-Some.start) in
+    omega (arith, taken, c.count_new-new_before.ensures, c.in-Some.ensures.after, c.in-Some.ensures.some, c.in-Some.ensures.fits)
 
 pub loop-start-preserved : goal.loop-start-preserved
 loop-start-preserved c = (
