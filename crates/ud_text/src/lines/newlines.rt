@@ -1,15 +1,13 @@
 //! Counts newlines, and finds how far whole lines within the limit go.
 
-ghost use Rattle.std.specs.Prelude.{◌≡◌, ◌≤◌, ◌<◌, ◌+◌, ℕ, length, take, drop, true};
+ghost use Rattle.std.specs.Prelude.{◌≡◌, ◌≤◌, ◌<◌, ℕ, length, take, drop, true};
 ghost use Rattle.std.specs.List.{count_by};
-ghost use lib.Lanes.{Each1, sum_l};
 ghost use Rattle.ud_model.specs.text.Lines.{whole_lines};
 ghost use Rattle.ud_text.specs.lines.LinesState.{UpToNewline};
 ghost use Rattle.ud_text.specs.bulk.BulkScanning.{AreWholeLines};
 ghost use Rattle.ud_text.specs.lines.Consuming.{is_newline, EachFits};
 
 use crate::searching::last_line_start;
-use std::simd::Simd;
 use std::simd::prelude::*;
 use ud_model::LINE_BYTES;
 
@@ -18,41 +16,6 @@ const BLOCK_BYTES: usize = 64;
 
 /// The number of blocks that are counted at once. Each adds at most 1 to a lane, which is a byte.
 const MOST_BLOCKS: usize = 255;
-
-/// Returns `counts` with 1 more in each lane whose byte, of the block from `at` on, is a newline.
-#[inline(always)]
-fn add_newlines(counts: u8x64, bytes: &[u8], at: usize) -> u8x64
-    requires fits { at + BLOCK_BYTES ≤ length bytes.now }
-    requires low { Each1 (λ n. n < 255) counts }
-    ensures sum { sum_l result ≡
-        sum_l counts + count_by is_newline (take BLOCK_BYTES (drop at bytes.now)) }
-    ensures low { (most : ℕ) → Each1 (λ n. n ≤ most) counts →
-        Each1 (λ n. n ≤ most + 1) result }
-{
-    let block = u8x64::from_slice(&bytes[at..]);
-    let found = block.simd_eq(u8x64::splat(b'\n'));
-    counts.strict_add(found.select(u8x64::splat(1), u8x64::splat(0)))
-}
-
-/// Returns the number of newlines among the `N` bytes from `at` on.
-#[inline(always)]
-fn newlines_in_lanes<const N: usize>(bytes: &[u8], at: usize) -> usize
-    requires few { N ≤ 64 }
-    requires fits { at + N ≤ length bytes.now }
-    ensures value { result ≡ count_by is_newline (take N (drop at bytes.now)) }
-    ensures bound { result ≤ N }
-{
-    let lanes = Simd::<u8, N>::from_slice(&bytes[at..]);
-    lanes.simd_eq(Simd::splat(b'\n')).to_bitmask().count_ones() as usize
-}
-
-/// Returns the number of newlines among a few bytes.
-fn newlines_one_by_one(bytes: &[u8]) -> usize
-    ensures value { result ≡ count_by is_newline bytes.now }
-    ensures bound { result ≤ length bytes.now }
-{
-    bytes.iter().filter(|byte| **byte == b'\n').count()
-}
 
 /// The number of newlines in a prefix.
 #[derive(Clone, Copy)]
@@ -63,20 +26,19 @@ struct NewlineCount {
     at: usize,
 }
 
-/// Counts the newlines, `N` bytes at a time. The last bytes, fewer than `N`, are left out.
+/// Counts the newlines, 16 bytes at a time. The last bytes, fewer than 16, are left out.
 #[inline(always)]
-fn newlines_by_lanes<const N: usize>(bytes: &[u8]) -> NewlineCount
-    requires some { 0 < N }
-    requires few { N ≤ 64 }
+fn newlines_by_lanes(bytes: &[u8]) -> NewlineCount
     ensures within { result.at ≤ length bytes.now }
     ensures counted { result.newlines ≡ count_by is_newline (take result.at bytes.now) }
     ensures low { result.newlines ≤ result.at }
 {
     let mut newlines = 0;
     let mut at = 0;
-    while bytes.len() - at >= N {
-        newlines += newlines_in_lanes::<N>(bytes, at);
-        at += N;
+    while bytes.len() - at >= 16 {
+        let found = u8x16::from_slice(&bytes[at..]).simd_eq(u8x16::splat(b'\n'));
+        newlines += found.to_bitmask().count_ones() as usize;
+        at += 16;
     }
     NewlineCount { newlines, at }
 }
@@ -90,7 +52,8 @@ fn newlines_in_blocks(bytes: &[u8]) -> NewlineCount
     let blocks = (bytes.len() / BLOCK_BYTES).min(MOST_BLOCKS);
     let mut counts = u8x64::splat(0);
     for block in 0..blocks {
-        counts = add_newlines(counts, bytes, block * BLOCK_BYTES);
+        let found = u8x64::from_slice(&bytes[block * BLOCK_BYTES..]).simd_eq(u8x64::splat(b'\n'));
+        counts = counts.strict_add(found.select(u8x64::splat(1), u8x64::splat(0)));
     }
     NewlineCount {
         newlines: counts.cast::<u16>().strict_reduce_sum() as usize,
@@ -120,9 +83,10 @@ pub fn count_lines(bytes: &[u8]) -> usize
 {
     let counted = newlines_by_blocks(bytes);
     let rest = &bytes[counted.at..];
-    let middle = newlines_by_lanes::<16>(rest);
-    let more = middle.newlines + newlines_one_by_one(&rest[middle.at..]);
-    counted.newlines + more
+    let middle = newlines_by_lanes(rest);
+    let last = &rest[middle.at..];
+    let others = last.iter().filter(|byte| **byte == b'\n').count();
+    counted.newlines + (middle.newlines + others)
 }
 
 /// Returns the length of the longest prefix that consists of whole lines of at most `LINE_BYTES`

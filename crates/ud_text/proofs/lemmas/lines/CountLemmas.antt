@@ -40,8 +40,8 @@ pub grown_low : (most : ℕ) (counts bytes : List ℕ) → Each1 (λ n. n ≤ mo
 grown_low most counts bytes h = grind (arith, Each1-zip2, Each2-of, ones_low)
 
 -- each lane fits a byte
-pub grown_fits : (counts bytes : List ℕ) → Each1 (λ n. n < 255) counts → Each2 (λ a b. Fits w8 (a + b)) counts (ones_of bytes)
-grown_fits counts bytes h = grind (arith, Each2-of, Fits, w8, ones_low)
+pub grown_fits : (most : ℕ) (counts bytes : List ℕ) → most < 255 → Each1 (λ n. n ≤ most) counts → Each2 (λ a b. Fits w8 (a + b)) counts (ones_of bytes)
+grown_fits most counts bytes h k = grind (arith, Each2-of, Fits, w8, ones_low)
 
 -- the newlines before a position, and those of a prefix of the rest
 pub counted_rest : (bytes : List ℕ) (at n count more : ℕ) → count ≡ count_by is_newline (take at bytes) →

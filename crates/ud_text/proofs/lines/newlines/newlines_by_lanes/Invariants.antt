@@ -5,11 +5,11 @@ use Rattle.ud_text.specs.lines.Consuming.{is_newline}
 use Rattle.ud_text.proofs.lines.newlines.newlines_by_lanes.Given as goal
 
 abbrev pub invariant-loop-at : goal.invariant-loop-at
-invariant-loop-at g l = record {
+invariant-loop-at l = record {
   within : l.at ≤ length l.bytes;
   counted : l.newlines ≡ count_by is_newline (take l.at l.bytes);
   low : l.newlines ≤ l.at;
 }
 
 abbrev pub decreases-loop-at : goal.decreases-loop-at
-decreases-loop-at g l = length l.initial.bytes - l.at
+decreases-loop-at l = length l.initial.bytes - l.at
