@@ -413,19 +413,6 @@ fn skip_text_in_plain_mode(scan_state: ScanState, lines: &[u8]) -> (usize, ScanS
     (count, initial_state())
 }
 
-/// Skips text lines in a mode. Returns how many bytes they have, and the state after them.
-fn skip_text_in(mode: Mode, scan_state: ScanState, lines: &[u8]) -> (usize, ScanState)
-    ensures bound { result.0 ≤ length lines.now }
-    ensures ends { AreWholeLines (take result.0 lines.now) }
-    ensures skips { SkipsText mode (scanner_state_of scan_state) (scanner_state_of result.1)
-        (take result.0 lines.now) }
-{
-    match mode {
-        Mode::C => skip_text_in_c_mode(scan_state, lines),
-        Mode::Plain => skip_text_in_plain_mode(scan_state, lines),
-    }
-}
-
 impl<H> Model for Scanner<H> {
     ghost use Rattle.ud_text.specs.scan.ScannerState.{ScannerState, scanner_state_of};
 
@@ -581,7 +568,10 @@ impl<H> Scanner<H> {
         ensures ends { AreWholeLines (take result lines.now) }
         ensures skips { SkipsText mode self.old self.new (take result lines.now) }
     {
-        let (count, scan_state) = skip_text_in(mode, self.scan_state, lines);
+        let (count, scan_state) = match mode {
+            Mode::C => skip_text_in_c_mode(self.scan_state, lines),
+            Mode::Plain => skip_text_in_plain_mode(self.scan_state, lines),
+        };
         self.scan_state = scan_state;
         count
     }
