@@ -15,7 +15,7 @@ ghost use Rattle.std.specs.Prelude.{false, IfSome};
 ghost use Rattle.ud_model.specs.text.Bytes.{slash, star, number_sign, is_quote};
 ghost use Rattle.ud_text.specs.bulk.BulkStates.{BulkState, can_start};
 ghost use Rattle.ud_text.specs.bulk.Blocks.{IsBlock};
-ghost use Rattle.ud_text.specs.bulk.BulkLexemes.{is_star_pair, IsSplice, NoStarPair};
+ghost use Rattle.ud_text.specs.bulk.BulkLexemes.{IsSplice, NoStarPair};
 ghost use Rattle.ud_text.specs.bulk.Progress.{SkippedBy, ReadTo, bulk_state_of};
 ghost use Rattle.ud_text.specs.bulk.Reaching.{Reached, InReach, GoesOn};
 ghost use Rattle.ud_text.specs.scan.LexerViews.{lex_state_of};
@@ -78,23 +78,6 @@ fn last_line(lines: &[u8], p: Reach) -> Option<LineStart>
     Some(LineStart { at: p.base, lexer })
 }
 
-/// Returns whether a star pair that begins at or after `at` ends with the byte at `end`.
-#[inline(always)]
-fn ends_pair(lines: &[u8], at: usize, end: usize) -> bool
-    requires order { at ≤ end }
-    requires within { end < length lines.now }
-    ensures none { result ≡ false → at < end →
-        is_star_pair (slice_index lines.now (end - 1)) (slice_index lines.now end) ≡ false }
-    ensures later { result ≡ true → at < end }
-    ensures found { result ≡ true →
-        is_star_pair (slice_index lines.now (end - 1)) (slice_index lines.now end) ≡ true }
-{
-    if end == at {
-        return false;
-    }
-    is_star_pair(lines[end - 1], lines[end])
-}
-
 /// Returns the position of the first star pair from `at` on, whether it closes a block comment, and
 /// its block. The position is `lines.len()` if there is none. `row` is the block found before.
 ///
@@ -112,7 +95,7 @@ pub(crate) fn find_star_pair(lines: &[u8], row: Block, at: usize) -> (usize, boo
 {
     let (mut end, mut row) = next_significant(lines, row, at);
     while end < lines.len() {
-        if ends_pair(lines, at, end) {
+        if at < end && is_star_pair(lines[end - 1], lines[end]) {
             return (end - 1, lines[end] == b'/', row);
         }
         let (further, later) = next_significant(lines, row, end + 1);
