@@ -110,7 +110,11 @@ impl Machine {
     {
         let enclosing = self.enclosing();
         TextPolicy {
-            mode: enclosing.mode(),
+            mode: if enclosing.is_plain() {
+                Mode::Plain
+            } else {
+                Mode::C
+            },
             verdict: enclosing.text_action().verdict,
         }
     }

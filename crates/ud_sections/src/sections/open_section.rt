@@ -5,11 +5,10 @@ ghost use Rattle.ud_sections.specs.sections.SectionStates.{part_of, opener_verdi
 ghost use Rattle.ud_sections.specs.sections.OpenSections.{new_section, section_with_group};
 ghost use Rattle.ud_sections.specs.sections.Actions.{opener_action, endif_action, text_action};
 ghost use Rattle.ud_sections.specs.sections.Actions.{if_action, act, kept_at, plain_at};
-ghost use Rattle.ud_model.specs.sections.Items.{mode_by};
 
 use crate::sections::line_kind::LineKind;
 use crate::sections::section_state::{Part, SectionState};
-use ud_model::{Cond, Mode, Verdict};
+use ud_model::{Cond, Verdict};
 
 /// An open section.
 #[derive(Clone, Copy)]
@@ -144,17 +143,6 @@ impl Enclosing {
         match self.section {
             Some(inner) => inner.ignoring,
             None => self.plain,
-        }
-    }
-
-    /// Returns the mode in which the next line is read.
-    pub(crate) fn mode(self) -> Mode
-        ensures { result ≡ mode_by (plain_at self.plain self.section) }
-    {
-        if self.is_plain() {
-            Mode::Plain
-        } else {
-            Mode::C
         }
     }
 
