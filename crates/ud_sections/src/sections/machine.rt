@@ -187,7 +187,7 @@ impl Machine {
         }
         if let Ok(None) = content {
             return Ok(Step {
-                verdict: self.note_text(line.number),
+                verdict: self.step_text(line.number),
                 keyword: Span { at: 0, len: 0 },
             });
         }
@@ -226,13 +226,6 @@ impl Machine {
         ensures verdict { result ≡ text_verdict self.old }
         ensures policy { text_policy_of self.new ≡ text_policy_of self.old }
         ensures fault_unchanged { machine_fault self.new ≡ machine_fault self.old }
-    {
-        self.note_text(last)
-    }
-
-    /// Records text lines up to number `last`, and returns their verdict.
-    fn note_text(&mut self, last: u32) -> Verdict
-        ensures value { result ≡ text_verdict self.old }
         ensures rest { self.new ≡ record self.old { removed = is_removed result; last = last } }
         ensures fits { array_vec_len self.old.open_sections ≤ OPEN_SECTIONS }
     {

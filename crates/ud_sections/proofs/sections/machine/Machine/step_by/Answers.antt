@@ -13,12 +13,12 @@ returns-in-Ok-None c = record {
   represents = λ o xs t h next.
       let found : content_found c.args.content ≡ text = search rules in
       let reported = text_turn c.args.self.now o (as_scan c.args.scan.now) (as_line c.args.line.now) (sym c.requires.content ∙ found) in
-      let same = ap (λ m. m.open_sections.items) c.note_text.ensures.rest in
-      rw c.note_text.ensures.value
+      let same = ap (λ m. m.open_sections.items) c.step_text.ensures.rest in
+      rw c.step_text.ensures.verdict
       (reads_line c.args.self.now _ o xs t (as_line c.args.line.now) _ h
-      (turns_well c.args.self.now o xs t (as_scan c.args.scan.now) (as_line c.args.line.now) c.args.symbols.now h next c.requires.within c.note_text.ensures.fits _ reported)
-      (ap (λ m. m.settings) c.note_text.ensures.rest) same
-      (ap (λ m. m.removed) c.note_text.ensures.rest ∙ ap is_removed c.note_text.ensures.value) (ap (λ m. m.last) c.note_text.ensures.rest));
+      (turns_well c.args.self.now o xs t (as_scan c.args.scan.now) (as_line c.args.line.now) c.args.symbols.now h next c.requires.within c.step_text.ensures.fits _ reported)
+      (ap (λ m. m.settings) c.step_text.ensures.rest) same
+      (ap (λ m. m.removed) c.step_text.ensures.rest ∙ ap is_removed c.step_text.ensures.verdict) (ap (λ m. m.last) c.step_text.ensures.rest));
   finds_fault = search rules;
   keyword_within = search rules;
   no_fault = search rules;
