@@ -54,7 +54,7 @@ impl<H: LineBuffer> LineRoom<H> {
 #[derive(Drop)]
 pub(crate) struct LineDecider {
     scanner: Scanner<()>,
-    machine: Machine,
+    pub(crate) machine: Machine,
 }
 
 impl LineDecider {
@@ -325,15 +325,8 @@ impl LineDecider {
         Ok(())
     }
 
-    /// Returns how to scan the next line, and its verdict if it is text.
-    pub(crate) fn text_policy(&self) -> TextPolicy
-        ensures { result ≡ text_policy_of self.now.machine }
-    {
-        self.machine.text_policy()
-    }
-
     /// Consumes the longest prefix of `bytes` that is recognized as text lines, and returns its
-    /// length. `policy` comes from `text_policy`.
+    /// length. `policy` comes from the machine's `text_policy`.
     ///
     /// `bytes` are the next whole lines. The result is 0 or the end of a line.
     pub(crate) fn skip_text<H: LineBuffer>(

@@ -189,7 +189,7 @@ impl<S: Show> LineProcessor<S> {
             count: 0,
             kept: true,
         };
-        let policy = self.decider.text_policy();
+        let policy = self.decider.machine.text_policy();
         if self.lister.is_some() {
             // Text lines have no names.
             return SkippedText {

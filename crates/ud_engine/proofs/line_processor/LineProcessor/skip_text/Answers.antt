@@ -32,7 +32,7 @@ returns-in-Whole-clause-printed g c = λ o piece xs t h.
     let verdict = text_verdict c.args.self.now.decider.machine in
     prints_run g.S.Show.represents g.S.Show.piece o piece xs t c.args.self.now h _ (numbered_from (suc c.args.lines.now.before) (whole_lines bytes)) verdict text_of false bytes
     (search rules) refl refl (or_none c.args.self.now.differs) (c.skip_text-in-Whole.ensures.read o xs t h.has)
-    (subst (λ v. PrintsOne (g.S.Show.represents c.args.self.now.printer) (g.S.Show.piece c.args.self.now.printer) v text_of) (ap (λ p. p.verdict) c.text_policy-policy.ensures) c.in-Whole.ensures.line_output)
+    (subst (λ v. PrintsOne (g.S.Show.represents c.args.self.now.printer) (g.S.Show.piece c.args.self.now.printer) v text_of) (ap (λ p. p.verdict) c.text_policy-policy.ensures.value) c.in-Whole.ensures.line_output)
     (kept_same verdict (numbered_from (suc c.args.lines.now.before) (whole_lines bytes)))
     (kept_text (suc c.args.lines.now.before) bytes c.skip_text-in-Whole.ensures.ends)
 
@@ -45,7 +45,7 @@ returns-then-count-eq0-clause-printed g c = λ o piece xs t h.
     (search rules) refl refl (or_none c.args.self.now.differs)
     (subst (λ n. DecidesBulk o c.skip_text-count.new.self xs t (numbered_from (suc c.args.lines.now.before) (whole_lines (take n c.args.bytes.now))) verdict)
     c.if-count-eq0.true (c.skip_text-count.ensures.read o xs t h.has))
-    (subst (λ v. PrintsOne (g.S.Show.represents c.args.self.now.printer) (g.S.Show.piece c.args.self.now.printer) v (λ l. [])) (ap (λ p. p.verdict) c.text_policy-policy.ensures) c.in-Nothing.ensures.line_output)
+    (subst (λ v. PrintsOne (g.S.Show.represents c.args.self.now.printer) (g.S.Show.piece c.args.self.now.printer) v (λ l. [])) (ap (λ p. p.verdict) c.text_policy-policy.ensures.value) c.in-Nothing.ensures.line_output)
     (none_other verdict (λ l. []) lines none)
     (dropped_text lines)
 
@@ -59,6 +59,6 @@ returns-else-count-eq0-clause-printed g c = λ o piece xs t h.
     let cut = length-take c.skip_text-count.result c.args.bytes.now in
     prints_run g.S.Show.represents g.S.Show.piece o piece xs t c.args.self.now h _ lines verdict (λ l. []) true []
     (search rules) refl refl (or_some c.args.self.now.differs) (c.skip_text-count.ensures.read o xs t h.has)
-    (subst (λ v. PrintsOne (g.S.Show.represents c.args.self.now.printer) (g.S.Show.piece c.args.self.now.printer) v (λ l. [])) (ap (λ p. p.verdict) c.text_policy-policy.ensures) c.in-Nothing.ensures.line_output)
+    (subst (λ v. PrintsOne (g.S.Show.represents c.args.self.now.printer) (g.S.Show.piece c.args.self.now.printer) v (λ l. [])) (ap (λ p. p.verdict) c.text_policy-policy.ensures.value) c.in-Nothing.ensures.line_output)
     (dropped_differ verdict (suc c.args.lines.now.before) bytes c.skip_text-count.ensures.ends (omega (arith, some, bound, cut)))
     (dropped_text lines)
