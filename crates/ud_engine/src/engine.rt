@@ -216,7 +216,6 @@ impl<P: PlanSource, S: Show, H: LineBuffer> EngineOf<P, S, H> {
     ghost use Rattle.ud_engine.specs.Finishing.{Finishes};
     ghost use Rattle.ud_engine.specs.Advancing.{IsCursor, IsNext, Moves, IsPart, TakesPart, IsStep};
     ghost use Rattle.ud_engine.specs.FaultEffects.{result_after};
-    ghost use Rattle.ud_model.specs.declared.limits.TheConstants.{LINE_BYTES, TEXT_LINES};
 
     /// Returns an engine before the first byte, as `new` does, with an `H` as its line buffer.
     pub(crate) fn with_buffer(plan: P, show: S) -> EngineOf<P, S, H>
@@ -347,25 +346,12 @@ impl<P: PlanSource, S: Show, H: LineBuffer> EngineOf<P, S, H> {
         Ok(self.printer.differs())
     }
 
-    /// Returns how many bytes the next chunk may have, at most `most`.
-    ///
-    /// `most` if the buffer holds the longest line; else as many as fit after the buffered bytes.
-    pub(crate) fn remaining_capacity(&self, most: usize) -> usize
-        ensures bound { result ≤ most }
-        ensures fits { HasCapacity H.CAPACITY self.now.lines result }
-        ensures short { result < most → H.CAPACITY < LINE_BYTES }
-        ensures full { result < most → H.CAPACITY ≤ length self.now.lines.held + result }
+    /// Returns the lines of the text, which say how many bytes the next chunk may have.
+    pub(crate) fn lines(&self) -> &Lines<H>
+        ensures lines { result.now ≡ self.now.lines }
+        ensures opened { IsOpen result.now }
     {
-        self.lines.remaining_capacity(most)
-    }
-
-    /// Returns whether the next byte begins a line that the text may have; no byte is then
-    /// buffered.
-    pub(crate) fn may_begin_line(&self) -> bool
-        ensures { result ≡ true →
-            (self.now.lines.held ≡ []) × (self.now.lines.before < TEXT_LINES) }
-    {
-        self.lines.may_begin_line()
+        &self.lines
     }
 
     /// Processes all of a chunk: writes the output for every line that ends in it.

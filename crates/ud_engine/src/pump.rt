@@ -137,7 +137,7 @@ fn pump<R: Read, W: Write, H: LineBuffer>(
     let mut buffer = [0u8; CHUNK_BYTES];
     let mut waiting = 0;
     loop {
-        if engine.remaining_capacity(CHUNK_BYTES) < CHUNK_BYTES {
+        if engine.lines().remaining_capacity(CHUNK_BYTES) < CHUNK_BYTES {
             return None;
         }
         match reader.read(&mut buffer[waiting..]) {
@@ -190,7 +190,7 @@ fn feed_lines<W: Write, H: LineBuffer>(
         return Err(fault);
     }
     let left = end - whole;
-    if left < CHUNK_BYTES && engine.may_begin_line() {
+    if left < CHUNK_BYTES && engine.lines().may_begin_line() {
         buffer.copy_within(whole..end, 0);
         return Ok(left);
     }

@@ -29,7 +29,7 @@ returns-then-may_begin_line-clause-waits g c =
     b)) (sym c.copy_within.ensures.after)
     (cut_waits c.args.buffer.now c.args.end c.last_line_start-whole.result
     c.last_line_start-whole.ensures c.feed.new.self.lines c.requires.within c.requires.few
-    (c.may_begin_line.ensures c.if-may_begin_line.true))
+    (grind arith))
 
 pub returns-then-may_begin_line-clause-goes_on : goal.returns-then-may_begin_line-clause-goes_on
 returns-then-may_begin_line-clause-goes_on g c = λ o read rest written u.
