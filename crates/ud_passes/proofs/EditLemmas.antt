@@ -25,7 +25,7 @@ use Rattle.ud_text.specs.lines.LinesState.{UpToNewline}
 use Rattle.ud_text.proofs.lemmas.lines.NewlineLemmas.{up_to_newline-once}
 use Rattle.ud_text.proofs.lemmas.scan.MaskLemmas.{no_newline-take, no_newline-drop}
 use Rattle.ud_passes.specs.pruning.Cells.{AreCells, byte_of}
-use Rattle.ud_passes.specs.pruning.EditedLines.{c_reading, IsScannedAlone, is_meant, IsCondition, line_if_read, IsEditedTo}
+use Rattle.ud_passes.specs.pruning.EditedLines.{c_reading, IsScannedAlone, is_meant, IsCondition, line_if_read, IsEditedAt}
 
 -- 1. Sublists.
 
@@ -127,7 +127,7 @@ module _ (table : List Argument) (rules : Rules) (l : Line) (d : Directive) (i :
         same_bytes f = grind (arith, bytes_eq-Decides, same_either, e_is)
 
         -- Other bytes, if they are read so.
-        pub edited_if : bytes_eq e.body l.body ≡ false → (b : Bool) → b ≡ is_meant d.kind (map shown (left_cells_of table rules l d)) (scan_after_run [] e) → IsEditedTo b (text_of (line_if_read table rules l d)) l bytes
+        pub edited_if : bytes_eq e.body l.body ≡ false → (b : Bool) → b ≡ is_meant d.kind (map shown (left_cells_of table rules l d)) (scan_after_run [] e) → IsEditedAt table rules l d b bytes
         edited_if f b m = grind (arith, e_is, keeps, same_cut, read_text, bytes_eq-Decides)
 
 -- 4. A line that joins no other one.

@@ -14,7 +14,8 @@ use Rattle.ud_model.proofs.conditions.KeptTokens.{SameLength, choose}
 use Rattle.ud_model.proofs.conditions.OneExpression.{expression_is}
 use Rattle.ud_model.proofs.conditions.TokenLemmas.{tokens_of_only}
 use Rattle.ud_model.proofs.conditions.ResidualRead.{written_left}
-use Rattle.ud_passes.specs.pruning.Cells.{AreCells, SameLeft, IsFound}
+use Rattle.ud_passes.specs.pruning.Cells.{AreCells, SameLeft, stands, IsFound}
+use Rattle.ud_passes.specs.declared.pruning.cells.LeftText.{LeftText}
 
 same_size : {A B : Type 0} (xs : List A) (ys : List B) → SameLength xs ys → length xs ≡ length ys
 same_size [] [] h = refl
@@ -101,9 +102,8 @@ module _ (table : List Argument) (rules : Rules) where
         (and_right (is_unknown (residual table rules e).cond) (is_unknown (tree_cond (residual table rules e).tree table rules)) (ap is_unknown (sym (rest_cond q)) ∙ r))))
 
     -- The bytes of what is left.
-    pub found_or_stays : (b : Bool) (bytes masked : List ℕ) → AreCells left bytes masked → b ≡ (is_read table rules e left && is_unknown (expression_cond (map shown left) table rules)) →
-        IsFound b (simplified_cells table rules cells) cells bytes masked
-    found_or_stays b bytes masked a f = grind (arith, goes, decided, misread)
+    pub found_or_stays : (b : Bool) (text : LeftText) → AreCells left text.bytes.items text.shown.items → b ≡ stands table rules e left → IsFound table rules cells b text
+    found_or_stays b text a f = grind (arith, goes, decided, misread)
 
 -- The tokens of a text and their flags.
 pub text_tokens : (text : List ℕ) (e : Expression) → expression_of text ≡ Some e → tokens_of text ≡ Some (spelling e)

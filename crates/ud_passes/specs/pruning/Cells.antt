@@ -3,19 +3,33 @@
 --   AreCells cells bytes shown          the cells have these bytes, and are shown so
 --   SameLeft before shown xs after ys   the text so far with the cells `xs` after it is the longer
 --                                       text with the cells `ys` after it
+--   left_at p flags cells               the rest of the cells at the place `p`
+--   LeavesAt old xs new p flags         the text so far with `xs` after it is the longer text with
+--                                       the rest of the cells at the place `p`
+--   AreKept table rules e text flags    the text is that of the tree `e`, whose kept tokens have
+--                                       these flags
 --   IsUnknownResidual table rules text flags
 --                                       the residual of the text is unknown, and has the tokens
 --                                       with these flags
---   IsFound found left cells ..         the rest of the cells was found, or they stay
-use Rattle.std.specs.Prelude.{◌≡◌, ℕ, List, ◌++◌, map, Bool, true, false, Some}
+--   stands table rules e cells          the cells are read as the residual of `e`, and unknown
+--   IsFound table rules cells found left
+--                                       the rest of the cells was found, or they stay
+--   FindsLeft table rules text found left
+--                                       the same of the cells of a text without a literal
+use Rattle.std.specs.Prelude.{◌≡◌, ℕ, List, ◌++◌, map, Bool, true, false, Some, ◌&&◌}
+use Rattle.std.specs.List.{list_any}
 use Rattle.ud_model.specs.text.Lexemes.{Cell, shown}
 use Rattle.ud_model.specs.conditions.Table.{Argument}
 use Rattle.ud_model.specs.conditions.Expressions.{Expression}
-use Rattle.ud_model.specs.conditions.Conditions.{Rules}
-use Rattle.ud_model.specs.conditions.Residuals.{residual}
-use Rattle.ud_model.specs.conditions.ResidualTexts.{keeps}
+use Rattle.ud_model.specs.conditions.Conditions.{Rules, expression_cond}
+use Rattle.ud_model.specs.conditions.Residuals.{residual, is_unknown}
+use Rattle.ud_model.specs.conditions.ResidualTexts.{keeps, left_from, is_read, is_literal}
+use Rattle.ud_model.specs.conditions.ResidualTexts.{simplified_cells}
 use Rattle.ud_model.specs.aids.Parsing.{expression_of}
 use Rattle.ud_model.specs.declared.cond.Cond.TheVariants.{Unknown}
+use Rattle.ud_passes.specs.declared.pruning.cells.CellBytes.{CellBytes}
+use Rattle.ud_passes.specs.declared.pruning.cells.LeftText.{LeftText}
+use Rattle.ud_passes.specs.declared.pruning.left_texts.Place.{Place}
 
 -- `byte_of c`: the byte of the cell `c`.
 abbrev pub byte_of : Cell → ℕ
@@ -33,17 +47,49 @@ pub record SameLeft (bytes masked : List ℕ) (xs : List Cell) (more longer : Li
   pub bytes_are : bytes ++ map byte_of xs ≡ more ++ map byte_of ys
   pub shown_are : masked ++ map shown xs ≡ longer ++ map shown ys
 
+-- `left_at p flags cells`: the rest of the cells at the place `p`, by the flags of their tokens.
+abbrev pub left_at : Place → List Bool → List Cell → List Cell
+left_at p flags cells = left_from p.stays p.operand flags cells
+
+-- `LeavesAt old xs new p flags`: the text `old`, followed by the cells `xs`, is the text `new`,
+-- followed by the rest of the cells at the place `p`, by the flags of their tokens.
+abbrev pub LeavesAt : LeftText → List Cell → LeftText → Place → List Bool → Type 0
+LeavesAt old xs new p flags =
+    (rest : List Cell) × AreCells rest p.text.bytes.now p.text.shown.now ×
+    SameLeft old.bytes.items old.shown.items xs new.bytes.items new.shown.items
+    (left_at p flags rest)
+
+-- `AreKept table rules e text flags`: the text is that of the tree `e`, and the flags say which of
+-- its tokens are kept.
+pub record AreKept (table : List Argument) (rules : Rules) (e : Expression) (text : List ℕ)
+    (flags : List Bool) : Type 0 where
+  pub tree_is : expression_of text ≡ Some e
+  pub flags_are : flags ≡ keeps table rules e
+
 -- `IsUnknownResidual table rules text flags`: the text has a tree whose residual is unknown and has
 -- the tokens whose flag is true.
 pub record IsUnknownResidual (table : List Argument) (rules : Rules) (text : List ℕ)
     (flags : List Bool) : Type 0 where
   pub tree : Expression
-  pub is : expression_of text ≡ Some tree
+  pub kept : AreKept table rules tree text flags
   pub unknown : (residual table rules tree).cond ≡ Unknown
-  pub kept : flags ≡ keeps table rules tree
 
--- `IsFound found left cells bytes masked`: if found, `left` has these bytes; else all cells are
--- left.
-abbrev pub IsFound : Bool → List Cell → List Cell → List ℕ → List ℕ → Type 0
-IsFound true left cells bytes masked = AreCells left bytes masked
-IsFound false left cells bytes masked = left ≡ cells
+-- `stands table rules e cells`: the cells, left of a text of the tree `e`, are read as the residual
+-- of `e`, and are unknown.
+abbrev pub stands : List Argument → Rules → Expression → List Cell → Bool
+stands table rules e cells = is_read table rules e cells &&
+    is_unknown (expression_cond (map shown cells) table rules)
+
+-- `IsFound table rules cells found left`: if found, `left` has the rest of the cells; else all of
+-- them are left.
+abbrev pub IsFound : List Argument → Rules → List Cell → Bool → LeftText → Type 0
+IsFound table rules cells true left =
+    AreCells (simplified_cells table rules cells) left.bytes.items left.shown.items
+IsFound table rules cells false left = simplified_cells table rules cells ≡ cells
+
+-- `FindsLeft table rules text found left`: if no literal is in the text, the rest of its cells was
+-- found (`IsFound`), or they stay.
+abbrev pub FindsLeft : List Argument → Rules → CellBytes → Bool → LeftText → Type 0
+FindsLeft table rules text found left = (cells : List Cell) →
+    AreCells cells text.bytes.now text.shown.now → list_any is_literal cells ≡ false →
+    IsFound table rules cells found left

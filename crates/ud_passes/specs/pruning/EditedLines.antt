@@ -7,19 +7,24 @@
 --   IsCondition l d              the line `l` alone has the directive `d`
 --   HasNoQuote l d               no literal is in the directive's text
 --   line_if_read l d             the edited line, or the line if that would be misread
+--   IsLeftLine .. text bytes     `text` is left of the line's condition, which gives these bytes
 --   IsEditedTo edited pruned ..  whether a line was edited, and to which bytes
+--   IsEditedAt .. edited bytes   the same of a line with a condition
+--   EditsCondition .. bytes      the same, if no quote is in the condition
+--   EditsLine .. bytes           the same of a line with its scan
 use Rattle.std.specs.Prelude.{◌≡◌, ℕ, List, [], Bool, true, false, not, ◌&&◌, if◌then◌else◌}
-use Rattle.std.specs.Prelude.{bytes_eq}
+use Rattle.std.specs.Prelude.{bytes_eq, map}
 use Rattle.std.specs.List.{list_any}
 use Rattle.ud_model.specs.text.Lines.{Line, text_of}
 use Rattle.ud_model.specs.text.Scans.{Scan, Reading}
+use Rattle.ud_model.specs.text.Lexemes.{shown}
 use Rattle.ud_model.specs.text.Scanning.{scan_after, scan_after_run}
 use Rattle.ud_model.specs.sections.Directives.{Directive, directive, content_of}
 use Rattle.ud_model.specs.conditions.Table.{Argument}
 use Rattle.ud_model.specs.conditions.Conditions.{Rules}
 use Rattle.ud_model.specs.conditions.ResidualTexts.{is_literal}
 use Rattle.ud_model.specs.output.SimplifiedTexts.{condition_cells, has_condition, left_line}
-use Rattle.ud_model.specs.output.SimplifiedTexts.{is_read_alone}
+use Rattle.ud_model.specs.output.SimplifiedTexts.{is_read_alone, left_cells_of, simplified_line}
 use Rattle.ud_model.specs.declared.kind.Kind.{Kind}
 use Rattle.ud_model.specs.declared.kind.Mode.TheVariants.{C}
 
@@ -52,8 +57,35 @@ abbrev pub line_if_read : List Argument → Rules → Line → Directive → Lin
 line_if_read table rules l d =
     if is_read_alone table rules l d then left_line table rules l d else l
 
+-- `IsLeftLine table rules l d kind text bytes`: the line `l` has the condition `d` of this kind. Of
+-- its text, masked, `text` is left. With this, the line is `bytes`.
+pub record IsLeftLine (table : List Argument) (rules : Rules) (l : Line) (d : Directive)
+    (kind : Kind) (text bytes : List ℕ) : Type 0 where
+  pub condition : IsCondition l d
+  pub kind_is : d.kind ≡ kind
+  pub text_is : map shown (left_cells_of table rules l d) ≡ text
+  pub bytes_are : bytes ≡ text_of (left_line table rules l d)
+
 -- `IsEditedTo edited pruned l bytes`: the line `l` was edited to `bytes`, which differ from it, or
 -- it stays.
 abbrev pub IsEditedTo : Bool → List ℕ → Line → List ℕ → Type 0
 IsEditedTo true pruned l bytes = (pruned ≡ bytes) × (bytes_eq bytes (text_of l) ≡ false)
 IsEditedTo false pruned l bytes = pruned ≡ text_of l
+
+-- `IsEditedAt table rules l d edited bytes`: the line `l` with the condition `d` was edited to
+-- `bytes`, or it stays.
+abbrev pub IsEditedAt : List Argument → Rules → Line → Directive → Bool → List ℕ → Type 0
+IsEditedAt table rules l d edited bytes =
+    IsEditedTo edited (text_of (line_if_read table rules l d)) l bytes
+
+-- `EditsCondition table rules l d edited bytes`: if the line `l` has the condition `d` without a
+-- quote, it was edited to `bytes`, or it stays.
+abbrev pub EditsCondition : List Argument → Rules → Line → Directive → Bool → List ℕ → Type 0
+EditsCondition table rules l d edited bytes =
+    IsCondition l d → HasNoQuote l d → IsEditedAt table rules l d edited bytes
+
+-- `EditsLine table rules l scan edited bytes`: the line `l` with this scan was edited to `bytes`,
+-- or it stays. This is known if it is scanned like a text's first, unless the line before joins it.
+abbrev pub EditsLine : List Argument → Rules → Line → Scan → Bool → List ℕ → Type 0
+EditsLine table rules l scan edited bytes = IsScannedAlone scan l →
+    IsEditedTo edited (text_of (simplified_line table rules (c_reading l scan))) l bytes

@@ -3,21 +3,19 @@
 //! `residual` gives a flag for each token, and the flags decide what is copied. The copy replaces
 //! the text if it has exactly the tokens that are left, and is still unknown.
 
-ghost use Rattle.std.specs.Prelude.{◌≡◌, ◌≤◌, ◌&&◌, List, length, map, true, false, Some, IfOk};
+ghost use Rattle.std.specs.Prelude.{◌≡◌, ◌≤◌, List, length, map, true, false, Some, IfOk};
 ghost use Rattle.std.specs.Prelude.{IsTrue};
-ghost use Rattle.std.specs.List.{list_any};
 ghost use Rattle.ud_model.specs.text.Lexemes.{Cell, shown};
 ghost use Rattle.ud_model.specs.conditions.Table.{Argument};
 ghost use Rattle.ud_model.specs.conditions.Expressions.{Expression};
 ghost use Rattle.ud_model.specs.conditions.Conditions.{expression_cond, Rules as SpecRules};
 ghost use Rattle.ud_model.specs.conditions.Residuals as residuals;
 ghost use Rattle.ud_model.specs.conditions.ResidualTexts as spec;
-ghost use Rattle.ud_model.specs.conditions.ResidualTexts.{is_literal, simplified_cells, keeps};
 ghost use Rattle.ud_model.specs.aids.Parsing.{expression_of};
 ghost use Rattle.ud_model.specs.declared.limits.TheConstants.{LINE_BYTES};
 ghost use Rattle.ud_cond.specs.symbols.SymbolTable.{TableRepresents};
 ghost use Rattle.ud_cond.specs.CondViews.{as_rules};
-ghost use Rattle.ud_passes.specs.pruning.Cells.{AreCells, IsUnknownResidual, IsFound};
+ghost use Rattle.ud_passes.specs.pruning.Cells.{AreKept, IsUnknownResidual, FindsLeft, stands};
 
 use crate::pruning::cells::{CellBytes, LeftText};
 use crate::pruning::left_texts::append_left;
@@ -57,9 +55,9 @@ fn is_unknown(text: &[u8], symbols: &Symbols, rules: Rules) -> bool
 
 /// Returns whether the rest of a text is read as the tokens with a true flag.
 fn is_read(text: &[u8], flags: &[bool], left: &[u8]) -> bool
-    ensures { (table : List Argument) (rules : SpecRules) (e : Expression) →
-        expression_of text.now ≡ Some e → flags.now ≡ keeps table rules e → (cells : List Cell) →
-        map shown cells ≡ left.now → result ≡ spec.is_read table rules e cells }
+    ensures { (table : List Argument) (rules : SpecRules) (e : Expression) (cells : List Cell) →
+        AreKept table rules e text.now flags.now → map shown cells ≡ left.now →
+        result ≡ spec.is_read table rules e cells }
 {
     if begins_word(left) {
         return false;
@@ -70,11 +68,9 @@ fn is_read(text: &[u8], flags: &[bool], left: &[u8]) -> bool
 /// Returns whether the rest of a text has the tokens with a true flag, and is unknown.
 fn may_stand(text: &[u8], flags: &[bool], left: &[u8], symbols: &Symbols, rules: Rules) -> bool
     requires fits { length left.now ≤ LINE_BYTES }
-    ensures { (calls : List Argument) → TableRepresents symbols.now calls → (e : Expression) →
-        expression_of text.now ≡ Some e → flags.now ≡ keeps calls (as_rules rules) e →
-        (cells : List Cell) → map shown cells ≡ left.now →
-        result ≡ (spec.is_read calls (as_rules rules) e cells &&
-        residuals.is_unknown (expression_cond left.now calls (as_rules rules))) }
+    ensures { (calls : List Argument) (e : Expression) (cells : List Cell) →
+        TableRepresents symbols.now calls → AreKept calls (as_rules rules) e text.now flags.now →
+        map shown cells ≡ left.now → result ≡ stands calls (as_rules rules) e cells }
 {
     if !is_read(text, flags, left) {
         return false;
@@ -121,11 +117,8 @@ impl LeftCondition {
         ensures fewer { IfOk result (λ found. found ≡ true →
             length self.new.text.bytes.items ≤ length text.entry.bytes.now) }
         ensures found { IfOk result (λ found. (calls : List Argument) →
-            TableRepresents symbols.now calls → (cells : List Cell) →
-            AreCells cells text.entry.bytes.now text.entry.shown.now →
-            list_any is_literal cells ≡ false →
-            IsFound found (simplified_cells calls (as_rules rules) cells) cells
-            self.new.text.bytes.items self.new.text.shown.items) }
+            TableRepresents symbols.now calls →
+            FindsLeft calls (as_rules rules) text.entry found self.new.text) }
     {
         if !is_unknown(text.shown, symbols, rules) {
             return Ok(false);

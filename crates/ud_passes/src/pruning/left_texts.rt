@@ -9,9 +9,9 @@ ghost use Rattle.std.specs.Prelude.{IfOk, OnOk, if◌then◌else◌};
 ghost use Rattle.ud_model.specs.text.Bytes.{are_white};
 ghost use Rattle.ud_model.specs.text.Lexemes.{Cell};
 ghost use Rattle.ud_model.specs.conditions.ResidualTexts as spec;
-ghost use Rattle.ud_model.specs.conditions.ResidualTexts.{left_cells, left_from};
+ghost use Rattle.ud_model.specs.conditions.ResidualTexts.{left_cells};
 ghost use Rattle.ud_cond.specs.CondViews.{as_token};
-ghost use Rattle.ud_passes.specs.pruning.Cells.{AreCells, SameLeft};
+ghost use Rattle.ud_passes.specs.pruning.Cells.{AreCells, SameLeft, left_at, LeavesAt};
 
 use crate::pruning::cells::{CellBytes, LeftText};
 use std::alloc::AllocError;
@@ -64,10 +64,7 @@ fn append_token<'a>(
 ) -> Result<Place<'a>, AllocError>
     ensures left { IfOk result (λ p. (cells : List Cell) (flags : List Bool) →
         AreCells cells place.entry.text.bytes.now place.entry.text.shown.now →
-        (rest : List Cell) × AreCells rest p.text.bytes.now p.text.shown.now ×
-        SameLeft left.old.bytes.items left.old.shown.items
-        (left_from place.entry.stays place.entry.operand (flag ∷ flags) cells)
-        left.new.bytes.items left.new.shown.items (left_from p.stays p.operand flags rest)) }
+        LeavesAt left.old (left_at place.entry (flag ∷ flags) cells) left.new p flags) }
     ensures fewer_bytes { IfOk result (λ p.
         length left.new.bytes.items + length p.text.bytes.now ≤
         length left.old.bytes.items + length place.entry.text.bytes.now) }

@@ -3,7 +3,7 @@
 //! The condition of an `#if` or `#elif` that joins no other line is edited. The edited line
 //! replaces the line only if, by itself, it is read as meant.
 
-ghost use Rattle.std.specs.Prelude.{◌≡◌, ◌≤◌, ◌+◌, List, [], false, length, map, IfOk, IfSome};
+ghost use Rattle.std.specs.Prelude.{◌≡◌, ◌≤◌, ◌+◌, List, [], false, length, IfOk, IfSome};
 ghost use Rattle.std.specs.Prelude.{IfNone};
 ghost use Rattle.std.specs.List.{list_any};
 ghost use Rattle.ud_model.specs.text.Bytes.{is_quote};
@@ -16,16 +16,13 @@ ghost use Rattle.ud_model.specs.conditions.Conditions.{Rules as SpecRules};
 ghost use Rattle.ud_model.specs.sections.Directives.{content_of, directive as has_directive};
 ghost use Rattle.ud_model.specs.sections.Directives.{Directive as HasDirective};
 ghost use Rattle.ud_model.specs.output.SimplifiedTexts as spec;
-ghost use Rattle.ud_model.specs.output.SimplifiedTexts.{has_condition, simplified_line, line_by};
-ghost use Rattle.ud_model.specs.output.SimplifiedTexts.{left_line, left_cells_of};
-ghost use Rattle.ud_model.specs.text.Lexemes.{shown};
+ghost use Rattle.ud_model.specs.output.SimplifiedTexts.{has_condition, line_by};
 ghost use Rattle.ud_model.specs.declared.limits.TheConstants.{LINE_BYTES};
 ghost use Rattle.ud_cond.specs.symbols.SymbolTable.{TableRepresents};
 ghost use Rattle.ud_cond.specs.CondViews.{as_rules};
 ghost use Rattle.ud_sections.specs.directives.ParsedDirectives.{as_directive, content_found};
-ghost use Rattle.ud_passes.specs.pruning.EditedLines.{c_reading, IsScannedAlone, IsEditedTo};
-ghost use Rattle.ud_passes.specs.pruning.EditedLines.{is_meant};
-ghost use Rattle.ud_passes.specs.pruning.EditedLines.{IsCondition, HasNoQuote, line_if_read};
+ghost use Rattle.ud_passes.specs.pruning.EditedLines.{is_meant, IsLeftLine, IsEditedAt};
+ghost use Rattle.ud_passes.specs.pruning.EditedLines.{EditsCondition, EditsLine};
 
 use crate::pruning::cells::{CellBytes, split_bytes};
 use crate::pruning::conditions::LeftCondition;
@@ -135,11 +132,8 @@ fn takes_place(
     requires one_line { NoNewline line.now.body.now }
     requires ended { is_empty line.now.ending.now ≡ false }
     ensures { IfOk result (λ edited. (table : List Argument) (rules : SpecRules)
-        (d : HasDirective) → IsCondition (as_line line.now) d → d.kind ≡ kind →
-        map shown (left_cells_of table rules (as_line line.now) d) ≡ text.now →
-        bytes.now ≡ text_of (left_line table rules (as_line line.now) d) →
-        IsEditedTo edited (text_of (line_if_read table rules (as_line line.now) d))
-        (as_line line.now) bytes.now) }
+        (d : HasDirective) → IsLeftLine table rules (as_line line.now) d kind text.now bytes.now →
+        IsEditedAt table rules (as_line line.now) d edited bytes.now) }
 {
     let edited = line_in(bytes, line.number);
     if edited.ending != line.ending {
@@ -176,11 +170,8 @@ impl LineEditor {
         requires masked { length scan.now.masked.now ≤ LINE_BYTES }
         requires one_line { NoNewline line.now.body.now }
         ensures { IfOk result (λ edited. (calls : List Argument) →
-            TableRepresents symbols.now calls →
-            IsScannedAlone (as_scan scan.now) (as_line line.now) →
-            IsEditedTo edited (text_of (simplified_line calls (as_rules rules)
-            (c_reading (as_line line.now) (as_scan scan.now)))) (as_line line.now)
-            self.new.bytes.items) }
+            TableRepresents symbols.now calls → EditsLine calls (as_rules rules)
+            (as_line line.now) (as_scan scan.now) edited self.new.bytes.items) }
     {
         if scan.joins_before || scan.joins_after || line.ending.is_empty() {
             return Ok(false);
@@ -212,11 +203,8 @@ impl LineEditor {
         requires one_line { NoNewline line.now.body.now }
         requires ended { is_empty line.now.ending.now ≡ false }
         ensures { IfOk result (λ edited. (calls : List Argument) →
-            TableRepresents symbols.now calls →
-            IsCondition (as_line line.now) (as_directive found.now) →
-            HasNoQuote (as_line line.now) (as_directive found.now) →
-            IsEditedTo edited (text_of (line_if_read calls (as_rules rules) (as_line line.now)
-            (as_directive found.now))) (as_line line.now) self.new.bytes.items) }
+            TableRepresents symbols.now calls → EditsCondition calls (as_rules rules)
+            (as_line line.now) (as_directive found.now) edited self.new.bytes.items) }
     {
         let (front, bytes) = split_bytes(line.body, found.keyword.at + found.keyword.len);
         let text = CellBytes {

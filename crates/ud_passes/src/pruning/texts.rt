@@ -1,6 +1,6 @@
 //! The rest of a text, line by line.
 
-ghost use Rattle.std.specs.Prelude.{◌≡◌, ◌+◌, ◌≤◌, ◌<◌, ◌^◌, ◌∷◌, ◌++◌, ℕ, List, [], length, IfOk};
+ghost use Rattle.std.specs.Prelude.{◌≡◌, ◌+◌, ◌≤◌, ◌<◌, ◌^◌, ◌∷◌, ◌++◌, List, [], length, IfOk};
 ghost use Rattle.std.specs.Prelude.{OnOk, OnErr, if◌then◌else◌};
 ghost use Rattle.ud_model.specs.text.Lines.{NoNewline, text_of};
 ghost use Rattle.ud_model.specs.text.Scans.{Reading};
@@ -14,7 +14,7 @@ ghost use Rattle.ud_cond.specs.symbols.SymbolTable.{TableRepresents};
 ghost use Rattle.ud_cond.specs.CondViews.{as_rules};
 ghost use Rattle.ud_passes.specs.pruning.PrunedTexts.{pruned_text, edited_count};
 ghost use Rattle.ud_passes.specs.Passes.{Grows};
-ghost use Rattle.ud_passes.specs.pruning.Passing.{IsPrunedNext, Pruned};
+ghost use Rattle.ud_passes.specs.pruning.Passing.{PrunesNext, PrunesOn};
 
 use crate::pruning::lines::LineEditor;
 use crate::walk::{LineScanner, Stretch, Walk};
@@ -62,8 +62,7 @@ fn append_line(
         ScannerRepresents scanner.old before → ScannerRepresents scanner.new
         (before ++ next_reading before Mode.C (as_line line.now) ∷ [])) }
     ensures pruned { IfOk result (λ edited. (calls : List Argument) →
-        TableRepresents symbols.now calls → (before : List Reading) →
-        ScannerRepresents scanner.old before → IsPrunedNext calls (as_rules rules) before
+        TableRepresents symbols.now calls → PrunesNext calls (as_rules rules) scanner.old
         (as_line line.now) edited out.old.items out.new.items) }
 {
     let scan = scanner.read_growing(Mode::C, line)?;
@@ -99,9 +98,7 @@ fn step(
     ensures room { IfOk result (λ n.
         n + length walk.new.rest.now ≤ count + length walk.old.rest.now) }
     ensures pruned { IfOk result (λ n. (calls : List Argument) → TableRepresents symbols.now calls →
-        (text start : List ℕ) →
-        Pruned calls (as_rules rules) text start count walk.old out.old.items →
-        Pruned calls (as_rules rules) text start n walk.new out.new.items) }
+        PrunesOn calls (as_rules rules) count walk.old out.old.items n walk.new out.new.items) }
 {
     match walk.next(Mode::C) {
         Stretch::Texts(bytes) => {

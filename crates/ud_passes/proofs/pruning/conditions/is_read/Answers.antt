@@ -18,7 +18,7 @@ second false b e = refl
 second true b e = cc
 
 pub returns-then-begins_word : goal.returns-then-begins_word
-returns-then-begins_word c = λ table rules e p k cells q. sym (first _ (are_tokens (tokens_of (map shown cells)) (spelling (residual table rules e).tree)) (sym (c.begins_word.ensures cells q) ∙ c.if-begins_word.true))
+returns-then-begins_word c = λ table rules e cells k q. sym (first _ (are_tokens (tokens_of (map shown cells)) (spelling (residual table rules e).tree)) (sym (c.begins_word.ensures cells q) ∙ c.if-begins_word.true))
 
 pub returns : goal.returns
 returns c = grind (arith, flags_long, text_tokens, kept_are, second)

@@ -1,8 +1,8 @@
 -- The rest of the tokens so far was appended.
 use Rattle.std.proofs.Common.{◌≤◌, ◌+◌, List, length, drop}
 use Rattle.ud_model.specs.text.Lexemes.{Cell}
-use Rattle.ud_model.specs.conditions.ResidualTexts.{left_cells, left_from}
-use Rattle.ud_passes.specs.pruning.Cells.{AreCells, SameLeft}
+use Rattle.ud_model.specs.conditions.ResidualTexts.{left_cells}
+use Rattle.ud_passes.specs.pruning.Cells.{AreCells, LeavesAt}
 use Rattle.ud_passes.proofs.pruning.left_texts.append_left.Given as goal
 
 abbrev pub invariant-loop-flag : goal.invariant-loop-flag
@@ -10,7 +10,5 @@ invariant-loop-flag l = record {
   fewer_bytes : length l.left.bytes.items + length l.place.text.bytes.now ≤ length l.fn.left.bytes.items + length l.fn.text.bytes.now;
   fewer_shown : length l.left.shown.items + length l.place.text.shown.now ≤ length l.fn.left.shown.items + length l.fn.text.shown.now;
   left : (cells : List Cell) → AreCells cells l.fn.text.bytes.now l.fn.text.shown.now →
-      (rest : List Cell) × AreCells rest l.place.text.bytes.now l.place.text.shown.now ×
-      SameLeft l.fn.left.bytes.items l.fn.left.shown.items (left_cells l.flags cells) l.left.bytes.items l.left.shown.items
-      (left_from l.place.stays l.place.operand (drop l.flag-index l.flags) rest);
+      LeavesAt l.fn.left (left_cells l.flags cells) l.left l.place (drop l.flag-index l.flags);
 }

@@ -11,23 +11,23 @@ use Rattle.ud_passes.proofs.EditLemmas.{other_ending, same_bytes, edited_if, is_
 use Rattle.ud_passes.proofs.pruning.lines.takes_place.Goals as goal
 
 pub returns-then-ne : goal.returns-then-ne
-returns-then-ne c = λ table rules d i k s b.
+returns-then-ne c = λ table rules d h.
     let l : Line = as_line c.args.line.now in
     let e : Line = as_line c.line_in-edited.result in
     let to = c.line_in-edited.ensures.bytes in
-    other_ending table rules l d i c.requires.one_line (is_end l.ending c.args.line.now.ended c.requires.ended) c.args.bytes.now b e to.0 to.1 c.line_in-edited.ensures.value (not-true _ (sym c.ne.ensures ∙ c.if-ne.true))
+    other_ending table rules l d h.condition c.requires.one_line (is_end l.ending c.args.line.now.ended c.requires.ended) c.args.bytes.now h.bytes_are e to.0 to.1 c.line_in-edited.ensures.value (not-true _ (sym c.ne.ensures ∙ c.if-ne.true))
 
 pub returns-then-eq : goal.returns-then-eq
-returns-then-eq c = λ table rules d i k s b.
+returns-then-eq c = λ table rules d h.
     let l : Line = as_line c.args.line.now in
     let e : Line = as_line c.line_in-edited.result in
     let to = c.line_in-edited.ensures.bytes in
-    same_bytes table rules l d i c.requires.one_line (is_end l.ending c.args.line.now.ended c.requires.ended) c.args.bytes.now b e to.0 to.1 c.line_in-edited.ensures.value ((bytes_eq-Decides e.ending l.ending).0 (not-false _ (sym c.ne.ensures ∙ c.if-ne.false))) (sym c.eq.ensures ∙ c.if-eq.true)
+    same_bytes table rules l d h.condition c.requires.one_line (is_end l.ending c.args.line.now.ended c.requires.ended) c.args.bytes.now h.bytes_are e to.0 to.1 c.line_in-edited.ensures.value ((bytes_eq-Decides e.ending l.ending).0 (not-false _ (sym c.ne.ensures ∙ c.if-ne.false))) (sym c.eq.ensures ∙ c.if-eq.true)
 
 pub returns : goal.returns
-returns c = λ table rules d i k s b.
+returns c = λ table rules d h.
     let l : Line = as_line c.args.line.now in
     let e : Line = as_line c.line_in-edited.result in
     let to = c.line_in-edited.ensures.bytes in
-    edited_if table rules l d i c.requires.one_line (is_end l.ending c.args.line.now.ended c.requires.ended) c.args.bytes.now b e to.0 to.1 c.line_in-edited.ensures.value ((bytes_eq-Decides e.ending l.ending).0 (not-false _ (sym c.ne.ensures ∙ c.if-ne.false))) (sym c.eq.ensures ∙ c.if-eq.false) c.in_ok-is_meant.field-0
-    (c.in_ok-is_meant.ensures ∙ ap₂ (λ (j : Kind) (x : List ℕ). is_meant j x (scan_after_run [] e)) (sym k) (sym s))
+    edited_if table rules l d h.condition c.requires.one_line (is_end l.ending c.args.line.now.ended c.requires.ended) c.args.bytes.now h.bytes_are e to.0 to.1 c.line_in-edited.ensures.value ((bytes_eq-Decides e.ending l.ending).0 (not-false _ (sym c.ne.ensures ∙ c.if-ne.false))) (sym c.eq.ensures ∙ c.if-eq.false) c.in_ok-is_meant.field-0
+    (c.in_ok-is_meant.ensures ∙ ap₂ (λ (j : Kind) (x : List ℕ). is_meant j x (scan_after_run [] e)) (sym h.kind_is) (sym h.text_is))

@@ -1,9 +1,9 @@
 -- The text stays, or the rest of it was found.
-use Rattle.std.proofs.Common.{◌≡◌, ℕ, List, Bool, ◌&&◌, map, Some, sym, ◌∙◌, ap, subst}
+use Rattle.std.proofs.Common.{◌≡◌, ℕ, List, Bool, map, Some, sym, ◌∙◌, ap, subst}
 use Rattle.ud_model.specs.text.Lexemes.{shown}
 use Rattle.ud_model.specs.conditions.Conditions.{Rules, expression_cond}
 use Rattle.ud_model.specs.conditions.Residuals.{is_unknown}
-use Rattle.ud_model.specs.conditions.ResidualTexts.{keeps, left_cells, is_read}
+use Rattle.ud_model.specs.conditions.ResidualTexts.{keeps, left_cells}
 use Rattle.ud_model.specs.aids.Parsing.{expression_of}
 use Rattle.ud_cond.specs.CondViews.{as_rules}
 use Rattle.ud_passes.specs.pruning.Cells.{AreCells}
@@ -24,13 +24,13 @@ pub returns-clause-found : goal.returns-clause-found
 returns-clause-found c = λ calls h cells a q.
     let rules : Rules = as_rules c.args.rules in
     let r = c.find_residual.ensures.yes c.if-not-find_residual.false calls h in
-    let p : expression_of (map shown cells) ≡ Some r.tree = ap expression_of a.shown_are ∙ r.is in
-    let flags : c.as_slice.result.now ≡ keeps calls rules r.tree = c.as_slice.ensures ∙ r.kept in
+    let p : expression_of (map shown cells) ≡ Some r.tree = ap expression_of a.shown_are ∙ r.kept.tree_is in
+    let flags : c.as_slice.result.now ≡ keeps calls rules r.tree = c.as_slice.ensures ∙ r.kept.flags_are in
     let left : AreCells (left_cells (keeps calls rules r.tree) cells) c.append_left.new.left.bytes.items c.append_left.new.left.shown.items =
     subst (λ (l : List Bool). AreCells (left_cells l cells) c.append_left.new.left.bytes.items c.append_left.new.left.shown.items) flags
     (left_alone (left_cells c.as_slice.result.now cells) c.clear.ensures.bytes c.clear.ensures.shown (c.in_ok-append_left.ensures.left cells a)) in
     found_or_stays calls rules cells r.tree p
     (ap (λ (l : List ℕ). is_unknown (expression_cond l calls rules)) a.shown_are ∙ sym (c.is_unknown.ensures calls h) ∙ c.if-not-is_unknown.false)
-    (ap is_unknown r.unknown) q c.may_stand.result c.append_left.new.left.bytes.items c.append_left.new.left.shown.items left
-    (c.may_stand.ensures calls h r.tree r.is (c.as_slice-flags.ensures ∙ r.kept) (left_cells (keeps calls rules r.tree) cells) (left.shown_are ∙ sym c.as_slice-left.ensures.value)
-    ∙ ap (λ (l : List ℕ). is_read calls rules r.tree (left_cells (keeps calls rules r.tree) cells) && is_unknown (expression_cond l calls rules)) (c.as_slice-left.ensures.value ∙ sym left.shown_are))
+    (ap is_unknown r.unknown) q c.may_stand.result c.append_left.new.left left
+    (c.may_stand.ensures calls r.tree (left_cells (keeps calls rules r.tree) cells) h
+    (record { tree_is = r.kept.tree_is; flags_are = c.as_slice-flags.ensures ∙ r.kept.flags_are }) (left.shown_are ∙ sym c.as_slice-left.ensures.value))

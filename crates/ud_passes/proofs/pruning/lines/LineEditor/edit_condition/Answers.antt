@@ -1,7 +1,7 @@
 -- The line stays, or its condition is edited.
 use Rattle.std.proofs.Common.{◌≡◌, ℕ, ◌+◌, ◌++◌, List, Bool, take, sym, ◌∙◌, ap, ap₂, refl, subst, arith}
 use Rattle.std.proofs.lemmas.Grind.{common_steps}
-use Rattle.ud_model.specs.text.Lines.{Line, text_of}
+use Rattle.ud_model.specs.text.Lines.{Line}
 use Rattle.ud_model.specs.text.LineViews.{as_line}
 use Rattle.ud_model.specs.text.Lexemes.{Cell}
 use Rattle.ud_model.specs.sections.Directives.{Directive}
@@ -11,7 +11,7 @@ use Rattle.ud_model.specs.output.SimplifiedTexts.{keyword_end, condition_cells}
 use Rattle.ud_cond.specs.CondViews.{as_rules}
 use Rattle.ud_sections.specs.directives.ParsedDirectives.{as_directive}
 use Rattle.ud_passes.specs.pruning.Cells.{AreCells, IsFound}
-use Rattle.ud_passes.specs.pruning.EditedLines.{IsEditedTo, line_if_read}
+use Rattle.ud_passes.specs.pruning.EditedLines.{IsEditedAt}
 use Rattle.ud_passes.proofs.CellLemmas.{cells_same}
 use Rattle.ud_passes.proofs.EditLemmas.{cells_are, all_left}
 use Rattle.ud_passes.proofs.pruning.lines.LineEditor.edit_condition.Goals as goal
@@ -24,7 +24,7 @@ returns-then-not-branch c = λ calls h i q.
     let cells : List Cell = condition_cells l d in
     let a : AreCells cells c.split_bytes.result.1.now d.after = cells_same cells (sym c.split_bytes.ensures.back) refl (cells_are calls rules l d i) in
     all_left calls rules l d i
-    (subst (λ (b : Bool). IsFound b (simplified_cells calls rules cells) cells c.find.new.self.text.bytes.items c.find.new.self.text.shown.items) c.if-not-branch.true (c.in_ok-find.ensures.found calls h cells a q))
+    (subst (λ (b : Bool). IsFound calls rules cells b c.find.new.self.text) c.if-not-branch.true (c.in_ok-find.ensures.found calls h cells a q))
 
 -- The bytes of the edited line.
 joined : (c : goal.After-as_slice-3) → c.as_slice-2.result.now ≡ (take (c.args.found.now.keyword.at + c.args.found.now.keyword.len) c.args.line.now.body.now ++ c.find.new.self.text.bytes.items) ++ c.args.line.now.ending.now
@@ -44,10 +44,15 @@ returns c = λ calls h i q.
     let cells : List Cell = condition_cells l d in
     let a : AreCells cells c.split_bytes.result.1.now d.after = cells_same cells (sym c.split_bytes.ensures.back) refl (cells_are calls rules l d i) in
     let left : AreCells (simplified_cells calls rules cells) c.find.new.self.text.bytes.items c.find.new.self.text.shown.items =
-    subst (λ (b : Bool). IsFound b (simplified_cells calls rules cells) cells c.find.new.self.text.bytes.items c.find.new.self.text.shown.items) c.if-not-branch.false (c.in_ok-find.ensures.found calls h cells a q) in
+    subst (λ (b : Bool). IsFound calls rules cells b c.find.new.self.text) c.if-not-branch.false (c.in_ok-find.ensures.found calls h cells a q) in
     let bytes : c.as_slice-2.result.now ≡ (take (keyword_end d) l.body ++ c.find.new.self.text.bytes.items) ++ l.ending =
     c.as_slice-2.ensures.value ∙ c.in_ok-extend_from_slice-3.ensures.items ∙ ap (λ (x : List ℕ). x ++ l.ending)
     (c.in_ok-extend_from_slice-2.ensures.items ∙ ap₂ (λ (x y : List ℕ). x ++ y)
     (c.in_ok-extend_from_slice.ensures.items ∙ ap₂ (λ (x y : List ℕ). x ++ y) c.clear.ensures.items c.split_bytes.ensures.front) c.as_slice.ensures.value) in
-    subst (λ (x : List ℕ). IsEditedTo c.in_ok-takes_place.field-0 (text_of (line_if_read calls rules l d)) l x) c.as_slice-2.ensures.value
-    (c.in_ok-takes_place.ensures calls rules d i refl (left.shown_are ∙ sym c.as_slice-3.ensures.value) (bytes ∙ ap (λ (x : List ℕ). (take (keyword_end d) l.body ++ x) ++ l.ending) (sym left.bytes_are)))
+    subst (IsEditedAt calls rules l d c.in_ok-takes_place.field-0) c.as_slice-2.ensures.value
+    (c.in_ok-takes_place.ensures calls rules d (record {
+      condition = i;
+      kind_is = refl;
+      text_is = left.shown_are ∙ sym c.as_slice-3.ensures.value;
+      bytes_are = bytes ∙ ap (λ (x : List ℕ). (take (keyword_end d) l.body ++ x) ++ l.ending) (sym left.bytes_are);
+    }))
