@@ -7,6 +7,7 @@
 --   HasItsSplice line scan      the scan says whether the line is spliced
 --   IsLast b r                  `b` is the line `r`
 --   IsLogical l b group         the lines `group` begin a directive, and `b` is the last one
+--   BeginsLine line scan l b    a logical line begins
 --   AddsLine line scan l b ..   a logical line has one line more
 --   IsGroup l b group           the same, or no logical line goes on
 use Rattle.std.specs.Prelude.{◌≡◌, ℕ, List, [], ◌∷◌, ◌++◌, Bool, true, not, ◌&&◌, Option, Some}
@@ -20,8 +21,9 @@ use Rattle.ud_model.specs.text.LineViews.{as_line, as_scan}
 use Rattle.ud_model.specs.declared.line.Line.{Line as CodeLine}
 use Rattle.ud_model.specs.declared.scan.Scan.{Scan as CodeScan}
 use Rattle.ud_model.specs.declared.kind.Mode.TheVariants.{C}
+use Rattle.ud_model.specs.sections.Directives.{content_of}
 use Rattle.ud_model.specs.output.FoldedTexts.{continued_part, shown_lines, begins_directive}
-use Rattle.ud_model.specs.output.FoldedTexts.{are_alike, fits, is_shown_as}
+use Rattle.ud_model.specs.output.FoldedTexts.{are_alike, fits, is_directive, is_shown_as}
 use Rattle.ud_model.specs.output.SimplifiedTexts.{keeps_ending}
 use Rattle.ud_passes.specs.Walks.{reading_at}
 use Rattle.ud_passes.specs.declared.folding.logical.Last.{Last}
@@ -67,6 +69,11 @@ pub record IsLogical (l : LogicalLine) (b : Last) (group : List Reading) : Type 
   pub body_is : l.body.items ≡ flat_map continued_part front
   pub shown_is : l.shown.items ≡ shown_lines group
   pub one_line : NoNewline l.body.items
+
+-- `BeginsLine line scan l b`: if the line has a directive, `l` and `b` have it as a logical line.
+abbrev pub BeginsLine : CodeLine → CodeScan → LogicalLine → Last → Type 0
+BeginsLine line scan l b = (n : ℕ) → is_directive (content_of (as_scan scan)) ≡ true →
+    HasItsSplice line scan → IsLogical l b (c_reading line scan n ∷ [])
 
 -- `AddsLine line scan l b m c`: if `l` and `b` have a logical line, then `m` and `c` have it with
 -- one line more, which has the same ending.

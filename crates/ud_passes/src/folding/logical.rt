@@ -10,7 +10,8 @@ ghost use Rattle.ud_model.specs.output.FoldedTexts as spec;
 ghost use Rattle.ud_model.specs.output.FoldedTexts.{folded_bytes};
 ghost use Rattle.ud_passes.specs.Passes.{Grows};
 ghost use Rattle.ud_passes.specs.folding.LogicalLines.{plain_lines, c_reading, HasItsSplice};
-ghost use Rattle.ud_passes.specs.folding.LogicalLines.{AddsLine, IsLast, IsLogical, IsGroup};
+ghost use Rattle.ud_passes.specs.folding.LogicalLines.{BeginsLine, AddsLine, IsLast, IsLogical};
+ghost use Rattle.ud_passes.specs.folding.LogicalLines.{IsGroup};
 ghost use Rattle.ud_passes.specs.folding.Folding.{rest_from, Takes, TakesLine};
 
 use crate::folding::shown::{VERTICAL_TAB, is_directive, is_line_shown};
@@ -110,10 +111,7 @@ impl LogicalLine {
     /// Fails if memory runs out.
     fn begin<'t>(&mut self, line: &Line<'t>, scan: &Scan<'_>) -> Result<Last<'t>, AllocError>
         requires one_line { NoNewline line.now.body.now }
-        ensures { IfOk result (λ b. (n : ℕ) →
-            spec.is_directive (content_of (as_scan scan.now)) ≡ true →
-            HasItsSplice line.now scan.now →
-            IsLogical self.new b (c_reading line.now scan.now n ∷ [])) }
+        ensures { IfOk result (BeginsLine line.now scan.now self.new) }
     {
         self.plain.clear();
         self.body.clear();

@@ -1,11 +1,10 @@
 //! Folds a text, line by line.
 
 ghost use Rattle.std.specs.Prelude.{◌≡◌, ◌≤◌, ◌<◌, ◌∷◌, ◌++◌, ℕ, List, [], length, true, IfOk};
-ghost use Rattle.std.specs.Prelude.{OnOk, OnErr, IfSome, is_some};
+ghost use Rattle.std.specs.Prelude.{OnOk, OnErr, is_some};
 ghost use Rattle.ud_model.specs.text.Lines.{NoNewline, text_of};
 ghost use Rattle.ud_model.specs.text.Scans.{Reading};
-ghost use Rattle.ud_model.specs.text.Splicing.{c_run_of};
-ghost use Rattle.ud_model.specs.text.Scanning.{joins, scan_after, next_reading};
+ghost use Rattle.ud_model.specs.text.Scanning.{next_reading};
 ghost use Rattle.ud_model.specs.text.LineViews.{as_line};
 ghost use Rattle.ud_model.specs.output.FoldedTexts.{folded_text, folded_lines};
 ghost use Rattle.ud_model.specs.output.InsertedLines.{read_as};
@@ -14,9 +13,7 @@ ghost use Rattle.ud_model.specs.declared.kind.Mode.TheVariants.{C};
 ghost use Rattle.ud_model.specs.declared.limits.TheConstants.{LINE_BYTES};
 ghost use Rattle.ud_text.specs.scan.ScannerState.{ScannerRepresents};
 ghost use Rattle.ud_passes.specs.Passes.{Grows};
-ghost use Rattle.ud_passes.specs.Walks.{reading_at};
-ghost use Rattle.ud_passes.specs.folding.LogicalLines.{IsGroup};
-ghost use Rattle.ud_passes.specs.folding.Folding.{Takes, Folded};
+ghost use Rattle.ud_passes.specs.folding.Folding.{TakesNext, Folded};
 
 use crate::folding::logical::{Last, LogicalLine, append_line};
 use crate::folding::shown::has_tab;
@@ -41,10 +38,7 @@ fn take<'t>(
     ensures represents { OnOk result ((before : List Reading) →
         ScannerRepresents scanner.old before → ScannerRepresents scanner.new
         (before ++ next_reading before Mode.C (as_line line.now) ∷ [])) }
-    ensures taken { IfOk result (λ b. (n : ℕ) (before group : List Reading) →
-        ScannerRepresents scanner.old before → IsGroup logical.old begun.entry group →
-        IfSome begun.entry (λ _. joins (c_run_of before) ≡ true) →
-        Takes (reading_at C (as_line line.now) (scan_after before C (as_line line.now)) n) group
+    ensures taken { IfOk result (λ b. TakesNext scanner.old line.now logical.old begun.entry
         out.old.items logical.new b out.new.items) }
 {
     let scan = scanner.read_growing(Mode::C, line)?;

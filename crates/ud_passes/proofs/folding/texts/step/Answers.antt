@@ -31,4 +31,4 @@ returns-in_ok-last-in-Fitting-clause-folded c = λ text start s.
     let n = c.in-Fitting.ensures.next text s.read s.walked in
     let t = c.in_ok-last-in-Fitting.ensures in
     line_folded text start c.args.logical.now c.args.begun c.args.walk.now c.args.out.now.items s c.take.new.logical _ _ _ (as_line c.in-Fitting.line)
-    (n.1 c.take.new.scanner (t.represents s.read n.0)) (t.taken (1 + length s.read) s.read s.group n.0 s.is_group s.goes_on)
+    (n.1 c.take.new.scanner (t.represents s.read n.0)) (t.taken s.read n.0 (1 + length s.read) s.group s.is_group s.goes_on)
