@@ -128,9 +128,9 @@ module _ (table : List Argument) (mode : Mode) (name text : List ℕ) (start old
     abbrev begun_before : Option Mention
     begun_before = begun_as place.begun old.after.items
 
-    line_taken : (q : Option Mention) (goes_on : Bool) → q ≡ taken table begun_before r → goes_on ≡ joins_next r →
-        EndsLine table name q goes_on mid new (begun_as next.begun new.after.items) → Searched table mode name text start new next on
-    line_taken q goes_on t j e = record {
+    line_taken : (c : Option Begun) (goes_on : Bool) → begun_as c mid.after.items ≡ taken table begun_before r → goes_on ≡ joins_next r →
+        EndsLine table name c goes_on mid new next.begun → Searched table mode name text start new next on
+    line_taken c goes_on t j e = record {
       read = s.read ++ r ∷ [];
       walked = w;
       number_is = let i = s.number_is in let o = length-append s.read (r ∷ []) in omega (arith, i, o, m);
@@ -140,13 +140,16 @@ module _ (table : List Argument) (mode : Mode) (name text : List ℕ) (start old
       appends = after.2;
     }
       where
+        q : Option Mention
+        q = begun_as c mid.after.items
+
         kept : Appends table name s.found start mid
         kept = grind arith
 
         goes : Goes table (s.read ++ r ∷ []) s.found q goes_on
         goes = grind (arith, goes_by_line)
 
-        by : (b : Bool) → Goes table (s.read ++ r ∷ []) s.found q b → EndsLine table name q b mid new (begun_as next.begun new.after.items) →
+        by : (b : Bool) → Goes table (s.read ++ r ∷ []) s.found q b → EndsLine table name c b mid new next.begun →
             (found : List Mention) × Goes table (s.read ++ r ∷ []) found (begun_as next.begun new.after.items) true × Appends table name found start new
         by true g a = grind (arith, append-nil, appends_more, kept)
         by false g a = (
@@ -158,12 +161,12 @@ module _ (table : List Argument) (mode : Mode) (name text : List ℕ) (start old
         after : (found : List Mention) × Goes table (s.read ++ r ∷ []) found (begun_as next.begun new.after.items) true × Appends table name found start new
         after = by goes_on goes e
 
-    pub line_searched : (q : Option Mention) (goes_on : Bool) → IsTaken table begun_before (reading_at mode k (scan_after s.read mode k) place.number) q goes_on →
-        EndsLine table name q goes_on mid new (begun_as next.begun new.after.items) → Searched table mode name text start new next on
-    line_searched q goes_on i e = grind (arith, line_taken)
+    pub line_searched : (c : Option Begun) (goes_on : Bool) → IsTaken table begun_before (reading_at mode k (scan_after s.read mode k) place.number) (begun_as c mid.after.items) goes_on →
+        EndsLine table name c goes_on mid new next.begun → Searched table mode name text start new next on
+    line_searched c goes_on i e = grind (arith, line_taken)
 
-    pub long_searched : fits k ≡ false → EndsLine table name begun_before false mid new (begun_as next.begun new.after.items) → Searched table mode name text start new next on
-    long_searched f e = line_taken begun_before false (sym (taken_long table begun_before r f)) (sym (joins_long r f)) e
+    pub long_searched : fits k ≡ false → mid.after.items ≡ old.after.items → EndsLine table name place.begun false mid new next.begun → Searched table mode name text start new next on
+    long_searched f a e = line_taken place.begun false (ap (begun_as place.begun) a ∙ sym (taken_long table begun_before r f)) (sym (joins_long r f)) e
 
 -- 4. The whole text.
 

@@ -6,18 +6,26 @@
 --                                that begins there
 --   rest_from table p goes_on rs the mention `p`, which may go on, and the mentions of `rs`
 --   ended p                      the ended mention `p`
+--   Extends table line .. p q    `q` is the mention `p` after a line with its scan
 --   IsTaken table p r q goes_on  `q` is the mention after the line `r`
+--   TakesNext table mode s ..    the line that the scanner `s` reads next was taken
 --   Appends table .. ms          the mentions among `ms` that name a listed symbol were counted
 --                                and appended
 --   EndsLine table ..            a line was taken, and its mention goes on or was appended
 --   Searched table ..            the text before a place was searched
+--   SearchesOn table ..          the text before the next place was searched, too
 use Rattle.std.specs.Prelude.{◌≡◌, ℕ, ◌+◌, ◌-◌, ◌<◌, ◌^◌, List, [], ◌∷◌, ◌++◌, length, Bool, true}
 use Rattle.std.specs.Prelude.{false, Option, Some, None}
 use Rattle.ud_model.specs.text.Scans.{Reading}
+use Rattle.ud_model.specs.text.Scanning.{scan_after}
+use Rattle.ud_model.specs.text.LineViews.{as_line, as_scan}
 use Rattle.ud_model.specs.sections.Directives.{content_of}
 use Rattle.ud_model.specs.conditions.Table.{Argument}
 use Rattle.ud_model.specs.declared.kind.Mode.{Mode}
-use Rattle.ud_passes.specs.Walks.{Walked}
+use Rattle.ud_model.specs.declared.line.Line.{Line as CodeLine}
+use Rattle.ud_model.specs.declared.scan.Scan.{Scan as CodeScan}
+use Rattle.ud_text.specs.scan.ScannerState.{ScannerState, ScannerRepresents}
+use Rattle.ud_passes.specs.Walks.{reading_at, Walked}
 use Rattle.ud_passes.specs.remaining.Definitions.{IsClear}
 use Rattle.ud_passes.specs.remaining.Mentions.{Mention, mention_by, mention_on, with_text}
 use Rattle.ud_passes.specs.remaining.Mentions.{masked_of, joins_next, joined_text, mentions_in}
@@ -25,6 +33,7 @@ use Rattle.ud_passes.specs.remaining.RemainingLists.{lines_for, named_count, def
 use Rattle.ud_passes.specs.declared.remaining.mentions.Begun.{Begun}
 use Rattle.ud_passes.specs.declared.remaining.search.Place.{Place}
 use Rattle.ud_passes.specs.declared.remaining.search.Search.{Search}
+use Rattle.ud_passes.specs.declared.remaining.search.Taken.{Taken}
 use Rattle.ud_passes.specs.declared.walk.Walk.{Walk}
 
 -- `as_mention b after`: the mention that has begun, with the text `after`.
@@ -71,6 +80,23 @@ module _ (table : List Argument) where
   abbrev pub IsTaken : Option Mention → Reading → Option Mention → Bool → Type 0
   IsTaken p r q goes_on = (q ≡ taken p r) × (goes_on ≡ joins_next r)
 
+-- `Extends table line scan number p q`: read in any mode, the line with this scan and number makes
+-- `q` of the mention `p`.
+abbrev pub Extends : List Argument → CodeLine → CodeScan → ℕ → Option Mention → Option Mention →
+    Type 0
+Extends table line scan number p q = (mode : Mode) →
+    q ≡ extended table p (reading_at mode (as_line line) (as_scan scan) number)
+
+-- `TakesNext table mode s line place after t more`: the line, which comes after those that the
+-- scanner `s` represents, was taken after the mention of the place, whose text is `after`. Then `t`
+-- has the mention, whose text is `more`.
+abbrev pub TakesNext : List Argument → Mode → ScannerState → CodeLine → Place → List ℕ → Taken →
+    List ℕ → Type 0
+TakesNext table mode s line place after t more = (before : List Reading) →
+    ScannerRepresents s before → IsTaken table (begun_as place.begun after)
+    (reading_at mode (as_line line) (scan_after before mode (as_line line)) place.number)
+    (begun_as t.begun more) t.goes_on
+
 -- `Appends table name ms old new`: the mentions among `ms` of the file `name` that name a listed
 -- symbol were appended. Conditions and definitions were counted, unless their count is at its
 -- limit.
@@ -83,12 +109,15 @@ pub record Appends (table : List Argument) (name : List ℕ) (ms : List Mention)
       new.defined ≡ old.defined + defining_count ms
   pub listing_is : new.listing ≡ old.listing
 
--- `EndsLine table name p goes_on old new q`: a line with the mention `p` was taken. If it goes on,
--- `q` is this mention. Else the mention was appended, and `q` is none.
-abbrev pub EndsLine : List Argument → List ℕ → Option Mention → Bool → Search → Search →
-    Option Mention → Type 0
-EndsLine table name p true old new q = Appends table name [] old new × (q ≡ p)
-EndsLine table name p false old new q = Appends table name (ended p) old new × (q ≡ None)
+-- `EndsLine table name b goes_on old new c`: a line with the mention `b` was taken. If it goes on,
+-- `c` is this mention. Else the mention was appended, and `c` is none.
+abbrev pub EndsLine : List Argument → List ℕ → Option Begun → Bool → Search → Search →
+    Option Begun → Type 0
+EndsLine table name b true old new c = Appends table name [] old new ×
+    (begun_as c new.after.items ≡ begun_as b old.after.items)
+EndsLine table name b false old new c =
+    Appends table name (ended (begun_as b old.after.items)) old new ×
+    (begun_as c new.after.items ≡ None)
 
 -- `IsClearTo table until t`: no `#` in the text `t`, except in its last `until` bytes, has a
 -- definition after it.
@@ -107,3 +136,11 @@ pub record Searched (table : List Argument) (mode : Mode) (name text : List ℕ)
   pub parts : (rs : List Reading) → mentions_in table false (read ++ rs) ≡
       found ++ rest_from table (begun_as place.begun now.after.items) true rs
   pub appends : Appends table name found start now
+
+-- `SearchesOn table mode name old place walk new next later`: if the text before the place of
+-- `walk` was searched, then also the text before the place of `later`.
+abbrev pub SearchesOn : List Argument → Mode → List ℕ → Search → Place → Walk → Search → Place →
+    Walk → Type 0
+SearchesOn table mode name old place walk new next later = (text : List ℕ) (start : Search) →
+    Searched table mode name text start old place walk →
+    Searched table mode name text start new next later

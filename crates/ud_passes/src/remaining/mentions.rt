@@ -9,7 +9,7 @@ ghost use Rattle.ud_sections.specs.directives.ParsedDirectives.{as_directive};
 ghost use Rattle.ud_passes.specs.remaining.Definitions.{is_definition};
 ghost use Rattle.ud_passes.specs.remaining.Mentions.{class_of, shown_after, mention_at};
 ghost use Rattle.ud_passes.specs.Walks.{reading_at};
-ghost use Rattle.ud_passes.specs.remaining.Searches.{as_mention, begun_as, extended};
+ghost use Rattle.ud_passes.specs.remaining.Searches.{as_mention, begun_as, Extends};
 
 use crate::remaining::definitions::defines;
 use std::alloc::AllocError;
@@ -103,8 +103,7 @@ fn begin<'t>(
     after: &mut Vec<u8>,
 ) -> Result<Option<Begun<'t>>, AllocError>
     ensures { IfOk result (λ now. (calls : List Argument) → TableRepresents symbols.now calls →
-        (mode : Mode) → begun_as now after.new.items ≡
-        extended calls None (reading_at mode (as_line line.now) (as_scan scan.now) number)) }
+        Extends calls line.now scan.now number None (begun_as now after.new.items)) }
 {
     match directive(scan) {
         Err(_) => Ok(None),
@@ -138,9 +137,8 @@ pub(crate) fn take_line<'t>(
     after: &mut Vec<u8>,
 ) -> Result<Option<Begun<'t>>, AllocError>
     ensures { IfOk result (λ now. (calls : List Argument) → TableRepresents symbols.now calls →
-        (mode : Mode) → begun_as now after.new.items ≡
-        extended calls (begun_as begun.entry after.old.items)
-        (reading_at mode (as_line line.now) (as_scan scan.now) number)) }
+        Extends calls line.now scan.now number (begun_as begun.entry after.old.items)
+        (begun_as now after.new.items)) }
 {
     if begun.is_some() {
         after.extend_from_slice(scan.masked)?;

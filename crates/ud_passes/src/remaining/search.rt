@@ -1,21 +1,20 @@
 //! The search of a text, line by line.
 
-ghost use Rattle.std.specs.Prelude.{◌≡◌, ℕ, ◌+◌, ◌<◌, ◌≤◌, ◌^◌, List, [], ◌∷◌, ◌++◌, length};
+ghost use Rattle.std.specs.Prelude.{◌≡◌, ◌+◌, ◌<◌, ◌≤◌, ◌^◌, List, [], ◌∷◌, ◌++◌, length};
 ghost use Rattle.std.specs.Prelude.{IfOk, OnOk, if◌then◌else◌, is_some, true, ◌-◌};
 ghost use Rattle.ud_model.specs.text.Lines.{NoNewline, text_of};
 ghost use Rattle.ud_model.specs.text.Scans.{Reading};
-ghost use Rattle.ud_model.specs.text.Scanning.{next_reading, scan_after};
+ghost use Rattle.ud_model.specs.text.Scanning.{next_reading};
 ghost use Rattle.ud_model.specs.text.LineViews.{as_line};
 ghost use Rattle.ud_model.specs.declared.limits.TheConstants.{LINE_BYTES};
 ghost use Rattle.ud_model.specs.conditions.Table.{Argument};
 ghost use Rattle.ud_text.specs.scan.ScannerState.{ScannerRepresents};
 ghost use Rattle.ud_cond.specs.symbols.SymbolTable.{TableRepresents};
 ghost use Rattle.ud_passes.specs.Passes.{Grows};
-ghost use Rattle.ud_passes.specs.Walks.{reading_at};
 ghost use Rattle.ud_passes.specs.remaining.ListedNames.{names_by};
 ghost use Rattle.ud_passes.specs.remaining.RemainingLists.{line_of, is_condition, is_defining};
-ghost use Rattle.ud_passes.specs.remaining.Searches.{as_mention, begun_as, IsTaken, ended};
-ghost use Rattle.ud_passes.specs.remaining.Searches.{Appends, EndsLine, Searched, IsClearTo};
+ghost use Rattle.ud_passes.specs.remaining.Searches.{as_mention, begun_as, TakesNext, ended};
+ghost use Rattle.ud_passes.specs.remaining.Searches.{Appends, EndsLine, SearchesOn, IsClearTo};
 ghost use Rattle.ud_passes.specs.remaining.Mentions.{mentions_of};
 
 use crate::remaining::definitions::clear_len;
@@ -81,10 +80,7 @@ fn take<'t>(
         ScannerRepresents scanner.old before → ScannerRepresents scanner.new
         (before ++ next_reading before mode (as_line line.now) ∷ [])) }
     ensures taken { IfOk result (λ t. (calls : List Argument) → TableRepresents symbols.now calls →
-        (before : List Reading) → ScannerRepresents scanner.old before →
-        IsTaken calls (begun_as place.entry.begun after.old.items)
-        (reading_at mode (as_line line.now) (scan_after before mode (as_line line.now))
-        place.entry.number) (begun_as t.begun after.new.items) t.goes_on) }
+        TakesNext calls mode scanner.old line.now place.entry after.old.items t after.new.items) }
 {
     let scan = scanner.read_growing(mode, line)?;
     let begun = take_line(place.begun, &scan, line, place.number, symbols, after)?;
@@ -229,9 +225,8 @@ impl Search {
         ensures number { IfOk result (λ p. p.number ≡ place.entry.number + 1) }
         ensures until { IfOk result (λ p. p.until ≡ place.entry.until) }
         ensures ended { IfOk result (λ p. (calls : List Argument) →
-            TableRepresents symbols.now calls → EndsLine calls name.now
-            (begun_as taken.entry.begun self.old.after.items) taken.entry.goes_on self.old self.new
-            (begun_as p.begun self.new.after.items)) }
+            TableRepresents symbols.now calls → EndsLine calls name.now taken.entry.begun
+            taken.entry.goes_on self.old self.new p.begun) }
     {
         let number = place.number + 1;
         if taken.goes_on {
@@ -269,9 +264,8 @@ impl Search {
         ensures room { IfOk result (λ p. p.number + length walk.new.rest.now ≤
             place.entry.number + length walk.old.rest.now) }
         ensures searched { IfOk result (λ p. (calls : List Argument) →
-            TableRepresents symbols.now calls → (text : List ℕ) (start : Search) →
-            Searched calls mode name.now text start self.old place.entry walk.old →
-            Searched calls mode name.now text start self.new p walk.new) }
+            TableRepresents symbols.now calls → SearchesOn calls mode name.now
+            self.old place.entry walk.old self.new p walk.new) }
     {
         let until = clear_until(symbols, walk, place.until);
         let most = passable_len(place, walk, until);

@@ -24,7 +24,7 @@ returns-in_ok-end_line-in-TooLong-clause-searched c = λ calls h text start s.
     let clear = c.clear_until-until.ensures calls h s.clear in
     long_searched calls c.args.mode c.args.name.now text start c.args.self.now c.args.place c.args.walk.now s c.end_line.new.self c.in_ok-end_line-in-TooLong.field-0 c.next_within.new.self
     (subst (λ (u : ℕ). IsClearTo calls u c.next_within.new.self.rest.now) (sym e.until) (subst (IsClearTo calls c.clear_until-until.result) (sym c.next_within.ensures.rest) (still_clear calls c.clear_until-until.result _ rest clear)))
-    (as_line c.in-TooLong.field-0) n.1 e.number c.args.self.now refl refl refl refl n.0 (e.ended calls h)
+    (as_line c.in-TooLong.field-0) n.1 e.number c.args.self.now refl refl refl refl n.0 refl (e.ended calls h)
 
 pub returns-in_ok-end_line-in-Fitting-clause-searched : goal.returns-in_ok-end_line-in-Fitting-clause-searched
 returns-in_ok-end_line-in-Fitting-clause-searched c = λ calls h text start s.
