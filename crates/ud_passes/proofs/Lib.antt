@@ -15,3 +15,4 @@ pub mod SearchLemmas
 pub mod ShownLemmas
 pub mod FoldLemmas
 pub mod RestoreLemmas
+pub mod FlatLemmas

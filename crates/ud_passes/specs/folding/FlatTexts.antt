@@ -1,26 +1,39 @@
 -- FlatTexts: a text with each conditional directive on its first line, and each line in its place.
 --
---   flat_lines empty bytes   the folded lines `bytes`, with the newlines after a line that it had
---   flat_text bytes          the text so, if it has a directive over several lines that folds
+--   flat_byte b       the byte `b`, or a space for a vertical tab
+--   empty_lines line  an empty line for each vertical tab of the line
+--   flat_line line    the folded line with such bytes, and with such lines after it
+--   flat_lines bytes  the folded lines `bytes`, each in this way
+--   flat_text bytes   the text so, if it has a directive over several lines that folds
 --
 -- So a directive has in the flat text the number that it has in the text.
 --
 -- Example: `#if A || \`, `  B` becomes the line `#if A ||    B` and an empty one.
-use Rattle.std.specs.Prelude.{ℕ, List, [], ◌∷◌, ◌++◌, ◌==◌, if◌then◌else◌, bytes_eq}
+use Rattle.std.specs.Prelude.{ℕ, List, [], ◌∷◌, ◌++◌, ◌==◌, if◌then◌else◌, bytes_eq, map}
+use Rattle.std.specs.Prelude.{filter}
+use Rattle.std.specs.List.{flat_map}
 use Rattle.ud_model.specs.text.Bytes.{newline, space}
+use Rattle.ud_model.specs.text.Lines.{texts_of}
 use Rattle.ud_model.specs.output.FoldedTexts.{vertical_tab, folded_text}
 
--- `flat_lines empty bytes`: the folded lines `bytes`, with a space in place of each vertical tab,
--- and with an empty line for it after its line. The empty lines `empty` are those for vertical tabs
--- before the bytes, on the line of the first byte.
-abbrev pub flat_lines : List ℕ → List ℕ → List ℕ
-flat_lines empty [] = []
-flat_lines empty (b ∷ bytes) =
-    if b == vertical_tab then space ∷ flat_lines (empty ++ newline ∷ []) bytes
-    else if b == newline then newline ∷ empty ++ flat_lines [] bytes
-    else b ∷ flat_lines empty bytes
+-- `flat_byte b`: the byte `b`, or a space in place of a vertical tab.
+abbrev pub flat_byte : ℕ → ℕ
+flat_byte b = if b == vertical_tab then space else b
+
+-- `empty_lines line`: an empty line for each vertical tab of the line.
+abbrev pub empty_lines : List ℕ → List ℕ
+empty_lines line = map (λ (b : ℕ). newline) (filter (λ (b : ℕ). b == vertical_tab) line)
+
+-- `flat_line line`: the folded line with a space in place of each vertical tab, and with an empty
+-- line for it after the line.
+abbrev pub flat_line : List ℕ → List ℕ
+flat_line line = map flat_byte line ++ empty_lines line
+
+-- `flat_lines bytes`: the folded lines `bytes`, each in this way.
+abbrev pub flat_lines : List ℕ → List ℕ
+flat_lines bytes = flat_map flat_line (texts_of bytes)
 
 -- `flat_text bytes`: the text as it is if no directive folds, or else its folded lines so.
 abbrev pub flat_text : List ℕ → List ℕ
 flat_text bytes =
-    if bytes_eq (folded_text bytes) bytes then bytes else flat_lines [] (folded_text bytes)
+    if bytes_eq (folded_text bytes) bytes then bytes else flat_lines (folded_text bytes)

@@ -1,31 +1,46 @@
 //! A folded text with a space in place of each vertical tab, and with each line in its place.
 
-ghost use Rattle.std.specs.Prelude.{◌≡◌, ◌++◌, [], OnOk, IfOk};
-ghost use Rattle.ud_passes.specs.folding.FlatTexts.{flat_lines, flat_text};
+ghost use Rattle.std.specs.Prelude.{◌≡◌, ◌++◌, OnOk, IfOk};
+ghost use Rattle.ud_passes.specs.folding.FlatTexts.{flat_line, flat_lines, flat_text};
 
 use crate::folding::shown::VERTICAL_TAB;
 use crate::folding::texts::fold;
 use std::alloc::{AllocError, Global};
+use ud_text::line_in;
 
-/// Appends folded lines with a space in place of each vertical tab, and with an empty line for it
-/// after its line.
+/// Appends a folded line with a space in place of each vertical tab, and with an empty line for
+/// each of these after it.
 ///
 /// # Errors
 /// Fails if memory runs out.
-fn append_flat(lines: &[u8], out: &mut Vec<u8>) -> Result<(), AllocError>
-    ensures flat { OnOk result (out.new.items ≡ out.old.items ++ flat_lines [] lines.now) }
+fn append_flat_line(line: &[u8], out: &mut Vec<u8>) -> Result<(), AllocError>
+    ensures { OnOk result (out.new.items ≡ out.old.items ++ flat_line line.now) }
 {
     let mut empty = Vec::new(*out.allocator());
-    for byte in lines {
+    for byte in line {
         if *byte == VERTICAL_TAB {
             out.push(b' ')?;
             empty.push(b'\n')?;
         } else {
             out.push(*byte)?;
-            if *byte == b'\n' {
-                out.append(&mut empty)?;
-            }
         }
+    }
+    out.append(&mut empty)
+}
+
+/// Appends folded lines, each in this way.
+///
+/// # Errors
+/// Fails if memory runs out.
+fn append_flat(lines: &[u8], out: &mut Vec<u8>) -> Result<(), AllocError>
+    ensures { OnOk result (out.new.items ≡ out.old.items ++ flat_lines lines.now) }
+{
+    let mut rest = lines;
+    while !rest.is_empty() {
+        let line = line_in(rest, 1);
+        let (bytes, more) = rest.split_at(line.body.len() + line.ending.len());
+        append_flat_line(bytes, out)?;
+        rest = more;
     }
     Ok(())
 }
