@@ -57,7 +57,7 @@ line_more text start walk out s next more k w e = grind (arith, renumbered, appe
 pub none_restored : (text start : List ℕ) (walk : Walk) → Walked C text [] walk.rest.now walk.scanner → Restored text start walk start
 none_restored text start walk w = grind (arith, append-nil)
 
-lines_read : (acc : List Reading) (ls : List Line) → map (λ (r : Reading). r.line) (readings_after acc (map (in_mode C) ls)) ≡ map (λ (r : Reading). r.line) acc ++ ls
+pub lines_read : (acc : List Reading) (ls : List Line) → map (λ (r : Reading). r.line) (readings_after acc (map (in_mode C) ls)) ≡ map (λ (r : Reading). r.line) acc ++ ls
 lines_read acc [] = sym (append-nil (map (λ (r : Reading). r.line) acc))
 lines_read acc (l ∷ ls) =
     let q : Reading = next_reading acc C l in

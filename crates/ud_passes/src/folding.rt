@@ -11,11 +11,13 @@
 //! text (`Folding.antt`).
 
 mod flat;
+mod laws;
 mod logical;
 mod restored;
 mod shown;
 mod texts;
 
 pub use flat::flatten;
+pub use laws::law_flat_text;
 pub use restored::restore;
 pub use texts::fold;

@@ -18,7 +18,7 @@ mod pruning;
 mod remaining;
 mod walk;
 
-pub use folding::{flatten, fold, restore};
+pub use folding::{flatten, fold, law_flat_text, restore};
 pub use names::Names;
 pub use pruning::{law_pruned_text, prune};
 pub use remaining::{Listing, Remaining};

@@ -5,6 +5,7 @@
 --   flat_line line    the folded line with such bytes, and with such lines after it
 --   flat_lines bytes  the folded lines `bytes`, each in this way
 --   flat_text bytes   the text so, if it has a directive over several lines that folds
+--   placed_lines rs   the lines in the flat text of the logical line `rs`, with their numbers
 --
 -- So a directive has in the flat text the number that it has in the text.
 --
@@ -13,8 +14,9 @@ use Rattle.std.specs.Prelude.{ℕ, List, [], ◌∷◌, ◌++◌, ◌==◌, if�
 use Rattle.std.specs.Prelude.{filter}
 use Rattle.std.specs.List.{flat_map}
 use Rattle.ud_model.specs.text.Bytes.{newline, space}
-use Rattle.ud_model.specs.text.Lines.{texts_of}
-use Rattle.ud_model.specs.output.FoldedTexts.{vertical_tab, folded_text}
+use Rattle.ud_model.specs.text.Lines.{Line, text_of, line_at, texts_of}
+use Rattle.ud_model.specs.text.Scans.{Reading}
+use Rattle.ud_model.specs.output.FoldedTexts.{vertical_tab, folded_line, is_foldable, folded_text}
 
 -- `flat_byte b`: the byte `b`, or a space in place of a vertical tab.
 abbrev pub flat_byte : ℕ → ℕ
@@ -37,3 +39,16 @@ flat_lines bytes = flat_map flat_line (texts_of bytes)
 abbrev pub flat_text : List ℕ → List ℕ
 flat_text bytes =
     if bytes_eq (folded_text bytes) bytes then bytes else flat_lines (folded_text bytes)
+
+-- `empty_at r`: an empty line with the number of the line `r`.
+abbrev pub empty_at : Reading → Line
+empty_at r = record { body = []; ending = newline ∷ []; number = r.line.number }
+
+-- `placed_lines rs`: the lines in the flat text of the logical line with the lines `rs`. If they
+-- are foldable, their folded line has the number of the first, and an empty line that of each
+-- further one. Else they are these lines.
+abbrev pub placed_lines : List Reading → List Line
+placed_lines [] = []
+placed_lines (r ∷ rs) = if is_foldable (r ∷ rs)
+    then line_at r.line.number (map flat_byte (text_of (folded_line (r ∷ rs)))) ∷ map empty_at rs
+    else map (λ (s : Reading). s.line) (r ∷ rs)
