@@ -6,6 +6,7 @@
 --   folds args        the run over a text goes over the folded text
 --   searched_text args output   the text that is searched for those of an output
 --   is_searched args  they are listed or counted
+--   AddsMentions args name output old new   those of an output were counted, and listed
 --   Finds args name output old new   those of an output were added to a report
 --   texts_of table listing args outputs   the list of them in some outputs
 --   count_of table args outputs   how many conditions there are in some outputs
@@ -65,14 +66,20 @@ folds args = args.plan.prunes && may_fold args.plan.run.settings
 abbrev pub searched_text : Arguments → List ℕ → List ℕ
 searched_text args output = if folds args then flat_text output else output
 
+-- `AddsMentions args name output old new`: the mentions in the output for the file `name` were
+-- counted, and listed.
+abbrev pub AddsMentions : Arguments → List ℕ → List ℕ → RemainingState → RemainingState → Type 0
+AddsMentions args name output old new = (calls : List Argument) →
+    TableRepresents args.plan.run.symbols calls →
+    AddsAll calls (mode_of args) name (searched_text args output) old new
+
 -- `Finds args name output old new`: the mentions in the output for the file `name` were added to
 -- the report, if they are wanted. If memory ran out, for this output or an earlier one, the report
 -- records that.
 pub record Finds (args : Arguments) (name output : List ℕ) (old new : ReportState) : Type 0 where
   pub kept : old.has_lost ≡ true → new.has_lost ≡ true
-  pub added : new.has_lost ≡ false → is_searched args ≡ true → (calls : List Argument) →
-      TableRepresents args.plan.run.symbols calls →
-      AddsAll calls (mode_of args) name (searched_text args output) old.remaining new.remaining
+  pub added : new.has_lost ≡ false → is_searched args ≡ true →
+      AddsMentions args name output old.remaining new.remaining
   pub same : is_searched args ≡ false → new.remaining ≡ old.remaining
 
 module _ (table : List Argument) where

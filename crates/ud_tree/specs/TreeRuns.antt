@@ -3,7 +3,8 @@
 --   DoesBy task args name old new result   what a task does with a file
 --   DoesOne args name old new result       what the arguments ask for is done with a file
 --   WritesBy task args name before after update edits   a file was processed by the task
---   DoesJob job files before after counts lists lists'   what is asked for is done with each file
+--   DoesFile job name before after update edits lists lists'   what is asked for is done
+--   DoesJob job files before after counts lists lists'   the same with each file
 --   IsDone args failed files done           which files are processed before a run ends
 --   DoesFiles job files before after counts lists lists'   the same for those
 --   Ending, Tally                           how a run ends, and the numbers of its last lines
@@ -52,7 +53,7 @@ use Rattle.ud_tree.specs.Messages.{output_messages}
 use Rattle.ud_tree.specs.Streams.{StreamEnds, ends_of, Source, TakesInput}
 use Rattle.ud_io.specs.Streams.{Sends}
 use Rattle.ud_tree.specs.Summaries.{last_lines, EndsWith}
-use Rattle.ud_tree.specs.Writing.{Moment, Stage, WritesOne, WritesAll}
+use Rattle.ud_tree.specs.Writing.{Moment, Stage, WritesOne, ProcessesOne, WritesAll}
 use Rattle.ud_tree.specs.Covering.{StandsIn, MissesNone}
 use Rattle.ud_tree.specs.Walks.{IsWalk}
 use Rattle.ud_tree.specs.WalkMessages.{WalkTells, joined, Stops}
@@ -68,6 +69,15 @@ DoesBy Names args = Unshown (ListsOne args.plan args.list_hidden)
 -- `DoesOne args name old new result`: what the arguments ask for is done with the file `name`.
 abbrev pub DoesOne : Arguments → List ℕ → List Call → List Call → FileResult → Type 0
 DoesOne args = DoesBy args.task args
+
+-- `DoesFile job name before after update edits lists lists'`: what the arguments ask for is done
+-- with the file `name`, what is shown of it was written, and what is listed of it was added to
+-- `lists`.
+abbrev pub DoesFile : Job → List ℕ → Stage → Stage → Result Update ReplaceError → Edits →
+    NameLists → NameLists → Type 0
+DoesFile job name before after update edits lists lists' =
+    ProcessesOne job.arguments.now (DoesOne job.arguments.now) name before after update edits
+    lists lists'
 
 -- `WritesBy task args name before after update edits`: the file `name` is replaced or shown, by the
 -- task (`WritesOne`). Nothing is listed of it.

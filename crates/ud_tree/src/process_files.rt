@@ -3,8 +3,8 @@
 ghost use Rattle.std.specs.Prelude.{◌≡◌, true, false};
 ghost use Rattle.ud_tree.specs.Fates.{no_edits};
 ghost use Rattle.ud_tree.specs.Reports.{KeepsScreen};
-ghost use Rattle.ud_tree.specs.TreeRuns.{DoesFiles, DoesOne};
-ghost use Rattle.ud_tree.specs.Writing.{ProcessesOne, stage};
+ghost use Rattle.ud_tree.specs.TreeRuns.{DoesFile, DoesFiles};
+ghost use Rattle.ud_tree.specs.Writing.{stage};
 
 use crate::arguments::{Arguments, Task};
 use crate::counts::{Counts, Edits};
@@ -86,8 +86,8 @@ fn process_file<T: Tree, W: Write, E: Write>(
     requires recorded { job.now.arguments.now.task ≡ Task.Replace →
         job.now.arguments.now.show_changes ≡ true → out.old.failed ≡ false }
     requires lists { names.old.lists_hidden ≡ job.now.arguments.now.list_hidden }
-    ensures writes { ProcessesOne job.now.arguments.now (DoesOne job.now.arguments.now)
-        file.entry.name.now (stage T.history W.contents tree.old out.old report.old)
+    ensures writes { DoesFile job.now file.entry.name.now
+        (stage T.history W.contents tree.old out.old report.old)
         (stage T.history W.contents tree.new out.new report.new) result edits.new
         names.old names.new }
     ensures screen { KeepsScreen report.old report.new }

@@ -12,10 +12,7 @@ ghost use Rattle.ud_replace.specs.Calls.{met};
 ghost use Rattle.ud_tree.specs.Messages.{IsFailureOf, IsTextMessage, fault_line, locked_line};
 ghost use Rattle.ud_tree.specs.Reports.{KeepsScreen, ReportsOf, ReportsOne, Says, Tells, TellsOf};
 ghost use Rattle.ud_tree.specs.Reports.{counted, new_report};
-ghost use Rattle.ud_model.specs.conditions.Table.{Argument};
-ghost use Rattle.ud_cond.specs.symbols.SymbolTable.{TableRepresents};
-ghost use Rattle.ud_passes.specs.remaining.RemainingLists.{AddsAll};
-ghost use Rattle.ud_tree.specs.Remainders.{listing_of, mode_of, searched_text, Finds};
+ghost use Rattle.ud_tree.specs.Remainders.{listing_of, AddsMentions, Finds};
 ghost use Rattle.ud_io.specs.Streams.{Sends, stream_of};
 ghost use Rattle.ud_tree.specs.Summaries.{line_of};
 ghost use Rattle.ud_tree.specs.WalkMessages.{IsRefusal};
@@ -235,11 +232,8 @@ impl<E: Write> Report<E> {
     fn add(&mut self, job: &Job<'_>, name: &[u8], output: &[u8]) -> Result<(), AllocError>
         ensures screen { KeepsScreen self.old self.new }
         ensures lost { self.new.has_lost ≡ self.old.has_lost }
-        ensures added { OnOk result ((calls : List Argument) →
-            TableRepresents job.now.arguments.now.plan.run.symbols calls →
-            AddsAll calls (mode_of job.now.arguments.now) name.now
-            (searched_text job.now.arguments.now output.now) self.old.remaining
-            self.new.remaining) }
+        ensures added { OnOk result (AddsMentions job.now.arguments.now name.now output.now
+            self.old.remaining self.new.remaining) }
     {
         let symbols = job.arguments.plan.run.symbols();
         if !job.folds() {
