@@ -37,8 +37,7 @@ module _ (t u : List Argument) where
 
   -- The name resolves to the same text by both tables.
   end_alike : (n : List ℕ) → Alike n → resolve t n ≡ resolve u n
-  end_alike n h =
-      same_by (resolve t n) (resolve u n) (λ v e. end_found u n v (ends_over n v h (end_is t n v e))) (λ v e. end_found t n v (ends_back n v h (end_is u n v e)))
+  end_alike n h = search (rules, same_by, end_found, ends_over, end_is, ends_back)
 
   pub name_value_alike : (b : Bool) (n : List ℕ) → Alike n → name_value t b n ≡ name_value u b n
   unfolding name_value

@@ -1,7 +1,7 @@
 -- Changed: some line of a text differs exactly if the output isn't the input.
 use Rattle.std.proofs.Common.{◌≡◌, ℕ, ◌+◌, ◌≤◌, List, [], ◌∷◌, ◌++◌, length, map, Bool, true, false, not, ◌&&◌, bytes_eq, Option, None, refl, sym, ◌∙◌, ap, ap₂, subst, arith, append-nil, append_assoc, length-append, rules}
 use Rattle.std.specs.List.{concat}
-use Rattle.ud_model.specs.text.Lines.{Line, text_of, texts_of, lines_of}
+use Rattle.ud_model.specs.text.Lines.{Line, text_of, lines_of}
 use Rattle.ud_model.specs.text.Scans.{Reading}
 use Rattle.ud_model.specs.sections.Directives.{content_of}
 use Rattle.ud_model.specs.text.Scanning.{scan_after}
@@ -199,7 +199,7 @@ whole_lines_are xs ms h = grind arith
 
 -- The lines of a text, joined, are the text.
 pub lines_join : (input : List ℕ) → concat (map text_of (lines_of input)) ≡ input
-lines_join input = ap (λ (ls : List (List ℕ)). concat ls) (map-numbered_from 1 (texts_of input)) ∙ sym (lines_exist input).joined
+lines_join input = search (rules, map-numbered_from, lines_exist)
 
 module _ (s : Settings) (n : s.renumber ≡ false) where
   closed_differs : (input : List ℕ) (ns : Nodes Reading) → Each HasKeyword (lines_of_nodes ns) → map line_of (lines_of_nodes ns) ≡ lines_of input →

@@ -211,7 +211,7 @@ module _ (o : Options) (m : Mode) (b n : Bool) (some : (b || n) ≡ true) where
     line_j = ap (λ (r : Reading). r.line) (reading_of-item_of o (read_after xs m l))
 
     js_u : so_far (xs ++ x ∷ []) u ≡ so_far xs t ++ j ∷ []
-    js_u = ap (λ (ms : List Mark). judged_lines (xs ++ x ∷ []) ms) k.more ∙ judged_more xs (x ∷ []) (marks t) (k.grown.mark ∷ []) k.long
+    js_u = search (rules, judged_more)
 
     shown_u : shown (so_far (xs ++ x ∷ []) u) ≡ shown (so_far xs t) ++ piece_of b n (so_far xs t) j
     shown_u = ap shown js_u ∙ printed-more (piece_of b n) (so_far xs t) j
@@ -361,7 +361,7 @@ module _ (o : Options) (m : Mode) (b n : Bool) (some : (b || n) ≡ true) where
     counted_gone f = subst (λ (js : List Judged). Counted js (map reading_of s.ys) (map reading_of s.zs) s.next) (sym js_u) (goes s.counted j (removed_j f))
 
     same_gone : piece_of b n (so_far xs t) j ≡ [] → concat s.qs ≡ shown (so_far (xs ++ x ∷ []) u)
-    same_gone g = s.same ∙ sym (append-nil (shown (so_far xs t))) ∙ ap (λ (c : List ℕ). shown (so_far xs t) ++ c) (sym g) ∙ sym shown_u
+    same_gone g = search (rules, append-nil, shown_u)
 
     not_blank : b ≡ false → v ≡ Remove → (b ≡ true) ⊎ (ends_removed (marks u) ≡ false) → ⊥
     not_blank f g h = grind (arith, removed_u)

@@ -1,6 +1,6 @@
 -- The pieces of a text are lines: each ends with a newline and has no other one, but perhaps the
 -- last piece.
-use Rattle.std.proofs.Common.{◌≡◌, ◌≢◌, ℕ, ◌+◌, ◌-◌, List, [], ◌∷◌, ◌++◌, length, take, drop, ◌⊎◌, inl, inr, Bool, true, false, codes, ◌==◌, ◌||◌, if◌then◌else◌, nat_eq, refl, sym, ◌∙◌, ap, ap₂, subst, append_assoc, append-nil, arith, length-append}
+use Rattle.std.proofs.Common.{◌≡◌, ◌≢◌, ℕ, ◌+◌, ◌-◌, List, [], ◌∷◌, ◌++◌, length, take, drop, ◌⊎◌, inl, inr, Bool, true, false, codes, ◌==◌, ◌||◌, if◌then◌else◌, nat_eq, refl, sym, ◌∙◌, ap, ap₂, subst, append_assoc, append-nil, arith, length-append, rules}
 use Rattle.std.proofs.lemmas.Bool.{or_parts}
 use Rattle.std.specs.List.{ends_with}
 use Rattle.std.proofs.lemmas.Bool.Decides.{Decides-eqb}
@@ -147,7 +147,7 @@ module _ (q : ℕ) where
 
   -- A list that ends in another byte doesn't.
   pub not_end : (a d : List ℕ) (z : ℕ) → (z == q) ≡ false → EndsIn q (a ++ (d ++ z ∷ [])) → ⊥
-  not_end a d z f h = let e : true ≡ false = sym ((Decides-eqb q q).1 refl) ∙ sym (ap (λ (y : ℕ). y == q) (end_back a d z h)) ∙ f in cc
+  not_end a d z f h = search (rules, end_back)
 
   end_drop : (n : ℕ) (b : List ℕ) → EndsIn q (drop n b) → EndsIn q b
   unfolding EndsIn

@@ -1,5 +1,5 @@
 -- The outcome of a text in parts is that of its first part, and then that of its second one.
-use Rattle.std.proofs.Common.{◌≡◌, ◌≢◌, ℕ, suc, ◌+◌, ◌≤◌, List, [], ◌∷◌, ◌++◌, length, map, Bool, true, false, not, ◌||◌, bytes_eq, Option, None, refl, sym, ◌∙◌, ap, ap₂, subst, append_assoc, append-nil, ◌⊎◌, inl, inr, arith}
+use Rattle.std.proofs.Common.{◌≡◌, ◌≢◌, ℕ, suc, ◌+◌, ◌≤◌, List, [], ◌∷◌, ◌++◌, length, map, Bool, true, false, not, ◌||◌, bytes_eq, Option, None, refl, sym, ◌∙◌, ap, ap₂, subst, append_assoc, append-nil, ◌⊎◌, inl, inr, arith, rules}
 use Rattle.std.proofs.lemmas.List.{map-append}
 use Rattle.std.proofs.lemmas.List.Folds.{concat-append}
 use Rattle.ud_model.specs.text.Lines.{Line, text_of, lines_of, numbered_from, partial_line, AreWhole}
@@ -222,7 +222,7 @@ module _ (o : Options) (text more : List ℕ) (p : MayBeParts o text more) where
 -- The outcome of both parts.
 pub outcome_in_parts : (o : Options) (text more : List ℕ) (r s : Outcome) → MayBeParts o text more → HasOutcome o text r → r.fault ≡ None →
     HasOutcome o more s → HasOutcome o (text ++ more) (in_parts (length (lines_of text)) r s)
-outcome_in_parts o text more _ s p (ran_as {xs = xs} {t = t} {f = f} a) e b = let h = reads_none a e in grind (arith, e, by_reading)
+outcome_in_parts o text more _ s p (ran_as {xs = xs} {t = t} {f = f} a) e b = search (rules, reads_none, by_reading)
 
 -- The status of a fault is that of the later fault.
 status_failed : (s : Settings) (n : ℕ) (d e : Bool) (f : Option Fault) → status_of s e f ≡ 2 → status_of s d (fault_if_later n f) ≡ 2

@@ -1,5 +1,5 @@
 -- The lines of the output for a text are those of its pruned nodes.
-use Rattle.std.proofs.Common.{◌≡◌, List, [], ◌∷◌, ◌++◌, length, Bool, true, false, Some, None, refl, sym, ◌∙◌, ap, ap₂, arith, append-nil, append_assoc, length-append}
+use Rattle.std.proofs.Common.{◌≡◌, List, [], ◌∷◌, ◌++◌, length, Bool, true, false, Some, None, refl, sym, ◌∙◌, ap, ap₂, arith, append-nil, append_assoc, length-append, rules}
 use Rattle.ud_model.specs.declared.cond.Cond.{Cond}
 use Rattle.ud_model.specs.declared.cond.Cond.TheVariants.{Yes}
 use Rattle.ud_model.specs.declared.verdict.Verdict.{Verdict}
@@ -191,4 +191,4 @@ module _ {L : Type 0} where
 
   -- The output for the lines of nodes is the lines of the pruned nodes.
   pub printed-pruned : (ns : Nodes L) → printed (lines_of_nodes ns) (marks (closed ns)) ≡ lines_of_nodes (folded ns)
-  printed-pruned ns = ap (λ (ms : List Mark). printed (lines_of_nodes ns) ms) (marks_so_far_same true (closed ns)) ∙ nodes_printed ns
+  printed-pruned ns = search (rules, marks_so_far_same, nodes_printed)

@@ -1,5 +1,5 @@
 -- The pruned tree is what the table leaves of each section and its groups.
-use Rattle.std.proofs.Common.{◌≡◌, List, [], ◌∷◌, ◌++◌, Bool, true, false, Some, None, if◌then◌else◌, refl, sym, ◌∙◌, ap, ap₂, subst, append_assoc, append-nil, arith}
+use Rattle.std.proofs.Common.{◌≡◌, List, [], ◌∷◌, ◌++◌, Bool, true, false, Some, None, if◌then◌else◌, refl, sym, ◌∙◌, ap, ap₂, subst, append_assoc, append-nil, arith, rules}
 use Rattle.std.specs.Prelude.{◌↔◌}
 use Rattle.std.proofs.lemmas.Bool.{both_ways}
 use Rattle.ud_model.specs.declared.cond.Cond.{Cond}
@@ -278,7 +278,7 @@ module _ {M : Type 0} where
 
 module _ {L : Type 0} where
   join3 : (a b c d : List (Item (Edited L))) (k j : List (Item (Edited L))) → a ≡ b → c ≡ d → k ≡ j → (a ++ c) ++ k ≡ (b ++ d) ++ j
-  join3 a b c d k j e f g = ap₂ (λ (x y : List (Item (Edited L))). x ++ y) (ap₂ (λ (x y : List (Item (Edited L))). x ++ y) e f) g
+  join3 a b c d k j e f g = search rules
 
   mutual
     -- The table leaves the same lines in one way.

@@ -1,6 +1,6 @@
 -- Trees that differ in their lines alone: the same openers are reached if they have the same
 -- truths.
-use Rattle.std.proofs.Common.{◌≡◌, List, [], ◌∷◌, ◌++◌, map, Bool, None, option_map, sym, ◌∙◌, ap, ap₂, subst}
+use Rattle.std.proofs.Common.{◌≡◌, List, [], ◌∷◌, ◌++◌, map, Bool, None, sym, ◌∙◌, ap, ap₂, subst, rules}
 use Rattle.std.proofs.lemmas.List.{map-append}
 use Rattle.ud_model.specs.sections.Tree.{Opener, Nodes, Groups, Elifs, nothing, text, section, conditional, otherwise, first, elif, opener_with_line, with_lines, groups_with_lines, elifs_with_lines}
 use Rattle.ud_model.specs.output.Worlds.{World, selected_elifs, openers, openers_of_groups, openers_of_elifs, EachReached, GroupsReached, ElifsReached}
@@ -20,7 +20,7 @@ module _ {L K M : Type 0} (f : L → M) (g : K → M) (v : World L) (w : World K
   -- No group is processed of the one if none is of the other.
   none_alike : (es : Elifs L) (ds : Elifs K) → elifs_with_lines f es ≡ elifs_with_lines g ds → map v (openers_of_elifs es) ≡ map w (openers_of_elifs ds) →
       selected_elifs v es ≡ None → selected_elifs w ds ≡ None
-  none_alike es ds e t h = map_none (map g) (selected_elifs w ds) (sym (same_elifs f g v w es ds e t) ∙ ap (option_map (map f)) h)
+  none_alike es ds e t h = search (rules, map_none, same_elifs)
 
   mutual
     -- A property of each opener that is reached in the one tree is one in the other.

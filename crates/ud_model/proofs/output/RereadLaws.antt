@@ -139,7 +139,7 @@ kept_conditions (e ∷ es) h = grind (arith, kept_conditions es h.1)
 -- The truths of the openers of the folded nodes.
 truths_folded : (w : World Reading) (before : Nodes Reading) (v : World Reading) (after : Nodes Reading) → KeepsTruths w before v after →
     map v (openers after) ≡ map (λ (e : Edited Reading). w e.line) (openers (folded before))
-truths_folded w before v after t = t ∙ ap (λ (l : List (Edited Reading)). map (λ (e : Edited Reading). w e.line) l) (pruned_openers before)
+truths_folded w before v after t = search (rules, pruned_openers)
 
 module _ (k : CleanRun) where
   -- The output has the rest of the input.

@@ -1,6 +1,6 @@
 -- Two tables give C the same choices for the conditions of nodes if they differ at a name alone that
 -- no condition has.
-use Rattle.std.proofs.Common.{◌≡◌, ◌≢◌, ◌↔◌, ℕ, List, [], ◌∷◌, ◌++◌, Bool, Some, Option, sym, ◌∙◌, subst, arith}
+use Rattle.std.proofs.Common.{◌≡◌, ◌≢◌, ◌↔◌, ℕ, List, [], ◌∷◌, ◌++◌, Bool, Some, Option, sym, ◌∙◌, subst, arith, rules}
 use Rattle.std.proofs.lemmas.List.Elements.{Contains-append_left, Contains-append_right}
 use Rattle.std.specs.List.{Contains, flat_map}
 use Rattle.ud_model.specs.text.Scans.{Reading}
@@ -96,7 +96,7 @@ module _ (t u : List Argument) (name : List ℕ) (none : IsNoValue t name) (same
 
   -- A condition without the name.
   signs_alike : (o : Option Expression) → Each (Alike t u) (names_in_tree o) → (e : Expression) → o ≡ Some e → has_unsigned t e ≡ has_unsigned u e
-  signs_alike o h e is = has_unsigned_alike t u e (subst (λ (x : Option Expression). Each (Alike t u) (names_in_tree x)) is h)
+  signs_alike o h e is = search (rules, has_unsigned_alike)
 
   over : (w : World Reading) (r : Reading) → Each (Alike t u) (names_in_tree (condition_in r)) → May t w r → May u w r
   over w r h = may_be_over t u (condition_in r) (w r) (signs_alike (condition_in r) h) (each_same (names_in_tree (condition_in r)) h)

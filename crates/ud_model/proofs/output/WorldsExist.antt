@@ -1,5 +1,5 @@
 -- The lines of a text have numbers of their own, so its openers can be given any truths.
-use Rattle.std.proofs.Common.{◌≡◌, ℕ, suc, ◌≤◌, ◌<◌, ◌==◌, List, [], ◌∷◌, length, map, Bool, true, if◌then◌else◌, refl, ◌∙◌, ap, ap₂, subst, arith}
+use Rattle.std.proofs.Common.{◌≡◌, ℕ, suc, ◌≤◌, ◌<◌, ◌==◌, List, [], ◌∷◌, length, map, Bool, true, if◌then◌else◌, refl, ◌∙◌, ap, ap₂, arith, rules}
 use Rattle.std.proofs.lemmas.Bool.{eq-eqb}
 use Rattle.ud_model.specs.text.Lines.{Line, line_at, numbered_from, lines_of, texts_of}
 use Rattle.ud_model.specs.text.Scans.{Reading}
@@ -55,7 +55,7 @@ truths_by n rs bs e h = absurd (omega arith)
 -- The openers of nodes whose lines have rising numbers can be given any truths.
 pub world_by : (n : ℕ) (ns : Nodes Reading) (bs : List Bool) → Rise n (map reading_of (lines_of_nodes ns)) → length bs ≡ length (openers ns) →
     (v : World Reading) × (map v (openers ns) ≡ bs)
-world_by n ns bs h l = truths_by n (openers ns) bs l (subst (Rise n) (openers_lines ns) (openers_rise n (lines_of_nodes ns) h))
+world_by n ns bs h l = search (rules, truths_by, openers_lines, openers_rise)
 
 -- The lines of a text have rising numbers.
 pub text_rise : (bytes : List ℕ) (ns : Nodes Reading) → map line_of (lines_of_nodes ns) ≡ lines_of bytes → Rise 1 (map reading_of (lines_of_nodes ns))

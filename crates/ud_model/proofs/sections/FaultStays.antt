@@ -56,7 +56,7 @@ limit_grows o xs t n r x f h =
     longer = line_of-next_item o xs t (line_at n (r ++ x))
 
     bytes : (s : List ℕ) → length (text_of (line_of (next_item o xs t (line_at n s)))) ≡ length s
-    bytes s = ap (λ (l : Line). length (text_of l)) (line_of-next_item o xs t (line_at n s)) ∙ ap (λ (q : List ℕ). length q) (text_of-line_at n s)
+    bytes s = search (rules, line_of-next_item, text_of-line_at)
 
 -- Further lines after the faulty one leave the fault.
 pub stops_at-append : (o : Options) (ls ms : List Line) (xs : List (Item Reading)) (t : Tree Reading) (f : Fault) →
