@@ -18,8 +18,7 @@ use Rattle.ud_cond.specs.expressions.ResidualReading.{Kept, leaf, unary_kept, jo
 -- kept parts with the same fields
 kept_same : {k j : Kept} → k.value ≡ j.value → k.number ≡ j.number → k.cond ≡ j.cond → k.lost ≡ j.lost →
     k.left_alone ≡ j.left_alone → k.alone ≡ j.alone → k.flags ≡ j.flags → k ≡ j
-kept_same v n c l a b f =
-    λ i. record { value = v i; number = n i; cond = c i; lost = l i; left_alone = a i; alone = b i; flags = f i }
+kept_same v n c l a b f = grind arith
 
 -- flags of one kind
 same_length : {A B : Type 0} (xs : List A) (ys : List B) → SameLength xs ys → length xs ≡ length ys

@@ -14,8 +14,7 @@ use Rattle.ud_cond.specs.expressions.ResidualReading.{is_joining, is_not, Kept, 
 -- parts with the same fields
 pub part_same : {p q : Part} → p.value ≡ q.value → p.number ≡ q.number → p.cond ≡ q.cond → p.lost ≡ q.lost →
     p.left_alone ≡ q.left_alone → p.alone ≡ q.alone → p.whole ≡ q.whole → p.first ≡ q.first → p.kept ≡ q.kept → p ≡ q
-part_same v n c l a b w f k =
-    λ i. record { value = v i; number = n i; cond = c i; lost = l i; left_alone = a i; alone = b i; whole = w i; first = f i; kept = k i }
+part_same v n c l a b w f k = grind arith
 
 -- how many tokens are lost before the first one that is kept
 pub lost-replicate : (n : ℕ) (xs : List Bool) → n + lost_len xs ≡ lost_len (replicate n false ++ xs)
