@@ -36,8 +36,7 @@ there None n (w ∷ ws) o e = go (bytes_eq w (codes "--")) (is_operand w) (there
 
 -- The operand of a command line has the bytes of the argument at its index.
 pub operand_there : (args : List (List ℕ)) (o : Operand) → operand_in (parsed_args args) ≡ Some o → slice_get args o.index ≡ Some o.name
-operand_there args o e =
-    let h = there None 0 args o e in
+operand_there args o e = let h = there None 0 args o e in
     let at = h.1 in
     let same : o.index ≡ h.0 = omega (arith, at) in
     subst (λ k. slice_get args k ≡ Some o.name) (sym same) h.2

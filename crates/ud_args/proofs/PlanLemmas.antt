@@ -113,8 +113,7 @@ record SymbolIn (gs : List ParsedArg) : Type 0 where
 symbol_by : (g : ParsedArg) (gs : List ParsedArg) (o : Option Argument) → argument_in g ≡ o → ((filter_map argument_in gs ≡ [] → ⊥) → SymbolIn gs)
     → (filter_map argument_in (g ∷ gs) ≡ [] → ⊥) → SymbolIn (g ∷ gs)
 symbol_by g gs (Some a) e further some = record { before = []; symbol = g; more = gs; is = refl; sets = subst IsSome (sym e) refl }
-symbol_by g gs None e further some =
-    let later : SymbolIn gs = further (λ none. some (rw e none)) in
+symbol_by g gs None e further some = let later : SymbolIn gs = further (λ none. some (rw e none)) in
     record { before = g ∷ later.before; symbol = later.symbol; more = later.more; is = ap (λ (hs : List ParsedArg). g ∷ hs) later.is; sets = later.sets }
 
 -- options that give symbols have one that does

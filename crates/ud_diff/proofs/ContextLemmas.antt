@@ -28,8 +28,7 @@ length-between ls i j h within = grind (arith, between_few, length-map)
 
 -- Lines that are kept at each position are kept.
 pub kept_range : (ls : List DiffLine) (i j : ℕ) → KeptAt ls i j → AreKept (between i j ls)
-kept_range ls i j h =
-    All-map IsKept signed (take (j - i) (drop i ls))
+kept_range ls i j h = All-map IsKept signed (take (j - i) (drop i ls))
     (λ k d within. let few : length (take (j - i) (drop i ls)) ≡ min (j - i) (length ls - i) = between_few ls i (j - i) in
     subst (λ (l : DiffLine). is_change l.sign ≡ false) (sym (between_at ls i (j - i) k d (omega arith))) (h (i + k) d (omega arith) (omega arith) (omega arith)))
 
@@ -46,8 +45,7 @@ kept_at ls i j h k d low high within =
 
 -- The lines between two positions, parted at a third.
 pub between_parts : (ls : List DiffLine) (i j k : ℕ) → i ≤ j → j ≤ k → between i k ls ≡ between i j ls ++ between j k ls
-between_parts ls i j k low high =
-    let so_many : k - i ≡ (j - i) + (k - j) = omega arith in
+between_parts ls i j k low high = let so_many : k - i ≡ (j - i) + (k - j) = omega arith in
     let so_far : i + (j - i) ≡ j = omega arith in
     ap signed_lines (ap (λ (n : ℕ). take n (drop i ls)) so_many ∙ take-add (j - i) (k - j) (drop i ls)
     ∙ ap (λ (xs : List DiffLine). take (j - i) (drop i ls) ++ take (k - j) xs)
@@ -108,8 +106,7 @@ changes_more ls at last d within is h = record {
 }
   where
     by_order : (0 < at) ⊎ (at ≤ 0) → AreChanges (between 0 (at + 1) ls)
-    by_order (inl later) =
-        let reached = h.reached in
+    by_order (inl later) = let reached = h.reached in
         let near = h.near in
         let few : length (between last at ls) ≡ at - last = length-between ls last at reached (omega arith) in
         subst AreChanges
@@ -117,8 +114,7 @@ changes_more ls at last d within is h = record {
         ∙ ap (λ (xs : List SignedLine). between 0 last ls ++ xs) (sym (between_parts ls last at (at + 1) reached (omega arith)))
         ∙ sym (between_parts ls 0 last (at + 1) (omega arith) (omega arith)))
         (more (between 0 last ls) (between last at ls) (signed (get_or ls at d)) (h.changed later) (kept_range ls last at h.kept) (omega arith) is)
-    by_order (inr first) =
-        let zero_is : at ≡ 0 = omega arith in
+    by_order (inr first) = let zero_is : at ≡ 0 = omega arith in
         subst (λ (n : ℕ). AreChanges (between n (at + 1) ls)) zero_is (subst AreChanges (sym (between_one ls at d within)) (one (signed (get_or ls at d)) is))
 
 -- The first of lines that begin with a change isn't kept.

@@ -38,8 +38,7 @@ gives_nothing false n e = refl
 
 -- If no line is a change, all are kept ones.
 pub kept_none : (ls : List DiffLine) → position (λ (l : DiffLine). is_change l.sign) ls ≡ None → AreKept (signed_lines ls)
-kept_none ls e =
-    let far : length ls ≤ position_or_len (λ (l : DiffLine). is_change l.sign) ls =
+kept_none ls e = let far : length ls ≤ position_or_len (λ (l : DiffLine). is_change l.sign) ls =
     ltb-false (position_or_len (λ (l : DiffLine). is_change l.sign) ls) (length ls)
     (gives_nothing (ltb (position_or_len (λ (l : DiffLine). is_change l.sign) ls) (length ls)) (position_or_len (λ (l : DiffLine). is_change l.sign) ls) e) in
     All-map IsKept signed ls (λ k d low. fails_before_first (λ (l : DiffLine). is_change l.sign) ls k d (omega arith))
@@ -52,8 +51,7 @@ kept_rest script from e = subst (λ (xs : List DiffLine). AreKept (signed_lines 
 -- The lines up to the first change are kept ones.
 kept_before : (script : List DiffLine) (from first : ℕ) → position (λ (l : DiffLine). is_change l.sign) (drop from script) ≡ Some first →
     AreKept (between from (from + first) script)
-kept_before script from first e =
-    kept_range script from (from + first)
+kept_before script from first e = kept_range script from (from + first)
     (λ k d low high within. let so_far : from + (k - from) ≡ k = omega arith in
     subst (λ (n : ℕ). is_change (get_or script n d).sign ≡ false) so_far
     (subst (λ (l : DiffLine). is_change l.sign ≡ false) (get_or-drop from script (k - from) d)

@@ -85,8 +85,7 @@ makes _ _ _ _ _ (next m n h hunks ls old new a b r) =
 
 -- Hunks that turn a text into another one make that of it.
 turns_makes : (hunks : List Hunk) (old new : List (List ℕ)) → Turns hunks old new → patched hunks old ≡ Some new
-turns_makes hunks old new t =
-    makes 0 0 hunks old new
+turns_makes hunks old new t = makes 0 0 hunks old new
     (subst (λ (hs : List Hunk). TurnsFrom 0 0 hs old new) (append-nil hunks)
     (turns_cast (append-nil old) (append-nil new) (turns_then hunks old new t [] [] [] (done (length old) (length new) []))))
 

@@ -114,8 +114,7 @@ begins_in_context ls at start end m n next clear a b =
         let far : at + context + 1 ≤ next.first = changes_far ls at start end next clear some in
         let starts = next.starts in
         absurd (omega arith)
-    by_order (inr none) short =
-        let starts = next.starts in
+    by_order (inr none) short = let starts = next.starts in
         let old : upto is_old ls at ≤ at = side_few is_old ls at in
         let new : upto is_new ls at ≤ at = side_few is_new ls at in (omega arith, omega arith)
 
@@ -163,8 +162,7 @@ passed_before ls at start end m n h next clear a b passed =
 
 -- A line is clear after the next hunk.
 clear_after : (ls : List DiffLine) (at start end : ℕ) → IsNextHunk ls at start end → IsClear ls end
-clear_after ls at start end next some =
-    let ends = next.ends in
+clear_after ls at start end next some = let ends = next.ends in
     kept_range ls end (end + context + 1) (λ k d low high inside. kept_at ls next.last (next.last + gap) next.later k d (omega arith) (omega arith) inside)
 
 -- The hunks so far, and the next one, which is appended with the numbers of lines before it.

@@ -39,8 +39,7 @@ judged_line-append (x ∷ xs) ys (m ∷ ms) ns e =
 pieces_by-append : (piece : List Judged → Judged → List ℕ) (before js ks : List Judged) →
     pieces_by piece before (js ++ ks) ≡ pieces_by piece before js ++ pieces_by piece (before ++ js) ks
 pieces_by-append piece before [] ks = ap (λ bs. pieces_by piece bs ks) (sym (append-nil before))
-pieces_by-append piece before (j ∷ js) ks =
-    ap (λ ps. piece before j ∷ ps)
+pieces_by-append piece before (j ∷ js) ks = ap (λ ps. piece before j ∷ ps)
     (pieces_by-append piece (before ++ j ∷ []) js ks
     ∙ ap (λ bs. pieces_by piece (before ++ j ∷ []) js ++ pieces_by piece bs ks) (append_assoc before (j ∷ []) js))
 
@@ -142,8 +141,7 @@ module _ {S : Type 0} (represents : S → List Judged → Type 0) (piece_of : S 
           lister = same_lister ∙ h.lister;
           shown = λ f. subst (λ s. represents s (judged_lines (xs ++ one.items) (marks one.tree))) (sym same_printer) (subst (represents p.printer) (sym all) shown.1);
           stays = λ bs j. ap (λ s. piece_of s bs j) same_printer ∙ h.stays bs j;
-          differs =
-              differs ∙ ap (λ d. d || other) h.differs
+          differs = differs ∙ ap (λ d. d || other) h.differs
               ∙ subst (λ (l : Listing). (differs_in l piece xs t || other) ≡ differs_in l piece (xs ++ one.items) one.tree) (sym off)
               (sym (ap (λ js. some_other (pieces_by piece [] js) js) all ∙ ap (λ ps. some_other ps (before ++ next)) pieces
               ∙ differ-append piece [] before next (map own ls) ∙ ap (λ d. some_other (pieces_by piece [] before) before || d) others));

@@ -1,7 +1,5 @@
 -- The state of a line decider after a line.
-use Rattle.std.proofs.Common.{arith}
-use Rattle.std.proofs.Common.{◌≡◌, List, [], ◌∷◌, ◌++◌, map, Result, Ok, Err, Option, Some, None}
-use Rattle.std.proofs.Common.{IfOk, IfErr, OnOk, OnErr, sym, ◌∙◌, ap, subst}
+use Rattle.std.proofs.Common.{arith, ◌≡◌, List, [], ◌∷◌, ◌++◌, map, Result, Ok, Err, Option, Some, None, IfOk, IfErr, OnOk, OnErr, sym, ◌∙◌, ap, subst}
 use Rattle.ud_model.specs.text.Lines.{Line}
 use Rattle.ud_model.specs.text.Scans.{Reading}
 use Rattle.ud_model.specs.text.Scanning.{next_reading}
@@ -27,8 +25,7 @@ module _ (o : Options) (new : TheReader) (xs : List (Item Reading)) (t : Tree Re
   has_next u read no_fault carries = record {
     read = read;
     no_fault = no_fault;
-    carries =
-        subst (ScannerRepresents new.scanner)
+    carries = subst (ScannerRepresents new.scanner)
         (ap (λ k. map reading_of xs ++ next_reading (map reading_of xs) k l ∷ []) m ∙ sym (readings_more o xs t l)) carries;
   }
 

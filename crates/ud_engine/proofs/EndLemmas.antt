@@ -35,8 +35,7 @@ module _ {S : Type 0} (represents : S → List Judged → Type 0) (piece_of : S 
   module _ (some : 0 < length e.lines.held) (lines : LinesState) (closed : lines ≡ record e.lines { closed = true }) (l : Line) (is : l ≡ line_at (suc lines.before) lines.held) where
     -- The buffered bytes are the last line.
     pub last_is : lines_of text ≡ lines_so_far text ++ l ∷ []
-    last_is =
-        ap (numbered_from 1)
+    last_is = ap (numbered_from 1)
         (ap (λ (r : List ℕ). whole_lines text ++ last_line r) (rest_is represents piece_of o piece e text printed h)
         ∙ ap (λ (ls : List (List ℕ)). whole_lines text ++ ls) (last_line-some e.lines.held (λ none. let z = ap length none in omega (arith, z, some))))
         ∙ numbered_from-next (whole_lines text) e.lines.held []

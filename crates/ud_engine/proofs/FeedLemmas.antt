@@ -8,12 +8,11 @@ use Rattle.ud_model.specs.answer.Outcomes.{lines_so_far}
 use Rattle.ud_model.specs.declared.settings.Listing.{Listing}
 use Rattle.ud_model.specs.declared.limits.TheConstants.{TEXT_LINES}
 use Rattle.ud_text.specs.lines.LinesState.{LinesState}
-use Rattle.ud_faults.specs.Faults.{fault_of}
+use Rattle.ud_faults.specs.Faults.{fault_of, limit_of}
 use Rattle.ud_faults.specs.declared.run.RunFault.{RunFault}
 use Rattle.ud_faults.specs.declared.run.RunFault.TheVariants.{Text, Section, Read, Write}
 use Rattle.ud_engine.specs.Advancing.{Advances, StepFails, slice_between}
 use Rattle.ud_engine.specs.Feeding.{EngineState, IsOpen, EngineRepresentsBuffered, EngineRepresents, Session, IsInSession, Continues, FaultsAfter, PrintsPrefix, FeedFails, Feeds, WriterMatches}
-use Rattle.ud_faults.specs.Faults.{limit_of}
 use Rattle.ud_engine.specs.ProcessedLines.{text_by}
 use Rattle.ud_engine.specs.FaultEffects.{OutputUnchanged, result_after}
 use Rattle.ud_io.specs.Watched.{WatchedState}

@@ -166,8 +166,7 @@ module _ {S : Type 0} (represents : S → List Judged → Type 0) (piece_of : S 
 
   -- The next bytes pass a limit.
   pub limit_stops : (rest : List ℕ) (f : TextFault) → BreaksLimit e.lines rest f → FaultsAfter o piece (text ++ rest) printed (limit_of f)
-  limit_stops rest (TooManyLines line) r =
-      let b = before_is in
+  limit_stops rest (TooManyLines line) r = let b = before_is in
       let k = h.opened.limit in
       let past = r.1 in
       let is = r.0 in
@@ -176,8 +175,7 @@ module _ {S : Type 0} (represents : S → List Judged → Type 0) (piece_of : S 
       (past_fault h.items (next_item o h.items h.tree (line_at (suc (length (whole_lines text))) (e.lines.held ++ take r.2.0 rest)))
       (line_at (suc (length (whole_lines text))) (e.lines.held ++ take r.2.0 rest)) line (reading_of-next o h.items h.tree _)
       (omega (arith, b, is)) (omega (arith, b, k, past, is)))
-  limit_stops rest (LineTooLong line) r =
-      let b = before_is in
+  limit_stops rest (LineTooLong line) r = let b = before_is in
       let k = h.opened.limit in
       let fits = r.1 in
       let is = r.0 in
@@ -196,14 +194,12 @@ module _ {S : Type 0} (represents : S → List Judged → Type 0) (piece_of : S 
 
   -- The buffered bytes pass no limit.
   no_limit : (w : Case) → IsLimit w → 0 < length e.lines.held → Holds h.items (next_item o h.items h.tree (line_so_far text)) w → ⊥
-  no_limit _ by_lines some k =
-      let b = before_is in
+  no_limit _ by_lines some k = let b = before_is in
       let n = h.begun some in
       let past : TEXT_LINES < suc (length (whole_lines text)) =
       subst (λ (l : Line). TEXT_LINES < l.number) (reading_of-next o h.items h.tree (line_so_far text)) k in
       omega (arith, b, n, past)
-  no_limit _ by_bytes some k =
-      let r = ap length (rest_is) in
+  no_limit _ by_bytes some k = let r = ap length (rest_is) in
       let s = h.opened.short in
       let long : LINE_BYTES < length (partial_line text) =
       subst (λ (x : List ℕ). LINE_BYTES < length x) (text_of-line_at (suc (length (whole_lines text))) (partial_line text))
@@ -216,8 +212,7 @@ module _ {S : Type 0} (represents : S → List Judged → Type 0) (piece_of : S 
 
   -- The text has no fault so far.
   pub reads_so_far : ReadsSoFar o text h.items h.tree None
-  reads_so_far =
-      goes_on h.items h.tree h.goes
+  reads_so_far = goes_on h.items h.tree h.goes
       (λ f k. no_limit k.fault.which k.limit
       (subst (λ (r : List ℕ). 0 < length r) (rest_is) (some_held (partial_line text) k.some)) k.fault.holds)
 

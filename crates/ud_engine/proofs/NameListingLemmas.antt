@@ -94,8 +94,7 @@ pub lists_more : (o : Options) (depths : Bool) (xs : List (Item Reading)) (t u :
     AreFaultless o xs t → AreFaultless o (xs ++ next_item o xs t l ∷ []) u → (names : List (List ℕ)) →
     names ≡ names_in_content (content_of (read_after xs (mode_after o t) l).scan) →
     listed depths (xs ++ next_item o xs t l ∷ []) (levels u) ≡ listed depths xs (levels t) ++ listed_names (depth_prefix depths (depth u - 1)) names
-lists_more o depths xs t u l s v names e =
-    let r : Reading = read_after xs (mode_after o t) l in
+lists_more o depths xs t u l s v names e = let r : Reading = read_after xs (mode_after o t) l in
     let x : Item Reading = next_item o xs t l in
     let a : Adds t x u = grows t u x (sound_lines v ∙ ap (λ ys. ys ++ x ∷ []) (sym (sound_lines s))) in
     let g : LevelsGrow 0 t u x = levels_grow 0 a in

@@ -8,12 +8,11 @@ use Rattle.ud_model.specs.sections.Items.{Options}
 use Rattle.ud_model.specs.sections.Faults.{Fault}
 use Rattle.ud_model.specs.answer.Printing.{Judged}
 use Rattle.ud_model.specs.answer.Outcomes.{outcome_of, output_by, ran_as, came_as}
-use Rattle.ud_faults.specs.Faults.{fault_of}
+use Rattle.ud_faults.specs.Faults.{fault_of, limit_of}
 use Rattle.ud_faults.specs.declared.run.RunFault.{RunFault}
 use Rattle.ud_faults.specs.declared.run.RunFault.TheVariants.{Text, Section, Read, Write}
 use Rattle.ud_engine.specs.Finishing.{FinishFault, FinishErr, Finishes}
 use Rattle.ud_engine.specs.Feeding.{EngineState, EngineRepresentsBuffered, FeedFails, FaultsAfter}
-use Rattle.ud_faults.specs.Faults.{limit_of}
 use Rattle.ud_engine.specs.ProcessedLines.{text_by}
 use Rattle.ud_engine.specs.Runs.{PrintsSoFar, StoppedAtFault, EndsWith, in_course, at_end}
 use Rattle.ud_io.specs.Watched.{AppendsPrefix}
@@ -57,8 +56,7 @@ module _ (o : Options) where
     fed_ends failed longer (Text f) w = fault_found longer w.1.0 (limit_of f) w.1.1 w.1.2
     fed_ends failed longer (Section f) w = fault_found longer w.1.0 (fault_of f) w.1.1 w.1.2
     fed_ends failed longer Read w = absurd w
-    fed_ends failed longer Write w =
-        let r = w.1.1 in
+    fed_ends failed longer Write w = let r = w.1.1 in
         in_course r.lines r.later r.are (record { items = r.items; tree = r.tree; goes = r.goes; prefix = front_is r.items r.tree w.1.0 (r.printed_is) w.1.2 })
 
     end_found : (given : List ℕ) (f : Fault) → IsAtEnd left → FinishFault o (own_piece o) given printed b c f → StoppedAtFault o given left a c f

@@ -17,13 +17,12 @@ use Rattle.ud_model.proofs.sections.FaultStays.{fault_stays, reads_stay}
 use Rattle.ud_model.proofs.sections.Soundness.{one_run_so_far}
 use Rattle.ud_model.proofs.answer.Onward.{prints_further}
 use Rattle.ud_model.proofs.text.LinesLemmas.{Growth, stays_open, ends_line, grows}
-use Rattle.ud_faults.specs.Faults.{fault_of}
+use Rattle.ud_faults.specs.Faults.{fault_of, limit_of}
 use Rattle.ud_faults.specs.declared.run.RunFault.{RunFault}
 use Rattle.ud_faults.specs.declared.run.RunFault.TheVariants.{Text, Section, Read, Write}
 use Rattle.ud_engine.specs.declared.pump.TheConstants.{CHUNK_BYTES}
 use Rattle.ud_engine.specs.Finishing.{FinishFault, FinishOk, FinishErr, Finishes, RunAnswers, ResultIs, text_fault_of}
 use Rattle.ud_engine.specs.Feeding.{EngineState, EngineRepresentsBuffered, Session, FeedFails, FaultsAfter}
-use Rattle.ud_faults.specs.Faults.{limit_of}
 use Rattle.ud_engine.specs.ProcessedLines.{text_by, differs_in}
 use Rattle.ud_engine.specs.Runs.{LagsOneRead, all_but_last_chunk, bytes_to_limit}
 use Rattle.ud_engine.proofs.LinePartLemmas.{before_is, rest_is, reads_so_far}
@@ -130,8 +129,7 @@ module _ (o : Options) where
           runs = r.1;
           right = right (all_but_last_chunk (text ++ last)) (drop n text) r.0 joined r.1 r.0.fault refl;
           more = grown.0 ++ more;
-          appended =
-              subst (λ x. Appends a c x)
+          appended = subst (λ x. Appends a c x)
               (ap (λ x. x ++ more) (h.printed_is ∙ same_text o.settings.listing o.settings h.items h.tree ∙ grown.1) ∙ append_assoc r.0.output grown.0 more)
               (Appends-trans a b c printed more before after);
         }
@@ -147,8 +145,7 @@ module _ (o : Options) where
         before_more = before_is represents piece_of o own_piece f (text ++ bytes) later k
 
         by_growth : Growth text bytes → bytes_to_limit f.lines < bytes_to_limit e.lines
-        by_growth (stays_open lines rest) =
-            let n = ap length lines in
+        by_growth (stays_open lines rest) = let n = ap length lines in
             let held : length f.lines.held ≡ length e.lines.held + length bytes =
             ap length (sym (rest_is represents piece_of o own_piece f (text ++ bytes) later k) ∙ rest
             ∙ ap (λ (r : List ℕ). r ++ bytes) (rest_is represents piece_of o own_piece e text printed h)) ∙ length-append e.lines.held bytes in

@@ -93,8 +93,7 @@ module _ (mode : Mode) where
   judged_are : (xs : List (Item Reading)) (ls : List Line) (mark : Mark) (verdict : Verdict) → verdict ≡ mark.verdict → passing.HaveNoDirective mode (map reading_of xs) ls →
       judged_lines (map text_line (read_all xs ls)) (map (λ r. mark) (read_all xs ls)) ≡ map (judged_text verdict) ls
   judged_are xs [] mark verdict e a = refl
-  judged_are xs (l ∷ ls) mark verdict e a =
-      ap₂ (λ j js. j ∷ js)
+  judged_are xs (l ∷ ls) mark verdict e a = ap₂ (λ j js. j ∷ js)
       (ap₂ (λ v c. record { line = l; verdict = v; keyword = keyword_in c }) (sym e) a.0)
       (judged_are (xs ++ text_line (read_after xs mode l) ∷ []) ls mark verdict e
       (subst (λ before. passing.HaveNoDirective mode before ls) (sym (one_reading xs (read_after xs mode l))) a.1))
@@ -102,8 +101,7 @@ module _ (mode : Mode) where
   last_is : (xs : List (Item Reading)) (n : ℕ) (l : List ℕ) (ls : List (List ℕ)) →
       last_number (xs ++ map text_line (read_all xs (numbered_from n (l ∷ ls)))) ≡ n + length ls
   last_is xs n l [] = last_number_last xs (text_line (read_after xs mode (line_at n l))) ∙ omega arith
-  last_is xs n l (k ∷ ls) =
-      let first : Reading = read_after xs mode (line_at n l) in
+  last_is xs n l (k ∷ ls) = let first : Reading = read_after xs mode (line_at n l) in
       ap last_number (sym (append_assoc xs (text_line first ∷ []) (map text_line (read_all (xs ++ text_line first ∷ []) (numbered_from (suc n) (k ∷ ls))))))
       ∙ last_is (xs ++ text_line first ∷ []) (suc n) k ls ∙ omega arith
 

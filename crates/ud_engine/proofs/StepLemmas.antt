@@ -67,8 +67,7 @@ module _ {S : Type 0} (represents : S → List Judged → Type 0) (piece_of : S 
             (still_open e.lines f.lines rest used whole w h.opened to is limits.0) took no_fault
             (λ some. let k = limits.1 in let m = h.opened.limit in let n = ap (λ (l : LinesState). l.before) is in omega (arith, k, m, n))
             (let k = h.count in let n = ap (λ (l : LinesState). l.before) is in omega (arith, k, n));
-        sent =
-            subst (λ x. TakesAllBut a b x f.buffered) (sym (append-nil (g ++ pending)))
+        sent = subst (λ x. TakesAllBut a b x f.buffered) (sym (append-nil (g ++ pending)))
             (subst (λ x. TakesAllBut a b (x ++ pending) f.buffered) ge sent);
       }
 
@@ -93,8 +92,7 @@ module _ {S : Type 0} (represents : S → List Judged → Type 0) (piece_of : S 
             (ap (λ (k : LinesState). k.held) cleared)
             (let m = h.opened.limit in let n = ap (λ (k : LinesState). k.before) is in let q = ap (λ (k : LinesState). k.before) cleared in omega (arith, few, m, n, q))
             prints.has prints.is_more;
-        sent =
-            subst (λ x. TakesAllBut a b x f.buffered) (sym (append_assoc g pending prints.more))
+        sent = subst (λ x. TakesAllBut a b x f.buffered) (sym (append_assoc g pending prints.more))
             (subst (λ x. TakesAllBut a b (x ++ (pending ++ prints.more)) f.buffered) ge prints.goes);
       }
 
@@ -140,8 +138,7 @@ between_more p from at end h k =
 
 -- The bytes up to a position, and those from there to another, from the beginning.
 pub take_more_of : (p : List ℕ) (at end : ℕ) → at ≤ end → take at p ++ slice_between p at end ≡ take end p
-take_more_of p at end h =
-    let n : at - 0 ≡ at = omega arith in
+take_more_of p at end h = let n : at - 0 ≡ at = omega arith in
     let m : end - 0 ≡ end = omega arith in
     ap (λ k. take k p ++ slice_between p at end) (sym n) ∙ sym (between_more p 0 at end (omega arith) h) ∙ ap (λ k. take k p) m
 
@@ -155,8 +152,7 @@ module _ {S : Type 0} (represents : S → List Judged → Type 0) (piece_of : S 
   own_bytes = is ∙ ap₂ (λ n r. take n r) ends rest_from
 
   own_line : whole_lines (text ++ text_of l) ≡ whole_lines text ++ text_of l ∷ []
-  own_line =
-      subst (λ x. whole_lines (text ++ x) ≡ whole_lines text ++ x ∷ []) (sym is)
+  own_line = subst (λ x. whole_lines (text ++ x) ≡ whole_lines text ++ x ∷ []) (sym is)
       (ap (λ (q : SplitLines). q.whole) (split_lines-front_of text [] rest (length (text_of l)) true (rest_is represents piece_of o piece e text printed h ∙ lends.unheld) lends.prefix))
 
   own_number : l ≡ line_at (suc (length (whole_lines text))) (text_of l)

@@ -1,7 +1,5 @@
 -- Waiting: bytes that were read, and wait to be fed with the rest of their line.
-use Rattle.std.proofs.Common.{◌≡◌, inl, inr, ◌⊎◌, ℕ, ◌+◌, ◌-◌, ◌<◌, ◌≤◌, Bool, true, List, [], ◌∷◌}
-use Rattle.std.proofs.Common.{◌++◌, length, take, drop, Option, Err, refl, sym, ◌∙◌, ap}
-use Rattle.std.proofs.Common.{subst, append_assoc, append-nil, arith, length-append, if◌then◌else◌}
+use Rattle.std.proofs.Common.{◌≡◌, inl, inr, ◌⊎◌, ℕ, ◌+◌, ◌-◌, ◌<◌, ◌≤◌, Bool, true, List, [], ◌∷◌, ◌++◌, length, take, drop, Option, Err, refl, sym, ◌∙◌, ap, subst, append_assoc, append-nil, arith, length-append, if◌then◌else◌}
 use Rattle.std.specs.List.{copy_within}
 use Rattle.std.proofs.lemmas.List.{take-take, drop-take, take-append-le}
 use Rattle.std.proofs.lemmas.List.Edits.{take-paste}
@@ -15,9 +13,7 @@ use Rattle.ud_model.specs.sections.Items.{Options}
 use Rattle.ud_model.specs.answer.Printing.{Judged}
 use Rattle.ud_model.specs.declared.limits.TheConstants.{LINE_BYTES, TEXT_LINES}
 use Rattle.ud_model.proofs.sections.FaultStays.{reads_stay}
-use Rattle.ud_model.proofs.text.LinesLemmas.{Growth, stays_open, ends_line, grows}
-use Rattle.ud_model.proofs.text.LinesLemmas.{split_lines-append-open, no_newline-append}
-use Rattle.ud_model.proofs.text.LinesLemmas.{lines_so_far-append}
+use Rattle.ud_model.proofs.text.LinesLemmas.{Growth, stays_open, ends_line, grows, split_lines-append-open, no_newline-append, lines_so_far-append}
 use Rattle.ud_text.specs.bulk.BulkLexemes.{IsLineStart, at_start, after_newline, LastLineStarts}
 use Rattle.ud_text.specs.lines.LinesState.{LinesState, HasCapacity}
 use Rattle.ud_text.proofs.lemmas.bulk.BulkPlainLemmas.{begins_ends}
@@ -27,8 +23,7 @@ use Rattle.ud_sections.specs.declared.printing.printer.Printer.{Printer}
 use Rattle.ud_faults.specs.declared.run.RunFault.{RunFault}
 use Rattle.ud_faults.specs.declared.run.RunFault.TheVariants.{Text, Section, Read, Write}
 use Rattle.ud_engine.specs.declared.pump.TheConstants.{CHUNK_BYTES}
-use Rattle.ud_engine.specs.Feeding.{EngineState, EngineRepresentsBuffered, FeedFails, PrintsPrefix}
-use Rattle.ud_engine.specs.Feeding.{Continues}
+use Rattle.ud_engine.specs.Feeding.{EngineState, EngineRepresentsBuffered, FeedFails, PrintsPrefix, Continues}
 use Rattle.ud_engine.specs.Runs.{InProgress, RunFinished, bytes_to_limit}
 use Rattle.ud_engine.specs.Waiting.{IsWaiting, IsFurther}
 use Rattle.ud_engine.proofs.LinePartLemmas.{before_is, rest_is, open_taken}
@@ -111,8 +106,7 @@ fault_longer o piece failed a b longer printed later (Section f) w =
       ),
     )
 fault_longer o piece failed a b longer printed later Read w = absurd w
-fault_longer o piece failed a b longer printed later Write w =
-    let s = w.1.1 in
+fault_longer o piece failed a b longer printed later Write w = let s = w.1.1 in
     let more = lines_so_far-append longer later in
     let longer_prefix : PrintsPrefix o piece (longer ++ later) (printed ++ w.1.0) = record {
       items = s.items;
@@ -150,8 +144,7 @@ module _ (buffer : List ℕ) (end at : ℕ) (last : LastLineStarts (take end buf
 
   -- The rest is moved to the beginning of the buffer.
   pub cut_moved : end ≤ length buffer → take (end - at) (copy_within buffer at end 0) ≡ rest
-  cut_moved fits =
-      ap (λ n. take n (copy_within buffer at end 0)) (omega arith)
+  cut_moved fits = ap (λ n. take n (copy_within buffer at end 0)) (omega arith)
       ∙ take-paste buffer 0 (drop at buffer) (end - at) (omega arith)
       (let n = length-drop at buffer in omega (arith, n, fits))
 
@@ -159,8 +152,7 @@ module _ (buffer : List ℕ) (end at : ℕ) (last : LastLineStarts (take end buf
   pub cut_waits : (lines : LinesState) → end ≤ length buffer → end ≤ CHUNK_BYTES → (lines.held ≡ [])
       × (lines.before < TEXT_LINES) →
       IsWaiting lines (take (end - at) (copy_within buffer at end 0))
-  cut_waits lines fits few begins =
-      subst (IsWaiting lines) (sym (cut_moved fits))
+  cut_waits lines fits few begins = subst (IsWaiting lines) (sym (cut_moved fits))
       (record {
         no_newline = subst NoNewline rest_is_last last.one_line;
         short = let n = length-take (end - at) (drop at buffer) in omega (arith, n, few);
@@ -226,8 +218,7 @@ module _ (o : Options) (piece : List Judged → Judged → List ℕ) (e : Engine
   could_take : (bytes : List ℕ) → IsWaiting e.lines bytes →
       EngineRepresentsBuffered printer_represents printer_piece (with_bytes e bytes) o piece
       (text ++ bytes) (printed ++ [])
-  could_take bytes w =
-      let parts = split_lines-append-open text bytes w.no_newline in
+  could_take bytes w = let parts = split_lines-append-open text bytes w.no_newline in
       let f = with_bytes e bytes in
       open_taken printer_represents printer_piece o piece e text printed h f bytes
       (ap (λ (q : SplitLines). q.whole) parts) refl refl
@@ -241,8 +232,7 @@ module _ (o : Options) (piece : List Judged → Judged → List ℕ) (e : Engine
       (record {
         consumed = h.took.consumed;
         cut = subst (λ (b : Bool). split_lines (text ++ bytes) ≡ (if b then record {
-          whole =
-              h.took.consumed ++ (e.lines.held ++ bytes) ∷ [];
+          whole = h.took.consumed ++ (e.lines.held ++ bytes) ∷ [];
           rest = [];
         } else record
             { whole = h.took.consumed; rest = e.lines.held ++ bytes })) (sym h.opened.part)
@@ -256,8 +246,7 @@ module _ (o : Options) (piece : List Judged → Judged → List ℕ) (e : Engine
           LINE_BYTES
       short [] w = let s = h.opened.short in let n = ap length (append-nil e.lines.held) in omega
           (arith, s, n)
-      short (x ∷ xs) w =
-          let none = ap length (w.begins (omega arith)).0 in
+      short (x ∷ xs) w = let none = ap length (w.begins (omega arith)).0 in
           let n = length-append e.lines.held (x ∷ xs) in
           let s = w.short in
           omega (arith, none, n, s)
@@ -286,8 +275,7 @@ unread_waiting o e r₀ r₁ r₂ w₀ w₁ bytes u w kept reader writer failed 
       ended = record {
         given = u.given ++ bytes;
         consumed = all;
-        ends =
-            printed_so_far o printer_represents printer_piece (with_bytes e bytes)
+        ends = printed_so_far o printer_represents printer_piece (with_bytes e bytes)
             (u.given ++ bytes) (u.printed ++ [])
             (could_take o (own_piece o) e u.given u.printed u.fed.taken bytes w) w₀ w₁
             (Appends-trans w₀ w₁ w₁ u.printed [] u.appended (Appends-nil w₁));

@@ -66,8 +66,7 @@ empty_len (b ∷ bs) e h = absurd cc
 
 -- after the first bytes, a prefix of the second bytes was appended
 pub prefix_of_second : (a b c : Option (List ℕ)) (x y : List ℕ) → Appends a b x → AppendsPrefix b c y → AppendsPrefix a c (x ++ y)
-prefix_of_second a b c x y h k =
-    appends_all_but_prefix a b c (x ++ y) y []
+prefix_of_second a b c x y h k = appends_all_but_prefix a b c (x ++ y) y []
     (subst (λ r. AppendsAllBut a b (x ++ y) r) (sym (append-nil y)) (appends_all_but_part a a b (x ++ y) x y (appends_all_but_none a (x ++ y)) h)) k
 
 -- more bytes follow the rest

@@ -95,8 +95,7 @@ stream_then a b c bytes left more last s t = takes_then a.failed b.failed c.fail
 
 -- A flush takes what was left.
 pub stream_flushed : (a b c : Stream) (bytes left : List ℕ) → TakesAllBut a b bytes left → TakesAllBut b c left [] → TakesAllBut a c bytes []
-stream_flushed a b c bytes left s t =
-    subst (λ x. TakesAllBut a c x []) (append-nil bytes)
+stream_flushed a b c bytes left s t = subst (λ x. TakesAllBut a c x []) (append-nil bytes)
     (stream_then a b c bytes left [] [] s (subst (λ x. TakesAllBut b c x []) (sym (append-nil left)) t))
 
 -- All was appended, if no write has failed.

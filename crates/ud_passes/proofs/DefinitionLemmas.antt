@@ -48,8 +48,7 @@ skip_word-ends (b ∷ bs) e h = by (is_word_byte b) (skip_word-ends bs e h)
 
 -- The word after the white space of a text.
 word-ends : (t e : List ℕ) → Ends e → leading_word (skip_white (t ++ e)) ≡ leading_word (skip_white t)
-word-ends t e h =
-    let w = skip_white-ends t e h in
+word-ends t e h = let w = skip_white-ends t e h in
     ap leading_word w.2 ∙ leading_word-ends (skip_white t) w.0 w.1
 
 module _ (table : List Argument) where
@@ -57,8 +56,7 @@ module _ (table : List Argument) where
   defines_by-ends t e h = grind (arith, leading_word-ends, skip_word-ends, word-ends)
 
   defines_after-ends : (t e : List ℕ) → Ends e → defines_after table (t ++ e) ≡ defines_after table t
-  defines_after-ends t e h =
-      let w = skip_white-ends t e h in
+  defines_after-ends t e h = let w = skip_white-ends t e h in
       ap (defines_by table) w.2 ∙ defines_by-ends (skip_white t) w.0 w.1
 
   -- 2. Clear bytes.
@@ -98,8 +96,7 @@ module _ (table : List Argument) where
   clear_one zero [] h none = tt
   clear_one zero (b ∷ bs) h none = (and_right (b == 35) (defines_after table bs) none, tt)
   clear_one (suc n) [] h none = none_left (suc n + 1)
-  clear_one (suc n) (b ∷ bs) h none =
-      let next : suc n + 1 ≡ suc (n + 1) = omega arith in
+  clear_one (suc n) (b ∷ bs) h none = let next : suc n + 1 ≡ suc (n + 1) = omega arith in
       same (suc (n + 1)) (suc n + 1) (b ∷ bs) (sym next) (h.0, clear_one n bs h.1 (ap (λ (k : ℕ). defines_after table (drop k (b ∷ bs))) (sym next) ∙ none))
 
   -- 3. Lines.
@@ -126,8 +123,7 @@ module _ (table : List Argument) where
 
   -- The first line of clear bytes.
   first_clear : (l after : List ℕ) (first n : ℕ) → IsWhole l → length l ≤ n → IsClear table n (l ++ after) → (r : Reading) → r.line ≡ line_at first l → is_definition table r ≡ false
-  first_clear l after first n whole long c r e =
-      let k : Line = line_at first l in
+  first_clear l after first n whole long c r e = let k : Line = line_at first l in
       let parts : l ++ after ≡ k.body ++ (k.ending ++ after) = ap (λ (x : List ℕ). x ++ after) (sym (body-ending l)) ∙ append_assoc k.body k.ending after in
       let size = length-append k.body k.ending in
       let same_size = ap (λ (x : List ℕ). length x) (body-ending l) in

@@ -71,8 +71,7 @@ module _ (table : List Argument) (rules : Rules) (l : Line) (d : Directive) (i :
 
   -- If all cells are left, the line stays.
   pub all_left : simplified_cells table rules (condition_cells l d) ≡ condition_cells l d → text_of (line_if_read table rules l d) ≡ text_of l
-  all_left e =
-      let n : ℕ = keyword_end d in
+  all_left e = let n : ℕ = keyword_end d in
       let whole : (left_line table rules l d).body ≡ l.body =
       ap (λ (cells : List Cell). take n l.body ++ map byte_of cells) e ∙ ap (λ (x : List ℕ). take n l.body ++ x) cells_are.bytes_are ∙ take-append-drop n l.body in
       same_either (is_read_alone table rules l d) (left_line table rules l d) (ap (λ (x : List ℕ). x ++ l.ending) whole)

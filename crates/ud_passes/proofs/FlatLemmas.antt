@@ -33,11 +33,9 @@ unfolding split_lines
 flat_first rest n w up some = ap (flat_map flat_line) (by w up)
   where
     by : (w : Bool) → UpToNewline rest n w → texts_of rest ≡ take n rest ∷ texts_of (drop n rest)
-    by true up =
-        ap texts_of (sym (take-append-drop n rest))
+    by true up = ap texts_of (sym (take-append-drop n rest))
         ∙ ap (λ (p : SplitLines). p.whole ++ last_line p.rest) (split_lines-line-prefix (take n rest) (drop n rest) (up.line refl))
-    by false up =
-        let all : n ≡ length rest = (up.all refl).0 in
+    by false up = let all : n ≡ length rest = (up.all refl).0 in
         ap texts_of (sym (take_all n rest (omega arith))) ∙ one_text rest n false up some
         ∙ ap (λ (t : List ℕ). take n rest ∷ texts_of t) (sym (drop_all n rest (omega arith)))
 
@@ -82,8 +80,7 @@ HasNoTab rs = has_tab (concat (texts rs)) ≡ false
 -- A folded line has a vertical tab for each of its lines but the last one.
 body_tabs : (r : Reading) (rs : List Reading) → HasNoTab (r ∷ rs) → empty_lines (folded_body (r ∷ rs)) ≡ concat (blank_texts rs)
 body_tabs r [] h = (plain_bytes r.line.body (no_tab_parts r.line.body r.line.ending (no_tab_parts (text r) [] h).0).0).1
-body_tabs r (s ∷ rs) h =
-    let p = no_tab_parts (text r) (concat (texts (s ∷ rs))) h in
+body_tabs r (s ∷ rs) h = let p = no_tab_parts (text r) (concat (texts (s ∷ rs))) h in
     empty_lines-append (continued_part r) (folded_body (s ∷ rs))
     ∙ ap₂ (λ (x y : List ℕ). x ++ y) (one (is_outside r.scan.comment) (no_tab_parts r.line.body r.line.ending p.0).0) (body_tabs s rs p.1)
   where

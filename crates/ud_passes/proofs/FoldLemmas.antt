@@ -212,8 +212,7 @@ no_newline_part r h = grind (arith, no_newline-append, no_newline-take)
 pub logical_more : (l m : LogicalLine) (b c : Last) (group : List Reading) (r : Reading) (part break : List ℕ) → IsLogical l b group → IsLast c r → r.line.ending ≡ b.line.ending.now →
     ((q : Reading) → IsLast b q → part ++ vertical_tab ∷ [] ≡ continued_part q) → ((q : Reading) → IsLast b q → break ≡ shown_break q.scan) →
     m.plain.items ≡ l.plain.items ++ text_of r.line → m.body.items ≡ (l.body.items ++ part) ++ vertical_tab ∷ [] → m.shown.items ≡ (l.shown.items ++ break) ++ r.scan.masked → IsLogical m c (group ++ r ∷ [])
-logical_more l m b c group r part break i j e p k pl bo sh =
-    let q : Reading = i.last in
+logical_more l m b c group r part break i j e p k pl bo sh = let q : Reading = i.last in
     let body : m.body.items ≡ l.body.items ++ continued_part q = bo ∙ append_assoc l.body.items part (vertical_tab ∷ []) ∙ ap (λ (x : List ℕ). l.body.items ++ x) (p q i.is_last) in
     record {
       front = group;
@@ -249,8 +248,7 @@ pub if_some : {A : Type 0} {P Q : Type 0} (o : Option A) → (P → Q) → IfSom
 if_some o f h = grind arith
 
 next_joins : (read : List Reading) (k : Line) → joins (c_run_of (read ++ read_after C read k ∷ [])) ≡ (scan_after read C k).joins_after
-next_joins read k =
-    let r : Reading = read_after C read k in
+next_joins read k = let r : Reading = read_after C read k in
     ap joins (run_of_last read r) ∙ sym (joins_after-code (c_run_of read) r.line) ∙ ap (λ (s : Scan). s.joins_after) (scan_after-same read read C r.line k refl refl refl)
 
 first_same : (r q : Reading) (rs qs : List Reading) → r ∷ rs ≡ q ∷ qs → r ≡ q
@@ -262,14 +260,12 @@ placed : (acc : List Reading) (ls : List Line) (mid : List Reading) (r : Reading
 placed acc [] mid r rest e =
     let n : length ((acc ++ mid) ++ r ∷ rest) ≡ length acc = ap (λ (x : List Reading). length x) e in
     absurd (omega (arith, n, length-append (acc ++ mid) (r ∷ rest), length-append acc mid))
-placed acc (l ∷ ls) [] r rest e =
-    let q : Reading = next_reading acc C l in
+placed acc (l ∷ ls) [] r rest e = let q : Reading = next_reading acc C l in
     let p = readings_after-prefix (acc ++ q ∷ []) (map (in_mode C) ls) in
     let both : acc ++ (r ∷ rest) ≡ acc ++ (q ∷ p.0) = sym (append_assoc acc [] (r ∷ rest)) ∙ e ∙ p.1 ∙ append_assoc acc (q ∷ []) p.0 in
     let same : r ≡ q = first_same r q rest p.0 (append_cancel_left acc (r ∷ rest) (q ∷ p.0) both) in
     subst (λ (x : Reading). x.scan ≡ scan_after (acc ++ []) C x.line) (sym same) (ap (λ (x : List Reading). scan_after x C l) (sym (append-nil acc)))
-placed acc (l ∷ ls) (m ∷ mid) r rest e =
-    let q : Reading = next_reading acc C l in
+placed acc (l ∷ ls) (m ∷ mid) r rest e = let q : Reading = next_reading acc C l in
     let p = readings_after-prefix (acc ++ q ∷ []) (map (in_mode C) ls) in
     let both : acc ++ (m ∷ (mid ++ r ∷ rest)) ≡ acc ++ (q ∷ p.0) = sym (append_assoc acc (m ∷ mid) (r ∷ rest)) ∙ e ∙ p.1 ∙ append_assoc acc (q ∷ []) p.0 in
     let same : m ≡ q = first_same m q (mid ++ r ∷ rest) p.0 (append_cancel_left acc (m ∷ (mid ++ r ∷ rest)) (q ∷ p.0) both) in

@@ -23,8 +23,7 @@ use Rattle.ud_model.proofs.output.SimplifiedLines.{after_is}
 
 pub any_append : (p : ℕ → Bool) (xs ys : List ℕ) → list_any p xs ≡ false → list_any p ys ≡ false → list_any p (xs ++ ys) ≡ false
 any_append p [] ys e f = f
-any_append p (x ∷ xs) ys e f =
-    let h = or_parts (p x) (list_any p xs) e in
+any_append p (x ∷ xs) ys e f = let h = or_parts (p x) (list_any p xs) e in
     ap (λ (b : Bool). b || list_any p (xs ++ ys)) h.0 ∙ any_append p xs ys h.1 f
 
 -- 2. Cells.
@@ -109,8 +108,7 @@ none_from : (k : LexemeKind) (n m : ℕ) (text : List ℕ) → IsNoLiteral k →
 unfolding lex_from
 none_from k n zero text l e = refl
 none_from k n (suc m) [] l e = refl
-none_from k zero (suc m) (a ∷ rest) l e =
-    let x = lexeme_at a rest in
+none_from k zero (suc m) (a ∷ rest) l e = let x = lexeme_at a rest in
     let p = or_parts (is_quote (shown_as x.kind a)) (list_any is_quote (map shown (take m (lex_from x.kind x.more rest)))) e in
     let n : IsNoLiteral x.kind = none_at a rest p.0 in
     ap (λ (b : Bool). b || list_any is_literal (take m (lex_from x.kind x.more rest))) (no_literal_cell x.kind a n) ∙ none_from x.kind x.more m rest n p.1
@@ -137,14 +135,12 @@ word_no_quote b e = grind arith
 
 whites : (bytes : List ℕ) → are_white bytes ≡ true → list_any is_quote bytes ≡ false
 whites [] e = refl
-whites (b ∷ bytes) e =
-    let p = and_parts (is_white b) (are_white bytes) e in
+whites (b ∷ bytes) e = let p = and_parts (is_white b) (are_white bytes) e in
     ap (λ (q : Bool). q || list_any is_quote bytes) (white_no_quote b p.0) ∙ whites bytes p.1
 
 words : (bytes : List ℕ) → are_word_bytes bytes ≡ true → list_any is_quote bytes ≡ false
 words [] e = refl
-words (b ∷ bytes) e =
-    let p = and_parts (is_word_byte b) (are_word_bytes bytes) e in
+words (b ∷ bytes) e = let p = and_parts (is_word_byte b) (are_word_bytes bytes) e in
     ap (λ (q : Bool). q || list_any is_quote bytes) (word_no_quote b p.0) ∙ words bytes p.1
 
 -- Without a quote after the keyword, a directive's line has none.
@@ -154,8 +150,7 @@ front_no_quote scan d i e = grind (arith, any_append, words, whites)
 module _ (table : List Argument) (rules : Rules) (l : Line) (scan : Scan) (d : Directive) (s : scan ≡ scan_after [] C l) (h : content_of scan ≡ directive d) where
   -- A line without a quote after the keyword has no literal there.
   pub no_literal : list_any is_quote d.after ≡ false → list_any is_literal (condition_cells l d) ≡ false
-  no_literal e =
-      none_after (keyword_end d) (content_cells [] l)
+  no_literal e = none_after (keyword_end d) (content_cells [] l)
       (none_lex (length (content l)) (spliced_part l) (ap (list_any is_quote) (sym (masked-content_cells [] l) ∙ ap (λ (x : Scan). x.masked) (sym s)) ∙ front_no_quote scan d ((directive_is scan d).0 h) e))
 
   -- A quote after the keyword begins a literal there.

@@ -23,8 +23,7 @@ body_ends ending [] = refl
 body_ends ending (b ∷ bytes) = refl
 
 pub body_done : (ending body masked : List ℕ) (i : ℕ) → length masked ≤ i → i ≤ length masked → restored_body ending (drop i body) (drop i masked) ≡ drop (length masked) body
-body_done ending body masked i low high =
-    let e : i ≡ length masked = omega arith in
+body_done ending body masked i low high = let e : i ≡ length masked = omega arith in
     at_drop_all (λ (x : List ℕ). restored_body ending (drop i body) x) masked i low ∙ body_ends ending (drop i body) ∙ ap (λ (n : ℕ). drop n body) e
 
 pub without_tab : (ending bytes masked : List ℕ) → has_tab bytes ≡ false → restored_body ending bytes masked ≡ bytes
@@ -44,8 +43,7 @@ pub long_restored : (l : Line) → fits l ≡ false → restored_line l ≡ text
 long_restored l h = grind arith
 
 renumbered : (l : Line) (n : ℕ) → restored_line (record l { number = n }) ≡ restored_line l
-renumbered l n =
-    let k : Line = record l { number = n } in
+renumbered l n = let k : Line = record l { number = n } in
     ap (λ (s : Scan). if fits l then restored_body l.ending l.body s.masked ++ l.ending else text_of l) (scan_after-same [] [] C k l refl refl refl)
 
 -- 3. Places of a walk.
@@ -59,8 +57,7 @@ none_restored text start walk w = grind (arith, append-nil)
 
 pub lines_read : (acc : List Reading) (ls : List Line) → map (λ (r : Reading). r.line) (readings_after acc (map (in_mode C) ls)) ≡ map (λ (r : Reading). r.line) acc ++ ls
 lines_read acc [] = sym (append-nil (map (λ (r : Reading). r.line) acc))
-lines_read acc (l ∷ ls) =
-    let q : Reading = next_reading acc C l in
+lines_read acc (l ∷ ls) = let q : Reading = next_reading acc C l in
     lines_read (acc ++ q ∷ []) ls ∙ ap (λ (x : List Line). x ++ ls) (map-append (λ (r : Reading). r.line) acc (q ∷ [])) ∙ append_assoc (map (λ (r : Reading). r.line) acc) (l ∷ []) ls
 
 pub all_restored : (text start : List ℕ) (walk : Walk) (out : List ℕ) → Restored text start walk out → walk.rest.now ≡ [] → out ≡ start ++ restored_text text

@@ -61,8 +61,7 @@ module _ (table : List Argument) where
 
   -- After some bytes, what was clear stays clear.
   pub still_clear : (until n : ℕ) (rest : List ℕ) → IsClearTo table until rest → IsClearTo table until (drop n rest)
-  still_clear until n rest c =
-      let size = length-drop n rest in
+  still_clear until n rest c = let size = length-drop n rest in
       subst (λ (k : ℕ). IsClear table k (drop n rest)) (omega (arith, size)) (clear_drop table n (length rest - until) rest c)
 
 -- 2. What is appended.

@@ -43,8 +43,7 @@ module _ {X : Type 0} (p : X → Bool) where
 
   count-none : (xs : List X) → ((k : ℕ) (d : X) → k < length xs → p (get_or xs k d) ≡ false) → count_by p xs ≡ 0
   count-none [] h = refl
-  count-none (x ∷ xs) h =
-      let first : p x ≡ false = h 0 x (omega arith) in
+  count-none (x ∷ xs) h = let first : p x ≡ false = h 0 x (omega arith) in
       let rest : count_by p xs ≡ 0 = count-none xs (λ k d l. h (suc k) d (omega arith)) in
       count-cons x xs ∙ ap₂ (λ (b : Bool) (n : ℕ). (if b then 1 else 0) + n) first rest
 
@@ -96,8 +95,7 @@ module _ (names : List (List ℕ)) (rows : List NameCount) (x : List ℕ) (k : �
       once n = count-append (λ r. bytes_eq r.name n) rows (row ∷ []) ∙ by (bytes_eq x n) refl ∙ sym (ap (λ (c : ℕ). min 1 c) (all n))
         where
           by : (b : Bool) → bytes_eq x n ≡ b → rows_with n rows + (0 + (if b then 1 else 0)) ≡ min 1 (count_of n names + (if b then k else 0))
-          by true e =
-              let is : x ≡ n = (bytes_eq-Decides x n).0 e in
+          by true e = let is : x ≡ n = (bytes_eq-Decides x n).0 e in
               let none : rows_with n rows ≡ 0 = ap (λ (m : List ℕ). rows_with m rows) (sym is) ∙ no_row in
               let zero : count_of n names ≡ 0 = ap (λ (m : List ℕ). count_of m names) (sym is) ∙ z in
               omega (arith, none, zero)
@@ -167,8 +165,7 @@ module _ {X : Type 0} (f : X → List ℕ) (xs : List X) (up : IsSorted (λ x y.
           by (suc k) z = omega arith
 
       ps : map f (take count (drop i xs)) ≡ replicate count x
-      ps =
-          replicated f x (take count (drop i xs)) (λ k m d.
+      ps = replicated f x (take count (drop i xs)) (λ k m d.
           let n : k < count = omega (arith, m, length-take-le count (drop i xs) within) in
           ap (λ (a : X). bytes_eq (f a) x) (get_or-take count (drop i xs) k d n) ∙ same_as k n d)
           ∙ ap (λ (n : ℕ). replicate n x) (length-take-le count (drop i xs) within)
@@ -185,8 +182,7 @@ module _ {X : Type 0} (f : X → List ℕ) (xs : List X) (up : IsSorted (λ x y.
               row_more (map f (take i xs)) rows x count h.counts (ap (λ (n : List ℕ). count_of n (map f (take i xs))) (sym (is d)) ∙ h.apart l d) (some xs l refl)
 
       apart : i + count < length xs → (d : X) → count_of (f (get_or xs (i + count) d)) (map f (take (i + count) xs)) ≡ 0
-      apart m d =
-          let pos : 0 < count = some xs l refl in
+      apart m d = let pos : 0 < count = some xs l refl in
           let next : f (get_or (drop i xs) count d) ≡ f (get_or xs (i + count) d) = ap f (get_or-drop i xs count d) in
           let last : f (get_or xs (i + count - 1) d) ≡ x =
           ap f (ap (λ (k : ℕ). get_or xs k d) (omega arith) ∙ sym (get_or-drop i xs (count - 1) d)) ∙ (bytes_eq-Decides (f (get_or (drop i xs) (count - 1) d)) x).0 (same_as (count - 1) (omega arith) d) in

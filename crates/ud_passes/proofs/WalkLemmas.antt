@@ -33,8 +33,7 @@ walk_ends mode text read rest s w e = grind (arith, append-nil)
 texts_read : (mode : Mode) (before : List Reading) (ls : List Line) → HaveNoDirective mode before ls →
     (rs : List Reading) × (readings_after before (map (in_mode mode) ls) ≡ before ++ rs) × AreTexts rs × (map (λ (r : Reading). r.line) rs ≡ ls)
 texts_read mode before [] h = ([], sym (append-nil before), tt, refl)
-texts_read mode before (l ∷ ls) h =
-    let r : Reading = next_reading before mode l in
+texts_read mode before (l ∷ ls) h = let r : Reading = next_reading before mode l in
     let i = texts_read mode (before ++ r ∷ []) ls h.1 in
     (r ∷ i.0, i.1 ∙ append_assoc before (r ∷ []) i.0, (h.0, i.2), ap (λ (xs : List Line). l ∷ xs) i.3)
 

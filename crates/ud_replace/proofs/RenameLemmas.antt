@@ -6,12 +6,8 @@ use Rattle.ud_replace.specs.declared.node.FileId.{FileId}
 use Rattle.ud_replace.specs.declared.stat.FileStat.{FileStat}
 use Rattle.ud_replace.specs.Calls.{Call, was_read, asked, made, given, synced}
 use Rattle.ud_replace.specs.TextOutcomes.{TextOptions, TextOutcome, HasTextOutcome}
-use Rattle.ud_replace.specs.Filling.{Takes, nothing, part, AppendsAll, all, stopped, LooksAgain}
-use Rattle.ud_replace.specs.Filling.{Confirms, confirmed, not_read, other_text, other_facts, other_version}
-use Rattle.ud_replace.specs.Filling.{Fills, filled, not_taken, not_given, not_synced, not_confirmed, not_renamed}
-use Rattle.ud_replace.specs.Replacing.{Renames, renames, removes, unrenamed, unrenamed_writes, not_made, locked, denied, denied_writes}
-use Rattle.ud_replace.specs.Replacing.{Puts, several, read_only, one_link, several_writes}
-use Rattle.ud_replace.specs.Replacing.{Judges, no_memory, faulty, same, differs, Replaces}
+use Rattle.ud_replace.specs.Filling.{Takes, nothing, part, AppendsAll, all, stopped, LooksAgain, Confirms, confirmed, not_read, other_text, other_facts, other_version, Fills, filled, not_taken, not_given, not_synced, not_confirmed, not_renamed}
+use Rattle.ud_replace.specs.Replacing.{Renames, renames, removes, unrenamed, unrenamed_writes, not_made, locked, denied, denied_writes, Puts, several, read_only, one_link, several_writes, Judges, no_memory, faulty, same, differs, Replaces}
 use Rattle.ud_replace.specs.Moments.{EachCall, no_call, then_call, touches, TookOutput, TouchesFreshOnly}
 use Rattle.ud_replace.proofs.CallLemmas.{name_of_test}
 

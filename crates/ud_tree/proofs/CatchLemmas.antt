@@ -77,8 +77,7 @@ pub catches_node : (at : List ℕ) (node : Node) {old new : List Call} (w v : Wa
 catches_node at node w v is h taken = catches_met at (Present node) w v is h seen
   where
     seen : (n : Node) → Present node ≡ Present n → n.kind ≡ File → IsTaken v at n.id
-    seen n e kind =
-        let same : node ≡ n = cc in
+    seen n e kind = let same : node ≡ n = cc in
         subst (λ (m : Node). IsTaken v at m.id) same (taken (ap (λ (m : Node). m.kind) same ∙ kind))
 
 -- A link was followed.

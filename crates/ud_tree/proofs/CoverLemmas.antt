@@ -204,8 +204,7 @@ visits_node node path folder name folders folders' r named is (no_folder other s
     visits_met (Present node) path folder name folders folders' r r (λ some. some) named is (waits_equal same) (λ n is_node k. absurd (other (same_kind n is_node k)))
   where
     same_kind : (n : Node) → Present node ≡ Present n → n.kind ≡ Folder → node.kind ≡ Folder
-    same_kind n is_node k =
-        let e : node ≡ n = cc in
+    same_kind n is_node k = let e : node ≡ n = cc in
         ap (λ (m : Node). m.kind) e ∙ k
 
 -- The calls of two parts.
@@ -370,8 +369,7 @@ enters_more count {x = x} {y = y} {z = z} {f = f} {g = g} {h = h} {b = b} {c = c
     entered = record { kept = l.explores.kept; made = l.explores.made; are = l.explores.are; waits = passes; visits = l.explores.visits }
 
     many : count + 1 ≤ length (l.explores.made ++ k.explores.made)
-    many =
-        let both = length-append l.explores.made k.explores.made in
+    many = let both = length-append l.explores.made k.explores.made in
         let some : l.entered.2.0 < length l.explores.made = l.entered.2.1 in
         omega (arith, both, some, k.many)
 
@@ -441,8 +439,7 @@ same_walked : (xs ys : List WalkCall) → map walked xs ≡ map walked ys → xs
 same_walked [] [] e = refl
 same_walked [] (y ∷ ys) e = cc
 same_walked (x ∷ xs) [] e = cc
-same_walked (x ∷ xs) (y ∷ ys) e =
-    let rest : map walked xs ≡ map walked ys = cc in
+same_walked (x ∷ xs) (y ∷ ys) e = let rest : map walked xs ≡ map walked ys = cc in
     let later : xs ≡ ys = same_walked xs ys rest in cc
 
 same_calls : (xs ys : List WalkCall) (old : List Call) → map walked xs ++ old ≡ map walked ys ++ old → xs ≡ ys
@@ -476,8 +473,7 @@ covers_paths f xs i {x = x} {y = y} {z = z} {b = b} {c = c} {found = found} {r =
     ys = k.explores.made
 
     fewer : length (ys ++ ws) + 1 < 2 ^ 64 → length ys + 1 < 2 ^ 64
-    fewer few =
-        let both = length-append ys ws in
+    fewer few = let both = length-append ys ws in
         omega (arith, both, few)
 
     Later : List ℕ → Type 0
@@ -485,8 +481,7 @@ covers_paths f xs i {x = x} {y = y} {z = z} {b = b} {c = c} {found = found} {r =
 
     by_case : (0 < r.faulty) ⊎ All (Begins ws (IsDue ws b) (IsIn found)) (map f (take i xs)) → All Later (map f (take i xs))
     by_case (inl some) = absurd (fine some)
-    by_case (inr each) =
-        All-weaker (Begins ws (IsDue ws b) (IsIn found)) Later
+    by_case (inr each) = All-weaker (Begins ws (IsDue ws b) (IsIn found)) Later
         (λ p start. begins_within (earlier_calls ws ys) (due_later ws ys b c k.explores.waits)
         (is_in_later found v.found.items stay) start) (map f (take i xs)) each
 
@@ -521,13 +516,11 @@ takes_node node path name found found' r r' counted told same is adds has =
     takes_met (Present node) path name found found' r r' counted same is (added_stay adds) (λ n is_node kind. here n is_node kind) (λ n is_node kind. other n is_node kind)
   where
     other : (n : Node) → Present node ≡ Present n → n.kind ≡ Other → 0 < r'.faulty
-    other n is_node kind =
-        let e : node ≡ n = cc in
+    other n is_node kind = let e : node ≡ n = cc in
         told (ap (λ (m : Node). m.kind) e ∙ kind)
 
     here : (n : Node) → Present node ≡ Present n → n.kind ≡ File → IsIn found' name n.id
-    here n is_node kind =
-        let e : node ≡ n = cc in
+    here n is_node kind = let e : node ≡ n = cc in
         subst (λ (p : List ℕ). IsIn found' p n.id) (sym same)
         (subst (λ (m : Node). IsIn found' path m.id) e (has (ap (λ (m : Node). m.kind) e ∙ kind)))
 
@@ -599,8 +592,7 @@ misses_kept args text found files s t e kept (misses_no_path none h) = misses_no
   are = h.are;
   waiting = h.waiting;
   all_listed = h.all_listed;
-  begins =
-      All-weaker (Begins h.calls (IsDue h.calls h.waiting) (IsIn found))
+  begins = All-weaker (Begins h.calls (IsDue h.calls h.waiting) (IsIn found))
       (Begins h.calls (IsDue h.calls h.waiting) (StandsIn files))
       (λ p start. begins_within (λ w here. here) (λ path due. due) (stands_in found files kept) start)
       (map (λ p. string_bytes p) args.paths.items) h.begins;

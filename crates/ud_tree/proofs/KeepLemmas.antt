@@ -29,8 +29,7 @@ same_lists : (xs ys : List ℕ) → slice_cmp nat_cmp xs ys ≡ Equal → xs ≡
 same_lists [] [] e = refl
 same_lists [] (y ∷ ys) e = absurd (less_is_none e)
 same_lists (x ∷ xs) [] e = absurd (greater_is_none e)
-same_lists (x ∷ xs) (y ∷ ys) e =
-    let both = both_equal (nat_cmp x y) (slice_cmp nat_cmp xs ys) e in
+same_lists (x ∷ xs) (y ∷ ys) e = let both = both_equal (nat_cmp x y) (slice_cmp nat_cmp xs ys) e in
     let head : x ≡ y = nat_same x y both.0 in
     let tail : xs ≡ ys = same_lists xs ys both.1 in
     cc

@@ -1,6 +1,5 @@
 -- One byte more of a path, and how far its last slash is.
-use Rattle.std.proofs.Common.{◌≡◌, ℕ, ◌+◌, List, [], ◌∷◌, ◌++◌, length, ◌==◌, cond}
-use Rattle.std.proofs.Common.{arith, take, get_or, ◌<◌, ◌≢◌}
+use Rattle.std.proofs.Common.{◌≡◌, ℕ, ◌+◌, List, [], ◌∷◌, ◌++◌, length, ◌==◌, cond, arith, take, get_or, ◌<◌, ◌≢◌}
 use Rattle.std.proofs.lemmas.List.{take_more, length-take}
 use Rattle.std.proofs.lemmas.Grind.{common_steps}
 use Rattle.ud_tree.specs.Paths.{folder_len}

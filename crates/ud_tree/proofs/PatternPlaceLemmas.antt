@@ -48,8 +48,7 @@ somewhere_of p n h = grind arith
 
 -- After the parts up to the next `*`, only that one counts.
 pub star_on : {p n : List ℕ} (q m : List ℕ) → Parts p n (42 ∷ q) m → Matches (42 ∷ p) n → Matches (42 ∷ q) m
-star_on {p = p} {n = n} q m steps h =
-    let here = somewhere_after steps (somewhere_of p n h) in
+star_on {p = p} {n = n} q m steps h = let here = somewhere_after steps (somewhere_of p n h) in
     let there = somewhere_of q here.1 here.3 in
     star (here.0 ++ there.0) there.1 (here.2 ∙ ap (λ (x : List ℕ). here.0 ++ x) there.2 ∙ sym (append_assoc here.0 there.0 there.1)) there.3
 
@@ -68,8 +67,7 @@ star_more p b n never h = by_bytes (somewhere_of p (b ∷ n) h)
     by_bytes s = by_front s.0 s.1 s.2 s.3
 
 pub star_less : (p : List ℕ) (b : ℕ) (n : List ℕ) → Matches (42 ∷ p) n → Matches (42 ∷ p) (b ∷ n)
-star_less p b n h =
-    let s = somewhere_of p n h in
+star_less p b n h = let s = somewhere_of p n h in
     star (b ∷ s.0) s.1 (ap (λ (x : List ℕ). b ∷ x) s.2) s.3
 
 -- No part of the pattern matches the first byte of the name, if there is one.

@@ -2,7 +2,7 @@
 use Rattle.std.proofs.Common.{◌≡◌, ◌⊎◌, inl, inr, ℕ, ◌<◌, ◌≤◌, ◌+◌, ◌-◌, List, [], ◌∷◌, ◌++◌, length, get_or, Bool, true, false, Some, refl, sym, ap, ◌∙◌, subst, true≢false, arith, ⊎_elim}
 use Rattle.std.proofs.lemmas.Bool.{cases_lt}
 use Rattle.std.proofs.lemmas.Option.{slice_get_within, slice_get-get_or}
-use Rattle.std.specs.List.{slice_get}
+use Rattle.std.specs.List.{slice_get, All, AllPairs, Contains}
 use Rattle.std.specs.Ordering.{is_lt, nat_cmp}
 use Rattle.std.specs.Cmp.Lexicographic.{slice_cmp}
 use Rattle.std.specs.declared.cmp.Ordering.{Ordering}
@@ -11,7 +11,6 @@ use Rattle.std.proofs.lemmas.List.{get_or_default}
 use Rattle.std.proofs.lemmas.List.Elements.{All-weaker, All-contains_itself, All-contains, All-push, Contains-push, Contains-append_left}
 use Rattle.std.proofs.lemmas.List.Quantifiers.{all_pairs_push}
 use Rattle.std.proofs.lemmas.Cmp.{nat_list_cmp_total}
-use Rattle.std.specs.List.{All, AllPairs, Contains}
 use Rattle.std.specs.Prelude.{string_bytes, not}
 use Rattle.std.specs.BTreeSet.{BTreeSet, contains, Updates}
 use Rattle.ud_replace.specs.declared.node.FileId.{FileId}
@@ -37,8 +36,7 @@ after_last files last found ascend some is before k d within =
         (subst (λ (g : Found). IsBefore (get_or files k d) g) last_at (ascend k (length files - 1) d (omega arith) (omega arith))) before
 
     at_end : length files ≤ k + 1 → IsBefore (get_or files k d) found
-    at_end le =
-        let same : length files - 1 ≡ k = omega arith in
+    at_end le = let same : length files - 1 ≡ k = omega arith in
         subst (λ (g : Found). IsBefore g found) (sym last_at ∙ ap (λ (i : ℕ). get_or files i d) same) before
 
 -- A set keeps what it has.
@@ -84,8 +82,7 @@ picked_more seen new files found unseen u before h = record {
     by_case q (inr there) = let k = h.only q there in (k.0, Contains-append_left files (found ∷ []) k.0 k.1, k.2)
 
     other : (k : ℕ) (d : Found) → k < length files → IsOtherFile (get_or files k d) found
-    other k d within e =
-        let marked : IsMarked seen (get_or files k d) = h.marked k d within in
+    other k d within e = let marked : IsMarked seen (get_or files k d) = h.marked k d within in
         let there : contains key_cmp seen (key_of found.id) ≡ true =
         ap (λ (i : FileId). contains key_cmp seen (key_of i)) (sym e) ∙ marked in
         true≢false (sym there ∙ unseen)
@@ -119,8 +116,7 @@ before_got files last found r got test fails =
 
 -- The files before stay in the list.
 pub others_kept : (files after : List Found) (found : Found) → after ≡ files ++ found ∷ [] → All (Contains after) files
-others_kept files after found is =
-    subst (λ (fs : List Found). All (Contains fs) files) (sym is)
+others_kept files after found is = subst (λ (fs : List Found). All (Contains fs) files) (sym is)
     (All-weaker (Contains files) (Contains (files ++ found ∷ [])) (λ f there. Contains-append_left files (found ∷ []) f there) files (All-contains_itself files))
 
 -- Some files were looked at, and each is kept.

@@ -1,8 +1,7 @@
 -- The conditions of some outputs, one after another.
 use Rattle.std.proofs.Common.{◌≡◌, ℕ, List, [], ◌++◌, Bool, true, false, refl, sym, ◌∙◌, subst, append-nil, arith}
-use Rattle.std.proofs.lemmas.Grind.{flat_map-append}
+use Rattle.std.proofs.lemmas.Grind.{flat_map-append, common_steps}
 use Rattle.std.proofs.lemmas.List.Sums.{sum_by-append}
-use Rattle.std.proofs.lemmas.Grind.{common_steps}
 use Rattle.ud_model.specs.conditions.Table.{Argument}
 use Rattle.ud_passes.specs.remaining.RemainingLists.{RemainingState, AddsAll}
 use Rattle.ud_tree.specs.declared.arguments.Arguments.{Arguments}

@@ -33,8 +33,7 @@ none_of messages is = grind (arith, common_steps)
 pub run_clean : (run : Run) → ¬ (run.ending.status ≡ 2) → length run.messages + 2 < 2 ^ 64 →
     IsRun run → IsClean run
 run_clean run other few (inl h) = absurd (other h.status_is)
-run_clean run other few (inr h) =
-    let e = h.ends in
+run_clean run other few (inr h) = let e = h.ends in
     let s = e.has_status in
     let failed = run.ending.streams.failed in
     let none : (e.tally.faults ≡ 0) × (run.ending.streams.unheard ≡ false) =

@@ -191,8 +191,7 @@ pairs_before names name h i j d below within =
     λ e. both (at_i ∙ e ∙ sym at_j)
 
 last_is_new : (names : List (List ℕ)) (name : List ℕ) → AllPairs Apart (names ++ name ∷ []) → IsNew names name
-last_is_new names name h inside =
-    let k = inside.0 in
+last_is_new names name h inside = let k = inside.0 in
     let both : Apart (get_or (names ++ name ∷ []) k name) (get_or (names ++ name ∷ []) (length names) name) = h k (length names) name inside.1 (grind (arith, length-append)) in
     let at_k : get_or (names ++ name ∷ []) k name ≡ name = get_or_append_left names (name ∷ []) name k inside.1 ∙ inside.2 in
     let at_end : get_or (names ++ name ∷ []) (length names) name ≡ name = grind (arith, get_or-append_right names (name ∷ []) (length names) (length names) name) in
@@ -242,11 +241,9 @@ pub run_old_or_new : (o : TextOptions) (first : Files) (run : Run) → IsPlanned
     run.args.write_into ≡ false → IsRun run → AreTrue first run.new →
     EachCall (λ (c : Call) (earlier : List Call). OldOrOutput o first run.old (c ∷ earlier))
     run.old run.new
-run_old_or_new o first run p into (inl h) t =
-    (moments_still (moments_none o first run.old)
+run_old_or_new o first run p into (inl h) t = (moments_still (moments_none o first run.old)
     (each_at h.walk.are (walk_touches h.walk.calls run.old))).each
-run_old_or_new o first run p into (inr h) t =
-    let all = h.ends.does in
+run_old_or_new o first run p into (inr h) t = let all = h.ends.does in
     moments_by run.args run.args.task p into
     (apart_names all.done (done_before all.is_done h.is_walk.ascend)) t
     (moments_still (moments_none o first run.old)
@@ -262,8 +259,7 @@ each_shows {o = o} p (then_file h k t) = then_file (each_shows p h) (k.shows o p
 pub run_shows : (o : TextOptions) (run : Run) → IsPlanned run.args.plan o →
     run.args.task ≡ Diff → IsRun run → ShowsDiffs o run
 run_shows o run p diff (inl h) = no_diff (record { calls = h.walk.calls; are = h.walk.are }) h.unshown
-run_shows o run p diff (inr h) =
-    let all = h.ends.does in
+run_shows o run p diff (inr h) = let all = h.ends.does in
     let shows = h.ends.shows in
     let each = subst (λ (fs : List Found). EachFile (DoesOne run.args) h.mid (names_of fs) run.new all.results) (all_shown all.is_done diff) all.each in
     diffs h.mid h.files all.results shows.listed h.is_walk

@@ -1,7 +1,7 @@
 -- The messages of parts of a walk, one after another.
 use Rattle.std.proofs.Common.{String, Global, ◌≡◌, ◌==◌, true≢false, ℕ, suc, ◌+◌, ◌<◌, ◌^◌, List, [], ◌∷◌, ◌++◌, length, take, map, get_or, Bool, true, false, refl, sym, ap, ◌∙◌, subst, arith, append_assoc, append-nil, codes, length-append, Result, Ok, Err, IfOk}
 use Rattle.std.proofs.lemmas.List.{map-append, get_or-map, length-map}
-use Rattle.std.proofs.lemmas.Grind.{flat_map-append}
+use Rattle.std.proofs.lemmas.Grind.{flat_map-append, common_steps}
 use Rattle.std.proofs.lemmas.List.Elements.{Contains-append_left, Contains-append_right, Contains-get_or}
 use Rattle.std.specs.List.{Contains}
 use Rattle.ud_replace.specs.declared.node.NodeKind.{NodeKind}
@@ -17,7 +17,6 @@ use Rattle.ud_tree.specs.Paths.{folder_len, fresh_end, fresh_name}
 use Rattle.ud_tree.specs.Messages.{locked_line, fault_line, IsFailureOf, no_reason, with_reason}
 use Rattle.ud_tree.specs.Streams.{Source, takes_all, takes_none}
 use Rattle.std.specs.Prelude.{string_bytes}
-use Rattle.std.proofs.lemmas.Grind.{common_steps}
 use Rattle.ud_tree.specs.declared.arguments.Arguments.{Arguments}
 use Rattle.ud_tree.specs.Covering.{CoversPaths, misses_no_path, misses_no_input}
 use Rattle.ud_tree.specs.Summaries.{line_of}
@@ -170,8 +169,7 @@ walk_then {calls = calls} {a = a} {b = b} {c = c} h k = record {
 }
   where
     by_length : a.faulty + length (h.messages ++ k.messages) < 2 ^ 64 → c.faulty ≡ a.faulty + length (h.messages ++ k.messages)
-    by_length small =
-        let both = length-append h.messages k.messages in
+    by_length small = let both = length-append h.messages k.messages in
         let small_sum = subst (λ (n : ℕ). a.faulty + n < 2 ^ 64) both small in
         counted_both a.faulty b.faulty c.faulty (length h.messages) (length k.messages) h.counted k.counted small_sum ∙ ap (λ (n : ℕ). a.faulty + n) (sym both)
 
@@ -231,8 +229,7 @@ pub visit_none : {path : List ℕ} {calls : List Call} {r r' : ReportState} → 
 visit_none {path = path} {calls = calls} h = is_told no_call h
   where
     no_call : ¬ (calls ≡ walked (met path Absent) ∷ calls)
-    no_call e =
-        let n : length calls ≡ suc (length calls) = ap (λ (l : List Call). length l) e in
+    no_call e = let n : length calls ≡ suc (length calls) = ap (λ (l : List Call). length l) e in
         omega arith
 
 -- A name of a folder was visited, and something has it, or that isn't known.

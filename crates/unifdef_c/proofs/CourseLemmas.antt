@@ -15,8 +15,7 @@ use Rattle.ud_engine.proofs.RunLemmas.{own_piece, own_session, ran_early, ended_
 use Rattle.unifdef.specs.RunMessages.{result_message, result_status}
 use Rattle.unifdef.proofs.HeadlineLemmas.{tells_outcome}
 use Rattle.unifdef_c.proofs.TextCallLemmas.{parts_are}
-use Rattle.unifdef_c.specs.Streams.{BeginsStream, FeedsEngine, FeedsStream, TakesStream, FinishesStream, EndsStream, InSession, session, pending, output_of, fed_of}
-use Rattle.unifdef_c.specs.Streams.{by_engine, has_failed, has_ended, by_end, after_failure}
+use Rattle.unifdef_c.specs.Streams.{BeginsStream, FeedsEngine, FeedsStream, TakesStream, FinishesStream, EndsStream, InSession, session, pending, output_of, fed_of, by_engine, has_failed, has_ended, by_end, after_failure}
 use Rattle.unifdef_c.specs.StreamCourses.{IsOf, GoesOn, HasStopped, IsAnswerOf}
 use Rattle.unifdef_c.specs.declared.stream.Stream.{Stream}
 use Rattle.unifdef_c.specs.declared.stream.Fed.{Fed}
@@ -120,8 +119,7 @@ module _ (args : List (List ℕ)) (text given buffer buffer' : List ℕ) (n : �
 -- the outcome of a run is the answer
 is_answer : (args : List (List ℕ)) (input out : List ℕ) (r : Result Bool RunFault) → usage_fault args ≡ None → RunAnswers (options_of args) input (Some []) (Some out) r →
     IsAnswer args input (record { output = out; message = result_message (display_name args) r; status = result_status (options_of args).settings r })
-is_answer args input out r right w =
-    let name = display_name args in
+is_answer args input out r right w = let name = display_name args in
     let set = (options_of args).settings in
     let tells = tells_outcome name set r w.outcome w.answered in
     subst (λ (a : Answer). IsAnswer args input a)
@@ -153,8 +151,7 @@ module _ (args : List (List ℕ)) (text given : List ℕ) (s t : Stream) where
   works_at_end failed r uncut m = grind arith
 
   answers_by : (r : Result Bool RunFault) → GoesOn args text given s → FinishesStream s t r → ¬ (r ≡ Err Write) → IsAnswerOf args text given t r
-  answers_by r g (by_end r' works e) uncut =
-      let o = options_of args in
+  answers_by r g (by_end r' works e) uncut = let o = options_of args in
       let ends = shifted t.output.failed r uncut g.of.within (ap (λ x. x.taken) e.rest) (e.finishes (session o text (given ++ pending s)) g.fed) in
       of_stream args text given t r (ap (λ x. x.name.items) e.rest ∙ g.of.named) (ap (λ x. x.settings) e.rest ∙ g.of.set) (is_answer args text (given ++ pending t) r g.of.right
       (ended_ran o (Some []) (Some (given ++ pending s)) (Some (given ++ pending t)) text (given ++ pending s)

@@ -6,8 +6,7 @@ use Rattle.ud_model.specs.declared.settings.Settings.{Settings}
 use Rattle.ud_faults.specs.declared.run.RunFault.{RunFault}
 use Rattle.ud_args.specs.Plans.{PlanState, IsPlanOf}
 use Rattle.unifdef_c.specs.Streams.{IsNewStream, BeginsStream, FeedsStream, TakesStream, EndsStream, pending, has_ended}
-use Rattle.unifdef_c.specs.StreamCalls.{OpensStream, OpensHandle, FeedsHandle, TakesHandle, TellsEnd, EndsHandle, as_int, HasBadWords}
-use Rattle.unifdef_c.specs.StreamCalls.{opened, bad_words, no_memory}
+use Rattle.unifdef_c.specs.StreamCalls.{OpensStream, OpensHandle, FeedsHandle, TakesHandle, TellsEnd, EndsHandle, as_int, HasBadWords, opened, bad_words, no_memory}
 use Rattle.unifdef_c.specs.StreamCalls as calls
 use Rattle.unifdef_c.specs.declared.stream.Stream.{Stream}
 use Rattle.unifdef_c.specs.declared.stream.Fed.{Fed}

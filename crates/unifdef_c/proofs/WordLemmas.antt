@@ -24,8 +24,7 @@ ended_by_case : (b : ℕ) (bs : List ℕ) → word_len (b ∷ bs) < length (b �
     (z : Bool) → b == 0 ≡ z →
     words_of (b ∷ bs) ≡ take (word_len (b ∷ bs)) (b ∷ bs) ∷ words_of (drop (suc (word_len (b ∷ bs))) (b ∷ bs))
 ended_by_case b bs h known true e = rw e refl
-ended_by_case b bs h known false e =
-    let low = rw e at h in
+ended_by_case b bs h known false e = let low = rw e at h in
     rw e (rw (one (word_len bs)) (ap (onto_first b) (known (omega (arith, low)))))
 
 -- a word that a zero byte ends
@@ -51,8 +50,7 @@ last_word (b ∷ bs) h some = last_by_case b bs h (last_word bs) (b == 0) refl
 -- the same, by where the first zero byte is
 pub first_word : (block : List ℕ) (n : ℕ) → Some n ≡ position (λ b. b == 0) block →
     words_of block ≡ take n block ∷ words_of (take (length block - (n + 1)) (drop (n + 1) block))
-first_word block n e =
-    let p = position-Some (λ b. b == 0) block n 0 (sym e) in
+first_word block n e = let p = position-Some (λ b. b == 0) block n 0 (sym e) in
     let at : word_len block ≡ n = position_or_len_is (λ b. b == 0) block n 0 (omega (arith, p.0)) p.2 (λ _. p.1) in
     let low : word_len block < length block = omega (arith, p.0, at) in
     rw (take_rest block (n + 1), add-one, ← at) (ended_word block low)

@@ -88,8 +88,7 @@ options_split (two_words {w} {c} {cs} {d} {v} {args} is waits more) n =
 
 word_ascii : (bytes : List ℕ) → are_word_bytes bytes ≡ true → IsAscii bytes
 word_ascii [] e = IsAscii-nil
-word_ascii (b ∷ bs) e =
-    let small : b < 128 = grind (arith, word_small b) in
+word_ascii (b ∷ bs) e = let small : b < 128 = grind (arith, word_small b) in
     let more : are_word_bytes bs ≡ true = grind arith in
     IsAscii-cons b bs small (word_ascii bs more)
 
@@ -143,8 +142,7 @@ gives_by b name t l e small no_flag takes no_end no_mode first u sets = grind (a
 
 pub gives_symbol : (name w : List ℕ) → is_name name ≡ true → IsSymbolOption name w → GivesSymbol name w
 gives_symbol [] w e o = absurd (grind (arith, e))
-gives_symbol (b ∷ bs) w e defines =
-    let words : are_word_bytes (b ∷ bs) ≡ true = grind (arith, e) in
+gives_symbol (b ∷ bs) w e defines = let words : are_word_bytes (b ∷ bs) ≡ true = grind (arith, e) in
     let first : nat_lt b 128 ≡ true = grind (arith, word_small b) in
     gives_by b (b ∷ bs) bs 68 (record { value = Some (value_or_one (value_after_equals (b ∷ bs))); ignoring = false }) refl refl refl refl refl first
     (IsUtf8-from_ascii (b ∷ bs) (word_ascii (b ∷ bs) words))
@@ -223,8 +221,7 @@ with_option before after name w adds =
     by_parts (options_split adds.options 0) (gives_symbol name w adds.is_symbol adds.option)
   where
     by_parts : Splits 0 before → GivesSymbol name w → WithOption before after name w
-    by_parts s g =
-        let m : ℕ = s.next in
+    by_parts s g = let m : ℕ = s.next in
         let hs : List ParsedArg = parsed_from (suc m) after in
         let gs : List ParsedArg = parsed_from m after in
         let k : Same hs gs = given_same (suc m) m after in

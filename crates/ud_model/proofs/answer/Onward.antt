@@ -132,8 +132,7 @@ module _ (t u : Tree Reading) (more : List (Item Reading)) (e : lines u ≡ line
   as_many_marks = sym (length_marks true t)
 
   judged_grow : (rest : List Judged) × (judged_lines (lines u) (marks u) ≡ judged_lines (lines t) (marks t) ++ rest)
-  judged_grow =
-      let m : (ms : List Mark) × (marks u ≡ marks t ++ ms) = marks_stay t u more e in
+  judged_grow = let m : (ms : List Mark) × (marks u ≡ marks t ++ ms) = marks_stay t u more e in
       (judged_lines more m.0, ap₂ judged_lines e m.1 ∙ judged_more (lines t) more (marks t) m.0 as_many_marks)
 
   -- The pieces of a longer text begin with those of the text, whatever the printer.
@@ -146,14 +145,12 @@ module _ (t u : Tree Reading) (more : List (Item Reading)) (e : lines u ≡ line
       )
 
   listed_grow : (d : Bool) → (rest : List ℕ) × (listed d (lines u) (levels u) ≡ listed d (lines t) (levels t) ++ rest)
-  listed_grow d =
-      let m : (ks : List ℕ) × (levels u ≡ levels t ++ ks) = levels_stay t u more e in
+  listed_grow d = let m : (ks : List ℕ) × (levels u ≡ levels t ++ ks) = levels_stay t u more e in
       (listed d more m.0, ap₂ (listed d) e m.1 ∙ listed_more d (lines t) more (levels t) m.0 (sym (length_levels t)))
 
   -- The output of a longer text begins with that of the text.
   pub output_grows : (q : Listing) (s : Settings) → (rest : List ℕ) × (output_by q s (lines u) u ≡ output_by q s (lines t) t ++ rest)
-  output_grows Off s =
-      let p = pieces_grow (piece_after (style_of s)) in
+  output_grows Off s = let p = pieces_grow (piece_after (style_of s)) in
       (concat p.0, ap concat p.1 ∙ concat-append (pieces_by (piece_after (style_of s)) [] (judged_lines (lines t) (marks t))) p.0)
   output_grows Names s = listed_grow false
   output_grows Depths s = listed_grow true

@@ -47,8 +47,7 @@ next_same : (o : Option ℕ) (n m : ℕ) (ws : List (List ℕ)) → Same (given_
 next_same None n m [] = none
 next_same (Some c) n m [] = a_lacking c none
 next_same (Some c) n m (w ∷ ws) = an_option c (suc n) (suc m) w (next_same None (suc n) (suc m) ws)
-next_same None n m (w ∷ ws) =
-    let g : WordGives = letters_give (suc n) (option_letters w) in
+next_same None n m (w ∷ ws) = let g : WordGives = letters_give (suc n) (option_letters w) in
     let h : WordGives = letters_give (suc m) (option_letters w) in
     let gives : SameGives g h = letters_same (suc n) (suc m) (option_letters w) in
     if_same (bytes_eq w (codes "--")) (operands_from (suc n) ws) (operands_from (suc m) ws)

@@ -139,8 +139,7 @@ soon_step : (most : ℕ) (t : List Argument) → ((n w : List ℕ) → defined_t
 soon_step most t smaller within k n v l g = by g.on
   where
     by : ((is_identifier g.text ≡ false) × (g.text ≡ v)) ⊎ ((is_identifier g.text ≡ true) × (resolve_within k t g.text ≡ Some v)) → resolve_within (length t) t n ≡ Some v
-    by (inl p) =
-        let q : length (without n t) < length t = fewer n g.text t g.sets in
+    by (inl p) = let q : length (without n t) < length t = fewer n g.text t g.sets in
         ends_more 1 (length t) t t (same_follows t) n v (omega arith) (ends_here t 0 n g.text g.sets p.0 ∙ ap Some p.1)
     by (inr p) = soon_split most t smaller within k n g.text v l g.sets p.0 (split k t n g.text v p.1)
 

@@ -7,9 +7,7 @@ use Rattle.ud_model.specs.conditions.Expressions.{Expression, constant, named, i
 use Rattle.ud_model.specs.aids.Parsing.{tokens_of, reads, expression_of}
 use Rattle.ud_model.specs.conditions.Symbols.{resolve}
 use Rattle.ud_model.specs.conditions.Values.{apply_binary_known, apply_unary_known, name_value, name_has_u, defined_value, number_of, value_of}
-use Rattle.ud_model.specs.conditions.CValues.{Number, Gives, IsConstantValue, signed, unsigned, number, plain, by_suffix, by_size, CValue}
-use Rattle.ud_model.specs.conditions.CValues.{of_constant, of_known_name, of_known_defined, of_open_defined, of_unary, of_binary, of_and_both}
-use Rattle.ud_model.specs.conditions.CValues.{of_or_both, IsCValue}
+use Rattle.ud_model.specs.conditions.CValues.{Number, Gives, IsConstantValue, signed, unsigned, number, plain, by_suffix, by_size, CValue, of_constant, of_known_name, of_known_defined, of_open_defined, of_unary, of_binary, of_and_both, of_or_both, IsCValue}
 use Rattle.ud_model.specs.declared.operator.Operator.TheVariants.{Or, And, Equal, Less, Plus, Minus, Over, Remainder, Not, Complement}
 
 -- The argument that defines a name as a value, and the one that undefines it.
@@ -31,8 +29,7 @@ Shown text tree value =
 
 -- The text has this tree, and C may give it this value. Here its value is unknown.
 abbrev Refuted : List ℕ → Expression → Number → Type 0
-Refuted text tree value =
-    (expression_of text ≡ Some tree) × (value_of five false tree ≡ None) ×
+Refuted text tree value = (expression_of text ≡ Some tree) × (value_of five false tree ≡ None) ×
     IsCValue five tree value
 
 pub a_is_five : (u : Bool) → CValue five u (named (codes "A") false) (signed (pos 5))

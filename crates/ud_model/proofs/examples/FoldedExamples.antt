@@ -81,13 +81,11 @@ restored_d = refl
 
 -- A backslash stays in a comment: `#if A /* \\n */ \\n B\n`.
 abbrev text_e : List ℕ
-text_e =
-    35 ∷ 105 ∷ 102 ∷ 32 ∷ 65 ∷ 32 ∷ 47 ∷ 42 ∷ 32 ∷ 92 ∷ 10 ∷ 32 ∷ 42 ∷ 47 ∷ 32 ∷ 92 ∷ 10 ∷ 32 ∷
+text_e = 35 ∷ 105 ∷ 102 ∷ 32 ∷ 65 ∷ 32 ∷ 47 ∷ 42 ∷ 32 ∷ 92 ∷ 10 ∷ 32 ∷ 42 ∷ 47 ∷ 32 ∷ 92 ∷ 10 ∷ 32 ∷
     66 ∷ 10 ∷ []
 
 abbrev line_e : List ℕ
-line_e =
-    35 ∷ 105 ∷ 102 ∷ 32 ∷ 65 ∷ 32 ∷ 47 ∷ 42 ∷ 32 ∷ 92 ∷ 11 ∷ 32 ∷ 42 ∷ 47 ∷ 32 ∷ 11 ∷ 32 ∷ 66 ∷
+line_e = 35 ∷ 105 ∷ 102 ∷ 32 ∷ 65 ∷ 32 ∷ 47 ∷ 42 ∷ 32 ∷ 92 ∷ 11 ∷ 32 ∷ 42 ∷ 47 ∷ 32 ∷ 11 ∷ 32 ∷ 66 ∷
     10 ∷ []
 
 folded_e : folded_text text_e ≡ line_e
@@ -127,8 +125,7 @@ restored_g = refl
 
 -- A comment before the directive: `/* a\n */ #if A \\n B\n`.
 abbrev text_h : List ℕ
-text_h =
-    47 ∷ 42 ∷ 32 ∷ 97 ∷ 10 ∷ 32 ∷ 42 ∷ 47 ∷ 32 ∷ 35 ∷ 105 ∷ 102 ∷ 32 ∷ 65 ∷ 32 ∷ 92 ∷ 10 ∷ 32 ∷
+text_h = 47 ∷ 42 ∷ 32 ∷ 97 ∷ 10 ∷ 32 ∷ 42 ∷ 47 ∷ 32 ∷ 35 ∷ 105 ∷ 102 ∷ 32 ∷ 65 ∷ 32 ∷ 92 ∷ 10 ∷ 32 ∷
     66 ∷ 10 ∷ []
 
 folded_h : folded_text text_h ≡ text_h
@@ -158,13 +155,11 @@ restored_i = refl
 
 -- A line comment: `#if A // x \\n y\nz\n`.
 abbrev text_j : List ℕ
-text_j =
-    35 ∷ 105 ∷ 102 ∷ 32 ∷ 65 ∷ 32 ∷ 47 ∷ 47 ∷ 32 ∷ 120 ∷ 32 ∷ 92 ∷ 10 ∷ 32 ∷ 121 ∷ 10 ∷ 122 ∷
+text_j = 35 ∷ 105 ∷ 102 ∷ 32 ∷ 65 ∷ 32 ∷ 47 ∷ 47 ∷ 32 ∷ 120 ∷ 32 ∷ 92 ∷ 10 ∷ 32 ∷ 121 ∷ 10 ∷ 122 ∷
     10 ∷ []
 
 abbrev line_j : List ℕ
-line_j =
-    35 ∷ 105 ∷ 102 ∷ 32 ∷ 65 ∷ 32 ∷ 47 ∷ 47 ∷ 32 ∷ 120 ∷ 32 ∷ 92 ∷ 11 ∷ 32 ∷ 121 ∷ 10 ∷ 122 ∷
+line_j = 35 ∷ 105 ∷ 102 ∷ 32 ∷ 65 ∷ 32 ∷ 47 ∷ 47 ∷ 32 ∷ 120 ∷ 32 ∷ 92 ∷ 11 ∷ 32 ∷ 121 ∷ 10 ∷ 122 ∷
     10 ∷ []
 
 folded_j : folded_text text_j ≡ line_j

@@ -107,8 +107,7 @@ unended_placed c j n t e w = by_verdict (goes_or_left (complemented_if c j).verd
     by_verdict (inl v) =
         let empty = gone_piece (complemented_if c j) v ∙ ap (λ (l : Line). l.ending) (turned_line c j) ∙ none in
         record { pieces = []; formed = tt; same = sym (ap (λ (x : List ℕ). x ++ []) empty); places = lost_line j none empty }
-    by_verdict (inr h) =
-        let v : Verdict = (complemented_if c j).verdict in
+    by_verdict (inr h) = let v : Verdict = (complemented_if c j).verdict in
         let k : Span = (complemented_if c j).keyword in
         let is = left_alone v k (complemented_if c j).line h ∙ ap (λ (l : Line). piece_by v k l) line in
         let d : (line_at n (blanked c j)).ending ≡ ending_of t =
@@ -124,8 +123,7 @@ all_placed : (c : Bool) (js : List Judged) (n : ℕ) (ts : List (List ℕ)) → 
 all_placed c [] n ts e f = none_placed c n
 all_placed c (j ∷ []) n (t ∷ []) e (inl w) = let p : j.line ≡ line_at n t = cc in whole_more c j [] n t p w (none_placed c (suc n))
 all_placed c (j ∷ []) n (t ∷ []) e (inr w) = let p : j.line ≡ line_at n t = cc in unended_placed c j n t p w
-all_placed c (j ∷ k ∷ js) n (t ∷ u ∷ ts) e f =
-    let p : j.line ≡ line_at n t = cc in
+all_placed c (j ∷ k ∷ js) n (t ∷ u ∷ ts) e f = let p : j.line ≡ line_at n t = cc in
     let q : map (λ (j : Judged). j.line) (k ∷ js) ≡ numbered_from (suc n) (u ∷ ts) = cc in
     whole_more c j (k ∷ js) n t p f.0 (all_placed c (k ∷ js) (suc n) (u ∷ ts) q f.1)
 all_placed _ _ n _ e f = cc
@@ -178,8 +176,7 @@ same_endings (lost_line j e b) h = absurd (h.0 e)
 
 all_ended : (n : ℕ) (ts : List (List ℕ)) (js : List Judged) → AreWhole ts → map (λ (j : Judged). j.line) js ≡ numbered_from n ts → Each Ended js
 all_ended n [] (j ∷ js) w e = cc
-all_ended n (t ∷ ts) (j ∷ js) w e =
-    let p : j.line ≡ line_at n t = cc in
+all_ended n (t ∷ ts) (j ∷ js) w e = let p : j.line ≡ line_at n t = cc in
     let q : map (λ (j : Judged). j.line) js ≡ numbered_from (suc n) ts = cc in
     (subst (λ (l : Line). l.ending ≢ []) (sym p) (end_is_some (ending_of t) (whole_ending t w.0)), all_ended (suc n) ts js w.1 q)
 all_ended n _ [] _ _ = tt

@@ -55,8 +55,7 @@ module _ (table : List Argument) where
 
   no_entry_fits : (n : List ℕ) (b : Bool) → MayBe table (Some (unary Not (is_defined n false))) b → (o : Option Entry) → entry_in table n ≡ o → Fits (negate (ifdef_by o).cond) b
   no_entry_fits n b h None e = tt
-  no_entry_fits n b h (Some x) e =
-      negated_fits x.value x.ignoring b h.0
+  no_entry_fits n b h (Some x) e = negated_fits x.value x.ignoring b h.0
       (known_stays table false (unary Not (is_defined n false)) (truth (is_zero (truth (is_some x.value)))) h.0 (undefined_is n x e) h.1) h.2
 
   -- The case of `#ifdef`.

@@ -39,8 +39,7 @@ alone_by d before after k r q e a b c = grind arith
 
 pub sound_clear : (o : Options) (xs : List (Item Reading)) (t : Tree Reading) → AreFaultless o xs t → Pairwise (Clear o) xs (marks t)
 sound_clear o _ _ no_lines = tt
-sound_clear o _ _ (one_more xs t s l u e n) =
-    let x : Item Reading = next_item o xs t l in
+sound_clear o _ _ (one_more xs t s l u e n) = let x : Item Reading = next_item o xs t l in
     let a : Adds t x u = Trees.grows t u x (e ∙ ap (λ (zs : List (Item Reading)). zs ++ x ∷ []) (sym (sound_lines s))) in
     let m : (m : Mark) × (marks u ≡ marks t ++ m ∷ []) = marks_more a in
     let clear : Clear o x m.0 = record {

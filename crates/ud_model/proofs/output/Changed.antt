@@ -94,8 +94,7 @@ module _ (blank : Bool) where
   opener_step xs ms x false true ToEndif e w m a =
       then_loose xs (x ∷ []) ms (marked true ToEndif ∷ []) e a (loose_one f (judged_line x (marked true ToEndif)) (word_size x w ToEndif))
   opener_step xs ms x false false ToEndif e w m a = let q : false ≡ true = m in cc
-  opener_step xs ms x false now v e w m a =
-      to_held now (xs ++ x ∷ []) (ms ++ marked true v ∷ [])
+  opener_step xs ms x false now v e w m a = to_held now (xs ++ x ∷ []) (ms ++ marked true v ∷ [])
       (items_then xs (x ∷ []) ms (marked true v ∷ []) e a (fits_one f (judged_line x (marked true v)) (word_size x w v)))
 
   opener_any : (kept : Bool) (xs : List (Item Reading)) (ms : List Mark) (x : Item Reading) (was now : Bool) (v : Verdict) → length xs ≡ length ms →

@@ -117,16 +117,14 @@ module _ (o : Options) (p : IsPlainC o) (input : List ℕ) {r : Outcome} (d : Ha
 
       -- The truths of the simplified output are chosen, too.
       pub chosen_left : IsChosenWorld o.table v ss
-      chosen_left =
-          chosen_world o.table (rules_of o.settings) between.0 v alike
+      chosen_left = chosen_world o.table (rules_of o.settings) between.0 v alike
           (reached_again run w (c_world_agrees run w c_world) (IsChosen o.table) between.0 between.1 g)
 
 -- C selects the same lines of the simplified output as of the input, by the trees of both.
 pub triple_selects : {args : List (List ℕ)} {input text : List ℕ} {a : Answer} → Succeeds args input a →
     IsPlainC (options_of args) → text ≡ simplified_under (options_of args) a.output →
     (c : CTriple (options_of args) input a.output text) → selected_bytes c.v c.ss ≡ selected_bytes c.w c.ns
-triple_selects {args = args} {a = a} s p q c =
-    let o : Options = options_of args in
+triple_selects {args = args} {a = a} s p q c = let o : Options = options_of args in
     let j : IsTreeOf o (simplified_under o a.output) (closed c.ss) =
     subst (λ (y : List ℕ). IsTreeOf o y (closed c.ss)) q c.of_text in
     ap (λ (ls : List Reading). map line_bytes ls) (selects o.table (rules_of o.settings) c.x c.v
@@ -158,6 +156,5 @@ module _ (args : List (List ℕ)) (p : IsPlainC (options_of args)) where
           IsTreeOf o (simplified_under o a.output) (closed ss) → (v : World Reading) → KeepsTruths w ns v ss →
           IsChosenWorld o.table w ns → (selected_bytes v ss ≡ selected_bytes w ns) × IsChosenWorld o.table v ss
       answer_selected (refused f e) n j v t g = absurd (n refl)
-      answer_selected (ran r e d) n j v t g =
-          let q : r.fault ≡ None = fault_of r n in
+      answer_selected (ran r e d) n j v t g = let q : r.fault ≡ None = fault_of r n in
           (selected_left o p input d q ns i ss j w v t g, chosen_left o p input d q ns i ss j w v t g)

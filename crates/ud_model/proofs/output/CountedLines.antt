@@ -63,8 +63,7 @@ module _ (o : Options) (m : Mode) (xs : List (Item Reading)) (x : Item Reading) 
     (more : marks u ≡ marks t ++ mark ∷ []) (long : length xs ≡ length (marks t)) (a : Again o m xs t ys) (b : Again o m (xs ++ x ∷ []) u zs) where
   bytes_next : bytes_of zs ≡ bytes_of ys ++ map edited_piece (kept_line mark.verdict x)
   unfolding bytes_of
-  bytes_next =
-      item_bytes zs (printed (xs ++ x ∷ []) (marks u)) b.same
+  bytes_next = item_bytes zs (printed (xs ++ x ∷ []) (marks u)) b.same
       ∙ ap (λ (ms : List Mark). map edited_piece (printed (xs ++ x ∷ []) ms)) more
       ∙ ap (λ (ws : List (Item (Edited Reading))). map edited_piece ws) (printed-append xs (x ∷ []) (marks t) (mark ∷ []) long)
       ∙ ap (λ (ws : List (Item (Edited Reading))). map edited_piece (printed xs (marks t) ++ ws)) (append-nil (kept_line mark.verdict x))
@@ -268,8 +267,7 @@ module _ (o : Options) (m : Mode) (b n : Bool) (some : (b || n) ≡ true) where
           weave = w;
           whole = whole_more s.qs d s.whole (quiet_whole (says_number j.line.number) (ending_or_newline j.line.ending) (says_quiet j.line.number few) end);
           same = cc (concat_more s.qs d, append_assoc (concat s.qs) d (piece_by j.verdict j.keyword j.line), s.same, g, shown_u);
-          count =
-              λ r p h. subst
+          count = λ r p h. subst
               (λ (js : List Judged). Counted js (map reading_of s.ys ++ r ∷ [])
               (map reading_of (with_line o m s.zs (line_behind s.qs d)) ++ p ∷ []) (suc j.line.number)) (sym js_u)
               (subst (λ (rs : List Reading). Counted (so_far xs t ++ j ∷ []) (map reading_of s.ys ++ r ∷ [])
@@ -317,8 +315,7 @@ module _ (o : Options) (m : Mode) (b n : Bool) (some : (b || n) ≡ true) where
 
     -- The case of a line that is left and has an ending.
     left_state : HasEnd l → IsLeft v → State (xs ++ x ∷ []) u
-    left_state end h =
-        let r : Ready = ready h in
+    left_state end h = let r : Ready = ready h in
         let pw = piece_whole j.verdict j.keyword j.line (subst IsLine (sym line_j) i) (subst HasEnd (sym line_j) end) h in
         record {
           ys = with_line o m s.ys (line_behind (bytes_of s.ys) p);
@@ -335,8 +332,7 @@ module _ (o : Options) (m : Mode) (b n : Bool) (some : (b || n) ≡ true) where
 
     -- The case of the last line, without an ending.
     left_done : l.ending ≡ [] → IsLeft v → Done (xs ++ x ∷ []) u
-    left_done none h =
-        let r : Ready = ready h in
+    left_done none h = let r : Ready = ready h in
         record {
           ys = with_line o m s.ys (line_behind (bytes_of s.ys) p);
           again = subst (λ (ws : List (Item Reading)). Again o m (xs ++ x ∷ []) u ws) (items_left h) stepped.1;
@@ -373,8 +369,7 @@ module _ (o : Options) (m : Mode) (b n : Bool) (some : (b || n) ≡ true) where
         btw = subst (λ (ws : List (Item Reading)). Between o m (xs ++ x ∷ []) u ws) (items_gone f) (stepped.2 end)
 
         put_blank : b ≡ true → State (xs ++ x ∷ []) u
-        put_blank g =
-            let d : List ℕ = j.line.ending in
+        put_blank g = let d : List ℕ = j.line.ending in
             let de : IsEnd d = subst (λ (z : Line). IsEnd z.ending) (sym line_j) (has_end (ends_or_not l i)) in
             let cut = quiet_line (suc (length s.qs)) [] d tt de in
             let quiet : IsQuiet (line_behind s.qs d) = subst IsQuiet (sym cut) (record { quiet = tt; end = de }) in

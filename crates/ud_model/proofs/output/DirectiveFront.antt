@@ -36,8 +36,7 @@ each_is_white (b ∷ ws) e = let p : (is_white b ≡ true) × (are_white ws ≡ 
 
 -- A line with a directive is masked so.
 pub directive_front : (scan : Scan) (d : Directive) → content_of scan ≡ directive d → Front scan d
-directive_front scan d e =
-    let h : HasDirective scan d = (directive_is scan d).0 e in
+directive_front scan d e = let h : HasDirective scan d = (directive_is scan d).0 e in
     let p : DirectiveParts = h.parts in
     let n = length-append p.white (number_sign ∷ p.gap) in
     record {

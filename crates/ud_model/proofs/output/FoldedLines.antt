@@ -43,8 +43,7 @@ spaces_from : (k : LexemeKind) (n : ℕ) (before : Bool) (u : List ℕ) →
     (0 < n → (b : ℕ) → shown_as k b ≢ b → before ≡ true) → HaveSpaces before u (map shown (lex_from k n u))
 unfolding lex_from
 spaces_from k n before [] h = tt
-spaces_from k zero before (a ∷ u) h =
-    let piece = lexeme_at a u in
+spaces_from k zero before (a ∷ u) h = let piece = lexeme_at a u in
     (λ s d. absurd (d (begins_slash a u s)), spaces_from piece.kind piece.more (shown_as piece.kind a == space) u (λ l b d. comment_shown piece.kind a b d))
 spaces_from k (suc n) before (a ∷ u) h =
     (λ s d. h (omega arith) a d, spaces_from k n (shown_as k a == space) u (λ l b d. comment_shown k a b d))
@@ -150,12 +149,10 @@ part_by l false false e = cc e
 
 body_parts : (before : Bool) (r : Reading) (rs : List Reading) (masked : List ℕ) → IsMeasured r →
     HaveSpaces before (folded_body (r ∷ rs)) masked → HaveSpaces before (content r.line ++ bytes_behind r rs) masked
-body_parts before r [] masked i h =
-    let p = content-prefix r.line in
+body_parts before r [] masked i h = let p = content-prefix r.line in
     subst (λ (u : List ℕ). HaveSpaces before u masked) (sym (append-nil (content r.line)))
     (front_bytes before (content r.line) p.0 masked (subst (λ (u : List ℕ). HaveSpaces before u masked) p.1 h))
-body_parts before r (s ∷ rs) masked i h =
-    subst (λ (u : List ℕ). HaveSpaces before u masked)
+body_parts before r (s ∷ rs) masked i h = subst (λ (u : List ℕ). HaveSpaces before u masked)
     (ap (λ (x : List ℕ). x ++ folded_body (s ∷ rs)) (part_by r.line (is_outside r.scan.comment) r.scan.spliced (sym i.spliced))
     ∙ append_assoc (content r.line) (break_bytes (is_outside r.scan.comment) r.scan.spliced) (folded_body (s ∷ rs))) h
 

@@ -122,8 +122,7 @@ joins_next before l k = simp (joins_before-code, joins_after-code, run_of_last) 
 
 -- A line of a logical line joins the next one, if that is joined.
 pub next_joined : (r s : Reading) (rs : List Reading) → IsLogical (r ∷ s ∷ rs) → r.scan.joins_after ≡ s.scan.joins_before
-next_joined r s rs i =
-    let e = sym (read_on_is [] (r.line ∷ s.line ∷ map line_of rs)) ∙ i.read in
+next_joined r s rs i = let e = sym (read_on_is [] (r.line ∷ s.line ∷ map line_of rs)) ∙ i.read in
     let p : next_reading [] C r.line ≡ r = cc in
     let q : next_reading (next_reading [] C r.line ∷ []) C s.line ≡ s = cc in
     ap (λ (x : Reading). x.scan.joins_after) (sym p) ∙ sym (joins_next [] r.line s.line) ∙ ap (λ (x : Reading). x.scan.joins_before) q
@@ -212,8 +211,7 @@ body_open : (l : Line) → IsLine l → NoNewline l.body
 body_open l h = grind (arith, whole_body, no_feed_cut)
 
 part_open : (outside : Bool) (l : Line) → NoNewline l.body → NoNewline ((if outside then content l else l.body) ++ vertical_tab ∷ [])
-part_open true l n =
-    let p = content-prefix l in
+part_open true l n = let p = content-prefix l in
     no_newline-append (content l) (vertical_tab ∷ []) (no_feed_parts (content l) p.0 (subst NoNewline p.1 n)).0 ((λ q. omega arith), tt)
 part_open false l n = no_newline-append l.body (vertical_tab ∷ []) n ((λ q. omega arith), tt)
 
@@ -238,8 +236,7 @@ last_end (r ∷ []) ((n, t, e, inr w), h) some = absurd (some (ap (λ (l : Line)
 last_end (r ∷ s ∷ rs) h some = last_end (s ∷ rs) h.1 some
 
 folded_inner : (g : List Reading) → Each IsLine (map line_of g) → HasEnding (folded_line g) → IsInner (folded_line g)
-folded_inner g h i =
-    let k : Line = folded_line g in
+folded_inner g h i = let k : Line = folded_line g in
     (i.some, (1, text_of k, own_line k i.own, inl (ended k.body k.ending (folded_open g h) (last_end g h i.some))))
 
 folded_one : (g : List Reading) (gs : List (List Reading)) → IsLogical g → Ends g gs → IsLogical (folded_readings g) × Ends (folded_readings g) (map folded_readings gs)
@@ -250,8 +247,7 @@ folded_one g gs i n = by (is_foldable g) refl n
 
     by : (b : Bool) → is_foldable g ≡ b → Ends g gs →
         IsLogical (if b then next_reading [] C k ∷ [] else g) × Ends (if b then next_reading [] C k ∷ [] else g) (map folded_readings gs)
-    by true e n =
-        let h : HasEnding k = has_ending g e in
+    by true e n = let h : HasEnding k = has_ending g e in
         (first_logical k, inl (ends_with [] C k (folded_shown g e).ends h.some, (folded_inner g (lines_of_one g gs n) h, tt)))
     by false e (inl n) = (i, inl n)
     by false e (inr n) = (i, inr (ap (λ (hs : List (List Reading)). map folded_readings hs) n.0, n.1))
@@ -347,8 +343,7 @@ module _ (bytes : List ℕ) (no_tab : has_tab bytes ≡ false) where
 
   -- The readings of the folded text.
   readings_there : map unnumbered (read_as C (folded_text bytes)) ≡ map unnumbered result
-  readings_there =
-      ap (λ (ls : List Line). map unnumbered (read_in C ls)) lines_there
+  readings_there = ap (λ (ls : List Line). map unnumbered (read_in C ls)) lines_there
       ∙ read_alike [] [] (numbered_from 1 (bytes_of result)) (map line_of result) refl
       (all_renumbered 1 (map line_of result)
       (are_lines (map line_of result) (all_lines (map folded_readings groups) logical)))
@@ -372,8 +367,7 @@ pub record BothDirectives (r : Reading) (rs : List Reading) : Type 0 where
   pub alike : IsReadAs now before rs
 
 pub both_directives : (r : Reading) (rs : List Reading) → IsLogical (r ∷ rs) → is_foldable (r ∷ rs) ≡ true → BothDirectives r rs
-both_directives r rs i f =
-    let d = has_directive (content_of r.scan) (begins f) in
+both_directives r rs i f = let d = has_directive (content_of r.scan) (begins f) in
     let e = folded_has r rs d.0 (subst (Each IsMeasured) i.read (measured [] (map line_of (r ∷ rs)) tt)) (folded_shown (r ∷ rs) f) ((directive_is r.scan d.0).0 d.1) in
     record { before = d.0; has = d.1; now = e.0; has_now = e.1; alike = e.2 }
   where
@@ -426,8 +420,7 @@ same_c_lines bytes = by (has_tab bytes) refl
   where
     by : (b : Bool) → has_tab bytes ≡ b → c_lines (folded_text bytes) ≡ c_lines bytes
     by true e = ap c_lines (ap (λ (b : Bool). if b then bytes else folded_lines (read_as C bytes)) e)
-    by false e =
-        ap (λ (rs : List Reading). map c_line (logical_lines rs)) (readings_there bytes e)
+    by false e = ap (λ (rs : List Reading). map c_line (logical_lines rs)) (readings_there bytes e)
         ∙ ap (map c_line) (logical_unnumbered (result bytes e) ∙ ap (map (map unnumbered)) (regrouped (map folded_readings (groups bytes e)) (logical bytes e)))
         ∙ each_c_line (groups bytes e) (text_logical bytes)
         ∙ ap (map c_line) (sym (logical_unnumbered (read_as C bytes)))

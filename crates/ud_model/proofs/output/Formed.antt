@@ -162,8 +162,7 @@ pub record IsOther (q : ℕ) : Type 0 where
 -- An edited body ends in such a byte only if the body does.
 pub edited_end : (q : ℕ) → IsOther q → (v : Verdict) (k : Span) (b : List ℕ) → EndsIn q (edited_body v k b) → EndsIn q b
 unfolding edited_body
-edited_end q o ToIf k b h =
-    end_drop q (k.at + k.len) b
+edited_end q o ToIf k b h = end_drop q (k.at + k.len) b
     (end_front q (take k.at b ++ opener_keyword k.len) (drop (k.at + k.len) b) (by_push (drop (k.at + k.len) b)) refl
     (λ r. each_length (λ w. EndsIn q (take k.at b ++ w) → ⊥) (not_end q (take k.at b) (codes "ifdef ") 32 o.no_space) (not_end q (take k.at b) (codes "ifndef ") 32 o.no_space)
     (not_end q (take k.at b) (codes "if ") 32 o.no_space) k.len) h)
@@ -183,14 +182,12 @@ by_ends l a b e f = ap₂ (λ (x y : Bool). if x then 13 ∷ 10 ∷ [] else if y
 
 -- The ending of a body and an ending.
 pub ending_both : (b : List ℕ) → ending_of (b ++ 13 ∷ 10 ∷ []) ≡ 13 ∷ 10 ∷ []
-ending_both b =
-    by_ends (b ++ 13 ∷ 10 ∷ []) true (ends_with nat_eq (b ++ 13 ∷ 10 ∷ []) (10 ∷ []))
+ending_both b = by_ends (b ++ 13 ∷ 10 ∷ []) true (ends_with nat_eq (b ++ 13 ∷ 10 ∷ []) (10 ∷ []))
     ((ends_is Decides-eqb (b ++ 13 ∷ 10 ∷ []) (13 ∷ 10 ∷ []) (ends_with nat_eq (b ++ 13 ∷ 10 ∷ []) (13 ∷ 10 ∷ [])) refl).1 b refl) refl
 
 pub ending_feed : (b : List ℕ) → (EndsIn 13 b → ⊥) → ending_of (b ++ 10 ∷ []) ≡ 10 ∷ []
 unfolding EndsIn
-ending_feed b n =
-    by_ends (b ++ 10 ∷ []) false true
+ending_feed b n = by_ends (b ++ 10 ∷ []) false true
     (test_false (b ++ 10 ∷ []) (13 ∷ 10 ∷ []) (λ f e. n (f, (same_from_push b (f ++ 13 ∷ []) 10 10 (e ∙ sym (append_assoc f (13 ∷ []) (10 ∷ [])))).0)))
     ((ends_is Decides-eqb (b ++ 10 ∷ []) (10 ∷ []) (ends_with nat_eq (b ++ 10 ∷ []) (10 ∷ [])) refl).1 b refl)
 
@@ -208,8 +205,7 @@ ending_none b n =
 
 cr_or_not : (t : List ℕ) → ending_of t ≡ 10 ∷ [] → EndsIn 13 (body_of t) → ⊥
 unfolding EndsIn
-cr_or_not t e (c, h) =
-    let whole : t ≡ c ++ 13 ∷ 10 ∷ [] =
+cr_or_not t e (c, h) = let whole : t ≡ c ++ 13 ∷ 10 ∷ [] =
     sym (body-ending t) ∙ ap₂ (λ (x y : List ℕ). x ++ y) h e ∙ append_assoc c (13 ∷ []) (10 ∷ []) in
     let f : ending_of t ≡ 13 ∷ 10 ∷ [] = ap ending_of whole ∙ ending_both c in
     let g : 13 ∷ 10 ∷ [] ≡ 10 ∷ [] = sym f ∙ e in cc
@@ -222,8 +218,7 @@ whole_keeps v k t w = go (whole_ending t w)
     go h = grind (arith, ending_both, ending_feed, cr_or_not, edited_end)
 
 unended_keeps : (v : Verdict) (k : Span) (t : List ℕ) → IsUnterminated t → ending_of (edited_body v k (body_of t) ++ ending_of t) ≡ ending_of t
-unended_keeps v k t (s, w) =
-    let none : ending_of t ≡ [] = ending_none t w in
+unended_keeps v k t (s, w) = let none : ending_of t ≡ [] = ending_none t w in
     let b : NoNewline (body_of t) = (no_feed_parts (body_of t) (ending_of t) (subst NoNewline (sym (body-ending t)) w)).0 in
     cc (none, append-nil (edited_body v k (body_of t)), ending_none (edited_body v k (body_of t)) (edited_no_feed v k (body_of t) b))
 

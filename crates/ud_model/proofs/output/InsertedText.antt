@@ -57,8 +57,7 @@ module _ (o : Options) (n : NoneIgnores o.table) where
 pub inserted_in_text : (o : Options) → IsPlain o → (b n : Bool) → (b || n) ≡ true → (input : List ℕ) → {r s : Outcome} →
     HasOutcome o input r → HasOutcome (with_blank_renumber b n o) input s → (us : Nodes Reading) →
     IsTreeOf o r.output (closed us) → (vs : Nodes Reading) × IsTreeOf o s.output (closed vs) × NodesWithInserted us vs
-inserted_in_text o p b n some input {r = r} {s = s} run other us a =
-    let m : Mode = the_mode o in
+inserted_in_text o p b n some input {r = r} {s = s} run other us a = let m : Mode = the_mode o in
     let z = reading_exists o input in
     let c = counted_text o p b n some input z.3 run other in
     let zs : List (Item Reading) = items o (read_as m s.output) in

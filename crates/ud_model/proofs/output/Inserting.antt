@@ -70,8 +70,7 @@ module _ (o : Options) (m : Mode) (ys zs : List (Item Reading)) (qs : List (List
   between_lines r = w.rests (w.first.joins_on ∙ sym r.joins_on)
 
   lone_next : (n : Mode) → m ≡ n → (l : Line) → LeavesOff zs in_text true false → IsQuiet l → LeavesOff (with_line o m zs l) in_text true false
-  lone_next Plain e l a q =
-      nowhere (with_line o m zs l)
+  lone_next Plain e l a q = nowhere (with_line o m zs l)
       (plain_run o (with_line o m zs l) (subst (λ (k : Mode). ReadIn o k (with_line o m zs l)) e (one_read zs w.read l)))
   lone_next C e l a q =
       subst (λ (k : Mode). LeavesOff (with_line o k zs l) in_text true false) (sym e)
@@ -79,8 +78,7 @@ module _ (o : Options) (m : Mode) (ys zs : List (Item Reading)) (qs : List (List
 
   -- A quiet line is inserted.
   pub put : LeavesOff ys in_text true false → (q : List ℕ) → IsQuiet (line_behind qs q) → Weave o m ys (with_line o m zs (line_behind qs q)) (qs ++ q ∷ [])
-  put r q h =
-      let a = lone_next m refl (line_behind qs q) (between_lines r) h in
+  put r q h = let a = lone_next m refl (line_behind qs q) (between_lines r) h in
       record {
         place = in_text;
         white = true;
@@ -102,8 +100,7 @@ module _ (o : Options) (m : Mode) (ys zs : List (Item Reading)) (qs : List (List
 
   left_by : (k : Mode) → m ≡ k → ReadIn o m ys → (n : ℕ) (q : List ℕ) → ending_of q ≢ [] →
       Weave o m (with_line o m ys (line_at n q)) (with_line o m zs (line_behind qs q)) (qs ++ q ∷ [])
-  left_by Plain e a n q h =
-      let f : LeavesOff (with_line o m ys (line_at n q)) in_text true false =
+  left_by Plain e a n q h = let f : LeavesOff (with_line o m ys (line_at n q)) in_text true false =
       nowhere (with_line o m ys (line_at n q))
       (plain_run o (with_line o m ys (line_at n q)) (subst (λ (k : Mode). ReadIn o k (with_line o m ys (line_at n q))) e (one_read ys a (line_at n q)))) in
       let g : LeavesOff (with_line o m zs (line_behind qs q)) in_text true false =
@@ -120,8 +117,7 @@ module _ (o : Options) (m : Mode) (ys zs : List (Item Reading)) (qs : List (List
         read = one_read zs w.read (line_behind qs q);
         are = are_more q;
       }
-  left_by C e a n q h =
-      let l : Line = line_at n q in
+  left_by C e a n q h = let l : Line = line_at n q in
       let k : Line = line_behind qs q in
       let s = subst (λ (k : Mode). scan_after (map reading_of zs) k (line_behind qs q) ≡ scan_after (map reading_of ys) k (line_at n q)) e (left_seen n q) in
       let on : Bool = (scan_after (map reading_of ys) C l).joins_after in

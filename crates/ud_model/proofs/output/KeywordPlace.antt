@@ -43,14 +43,12 @@ module _ (c : ℕ) (prefix : List ℕ) (unquoted : has_quote prefix ≡ false) (
   -- The position of that byte.
   pub found_by : (w : LexState) (y : ℕ) (a : List ℕ) (b rest : List ℕ) → Quoted w [] → length (y ∷ a) ≡ length prefix →
       masked_after w [] ((y ∷ a) ++ b) ≡ prefix ++ c ∷ rest → Found w ((y ∷ a) ++ b) prefix c rest
-  found_by w y a [] rest q l e =
-      let m = length-masked_after ((y ∷ a) ++ []) w [] in
+  found_by w y a [] rest q l e = let m = length-masked_after ((y ∷ a) ++ []) w [] in
       let n : length ((y ∷ a) ++ []) ≡ length (y ∷ a) = ap (λ (k : List ℕ). length k) (append-nil (y ∷ a)) in
       let f : length (masked_after w [] ((y ∷ a) ++ [])) ≡ length (prefix ++ c ∷ rest) = ap (λ (k : List ℕ). length k) e in
       let g : length (prefix ++ c ∷ rest) ≡ length prefix + length (c ∷ rest) = length-append prefix (c ∷ rest) in
       absurd (omega arith)
-  found_by w y a (x ∷ b) rest q l e =
-      let p : LexState = place_after w (y ∷ a) in
+  found_by w y a (x ∷ b) rest q l e = let p : LexState = place_after w (y ∷ a) in
       let m : List ℕ = masked_after w [] (y ∷ a) in
       let n : List ℕ = if opens_comment p x then blank_last m else m in
       let whole : masked_after w [] ((y ∷ a) ++ x ∷ b) ≡ n ++ masked_after (next_state p x) (masked_byte p x ∷ []) b =

@@ -80,8 +80,7 @@ leaves_next o xs w white on l a = search (rules, place_after, readings_last, joi
 -- If a line joins nothing and has an ending, the lines end between lines.
 pub leaves_anew : (o : Options) (xs : List (Item Reading)) (l : Line) → (scan_after (map reading_of xs) C l).joins_after ≡ false → HasEnd l →
     LeavesOff (xs ++ item_of o (read_after xs C l) ∷ []) in_text true false
-leaves_anew o xs l j e =
-    let last = sym (joins_after-code (c_run_of (map reading_of xs)) l) ∙ j in
+leaves_anew o xs l j e = let last = sym (joins_after-code (c_run_of (map reading_of xs)) l) ∙ j in
     let same : c_run_of (map reading_of (xs ++ item_of o (read_after xs C l) ∷ [])) ≡ c_run_of (map reading_of xs) ++ l ∷ [] =
     ap c_run_of (readings_last o xs xs C l) ∙ run_of_last (map reading_of xs) (read_after xs C l) in record {
       reads = subst (λ (run : List Line). LexesTo (spliced_text run) in_text true) (sym same) (starts_anew (c_run_of (map reading_of xs)) l last e);

@@ -120,8 +120,7 @@ module _ (o : Options) (r q : Reading) where
   pub left_if : (d : Directive) → content_of r.scan ≡ directive d → role_of d.kind ≡ ElifGroup →
       (decision_on r.scan d o.table (rules_of o.settings)).cond ≡ Unknown → SeenAsIf r.scan q.scan d →
       line_bytes q ≡ edited_bytes (edited ToIf r) → Left o ToIf r q
-  left_if d e k u s b =
-      let c = to_if_content r.scan q.scan d e s.fresh_is s.cut_is s.masked_is in
+  left_if d e k u s b = let c = to_if_content r.scan q.scan d e s.fresh_is s.cut_is s.masked_is in
       record {
         item = if_item o r q d (if_kind d.keyword.len) (if_len d.keyword.len) e k u c (if_begins d.keyword.len) (to_if_test r.scan d e k) s.joins_is b;
         uncut = ap is_cut c;

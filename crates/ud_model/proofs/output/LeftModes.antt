@@ -38,13 +38,11 @@ module _ (o : Options) (xs ys : List (Item Reading)) (l k : Line) where
       Left o v (read_after xs Plain l) (read_after ys Plain k)
   left_plain Remove h s u b e = absurd h
   left_plain Keep h s u b e = grind (arith, kept_body)
-  left_plain ToIf h s u b e =
-      let d = becomes_if o (read_after xs Plain l) s in
+  left_plain ToIf h s u b e = let d = becomes_if o (read_after xs Plain l) s in
       left_if o (read_after xs Plain l) (read_after ys Plain k) d.0 d.1 d.2 d.3
       (plain_if l k d.0 d.1 (subst (λ (p : Span). LeftLine ToIf p l k) (ap keyword_in d.1) b)) e
   left_plain ToElse h s u b e = grind (arith, becomes_else, left_else, plain_cut, else_body)
-  left_plain ToEndif h s u b e =
-      let d = becomes_endif o (read_after xs Plain l) s in
+  left_plain ToEndif h s u b e = let d = becomes_endif o (read_after xs Plain l) s in
       left_endif o (read_after xs Plain l) (read_after ys Plain k) d.0 d.1 d.2
       (plain_cut l k d.0 (codes "endif") (b.body ∙ endif_body (keyword_in (content_of (plain_scan l))) l.body ∙ ap (λ (c : Content). take (keyword_in c).at l.body ++ codes "endif") d.1)) e
 
@@ -133,8 +131,7 @@ module _ (o : Options) where
           left = left_kept o (read_after xs C l) (read_after ys C k) q e u;
           carry = kept_carry (same_next w white l k body b.ending) (ap (λ (r : Scan). r.joins_after) q);
         }
-    left_code ToIf h s u m b e =
-        let d = becomes_if o (read_after xs C l) s in
+    left_code ToIf h s u m b e = let d = becomes_if o (read_after xs C l) s in
         let f : IfScan w white on l k d.0 =
         if_scan w white on l k d.0 a.sane (ap content_of (sym seen_before) ∙ d.1) (subst (λ (p : Span). LeftLine ToIf p l k) (ap keyword_in d.1) b) in
         let scanned : SeenAsIf (scan_after (map reading_of xs) C l) (scan_after (map reading_of ys) C k) d.0 = grind (arith, seen_before, seen_now, f.scanned) in
@@ -142,8 +139,7 @@ module _ (o : Options) where
           left = left_if o (read_after xs C l) (read_after ys C k) d.0 d.1 d.2 d.3 scanned e;
           carry = kept_carry f.next scanned.joins_is;
         }
-    left_code ToElse h s u m b e =
-        let d = becomes_else o (read_after xs C l) s in
+    left_code ToElse h s u m b e = let d = becomes_else o (read_after xs C l) s in
         let scanned : SeenCut (scan_after (map reading_of xs) C l) (scan_after (map reading_of ys) C k) d.0 (codes "else") =
         cut_code d.0 (codes "else") new_else d.1
         (b.body ∙ else_body (keyword_in (content_of (scan_after (map reading_of xs) C l))) l.body ∙ ap (λ (t : Content). take (keyword_in t).at l.body ++ codes "else") d.1) in
@@ -151,8 +147,7 @@ module _ (o : Options) where
           left = left_else o (read_after xs C l) (read_after ys C k) d.0 d.1 d.2 scanned e;
           carry = cut_carry (or_parts (scan_after (map reading_of xs) C l).joins_before (scan_after (map reading_of xs) C l).joins_after (m refl)).1 scanned.joins_is;
         }
-    left_code ToEndif h s u m b e =
-        let d = becomes_endif o (read_after xs C l) s in
+    left_code ToEndif h s u m b e = let d = becomes_endif o (read_after xs C l) s in
         let scanned : SeenCut (scan_after (map reading_of xs) C l) (scan_after (map reading_of ys) C k) d.0 (codes "endif") =
         cut_code d.0 (codes "endif") new_endif d.1
         (b.body ∙ endif_body (keyword_in (content_of (scan_after (map reading_of xs) C l))) l.body ∙ ap (λ (t : Content). take (keyword_in t).at l.body ++ codes "endif") d.1) in

@@ -47,8 +47,7 @@ pub record NextAlike (w : LexState) (white : Bool) (l k : Line) : Type 0 where
 -- 1. In plain mode.
 
 plain_after : (l : Line) (d : Directive) → content_of (plain_scan l) ≡ directive d → drop (d.keyword.at + d.keyword.len) l.body ≡ d.after
-plain_after l d e =
-    let p : Front (plain_scan l) d = directive_front (plain_scan l) d e in
+plain_after l d e = let p : Front (plain_scan l) d = directive_front (plain_scan l) d e in
     ap (λ (t : List ℕ). drop (d.keyword.at + d.keyword.len) t) p.masked_is
     ∙ drop_two (p.white ++ 35 ∷ p.gap) p.word d.after (d.keyword.at + d.keyword.len) (ap₂ (λ (a b : ℕ). a + b) p.at_is p.len_is)
 
@@ -69,8 +68,7 @@ same_next w white l k b e = grind arith
 
 keyword_within : (w : LexState) (white on : Bool) (l : Line) (d : Directive) → content_of (scan_from w white on l) ≡ directive d → d.keyword.at + d.keyword.len ≤ length (content l)
 unfolding scan_from
-keyword_within w white on l d e =
-    let k : Span = keyword_in (content_of (scan_from w white on l)) in
+keyword_within w white on l d e = let k : Span = keyword_in (content_of (scan_from w white on l)) in
     let a : k.at + k.len ≤ length (masked_after w [] (content l)) = keyword_lies (scan_from w white on l) in
     let b : length (masked_after w [] (content l)) ≡ length (content l) = length-masked_after (content l) w [] ∙ omega arith in
     let c : k.at + k.len ≡ d.keyword.at + d.keyword.len = ap (λ (t : Content). (keyword_in t).at + (keyword_in t).len) e in

@@ -71,8 +71,7 @@ names_then : (P : List ℕ → Type 0) (names : List (List ℕ)) (rest before : 
     ((n : List ℕ) → IsListed n (before ++ (listed_names [] names ++ rest)) → P n) →
     Each P names × ((b : List ℕ) × (partial_line b ≡ []) × (before ++ (listed_names [] names ++ rest) ≡ b ++ rest))
 names_then P [] rest before z h = (tt, (before, z, refl))
-names_then P (n ∷ names) rest before z h =
-    let more : List ℕ = listed_names [] names in
+names_then P (n ∷ names) rest before z h = let more : List ℕ = listed_names [] names in
     let flat : before ++ (listed_names [] (n ∷ names) ++ rest) ≡ (before ++ n) ++ 10 ∷ (more ++ rest) = simp (name_first, append_assoc) in
     let moved = sym (append_assoc (before ++ n) (10 ∷ []) (more ++ rest)) in
     let k = names_then P names rest (before ++ n ++ 10 ∷ []) (rest_none (before ++ n)) (λ m i. h m (subst (IsListed m) (sym (flat ∙ moved)) i)) in
@@ -142,8 +141,7 @@ module _ (o : Options) (n : NoneIgnores o.table) where
   -- Faultless lines are read in the one mode.
   read_so : {xs : List (Item Reading)} {t : Tree Reading} → AreFaultless o xs t → map reading_of xs ≡ read_in (the_mode o) (map line_of xs)
   read_so no_lines = refl
-  read_so (one_more xs t s l u e w) =
-      map-append reading_of xs (next_item o xs t l ∷ [])
+  read_so (one_more xs t s l u e w) = map-append reading_of xs (next_item o xs t l ∷ [])
       ∙ ap₂ (λ (rs : List Reading) (r : Reading). rs ++ r ∷ []) (read_so s)
       (reading_of-item_of o (read_after xs (mode_after o t) l)
       ∙ ap₂ (λ (m : Mode) (rs : List Reading). next_reading rs m l) (mode_is s) (read_so s))
@@ -164,8 +162,7 @@ module _ (o p : Options) (input : List ℕ) (same : p.settings ≡ o.settings) (
       same_settings same (stops xs t f s)
       (stops xs t f (stop_alike o p (ap (λ (s : Settings). s.plain) (sym same)) (ap (λ (s : Settings). rules_of s) (sym same)) (lines_of input) xs t f s names next))
       (ran_as (stops xs t f s))
-  reads_alike h (ran_as (ends xs t g)) =
-      let names : AllNames (Alike o.table p.table) xs =
+  reads_alike h (ran_as (ends xs t g)) = let names : AllNames (Alike o.table p.table) xs =
       each_unmap reading_of Told xs (subst (Each Told) (ap (λ (ls : List Line). read_in (the_mode o) ls) g.are ∙ sym (read_so o n g.sound)) h) in
       same_settings same (ends xs t g)
       (ends xs t (record {

@@ -221,21 +221,18 @@ module _ (b : Bool) where
 
       go : (t : Bool) → is_directive (content_of r.scan) ≡ t → Each NotLong all → map (item_with bytes_now) (c_items all) ≡ map bytes_item all
       go true p n = let d = has_directive (content_of r.scan) p in whole_items r rs i n.0 d.0 d.1
-      go false p n =
-          let h : Each IsTextLine all = (p, later_texts rs i.one.1 n.1) in
+      go false p n = let h : Each IsTextLine all = (p, later_texts rs i.one.1 n.1) in
           ap (λ (l : CLine). map (item_with bytes_now) (items_as l all)) (no_directive all all h) ∙ text_items all h
 
       by : (t : Bool) → folds all ≡ t → Each NotLong (if t then k ∷ [] else all) → map (item_with bytes_now) (c_items all) ≡ map bytes_item (if t then k ∷ [] else all)
-      by true q n =
-          let f = both_directives r rs i (and_parts (not b) (is_foldable all) q).1 in
+      by true q n = let f = both_directives r rs i (and_parts (not b) (is_foldable all) q).1 in
           directive_items r rs f.before f.now k f.has f.has_now f.alike.kind (ap (λ (t : Bool). map line_bytes (if t then k ∷ [] else all)) q)
       by false q n = go (is_directive (content_of r.scan)) refl n
 
   all_items : (gs : List (List Reading)) → AreLogical gs → Each NotLong (flat_map now gs) →
       map (item_with bytes_now) (flat_map c_items gs) ≡ map bytes_item (flat_map now gs)
   all_items [] a n = refl
-  all_items (g ∷ gs) a n =
-      let m = each_parts NotLong (now g) (flat_map now gs) n in
+  all_items (g ∷ gs) a n = let m = each_parts NotLong (now g) (flat_map now gs) n in
       grind (arith, map-append, same_items g a.0 m.0, all_items gs a.2 m.1)
 
   -- Each text line is a line of the text.
@@ -267,16 +264,14 @@ ones (r ∷ rs) = ap (λ (ts : List (List ℕ)). line_bytes r ∷ ts) (ones rs)
 none_long : (rs ss : List Reading) → map unnumbered rs ≡ map unnumbered ss → list_any is_long rs ≡ false → Each NotLong ss
 none_long rs [] e h = tt
 none_long [] (s ∷ ss) e h = cc
-none_long (r ∷ rs) (s ∷ ss) e h =
-    let same : unnumbered r ≡ unnumbered s = cc in
+none_long (r ∷ rs) (s ∷ ss) e h = let same : unnumbered r ≡ unnumbered s = cc in
     let more : map unnumbered rs ≡ map unnumbered ss = cc in
     let p = or_parts (is_long r) (list_any is_long rs) h in
     (ap is_long (sym same) ∙ p.0, none_long rs ss more p.1)
 
 items_alike : (rs ss : List Reading) → map unnumbered rs ≡ map unnumbered ss → map bytes_item rs ≡ map bytes_item ss
 items_alike [] [] e = refl
-items_alike (r ∷ rs) (s ∷ ss) e =
-    let same : unnumbered r ≡ unnumbered s = cc in
+items_alike (r ∷ rs) (s ∷ ss) e = let same : unnumbered r ≡ unnumbered s = cc in
     let more : map unnumbered rs ≡ map unnumbered ss = cc in
     grind (arith, ap bytes_item same, items_alike rs ss more)
 items_alike [] (s ∷ ss) e = cc

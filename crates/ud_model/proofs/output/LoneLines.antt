@@ -35,8 +35,7 @@ digit_quiet : (n : ℕ) → n < 10 → Quiet (48 + n)
 digit_quiet n h = grind arith
 
 decimal_quiet : (n : ℕ) → n < 2 ^ 64 → Each Quiet (decimal n)
-decimal_quiet n h =
-    decimal_by_steps (λ k ds. Each Quiet ds) (λ k l. (digit_quiet k l, tt))
+decimal_quiet n h = decimal_by_steps (λ k ds. Each Quiet ds) (λ k l. (digit_quiet k l, tt))
     (λ k ds l q. each_both Quiet ds ((48 + k % 10) ∷ []) q (digit_quiet (k % 10) (omega arith), tt)) n h
 
 word_quiet : Each Quiet (codes "#line ")

@@ -93,8 +93,7 @@ module _ {L : Type 0} (w : World L) where
     groups_in : (gs : Groups L) (l : L) → Contains (selected_groups w gs) l → Contains (text_lines_in (lines_of_groups gs)) l
     groups_in (conditional es) l h =
         ⊎_elim (λ a. a) (λ b. absurd (none_there l b)) (chosen_or (selected_elifs w es) (lines_of_elifs es) [] l (elifs_in es) h)
-    groups_in (otherwise es k ns) l h =
-        ⊎_elim
+    groups_in (otherwise es k ns) l h = ⊎_elim
         (λ a. in_first (lines_of_elifs es ++ else_line k ∷ []) (lines_of_nodes ns) l (in_first (lines_of_elifs es) (else_line k ∷ []) l a))
         (λ b. in_second (lines_of_elifs es ++ else_line k ∷ []) (lines_of_nodes ns) l (selected_in ns l b))
         (chosen_or (selected_elifs w es) (lines_of_elifs es) (selected w ns) l (elifs_in es) h)
@@ -182,8 +181,7 @@ module _ (ns : Nodes Reading) where
 
   -- A live line is left.
   live_left : (l : Reading) → IsLive ns l → Contains (map line_from left_texts) l
-  live_left l (w, a, c) =
-      to_map line_from left_texts (edited Keep l)
+  live_left l (w, a, c) = to_map line_from left_texts (edited Keep l)
       (subst (λ (xs : List (Item (Edited Reading))). Contains (text_lines_in xs) (edited Keep l)) (sym (printed-pruned ns))
       (selected_in (out_world w) (folded ns) (edited Keep l)
       (subst (λ (ls : List (Edited Reading)). Contains ls (edited Keep l)) (selected-pruned w ns a) (to_map (edited Keep) (selected w ns) l c))))

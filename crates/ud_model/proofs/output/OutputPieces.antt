@@ -92,8 +92,7 @@ unfolding all_pieces
 all_formed [] ms n ts e f = tt
 all_formed (x ∷ xs) [] n ts e f = tt
 all_formed (x ∷ []) (m ∷ ms) n (t ∷ []) e f = let p : line_of x ≡ line_at n t = cc in formed_last m.verdict x n t p f
-all_formed (x ∷ y ∷ xs) (m ∷ ms) n (t ∷ u ∷ ts) e f =
-    let p : line_of x ≡ line_at n t = cc in
+all_formed (x ∷ y ∷ xs) (m ∷ ms) n (t ∷ u ∷ ts) e f = let p : line_of x ≡ line_at n t = cc in
     let q : map line_of (y ∷ xs) ≡ numbered_from (suc n) (u ∷ ts) = cc in
     formed_with m.verdict x (printed (y ∷ xs) ms) n t p f.0 (all_formed (y ∷ xs) ms (suc n) (u ∷ ts) q f.1)
 all_formed _ (_ ∷ _) n _ e f = cc

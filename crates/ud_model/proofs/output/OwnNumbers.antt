@@ -16,8 +16,7 @@ line_of r = r.line
 
 lines_after : (before : List Reading) (ls : List (Mode × Line)) → map line_of (readings_after before ls) ≡ map line_of before ++ map (λ (l : Mode × Line). l.1) ls
 lines_after before [] = sym (append-nil (map line_of before))
-lines_after before (l ∷ ls) =
-    lines_after (before ++ next_reading before l.0 l.1 ∷ []) ls
+lines_after before (l ∷ ls) = lines_after (before ++ next_reading before l.0 l.1 ∷ []) ls
     ∙ ap (λ (ks : List Line). ks ++ map (λ (k : Mode × Line). k.1) ls) (map-append line_of before (next_reading before l.0 l.1 ∷ []))
     ∙ append_assoc (map line_of before) (l.1 ∷ []) (map (λ (k : Mode × Line). k.1) ls)
 
@@ -50,8 +49,7 @@ own_first ps sure m p = grind (arith, push_not_nil)
 
 own_by : {ls : List Reading} → ByPush ls → HaveNoLineDirective ls → InOrder 1 (map line_of ls) → Own ls
 own_by none h i = own_first
-own_by (push {xs = ls} d p) h i =
-    let q = none_last ls d h in
+own_by (push {xs = ls} d p) h i = let q = none_last ls d h in
     let c = order_last 1 (map line_of ls) d.line (subst (InOrder 1) (map-append line_of ls (d ∷ [])) i) in
     own_line ls d q.1 (c.1 ∙ ap (λ (k : ℕ). 1 + k) (length-map ls line_of) ∙ omega arith) (own_by p q.0 c.0)
 

@@ -180,8 +180,7 @@ no_block k e = grind arith
 -- A line that isn't spliced and has no open comment joins no line.
 code_alone : (run : List Line) (l : Line) → is_spliced l ≡ false → is_in_block (scan_after_run run l).comment ≡ false → (scan_after_run run l).joins_after ≡ false
 unfolding scan_after_run
-code_alone run l e h =
-    let k : LexemeKind = kind_at_end (spliced_text run ++ spliced_part l) in
+code_alone run l e h = let k : LexemeKind = kind_at_end (spliced_text run ++ spliced_part l) in
     joins_last run l ∙ ap₂ (λ (s b : Bool). s || b) e (no_block k (ap (λ (s : Bool). is_in_block (comment_at s k)) (sym e) ∙ h))
 
 line_alone : (before : List Reading) (m : Mode) (l : Line) → (m ≡ Plain) ⊎ (is_spliced l ≡ false) → is_in_block (scan_after before m l).comment ≡ false →

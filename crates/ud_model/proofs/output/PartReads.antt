@@ -92,8 +92,7 @@ module _ (n : ℕ) (xs : List (Item Reading)) (ns : Nodes Reading) where
 
     -- The tree with the line after both parts is that of the second part with the line.
     came_from : (v : Tree Reading) → lines v ≡ both ys ++ later n x ∷ [] → (u : Tree Reading) × Adds t x u × (v ≡ grown u)
-    came_from v g =
-        let b = adds_back (reading_later n) ns t x v (adds_both v g) in
+    came_from v g = let b = adds_back (reading_later n) ns t x v (adds_both v g) in
         (b.0, b.1, adds-once (adds_both v g) (adds_after (reading_later n) ns b.1))
 
     spoiled_by : (before : List Mark) (m : Mark) → (before ≡ [] → (reading_of x).scan.joins_before ≡ false) →
@@ -102,14 +101,12 @@ module _ (n : ℕ) (xs : List (Item Reading)) (ns : Nodes Reading) where
     spoiled_by (b ∷ bs) m h = grind (arith, ends_more)
 
     spoiled_both : (m : Mark) → is_obfuscated (marks_of_nodes true ns ++ marks t) (later n x) m ≡ is_obfuscated (marks t) x m
-    spoiled_both m =
-        spoiled_by (marks t) m
+    spoiled_both m = spoiled_by (marks t) m
         (λ none. first (nil_from_length ys (ap (λ (zs : List (Item Reading)). length zs) (sym e) ∙ sym (length_marks true t) ∙ ap (λ (ms : List Mark). length ms) none)))
 
     spoils : (before : List Mark) (m : Mark) (u : Tree Reading) → Adds t x u → marks u ≡ before ++ m ∷ [] → IsTrue (is_obfuscated before x m) →
         Holds (both ys) (later n x) obfuscated_case
-    spoils before m u a k is =
-        let w = marks_more a in
+    spoils before m u a k is = let w = marks_more a in
         let s : (before ≡ marks t) × (m ≡ w.0) = grind (arith, same_from_push) in (
           marks_of_nodes true ns ++ before,
           m,
@@ -124,8 +121,7 @@ module _ (n : ℕ) (xs : List (Item Reading)) (ns : Nodes Reading) where
 
     spoilt : (before : List Mark) (m : Mark) (v : Tree Reading) → lines v ≡ both ys ++ later n x ∷ [] → marks v ≡ before ++ m ∷ [] →
         IsTrue (is_obfuscated before (later n x) m) → Holds ys x obfuscated_case
-    spoilt before m v g k is =
-        let c = came_from v g in let w = marks_more c.1 in
+    spoilt before m v g k is = let c = came_from v g in let w = marks_more c.1 in
         let s : (before ≡ marks_of_nodes true ns ++ marks t) × (m ≡ w.0) =
         same_from_push before (marks_of_nodes true ns ++ marks t) m w.0
         (sym k ∙ ap marks c.2 ∙ marks_grown c.0 ∙ ap (λ (ms : List Mark). marks_of_nodes true ns ++ ms) w.1
@@ -228,8 +224,7 @@ module _ (o : Options) (n : ℕ) (xs : List (Item Reading)) (ns : Nodes Reading)
     pub sound_both : {ys : List (Item Reading)} {t : Tree Reading} → AreFaultless o ys t → (rest : List Line) → ls ≡ map line_of ys ++ rest →
         AreFaultless o (both n xs ns ys) (grown n xs ns t)
     sound_both no_lines rest e = subst (λ (zs : List (Item Reading)). AreFaultless o zs (closed ns)) (sym (append-nil xs)) sound
-    sound_both (one_more ys t s l u g none) rest e =
-        let x : Item Reading = next_item o ys t l in
+    sound_both (one_more ys t s l u g none) rest e = let x : Item Reading = next_item o ys t l in
         let are = e ∙ ap (λ (ks : List Line). ks ++ rest) (lines_with_next o ys t l) ∙ append_assoc (map line_of ys) (l ∷ []) rest in
         let b : AreFaultless o (both n xs ns ys) (grown n xs ns t) = sound_both s (l ∷ rest) are in
         let first = first_alone ys t l in

@@ -139,8 +139,7 @@ right_numbers no_line h w = right_first
 right_numbers (goes {js = js} {ss = ss} {n = n} c j g) h w = grind (arith, right_further js j ss n (right_numbers c h (each_parts IsFew js (j ∷ []) w).0))
 right_numbers (blanked {js = js} {ss = ss} j c g d k) h w =
     right_line (js ++ j ∷ []) ss d j.line.number (blank_operand d k) (right_further js j ss j.line.number (right_numbers c h (each_parts IsFew js (j ∷ []) w).0)) (λ i e. inl (inl k))
-right_numbers (counts_on {js = js} {rs = rs} {ss = ss} j c r s p) h w =
-    let q = none_last rs r h in
+right_numbers (counts_on {js = js} {rs = rs} {ss = ss} j c r s p) h w = let q = none_last rs r h in
     right_line (js ++ j ∷ []) ss s j.line.number (ap line_operand p.scanned ∙ q.1)
     (right_further js j ss j.line.number (right_numbers c q.0 (each_parts IsFew js (j ∷ []) w).0))
     (printed_for js j r s p)
@@ -165,8 +164,7 @@ all_clear no_line h w = tt
 all_clear (goes {js = js} c j g) h w = all_clear c h (each_parts IsFew js (j ∷ []) w).0
 all_clear (blanked {js = js} {ss = ss} j c g d k) h w =
     each_both IsClear ss (d ∷ []) (all_clear c h (each_parts IsFew js (j ∷ []) w).0) (inl (blank_operand d k), tt)
-all_clear (counts_on {js = js} {rs = rs} {ss = ss} j c r s p) h w =
-    let q = none_last rs r h in
+all_clear (counts_on {js = js} {rs = rs} {ss = ss} j c r s p) h w = let q = none_last rs r h in
     each_both IsClear ss (s ∷ []) (all_clear c q.0 (each_parts IsFew js (j ∷ []) w).0) (inl (ap line_operand p.scanned ∙ q.1), tt)
 all_clear (starts_anew {js = js} {rs = rs} {ss = ss} c j d k r s p) h w =
     let q = none_last rs r h in

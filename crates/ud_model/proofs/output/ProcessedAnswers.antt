@@ -44,8 +44,7 @@ own_items o _ _ (one_item xs t r l u e) =
     (item_own o (next_item o xs t l) (ap (item_of o) (sym (reading_of-item_of o (read_after xs (mode_after o t) l)))), tt)
 
 lines_text : (o : Options) (input : List ℕ) (ns : Nodes Reading) → IsTreeOf o input (closed ns) → LinesText ns
-lines_text o input ns i =
-    from_items IsText AnyOpener ns
+lines_text o input ns i = from_items IsText AnyOpener ns
     (subst (λ (xs : List (Item Reading)). Each (IsOf IsText AnyOpener) xs) (sym (read_lines i.read))
     (own_items o i.items (closed ns) i.read))
 
@@ -68,8 +67,7 @@ module _ (args : List (List ℕ)) (plain : IsPlain (options_of args)) {S F : Typ
   left_answer : {input : List ℕ} {a : Answer} → IsAnswer args input a → a.status ≢ 2 → (ns us : Nodes Reading) → IsTreeOf (options_of args) input (closed ns) →
       IsTreeOf (options_of args) a.output (closed us) → Left ns us
   left_answer (refused f e) n ns us b c = absurd (n refl)
-  left_answer {input = input} (ran r e d) n ns us b c =
-      let o : Options = options_of args in
+  left_answer {input = input} (ran r e d) n ns us b c = let o : Options = options_of args in
       let f : r.fault ≡ None = faultless o.settings r.differs r.fault n in
       let k : CleanRun = grind (arith, faultless) in
       record {

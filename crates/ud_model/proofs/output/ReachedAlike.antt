@@ -48,8 +48,7 @@ module _ {L K M : Type 0} (f : L → M) (g : K → M) (v : World L) (w : World K
 
     elifs_alike : (es : Elifs L) (ds : Elifs K) → elifs_with_lines f es ≡ elifs_with_lines g ds → map v (openers_of_elifs es) ≡ map w (openers_of_elifs ds) →
         ElifsReached w Other ds → ElifsReached v One es
-    elifs_alike (first o ns) (first p ms) e t h =
-        let q : with_lines f ns ≡ with_lines g ms = cc in
+    elifs_alike (first o ns) (first p ms) e t h = let q : with_lines f ns ≡ with_lines g ms = cc in
         let oe : opener_with_line f o ≡ opener_with_line g p = cc in
         let le : f o.line ≡ g p.line = ap (λ (x : Opener M). x.line) oe in
         let a : v o.line ≡ w p.line = cc in

@@ -74,8 +74,7 @@ map_readings (y ∷ ys) = ap₂ (λ (a : List ℕ) (b : List (List ℕ)). a ∷ 
 
 pub item_bytes : (ys : List (Item Reading)) (zs : List (Item (Edited Reading))) → map (item_with scanned) ys ≡ map (item_with left_seen) zs →
     map (λ y. line_bytes (reading_of y)) ys ≡ map left_piece zs
-item_bytes ys zs e =
-    let bytes : List Seen → List (List ℕ) = map (λ (s : Seen). s.bytes) in
+item_bytes ys zs e = let bytes : List Seen → List (List ℕ) = map (λ (s : Seen). s.bytes) in
     map_readings ys ∙ sym (map-twice (λ (y : Item Reading). scanned (line_in y)) (λ (s : Seen). s.bytes) ys)
     ∙ ap bytes (sym (map_lines scanned ys) ∙ ap (λ (l : List (Item Seen)). map line_in l) e ∙ map_lines left_seen zs)
     ∙ map-twice (λ (z : Item (Edited Reading)). left_seen (line_in z)) (λ (s : Seen). s.bytes) zs
@@ -169,8 +168,7 @@ module _ (k : CleanRun) where
 
   -- Each opener of the output has the condition of the opener from which it comes.
   conditions_folded : map condition_in (openers k.after) ≡ map (λ (e : Edited Reading). condition_in e.line) (openers (folded k.before))
-  conditions_folded =
-      sym (map-twice scanned (λ (q : Seen). q.condition) (openers k.after))
+  conditions_folded = sym (map-twice scanned (λ (q : Seen). q.condition) (openers k.after))
       ∙ ap (λ (l : List Seen). map (λ (q : Seen). q.condition) l)
       (sym (openers-with scanned k.after) ∙ ap (λ (m : Nodes Seen). openers m) seen_alike ∙ openers-with left_seen (folded k.before))
       ∙ map-twice left_seen (λ (q : Seen). q.condition) (openers (folded k.before)) ∙ kept_conditions (openers (folded k.before)) (pruned_keeps k.before)
@@ -269,8 +267,7 @@ output_sound o p input ns z f = grind (arith, sound_again, fit_short, undecided_
 -- An output whose lines fit is printed as it is, if the input has this tree.
 again_law : (o : Options) → IsPlain o → (input : List ℕ) → {r : Outcome} → HasOutcome o input r → r.fault ≡ None → LinesFit (lines_of r.output) →
     (ns : Nodes Reading) → IsTreeOf o input (closed ns) → HasOutcome o r.output (record { output = r.output; fault = None; differs = false })
-again_law o p input {r} d e f ns t =
-    let z : Result o p input r ns = reread o p input d e ns t in
+again_law o p input {r} d e f ns t = let z : Result o p input r ns = reread o p input d e ns t in
     let s = output_sound o p input ns z f in
     runs_again o p r.output z.is_tree.items z.tree s.0 (output_undecided z.tree ns z.same) s.1
 

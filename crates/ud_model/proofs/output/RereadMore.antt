@@ -105,8 +105,7 @@ module _ (o : Options) (m : Mode) (xs : List (Item Reading)) (t u : Tree Reading
   pub left_again : (r : Reading) (piece : List ℕ) → x ≡ item_of o r → Left o mark.verdict r (read_after ys m (piece_behind_all ys piece)) →
       Again o m (xs ++ x ∷ []) u (ys ++ item_of o (read_after ys m (piece_behind_all ys piece)) ∷ [])
   unfolding bytes_read
-  left_again r piece is h =
-      let q : Reading = read_after ys m (piece_behind_all ys piece) in
+  left_again r piece is h = let q : Reading = read_after ys m (piece_behind_all ys piece) in
       let y : Item Reading = item_of o q in
       let q_is : reading_of y ≡ q = reading_of-item_of o q in
       let bytes : bytes_read (ys ++ y ∷ []) ≡ bytes_read ys ++ piece ∷ [] =

@@ -60,8 +60,7 @@ pub record More (o : Options) (m : Mode) (xs : List (Item Reading)) (t : Tree Re
 
 pub the_more : (o : Options) (m : Mode) (xs : List (Item Reading)) (t : Tree Reading) (l : Line) (u : Tree Reading) → lines t ≡ xs → lines u ≡ xs ++ item_of o (read_after xs m l) ∷ [] →
     NoneHolds xs (item_of o (read_after xs m l)) cases → More o m xs t l u
-the_more o m xs t l u q e n =
-    let x : Item Reading = item_of o (read_after xs m l) in
+the_more o m xs t l u q e n = let x : Item Reading = item_of o (read_after xs m l) in
     let g : Grows true t u x = grows true (Trees.grows t u x (e ∙ ap (λ (zs : List (Item Reading)). zs ++ x ∷ []) (sym q))) in
     let more : marks u ≡ marks t ++ g.mark ∷ [] = cc (marks_so_far_same true u, g.more, marks_so_far_same true t) in
     record {
@@ -157,8 +156,7 @@ module _ (o : Options) (xs : List (Item Reading)) (t : Tree Reading) (ys : List 
   is_alone h e = grind (arith, line_reading, edited_alone)
 
   carried_on : joins (c_run_of (map reading_of (xs ++ line_new ∷ []))) ≡ true → ends_removed (marks u) ≡ not (ends_kept true u)
-  carried_on j =
-      removed_is o C xs t ys b l u i k
+  carried_on j = removed_is o C xs t ys b l u i k
       ∙ carried_step (ends_removed (marks t)) k.grown.does k.unspoiled (ap (λ (r : Reading). r.scan.joins_after) line_reading ∙ joins_next o xs l ∙ j)
 
   -- The line is removed.
@@ -179,8 +177,7 @@ module _ (o : Options) (xs : List (Item Reading)) (t : Tree Reading) (ys : List 
 
   -- The line is left.
   code_left : (w : LexState) (white on : Bool) → LeavesOff xs w white on → LeavesOff ys w white on → IsLeft k.grown.mark.verdict → (zs : List (Item Reading)) × Stepped o C xs u l zs
-  code_left w white on a c h =
-      let n : Line = now o C xs t ys b l u i k in
+  code_left w white on a c h = let n : Line = now o C xs t ys b l u i k in
       let line = now_line o C xs t ys b l u i k h in
       let f : LeftCode o xs ys w white on a c l n line.ending k.grown.mark.verdict = search (rules, left_code, is_alone, now_text) in
       let again = is_left o C xs t ys b l u i k f.left in (

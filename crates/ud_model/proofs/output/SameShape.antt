@@ -28,8 +28,7 @@ module _ {L M : Type 0} (f : L → M) where
 -- Two lists that are made up of parts of the same lengths have the same parts.
 pub parts : {A : Type 0} (a b c d : List A) → length a ≡ length b → a ++ c ≡ b ++ d → (a ≡ b) × (c ≡ d)
 parts [] [] c d l e = (refl, e)
-parts (x ∷ a) (y ∷ b) c d l e =
-    let t : a ++ c ≡ b ++ d = cc in
+parts (x ∷ a) (y ∷ b) c d l e = let t : a ++ c ≡ b ++ d = cc in
     let h : x ≡ y = cc in
     let r : (a ≡ b) × (c ≡ d) = parts a b c d (omega arith) t in
     (ap₂ (λ (z : _) (zs : _). z ∷ zs) h r.0, r.1)
@@ -67,8 +66,7 @@ module _ {L K M : Type 0} (f : L → M) (g : K → M) (v : World L) (w : World K
     pub same_selected : (ns : Nodes L) (ms : Nodes K) → with_lines f ns ≡ with_lines g ms → map v (openers ns) ≡ map w (openers ms) →
         map f (selected v ns) ≡ map g (selected w ms)
     same_selected nothing nothing e t = refl
-    same_selected (text ns l) (text ms k) e t =
-        let p : with_lines f ns ≡ with_lines g ms = cc in
+    same_selected (text ns l) (text ms k) e t = let p : with_lines f ns ≡ with_lines g ms = cc in
         let q : f l ≡ g k = cc in
         map-append f (selected v ns) (l ∷ []) ∙ ap₂ (λ (a : List M) (b : M). a ++ b ∷ []) (same_selected ns ms p t) q ∙ sym (map-append g (selected w ms) (k ∷ []))
     same_selected (section ns gs l) (section ms hs k) e t =
@@ -94,8 +92,7 @@ module _ {L K M : Type 0} (f : L → M) (g : K → M) (v : World L) (w : World K
 
     pub same_elifs : (es : Elifs L) (ds : Elifs K) → elifs_with_lines f es ≡ elifs_with_lines g ds → map v (openers_of_elifs es) ≡ map w (openers_of_elifs ds) →
         option_map (map f) (selected_elifs v es) ≡ option_map (map g) (selected_elifs w ds)
-    same_elifs (first o ns) (first p ms) e t =
-        let q : with_lines f ns ≡ with_lines g ms = cc in
+    same_elifs (first o ns) (first p ms) e t = let q : with_lines f ns ≡ with_lines g ms = cc in
         let a : v o.line ≡ w p.line = cc in
         let r : map v (openers ns) ≡ map w (openers ms) = cc in
         where_same (v o.line) (w p.line) (selected v ns) (selected w ms) a (same_selected ns ms q r)

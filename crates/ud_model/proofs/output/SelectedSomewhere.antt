@@ -66,8 +66,7 @@ module _ {L : Type 0} where
         ⊎_elim (λ a. weaker (λ w s. Contains-append_left (selected w ns) (k ∷ []) l s) (selected_somewhere ns l a))
         (λ b. weaker (λ w s. Contains-append_right (selected w ns) (k ∷ []) l b) (any_truths (openers ns)))
         (apart (lines_of_nodes ns) (text_line k ∷ []) l h)
-    selected_somewhere (section ns gs e) l h =
-        ⊎_elim
+    selected_somewhere (section ns gs e) l h = ⊎_elim
         (λ a. ⊎_elim
         (λ b. weaker (λ w s. Contains-append_left (selected w ns) (selected_groups w gs) l s.0) (both_truths (selected_somewhere ns l b) (any_truths (openers_of_groups gs))))
         (λ b. weaker (λ w s. Contains-append_right (selected w ns) (selected_groups w gs) l s.1) (both_truths (any_truths (openers ns)) (groups_somewhere gs l b)))
@@ -78,8 +77,7 @@ module _ {L : Type 0} where
     groups_somewhere : (gs : Groups L) (l : L) → Contains (text_lines_in (lines_of_groups gs)) l → Truths (openers_of_groups gs) (λ w. Contains (selected_groups w gs) l)
     groups_somewhere (conditional es) l h =
         weaker (λ w s. subst (λ (r : Option (List L)). Contains (lines_or r []) l) (sym s.1) s.2) (elifs_somewhere es l h)
-    groups_somewhere (otherwise es k ns) l h =
-        ⊎_elim
+    groups_somewhere (otherwise es k ns) l h = ⊎_elim
         (λ a. ⊎_elim
         (λ b. weaker (λ w s. subst (λ (r : Option (List L)). Contains (lines_or r (selected w ns)) l) (sym s.0.1) s.0.2) (both_truths (elifs_somewhere es l b) (any_truths (openers ns))))
         (λ b. absurd (none_there l b))
@@ -91,8 +89,7 @@ module _ {L : Type 0} where
     elifs_somewhere (first o ns) l h =
         weaker (λ w s. (selected w ns, ap (λ (b : Bool). where_true b (selected w ns)) s.0, s.1))
         (both_truths (one_truth o.line true) (selected_somewhere ns l h))
-    elifs_somewhere (elif es o ns) l h =
-        ⊎_elim
+    elifs_somewhere (elif es o ns) l h = ⊎_elim
         (λ a. ⊎_elim
         (λ b. weaker (λ w s. (s.0.0.0, ap (λ (r : Option (List L)). or_else r (where_true (w o.line) (selected w ns))) s.0.0.1, s.0.0.2))
         (both_truths (both_truths (elifs_somewhere es l b) (any_truths (o.line ∷ []))) (any_truths (openers ns))))

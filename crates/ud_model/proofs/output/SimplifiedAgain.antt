@@ -70,8 +70,7 @@ module _ (table : List Argument) (rules : Rules) where
     -- The edited line has the residual, which stays.
     left_again : (e : Expression) → expression_of (map shown (simplified_cells table rules cells_before)) ≡ Some (residual table rules e).tree →
         simplified_line table rules s ≡ s.line
-    left_again e p =
-        let now : Directive = i.edited.now in
+    left_again e p = let now : Directive = i.edited.now in
         let scanned : s.scan ≡ scan_after_run [] s.line = i.after ∙ ap (λ (k : Line). scan_after_run [] k) (sym i.line) in
         let q : expression_of (map shown (condition_cells s.line now)) ≡ Some (residual table rules e).tree =
         ap expression_of (after_is table rules s.line s.scan now scanned has_now ∙ i.edited.after) ∙ p in
@@ -135,8 +134,7 @@ is_some e = cc
 module _ (table : List Argument) (rules : Rules) where
   -- 2. If a line is edited to itself, all cells of its condition are left.
   all_left : (l : Line) (d : Directive) → is_spliced l ≡ false → left_line table rules l d ≡ l → left_cells_of table rules l d ≡ condition_cells l d
-  all_left l d s e =
-      let n : ℕ = keyword_end d in
+  all_left l d s e = let n : ℕ = keyword_end d in
       let left : List Cell = left_cells_of table rules l d in
       let cells : List Cell = condition_cells l d in
       let c : content l ≡ l.body = ap (λ (b : Bool). if b then take (length l.body - 1) l.body else l.body) s in

@@ -40,8 +40,7 @@ own_line k e = grind (arith, cut_there)
 module _ (table : List Argument) (rules : Rules) where
   -- An edited line has no newline in its body.
   pub edited_body : (l : Line) (d : Directive) → NoNewline l.body → NoNewline (left_line table rules l d).body
-  edited_body l d h =
-      let p = content-prefix l in
+  edited_body l d h = let p = content-prefix l in
       let c : NoNewline (content l) = (no_feed_parts (content l) p.0 (subst NoNewline p.1 h)).0 in
       let f : NoNewline (map byte_of (condition_cells l d)) =
       subst NoNewline (drop-map byte_of (keyword_end d) (content_cells [] l))
@@ -72,8 +71,7 @@ module _ (table : List Argument) (rules : Rules) where
 
   numbered : (n : ℕ) (ts : List (List ℕ)) (rs : List Reading) → map (λ (r : Reading). r.line) rs ≡ numbered_from n ts → Numbered n ts rs
   numbered n [] [] e = none
-  numbered n (t ∷ ts) (r ∷ rs) e =
-      let p : r.line ≡ line_at n t = cc in
+  numbered n (t ∷ ts) (r ∷ rs) e = let p : r.line ≡ line_at n t = cc in
       let q : map (λ (r : Reading). r.line) rs ≡ numbered_from (suc n) ts = cc in
       next p (numbered (suc n) ts rs q)
   numbered n _ _ e = cc
@@ -127,8 +125,7 @@ in_longer (suc n) (b ∷ prefix) rest p = in_longer n prefix rest p
 
 module _ (table : List Argument) (rules : Rules) where
   left_body : (l : Line) (d : Directive) → IsSublist (left_line table rules l d).body l.body
-  left_body l d =
-      let n : ℕ = keyword_end d in
+  left_body l d = let n : ℕ = keyword_end d in
       let p = content-prefix l in
       let q : IsSublist (map byte_of (left_cells_of table rules l d)) (drop n (content l)) =
       subst (λ (xs : List ℕ). IsSublist (map byte_of (left_cells_of table rules l d)) xs)
@@ -150,8 +147,7 @@ module _ (table : List Argument) (rules : Rules) where
 
   -- Of a text bytes are only removed.
   pub bytes_left : (bytes : List ℕ) → IsSublist (simplified_text table rules bytes) bytes
-  bytes_left bytes =
-      subst (λ (xs : List ℕ). IsSublist (simplified_text table rules bytes) xs)
+  bytes_left bytes = subst (λ (xs : List ℕ). IsSublist (simplified_text table rules bytes) xs)
       (ap concat (texts_back (read_as C bytes) ∙ ap (λ (ls : List Line). map text_of ls)
       (read_back_by table rules (by_push (lines_of bytes))) ∙ map-lines_of bytes) ∙ sym (lines_exist bytes).joined)
       (left_bytes (read_as C bytes))

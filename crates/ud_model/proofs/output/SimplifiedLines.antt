@@ -80,8 +80,7 @@ module _ (table : List Argument) (rules : Rules) where
 
   -- The text after a keyword, by its cells.
   pub after_is : (l : Line) (scan : Scan) (d : Directive) → scan ≡ scan_after [] C l → content_of scan ≡ directive d → map shown (condition_cells l d) ≡ d.after
-  after_is l scan d e h =
-      let i : HasDirective scan d = (directive_is scan d).0 h in
+  after_is l scan d e h = let i : HasDirective scan d = (directive_is scan d).0 h in
       let front : List ℕ = i.parts.white ++ number_sign ∷ (i.parts.gap ++ i.parts.word) in
       let split : scan.masked ≡ front ++ i.parts.rest = simp (append_assoc, i.are.joined) in
       let a = length-append i.parts.white (number_sign ∷ (i.parts.gap ++ i.parts.word)) in
@@ -114,8 +113,7 @@ module _ (table : List Argument) (rules : Rules) where
   -- The edited line has the residual of the condition.
   pub line_simplified : (l k : Reading) (d : Directive) → IsEdited l.line l.scan d → l.scan ≡ scan_after [] C l.line →
       k.scan ≡ scan_after_run [] (left_line table rules l.line d) → LineSimplified table rules l k
-  line_simplified l k d i e f =
-      conditions l k (condition_cells l.line d)
+  line_simplified l k d i e f = conditions l k (condition_cells l.line d)
       (shown_by l.scan d (content_of l.scan) i.has (or_parts l.scan.joins_before l.scan.joins_after i.lone).1
       ∙ (first_of d.kind i.now.kind d.after i.kind).0 ∙ ap expression_of (sym (after_is l.line l.scan d e i.has)))
       (shown_by k.scan i.now (content_of k.scan) (ap content_of f ∙ i.has_now) (ap (λ (s : Scan). s.joins_after) f ∙ i.alone)

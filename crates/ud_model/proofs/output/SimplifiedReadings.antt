@@ -31,15 +31,13 @@ abbrev Begins : List Reading → Type 0
 Begins before = (before ≡ []) ⊎ EndsLogicalLine before
 
 inner_end : (ls : List Line) (last : Line) → joins (c_run_of (with_next (read_in C ls) C last)) ≡ false → HasEnd last → EndsLogicalLine (with_next (read_in C ls) C last)
-inner_end ls last j h =
-    ends_with (read_in C ls) C last
+inner_end ls last j h = ends_with (read_in C ls) C last
     (joins_after-code (c_run_of (read_in C ls)) last ∙ ap joins (sym (run_of_last (read_in C ls) (next_reading (read_in C ls) C last))) ∙ j) h
 
 -- If the last line doesn't join the next one, a logical line ends there.
 begins : {ls : List Line} → ByPush ls → Each HasEnd ls → joins (c_run_of (read_in C ls)) ≡ false → Begins (read_in C ls)
 begins none h j = inl refl
-begins (push {xs = ls} l p) h j =
-    inr (subst EndsLogicalLine (sym (read_more C ls l))
+begins (push {xs = ls} l p) h j = inr (subst EndsLogicalLine (sym (read_more C ls l))
     (inner_end ls l (ap (λ (rs : List Reading). joins (c_run_of rs)) (sym (read_more C ls l)) ∙ j) (each_parts HasEnd ls (l ∷ []) h).1.0))
 
 alike_after : {before after : List Reading} → AreReadAlike before after → (l : Line) → scan_after before C l ≡ scan_after after C l
@@ -97,16 +95,14 @@ module _ (table : List Argument) (rules : Rules) where
     reading = reading_stays q (ap (λ (s : Scan). record { line = l; mode = C; scan = s }) (sym (alike_after p l))) (λ j. scanned_alone before l (b j));
     alike = same_line p l;
   }
-  next_by before after p l b _ q (it_changes d i) =
-      let k : Line = left_line table rules l d in
+  next_by before after p l b _ q (it_changes d i) = let k : Line = left_line table rules l d in
       let x : Begins before = b (or_parts (scan_after before C l).joins_before (scan_after before C l).joins_after i.lone).0 in
       let y : Begins after = ends_alike p x in
       let scan : Scan = scan_after before C l in
       let e : scan ≡ scan_after [] C l = scanned_alone before l x in
       record {
         reading = reading_edited d (record { edited = i; line = refl; simplified = q; before = e; after = scanned_alone after k y });
-        alike =
-            other_line p l k
+        alike = other_line p l k
             (record {
               begins = x;
               alone = ap (λ (s : Scan). s.joins_after) (sym e) ∙ (or_parts scan.joins_before scan.joins_after i.lone).1;
@@ -116,8 +112,7 @@ module _ (table : List Argument) (rules : Rules) where
       }
 
   next_line : (ls : List Line) → ByPush ls → Each HasEnd ls → Alike ls → (l : Line) → Next (read_in C ls) (read_in C (left_lines ls)) l (left_one ls l)
-  next_line ls p h a l =
-      next_by (read_in C ls) (read_in C (left_lines ls)) a l
+  next_line ls p h a l = next_by (read_in C ls) (read_in C (left_lines ls)) a l
       (λ j. begins p h (sym (joins_before-code (c_run_of (read_in C ls)) l) ∙ j)) (left_one ls l) refl (becomes table rules (next_reading (read_in C ls) C l))
 
   abbrev Paired : List Line → Type 0
@@ -146,8 +141,7 @@ module _ (table : List Argument) (rules : Rules) where
 
   all_pairs : {ls : List Line} → ByPush ls → AllButLast ls → Paired ls
   all_pairs none h = no_pair
-  all_pairs (push {xs = ls} l p) h =
-      let q : Each HasEnd ls = have_ends ls (ends_before ls l h).0 in
+  all_pairs (push {xs = ls} l p) h = let q : Each HasEnd ls = have_ends ls (ends_before ls l h).0 in
       let r : Alike ls × Paired ls = inner_pairs p q in
       one_more_pair ls l (next_line ls p q r.0 l) r.1
 

@@ -66,8 +66,7 @@ spliced-code line = refl
 
 -- No comment is open at the end of a line that doesn't join the next one.
 out_of_comment : (l : Line) → (scan_after_run [] l).joins_after ≡ false → is_in_block (scan_after_run [] l).comment ≡ false
-out_of_comment l h =
-    ap is_in_block (comment-code l)
+out_of_comment l h = ap is_in_block (comment-code l)
     ∙ no_block (is_spliced l) (kind_at_end (spliced_text [] ++ spliced_part l))
     (or_parts (is_spliced l) (is_block (kind_at_end (spliced_text [] ++ spliced_part l))) (sym (joins_last [] l) ∙ sym (joins_after-code [] l) ∙ h)).1
 
@@ -105,16 +104,14 @@ module _ (table : List Argument) (rules : Rules) where
 
   -- A directive on a line that joins no other isn't broken.
   unbroken : (r s : Reading) (d : Directive) → IsLeft table rules r s d → d.broken ≡ false
-  unbroken r s d i =
-      let h : HasDirective r.scan d = (directive_is r.scan d).0 i.edited.has in
+  unbroken r s d i = let h : HasDirective r.scan d = (directive_is r.scan d).0 i.edited.has in
       let p : r.scan.spliced ≡ false = ap (λ (c : Scan). c.spliced) i.before ∙ spliced-code r.line ∙ lone table rules r s d i in
       h.broken ∙ ap (λ (b : Bool). b && is_outside r.scan.comment) p
 
   -- The condition of an edited line stays unknown.
   still_unknown : (r s : Reading) (d : Directive) (i : IsLeft table rules r s d) →
       (decision_on r.scan d table rules).cond ≡ Unknown → (decision_on s.scan i.edited.now table rules).cond ≡ Unknown
-  still_unknown r s d i h =
-      let now : Directive = i.edited.now in
+  still_unknown r s d i h = let now : Directive = i.edited.now in
       let a = sym (cond_first d.kind now.kind d.after i.edited.kind).0 ∙ known_by r.scan d d.broken (unbroken r s d i) h in
       let b = ap (λ (xs : List ℕ). expression_cond xs table rules) (after_is table rules r.line r.scan d i.before i.edited.has) ∙ a in
       let c = ap (λ (xs : List ℕ). expression_cond xs table rules) i.edited.after ∙ left_unknown table rules (condition_cells r.line d) b in
@@ -145,14 +142,12 @@ module _ (o : Options) where
   all_uncut p h = grind (arith, each_left, of_reading, uncut_left)
 
   pub all_few : {rs ss : List Reading} → Pairs Simplified rs ss → Each IsFew (items o rs) → Each IsFew (items o ss)
-  all_few p h =
-      each_left IsFew
+  all_few p h = each_left IsFew
       (λ r s i. of_reading (λ (x : Reading). x.line.number ≤ TEXT_LINES) r s
       (λ l. subst (λ (n : ℕ). n ≤ TEXT_LINES) (sym (number_left o.table (rules_of o.settings) r s i)) l)) p h
 
   pub all_short : {rs ss : List Reading} → Pairs Simplified rs ss → Each IsShort (items o rs) → Each IsShort (items o ss)
-  all_short p h =
-      each_left IsShort
+  all_short p h = each_left IsShort
       (λ r s i. of_reading (λ (x : Reading). length (text_of x.line) ≤ LINE_BYTES) r s
       (λ l. let m = short_left o.table (rules_of o.settings) r s i in omega (arith, l, m))) p h
 
@@ -218,8 +213,7 @@ module _ (o : Options) (p : IsPlainC o) (input : List ℕ) {r : Outcome} (d : Ha
 
     copies_by : Each IsUncut i.items → Each IsFew i.items → height_of_nodes us ≤ OPEN_SECTIONS → ends_in_comment i.items ≡ false → IsUndecided us →
         HasOutcome o left_text (record { output = left_text; fault = None; differs = false })
-    copies_by a b c e u =
-        runs_again o p.plain left_text j.items ss
+    copies_by a b c e u = runs_again o p.plain left_text j.items ss
         (record { sound = sound_again o j.items (closed ss) j.read (uncut_now a) (few_now b) short_now (low_now c) (undecided_stay ss (undecided_now u)); are = j.are }) (undecided_now u)
         (ap (λ (x : Bool). end_by x (last_number j.items) None) (calm_now e))
 

@@ -130,8 +130,7 @@ module _ (o : Options) where
   pub simplified_tree : NoneIgnores o.table → o.settings.plain ≡ false → (bytes : List ℕ) (ns : Nodes Reading) → IsTreeOf o bytes (closed ns) →
       lines_of (simplified_text o.table (rules_of o.settings) bytes) ≡ left_lines o.table (rules_of o.settings) (lines_of bytes) →
       (us : Nodes Reading) × IsTreeOf o (simplified_text o.table (rules_of o.settings) bytes) (closed us) × Like ns us
-  simplified_tree n c bytes ns i e =
-      let m : the_mode o ≡ C = ap mode_by c in
+  simplified_tree n c bytes ns i e = let m : the_mode o ≡ C = ap mode_by c in
       let ls : List Line = lines_of bytes in
       let ks : List Line = left_lines o.table (rules_of o.settings) ls in
       let zs : List (Item Reading) = items o (read_in C ks) in

@@ -38,8 +38,7 @@ not_more m n h = omega (arith, h)
 -- A text without a fault is no higher than sections may be open.
 pub sound_low : (o : Options) (xs : List (Item Reading)) (t : Tree Reading) → AreFaultless o xs t → height t ≤ OPEN_SECTIONS
 sound_low o _ _ no_lines = omega arith
-sound_low o _ _ (one_more xs t s l u e n) =
-    let x : Item Reading = next_item o xs t l in
+sound_low o _ _ (one_more xs t s l u e n) = let x : Item Reading = next_item o xs t l in
     let a : Adds t x u = Trees.grows t u x (e ∙ ap (λ (zs : List (Item Reading)). zs ++ x ∷ []) (sym (sound_lines s))) in
     omega (arith, grows_most a, sound_low o xs t s, not_more (depth u) OPEN_SECTIONS (λ m. n.1.1.1.1.0 (u, e, m)))
 
@@ -57,8 +56,7 @@ sound_few o xs t ts h g = grind (arith, last_numbered, map-append, length-map, l
 numbered_few : (n : ℕ) (ts : List (List ℕ)) (ys : List (Item Reading)) → map line_of ys ≡ numbered_from n ts → n + length ts ≤ suc TEXT_LINES → Each IsFew ys
 numbered_few n ts [] e h = tt
 numbered_few n [] (y ∷ ys) e h = cc
-numbered_few n (t ∷ ts) (y ∷ ys) e h =
-    let p : line_of y ≡ line_at n t = cc in
+numbered_few n (t ∷ ts) (y ∷ ys) e h = let p : line_of y ≡ line_at n t = cc in
     let q : map line_of ys ≡ numbered_from (suc n) ts = cc in
     let r : (line_of y).number ≡ n = ap (λ (k : Line). k.number) p in
     (omega (arith, r, h), numbered_few (suc n) ts ys q (omega (arith, h)))
@@ -83,8 +81,7 @@ kept_unspoiled x = grind arith
 
 module _ (xs : List (Item Reading)) (x : Item Reading) (u : Tree Reading) (are : lines u ≡ xs ++ x ∷ []) (stay : Each Stays (marks u)) where
   unspoiled : (before : List Mark) (m : Mark) (v : Tree Reading) → lines v ≡ xs ++ x ∷ [] → marks v ≡ before ++ m ∷ [] → is_obfuscated_after (ends_removed before) x m ≡ false
-  unspoiled before m v e f =
-      let h : Each Stays before × Each Stays (m ∷ []) =
+  unspoiled before m v e f = let h : Each Stays before × Each Stays (m ∷ []) =
       each_parts Stays before (m ∷ []) (subst (Each Stays) (ap (λ (t : Tree Reading). marks t) (Trees.unique u v (are ∙ sym e)) ∙ f) stay) in
       ap₂ (λ (r : Bool) (k : Mark). is_obfuscated_after r x k) (none_removed before h.0) h.1.0 ∙ kept_unspoiled x
 
@@ -113,8 +110,7 @@ module _ (xs : List (Item Reading)) (x : Item Reading) (u : Tree Reading) (are :
 pub sound_again : (o : Options) (ys : List (Item Reading)) (t : Tree Reading) → AreRead o ys t → Each IsUncut ys → Each IsFew ys → Each IsShort ys → height t ≤ OPEN_SECTIONS →
     Each Stays (marks t) → AreFaultless o ys t
 sound_again o _ _ no_items c f s h k = no_lines
-sound_again o _ _ (one_item ys t r l u e) c f s h k =
-    let x : Item Reading = next_item o ys t l in
+sound_again o _ _ (one_item ys t r l u e) c f s h k = let x : Item Reading = next_item o ys t l in
     let a : Adds t x u = Trees.grows t u x (e ∙ ap (λ (zs : List (Item Reading)). zs ++ x ∷ []) (sym (read_lines r))) in
     let m : (m : Mark) × (marks u ≡ marks t ++ m ∷ []) = marks_more a in
     let cs : Each IsUncut ys × Each IsUncut (x ∷ []) = each_parts IsUncut ys (x ∷ []) c in

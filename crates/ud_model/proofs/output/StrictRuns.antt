@@ -90,8 +90,7 @@ module _ (o : Options) where
 
   one_alongside : (xs ys : List (Item Reading)) (t t2 u u2 : Tree Reading) (r s : Reading) → AreFaultless with_k xs t → AreFaultless o ys u → Alongside xs t ys u → r ≡ s →
       lines t2 ≡ xs ++ item_of with_k r ∷ [] → lines u2 ≡ ys ++ item_of o s ∷ [] → Alongside (xs ++ item_of with_k r ∷ []) t2 (ys ++ item_of o s ∷ []) u2
-  one_alongside xs ys t t2 u u2 r s a b k e f g =
-      let x : Item Reading = item_of with_k r in
+  one_alongside xs ys t t2 u u2 r s a b k e f g = let x : Item Reading = item_of with_k r in
       let y : Item Reading = item_of o s in
       let i : LooserItem x y = subst (λ (z : Reading). LooserItem x (item_of o z)) e (item_loose o r) in
       let p : Adds t x t2 = grown xs t t2 x a f in
@@ -177,8 +176,7 @@ keep_by o input xs ys t u a b = go (fronts (map line_of xs) (map line_of ys) a.l
   where
     go : ((m : List Line) × (map line_of xs ≡ map line_of ys ++ m)) ⊎ ((m : List Line) × (map line_of ys ≡ map line_of xs ++ m)) →
         KeepAsMuch (judged_lines ys (marks u)) (judged_lines xs (marks t))
-    go (inl k) =
-        let f = front (under_strict o) (map line_of ys) (by_push k.0) xs t a.sound k.1 in
+    go (inl k) = let f = front (under_strict o) (map line_of ys) (by_push k.0) xs t a.sound k.1 in
         subst (λ (ks : List Judged). KeepAsMuch (judged_lines ys (marks u)) ks) (sym f.judged) (more_with (alongside o f.sound b.sound f.are).judged f.rest)
     go (inr k) =
         let f : Front o (map line_of xs) (judged_lines ys (marks u)) = front o (map line_of xs) (by_push k.0) ys u b.sound k.1 in

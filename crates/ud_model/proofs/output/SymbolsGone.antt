@@ -109,8 +109,7 @@ module _ (t u : List Argument) (name : List ℕ) (none : IsNoValue t name) (same
   each_line : (P : Reading → Type 0) → ((r : Reading) → Each (Alike t u) (names_in_tree (condition_in r)) → P r) → (rs : List Reading) →
       (Contains (flat_map (λ r. names_in_tree (condition_in r)) rs) name → ⊥) → Each P rs
   each_line P p [] out = tt
-  each_line P p (r ∷ rs) out =
-      let names : List (List ℕ) = names_in_tree (condition_in r) in
+  each_line P p (r ∷ rs) out = let names : List (List ℕ) = names_in_tree (condition_in r) in
       let later : List (List ℕ) = flat_map (λ (x : Reading). names_in_tree (condition_in x)) rs in
       (p r (all_alike names (λ there. out (Contains-append_left names later name there))), each_line P p rs (λ there. out (Contains-append_right names later name there)))
 

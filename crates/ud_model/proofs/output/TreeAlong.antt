@@ -39,14 +39,12 @@ module _ {A B M : Type 0} (f : A → M) (g : B → M) where
   if_goes o y e = let b = if_back y o e in (b.0, b.1, λ ns us n. ap₂ (λ (k : Opener M) (u : Nodes M). first k u) b.2 n)
 
   elif_goes : (o : Opener A) (y : Item B) → IsAlong (elif_line o) y → ElifGoes SameNodes SameGroups SameElifs o y
-  elif_goes o y e =
-      let b = elif_back y o e in
+  elif_goes o y e = let b = elif_back y o e in
       (b.0, b.1, λ es fs ns us h n. ap₂ (λ (d : Elifs M) (u : Nodes M). elif d (opener_with_line g b.0) u) h n ∙ ap (λ (k : Opener M). elif (elifs_with_lines f es) k (with_lines f ns)) b.2)
 
   all_along : (xs : List (Item A)) (ys : List (Item B)) → map (item_with g) ys ≡ map (item_with f) xs → Pairs IsAlong xs ys
   all_along [] [] e = no_pair
-  all_along (x ∷ xs) (y ∷ ys) e =
-      let p : item_with g y ≡ item_with f x = cc in
+  all_along (x ∷ xs) (y ∷ ys) e = let p : item_with g y ≡ item_with f x = cc in
       let q : map (item_with g) ys ≡ map (item_with f) xs = cc in
       pair p (all_along xs ys q)
   all_along _ _ e = cc

@@ -64,8 +64,7 @@ module _ {L : Type 0} where
         each_both Stays (marked true (verdict_so_far [] an_if o.cond) ∷ []) (nodes_so_far (is_kept [] o.cond) ns)
         (stays_if (verdict_so_far [] an_if o.cond) (ap (λ (c : Cond). verdict_so_far [] an_if c) h.0), tt)
         (place_stays (is_kept [] o.cond) ns (ap (λ (c : Cond). is_kept [] c) h.0) (nodes_stay ns h.1))
-    elifs_stay (elif es o ns) h =
-        let s : stage (conds_of_elifs es) ≡ going = going_on es h.0 in
+    elifs_stay (elif es o ns) h = let s : stage (conds_of_elifs es) ≡ going = going_on es h.0 in
         each_both Stays (elifs_so_far true es ++ marked true (verdict_so_far (conds_of_elifs es) an_elif o.cond) ∷ []) (nodes_so_far (is_kept (conds_of_elifs es) o.cond) ns)
         (each_both Stays (elifs_so_far true es) (marked true (verdict_so_far (conds_of_elifs es) an_elif o.cond) ∷ []) (elifs_stay es h.0) (
           stays_if (verdict_so_far (conds_of_elifs es) an_elif o.cond)

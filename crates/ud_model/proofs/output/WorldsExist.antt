@@ -21,8 +21,7 @@ rise_from m n (r ∷ rs) l h = (omega (arith, l, h.0), h.1)
 numbered_rise : (n : ℕ) (ts : List (List ℕ)) (ys : List (Item Reading)) → map line_of ys ≡ numbered_from n ts → Rise n (map reading_of ys)
 numbered_rise n ts [] e = tt
 numbered_rise n [] (y ∷ ys) e = cc
-numbered_rise n (t ∷ ts) (y ∷ ys) e =
-    let p : line_of y ≡ line_at n t = cc in
+numbered_rise n (t ∷ ts) (y ∷ ys) e = let p : line_of y ≡ line_at n t = cc in
     let q : map line_of ys ≡ numbered_from (suc n) ts = cc in
     let k : (line_of y).number ≡ n = ap (λ (l : Line). l.number) p in
     (omega (arith, k), rise_from (suc (line_of y).number) (suc n) (map reading_of ys) (omega (arith, k)) (numbered_rise (suc n) ts ys q))

@@ -55,8 +55,7 @@ module _ {A B : Type 0} (R : Item A → Item B → Type 0) (IsPut : B → Type 0
   both_by : (C D ws : List (Item A)) (zs : List (Item B)) → ws ≡ C ++ D → Strewn ws zs → SplitBoth C D zs
   both_by [] D ws zs e s = record { before = []; later = zs; are = refl; first_part = none; second_part = subst (λ (vs : List (Item A)). Strewn vs zs) e s }
   both_by (a ∷ C) D _ _ e none = cc
-  both_by (a ∷ C) D _ _ e (same {y = x} {z = z} {ys = ys} {zs = zs} k s) =
-      let p : x ≡ a = cc in
+  both_by (a ∷ C) D _ _ e (same {y = x} {z = z} {ys = ys} {zs = zs} k s) = let p : x ≡ a = cc in
       let q : ys ≡ C ++ D = cc in
       let r : SplitBoth C D zs = both_by C D ys zs q s in
       record {
@@ -166,8 +165,7 @@ module _ {A B : Type 0} (R : Item A → Item B → Type 0) (IsPut : B → Type 0
           (more_texts (section ns gs e) (section m.nodes g.groups i.0) c.later (i.2 ns m.nodes gs g.groups m.alike g.alike) c.second_part)
 
       weave_groups : (gs : Groups A) (zs : List (Item B)) → Strewn (lines_of_groups gs) zs → WovenGroups gs zs
-      weave_groups (conditional es) zs s =
-          let r : WovenElifs es zs = weave_elifs es zs s in
+      weave_groups (conditional es) zs s = let r : WovenElifs es zs = weave_elifs es zs s in
           record { texts = r.texts; groups = conditional r.elifs; lines = r.lines; put_in = r.put_in; alike = w.groups_go es r.elifs r.alike }
       weave_groups (otherwise es l ns) zs s =
           let c : SplitAt (lines_of_elifs es) (else_line l) (lines_of_nodes ns) zs =

@@ -102,8 +102,7 @@ module _ (xs : List (Item Reading)) (t : Tree Reading) (are : lines t ≡ xs) (x
       go : (m : Mark) → marks u ≡ marks t ++ m ∷ [] → IsTrue (is_obfuscated (marks t) x m) ⊎ (IsTrue (is_obfuscated (marks t) x m) → ⊥) →
           Holds xs x obfuscated_case ⊎ (Holds xs x obfuscated_case → ⊥)
       go m is (inl h) = inl (marks t, m, (u, e, is), h)
-      go m is (inr h) =
-          inr (λ k.
+      go m is (inr h) = inr (λ k.
           let s : (k.0 ≡ marks t) × (k.1 ≡ m) =
           same_from_push k.0 (marks t) k.1 m (sym k.2.2 ∙ ap marks (unique k.2.0 u (k.2.1 ∙ sym e)) ∙ is) in
           h (subst (λ ms. IsTrue (is_obfuscated ms x m)) s.0 (subst (λ n. IsTrue (is_obfuscated k.0 x n)) s.1 k.3)))
@@ -125,8 +124,7 @@ module _ (xs : List (Item Reading)) (t : Tree Reading) (are : lines t ≡ xs) (x
         go (inr d) (inr s) = clear u e (past, (long, (known, (placed, (d, (s, tt))))))
 
     without_tree : (f : Fault) → misplaced_fault x ≡ Some f → ((u : Tree Reading) → Adds t x u → ⊥) → Stands xs x
-    without_tree f named none =
-        faulty f
+    without_tree f named none = faulty f
         (record {
           which = out_of_place;
           holds = ((t, are), λ k. none k.0 (grows t k.0 x (k.1 ∙ ap (λ (ys : List (Item Reading)). ys ++ x ∷ []) (sym are))));
@@ -180,8 +178,7 @@ reading_exists o input = go (gone o (lines_of input))
 
 -- So each text has an outcome.
 pub run_exists : (o : Options) (input : List ℕ) → (r : Outcome) × HasOutcome o input r
-run_exists o input =
-    let r = reading_exists o input in
+run_exists o input = let r = reading_exists o input in
     (outcome_of o.settings r.0 r.1 r.2, ran_as r.3)
 
 -- The rest of a text that goes on breaks a limit, or it doesn't.
@@ -201,11 +198,9 @@ module _ (o : Options) (given : List ℕ) (xs : List (Item Reading)) (t : Tree R
       Holds xs rest_item too_long ⊎ (Holds xs rest_item too_long → ⊥) → Breaks o given xs t
   unfolding rest_item
   breaks_by (inl none) b c = unbroken (λ f h. h.some none)
-  breaks_by (inr some) (inl h) c =
-      broken (too_many_lines (line_of rest_item).number)
+  breaks_by (inr some) (inl h) c = broken (too_many_lines (line_of rest_item).number)
       (record { some = some; fault = record { which = past_last; holds = h; first = tt; named = refl }; limit = by_lines })
-  breaks_by (inr some) (inr p) (inl h) =
-      broken (line_too_long (line_of rest_item).number)
+  breaks_by (inr some) (inr p) (inl h) = broken (line_too_long (line_of rest_item).number)
       (record { some = some; fault = record { which = too_long; holds = h; first = (p, tt); named = refl }; limit = by_bytes })
   breaks_by (inr some) (inr p) (inr l) = unbroken (λ f h. within_limits p l h.fault.which h.limit h.fault.holds)
 
@@ -234,8 +229,7 @@ reading_so_far_exists o given = go (gone o (lines_so_far given))
 
 -- So each text that goes on has an outcome so far.
 pub run_so_far_exists : (o : Options) (given : List ℕ) → (r : Outcome) × HasOutcomeSoFar o given r
-run_so_far_exists o given =
-    let r = reading_so_far_exists o given in
+run_so_far_exists o given = let r = reading_so_far_exists o given in
     (outcome_of o.settings r.0 r.1 r.2, came_as r.3)
 
 -- Arguments and an input have an answer.

@@ -99,8 +99,7 @@ pub limit_ends : (o : Options) (given more : List ℕ) (xs : List (Item Reading)
 limit_ends o given more xs t f through h = by_lines_of (lines_of-rest given more h.some)
   where
     by_lines_of : FindsLine given (lines_of (given ++ more)) → FirstFaultAt o (lines_of (given ++ more)) xs t f
-    by_lines_of (x, later, e) =
-        subst (λ (ls : List Line). FirstFaultAt o ls xs t f) (sym e)
+    by_lines_of (x, later, e) = subst (λ (ls : List Line). FirstFaultAt o ls xs t f) (sym e)
         (stops_behind o (lines_so_far given) later (line_from given x) xs t f through (rest_stays o given x xs t f h).fault)
 
 -- A broken limit stays broken when the text goes on.
@@ -109,14 +108,12 @@ pub limit_goes_on : (o : Options) (given more : List ℕ) (xs : List (Item Readi
 limit_goes_on o given more xs t f through h = by_growth (grows given more)
   where
     by_growth : Growth given more → ReadsSoFar o (given ++ more) xs t (Some f)
-    by_growth (ends_line x later e) =
-        stops_so_far xs t f
+    by_growth (ends_line x later e) = stops_so_far xs t f
         (subst (λ (ls : List Line). FirstFaultAt o ls xs t f)
         (sym (ap (numbered_from 1) e ∙ numbered_from-next (whole_lines given) (partial_line given ++ x) later))
         (stops_behind o (lines_so_far given) (numbered_from (suc (suc (length (whole_lines given)))) later) (line_from given x) xs t f through
         (rest_stays o given x xs t f h).fault))
-    by_growth (stays_open e r) =
-        breaks xs t f
+    by_growth (stays_open e r) = breaks xs t f
         (record { sound = through.sound; are = ap (numbered_from 1) e ∙ through.are })
         (record {
           some = λ none. some_front (partial_line given) more h.some (sym r ∙ none);

@@ -142,8 +142,7 @@ module _ (o : Options) (ls : List Line) where
       go : ((map line_of xs ≡ map line_of ys) × (a.faulty ≡ b.faulty))
           ⊎ (((mid : List Line) × (map line_of ys ≡ map line_of xs ++ a.faulty ∷ mid)) ⊎ ((mid : List Line) × (map line_of xs ≡ map line_of ys ++ b.faulty ∷ mid)))
           → (xs ≡ ys) × (t ≡ u) × (f ≡ g)
-      go (inl s) =
-          let q : xs ≡ ys = sound_same o xs ys t u a.sound b.sound s.0 in
+      go (inl s) = let q : xs ≡ ys = sound_same o xs ys t u a.sound b.sound s.0 in
           let r = same_next o xs ys t u a.faulty b.faulty a.sound b.sound q s.1 in (
             q,
             sound_once (subst (λ zs. AreFaultless o zs t) q a.sound) b.sound,

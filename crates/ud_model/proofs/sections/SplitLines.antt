@@ -78,8 +78,7 @@ record Computed (p : DirectiveParts) (masked : List ℕ) : Type 0 where
   pub rest : skip_word (p.word ++ p.rest) ≡ p.rest
 
 computed : (p : DirectiveParts) (masked : List ℕ) → AreParts p masked → Computed p masked
-computed p masked h =
-    let w = word_then p.word p.rest h.word h.word_ends in
+computed p masked h = let w = word_then p.word p.rest h.word h.word_ends in
     record {
       tail = ap skip_white_and_hash h.joined ∙ ap skip_hash (past_white_then p.white (number_sign ∷ (p.gap ++ (p.word ++ p.rest))) h.white);
       behind = past_white_then p.gap (p.word ++ p.rest) h.gap ∙ no_white (p.word ++ p.rest) h.gap_ends;
@@ -133,8 +132,7 @@ module _ (scan : Scan) (p : DirectiveParts) where
   place h = grind (arith, length-append)
 
   has_this : AreParts p scan.masked → scan.fresh ≡ true → splits ≡ false → (k : Kind) → kind_of p.word ≡ Some k → HasDirective scan (directive_by k)
-  has_this h f s k e =
-      let c = computed p scan.masked h in
+  has_this h f s k e = let c = computed p scan.masked h in
       record {
         parts = p;
         are = h;
@@ -212,8 +210,7 @@ same_parts i j k l = cc
 
 -- Texts that are the same, and end the same, begin the same.
 front_same : (s t rest more : List ℕ) → s ++ rest ≡ t ++ more → rest ≡ more → s ≡ t
-front_same s t rest more e f =
-    let a = length-append s rest in
+front_same s t rest more e f = let a = length-append s rest in
     let b = length-append t more in
     let c = ap (λ (l : List ℕ). length l) e in
     let d = ap (λ (l : List ℕ). length l) f in
@@ -221,8 +218,7 @@ front_same s t rest more e f =
 
 -- A masked line has one split at most.
 pub parts_same : (masked : List ℕ) (p q : DirectiveParts) → AreParts p masked → AreParts q masked → p ≡ q
-parts_same masked p q h i =
-    let a = computed p masked h in
+parts_same masked p q h i = let a = computed p masked h in
     let b = computed q masked i in
     let some : Some (p.gap ++ (p.word ++ p.rest)) ≡ Some (q.gap ++ (q.word ++ q.rest)) = sym a.tail ∙ b.tail in
     let tails : p.gap ++ (p.word ++ p.rest) ≡ q.gap ++ (q.word ++ q.rest) = cc in

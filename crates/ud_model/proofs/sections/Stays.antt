@@ -74,14 +74,12 @@ module _ {L : Type 0} where
 
   -- Each line has one mark.
   pub length_marks : (kept : Bool) (t : Tree L) → length (marks_in kept t) ≡ length (lines t)
-  length_marks kept t =
-      rw (marks_so_far_same kept t)
+  length_marks kept t = rw (marks_so_far_same kept t)
       (length_by (marks_so_far kept) (λ t u x a. marks_add kept a) (by_push (lines t)) refl t refl)
 
   -- The marks of a longer text begin with those of the text.
   pub marks_stay : (t u : Tree L) (more : List (Item L)) → lines u ≡ lines t ++ more → (rest : List Mark) × (marks u ≡ marks t ++ rest)
-  marks_stay t u more e =
-      rw (marks_so_far_same true t, marks_so_far_same true u)
+  marks_stay t u more e = rw (marks_so_far_same true t, marks_so_far_same true u)
       (stay_by (marks_so_far true) (λ t u x a. marks_add true a) (by_push more) t u e)
 
   -- One more line has one more mark.

@@ -43,8 +43,7 @@ front_len-word (b ∷ bs) = front_one (is_word_byte b) b (front_len bs) (leading
 
 -- So many bytes are the leading word, and the others follow it.
 pub word_and_rest : (bytes : List ℕ) (n : ℕ) → length (leading_word bytes) ≡ n → (n ≤ length bytes) × (take n bytes ≡ leading_word bytes) × (drop n bytes ≡ skip_word bytes)
-word_and_rest bytes n e =
-    let k : front_len bytes ≡ n = front_len-word bytes ∙ e in
+word_and_rest bytes n e = let k : front_len bytes ≡ n = front_len-word bytes ∙ e in
     let bound : front_len bytes ≤ length bytes = prefix_len-le-length (λ b. not (not (is_word_byte b))) bytes in
     (omega (arith, k, bound), ap (λ (m : ℕ). take m bytes) (sym k) ∙ take-front_len bytes, ap (λ (m : ℕ). drop m bytes) (sym k) ∙ drop-front_len bytes)
 

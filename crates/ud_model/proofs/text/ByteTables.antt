@@ -14,8 +14,7 @@ both_of x y rest h = grind arith
 agree_at : (f g : ℕ → Bool) (n : ℕ) → agree_below f g n ≡ true → (b : ℕ) → b < n → f b ≡ g b
 unfolding agree_below
 agree_at f g zero h b lt = absurd (omega arith)
-agree_at f g (suc n) h b lt =
-    let both = both_of (f n) (g n) (agree_below f g n) h in
+agree_at f g (suc n) h b lt = let both = both_of (f n) (g n) (agree_below f g n) h in
     elim (cases_eq b n) [ inl same ↦ rw same both.0 | inr other ↦ agree_at f g n both.1 b (omega arith) ]
 
 -- The table has something else than this filler at a byte.

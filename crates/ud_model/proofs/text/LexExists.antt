@@ -143,8 +143,7 @@ first_piece : (a : ℕ) (u : List ℕ) → First (a ∷ u)
 first_piece a u = by_quote (is_quote a) refl
   where
     by_next : (t s : Bool) → (a == slash) ≡ true → starts_with_byte star u ≡ t → starts_with_byte slash u ≡ s → is_quote a ≡ false → First (a ∷ u)
-    by_next true s e f g h =
-        let b : (rest : List ℕ) × (u ≡ star ∷ rest) = begins_is star u f in
+    by_next true s e f g h = let b : (rest : List ℕ) × (u ≡ star ∷ rest) = begins_is star u f in
         subst First (ap₂ (λ (n : ℕ) (l : List ℕ). n ∷ l) (sym (eqb-true a slash e)) (sym b.1)) (first_comment b.0 (comment_end b.0))
     by_next false true e f g h =
         let b : (rest : List ℕ) × (u ≡ slash ∷ rest) = begins_is slash u g in
@@ -165,8 +164,7 @@ less_left text h rest n e p g = grind (arith, length-append)
 cut_within : (n : ℕ) (text : List ℕ) → length text ≤ n → (pieces : List Lexeme) × AreLexemes pieces text
 cut_within n [] h = ([], refl)
 cut_within zero (a ∷ text) h = absurd (omega arith)
-cut_within (suc n) (a ∷ text) h =
-    let f : First (a ∷ text) = first_piece a text in
+cut_within (suc n) (a ∷ text) h = let f : First (a ∷ text) = first_piece a text in
     let later = cut_within n f.rest (less_left (a ∷ text) f.bytes f.rest n f.splits f.is h) in
     ((record { kind = f.kind; bytes = f.bytes } ∷ later.0), (f.rest, f.splits, f.is, later.1))
 

@@ -201,8 +201,7 @@ lines_are t ls h = texts_of-formed ls h.formed ∙ ap texts_of (sym h.joined)
 
 -- A line is its body and its ending.
 pub body-ending : (l : List ℕ) → take (length l - length (ending_of l)) l ++ ending_of l ≡ l
-body-ending l =
-    by_tests (ends_with nat_eq l (13 ∷ 10 ∷ [])) (ends_with nat_eq l (10 ∷ []))
+body-ending l = by_tests (ends_with nat_eq l (13 ∷ 10 ∷ [])) (ends_with nat_eq l (10 ∷ []))
     (ends_is Decides-eqb l (13 ∷ 10 ∷ []) (ends_with nat_eq l (13 ∷ 10 ∷ [])) refl).0
     (ends_is Decides-eqb l (10 ∷ []) (ends_with nat_eq l (10 ∷ [])) refl).0
   where

@@ -91,8 +91,7 @@ scan_after-bare before Plain line = refl
 -- A scan depends on the bodies, endings and modes of the lines alone.
 pub scan_after-same : (before others : List Reading) (m : Mode) (line other : Line) → map bare before ≡ map bare others →
     line.body ≡ other.body → line.ending ≡ other.ending → scan_after before m line ≡ scan_after others m other
-scan_after-same before others m line other same body ending =
-    sym (scan_after-bare before m line)
+scan_after-same before others m line other same body ending = sym (scan_after-bare before m line)
     ∙ ap₂ (λ (rs : List Reading) (l : Line). scan_after rs m l) same
     (ap₂ (λ (b e : List ℕ). let l : Line = record { body = b; ending = e; number = 0 } in l) body ending)
     ∙ scan_after-bare others m other

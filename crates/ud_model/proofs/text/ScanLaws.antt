@@ -32,8 +32,7 @@ masked_after w masked (b ∷ bytes) = masked_after (next_state w b) ((if opens_c
 pub Masks-append : {n : ℕ} (bytes text : List ℕ) (w : LexState) (white : Bool) (masked : List ℕ) → Masks n text w white masked →
     Masks n (text ++ bytes) (place_after w bytes) (white_after w white bytes) (masked_after w masked bytes)
 Masks-append {n} [] text w white masked m = subst (λ (t : List ℕ). Masks n t w white masked) (sym (append-nil text)) m
-Masks-append {n} (b ∷ bytes) text w white masked m =
-    let v : Bool = stays_white w white b in
+Masks-append {n} (b ∷ bytes) text w white masked m = let v : Bool = stays_white w white b in
     let now : List ℕ = (if opens_comment w b then blank_last masked else masked) ++ masked_byte w b ∷ [] in
     grind (arith, append_assoc, Masks-append bytes (text ++ b ∷ []) (next_state w b) v now (Masks-step b m))
 
@@ -48,8 +47,7 @@ LexesTo-all text = LexesTo-append [] in_text true text LexesTo-nil
 
 -- The scan of a line, by the state after the text before it and whether the line before joins it.
 unfoldable pub scan_from : LexState → Bool → Bool → Line → Scan
-scan_from w white before line =
-    let v = place_after w (content line) in
+scan_from w white before line = let v = place_after w (content line) in
     record {
       masked = masked_after w [] (content line);
       fresh = fresh_at w white (content line);
@@ -109,8 +107,7 @@ group_joins run (l ∷ group) r j = grind (arith, last_is_spliced-append, kind_f
 -- A scan doesn't depend on lines before its logical line.
 pub own_logical_line : (run group : List Line) (line : Line) → LexesTo (spliced_text run) in_text true → joins run ≡ false →
     scan_after_run (run ++ group) line ≡ scan_after_run group line
-own_logical_line run group line r j =
-    let w : LexState = place_after in_text (spliced_text group) in
+own_logical_line run group line r j = let w : LexState = place_after in_text (spliced_text group) in
     let white : Bool = white_after in_text true (spliced_text group) in
     scan_after_run-from (run ++ group) line w white (joins group)
     (LexesTo-same (sym (spliced_text-append run group)) refl refl (LexesTo-append (spliced_text run) in_text true (spliced_text group) r))
@@ -141,8 +138,7 @@ joins_after-code run line = refl
 
 anew_code : (prefix group : List Reading) (last line : Line) → (scan_after_run (c_run_of prefix) last).joins_after ≡ false → last.ending ≢ [] →
     scan_after_run (c_run_of ((prefix ++ next_reading prefix C last ∷ []) ++ group)) line ≡ scan_after_run (c_run_of group) line
-anew_code prefix group last line alone some =
-    let run : List Line = c_run_of prefix ++ last ∷ [] in
+anew_code prefix group last line alone some = let run : List Line = c_run_of prefix ++ last ∷ [] in
     let j : joins run ≡ false = sym (joins_after-code (c_run_of prefix) last) ∙ alone in
     ap (λ (ls : List Line). scan_after_run ls line)
     (c_run_from-append [] (prefix ++ next_reading prefix C last ∷ []) group
@@ -180,6 +176,5 @@ readings_after-prefix before (l ∷ lines) =
 
 -- A longer list of lines begins with the readings of the shorter one.
 pub readings_grow : (lines more : List (Mode × Line)) → (rest : List Reading) × (readings_of (lines ++ more) ≡ readings_of lines ++ rest)
-readings_grow lines more =
-    let later = readings_after-prefix (readings_of lines) more in
+readings_grow lines more = let later = readings_after-prefix (readings_of lines) more in
     (later.0, readings_after-append [] lines more ∙ later.1)

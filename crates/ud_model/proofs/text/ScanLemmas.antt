@@ -52,8 +52,7 @@ slash_first t c s x m n = grind (arith, is_blank_last)
 fresh_slash : (text : List ℕ) (white : Bool) (s : List ℕ) (r : LexesTo text at_slash white) →
     is_blank (open_line [] (take (length text) (lex (text ++ s)))) ≡ (white && (starts_with_byte star s || starts_with_byte slash s))
 unfolding cells_after lex_from lexeme_at
-fresh_slash text white s r =
-    let first : List Cell = cell (lexeme_at slash s).kind slash ∷ [] in
+fresh_slash text white s r = let first : List Cell = cell (lexeme_at slash s).kind slash ∷ [] in
     let rest : List Cell = lex_from (lexeme_at slash s).kind (lexeme_at slash s).more s in
     let size : length (r.settled ++ first) ≡ length text = length-append r.settled first ∙ settled_all r in
     ap (λ (cells : List Cell). is_blank (open_line [] (take (length text) cells))) (r.splits s ∙ sym (append_assoc r.settled first rest))
@@ -89,8 +88,7 @@ LexesTo-close text line w white r = grind (arith, append_assoc, append-nil, Lexe
 shown_at_end : (o : Bool) (text c : List ℕ) (w : LexState) (white : Bool) → LexesTo (text ++ c) w white →
     take (length c) (drop (length text) (mask ((text ++ c) ++ (if o then [] else newline ∷ [])))) ≡ drop (length text) (mask (text ++ c))
 shown_at_end true text c w white r = grind (arith, append-nil, take_all, length-drop, length-mask, length-append)
-shown_at_end false text c w white r =
-    ap (λ (l : List ℕ). take (length c) (drop (length text) l))
+shown_at_end false text c w white r = ap (λ (l : List ℕ). take (length c) (drop (length text) l))
     (mask_step (text ++ c) w white newline r
     ∙ ap (λ (t : Bool). (if t then blank_last (mask (text ++ c)) else mask (text ++ c)) ++ masked_byte w newline ∷ []) (opens_comment-feed w))
     ∙ ap (λ (l : List ℕ). take (length c) l)

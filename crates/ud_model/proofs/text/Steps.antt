@@ -11,8 +11,7 @@ cell kind b = record { byte = b; kind = kind }
 -- The cells that a byte settles after a text with this state.
 abbrev pub settles : LexState → ℕ → List Cell
 settles in_text b = if b == slash then [] else if is_quote b then cell literal b ∷ [] else cell single b ∷ []
-settles at_slash b =
-    if b == star then cell block_comment slash ∷ cell block_comment b ∷ []
+settles at_slash b = if b == star then cell block_comment slash ∷ cell block_comment b ∷ []
     else if b == slash then cell line_comment slash ∷ cell line_comment b ∷ []
     else if is_quote b then cell single slash ∷ cell literal b ∷ []
     else cell single slash ∷ cell single b ∷ []

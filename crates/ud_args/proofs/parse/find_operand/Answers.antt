@@ -22,8 +22,7 @@ returns-in_err-parse_arg-clause-err c =
     rw (p.1, p.2, all) (c.in_err-parse_arg.ensures.err before.0 (remaining_args c.in-Some.after) before.2 scanned)
 
 pub given-preserved : goal.given-preserved
-given-preserved c =
-    let before = c.given.invariant in
+given-preserved c = let before = c.given.invariant in
     let g : ParsedArg = parsed_arg c.in-Some.given in
     let scanned : is_some (operand_in before.0) ≡ c.is_some.result =
     ap is_some (sym before.3) ∙ is_some-turned as_operand c.given.operand ∙ sym c.is_some.ensures in

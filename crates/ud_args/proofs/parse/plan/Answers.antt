@@ -10,8 +10,7 @@ pub given-init : goal.given-init
 given-init c = ([], sym (parsed_words-unifdef (map string_bytes c.args.args.now)) ∙ ap (map as_arg) (sym c.new-line.ensures), c.new-draft.ensures)
 
 pub given-preserved : goal.given-preserved
-given-preserved c =
-    let before = c.given.invariant in
+given-preserved c = let before = c.given.invariant in
     let g : ParsedArg = parsed_arg c.in-Some.given in
     let all : parsed_args (map string_bytes c.args.args.now) ≡ before.0 ++ g ∷ remaining_args c.in-Some.after =
     before.1 ∙ ap (λ (gs : List Parsed). before.0 ++ map as_arg gs) c.in-Some.ensures in

@@ -19,8 +19,7 @@ returns-in_err-apply-clause-err c =
     rw (p.1, p.2, all) (c.in_err-apply.ensures.err before.0 before.2 rest)
 
 pub loop-item-preserved : goal.loop-item-preserved
-loop-item-preserved c =
-    let before = c.loop-item.invariant in
+loop-item-preserved c = let before = c.loop-item.invariant in
     let g : ParsedArg = parsed_arg (get_or c.args.given.now c.loop-item.item-index (Flag 0)) in
     let rest : List ParsedArg = unifdef_args (parsed (drop (c.loop-item.item-index + 1) c.args.given.now)) in
     elim c.if-is_unifdef_option.branch [

@@ -92,8 +92,7 @@ module _ (table : List Argument) (rules : Rules) where
   other_unary_flags o a = grind (arith, all_kept)
 
   other_binary_flags : (o : Operator) (a b : Expression) → replicate (length (keeps table rules a) + suc (length (keeps table rules b))) true ≡ all_flags true (binary o a b)
-  other_binary_flags o a b =
-      ap₂ (λ (m n : ℕ). replicate (m + suc n) true) (long a) (long b)
+  other_binary_flags o a b = ap₂ (λ (m n : ℕ). replicate (m + suc n) true) (long a) (long b)
       ∙ ap (λ (n : ℕ). replicate n true) (sym (length-append (spelling a) (operator o ∷ spelling b))) ∙ all_of true (spelling a ++ operator o ∷ spelling b)
 
   -- the record of a tree

@@ -88,8 +88,7 @@ to_end xs front ys e = e ∙ sym (append-nil (front ++ ys))
 pub filled_right : (old new front ks js : List Bool) (start end : ℕ) → old ≡ front ++ ks ++ true ∷ js → start ≡ length front + lost_len ks → end ≡ length front + (length ks + 1) →
     ((f m b : List Bool) → old ≡ f ++ m ++ b → start ≡ length f → end ≡ length f + length m → new ≡ f ++ replicate (length m) false ++ b) →
     new ≡ front ++ (replicate (length ks + 1) false ++ js)
-filled_right old new front ks js start end e s q fill =
-    let w = lost_split ks in
+filled_right old new front ks js start end e s q fill = let w = lost_split ks in
     let lost : List Bool = replicate (lost_len ks) false in
     let ys : List Bool = w.0 ++ true ∷ [] in
     let size = length-append w.0 (true ∷ []) in

@@ -40,8 +40,7 @@ leads_less t n s r le p h = grind arith
 pub leads_twice : (t : List Argument) (n : List ℕ) (s i : ℕ) (p : Path) → LeadsTo t n s (Name i) → LeadsTo t (name_at t i) s p → LeadsTo t n (s + s) p
 leads_twice t n s i (Text j) h g = (g.0, resolves_onward t n (name_at t i) h.1.0 h.1.2 ∙ g.1)
 leads_twice t n s i Nothing h g = resolves_onward t n (name_at t i) h.1.0 h.1.2 ∙ g
-leads_twice t n s i (Name j) h g =
-    let a : ℕ = h.1.0 in
+leads_twice t n s i (Name j) h g = let a : ℕ = h.1.0 in
     let b : ℕ = g.1.0 in
     let p : s ≤ h.1.0 = h.1.1 in
     let q : s ≤ g.1.0 = g.1.1 in (

@@ -107,8 +107,7 @@ ascends-more R old new n i x sorted below here above after before j k low high w
 
 -- a row is inserted in its gap
 pub sorted-insert : (rows : List Argument) (i : ℕ) (a : Argument) → AreSorted rows → IsGapFor rows i a.name → AreSorted (insert rows i a)
-sorted-insert rows i a sorted gap j k low high =
-    let new = insert rows i a in
+sorted-insert rows i a sorted gap j k low high = let new = insert rows i a in
     let more : length new ≡ length rows + 1 = length-insert rows i a gap.within in
     let above : (n : ℕ) → i < n → name_at new n ≡ name_at rows (n - 1) =
     λ n l. subst (λ m. name_at new m ≡ name_at rows (n - 1)) {x = n - 1 + 1} (omega arith) (ap (λ r. r.name) (get_or-insert_above rows i a no_row (n - 1) (omega arith) gap.within)) in

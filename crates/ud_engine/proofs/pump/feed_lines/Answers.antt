@@ -6,9 +6,7 @@ use Rattle.ud_engine.specs.Runs.{InProgress}
 use Rattle.ud_engine.specs.Waiting.{IsWaiting}
 use Rattle.ud_engine.proofs.RunLemmas.{own_session, fed_room}
 use Rattle.ud_sections.specs.printing.Printers.{printer_represents, printer_piece}
-use Rattle.ud_engine.proofs.WaitingLemmas.{cut_within, cut_joined, cut_starts, cut_moved, cut_waits}
-use Rattle.ud_engine.proofs.WaitingLemmas.{fed_front, front_stops, fed_rest, rest_stops, room_after}
-use Rattle.ud_engine.proofs.WaitingLemmas.{no_further, fed_further, all_further}
+use Rattle.ud_engine.proofs.WaitingLemmas.{cut_within, cut_joined, cut_starts, cut_moved, cut_waits, fed_front, front_stops, fed_rest, rest_stops, room_after, no_further, fed_further, all_further}
 use Rattle.ud_engine.proofs.pump.feed_lines.Goals as goal
 
 pub returns-in-Err-clause-stops : goal.returns-in-Err-clause-stops
@@ -46,8 +44,7 @@ returns-then-may_begin_line-clause-goes_on g c = λ o read rest written u.
     (c.in_default.ensures.feeds (own_session o u.given u.printed) u.fed))
 
 pub returns-then-may_begin_line-clause-begun : goal.returns-then-may_begin_line-clause-begun
-returns-then-may_begin_line-clause-begun g c =
-    let w = c.requires.begun in
+returns-then-may_begin_line-clause-begun g c = let w = c.requires.begun in
     let goes = c.in_default.ensures.feeds (own_session w.options w.text w.printed) w.fed in
     record {
       options = w.options;
@@ -58,8 +55,7 @@ returns-then-may_begin_line-clause-begun g c =
     }
 
 pub returns-then-may_begin_line-clause-less : goal.returns-then-may_begin_line-clause-less
-returns-then-may_begin_line-clause-less g c =
-    let w = c.requires.begun in
+returns-then-may_begin_line-clause-less g c = let w = c.requires.begun in
     let goes = c.in_default.ensures.feeds (own_session w.options w.text w.printed) w.fed in
     let n = length-take c.last_line_start-whole.result c.args.buffer.now in
     let at = cut_within c.args.buffer.now c.args.end c.last_line_start-whole.result
@@ -71,8 +67,7 @@ returns-then-may_begin_line-clause-less g c =
     c.last_line_start-whole.result c.args.end (omega (arith, n, at, fits))
 
 pub feed-requires-2-clause-fits : goal.feed-requires-2-clause-fits
-feed-requires-2-clause-fits g c =
-    let w = c.requires.begun in
+feed-requires-2-clause-fits g c = let w = c.requires.begun in
     let goes = c.in_default.ensures.feeds (own_session w.options w.text w.printed) w.fed in
     let n = length-take (c.args.end - c.last_line_start-whole.result)
     (drop c.last_line_start-whole.result c.args.buffer.now) in
@@ -103,8 +98,7 @@ returns-in-Ok-clause-goes_on g c = λ o read rest written u.
     (c.in-Ok.ensures.feeds (own_session o v.given v.printed) v.fed))
 
 pub returns-in-Ok-clause-begun : goal.returns-in-Ok-clause-begun
-returns-in-Ok-clause-begun g c =
-    let w = c.requires.begun in
+returns-in-Ok-clause-begun g c = let w = c.requires.begun in
     let front = take c.last_line_start-whole.result c.args.buffer.now in
     let rest = take (c.args.end - c.last_line_start-whole.result)
     (drop c.last_line_start-whole.result c.args.buffer.now) in
@@ -120,8 +114,7 @@ returns-in-Ok-clause-begun g c =
     }
 
 pub returns-in-Ok-clause-less : goal.returns-in-Ok-clause-less
-returns-in-Ok-clause-less g c =
-    let w = c.requires.begun in
+returns-in-Ok-clause-less g c = let w = c.requires.begun in
     let front = take c.last_line_start-whole.result c.args.buffer.now in
     let rest = take (c.args.end - c.last_line_start-whole.result)
     (drop c.last_line_start-whole.result c.args.buffer.now) in

@@ -15,12 +15,10 @@ pub returns-in-None : goal.returns-in-None
 returns-in-None g c = let t = c.loop-rest.invariant in stopped t.taken c.loop-rest.rest.now _ _ t.joined t.took tt c.in-None.ensures.noted
 
 pub returns-in-Some-eq0 : goal.returns-in-Some-eq0
-returns-in-Some-eq0 g c =
-    let t = c.loop-rest.invariant in
+returns-in-Some-eq0 g c = let t = c.loop-rest.invariant in
     let zero : c.in-Some-eq0.field-0 ≡ 0 = search rules in
     stopped t.taken c.loop-rest.rest.now _ _ t.joined t.took zero c.in-Some-eq0.ensures.noted
 
 pub returns : goal.returns
-returns g c =
-    let none = empty_of c.loop-rest.rest.now c.loop-rest-test.ensures in
+returns g c = let none = empty_of c.loop-rest.rest.now c.loop-rest-test.ensures in
     all (takes_all c.args.name.now (g.F.Folder.history c.args.folder.now) (g.F.Folder.history c.loop-rest.folder) c.args.bytes.now c.loop-rest.rest.now c.loop-rest.invariant none)

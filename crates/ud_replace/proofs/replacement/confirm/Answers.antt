@@ -23,7 +23,6 @@ returns-then-not-is_unchanged g c =
     (looks_from (c.in-Some.ensures.noted ∙ ap (λ (t : List ℕ). was_read c.args.name.now t (Some c.in-Some.seen) ∷ g.F.Folder.history c.args.folder.now) text) c.if-not-is_unchanged.ensures)
 
 pub returns : goal.returns
-returns g c =
-    let text = still_text _ _ c.as_slice.ensures.value c.if-ne.ensures in
+returns g c = let text = still_text _ _ c.as_slice.ensures.value c.if-ne.ensures in
     confirmed c.in-Some.seen (sym c.if-not-has_facts_of.ensures)
     (looks_from (c.in-Some.ensures.noted ∙ ap (λ (t : List ℕ). was_read c.args.name.now t (Some c.in-Some.seen) ∷ g.F.Folder.history c.args.folder.now) text) c.if-not-is_unchanged.ensures)

@@ -15,11 +15,9 @@ returns-then-not-sync g c =
     not_synced _ c.if-not-append_all.ensures (c.if-not-sync.ensures ∙ ap (λ h. synced c.args.target.now.fresh.now false ∷ h) c.if-not-set_mode_and_owner.ensures)
 
 pub returns-in-Err : goal.returns-in-Err
-returns-in-Err g c =
-    not_confirmed _ _ c.if-not-append_all.ensures
+returns-in-Err g c = not_confirmed _ _ c.if-not-append_all.ensures
     (confirms_from (c.if-not-sync.ensures ∙ ap (λ h. synced c.args.target.now.fresh.now true ∷ h) c.if-not-set_mode_and_owner.ensures) c.in-Err.ensures)
 
 pub returns-in-Ok : goal.returns-in-Ok
-returns-in-Ok g c =
-    fills_by c.rename.result _ _ c.if-not-append_all.ensures
+returns-in-Ok g c = fills_by c.rename.result _ _ c.if-not-append_all.ensures
     (confirms_from (c.if-not-sync.ensures ∙ ap (λ h. synced c.args.target.now.fresh.now true ∷ h) c.if-not-set_mode_and_owner.ensures) c.in-Ok.ensures) c.rename.ensures

@@ -6,8 +6,7 @@ pub returns-in-Ok-true : goal.returns-in-Ok-true
 returns-in-Ok-true g c = renames (fills_from c.in-Ok.ensures (rw c.in-Ok-true.field-0-test at c.in-Ok-true.ensures))
 
 pub returns-then-target : goal.returns-then-target
-returns-then-target g c =
-    unrenamed_writes _ c.remove-gone.result c.if-target.true
+returns-then-target g c = unrenamed_writes _ c.remove-gone.result c.if-target.true
     (fills_from c.in-Ok.ensures (rw c.in-Ok-false.field-0-test at c.in-Ok-false.ensures))
     (overwrites_from c.remove-gone.ensures c.overwrite.ensures)
 

@@ -155,7 +155,6 @@ four_firsts ps = grind arith
 pub one_before : (first : Bor (List ℕ)) (ps : List (Bor (List ℕ))) (n : ℕ) → n ≤ 4 →
     bytes_of (take (n + 1) (first ∷ get_or ps 0 no_part ∷ get_or ps 1 no_part ∷ get_or ps 2 no_part ∷ get_or ps 3 no_part ∷ []))
     ≡ first.now ++ bytes_of (take n ps)
-one_before first ps n h =
-    rw add-one
+one_before first ps n h = rw add-one
     (ap (λ (t : List (Bor (List ℕ))). first.now ++ bytes_of (take n t)) (sym (four_firsts ps))
     ∙ ap (λ (t : List ℕ). first.now ++ t) (take_firsts 4 n ps h))

@@ -112,8 +112,7 @@ module _ (p : Bool) where
   moves kept plain d e f (adds_endif {ns = ns} {b = b} {h = h} {l = l}) = record {
     action = endif_action (section_of kept plain h);
     is_act = refl;
-    marks_are =
-        ap₂ (λ ms m. (nodes_so_far kept ns ++ ms) ++ m ∷ []) (groups_complete kept h b)
+    marks_are = ap₂ (λ ms m. (nodes_so_far kept ns ++ ms) ++ m ∷ []) (groups_complete kept h b)
         (ap (λ cs. marked kept (endif_verdict cs)) (conds-complete h b) ∙ endif_mark kept (conds_of_head h))
         ∙ simp append_assoc;
     changes = (section_of kept plain h, refl);
@@ -239,8 +238,7 @@ pub changes_deeper : (c : StackOp) (old new : List OpenSection) → Applies c ol
 changes_deeper c old new h k = grind (arith, length-append)
 
 front_of : (ls : List OpenSection) (l : OpenSection) → take (length (ls ++ l ∷ []) - 1) (ls ++ l ∷ []) ≡ ls
-front_of ls l =
-    let k : length (ls ++ l ∷ []) ≡ length ls + 1 = length-append ls (l ∷ []) in
+front_of ls l = let k : length (ls ++ l ∷ []) ≡ length ls + 1 = length-append ls (l ∷ []) in
     let e : length (ls ++ l ∷ []) - 1 ≡ length ls = omega (arith, k) in
     rw e (take-append_seam ls (l ∷ []))
 

@@ -65,8 +65,7 @@ module _ (p : Bool) (t : Tree Reading) (x : Item Reading) where
   taken_by u h k a l = grind (arith, lines-add, marks_so_far_same, mark_of)
 
   pub taken : (a : Action) → act p (section_at None true p t) (item_kind x) (line_of x).number ≡ Some a → Taken p t x a
-  taken a e =
-      let s : (u : Tree Reading) × Adds t x u = takes p true p t x a e in
+  taken a e = let s : (u : Tree Reading) × Adds t x u = takes p true p t x a e in
       taken_by s.0 s.1 (moves p true p None refl refl s.1) a e
 
   not_taken : act p (section_at None true p t) (item_kind x) (line_of x).number ≡ None → (u : Tree Reading) → lines u ≡ lines t ++ x ∷ [] → ⊥
@@ -95,13 +94,11 @@ module _ (p : Bool) (t : Tree Reading) (x : Item Reading) where
         (if k then Err (TooManyLevels (line_of x).number) else if q then Err (Obfuscated (line_of x).number) else Ok c) ≡ Ok a → Follows p t x a
     well_by c a h true q push spoil e = cc
     well_by c a h false true push spoil e = cc
-    well_by c a h false false push spoil e =
-        let same : c ≡ a = cc in
+    well_by c a h false false push spoil e = let same : c ≡ a = cc in
         subst (Follows p t x) same (record {
           tree = h.tree;
           lines_are = h.lines_are;
-          clear =
-              clear_line (lines t) x w whole h.tree h.lines_are (marks t) (mark_of c)
+          clear = clear_line (lines t) x w whole h.tree h.lines_are (marks t) (mark_of c)
               (shallow c h (opens_section c.change) refl d push) h.marks_are (sym (spoils s c scanned) ∙ spoil);
           marks_are = h.marks_are;
           changes = h.changes;
@@ -110,12 +107,10 @@ module _ (p : Bool) (t : Tree Reading) (x : Item Reading) where
     ill_by : (c : Action) (f : SectionFault) → Taken p t x c → (k q : Bool) → (opens_section c.change && (depth t == OPEN_SECTIONS)) ≡ k →
         is_obfuscated_by (ends_removed (marks t)) s c ≡ q →
         (if k then Err (TooManyLevels (line_of x).number) else if q then Err (Obfuscated (line_of x).number) else Ok c) ≡ Err f → FaultOf (lines t) x (fault_of f)
-    ill_by c f h true q push spoil e =
-        let same : TooManyLevels (line_of x).number ≡ f = cc in
+    ill_by c f h true q push spoil e = let same : TooManyLevels (line_of x).number ≡ f = cc in
         subst (λ g. FaultOf (lines t) x (fault_of g)) same
         (too_deep_fault (lines t) x w whole h.tree h.lines_are (deep c h (opens_section c.change) refl push))
-    ill_by c f h false true push spoil e =
-        let same : Obfuscated (line_of x).number ≡ f = cc in
+    ill_by c f h false true push spoil e = let same : Obfuscated (line_of x).number ≡ f = cc in
         subst (λ g. FaultOf (lines t) x (fault_of g)) same
         (spoiled_fault (lines t) x w whole h.tree h.lines_are (marks t) (mark_of c)
         (shallow c h (opens_section c.change) refl d push) h.marks_are (sym (spoils s c scanned) ∙ spoil))
@@ -129,8 +124,7 @@ module _ (p : Bool) (t : Tree Reading) (x : Item Reading) where
 
     ill_at : (r : Option Action) (f : SectionFault) → act p (section_at None true p t) (item_kind x) (line_of x).number ≡ r →
         checked_action (before_next p t) s (line_of x).number r ≡ Err f → FaultOf (lines t) x (fault_of f)
-    ill_at None f none e =
-        let same : misplaced_fault_by s.kind (line_of x).number ≡ f = cc in
+    ill_at None f none e = let same : misplaced_fault_by s.kind (line_of x).number ≡ f = cc in
         subst (λ g. FaultOf (lines t) x (fault_of g)) same
         (out_of_place_fault (lines t) x w t (fault_of (misplaced_fault_by s.kind (line_of x).number)) whole refl (not_taken none)
         (misplaced_is none ∙ ap (λ k. Some (fault_of (misplaced_fault_by k (line_of x).number))) (sym scanned.kind)))

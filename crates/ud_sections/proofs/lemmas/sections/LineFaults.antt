@@ -38,8 +38,7 @@ module _ (xs : List (Item Reading)) (x : Item Reading) (w : IsWithinLimits (line
 
   module _ (whole : is_cut_item x ≡ false) (u : Tree Reading) (e : lines u ≡ xs ++ x ∷ []) where
     too_deep_not : depth u ≤ OPEN_SECTIONS → ((v : Tree Reading) × (lines v ≡ xs ++ x ∷ []) × (OPEN_SECTIONS < depth v)) → ⊥
-    too_deep_not d j =
-        let q : j.0 ≡ u = unique j.0 u (j.1 ∙ sym e) in
+    too_deep_not d j = let q : j.0 ≡ u = unique j.0 u (j.1 ∙ sym e) in
         let k : OPEN_SECTIONS < depth u = subst (λ v. OPEN_SECTIONS < depth v) q j.2 in omega (arith, k, d)
 
     -- a directive that opens one section too many

@@ -44,11 +44,9 @@ reads_line m new o xs t l turn h w settings sections removed last = record {
     settings = settings ∙ h.settings;
     sound = one_more xs t h.sound l w.tree w.lines_are w.clear;
     sections = sections ∙ ap (applied turn.change) h.sections ∙ changed_is turn.change _ _ w.changes;
-    removed =
-        removed ∙ ap (λ j. is_removed j.verdict) w.decided
+    removed = removed ∙ ap (λ j. is_removed j.verdict) w.decided
         ∙ sym (ap ends_removed w.marks_are ∙ ends_removed_last (marks t) w.mark);
-    last =
-        last ∙ ap (λ (k : Line). k.number) (sym (reading_of-next o xs t l))
+    last = last ∙ ap (λ (k : Line). k.number) (sym (reading_of-next o xs t l))
         ∙ sym (last_number_last xs (next_item o xs t l));
   };
   mark = w.mark;
@@ -102,8 +100,7 @@ one_text o xs t r sound d e c w =
     let q : text_line r ≡ next_item o xs t r.line = sym (text_item o xs t r e c) in
     record {
       tree = k.tree;
-      sound =
-          subst (λ x. AreFaultless o (xs ++ x ∷ []) k.tree) (sym q)
+      sound = subst (λ x. AreFaultless o (xs ++ x ∷ []) k.tree) (sym q)
           (one_more xs t sound r.line k.tree (lines_are ∙ ap (λ x. xs ++ x ∷ []) q) (subst (λ x. NoneHolds xs x cases) q clear));
       marks_are = k.marks_are;
       same = same;
@@ -127,8 +124,7 @@ more_text o xs t (r ∷ rs) sound d a =
     record {
       tree = more.tree;
       sound = subst (λ ys. AreFaultless o ys more.tree) (append_assoc xs (text_line r ∷ []) (map text_line rs)) more.sound;
-      marks_are =
-          more.marks_are
+      marks_are = more.marks_are
           ∙ ap₂ (λ ms k. ms ++ map (λ v. mark_of (text_action k)) rs) one.marks_are place
           ∙ append_assoc (marks t) (mark_of (text_action (place_of o t)) ∷ []) (map (λ v. mark_of (text_action (place_of o t))) rs);
       same = more.same ∙ one.same;
@@ -155,8 +151,7 @@ reads_text m new o xs t r rs verdict h fits a reported settings sections removed
         settings = settings ∙ h.settings;
         sound = more.sound;
         sections = sections ∙ h.sections ∙ sym more.same;
-        removed =
-            removed ∙ ap is_removed here
+        removed = removed ∙ ap is_removed here
             ∙ sym (ap ends_removed more.marks_are ∙ ends_removed_run (marks t) (mark_of (text_action (place_of o t))) r rs);
         last = last;
       };

@@ -11,8 +11,7 @@ use Rattle.ud_model.proofs.sections.Soundness.{reading_of-item_of, reading_of-ne
 -- there is one more reading
 pub readings_more : (o : Options) (xs : List (Item Reading)) (t : Tree Reading) (l : Line) →
     map reading_of (xs ++ next_item o xs t l ∷ []) ≡ map reading_of xs ++ next_reading (map reading_of xs) (mode_after o t) l ∷ []
-readings_more o xs t l =
-    map-append reading_of xs (next_item o xs t l ∷ [])
+readings_more o xs t l = map-append reading_of xs (next_item o xs t l ∷ [])
     ∙ ap (λ r. map reading_of xs ++ r ∷ []) (reading_of-item_of o (read_after xs (mode_after o t) l))
 
 -- there is one more line

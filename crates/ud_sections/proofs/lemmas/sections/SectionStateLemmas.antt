@@ -1,6 +1,5 @@
 -- SectionStateLemmas: the table by states is the table of verdicts by the groups so far.
-use Rattle.std.proofs.Common.{arith}
-use Rattle.std.proofs.Common.{◌≡◌, List, [], ◌∷◌, ◌++◌, Bool, true, false, not, ◌&&◌, if◌then◌else◌, refl, ◌∙◌, ap}
+use Rattle.std.proofs.Common.{arith, ◌≡◌, List, [], ◌∷◌, ◌++◌, Bool, true, false, not, ◌&&◌, if◌then◌else◌, refl, ◌∙◌, ap}
 use Rattle.ud_model.specs.declared.cond.Cond.{Cond}
 use Rattle.ud_model.specs.declared.cond.Cond.TheVariants.{Yes, No, Unknown}
 use Rattle.ud_model.specs.declared.verdict.Verdict.TheVariants.{Keep, Remove, ToEndif}
@@ -87,8 +86,7 @@ pub opener_mark : (kept : Bool) (cs : List Cond) (part : Part) (c : Cond) →
 opener_mark true cs part c = rw ((agrees cs).lives, (agrees cs).opener part c) refl
 opener_mark false cs part c = rw (dead-stays cs) refl
 
-pub endif_mark : (kept : Bool) (cs : List Cond) →
-    marked kept (endif_verdict cs)
+pub endif_mark : (kept : Bool) (cs : List Cond) → marked kept (endif_verdict cs)
     ≡ record { kept = not (is_in_removed (section_state_after (new_state kept) cs)); verdict = endif_verdict_in (section_state_after (new_state kept) cs) }
 endif_mark kept cs = grind (arith, agrees, dead-stays)
 

@@ -79,8 +79,7 @@ module _ (o : Options) (xs : List (Item Reading)) (t : Tree Reading) (l : Line) 
   well_seen : (s : ClassifiedLine) → SeenOn o (read_after xs (mode_after o t) l) carried s → (a : Action) →
       checked_by (before_next o.settings.plain t) s l.number ≡ Ok a →
       TurnsWell o xs t l (record { step = record { verdict = a.verdict; keyword = s.keyword }; change = a.change })
-  well_seen s scanned a j =
-      let f : Follows o.settings.plain t (next_item o xs t l) a =
+  well_seen s scanned a j = let f : Follows o.settings.plain t (next_item o xs t l) a =
       judged_well o.settings.plain t (next_item o xs t l) s scanned.scanned within_item (ap is_cut carried_item ∙ scanned.whole) shallow a
       (ap (λ n. checked_by (before_next o.settings.plain t) s n) (sym number_is) ∙ j) in
       record {
@@ -97,8 +96,7 @@ module _ (o : Options) (xs : List (Item Reading)) (t : Tree Reading) (l : Line) 
 
   ill_seen : (s : ClassifiedLine) → SeenOn o (read_after xs (mode_after o t) l) carried s → (f : SectionFault) →
       checked_by (before_next o.settings.plain t) s l.number ≡ Err f → FaultOf xs (next_item o xs t l) (fault_of f)
-  ill_seen s scanned f j =
-      subst (λ ys. FaultOf ys (next_item o xs t l) (fault_of f)) e
+  ill_seen s scanned f j = subst (λ ys. FaultOf ys (next_item o xs t l) (fault_of f)) e
       (judged_ill o.settings.plain t (next_item o xs t l) s scanned.scanned within_item (ap is_cut carried_item ∙ scanned.whole) shallow f
       (ap (λ n. checked_by (before_next o.settings.plain t) s n) (sym number_is) ∙ j))
 
@@ -110,8 +108,7 @@ module _ (o : Options) (xs : List (Item Reading)) (t : Tree Reading) (l : Line) 
       checked_by (before_next o.settings.plain t) s l.number ≡ a → (f : SectionFault) → transition_with s.keyword a ≡ Err f →
       FaultOf xs (next_item o xs t l) (fault_of f)
   ill_by s scanned (Ok a) j f q = cc
-  ill_by s scanned (Err g) j f q =
-      let same : g ≡ f = cc in
+  ill_by s scanned (Err g) j f q = let same : g ≡ f = cc in
       subst (λ h. FaultOf xs (next_item o xs t l) (fault_of h)) same (ill_seen s scanned g j)
 
   well_at : (s : Result ClassifiedLine Cut) → classified (read_after xs (mode_after o t) l).scan o.table (rules_of o.settings) carried ≡ s →
@@ -124,8 +121,7 @@ module _ (o : Options) (xs : List (Item Reading)) (t : Tree Reading) (l : Line) 
       (f : SectionFault) → transition_of (before_next o.settings.plain t) l.number s ≡ Err f → FaultOf xs (next_item o xs t l) (fault_of f)
   ill_at (Ok s) scanned f q =
       ill_by s (seen_well o (read_after xs (mode_after o t) l) carried s scanned) (checked_by (before_next o.settings.plain t) s l.number) refl f q
-  ill_at (Err cut) scanned f q =
-      let same : Obfuscated l.number ≡ f = cc in
+  ill_at (Err cut) scanned f q = let same : Obfuscated l.number ≡ f = cc in
       subst (λ h. FaultOf xs (next_item o xs t l) (fault_of h)) same
       (subst (λ n. FaultOf xs (next_item o xs t l) (obfuscated n)) (sym number_is)
       (cut_fault xs (next_item o xs t l) within_item (ap is_cut carried_item ∙ seen_ill o (read_after xs (mode_after o t) l) carried cut scanned)))

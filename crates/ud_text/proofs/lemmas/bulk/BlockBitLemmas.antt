@@ -7,8 +7,7 @@ use Rattle.std.proofs.Math.Nat.{zero-div, div-one, div-div-eq-div-mul, pow-suc, 
 use Rattle.std.proofs.Math.Seq.{drop-nil}
 use Rattle.std.proofs.Math.ListN.{length-drop}
 use Rattle.std.proofs.lemmas.List.{drop-take, take_all}
-use Rattle.std.proofs.lemmas.Simd.{trailing_mask_l, leading_from_mask_l}
-use Rattle.std.proofs.lemmas.Simd.{length-chunk}
+use Rattle.std.proofs.lemmas.Simd.{trailing_mask_l, leading_from_mask_l, length-chunk}
 use lib.Lanes.{mask_l}
 use Rattle.ud_text.specs.bulk.Blocks.{significant_bits}
 use Rattle.ud_text.specs.bulk.BulkLexemes.{is_significant}
@@ -29,8 +28,7 @@ mask_rest (m ∷ ms) (suc k) =
 -- the remaining bits of a block are those of its bytes from a position on
 pub rest_bits : (bytes : List ℕ) (begin at : ℕ) → begin ≤ at → at ≤ begin + 64 →
     significant_bits (take 64 (drop begin bytes)) / 2 ^ (at - begin) ≡ significant_bits (take (begin + 64 - at) (drop at bytes))
-rest_bits bytes begin at h k =
-    let size : 64 ≡ (at - begin) + (begin + 64 - at) = omega arith in
+rest_bits bytes begin at h k = let size : 64 ≡ (at - begin) + (begin + 64 - at) = omega arith in
     let there : begin + (at - begin) ≡ at = omega arith in
     mask_rest (map is_significant (take 64 (drop begin bytes))) (at - begin)
     ∙ ap mask_l (drop-map is_significant (at - begin) (take 64 (drop begin bytes)))
@@ -81,8 +79,7 @@ module _ (bytes : List ℕ) (begin at bits : ℕ) (is : bits ≡ significant_bit
 
   none_left : bits / 2 ^ (at - begin) ≡ 0 → begin + 64 ≤ length bytes → (end : ℕ) → end ≡ begin + 64 →
       end + position_or_len is_significant (drop end bytes) ≡ at + position_or_len is_significant (drop at bytes)
-  none_left none room end e =
-      let there : at + (begin + 64 - at) ≡ end = omega arith in
+  none_left none room end e = let there : at + (begin + 64 - at) ≡ end = omega arith in
       sym (row_later bytes at (begin + 64 - at) (row_empty bytes at (begin + 64 - at) (omega arith) (omega arith) (bits / 2 ^ (at - begin)) left none)
       ∙ ap (λ (n : ℕ). n + position_or_len is_significant (drop n bytes)) there)
 

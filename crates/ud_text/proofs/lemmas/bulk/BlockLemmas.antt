@@ -89,8 +89,7 @@ module _ {start : BulkState} {bytes : List ℕ} {line : ℕ} {kept : BulkState} 
       n ≤ length (take count (drop at bytes)) → 0 < n → ReadTo start bytes (at + n) (block_state u) (at + count) (inside_state on.now u)
   unfolding on
   later_at n _ at_start e h k z = absurd (let f : 0 ≡ n = ap length e ∙ length-take-le n (take count (drop at bytes)) k in omega arith)
-  later_at n _ (after_newline x) e h k z =
-      let run : List ℕ = take count (drop at bytes) in
+  later_at n _ (after_newline x) e h k z = let run : List ℕ = take count (drop at bytes) in
       let y : List ℕ = drop n run in
       let split : run ≡ (x ++ newline ∷ []) ++ y = sym (take-append-drop n run) ∙ ap (λ (l : List ℕ). l ++ drop n run) (sym e) in
       let whole : run ≡ x ++ newline ∷ y = split ∙ append_assoc x (newline ∷ []) y in

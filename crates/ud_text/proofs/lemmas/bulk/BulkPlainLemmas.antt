@@ -53,8 +53,7 @@ stops_plain b white rest h = grind arith
 -- plain text leads from outside comments and literals to outside them
 pub plain_read : (bytes : List ℕ) (white : Bool) → NoSignificant bytes → CodeLexeme white bytes
 plain_read [] white h = record { now_white = white; leads = refl; quiet = tt; no_newline = tt; no_comment = tt }
-plain_read (b ∷ bytes) white h =
-    let now : Bool = stays_white in_text white b in
+plain_read (b ∷ bytes) white h = let now : Bool = stays_white in_text white b in
     let more : CodeLexeme now bytes = plain_read bytes now h.1 in
     let there : code_state now ≡ next_bulk_state (code_state white) b = sym (step_plain b white h.0) in
     record {

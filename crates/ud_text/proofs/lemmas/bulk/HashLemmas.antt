@@ -100,8 +100,7 @@ none_more lines at count h k = grind (arith, take-add, none-append)
 
 word_other : (b : ℕ) (bytes tail : List ℕ) → starts_with_no_keyword (b ∷ (bytes ++ tail)) ≡ true → NoWord tail → IsOther (b ∷ bytes)
 word_other b [] [] e n = cc
-word_other b [] (c ∷ tail) e n =
-    let word : is_word_byte b ≡ true = is_no_keyword-first b c e in
+word_other b [] (c ∷ tail) e n = let word : is_word_byte b ≡ true = is_no_keyword-first b c e in
     record {
       first = b;
       more = [];
@@ -109,8 +108,7 @@ word_other b [] (c ∷ tail) e n =
       none = ap kind_of (word_front b [] word) ∙ other_word b c [] [] e (λ f. cc);
       sure = other_sure b c [] [] e (word_is_plain b word).1 (λ f. cc);
     }
-word_other b (c ∷ bytes) tail e n =
-    let word : is_word_byte b ≡ true = is_no_keyword-first b c e in
+word_other b (c ∷ bytes) tail e n = let word : is_word_byte b ≡ true = is_no_keyword-first b c e in
     record {
       first = b;
       more = c ∷ bytes;
@@ -151,16 +149,14 @@ feed_names e h = grind arith
 
 -- a whole line that begins no directive shows no `#` of one
 line_unsigned : (n : ℕ) (l : List ℕ) → IsWhole l → NoneBeginsDirective true l → Unsigned (skip_white_and_hash (line_at n l).body)
-line_unsigned n l whole h =
-    let f : IsFeed (ending_of l) = whole_ending l whole in
+line_unsigned n l whole h = let f : IsFeed (ending_of l) = whole_ending l whole in
     plain_unsigned (line_at n l).body (ending_of l) (body_one_line l (length (ending_of l)) whole (feed_length (ending_of l) f))
     (subst (NoneBeginsDirective true) (sym (body-ending l)) h) (feed_names (ending_of l) f).0 (feed_names (ending_of l) f).1
 
 -- whole lines that begin no directive are text
 lines_text : (ls : List (List ℕ)) (n : ℕ) (before : List Reading) → AreWhole ls → NoneBeginsDirective true (concat ls) → HaveNoDirective Plain before (numbered_from n ls)
 lines_text [] n before whole h = tt
-lines_text (l ∷ ls) n before whole h =
-    let prefix : List ℕ = whole.0.0 in
+lines_text (l ∷ ls) n before whole h = let prefix : List ℕ = whole.0.0 in
     let split : l ++ concat ls ≡ prefix ++ newline ∷ concat ls = ap (λ (x : List ℕ). x ++ concat ls) whole.0.2 ∙ append_assoc prefix (newline ∷ []) (concat ls) in
     let parts : NoneBeginsDirective true (prefix ++ newline ∷ []) × NoneBeginsDirective true (concat ls) =
     none-feed true prefix (concat ls) (subst (NoneBeginsDirective true) split h) in (
@@ -177,8 +173,7 @@ lines_before bytes n h last = by_begins (take n bytes) last.begins refl
   where
     by_begins : (p : List ℕ) → IsLineStart p → p ≡ take n bytes → ArePlainText p
     by_begins _ at_start e = none_text [] (begins_ends [] at_start) tt
-    by_begins _ (after_newline x) e =
-        let split : bytes ≡ x ++ newline ∷ drop n bytes =
+    by_begins _ (after_newline x) e = let split : bytes ≡ x ++ newline ∷ drop n bytes =
         sym (take-append-drop n bytes) ∙ ap (λ (l : List ℕ). l ++ drop n bytes) (sym e) ∙ append_assoc x (newline ∷ []) (drop n bytes) in
         none_text (x ++ newline ∷ []) (begins_ends (x ++ newline ∷ []) (after_newline x)) (none-feed true x (drop n bytes) (subst (NoneBeginsDirective true) split h)).0
 

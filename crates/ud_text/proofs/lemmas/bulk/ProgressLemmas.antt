@@ -66,8 +66,7 @@ module _ {start : BulkState} {bytes : List ℕ} {line : ℕ} {kept : BulkState} 
   -- what is read, from the beginning of a later line
   pub settled_at : (n : ℕ) (m : List ℕ) → IsLineStart m → m ≡ take n r.mid → n ≤ length r.mid → 0 < n → ReadTo start bytes (line + n) (code_state true) at now
   settled_at n _ at_start e h k = absurd (let f : 0 ≡ n = ap length e ∙ length-take-le n r.mid h in omega arith)
-  settled_at n _ (after_newline x) e h k =
-      let y : List ℕ = drop n r.mid in
+  settled_at n _ (after_newline x) e h k = let y : List ℕ = drop n r.mid in
       let split : r.mid ≡ (x ++ newline ∷ []) ++ y = sym (take-append-drop n r.mid) ∙ ap (λ (l : List ℕ). l ++ drop n r.mid) (sym e) in
       let whole : r.mid ≡ x ++ newline ∷ y = split ∙ append_assoc x (newline ∷ []) y in
       let parts : HasNoStop kept (x ++ newline ∷ []) × HasNoStop (bulk_state_after kept (x ++ newline ∷ [])) y = HasNoStop-feed kept x y (subst (λ (l : List ℕ). HasNoStop kept l) whole r.quiet) in
@@ -101,8 +100,7 @@ module _ {start : BulkState} {bytes : List ℕ} {line : ℕ} {kept : BulkState} 
   pub read_splice : now ≡ code_state false → (k : ℕ) → k ≤ length (drop at bytes) → IsSplice (take k (drop at bytes)) →
       ReadTo start bytes (at + k) (code_state false) (at + k) (code_state false)
   unfolding rest_of
-  read_splice e k h s =
-      let splice : List ℕ = take k (drop at bytes) in
+  read_splice e k h s = let splice : List ℕ = take k (drop at bytes) in
       let ends : at + k ≡ length (r.prefix ++ (r.mid ++ take k (drop at bytes))) =
       (let f : at ≡ length r.prefix + length r.mid = r.at_is in
       let g : length (take k (drop at bytes)) ≡ k = length-take-le k (drop at bytes) h in

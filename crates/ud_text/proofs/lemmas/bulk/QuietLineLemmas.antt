@@ -83,8 +83,7 @@ tail_kind false _ two = return_feed
 
 -- each whole line is a content and a tail
 pub shape_of : (n : ℕ) (l : List ℕ) → IsWhole l → Shape (line_at n l) l
-shape_of n l whole =
-    let line : Line = line_at n l in
+shape_of n l whole = let line : Line = line_at n l in
     let f : IsFeed (ending_of l) = whole_ending l whole in
     record {
       tail = (if is_spliced line then backslash ∷ [] else []) ++ ending_of l;
@@ -213,8 +212,7 @@ pub record QuietLines (before : List Reading) (n : ℕ) (ls : List (List ℕ)) (
 pub lines_read : (ls : List (List ℕ)) (n : ℕ) (w : LexState) (white : Bool) (before : List Reading) → AreWhole ls → can_start w ≡ true →
     HasNoStop (line_state w white) (concat ls) → ScannerRepresents (scanner_state_at w white) before → QuietLines before n ls (bulk_state_after (line_state w white) (concat ls))
 lines_read [] n w white before whole at quiet carried = record { represents = carried; texts = tt }
-lines_read (l ∷ ls) n w white before whole at quiet carried =
-    let prefix : List ℕ = whole.0.0 in
+lines_read (l ∷ ls) n w white before whole at quiet carried = let prefix : List ℕ = whole.0.0 in
     let split : l ++ concat ls ≡ prefix ++ newline ∷ concat ls =
     ap (λ (x : List ℕ). x ++ concat ls) whole.0.2 ∙ append_assoc prefix (newline ∷ []) (concat ls) in
     let parts : HasNoStop (line_state w white) (prefix ++ newline ∷ []) × HasNoStop (bulk_state_after (line_state w white) (prefix ++ newline ∷ [])) (concat ls) =
@@ -256,8 +254,7 @@ begins_at_line start bytes h k = grind (arith, bulk_state_after-append, feed_at_
 
 quiet_passes : (w : LexState) (white : Bool) (bytes : List ℕ) → can_start w ≡ true → AreWholeLines bytes → HasNoStop (line_state w white) bytes →
     SkipsText C (scanner_state_at w white) (scanner_state_at (bulk_state_after (line_state w white) bytes).state (bulk_state_after (line_state w white) bytes).white) bytes
-quiet_passes w white bytes at ends quiet =
-    let ls : List (List ℕ) = whole_lines bytes in
+quiet_passes w white bytes at ends quiet = let ls : List (List ℕ) = whole_lines bytes in
     let is : bytes ≡ concat ls = ended_lines bytes ends in
     let on : HasNoStop (line_state w white) (concat ls) = subst (λ (x : List ℕ). HasNoStop (line_state w white) x) is quiet in
     record {

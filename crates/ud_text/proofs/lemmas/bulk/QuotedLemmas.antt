@@ -1,8 +1,6 @@
 -- Quoted lines: a line ends outside block comments from a quote on, whatever its literals and its
 -- comments, if a star and a slash follow its last slash and star.
-use Rattle.std.proofs.Common.{◌≡◌, ℕ, zero, suc, ◌+◌, ◌-◌, ◌<◌, ◌≤◌, ◌==◌, List, [], ◌∷◌, ◌++◌}
-use Rattle.std.proofs.Common.{length, take, drop, get_or, Bool, true, false, ◌&&◌, ◌||◌}
-use Rattle.std.proofs.Common.{refl, sym, ◌∙◌, ap, ap₂, subst, arith, length-append}
+use Rattle.std.proofs.Common.{◌≡◌, ℕ, zero, suc, ◌+◌, ◌-◌, ◌<◌, ◌≤◌, ◌==◌, List, [], ◌∷◌, ◌++◌, length, take, drop, get_or, Bool, true, false, ◌&&◌, ◌||◌, refl, sym, ◌∙◌, ap, ap₂, subst, arith, length-append}
 use Rattle.std.specs.List.{position_or_len}
 use Rattle.std.proofs.lemmas.Bool.{eqb-true}
 use Rattle.std.proofs.lemmas.List.{take_more, take_rest, get_or-drop, get_or-take, length-take-le}
@@ -11,17 +9,12 @@ use Rattle.std.proofs.Math.Bool.{and-false}
 use Rattle.std.proofs.Math.ListN.{length-drop}
 use Rattle.ud_model.specs.text.Bytes.{is_quote, slash, newline, carriage_return, star, backslash}
 use Rattle.ud_model.specs.text.Scanning.{is_block}
-use Rattle.ud_model.specs.aids.LexStates.{LexState, at_slash, in_block, in_line}
-use Rattle.ud_model.specs.aids.LexStates.{next_state}
-use Rattle.ud_model.specs.aids.LexStates.{kind_in_state}
-use Rattle.ud_text.specs.bulk.BulkStates.{BulkState, code_state, stops_bulk}
-use Rattle.ud_text.specs.bulk.BulkStates.{NoNewlineInBlock, bulk_state_after}
-use Rattle.ud_text.specs.bulk.BulkStates.{spliced_after, HasNoStop}
+use Rattle.ud_model.specs.aids.LexStates.{LexState, at_slash, in_block, in_line, next_state, kind_in_state}
+use Rattle.ud_text.specs.bulk.BulkStates.{BulkState, code_state, stops_bulk, NoNewlineInBlock, bulk_state_after, spliced_after, HasNoStop}
 use Rattle.ud_text.specs.bulk.BulkLexemes.{LineLexeme, may_splice}
 use Rattle.ud_text.specs.searching.Searches.{is_one_of}
 use Rattle.ud_text.proofs.lemmas.searching.MarkLemmas.{position_or_len-bound}
-use Rattle.ud_text.proofs.lemmas.bulk.QuietLemmas.{bulk_state_after-append, HasNoStop-append}
-use Rattle.ud_text.proofs.lemmas.bulk.QuietLemmas.{NoNewlineInBlock-append}
+use Rattle.ud_text.proofs.lemmas.bulk.QuietLemmas.{bulk_state_after-append, HasNoStop-append, NoNewlineInBlock-append}
 use Rattle.ud_text.proofs.lemmas.bulk.LexemeLemmas.{spliced_by, unspliced, last_clear}
 use Rattle.ud_text.proofs.lemmas.bulk.LookLemmas.{white_false}
 use Rattle.ud_text.proofs.lemmas.bulk.ProgressLemmas.{feed_open}
@@ -88,8 +81,7 @@ front_later white begun later last b bytes r h k l = grind (arith, bulk_state_af
 front_byte : (white : Bool) (begun last b : ℕ) (bytes : List ℕ) →
     QuotedFront white begun last bytes → (b == newline) ≡ false → opens last b ≡ false →
     QuotedFront white begun b (bytes ++ b ∷ [])
-front_byte white begun last b bytes r e f =
-    front_later white begun begun last b bytes r e
+front_byte white begun last b bytes r e f = front_later white begun begun last b bytes r e
     (λ z. block_next r.now.state last b r.slash_is f (r.shut z))
     (λ h s i. starred_next r.now.state last r.slash_is (subst (λ (n : ℕ). opens last n ≡ false) s f)
     (subst (λ (n : ℕ). next_state r.now.state n ≡ in_block) s i))
@@ -193,16 +185,14 @@ module _ (l : List ℕ) (at count : ℕ)
   -- no block comment begins up to the byte that was found
   pub none_opens : (j : ℕ) → j ≤ count → opens_at l (at + j) ≡ false
   none_opens zero h = grind arith
-  none_opens (suc j) h =
-      let there : at + suc j - 1 ≡ at + j = omega arith in
+  none_opens (suc j) h = let there : at + suc j - 1 ≡ at + j = omega arith in
       ap (λ (n : ℕ). opens (get_or l n 0) (get_or l (at + suc j) 0)) there
       ∙ none_after (get_or l (at + j) 0) (get_or l (at + suc j) 0) (fails j (omega arith)).1
 
   run_more : (white : Bool) (begun : ℕ) → QuotedTo white begun l at → (j : ℕ) → j ≤ count →
       QuotedTo white begun l (at + j)
   run_more white begun r zero h = grind arith
-  run_more white begun r (suc j) h =
-      let inside : at + j < length l =
+  run_more white begun r (suc j) h = let inside : at + j < length l =
       omega (arith, found, position_or_len-bound ends_quoted (drop at l), length-drop at l) in
       let next : at + j + 1 ≡ at + suc j = omega arith in
       subst (λ (n : ℕ). QuotedTo white begun l n) next
@@ -224,8 +214,7 @@ module _ (l : List ℕ) (at count : ℕ)
       at + count + 1 < length l → (get_or l (at + count) 0 == newline) ≡ false →
       get_or l (at + count + 1) 0 ≡ star →
       QuotedTo white (at + count + 2) l (at + count + 2)
-  quoted_star white begun r h e f =
-      let two : at + count + 1 + 1 ≡ at + count + 2 = omega arith in
+  quoted_star white begun r h e f = let two : at + count + 1 + 1 ≡ at + count + 2 = omega arith in
       subst (λ (n : ℕ). QuotedTo white (at + count + 2) l n) two
       (quoted_open white begun (at + count + 2) l (at + count + 1)
       (quoted_byte white begun l (at + count) (quoted_run white begun r)
@@ -247,8 +236,7 @@ module _ (l : List ℕ) (at count : ℕ)
   pub quoted_line : at + count < length l → get_or l (at + count) 0 ≡ newline →
       spliced_by false (take (at + count) l) ≡ false → (white : Bool) (begun : ℕ) → begun ≡ 0 →
       QuotedTo white begun l at → LineLexeme white (take (at + count + 1) l)
-  quoted_line h e s white begun z r =
-      subst (λ (x : List ℕ). LineLexeme white x)
+  quoted_line h e s white begun z r = subst (λ (x : List ℕ). LineLexeme white x)
       (sym (take_more l (at + count) 0 h ∙ ap (λ (n : ℕ). take (at + count) l ++ n ∷ []) e))
       (front_newline white begun (get_or l (at + count - 1) 0) (take (at + count) l)
       (quoted_run white begun r) z s)
@@ -263,8 +251,7 @@ unspliced_last l n h k m o = grind (arith, length-take-le, get_or-take, last_cle
 pub unspliced_return : (l : List ℕ) (n : ℕ) → 2 ≤ n → n ≤ length l →
     get_or l (n - 1) 0 ≡ carriage_return → may_splice (get_or l (n - 2) 0) carriage_return ≡ false →
     spliced_by false (take n l) ≡ false
-unspliced_return l n low high e f =
-    let next : suc (n - 2) ≡ n - 1 = omega arith in
+unspliced_return l n low high e f = let next : suc (n - 2) ≡ n - 1 = omega arith in
     let long : length (take n l) ≡ n = length-take-le n l high in
     unspliced (take n l) (n - 2) (omega (arith, long, low))
     (ap₂ may_splice (get_or-take n l (n - 2) 0 (omega arith))

@@ -45,8 +45,7 @@ last_line_of (b ∷ l) = by_rest (last_line_of l).0 (last_line_of l).1
 
 -- The last line of the bytes up to a position at which a line begins.
 line_there : (bytes : List ℕ) (line at : ℕ) → line < at → at ≤ length bytes → get_or bytes (at - 1) 0 ≡ newline → LastLineStarts (take (at - line) (drop line bytes)) (at - line)
-line_there bytes line at low high e =
-    let l : List ℕ = drop line bytes in
+line_there bytes line at low high e = let l : List ℕ = drop line bytes in
     let k : ℕ = at - line - 1 in
     let next : at - line - 1 + 1 ≡ at - line = omega arith in
     let there : line + (at - line - 1) ≡ at - 1 = omega arith in
@@ -162,8 +161,7 @@ module _ {start : BulkState} {bytes : List ℕ} {p : Reach} (r : Reached start b
       ((u : Bool) → LineLexeme u (take k (take (length bytes - p.at) (drop p.at bytes)))) →
       get_or (take (length bytes - p.at) (drop p.at bytes)) (k - 1) 0 ≡ newline →
       Reached start bytes (at_base (p.at + k) true true p.searched)
-  reach_comment k z h t e =
-      let now : Bool = r.read.now_white in
+  reach_comment k z h t e = let now : Bool = r.read.now_white in
       let x : LineLexeme now (take k (drop p.at bytes)) = subst (λ (l : List ℕ). LineLexeme r.read.now_white (take k l)) (take_rest bytes p.at) (t now) in
       let fits : k ≤ length (drop p.at bytes) = subst (λ (l : List ℕ). k ≤ length l) (take_rest bytes p.at) h in
       let on : ReadTo start bytes r.line r.kept (p.at + k) (code_state true) = read_on r.read.so_far k (take k (drop p.at bytes)) refl fits x.quiet x.no_newline (code_state true) x.leads in

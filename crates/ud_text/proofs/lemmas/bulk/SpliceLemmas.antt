@@ -42,13 +42,11 @@ module _ (cont : List ℕ) (n : ℕ) where
   with_body l e f g h = grind (arith, nat_eq, front_of, end_of)
 
   joined_feed : IsJoined (cont ++ backslash ∷ newline ∷ [])
-  joined_feed =
-      with_body (cont ++ backslash ∷ newline ∷ []) (newline ∷ []) ending
+  joined_feed = with_body (cont ++ backslash ∷ newline ∷ []) (newline ∷ []) ending
       (ap (λ (x : List ℕ). take (length x - 1) x) (sym (append_assoc cont (backslash ∷ []) (newline ∷ []))) ∙ front_of (cont ++ backslash ∷ []) (newline ∷ []) 1 refl) refl
     where
       ending : ending_of (cont ++ backslash ∷ newline ∷ []) ≡ newline ∷ []
-      ending =
-          rw (end_of cont (backslash ∷ newline ∷ []) 2 refl)
+      ending = rw (end_of cont (backslash ∷ newline ∷ []) 2 refl)
           (ap (λ (x : List ℕ). if ends_with nat_eq x (newline ∷ []) then newline ∷ [] else []) (sym (append_assoc cont (backslash ∷ []) (newline ∷ [])))
           ∙ rw (end_of (cont ++ backslash ∷ []) (newline ∷ []) 1 refl) refl)
 
@@ -160,8 +158,7 @@ quiet_front s _ q (after_newline prefix) h = HasNoStop-feed s prefix q (subst (�
 -- skipped with the splice
 pub passed_splice : (start : BulkState) (bytes s : List ℕ) → AtLine start → HasNoStop start bytes → bulk_state_after start bytes ≡ code_state false → IsSplice s →
     Skipped start (bytes ++ s) (code_state false)
-passed_splice start bytes s at quiet leads splice =
-    let c : Cut bytes = cut_at_last bytes in
+passed_splice start bytes s at quiet leads splice = let c : Cut bytes = cut_at_last bytes in
     let parts : HasNoStop start c.lines × HasNoStop (bulk_state_after start c.lines) c.last =
     quiet_front start c.lines c.last c.begins (subst (λ (x : List ℕ). HasNoStop start x) c.is quiet) in
     let lines : Skipped start c.lines (bulk_state_after start c.lines) = passed_quiet start c.lines at c.begins parts.0 in

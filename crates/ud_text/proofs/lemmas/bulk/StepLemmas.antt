@@ -1,7 +1,5 @@
 -- Steps: what one step of the program reads, by the positions and slices that the step has.
-use Rattle.std.proofs.Common.{◌≡◌, ℕ, zero, suc, ◌+◌, ◌-◌, ◌<◌, ◌≤◌, ◌==◌, List, [], ◌∷◌, ◌++◌}
-use Rattle.std.proofs.Common.{length, take, drop, get_or, Bool, true, false, ◌||◌, ◌⊎◌}
-use Rattle.std.proofs.Common.{inr, refl, sym, ◌∙◌, ap, ap₂, subst, append_assoc, arith}
+use Rattle.std.proofs.Common.{◌≡◌, ℕ, zero, suc, ◌+◌, ◌-◌, ◌<◌, ◌≤◌, ◌==◌, List, [], ◌∷◌, ◌++◌, length, take, drop, get_or, Bool, true, false, ◌||◌, ◌⊎◌, inr, refl, sym, ◌∙◌, ap, ap₂, subst, append_assoc, arith}
 use Rattle.std.specs.List.{position_or_len}
 use Rattle.std.proofs.lemmas.Bool.{eqb-true}
 use Rattle.std.proofs.lemmas.List.{take_more, take_rest, take-append-drop, get_or-drop, get_or-take, length-take-le}
@@ -45,8 +43,7 @@ literal_more l q at h e f g white r =
     subst (λ (x : List ℕ). LiteralFront white q x) (sym (take_more l at 0 h)) (literal_byte white q (take at l) (get_or l at 0) r e f g)
 
 take_more_two : (l : List ℕ) (at : ℕ) → at + 1 < length l → take (at + 2) l ≡ take at l ++ get_or l at 0 ∷ get_or l (at + 1) 0 ∷ []
-take_more_two l at h =
-    let two : at + 2 ≡ at + 1 + 1 = omega arith in
+take_more_two l at h = let two : at + 2 ≡ at + 1 + 1 = omega arith in
     ap (λ (n : ℕ). take n l) two ∙ take_more l (at + 1) 0 h ∙ ap (λ (x : List ℕ). x ++ get_or l (at + 1) 0 ∷ []) (take_more l at 0 (omega arith))
     ∙ append_assoc (take at l) (get_or l at 0 ∷ []) (get_or l (at + 1) 0 ∷ [])
 
@@ -65,8 +62,7 @@ literal_ends l q at h k e white r =
 -- the newline that ends a literal, after a byte that begins no splice
 pub literal_line_ends : (l : List ℕ) (q at : ℕ) → 0 < at → at < length l → (get_or l at 0 == newline) ≡ true → (get_or l (at - 1) 0 == backslash) ≡ false → (get_or l (at - 1) 0 == carriage_return) ≡ false →
     (white : Bool) → LiteralFront white q (take at l) → CodeLexeme white (take (at + 1) l)
-literal_line_ends l q at z h n e f white r =
-    let there : at - 1 + 1 ≡ at = omega arith in
+literal_line_ends l q at z h n e f white r = let there : at - 1 + 1 ≡ at = omega arith in
     let front : take at l ≡ take (at - 1) l ++ get_or l (at - 1) 0 ∷ [] = ap (λ (k : ℕ). take k l) (sym there) ∙ take_more l (at - 1) 0 (omega arith) in
     let s : LiteralFront white q (take (at - 1) l ++ get_or l (at - 1) 0 ∷ []) = subst (λ (x : List ℕ). LiteralFront white q x) front r in
     subst (λ (x : List ℕ). CodeLexeme white x) (sym (take_more l at 0 h ∙ ap (λ (k : ℕ). take at l ++ k ∷ []) (eqb-true (get_or l at 0) newline n) ∙ ap (λ (x : List ℕ). x ++ newline ∷ []) front))
@@ -136,8 +132,7 @@ comment_spans (a ∷ b ∷ l) k e f h g m white =
     byte n i = ap (λ (x : List ℕ). get_or x n 0) (sym the_front) ∙ get_or-take (suc (suc k)) (a ∷ b ∷ l) n 0 i
 
     clear : spliced_by false (slash ∷ slash ∷ take k l) ≡ false
-    clear =
-        let next : k + 1 ≡ suc k = omega arith in
+    clear = let next : k + 1 ≡ suc k = omega arith in
         unspliced (slash ∷ slash ∷ take k l) k (let e : length (take k l) ≡ k = length-take-le k l (omega arith) in omega (arith, e))
         (ap₂ may_splice (byte k (omega arith)) (byte (suc k) (omega arith) ∙ ap (λ (n : ℕ). get_or (a ∷ b ∷ l) n 0) (sym next)) ∙ m)
 
@@ -167,21 +162,18 @@ module _ {start : BulkState} {bytes : List ℕ} {line : ℕ} {kept : BulkState} 
   -- a run of bytes outside comments
   pub text_step_read : (k : ℕ) → k ≤ length (take (length bytes - at) (drop at bytes)) →
       ((u : Bool) → CodeLexeme u (take k (take (length bytes - at) (drop at bytes)))) → ReadOutside start bytes line kept base begins (at + k)
-  text_step_read k h t =
-      read_text r k (subst (λ (l : List ℕ). k ≤ length l) (take_rest bytes at) h)
+  text_step_read k h t = read_text r k (subst (λ (l : List ℕ). k ≤ length l) (take_rest bytes at) h)
       (subst (λ (l : List ℕ). CodeLexeme r.now_white (take k l)) (take_rest bytes at) (t r.now_white))
 
   -- a run of bytes up to the beginning of a line
   pub line_step_read : (k : ℕ) → k ≤ length (take (length bytes - at) (drop at bytes)) →
       ((u : Bool) → LineLexeme u (take k (take (length bytes - at) (drop at bytes)))) → ReadOutside start bytes line kept (at + k) true (at + k)
-  line_step_read k h t =
-      read_line r k (subst (λ (l : List ℕ). k ≤ length l) (take_rest bytes at) h)
+  line_step_read k h t = read_line r k (subst (λ (l : List ℕ). k ≤ length l) (take_rest bytes at) h)
       (subst (λ (l : List ℕ). LineLexeme r.now_white (take k l)) (take_rest bytes at) (t r.now_white))
 
   -- plain text up to the next significant byte
   pub plain_step_read : (next : ℕ) → next ≡ at + position_or_len is_significant (drop at bytes) → ReadOutside start bytes line kept base begins next
-  plain_step_read next e =
-      let k : ℕ = position_or_len is_significant (drop at bytes) in
+  plain_step_read next e = let k : ℕ = position_or_len is_significant (drop at bytes) in
       subst (λ (n : ℕ). ReadOutside start bytes line kept base begins n) (sym e)
       (read_text r (position_or_len is_significant (drop at bytes)) (position_or_len-bound is_significant (drop at bytes))
       (plain_read (take (position_or_len is_significant (drop at bytes)) (drop at bytes)) r.now_white (no_special_before (drop at bytes))))
@@ -224,8 +216,7 @@ module _ {start : BulkState} {bytes : List ℕ} {line : ℕ} {kept : BulkState} 
 
   -- the `#` alone
   pub sign_alone_read : take 1 (drop at bytes) ≡ number_sign ∷ [] → IsWhiteAfter (take (at - base) (drop base bytes)) begins false → ReadOutside start bytes line kept base begins (at + 1)
-  sign_alone_read first scanned =
-      let there : at + 1 + 0 ≡ at + 1 = omega arith in
+  sign_alone_read first scanned = let there : at + 1 + 0 ≡ at + 1 = omega arith in
       subst (λ (n : ℕ). ReadOutside start bytes line kept base begins n) there (sign_step_read first 0 (omega arith) tt (inr scanned))
 
 module _ {start : BulkState} {bytes : List ℕ} {line : ℕ} {kept : BulkState} {at : ℕ} {u : Bool}

@@ -1,6 +1,5 @@
 -- Text: a line that is read without a stop shows no `#` that belongs to a directive.
-use Rattle.std.proofs.Common.{arith}
-use Rattle.std.proofs.Common.{◌≡◌, ℕ, ◌==◌, List, [], ◌∷◌, ◌++◌, Bool, true, false, not, ◌&&◌, ◌||◌, if◌then◌else◌, refl, sym, ◌∙◌, ap, subst, ne_eqb, Option, Some, None, bytes_eq}
+use Rattle.std.proofs.Common.{arith, ◌≡◌, ℕ, ◌==◌, List, [], ◌∷◌, ◌++◌, Bool, true, false, not, ◌&&◌, ◌||◌, if◌then◌else◌, refl, sym, ◌∙◌, ap, subst, ne_eqb, Option, Some, None, bytes_eq}
 use Rattle.std.specs.List.{list_any}
 use Rattle.std.proofs.lemmas.Bool.{eqb-true}
 use Rattle.std.proofs.Math.Bool.{and-false}
@@ -183,8 +182,7 @@ other_first rest e = by_word (skip_white rest) refl e
     by_word : (w : List ℕ) → skip_white rest ≡ w → starts_with_no_keyword w ≡ true → IsOther rest
     by_word [] i f = cc
     by_word (b ∷ []) i f = cc
-    by_word (b ∷ c ∷ more) i f =
-        let word : is_word_byte b ≡ true = is_no_keyword-first b c f in
+    by_word (b ∷ c ∷ more) i f = let word : is_word_byte b ≡ true = is_no_keyword-first b c f in
         record {
           first = b;
           more = c ∷ more;
@@ -195,8 +193,7 @@ other_first rest e = by_word (skip_white rest) refl e
 
 word_shown : (b : ℕ) (bytes tail : List ℕ) → starts_with_no_keyword (b ∷ (bytes ++ tail)) ≡ true → NoWord tail → IsOther (b ∷ masked_after in_text [] bytes)
 word_shown b [] [] e n = cc
-word_shown b [] (c ∷ tail) e n =
-    let word : is_word_byte b ≡ true = is_no_keyword-first b c e in
+word_shown b [] (c ∷ tail) e n = let word : is_word_byte b ≡ true = is_no_keyword-first b c e in
     record {
       first = b;
       more = [];
@@ -204,8 +201,7 @@ word_shown b [] (c ∷ tail) e n =
       none = ap kind_of (word_front b [] word) ∙ (no_keyword b c [] [] e (λ f. cc)).0;
       sure = other_sure b c [] [] e (word_is_plain b word).1 (λ f. cc);
     }
-word_shown b (c ∷ bytes) tail e n =
-    let word : is_word_byte b ≡ true = is_no_keyword-first b c e in
+word_shown b (c ∷ bytes) tail e n = let word : is_word_byte b ≡ true = is_no_keyword-first b c e in
     record {
       first = b;
       more = masked_after in_text [] (c ∷ bytes);

@@ -1,7 +1,5 @@
 -- First lines: the first line of a text, of any length.
-use Rattle.std.proofs.Common.{arith}
-use Rattle.std.proofs.Common.{◌≡◌, ◌∙◌, ◌++◌, sym, ap, refl, subst, List, ℕ, Bool, true, false}
-use Rattle.std.proofs.Common.{length, take}
+use Rattle.std.proofs.Common.{arith, ◌≡◌, ◌∙◌, ◌++◌, sym, ap, refl, subst, List, ℕ, Bool, true, false, length, take}
 use Rattle.std.proofs.lemmas.List.{length-take-le}
 use Rattle.ud_model.specs.text.Lines.{Line, line_at, text_of, NoNewline}
 use Rattle.ud_model.proofs.text.LinesLemmas.{text_of-line_at}

@@ -53,8 +53,7 @@ same_front [] f g (suc m) (suc n) nf ng d e = absurd (let k : length f + 1 ≡ 0
 same_front (b ∷ bs) [] [] (suc m) (suc n) nf ng d e = refl
 same_front (b ∷ bs) [] (y ∷ ys) (suc m) (suc n) nf ng d e = absurd (ng.0 (let p : b ≡ 10 = cc in let q : b ≡ y = cc in sym q ∙ p))
 same_front (b ∷ bs) (x ∷ xs) [] (suc m) (suc n) nf ng d e = absurd (nf.0 (let p : b ≡ 10 = cc in let q : b ≡ x = cc in sym q ∙ p))
-same_front (b ∷ bs) (x ∷ xs) (y ∷ ys) (suc m) (suc n) nf ng d e =
-    let p : x ≡ y = cc in
+same_front (b ∷ bs) (x ∷ xs) (y ∷ ys) (suc m) (suc n) nf ng d e = let p : x ≡ y = cc in
     let d' : take m bs ≡ xs ++ 10 ∷ [] = cc in
     let e' : take n bs ≡ ys ++ 10 ∷ [] = cc in
     let q : xs ≡ ys = same_front bs xs ys m n nf.1 ng.1 d' e' in

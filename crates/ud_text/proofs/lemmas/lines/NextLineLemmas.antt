@@ -1,6 +1,5 @@
 -- Next lines: the first of some whole lines.
-use Rattle.std.proofs.Common.{◌≡◌, ◌∙◌, ◌<◌, ◌∷◌, sym, ap, refl, List, ℕ, true}
-use Rattle.std.proofs.Common.{length, take, drop, take-append-drop, arith}
+use Rattle.std.proofs.Common.{◌≡◌, ◌∙◌, ◌<◌, ◌∷◌, sym, ap, refl, List, ℕ, true, length, take, drop, take-append-drop, arith}
 use Rattle.std.proofs.lemmas.List.{length-take-le}
 use Rattle.ud_model.specs.text.Lines.{NoNewline, SplitLines, whole_lines}
 use Rattle.ud_model.proofs.text.LinesLemmas.{split_lines-open, split_lines-line-prefix}
@@ -16,8 +15,7 @@ no_lines bytes h k l = grind (arith, split_lines-open)
 -- the prefix up to the first newline is the first whole line
 first_split : (bytes : List ℕ) (used : ℕ) → UpToNewline bytes used true →
     whole_lines bytes ≡ take used bytes ∷ whole_lines (drop used bytes)
-first_split bytes used to =
-    ap whole_lines (sym (take-append-drop used bytes))
+first_split bytes used to = ap whole_lines (sym (take-append-drop used bytes))
     ∙ ap (λ (q : SplitLines). q.whole)
     (split_lines-line-prefix (take used bytes) (drop used bytes) (to.line refl))
 

@@ -91,8 +91,7 @@ module _ (rest : List ℕ) (used : ℕ) (w : Bool) (to : UpToNewline rest used w
   open_by h = grind (arith, take_all, split_lines-open)
 
   not_none : take used rest ≢ []
-  not_none e =
-      let l : 0 < used = up_to_newline-some rest used w to some in
+  not_none e = let l : 0 < used = up_to_newline-some rest used w to some in
       let n : length (take used rest) ≡ used = length-take-le used rest to.within in
       let z : length (take used rest) ≡ 0 = ap (λ (x : List ℕ). length x) e in
       absurd (omega arith)

@@ -58,8 +58,7 @@ and_true a = grind arith
 pub Masks-text : {n : ℕ} (bytes text : List ℕ) (white : Bool) (masked : List ℕ) → NoMark bytes → NoNewline bytes →
     Masks n text in_text white masked → Masks n (text ++ bytes) in_text (white && are_white bytes) (masked ++ bytes)
 Masks-text [] text white masked p q m = Masks-same (sym (append-nil text)) refl (and_true white) (sym (append-nil masked)) m
-Masks-text (b ∷ bytes) text white masked p q m =
-    Masks-same (append_assoc text (b ∷ []) bytes) refl
+Masks-text (b ∷ bytes) text white masked p q m = Masks-same (append_assoc text (b ∷ []) bytes) refl
     (ap (λ (v : Bool). v && are_white bytes) (white_in_text b white p.0 q.0) ∙ and_assoc white (is_white b) (are_white bytes))
     (append_assoc masked (b ∷ []) bytes)
     (Masks-text bytes (text ++ b ∷ []) (stays_white in_text white b) (masked ++ b ∷ []) p.1 q.1
@@ -126,8 +125,7 @@ no_newline-drop (suc k) (b ∷ bytes) h = no_newline-drop k bytes h.1
 
 -- a prefix of bytes, and a prefix of the rest, are a longer prefix
 pub take_run : (bytes : List ℕ) (at count : ℕ) → take at bytes ++ take count (take (length bytes - at) (drop at bytes)) ≡ take (at + count) bytes
-take_run bytes at count =
-    ap (λ (l : List ℕ). take at bytes ++ take count l) (take_rest bytes at)
+take_run bytes at count = ap (λ (l : List ℕ). take at bytes ++ take count l) (take_rest bytes at)
     ∙ ap (λ (l : List ℕ). take at bytes ++ l) (sym (drop-take at count bytes))
     ∙ ap (λ (l : List ℕ). l ++ drop at (take (at + count) bytes)) (sym (take-take at (at + count) bytes (omega arith)))
     ∙ take-append-drop at (take (at + count) bytes)

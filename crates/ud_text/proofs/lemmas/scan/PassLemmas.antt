@@ -1,6 +1,5 @@
 -- Lines that are read without being shown.
-use Rattle.std.proofs.Common.{◌≡◌, ◌==◌, ℕ, suc, List, [], ◌∷◌, ◌++◌, length, drop, Bool, true, ◌||◌, refl, arith}
-use Rattle.std.proofs.Common.{length-append}
+use Rattle.std.proofs.Common.{◌≡◌, ◌==◌, ℕ, suc, List, [], ◌∷◌, ◌++◌, length, drop, Bool, true, ◌||◌, refl, arith, length-append}
 use Rattle.std.proofs.lemmas.Bool.{eqb-true}
 use Rattle.ud_model.specs.text.Lines.{Line}
 use Rattle.ud_model.specs.text.Scans.{Reading}

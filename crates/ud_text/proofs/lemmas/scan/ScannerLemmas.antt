@@ -1,6 +1,5 @@
 -- Scanner states: what is carried over a line, and the line's scan by it.
-use Rattle.std.proofs.Common.{arith}
-use Rattle.std.proofs.Common.{◌≡◌, ℕ, List, [], ◌∷◌, ◌++◌, length, map, Bool, false, ◌||◌, refl, sym, ◌∙◌, ap}
+use Rattle.std.proofs.Common.{arith, ◌≡◌, ℕ, List, [], ◌∷◌, ◌++◌, length, map, Bool, false, ◌||◌, refl, sym, ◌∙◌, ap}
 use Rattle.ud_model.specs.text.Lines.{Line, NoNewline}
 use Rattle.ud_model.specs.text.Scans.{Scan, Reading}
 use Rattle.ud_model.specs.text.Splicing.{is_spliced, content, stays_open, spliced_part, spliced_text, c_run_of}
@@ -62,8 +61,7 @@ module _ (carry : ScannerState) (before : List Reading) (line : Line) (masked : 
   pub represents_code : (left : ScannerState) → ScannerRepresents carry before → Masks (length (spliced_text (c_run_of before))) (spliced_text (c_run_of before) ++ content line) v white masked →
       left.state ≡ state_after_line (stays_open line) v → left.white ≡ white_after_line (stays_open line) v white →
       left.joins ≡ (is_spliced line || is_block (kind_in_state left.state)) → ScannerRepresents left (before ++ next_reading before C line ∷ [])
-  represents_code left h m p w j =
-      let r : Reading = next_reading before C line in
+  represents_code left h m p w j = let r : Reading = next_reading before C line in
       let reads : LexesTo (spliced_text (c_run_of before) ++ spliced_part line) (state_after_line (stays_open line) v) (white_after_line (stays_open line) v white) =
       LexesTo-close (spliced_text (c_run_of before)) line v white m.reads in
       record {

@@ -23,8 +23,7 @@ ends_marked (b ∷ prefix) h = ends_marked prefix h.1
 
 -- a line without a mark isn't spliced
 unspliced : (line : Line) → NoMark line.body → is_spliced line ≡ false
-unspliced line h =
-    by_end (ends_with nat_eq line.body (backslash ∷ [])) (not (is_empty line.ending))
+unspliced line h = by_end (ends_with nat_eq line.body (backslash ∷ [])) (not (is_empty line.ending))
     (ends_is Decides-eqb line.body (backslash ∷ []) (ends_with nat_eq line.body (backslash ∷ [])) refl).0
   where
     by_end : (s e : Bool) → (s ≡ true → line.body ≡ take (length line.body - 1) line.body ++ backslash ∷ []) → (s && e) ≡ false

@@ -30,15 +30,13 @@ lanes_equal v n y long = zip2_splat (λ (a b : ℕ). cond (eqb a b) (2 ^ 8 - 1) 
 -- the lanes that pass one test or another
 pub lanes_or : (v : List ℕ) (p q : ℕ → Bool) {xs ys : List ℕ} → xs ≡ map (λ x. lane (p x)) v → ys ≡ map (λ x. lane (q x)) v →
     zip2 bit_or xs ys ≡ map (λ x. lane (p x || q x)) v
-lanes_or v p q e f =
-    zip2_of_maps bit_or (λ (x : ℕ). lane (p x)) (λ (x : ℕ). lane (q x)) v e f
+lanes_or v p q e f = zip2_of_maps bit_or (λ (x : ℕ). lane (p x)) (λ (x : ℕ). lane (q x)) v e f
     ∙ map_same (λ (x : ℕ). bit_or (lane (p x)) (lane (q x))) (λ (x : ℕ). lane (p x || q x)) (λ x. lane_or (p x) (q x)) v
 
 -- the lanes as bits
 pub lane_bits : {X : Type 0} (p : X → Bool) (v : List X) (n : ℕ) (z : List ℕ) → length v ≡ n → n ≤ 64 → z ≡ map (λ x. lane (p x)) v →
     mask_l (map (top 7) z) % 2 ^ 64 ≡ mask_l (map p v)
-lane_bits {X} p v n z long few lanes =
-    let tops : map (top 7) z ≡ map p v =
+lane_bits {X} p v n z long few lanes = let tops : map (top 7) z ≡ map p v =
     ap (map (top 7)) lanes ∙ map-map (top 7) (λ (x : X). lane (p x)) v
     ∙ map_same (λ (x : X). top 7 (lane (p x))) p (λ x. lane_top (p x)) v in
     ap (λ (l : List Bool). mask_l l % 2 ^ 64) tops ∙ mask_l-mod (map p v) 64 (omega (arith, length-map v p, long))

@@ -7,8 +7,7 @@ use Rattle.ud_tree.proofs.find_files.read_input.Goals as goal
 pub loop-read-init : goal.loop-read-init
 loop-read-init g c = record {
   works = sym c.failed.ensures ∙ c.if-failed.false;
-  consumed =
-      subst (λ (t : List ℕ). Consumes (g.R.Read.remaining c.args.input.now.inner)
+  consumed = subst (λ (t : List ℕ). Consumes (g.R.Read.remaining c.args.input.now.inner)
       (g.R.Read.remaining c.args.input.now.inner) t) (sym c.requires.empty)
       (Consumes-nil (g.R.Read.remaining c.args.input.now.inner));
   many = omega arith;
@@ -26,8 +25,7 @@ pub loop-read-preserved : goal.loop-read-preserved
 loop-read-preserved g c = record {
   works = c.in-Some.ensures.failed;
   consumed = reads_more _ _ _ c.in-Some.count c.read.new.buf c.loop-read.text.items c.in_ok-extend_from_slice.ensures.items c.loop-read.invariant.consumed c.in-Some.ensures.once.1;
-  many =
-      read_some c.loop-read._read c.in-Some.count c.read.new.buf c.loop-read.text.items
+  many = read_some c.loop-read._read c.in-Some.count c.read.new.buf c.loop-read.text.items
       c.in_ok-extend_from_slice.ensures.items c.if-count-eq0.false c.in-Some.ensures.once.0 c.loop-read.invariant.many;
 }
 

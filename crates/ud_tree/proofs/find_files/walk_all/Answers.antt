@@ -2,13 +2,11 @@ use Rattle.std.proofs.Common.{ℕ, ◌<◌, map, refl, ap, subst, arith}
 use Rattle.ud_tree.proofs.CatchLemmas.{grows_same, catches_none, catches_then}
 use Rattle.std.specs.Prelude.{string_bytes}
 use Rattle.ud_tree.proofs.CoverLemmas.{starts_none, starts_at, covers_paths}
-use Rattle.ud_tree.proofs.WalkTellLemmas.{paths_given, paths_covered, if_ok_both}
-use Rattle.ud_tree.proofs.WalkTellLemmas.{goes_none, goes_then, stops_bad, stops_by}
+use Rattle.ud_tree.proofs.WalkTellLemmas.{paths_given, paths_covered, if_ok_both, goes_none, goes_then, stops_bad, stops_by}
 use Rattle.ud_tree.proofs.find_files.walk_all.Goals as goal
 
 pub returns-then-job-clause-walks : goal.returns-then-job-clause-walks
-returns-then-job-clause-walks g c =
-    if_ok_both c.add_input.result
+returns-then-job-clause-walks g c = if_ok_both c.add_input.result
     (λ all takes stops. record {
       takes = λ is. paths_given c.args.job.now.arguments.now c.if-job.true (takes is);
       stops = λ cut none. stops_by c.if-job.true (stops cut);

@@ -10,8 +10,7 @@ returns-in-Replace g c =
     says_same (ap (λ (t : Task). summary t c.args.arguments.now.list_hidden c.args.counts.changed c.args.counts.unchanged c.args.faults c.args.hidden) (sym c.in-Replace.is)) c.report_changes.ensures
 
 pub returns-in-Diff : goal.returns-in-Diff
-returns-in-Diff g c =
-    says_same (ap
+returns-in-Diff g c = says_same (ap
     (λ (t : Task). summary t c.args.arguments.now.list_hidden c.args.counts.changed c.args.counts.unchanged
     c.args.faults c.args.hidden) (sym c.in-Diff.is)) c.report_changes-in-Diff.ensures
 

@@ -9,8 +9,7 @@ pub returns-then-job : goal.returns-then-job
 returns-then-job g c = ends_quiet c.args.job.now.arguments.now c.args.counts c.args.faults c.args.hidden c.args.report.now c.if-job.true
 
 pub returns : goal.returns
-returns g c =
-    let a = c.report_counts.ensures in
+returns g c = let a = c.report_counts.ensures in
     let b = c.report_removed.ensures a.hidden in
     let d = c.report_edited.ensures b.hidden in
     let e = c.report_remaining.ensures d.hidden in

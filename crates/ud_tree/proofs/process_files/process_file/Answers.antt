@@ -12,6 +12,5 @@ returns-in-Diff-clause-writes g c =
     done_by Diff c.args.job.now.arguments.now c.in-Diff.is (unlisted_one c.args.names.now c.show_file.ensures.writes)
 
 pub returns-in-Names-clause-writes : goal.returns-in-Names-clause-writes
-returns-in-Names-clause-writes g c =
-    done_by Names c.args.job.now.arguments.now c.in-Names.is
+returns-in-Names-clause-writes g c = done_by Names c.args.job.now.arguments.now c.in-Names.is
     (lists_unshown (stream_of g.W.Write.contents c.args.out.now) c.args.report.now c.requires.none c.list_file.ensures)

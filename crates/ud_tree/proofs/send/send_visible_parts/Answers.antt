@@ -14,6 +14,5 @@ loop-part-preserved g c =
     c.loop-part.invariant c.send_visible.ensures
 
 pub returns : goal.returns
-returns g c =
-    sends_same (visible_parts (λ (p : Bor (List ℕ)). p.now) c.args.parts.now)
+returns g c = sends_same (visible_parts (λ (p : Bor (List ℕ)). p.now) c.args.parts.now)
     (sends_parts (λ (p : Bor (List ℕ)). visible p.now) c.args.parts.now c.loop-part.part-index (omega arith) c.loop-part.invariant)

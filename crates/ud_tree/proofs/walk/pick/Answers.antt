@@ -1,7 +1,6 @@
-use Rattle.std.proofs.Common.{refl, subst}
+use Rattle.std.proofs.Common.{refl, subst, List}
 use Rattle.std.specs.List.{All, Contains}
 use Rattle.ud_tree.specs.declared.walk.Found.{Found}
-use Rattle.std.proofs.Common.{List}
 use Rattle.ud_tree.specs.Walks.{IsBefore}
 use Rattle.std.proofs.lemmas.List.Elements.{All-contains_itself}
 use Rattle.ud_tree.proofs.PickLemmas.{picked_new, picked_same, others_kept}

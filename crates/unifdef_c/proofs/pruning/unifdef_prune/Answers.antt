@@ -14,8 +14,7 @@ same_status true false = refl
 same_status false edited = refl
 
 pub returns-in-Ok : goal.returns-in-Ok
-returns-in-Ok c =
-    let text : List ℕ = text_left (words_of c.args.words.now) c.args.text.now in
+returns-in-Ok c = let text : List ℕ = text_left (words_of c.args.words.now) c.args.text.now in
     let left : c.in-Ok.pruned.text.items ≡ text = c.in-Ok.ensures.ok.left in
     let edited : c.in-Ok.pruned.edited ≡ some_edited (words_of c.args.words.now) c.args.text.now = c.in-Ok.ensures.ok.edited in
     let h : HandsOutPruned text (some_edited (words_of c.args.words.now) c.args.text.now) c.args.output.now c.hand_out_pruned.new.output c.hand_out_pruned.new.size c.hand_out_pruned.result =

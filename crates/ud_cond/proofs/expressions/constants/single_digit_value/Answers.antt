@@ -7,8 +7,7 @@ use Rattle.ud_cond.proofs.lemmas.expressions.DigitLemmas.{one-digit, sole}
 use Rattle.ud_cond.proofs.expressions.constants.single_digit_value.Goals as goal
 
 pub returns-else-not-is_digit : goal.returns-else-not-is_digit
-returns-else-not-is_digit c =
-    let b = get_or c.args.word.now 0 0 in
+returns-else-not-is_digit c = let b = get_or c.args.word.now 0 0 in
     let is : c.args.word.now ≡ b ∷ [] = sole c.args.word.now (omega arith) in
     let digit : is_digit b ≡ true = sym c.is_digit.ensures ∙ c.if-not-is_digit.false in
     let value = one-digit b c.digit_value.result digit c.digit_value.ensures c.digit_value.type_inv in

@@ -14,8 +14,7 @@ prefix : (c : Else-not-read_operator) → next_token c.in_ok-after.after.now ≡
 prefix c = sym (ap (λ t. found (as_token t) c.in-Found.end.now) (sym c.in-Operator.is) ∙ c.in-Found.ensures)
 
 pub returns-then-is_empty : goal.returns-then-is_empty
-returns-then-is_empty c =
-    let m = value_meaning_in c.args.scope.now in
+returns-then-is_empty c = let m = value_meaning_in c.args.scope.now in
     let few = pending_in_slots c.operands.few in
     let empty : pending_in_slots c.reduce.new.self ≡ [] = c.is_empty.ensures (search rules) in
     sym (
@@ -31,8 +30,7 @@ operands-smaller c =
     omega (arith, c.in_ok-after.ensures.asked.shorter)
 
 pub operands-preserved : goal.operands-preserved
-operands-preserved c =
-    let m = value_meaning_in c.args.scope.now in
+operands-preserved c = let m = value_meaning_in c.args.scope.now in
     let few = pending_in_slots c.operands.few in
     c.operands.invariant ∙ c.in_ok-after.ensures.asked.same few
     ∙ reads-found m (has c.kept_operand.new.value few) c.in_ok-after.after.now (operator

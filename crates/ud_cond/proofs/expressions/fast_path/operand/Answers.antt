@@ -4,8 +4,7 @@ use Rattle.ud_cond.proofs.lemmas.expressions.FastPathLemmas as row
 use Rattle.ud_cond.proofs.expressions.fast_path.operand.Goals as goal
 
 pub returns-then-negated : goal.returns-then-negated
-returns-then-negated c =
-    let begins = c.skip_not-negated.ensures.yes (search rules) in
+returns-then-negated c = let begins = c.skip_not-negated.ensures.yes (search rules) in
     rw c.apply_unary-value.ensures
     (row.needs-not (value_meaning_in c.args.scope.now) c.args.text.now begins.behind
     c.primary_operand.new.value c.in_ok-rest.rest.now begins.begins

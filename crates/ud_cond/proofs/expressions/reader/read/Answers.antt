@@ -10,27 +10,23 @@ use Rattle.ud_cond.proofs.lemmas.expressions.KeepingLemmas.{if_some, if_none, co
 use Rattle.ud_cond.proofs.expressions.reader.read.Goals as goal
 
 pub tokens-init : goal.tokens-init
-tokens-init g c =
-    let w : weight c.args.stacks.now ≡ 0 = ap (λ ps. weight ps) c.requires.empty in
+tokens-init g c = let w : weight c.args.stacks.now ≡ 0 = ap (λ ps. weight ps) c.requires.empty in
     ((needs [], (c.requires.empty, c.requires.fresh), refl), omega (arith, w), omega (arith, count_noted g.K.Keeper.keeping c.args.notes.now [] c.requires.fresh))
 
 pub returns-in-AtEnd-clause-some : goal.returns-in-AtEnd-clause-some
-returns-in-AtEnd-clause-some g c =
-    let m = g.K.Keeper.meaning c.args.keeper.now in
+returns-in-AtEnd-clause-some g c = let m = g.K.Keeper.meaning c.args.keeper.now in
     let i = c.tokens.invariant.0 in
     if_some c.finish.result (λ r some.
     let h = some i.0 i.1 in
     (h.0, sym (ends m (reads m (needs []) c.args.text.now) i.0 c.tokens.rest.now i.2 c.in-AtEnd.ensures) ∙ h.1, h.2)) c.finish.ensures.some
 
 pub returns-in-AtEnd-clause-none : goal.returns-in-AtEnd-clause-none
-returns-in-AtEnd-clause-none g c =
-    let m = g.K.Keeper.meaning c.args.keeper.now in
+returns-in-AtEnd-clause-none g c = let m = g.K.Keeper.meaning c.args.keeper.now in
     let i = c.tokens.invariant.0 in
     if_none c.finish.result (λ none. sym (ends m (reads m (needs []) c.args.text.now) i.0 c.tokens.rest.now i.2 c.in-AtEnd.ensures) ∙ none i.0 i.1) c.finish.ensures.none
 
 pub returns-in-Unreadable-clause-none : goal.returns-in-Unreadable-clause-none
-returns-in-Unreadable-clause-none g c =
-    let m = g.K.Keeper.meaning c.args.keeper.now in
+returns-in-Unreadable-clause-none g c = let m = g.K.Keeper.meaning c.args.keeper.now in
     let i = c.tokens.invariant.0 in
     sym (ends-unreadable m (reads m (needs []) c.args.text.now) i.0 c.tokens.rest.now i.2 c.in-Unreadable.ensures)
 
@@ -40,8 +36,7 @@ read_operand-requires g c =
     (omega (arith, c.tokens.invariant.1, c.requires.fits), omega (arith, c.tokens.invariant.2, c.requires.fits, c.requires.line))
 
 pub returns-in_err-next-in-None-clause-none : goal.returns-in_err-next-in-None-clause-none
-returns-in_err-next-in-None-clause-none g c =
-    let K = g.K.Keeper.keeping in
+returns-in_err-next-in-None-clause-none g c = let K = g.K.Keeper.keeping in
     let m = g.K.Keeper.meaning c.args.keeper.now in
     let i = c.tokens.invariant.0 in
     let h = needs_of K c.tokens.stacks c.tokens.notes i.0 (subst (λ o. Represents K o c.tokens.stacks c.tokens.notes i.0) c.in-None.is i.1) in
@@ -55,8 +50,7 @@ tokens-smaller-in-None g c =
     omega (arith, c.in_ok-next-in-None.ensures.shorter)
 
 pub tokens-preserved-in-None : goal.tokens-preserved-in-None
-tokens-preserved-in-None g c =
-    let K = g.K.Keeper.keeping in
+tokens-preserved-in-None g c = let K = g.K.Keeper.keeping in
     let m = g.K.Keeper.meaning c.args.keeper.now in
     let i = c.tokens.invariant.0 in
     let less = shorter c.tokens.rest.now c.in-Found.after.now (as_token c.in-Found.token) (sym c.in-Found.ensures) in
@@ -75,8 +69,7 @@ read_operator-requires g c =
     (omega (arith, c.tokens.invariant.1, c.requires.fits), omega (arith, c.tokens.invariant.2, c.requires.fits, c.requires.line))
 
 pub returns-in_err-operand-in-Some-clause-none : goal.returns-in_err-operand-in-Some-clause-none
-returns-in_err-operand-in-Some-clause-none g c =
-    let K = g.K.Keeper.keeping in
+returns-in_err-operand-in-Some-clause-none g c = let K = g.K.Keeper.keeping in
     let m = g.K.Keeper.meaning c.args.keeper.now in
     let i = c.tokens.invariant.0 in
     let h = has_of K c.tokens.stacks c.tokens.notes c.in-Some.part i.0 (subst (λ o. Represents K o c.tokens.stacks c.tokens.notes i.0) c.in-Some.is i.1) in
@@ -88,8 +81,7 @@ pub tokens-smaller : goal.tokens-smaller
 tokens-smaller g c = shorter c.tokens.rest.now c.in-Found.after.now (as_token c.in-Found.token) (sym c.in-Found.ensures)
 
 pub tokens-preserved : goal.tokens-preserved
-tokens-preserved g c =
-    let K = g.K.Keeper.keeping in
+tokens-preserved g c = let K = g.K.Keeper.keeping in
     let m = g.K.Keeper.meaning c.args.keeper.now in
     let i = c.tokens.invariant.0 in
     let t = as_token c.in-Found.token in

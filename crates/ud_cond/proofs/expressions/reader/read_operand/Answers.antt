@@ -8,8 +8,7 @@ use Rattle.ud_cond.proofs.lemmas.expressions.DefinedLemmas.{asked, asked_none}
 use Rattle.ud_cond.proofs.expressions.reader.read_operand.Goals as goal
 
 pub returns-in_err-name-in-Defined-clause-none : goal.returns-in_err-name-in-Defined-clause-none
-returns-in_err-name-in-Defined-clause-none g c =
-    let m = g.K.Keeper.meaning c.args.keeper.now in
+returns-in_err-name-in-Defined-clause-none g c = let m = g.K.Keeper.meaning c.args.keeper.now in
     rw c.from_residual.ensures
     (λ s. ap (λ t. reads m (step m (needs s) (as_token t)) c.args.rest.now) c.in-Defined.is ∙ asked_none m s c.args.rest.now (sym c.in_err-name-in-Defined.ensures.name))
 

@@ -6,8 +6,7 @@ use Rattle.ud_cond.proofs.lemmas.expressions.KeepingLemmas.{next_binary, next_pr
 use Rattle.ud_cond.proofs.expressions.reader.reduce.Goals as goal
 
 pub waiting-preserved-in-Some-operand : goal.waiting-preserved-in-Some-operand
-waiting-preserved-in-Some-operand g c =
-    let K = g.K.Keeper.keeping in
+waiting-preserved-in-Some-operand g c = let K = g.K.Keeper.keeping in
     let o = c.in-Some.operator in
     let p : c.waiting.stacks ≡ popped o (Some c.in-Some-operand.operand) ∷ c.pop_operator.new.self =
     c.in-Some.ensures.some.0 ∙ ap (λ (x : Option g.row.K-Part.Denot). popped o x ∷ c.pop_operator.new.self) c.in-Some-operand.is in
@@ -22,8 +21,7 @@ waiting-preserved-in-Some-operand g c =
     )
 
 pub waiting-preserved : goal.waiting-preserved
-waiting-preserved g c =
-    let K = g.K.Keeper.keeping in
+waiting-preserved g c = let K = g.K.Keeper.keeping in
     let o = c.in-Some.operator in
     let p : c.waiting.stacks ≡ popped o None ∷ c.pop_operator.new.self =
     c.in-Some.ensures.some.0 ∙ ap (λ (x : Option g.row.K-Part.Denot). popped o x ∷ c.pop_operator.new.self) c.in-None.is in

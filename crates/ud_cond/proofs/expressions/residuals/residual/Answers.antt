@@ -21,7 +21,6 @@ returns-clause-some c = λ calls represents.
     )
 
 pub returns-in_err-whole-clause-none : goal.returns-in_err-whole-clause-none
-returns-in_err-whole-clause-none c =
-    rw c.from_residual.ensures
+returns-in_err-whole-clause-none c = rw c.from_residual.ensures
     (no_tree (kept_of_tree c.args.symbols.now (as_rules c.args.rules)) (expression_of c.args.text.now)
     (sym (reads_kept c.args.symbols.now (as_rules c.args.rules) c.args.text.now) ∙ c.in_err-whole.ensures.none))

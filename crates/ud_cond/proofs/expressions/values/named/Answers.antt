@@ -12,7 +12,6 @@ returns-in-None-value c =
     (sym c.in-Some.ensures ∙ ap (λ v. Some (record { value = option_map (λ b. b.now) v; ignoring = c.in-Some.entry.ignoring })) c.in-None-value.is)
 
 pub returns-in-Some-value : goal.returns-in-Some-value
-returns-in-Some-value c =
-    c.defined_as.ensures
+returns-in-Some-value c = c.defined_as.ensures
     ∙ worth-defined (table_in c.args.scope.now) c.args.scope.now.unsigned c.args.name.now c.args.arguments c.in-Some.entry.ignoring c.in-Some-value.text.now
     (sym c.in-Some.ensures ∙ ap (λ v. Some (record { value = option_map (λ b. b.now) v; ignoring = c.in-Some.entry.ignoring })) c.in-Some-value.is)

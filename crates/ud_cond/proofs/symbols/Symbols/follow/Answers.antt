@@ -5,8 +5,7 @@ use Rattle.ud_cond.proofs.symbols.Symbols.follow.Goals as goal
 
 pub steps-init : goal.steps-init
 unfolding resolve
-steps-init c =
-    let all : length c.args.self.now ≡ c.count-most.result - 0 = omega arith in
+steps-init c = let all : length c.args.self.now ≡ c.count-most.result - 0 = omega arith in
     ap (λ k. resolve_within k c.args.self.now c.args.name.now) all
 
 pub steps-preserved : goal.steps-preserved

@@ -6,8 +6,7 @@ use Rattle.ud_cond.proofs.lemmas.symbols.PathLemmas.{leads_less}
 use Rattle.ud_cond.proofs.symbols.Symbols.followed_paths.Goals as goal
 
 pub loop-steps-preserved : goal.loop-steps-preserved
-loop-steps-preserved c =
-    let sum = c.saturating_add-steps.ensures in
+loop-steps-preserved c = let sum = c.saturating_add-steps.ensures in
     record {
       some = omega (arith, sum, c.loop-steps.invariant.some);
       all = c.follow_twice.ensures.all;

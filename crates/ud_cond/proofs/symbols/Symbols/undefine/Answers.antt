@@ -5,7 +5,6 @@ use Rattle.ud_cond.proofs.lemmas.symbols.TableLemmas.{represents-changes}
 use Rattle.ud_cond.proofs.symbols.Symbols.undefine.Goals as goal
 
 pub returns-clause-represents : goal.returns-clause-represents
-returns-clause-represents c =
-    on_ok_weaker c.update.result
+returns-clause-represents c = on_ok_weaker c.update.result
     (λ changed. λ calls represents. represents-changes c.args.self.now c.update.new.self calls
     (argument_for c.args.name.now None c.args.ignoring) changed represents) c.update.ensures.ok

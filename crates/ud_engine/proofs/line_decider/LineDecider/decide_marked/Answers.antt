@@ -7,8 +7,7 @@ use Rattle.ud_engine.proofs.DeciderLemmas.{as_verdict, reads_one, second}
 use Rattle.ud_engine.proofs.line_decider.LineDecider.decide_marked.Goals as goal
 
 pub returns : goal.returns
-returns g c =
-    let line = line_with c.args.body.now c.args.ending.now c.args.number in
+returns g c = let line = line_with c.args.body.now c.args.ending.now c.args.number in
     let new = decider_of c.read_into-scan.new.self c.step-decided.new.self in
     let decides : DecidesNext c.args.symbols.now c.args.self.now new line c.step-decided.result = λ o xs t represents h.
     let mode = c.mode-mode.ensures o xs t h.read in

@@ -4,8 +4,7 @@ use Rattle.ud_io.proofs.StreamLemmas.{takes_after_flush}
 use Rattle.ud_engine.proofs.output.Output.append_after_flush.Goals as goal
 
 pub returns : goal.returns
-returns g c =
-    let a = g.W.Write.contents c.args.out.now.inner in
+returns g c = let a = g.W.Write.contents c.args.out.now.inner in
     let b = g.W.Write.contents c.flush.new.out.inner in
     let d = g.W.Write.contents c.send.new.out.inner in
     let left : c.try_append.new.self ≡ [] = search rules in

@@ -5,8 +5,7 @@ use Rattle.ud_io.proofs.StreamLemmas.{takes_buffered, takes_part}
 use Rattle.ud_engine.proofs.output.Output.append_parts.Goals as goal
 
 pub loop-part-init : goal.loop-part-init
-loop-part-init g c =
-    let a = g.W.Write.contents c.args.out.now.inner in
+loop-part-init g c = let a = g.W.Write.contents c.args.out.now.inner in
     subst (λ (x : List ℕ). TakesBy c.args.out.now.failed c.args.out.now.failed a a x c.args.self.now) (sym (append-nil c.args.self.now))
     (takes_buffered c.args.out.now.failed a c.args.self.now)
 
@@ -17,7 +16,6 @@ loop-part-preserved g c =
     c.loop-part-test.true c.loop-part.invariant c.append.ensures
 
 pub returns : goal.returns
-returns g c =
-    subst (λ (parts : List (Bor (List ℕ))).
+returns g c = subst (λ (parts : List (Bor (List ℕ))).
     TakesBy c.args.out.now.failed c.loop-part.out.failed (g.W.Write.contents c.args.out.now.inner) (g.W.Write.contents c.loop-part.out.inner) (c.args.self.now ++ flat_map (λ (p : Bor (List ℕ)). p.now) parts) c.loop-part.self)
     (take_all c.loop-part.part-index c.args.parts.now c.loop-part-test.false) c.loop-part.invariant

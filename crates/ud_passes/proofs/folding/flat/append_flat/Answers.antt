@@ -9,8 +9,7 @@ use Rattle.ud_passes.proofs.FlatLemmas.{flat_first}
 use Rattle.ud_passes.proofs.folding.flat.append_flat.Goals as goal
 
 pub loop-rest-preserved : goal.loop-rest-preserved
-loop-rest-preserved c =
-    let rest : List ℕ = c.loop-rest.rest.now in
+loop-rest-preserved c = let rest : List ℕ = c.loop-rest.rest.now in
     let k : Line = as_line c.line_in-line.result in
     let to = c.line_in-line.ensures.bytes in
     let some : 0 < length rest = some_left rest (sym c.is_empty.ensures ∙ c.loop-rest-test.true) in
@@ -23,6 +22,5 @@ loop-rest-preserved c =
 
 pub returns : goal.returns
 unfolding split_lines
-returns c =
-    let rest : List ℕ = c.loop-rest.rest.now in
+returns c = let rest : List ℕ = c.loop-rest.rest.now in
     sym (append-nil c.loop-rest.out.items) ∙ ap (λ (x : List ℕ). c.loop-rest.out.items ++ flat_lines x) (sym (nothing_left rest (sym c.is_empty.ensures ∙ c.loop-rest-test.false))) ∙ c.loop-rest.invariant

@@ -14,8 +14,7 @@ returns-then-not-has_tab-clause-bytes c =
     c.in_ok-append_line.ensures.bytes ∙ ap (λ (x : List ℕ). c.args.out.now.items ++ x) (sym (line_without_tab (as_line c.args.line.now) (sym c.has_tab.ensures ∙ c.if-not-has_tab.true)))
 
 pub returns-clause-bytes : goal.returns-clause-bytes
-returns-clause-bytes c =
-    let l : Line = as_line c.args.line.now in
+returns-clause-bytes c = let l : Line = as_line c.args.line.now in
     let out : List ℕ = c.args.out.now.items in
     c.in_ok-extend_from_slice.ensures.items ∙ ap (λ (x : List ℕ). x ++ l.ending) c.in_ok-append_body.ensures.bytes
     ∙ append_assoc out (restored_body l.ending l.body c.in_ok-scan.scan.masked.now) l.ending

@@ -12,7 +12,6 @@ lines-init c = record {
 }
 
 pub returns-clause-folded : goal.returns-clause-folded
-returns-clause-folded c =
-    let s = c.lines.invariant.folded in
+returns-clause-folded c = let s = c.lines.invariant.folded in
     all_folded c.args.text.now c.args.out.now.items _ _ c.lines.walk _ _ s
     (nothing_left c.lines.walk.rest.now (sym c.is_at_end.ensures ∙ c.lines-test.false)) (c.in_ok-end_text.ensures.bytes s.group s.is_group)

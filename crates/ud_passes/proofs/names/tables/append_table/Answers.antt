@@ -9,8 +9,7 @@ use Rattle.ud_passes.proofs.TableLemmas.{table_of, sorted_map}
 use Rattle.ud_passes.proofs.names.tables.append_table.Goals as goal
 
 pub returns-clause-table : goal.returns-clause-table
-returns-clause-table c =
-    on_ok_weaker c.append_rows.result (λ e.
+returns-clause-table c = on_ok_weaker c.append_rows.result (λ e.
     let names : List (List ℕ) = names_in c.args.list.now in
     let sorted : List (List ℕ) = map (λ n. n.now) c.sort.new.self.items in
     let p : IsPermutation names sorted =

@@ -13,8 +13,7 @@ unfolding split_lines
 loop-rest-init c = ([], refl, (λ some. nothing_ends), search rules)
 
 pub loop-rest-preserved : goal.loop-rest-preserved
-loop-rest-preserved c =
-    let rest : List ℕ = c.loop-rest.rest.now in
+loop-rest-preserved c = let rest : List ℕ = c.loop-rest.rest.now in
     let i = c.loop-rest.invariant in
     let some : 0 < length rest = some_left rest (sym c.is_empty.ensures ∙ c.loop-rest-test.true) in
     let k : Line = as_line c.line_in-line.result in

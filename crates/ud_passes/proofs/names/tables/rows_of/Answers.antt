@@ -7,8 +7,7 @@ use Rattle.ud_passes.proofs.TableLemmas.{RowsAt, rows_next_in}
 use Rattle.ud_passes.proofs.names.tables.rows_of.Goals as goal
 
 pub loop-start-smaller : goal.loop-start-smaller
-loop-start-smaller c =
-    let names = c.args.names.now in
+loop-start-smaller c = let names = c.args.names.now in
     let start : ℕ = c.loop-start.start in
     let count : ℕ = c.leading-count.result in
     let i = c.loop-start.invariant in
@@ -19,8 +18,7 @@ loop-start-smaller c =
     omega (arith, l, step.0)
 
 pub loop-start-preserved : goal.loop-start-preserved
-loop-start-preserved c =
-    let names = c.args.names.now in
+loop-start-preserved c = let names = c.args.names.now in
     let start : ℕ = c.loop-start.start in
     let count : ℕ = c.leading-count.result in
     let i = c.loop-start.invariant in

@@ -19,8 +19,7 @@ loop-rules-init c = record {
 }
 
 pub loop-rules-preserved : goal.loop-rules-preserved
-loop-rules-preserved c =
-    let i = c.loop-rules.invariant in
+loop-rules-preserved c = let i = c.loop-rules.invariant in
     let s = c.in_ok-count.ensures in
     let a = i.room in let b = s.room in
     record {

@@ -26,8 +26,7 @@ returns-then-defines_after-clause-clear c = λ calls h.
     passed calls c.args.text.now c.loop-at.at c.in-Some.count (c.loop-at.invariant.clear calls h) c.in-Some.ensures.0.before
 
 pub loop-at-preserved : goal.loop-at-preserved
-loop-at-preserved c =
-    let t = c.args.text.now in
+loop-at-preserved c = let t = c.args.text.now in
     let at = c.loop-at.at in
     let sign : ℕ = at + c.in-Some.count in
     let size = length-drop at t in

@@ -40,8 +40,7 @@ module _ {M : Type 1} {𝓤 : Ura M} (𝓛 : Logic 𝓤) (mem : Memory → SProp
   walk : ent 𝓤 (on_entry 𝓛 its.signature tt tt tt tt)
       (WpFn 𝓤 H C Λ code.function []
       ((walk_of 𝓛 its.ended stayed (its.clauses 𝓛 mem run)).post bound))
-  walk =
-      qed 𝓛 (raw (alive 𝓛 its.signature tt tt) ∷ ‵ (owns [] tt tt) ∷ []) ∵
+  walk = qed 𝓛 (raw (alive 𝓛 its.signature tt tt) ∷ ‵ (owns [] tt tt) ∷ []) ∵
       enter ! C Λ code.function [] _ $
       alloc_all ! (λ l. pass_all ! refl tt $ sets ! (agg ! (no_more !)) refl (tt, tt) $
       returns ! (look_at ! 0 refl) $ free_all ! refl $
@@ -53,21 +52,18 @@ module _ {M : Type 1} {𝓤 : Ura M} (𝓛 : Logic 𝓤) (mem : Memory → SProp
       move ! (1 ∷ 2 ∷ 0 ∷ []) $ done !)
 
   walks : Walks 𝓛 its.ended stayed (WpFn 𝓤 H C Λ code.function) (its.clauses 𝓛 mem run)
-  walks =
-      walked 𝓛 its.ended stayed (its.clauses 𝓛 mem run) (WpFn 𝓤 H C Λ code.function)
+  walks = walked 𝓛 its.ended stayed (its.clauses 𝓛 mem run) (WpFn 𝓤 H C Λ code.function)
       (λ κs. tt) (λ κs. tt) (λ κs qs bounds a g are. via 𝓤 _ (fst∗ 𝓤 _ (emp 𝓤)) walk)
 
 meets : {M : Type 1} {𝓤 : Ura M} (𝓛 : Logic 𝓤) (mem : Memory → SProp 𝓤) (run : Routine → Fun 𝓤)
     (𝓣 : Tables 𝓤 𝓛.H) →
     Meets 𝓛 its.signature (WpFn 𝓤 𝓛.H 𝓣.C 𝓣.Λ code.function) (its.spec 𝓛 mem run)
-meets {𝓤 = 𝓤} 𝓛 mem run 𝓣 =
-    walk_Meets 𝓛 its.ended stayed tt (its.clauses 𝓛 mem run)
+meets {𝓤 = 𝓤} 𝓛 mem run 𝓣 = walk_Meets 𝓛 its.ended stayed tt (its.clauses 𝓛 mem run)
     (WpFn 𝓤 𝓛.H 𝓣.C 𝓣.Λ code.function) (WpFn-mono 𝓤 𝓛.H 𝓛.laws 𝓣 code.function)
     (walks 𝓛 mem run 𝓣.C 𝓣.Λ)
 
 pub new_spec : {M : Type 1} → stated.statement M
 unfolding tables_of
-new_spec 𝓤 𝓛 𝓜 𝓡 wired =
-    entered 𝓤 𝓛.H (triple_of 𝓛 its.signature (its.spec 𝓛 𝓜.mem 𝓡.returns))
+new_spec 𝓤 𝓛 𝓜 𝓡 wired = entered 𝓤 𝓛.H (triple_of 𝓛 its.signature (its.spec 𝓛 𝓜.mem 𝓡.returns))
     (tables 𝓤 𝓛.H 𝓜 𝓡 𝓡.env).C (tables 𝓤 𝓛.H 𝓜 𝓡 𝓡.env).Λ key code.function
     (code.unfolded 𝓤 𝓛.H 𝓜 𝓡 wired) (meets 𝓛 𝓜.mem 𝓡.returns (tables_of 𝓤 𝓛.H 𝓜 (tables 𝓤 𝓛.H 𝓜 𝓡 𝓡.env)))

@@ -26,8 +26,7 @@ use denote.Signature.{plain, types_at, named_lft}
 use denote.Triple.Entry.{on_entry, alive, Args}
 use denote.Triple.Spec.{Meets, triple_of}
 use denote.Triple.Table.{entered}
-use denote.Triple.Walked.{says, stay_none_ref, Stays, walk_of, Walks, ends_at, walked}
-use denote.Triple.Walked.{Goes-none_ref, walk_Meets}
+use denote.Triple.Walked.{says, stay_none_ref, Stays, walk_of, Walks, ends_at, walked, Goes-none_ref, walk_Meets}
 use Rattle.ud_replace.specs.declared.history.History.{History}
 use Rattle.ud_replace.specs.CallRecords.{call_of}
 use Rattle.ud_replace.specs.contracts.history.History.with.Key.{name as key}
@@ -68,8 +67,7 @@ module _ {M : Type 1} {𝓤 : Ura M} (𝓛 : Logic 𝓤) (mem : Memory → SProp
     walk : ent 𝓤 (on_entry 𝓛 its.signature κs qs a (before ∷ [], (called ∷ [], tt)))
         (WpFn 𝓤 H C Λ code.function (before ∷ called ∷ [])
         ((walk_of 𝓛 its.ended stayed (its.clauses 𝓛 mem run)).post bound))
-    walk =
-        qed 𝓛 (raw (alive 𝓛 its.signature κs qs) ∷ ‵ passed ∷ []) ∵
+    walk = qed 𝓛 (raw (alive 𝓛 its.signature κs qs) ∷ ‵ passed ∷ []) ∵
         enter ! C Λ code.function (before ∷ called ∷ []) _ $
         alloc_all ! (λ l. pass_all ! refl ((tt, tt), ((tt, tt), tt)) $
         sets ! (agg ! (no_more !)) refl (tt, tt) $
@@ -82,8 +80,7 @@ module _ {M : Type 1} {𝓤 : Ura M} (𝓛 : Logic 𝓤) (mem : Memory → SProp
         move ! (1 ∷ 2 ∷ 0 ∷ []) $ done !)
 
   walks : Walks 𝓛 its.ended stayed (WpFn 𝓤 H C Λ code.function) (its.clauses 𝓛 mem run)
-  walks =
-      walked 𝓛 its.ended stayed (its.clauses 𝓛 mem run) (WpFn 𝓤 H C Λ code.function)
+  walks = walked 𝓛 its.ended stayed (its.clauses 𝓛 mem run) (WpFn 𝓤 H C Λ code.function)
       (λ κs. (shr_vals, (shr_vals, tt)))
       (λ κs. (
         shr_Tells (named 0) κs.0 history.the_row,
@@ -104,7 +101,6 @@ meets {𝓤 = 𝓤} 𝓛 mem run 𝓣 =
 
 pub with_spec : {M : Type 1} → stated.statement M
 unfolding tables_of
-with_spec 𝓤 𝓛 𝓜 𝓡 wired =
-    entered 𝓤 𝓛.H (triple_of 𝓛 its.signature (its.spec 𝓛 𝓜.mem 𝓡.returns))
+with_spec 𝓤 𝓛 𝓜 𝓡 wired = entered 𝓤 𝓛.H (triple_of 𝓛 its.signature (its.spec 𝓛 𝓜.mem 𝓡.returns))
     (tables 𝓤 𝓛.H 𝓜 𝓡 𝓡.env).C (tables 𝓤 𝓛.H 𝓜 𝓡 𝓡.env).Λ key code.function
     (code.unfolded 𝓤 𝓛.H 𝓜 𝓡 wired) (meets 𝓛 𝓜.mem 𝓡.returns (tables_of 𝓤 𝓛.H 𝓜 (tables 𝓤 𝓛.H 𝓜 𝓡 𝓡.env)))

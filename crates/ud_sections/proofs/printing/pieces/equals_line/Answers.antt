@@ -5,8 +5,7 @@ use Rattle.ud_sections.proofs.lemmas.printing.PartLemmas.{split_part, other_body
 use Rattle.ud_sections.proofs.printing.pieces.equals_line.Goals as goal
 
 pub returns-in-None : goal.returns-in-None
-returns-in-None c =
-    let parts = c.args.parts.now in
+returns-in-None c = let parts = c.args.parts.now in
     let i = c.loop-part.part-index in
     let d : Bor (List ℕ) = record { ref_ptr = (0, 0); now = [] } in
     sym (c.loop-part.invariant.same
@@ -16,8 +15,7 @@ returns-in-None c =
     c.in-None.ensures.cases)
 
 pub returns-in-None-strip_prefix : goal.returns-in-None-strip_prefix
-returns-in-None-strip_prefix c =
-    let parts = c.args.parts.now in
+returns-in-None-strip_prefix c = let parts = c.args.parts.now in
     let i = c.loop-part.part-index in
     let d : Bor (List ℕ) = record { ref_ptr = (0, 0); now = [] } in
     sym (c.loop-part.invariant.same
@@ -28,13 +26,11 @@ returns-in-None-strip_prefix c =
     c.in-None-strip_prefix.ensures.cases)
 
 pub loop-part-preserved : goal.loop-part-preserved
-loop-part-preserved c =
-    let parts = c.args.parts.now in
+loop-part-preserved c = let parts = c.args.parts.now in
     let i = c.loop-part.part-index in
     let d : Bor (List ℕ) = record { ref_ptr = (0, 0); now = [] } in
     record {
-      same =
-          c.loop-part.invariant.same
+      same = c.loop-part.invariant.same
           ∙ at_drop_more (λ (ps : List (Bor (List ℕ))). bytes_eq (flat_map (λ p. p.now) ps) (c.loop-part.body.now ++ c.loop-part.ending.now)) parts i d c.loop-part-test.true
           ∙ next_part (get_or parts i d).now (flat_map (λ p. p.now) (drop (i + 1) parts)) c.loop-part.body.now c.loop-part.ending.now c.split_at.result.0.now c.split_at.result.1.now
           (split_part (get_or parts i d).now c.loop-part.body.now c.split_at.result.0.now c.split_at.result.1.now c.min.result c.min.ensures c.split_at.ensures.front c.split_at.ensures.back)

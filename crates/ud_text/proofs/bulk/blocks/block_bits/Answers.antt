@@ -11,8 +11,7 @@ pub swizzle-expected : goal.swizzle-expected
 swizzle-expected c = low_ok (take 64 (drop c.args.at c.args.bytes.now)) (length-chunk c.args.at 64 c.args.bytes.now c.requires)
 
 pub returns : goal.returns
-returns c =
-    let v = take 64 (drop c.args.at c.args.bytes.now) in
+returns c = let v = take 64 (drop c.args.at c.args.bytes.now) in
     let long : length v ≡ 64 = length-chunk c.args.at 64 c.args.bytes.now c.requires in
     lane_bits is_told v 64 _ long (omega arith) (lanes_told v long)
     ∙ ap mask_l (map_told v (row_bytes c.args.bytes.now c.args.at 64 (λ i. let f = c.type_inv.bytes i in omega (arith, f))))

@@ -1,6 +1,5 @@
 -- Up to the first newline, before which no splice begins.
-use Rattle.std.proofs.Common.{◌≡◌, ◌+◌, ◌-◌, ◌<◌, ◌∙◌, ◌==◌, length, take, drop, get_or, subst, sym}
-use Rattle.std.proofs.Common.{ap, refl, ne_eqb, false, List, ℕ, arith}
+use Rattle.std.proofs.Common.{◌≡◌, ◌+◌, ◌-◌, ◌<◌, ◌∙◌, ◌==◌, length, take, drop, get_or, subst, sym, ap, refl, ne_eqb, false, List, ℕ, arith}
 use Rattle.std.proofs.lemmas.List.{take_rest}
 use Rattle.ud_model.specs.text.Lines.{NoNewline}
 use Rattle.ud_model.specs.text.Bytes.{newline, backslash, carriage_return}

@@ -1,10 +1,7 @@
 -- Bytes up to a newline or a slash, and then that one.
 use Rattle.std.proofs.Common.{◌≡◌, ◌≤◌, ℕ, Bool, ◌+◌, take, false, arith, ne_eqb, sym, ◌∙◌, subst}
 use Rattle.ud_text.proofs.lemmas.bulk.LexemeLemmas.{spliced_by}
-use Rattle.ud_text.proofs.lemmas.bulk.QuotedLemmas.{QuotedTo, quoted_start, quote_opens, star_opens}
-use Rattle.ud_text.proofs.lemmas.bulk.QuotedLemmas.{none_with, quoted_star, quoted_shut}
-use Rattle.ud_text.proofs.lemmas.bulk.QuotedLemmas.{quoted_more, quoted_line, unspliced_last}
-use Rattle.ud_text.proofs.lemmas.bulk.QuotedLemmas.{unspliced_return, return_later}
+use Rattle.ud_text.proofs.lemmas.bulk.QuotedLemmas.{QuotedTo, quoted_start, quote_opens, star_opens, none_with, quoted_star, quoted_shut, quoted_more, quoted_line, unspliced_last, unspliced_return, return_later}
 use Rattle.ud_text.proofs.bulk.lexeme_lengths.quoted_line_len.Goals.{
   else-rest-stop-eq13-via-then-rest-stop-eq13+else-may_splice,
 }

@@ -5,15 +5,12 @@ use Rattle.ud_text.specs.lines.LinesState.{LinesState, LinesRepresent, IsLineOf}
 use Rattle.ud_text.specs.lines.Borrowing.{CanBorrow}
 use Rattle.ud_text.specs.lines.Consuming.{CanConsume}
 use Rattle.ud_text.specs.contracts.lines.Lines.{the_view}
-use Rattle.ud_text.proofs.lemmas.lines.BorrowLemmas.{borrowed_value, borrowed_bytes}
-use Rattle.ud_text.proofs.lemmas.lines.BorrowLemmas.{borrowed_no_newline, can_borrow}
-use Rattle.ud_text.proofs.lemmas.lines.BorrowLemmas.{represent_borrowed}
+use Rattle.ud_text.proofs.lemmas.lines.BorrowLemmas.{borrowed_value, borrowed_bytes, borrowed_no_newline, can_borrow, represent_borrowed}
 use Rattle.ud_text.proofs.lemmas.lines.NextLineLemmas.{first_numbered}
 use Rattle.ud_text.proofs.lines.Lines.next_in.Goals as goal
 
 pub invariant_of-self : goal.invariant_of-self
-invariant_of-self g c =
-    let view = the_view g.row.H g.H.LineBuffer c.self.inside in
+invariant_of-self g c = let view = the_view g.row.H g.H.LineBuffer c.self.inside in
     let can : CanConsume view c.args.lines.now =
     subst (λ (l : LinesState). CanConsume l c.args.lines.now) (sym c.self.view_is)
     c.requires.whole_lines in
@@ -28,8 +25,7 @@ invariant_of-self g c =
     )
 
 pub returns-clause-borrowed : goal.returns-clause-borrowed
-returns-clause-borrowed g c =
-    let view = the_view g.row.H g.H.LineBuffer c.self.inside in
+returns-clause-borrowed g c = let view = the_view g.row.H g.H.LineBuffer c.self.inside in
     let body = c.split_newline.result.0.now in
     let ending = c.split_newline.result.1.now in
     let can : CanConsume view c.args.lines.now =
@@ -43,8 +39,7 @@ returns-clause-borrowed g c =
     c.first_of.ensures (c.split_newline.ensures.value 1))
 
 pub returns-clause-value : goal.returns-clause-value
-returns-clause-value g c =
-    let body = c.split_newline.result.0.now in
+returns-clause-value g c = let body = c.split_newline.result.0.now in
     let ending = c.split_newline.result.1.now in
     let number = c.self.inside.consumed in
     subst (λ (l : LinesState). IsLineOf body ending (number + 1)
@@ -58,14 +53,12 @@ returns-clause-bytes g c =
     c.first_of.result.now 1 c.first_of.ensures (c.split_newline.ensures.value 1)
 
 pub returns-clause-one_line : goal.returns-clause-one_line
-returns-clause-one_line g c =
-    borrowed_no_newline c.args.lines.now c.split_newline.result.0.now
+returns-clause-one_line g c = borrowed_no_newline c.args.lines.now c.split_newline.result.0.now
     c.split_newline.result.1.now c.first_of.result.now 1 c.first_of.ensures
     (c.split_newline.ensures.value 1)
 
 pub returns-clause-bound : goal.returns-clause-bound
-returns-clause-bound g c =
-    let view = the_view g.row.H g.H.LineBuffer c.self.inside in
+returns-clause-bound g c = let view = the_view g.row.H g.H.LineBuffer c.self.inside in
     let can : CanConsume view c.args.lines.now =
     subst (λ (l : LinesState). CanConsume l c.args.lines.now) (sym c.self.view_is)
     c.requires.whole_lines in

@@ -12,15 +12,13 @@ use Rattle.ud_text.proofs.lemmas.lines.CountLemmas.{ones_of, ones_sum, ones_leng
 use Rattle.ud_text.proofs.lines.newlines.newlines_in_blocks.Goals as goal
 
 pub overflow_add-counts : goal.overflow_add-counts
-overflow_add-counts c =
-    let at = c.loop-block.block * 64 in
+overflow_add-counts c = let at = c.loop-block.block * 64 in
     let v = take 64 (drop at c.args.bytes.now) in
     let long : length v ≡ 64 = length-chunk at 64 c.args.bytes.now (omega arith) in
     subst (λ (ys : List ℕ). Each2 (λ a b. Fits w8 (a + b)) c.loop-block.counts ys) (sym (selected v 64 long)) (grown_fits c.loop-block.block c.loop-block.counts v (omega arith) c.loop-block.invariant.low)
 
 pub loop-block-preserved : goal.loop-block-preserved
-loop-block-preserved c =
-    let at = c.loop-block.block * 64 in
+loop-block-preserved c = let at = c.loop-block.block * 64 in
     let v = take 64 (drop at c.args.bytes.now) in
     let long : length v ≡ 64 = length-chunk at 64 c.args.bytes.now (omega arith) in
     let same : length c.loop-block.counts ≡ length (ones_of v) = omega (arith, ones_length v, long) in
@@ -33,13 +31,11 @@ loop-block-preserved c =
     }
 
 pub overflow_cast-result : goal.overflow_cast-result
-overflow_cast-result c =
-    let few : c.loop-block.block ≤ 255 = omega arith in
+overflow_cast-result c = let few : c.loop-block.block ≤ 255 = omega arith in
     Each1-weaker (λ n. n ≤ c.loop-block.block) (Fits w16) (λ n h. record { fits = omega arith }) c.loop-block.counts c.loop-block.invariant.low
 
 pub overflow_add-result : goal.overflow_add-result
-overflow_add-result c =
-    let few : c.loop-block.block ≤ 255 = omega arith in
+overflow_add-result c = let few : c.loop-block.block ≤ 255 = omega arith in
     let bytes = take (c.loop-block.block * 64) c.args.bytes.now in
     let sum : 0 + sum_l c.loop-block.counts < 2 ^ 16 =
     omega (arith, c.loop-block.invariant.counted, count_by-le-length is_newline bytes, length-take (c.loop-block.block * 64) c.args.bytes.now) in

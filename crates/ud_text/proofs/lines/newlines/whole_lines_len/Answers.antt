@@ -20,8 +20,7 @@ loop-at-init c = record {
 }
 
 pub loop-at-preserved : goal.loop-at-preserved
-loop-at-preserved c =
-    let short : c.min.result ≤ LINE_BYTES = omega (arith, c.min.ensures) in
+loop-at-preserved c = let short : c.min.result ≤ LINE_BYTES = omega (arith, c.min.ensures) in
     let is = ap (take c.min.result) (take_rest c.args.chunk.now c.loop-at.at) in
     record {
       within = grind (arith, common_steps, c.last_line_start-count.ensures.within);

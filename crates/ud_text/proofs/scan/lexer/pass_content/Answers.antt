@@ -24,8 +24,7 @@ mask_content-inside-requires c =
     }
 
 pub loop-rest-preserved : goal.loop-rest-preserved
-loop-rest-preserved c =
-    let p = c.loop-rest.invariant.passed in
+loop-rest-preserved c = let p = c.loop-rest.invariant.passed in
     let rest : List ℕ = c.loop-rest.rest.now in
     let piece : List ℕ = c.split_at.result.0.now in
     let after : List ℕ = c.split_at.result.1.now in

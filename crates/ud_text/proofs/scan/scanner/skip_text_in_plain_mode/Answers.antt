@@ -11,8 +11,7 @@ pub returns-then-count-eq0-clause-skips : goal.returns-then-count-eq0-clause-ski
 returns-then-count-eq0-clause-skips c = passes_none Plain (scanner_state_of c.args.scan_state)
 
 pub returns-clause-skips : goal.returns-clause-skips
-returns-clause-skips c =
-    let some : c.plain_text_len-count.result ≡ 0 → ⊥ = c.if-count-eq0.false in
+returns-clause-skips c = let some : c.plain_text_len-count.result ≡ 0 → ⊥ = c.if-count-eq0.false in
     let fits = c.plain_text_len-count.ensures.bound in
     let cut = length-take c.plain_text_len-count.result c.args.lines.now in
     subst (λ (k : ScannerState). SkipsText Plain (scanner_state_of c.args.scan_state) k (take c.plain_text_len-count.result c.args.lines.now)) (sym c.initial_state.ensures)

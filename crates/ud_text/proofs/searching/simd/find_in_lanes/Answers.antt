@@ -6,8 +6,7 @@ use Rattle.ud_text.proofs.lemmas.searching.SimdLemmas.{lanes_equal, lanes_or, lo
 use Rattle.ud_text.proofs.searching.simd.find_in_lanes.Goals as goal
 
 pub returns-clause-value : goal.returns-clause-value
-returns-clause-value g c =
-    let v = take g.row.N (drop c.args.at c.args.bytes.now) in
+returns-clause-value g c = let v = take g.row.N (drop c.args.at c.args.bytes.now) in
     let long : length v ≡ g.row.N = length-chunk c.args.at g.row.N c.args.bytes.now c.requires.fits in
     lowest_lane (is_one_of c.args.set) v g.row.N _ _ long c.requires.few
     (lanes_or v _ _ (lanes_or v _ _ (lanes_or v _ _ (lanes_or v _ _

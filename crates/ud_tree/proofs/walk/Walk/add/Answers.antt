@@ -41,8 +41,7 @@ pub returns-in_default-clause-takes : goal.returns-in_default-clause-takes
 returns-in_default-clause-takes g c = takes_other c.args.name.now (g.T.Folder.history c.args.tree.now) c.args.self.now.found.items c.args.report.now _ c.in_default.ensures.cases.0 c.fault.ensures.some
 
 pub returns-in-Present-clause-takes : goal.returns-in-Present-clause-takes
-returns-in-Present-clause-takes g c =
-    on_ok_weaker c.add_given.result
+returns-in-Present-clause-takes g c = on_ok_weaker c.add_given.result
     (λ both. takes_node c.in-Present.node _ c.args.name.now _ _ c.args.report.now _ c.add_given.ensures.counted both.1
     (sym c.in-Ok.ensures.cases.0) c.in-Present.ensures c.add_given.ensures.adds both.0)
     (on_ok_both _ _ c.add_given.result c.add_given.ensures.is_in c.add_given.ensures.other)

@@ -11,8 +11,7 @@ pub loop-found-init : goal.loop-found-init
 loop-found-init c = picked_begun c.new-seen.result c.new-files.result.items c.args.self.found.items c.new-seen.ensures.empty c.new-files.ensures.items
 
 pub pick-requires : goal.pick-requires
-pick-requires c =
-    let b = c.into_iter-found-iterator.ensures.into_iter_gives in
+pick-requires c = let b = c.into_iter-found-iterator.ensures.into_iter_gives in
     let from = YieldsList-from_vec c.sort.new.self.items b.0 (b.1 ∙ c.sort.new.self.ok.0) in
     let t = YieldsList-turn from c.loop-found.yielded c.loop-found.found-iterator c.loop-found.yielded_by c.next.result c.next.new.self c.in-Some.found c.in-Some.is c.next.ensures.steps in
     record {
@@ -22,8 +21,7 @@ pick-requires c =
     }
 
 pub loop-found-preserved : goal.loop-found-preserved
-loop-found-preserved c =
-    let b = c.into_iter-found-iterator.ensures.into_iter_gives in
+loop-found-preserved c = let b = c.into_iter-found-iterator.ensures.into_iter_gives in
     let t = YieldsList-turn (YieldsList-from_vec c.sort.new.self.items b.0 (b.1 ∙ c.sort.new.self.ok.0))
     c.loop-found.yielded c.loop-found.found-iterator c.loop-found.yielded_by c.next.result c.next.new.self
     c.in-Some.found c.in-Some.is c.next.ensures.steps in
@@ -32,8 +30,7 @@ loop-found-preserved c =
     c.pick.ensures.from c.in_ok-pick.ensures.others c.in_ok-pick.ensures.kept
 
 pub returns : goal.returns
-returns c =
-    let b = c.into_iter-found-iterator.ensures.into_iter_gives in
+returns c = let b = c.into_iter-found-iterator.ensures.into_iter_gives in
     let ends = YieldsList-end (YieldsList-from_vec c.sort.new.self.items b.0 (b.1 ∙ c.sort.new.self.ok.0))
     c.loop-found.yielded c.loop-found.found-iterator c.loop-found.yielded_by c.next.result c.next.new.self c.in-None.is
     c.next.ensures.steps in

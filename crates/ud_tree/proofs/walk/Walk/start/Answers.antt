@@ -60,16 +60,14 @@ pub returns-in-Unknown-clause-starts : goal.returns-in-Unknown-clause-starts
 returns-in-Unknown-clause-starts g c = starts_bad (met c.args.path.now Unknown ∷ []) c.args.path.now _ _ _ c.in-Unknown.ensures (met_none c.args.path.now Unknown) c.unknown.ensures.reports.some
 
 pub returns-in-Folder-clause-starts : goal.returns-in-Folder-clause-starts
-returns-in-Folder-clause-starts g c =
-    on_ok_weaker c.add_folder.result
+returns-in-Folder-clause-starts g c = on_ok_weaker c.add_folder.result
     (λ w. starts_good (met c.args.path.now (Present c.in-Present.node) ∷ []) c.args.path.now _ _ c.args.report.now
     c.in-Present.ensures (met_none c.args.path.now (Present c.in-Present.node)) (waits_more w)
     (at_folder c.in-Present.node (0, omega arith, refl) c.in-Folder.is (waits_due (met c.args.path.now (Present c.in-Present.node) ∷ []) w)))
     c.add_folder.ensures.waits
 
 pub returns-in-Link-clause-starts : goal.returns-in-Link-clause-starts
-returns-in-Link-clause-starts g c =
-    on_ok_weaker c.add_folder-in-Link.result
+returns-in-Link-clause-starts g c = on_ok_weaker c.add_folder-in-Link.result
     (λ w. starts_good (followed c.args.path.now true ∷ met c.args.path.now (Present c.in-Present.node) ∷ []) c.args.path.now _ _ c.args.report.now
     (c.if-leads_to_folder.ensures ∙ ap (λ (l : List Call). walked (followed c.args.path.now true) ∷ l) c.in-Present.ensures)
     (followed_none c.args.path.now true c.args.path.now (Present c.in-Present.node)) (waits_more w)
@@ -83,8 +81,7 @@ returns-in-Link-2-clause-starts g c =
     (followed_none c.args.path.now false c.args.path.now (Present c.in-Present.node)) c.fault.ensures.some
 
 pub returns-in-File-clause-starts : goal.returns-in-File-clause-starts
-returns-in-File-clause-starts g c =
-    on_ok_weaker c.push_file.result
+returns-in-File-clause-starts g c = on_ok_weaker c.push_file.result
     (λ there. starts_good (met c.args.path.now (Present c.in-Present.node) ∷ []) c.args.path.now _ _ c.args.report.now c.in-Present.ensures (met_none c.args.path.now (Present c.in-Present.node))
     (waits_same (λ d. string_bytes d) _ _ c.push_file.ensures.folders) (at_file c.in-Present.node (0, omega arith, refl) c.in-File.is there))
     c.push_file.ensures.is_in
@@ -105,8 +102,7 @@ returns-in-Folder-clause-catches g c =
     on_ok_weaker c.add_folder.result (λ h. catches_node c.args.path.now c.in-Present.node _ _ c.in-Present.ensures h (λ kind. let is = c.in-Folder.is in cc)) c.add_folder.ensures.grows
 
 pub returns-in-Link-clause-catches : goal.returns-in-Link-clause-catches
-returns-in-Link-clause-catches g c =
-    on_ok_weaker c.add_folder-in-Link.result
+returns-in-Link-clause-catches g c = on_ok_weaker c.add_folder-in-Link.result
     (λ h. catches_then (catches_node c.args.path.now c.in-Present.node c.args.self.now c.args.self.now c.in-Present.ensures (grows_same _ _ refl refl) (λ kind. let is = c.in-Link.is in cc))
     (catches_followed c.args.path.now true _ _ c.if-leads_to_folder.ensures h))
     c.add_folder-in-Link.ensures.grows

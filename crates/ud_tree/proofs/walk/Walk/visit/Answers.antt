@@ -54,8 +54,7 @@ pub returns-in_default-clause-visits : goal.returns-in_default-clause-visits
 returns-in_default-clause-visits g c = visits_other c.args.folder.now c.args.name.now (g.T.Folder.history c.args.tree.now) _ c.args.report.now _ (c.in_default.ensures.cases.0) c.fault_in.ensures.some
 
 pub returns-in-Present-clause-visits : goal.returns-in-Present-clause-visits
-returns-in-Present-clause-visits g c =
-    on_ok_weaker c.add_node.result
+returns-in-Present-clause-visits g c = on_ok_weaker c.add_node.result
     (λ w. visits_node c.in-Present.node _ c.args.folder.now c.args.name.now _ _ c.args.report.now
     (cc (c.as_str-whole.ensures.value, c.in_ok-push_str.ensures.bytes, c.in-Ok.ensures.cases.0, c.in_ok-path.ensures.ok))
     c.in-Present.ensures w)
