@@ -1,40 +1,23 @@
 -- Finish: the course and the end of a run, since it began.
-use Rattle.std.proofs.Common.{◌≡◌, ℕ, ◌≤◌, Bool, true, List, [], ◌++◌, length, Option, Result, Err, sym, subst, append-nil, arith}
-use Rattle.std.specs.Io.KnownBytes.{Consumes, Keeps, IsAtEnd}
-use Rattle.std.proofs.KnownBytes.{Appends-nil, Appends-trans, Consumes-nil, Consumes-trans, Consumes-kept}
+use Rattle.std.proofs.Common.{ℕ, ◌≤◌, Bool, List, [], ◌++◌, length, Option, Result, Err, subst, append-nil, arith}
+use Rattle.std.specs.Io.KnownBytes.{Consumes, IsAtEnd}
+use Rattle.std.proofs.KnownBytes.{Appends-nil, Appends-trans, Consumes-nil, Consumes-trans}
 use Rattle.ud_model.specs.sections.Items.{Options}
 use Rattle.ud_sections.specs.printing.Printers.{printer_represents, printer_piece}
 use Rattle.ud_sections.specs.declared.printing.printer.Printer.{Printer}
 use Rattle.ud_faults.specs.declared.run.RunFault.{RunFault}
-use Rattle.ud_faults.specs.declared.run.RunFault.TheVariants.{Read}
 use Rattle.ud_engine.specs.declared.pump.TheConstants.{CHUNK_BYTES}
 use Rattle.ud_engine.specs.Finishing.{Finishes, RunAnswers}
 use Rattle.ud_engine.specs.Feeding.{EngineState, EngineRepresents, FeedFails, Continues}
 use Rattle.ud_engine.specs.Runs.{InProgress, RunFinished}
 use Rattle.ud_engine.proofs.RunLemmas.{own_piece, own_session, input_is, input_begins, lag, ended_ran, ended_appended, feed_appended, ran_early, the_err}
-use Rattle.ud_engine.proofs.RunEndedLemmas.{printed_so_far, fed_ends, end_ends}
+use Rattle.ud_engine.proofs.RunEndedLemmas.{fed_ends, end_ends}
 
 -- A run begins.
 pub begins : (o : Options) (e : EngineState Printer) (r w : Option (List ℕ)) → EngineRepresents printer_represents printer_piece e o (own_piece o) [] [] → InProgress e o r r w w
 begins o e r w fed = record { given = []; printed = []; consumed = Consumes-nil r; fed = fed; appended = Appends-nil w }
 
 module _ (o : Options) (e : EngineState Printer) (r₀ r₁ w₀ w₁ : Option (List ℕ)) (u : InProgress e o r₀ r₁ w₀ w₁) where
-  -- A read failed.
-  pub unread : (r₂ : Option (List ℕ)) → Keeps r₁ r₂ → (reader writer : Bool) → reader ≡ true → RunFinished o r₀ r₂ w₀ w₁ reader writer (Err Read)
-  unread r₂ kept reader writer failed =
-      let all : Consumes r₀ r₂ u.given = Consumes-kept r₀ r₁ r₂ u.given u.consumed kept in
-      record {
-        ran = λ reads writes. cc;
-        lag =
-            lag o printer_represents printer_piece e u.given u.printed u.fed.taken r₀ r₂ w₀ w₁ w₁ [] []
-            (subst (λ (x : List ℕ). Consumes r₀ r₂ x) (sym (append-nil u.given)) all) (omega arith) u.appended (Appends-nil w₁);
-        ended = record {
-          given = u.given;
-          consumed = all;
-          ends = printed_so_far o printer_represents printer_piece e u.given u.printed u.fed.taken w₀ w₁ u.appended;
-        };
-      }
-
   -- The reader was at its end.
   pub at_end : (r₂ w₂ : Option (List ℕ)) → Consumes r₁ r₂ [] → IsAtEnd r₂ → (reader writer : Bool) (result : Result Bool RunFault) →
       Finishes (own_session o u.given u.printed) writer w₁ w₂ result →

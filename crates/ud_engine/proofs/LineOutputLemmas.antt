@@ -1,12 +1,8 @@
 -- Output of a line that is dropped but for its ending, or wholly.
-use Rattle.std.proofs.Common.{◌≡◌, inl, inr, ℕ, ◌+◌, ◌==◌, List, [], ◌∷◌, ◌++◌, length, true, bytes_eq, refl, ap, length-append, arith}
+use Rattle.std.proofs.Common.{◌≡◌, inl, inr, ℕ, ◌+◌, ◌==◌, List, [], ◌∷◌, ◌++◌, length, bytes_eq, ap, length-append, arith}
 use Rattle.std.proofs.lemmas.Bool.Decides.{same_from_decides, Decides-eqb, Decides-like}
 use Rattle.std.proofs.lemmas.Slice.Eq.{bytes_eq-Decides}
 use Rattle.ud_engine.specs.ProcessedLines.{IsLeftOf}
-
--- A text equals itself.
-pub same_text : (x : List ℕ) → bytes_eq x x ≡ true
-same_text x = (bytes_eq-Decides x x).1 refl
 
 -- If the output, nothing or the ending, is as long as the line, the output is the line.
 all_left : (left body ending : List ℕ) → IsLeftOf left ending → length left ≡ length body + length ending → left ≡ body ++ ending

@@ -1,14 +1,12 @@
 -- Appending names one after another, and which lines have names.
-use Rattle.std.proofs.Common.{◌≡◌, ℕ, suc, ◌-◌, List, [], ◌∷◌, ◌++◌, length, Bool, true, false, if◌then◌else◌, refl, sym, ap, ap₂, subst, ◌∙◌, append_assoc, append-nil, arith}
+use Rattle.std.proofs.Common.{◌≡◌, ℕ, suc, ◌-◌, List, [], ◌∷◌, ◌++◌, length, Bool, true, false, refl, sym, ap, ap₂, subst, ◌∙◌, append_assoc, append-nil, arith}
 use Rattle.ud_model.specs.text.Lines.{Line}
 use Rattle.ud_model.specs.text.Scans.{Reading}
 use Rattle.ud_model.specs.sections.Directives.{Content, content_of}
 use Rattle.ud_model.specs.sections.Tree.{Item, Tree, depth}
 use Rattle.ud_model.specs.sections.Items.{Options, item_of, item_by, read_after, mode_after, next_item}
 use Rattle.ud_model.specs.sections.Faults.{AreFaultless}
-use Rattle.ud_model.specs.conditions.Names.{names_by}
 use Rattle.ud_model.specs.answer.Listing.{levels, listed, listed_names, depth_prefix, names_at, names_in_content}
-use Rattle.ud_model.specs.declared.kind.Test.TheVariants.{Nothing}
 use Rattle.ud_model.proofs.answer.LevelLemmas.{length_levels, levels_stay}
 use Rattle.ud_model.proofs.sections.Growth.{Adds}
 use Rattle.ud_model.proofs.sections.Soundness.{sound_lines, reading_of-item_of}
@@ -40,9 +38,6 @@ name_put a b c prefix names left rest name old mid new h k l = grind (arith, app
 pub all_put : (a b : Stream) (prefix : List ℕ) (names left : List (List ℕ)) (old new : List ℕ) → left ≡ [] →
     NamesPut a b prefix names left old new → TakesAllBut a b (old ++ listed_names prefix names) new
 all_put a b prefix names left old new h k = grind (arith, append-nil)
-
-nameless : (broken : Bool) (after : List ℕ) → (if broken then [] else names_by Nothing after) ≡ []
-nameless broken after = grind arith
 
 by_content : (o : Options) (r : Reading) (c : Content) → has_condition (item_by o r c) ≡ false → names_in_content c ≡ []
 by_content o r c h = grind arith

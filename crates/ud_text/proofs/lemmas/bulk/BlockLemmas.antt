@@ -1,5 +1,5 @@
 -- Blocks: bytes in a block comment, newlines included.
-use Rattle.std.proofs.Common.{◌≡◌, ℕ, ◌+◌, ◌-◌, ◌<◌, ◌≤◌, ◌==◌, List, [], ◌∷◌, ◌++◌, length, take, drop, Bool, true, false, ◌&&◌, ◌||◌, refl, sym, ◌∙◌, ap, subst, append_assoc, arith, length-append, ne_eqb}
+use Rattle.std.proofs.Common.{◌≡◌, ℕ, ◌+◌, ◌-◌, ◌<◌, ◌≤◌, ◌==◌, List, [], ◌∷◌, ◌++◌, length, take, drop, Bool, true, false, refl, sym, ◌∙◌, ap, subst, append_assoc, arith, length-append, ne_eqb}
 use Rattle.std.proofs.lemmas.List.{take-append-drop, length-take-le}
 use Rattle.ud_model.specs.text.Lines.{NoNewline}
 use Rattle.ud_text.specs.bulk.BulkStates.{next_bulk_state, BulkState, code_state, stops_bulk, NoNewlineInBlock, bulk_state_after, inside_state, block_state, HasNoStop, Skipped}
@@ -21,9 +21,6 @@ pub record BlockSpan (starred white : Bool) (bytes : List ℕ) : Type 0 where
   pub now : Bool
   pub leads : bulk_state_after (inside_state starred white) bytes ≡ inside_state now white
   pub quiet : HasNoStop (inside_state starred white) bytes
-
-and_true : (a b : Bool) → (true && (a || b)) ≡ false → (a ≡ false) × (b ≡ false)
-and_true a b h = grind arith
 
 inside_step : (starred white : Bool) (b : ℕ) → (starred ≡ true → ((b == slash) ≡ false) × ((b == backslash) ≡ false)) → next_bulk_state (inside_state starred white) b ≡ inside_state (b == star) white
 inside_step starred white b h = grind arith

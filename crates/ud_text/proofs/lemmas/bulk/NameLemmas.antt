@@ -1,13 +1,10 @@
 -- Names: a word that is no keyword, by the first bytes.
-use Rattle.std.proofs.Common.{◌≡◌, ℕ, suc, ◌+◌, ◌-◌, ◌≤◌, ◌==◌, List, [], ◌∷◌, length, take, get_or, Bool, true, false, if◌then◌else◌, refl, sym, subst, arith}
+use Rattle.std.proofs.Common.{◌≡◌, ℕ, suc, ◌+◌, ◌-◌, ◌≤◌, List, [], ◌∷◌, length, take, get_or, Bool, true, false, if◌then◌else◌, refl, sym, subst, arith}
 use Rattle.ud_model.specs.text.Bytes.{is_white, is_word_byte, skip_white}
 use Rattle.ud_model.specs.sections.Directives.{is_no_keyword}
 use Rattle.ud_text.specs.bulk.BulkStates.{is_other_word}
 use Rattle.ud_text.specs.bulk.BulkLexemes.{is_significant, NoSignificant}
 use Rattle.ud_text.proofs.lemmas.bulk.TextLemmas.{is_no_keyword-first}
-
-never : (p : ℕ → Bool) (n b : ℕ) → p n ≡ false → p b ≡ true → (b == n) ≡ false
-never p n b h k = grind arith
 
 -- white space is insignificant
 white_special : (b : ℕ) → is_white b ≡ true → is_significant b ≡ false

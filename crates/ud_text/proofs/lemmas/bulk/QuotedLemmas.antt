@@ -116,9 +116,6 @@ QuotedTo white begun l n = QuotedFront white begun (get_or l (n - 1) 0) (take n 
 abbrev pub opens_at : List ℕ → ℕ → Bool
 opens_at l n = opens (get_or l (n - 1) 0) (get_or l n 0)
 
-take_one : (l : List ℕ) → 0 < length l → take 1 l ≡ get_or l 0 0 ∷ []
-take_one l h = grind arith
-
 -- the quote is read
 pub quoted_start : (l : List ℕ) → 0 < length l → is_quote (get_or l 0 0) ≡ true → (white : Bool) →
     QuotedTo white 0 l 1

@@ -73,10 +73,6 @@ take_past (x ∷ p) q n = let e : suc (length p) + n ≡ suc (length p + n) = om
 begins_after : (p : List ℕ) (n : ℕ) (q m : List ℕ) → m ≡ take n q → n ≤ length q → 0 < n → IsLineStart m → IsLineStart (p ++ take n q)
 begins_after p n q m h k l o = grind (arith, length-take-le, begins-append)
 
-is_none : (l : List ℕ) → length l ≡ 0 → l ≡ []
-is_none [] e = refl
-is_none (x ∷ l) e = absurd (omega (arith, e))
-
 sign_alone_black : {start : BulkState} {bytes : List ℕ} {line : ℕ} {kept : BulkState} {base : ℕ} {begins : Bool} {at : ℕ} (r : ReadOutside start bytes line kept base begins at) →
     take 1 (drop at bytes) ≡ number_sign ∷ [] → r.now_white ≡ false → ReadOutside start bytes line kept base begins (at + 1)
 sign_alone_black {bytes = bytes} {at = at} r first e =

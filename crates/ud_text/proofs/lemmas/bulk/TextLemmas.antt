@@ -175,22 +175,6 @@ word_front b w e = rw e refl
 pub is_no_keyword-first : (b c : ℕ) → is_no_keyword b c ≡ true → is_word_byte b ≡ true
 is_no_keyword-first b c e = (and_parts (is_word_byte b) (not (list_any (λ (row : List ℕ × Kind). may_begin row.0 b c) keywords)) e).0
 
--- bytes that begin with a word that is no keyword
-pub other_first : (rest : List ℕ) → is_other_word rest ≡ true → IsOther rest
-other_first rest e = by_word (skip_white rest) refl e
-  where
-    by_word : (w : List ℕ) → skip_white rest ≡ w → starts_with_no_keyword w ≡ true → IsOther rest
-    by_word [] i f = cc
-    by_word (b ∷ []) i f = cc
-    by_word (b ∷ c ∷ more) i f = let word : is_word_byte b ≡ true = is_no_keyword-first b c f in
-        record {
-          first = b;
-          more = c ∷ more;
-          is = i;
-          none = ap kind_of (word_front b (c ∷ more) word) ∙ (no_keyword b c (leading_word (c ∷ more)) (leading_word more) f (λ g. word_front c more g)).0;
-          sure = other_sure b c (c ∷ more) more f (word_is_plain b word).1 (λ g. refl);
-        }
-
 word_shown : (b : ℕ) (bytes tail : List ℕ) → starts_with_no_keyword (b ∷ (bytes ++ tail)) ≡ true → NoWord tail → IsOther (b ∷ masked_after in_text [] bytes)
 word_shown b [] [] e n = cc
 word_shown b [] (c ∷ tail) e n = let word : is_word_byte b ≡ true = is_no_keyword-first b c e in

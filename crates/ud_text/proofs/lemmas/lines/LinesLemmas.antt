@@ -1,7 +1,6 @@
 -- Buffering: what each call does to the lines of the bytes taken.
-use Rattle.std.proofs.Common.{◌≡◌, ℕ, suc, ◌+◌, ◌<◌, ◌≤◌, Bool, true, false, List, [], ◌∷◌, ◌++◌, length, take, sym, ◌∙◌, ap, append-nil, arith}
+use Rattle.std.proofs.Common.{◌≡◌, ℕ, suc, ◌+◌, ◌<◌, Bool, true, false, List, [], ◌∷◌, ◌++◌, length, take, sym, ◌∙◌, ap, append-nil, arith}
 use Rattle.std.proofs.lemmas.List.{take_all, length-append}
-use Rattle.std.proofs.Math.ListN.{length-take}
 use Rattle.ud_model.specs.text.Lines.{SplitLines, split_lines, whole_lines, partial_line, texts_of, line_at, numbered_from}
 use Rattle.ud_model.proofs.text.LinesLemmas.{split_lines-append-open, split_lines-append-line, last_line-some, numbered_from-next}
 use Rattle.ud_text.specs.lines.LinesState.{LinesState, LinesRepresent, UpToNewline, IsLastLine}
@@ -47,7 +46,3 @@ represent_before l text part h = h.count ∙ sym (ap (λ (q : SplitLines). lengt
 -- the buffered line, if not whole, is the partial line
 pub represent_rest : (l : LinesState) (text : List ℕ) → l.whole ≡ false → LinesRepresent l text → partial_line text ≡ l.held
 represent_rest l text part h = ap (λ (q : SplitLines). q.rest) (represent_part l text part h)
-
--- a line has bytes, if bytes are appended to it
-longer : (held chunk : List ℕ) (used : ℕ) → used ≤ length chunk → 0 < used → 0 < length (held ++ take used chunk)
-longer held chunk used within some = simp (length-append, length-take) (omega arith)

@@ -4,7 +4,7 @@ use Rattle.std.specs.List.{position_or_len}
 use Rattle.std.proofs.lemmas.List.{take_more, take_all, take_rest, length-take-le, drop-take, take-take, take-append-drop}
 use Rattle.std.specs.Option.{option_to_list}
 use Rattle.memchr.specs.Find.{IsFirstByte, is_byte}
-use Rattle.ud_model.specs.text.Bytes.{are_white, slash, star, space, backslash, is_quote, is_mark, is_white}
+use Rattle.ud_model.specs.text.Bytes.{are_white, star, space, is_mark, is_white}
 use Rattle.ud_model.specs.text.Lines.{NoNewline}
 use Rattle.ud_model.specs.aids.LexStates.{LexState, in_text, in_block, at_star, in_line, next_state, opens_comment, masked_byte, stays_white, blank_last, LexesTo, Masks}
 use Rattle.ud_model.proofs.text.LexStateLemmas.{Masks-step, blank_last-last}
@@ -41,9 +41,6 @@ or_parts a b c d h = grind arith
 
 stays_in_text : (b : ℕ) → is_mark b ≡ false → in_text ≡ next_state in_text b
 stays_in_text b h = grind arith
-
-no_slash : (b : ℕ) → is_mark b ≡ false → (b == slash) ≡ false
-no_slash b e = (or_parts (b == slash) (b == star) (is_quote b) (b == backslash) e).0
 
 white_in_text : (b : ℕ) (white : Bool) → is_mark b ≡ false → (b ≡ 10 → ⊥) → stays_white in_text white b ≡ (white && is_white b)
 white_in_text b white h k = grind arith

@@ -83,9 +83,6 @@ module _ {X : Type 0} (p : X → Bool) (n : ℕ) (xs : List X) (at count : ℕ) 
   pub first_at_last : n ≤ length xs → at ≡ length xs - n → at ≤ position_or_len p xs → at + count ≡ position_or_len p xs
   first_at_last h k l = grind (arith, prefix_len-le-length, among, search_drop, length-drop)
 
-marks_are : (a b c d e : Bool) → ((((a || b) || c) || d) || e) ≡ (((a || b) || (c || d)) || e)
-marks_are a b c d e = grind arith
-
 -- the marks are five bytes
 pub search_marks : (bytes : List ℕ) → position_or_len (is_one_of (slash ∷ star ∷ 34 ∷ 39 ∷ backslash ∷ [])) bytes ≡ position_or_len is_mark bytes
 search_marks bytes = grind arith
