@@ -238,8 +238,8 @@ impl<P: PlanSource, S: Show, H: LineBuffer> EngineOf<P, S, H> {
     /// Processes the next chunk: writes the output for every line that ends in it.
     ///
     /// `chunk` may have any bytes. An engine from `new` accepts any length; others accept at most
-    /// `remaining_capacity` bytes. The line that `chunk` begins, at most `LINE_BYTES`, is buffered
-    /// until it ends. `out` hasn't failed, unless the engine is fused.
+    /// `Lines::remaining_capacity` bytes. The line that `chunk` begins, at most `LINE_BYTES`, is
+    /// buffered until it ends. `out` hasn't failed, unless the engine is fused.
     ///
     /// # Errors
     /// - `Text` or `Section` if a line is faulty, after the output for the lines before it.
