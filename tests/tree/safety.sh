@@ -628,7 +628,41 @@ undoes_elsewhere() {
   check '-d: a path above: patch -R -d .. -p1' holds src/folder/b.c "$text"
 }
 
+# Tests that no file of the tree is opened in the place of a closed stream, into which messages or
+# diffs would then be written.
+closed_streams() {
+  small_tree
+  mkdir src/.unifdef-tree.a.c
+  (cd src && "$TREE" -DA a.c 2>&-)
+  check '2>&-: status' same "$?" 2
+  check '2>&-: the file' holds src/a.c "$text"
+  "$TREE" -DA src >&- 2>&-
+  check '>&- 2>&-: status' same "$?" 2
+  check '>&- 2>&-: the file' holds src/a.c "$text"
+  check '>&- 2>&-: the next file' holds src/folder/b.c 'yes\n'
+  "$TREE" -DA src/a.c <&- >&- 2>&-
+  check '<&- >&- 2>&-: status' same "$?" 2
+  check '<&- >&- 2>&-: the file' holds src/a.c "$text"
+  small_tree
+  ln src/a.c linked.txt
+  (cd src && "$TREE" -q -d -w -DA a.c >&- 2> "$work/err")
+  check '-d >&-: status' same "$?" 2
+  check '-d >&-: message' has_line "$work/err" 'unifdef-tree: stdout: Cannot be written'
+  check '-d >&-: the file' holds src/a.c 'yes\n'
+  small_tree
+  ln src/folder/b.c linked.txt
+  "$TREE" -w -DA src/folder >&- 2>&-
+  check '-w >&- 2>&-: status' same "$?" 2
+  check '-w >&- 2>&-: the file' holds src/folder/b.c 'yes\n'
+  small_tree
+  "$TREE" -DA src/a.c <&- > "$work/out" 2> "$work/err"
+  check '<&-: status' same "$?" 1
+  "$TREE" -0 -DA <&- 2> "$work/err"
+  check '-0 <&-' same "$? $(cat "$work/err")" '2 unifdef-tree: stdin: Cannot be read'
+}
+
 safety() {
+  closed_streams
   locks
   inputs
   long_lines

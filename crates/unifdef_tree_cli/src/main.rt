@@ -9,7 +9,9 @@ mod painter;
 use crate::painter::Painter;
 use std::alloc::AllocError;
 use std::env::VarError;
+use std::fs::{self, File};
 use std::io::{IsTerminal, Write};
+use std::os::fd::{AsFd, AsRawFd};
 use std::process::ExitCode;
 use std::{env, io};
 use ud_io::Watched;
@@ -20,6 +22,9 @@ use ud_tree::{
 
 /// The version that `-V` prints.
 const VERSION: &str = "unifdef-tree 1.0";
+
+/// The number of the last standard stream.
+const STDERR: i32 = 2;
 
 /// The last line of a run that couldn't keep folders open.
 const WITHOUT_PROC: &[u8] = b"Without /proc, folders were found by their paths";
@@ -48,7 +53,20 @@ fn main(rt: HostRuntime) -> ExitCode {
             Ok(()) => ExitCode::from(0),
             Err(_) => ExitCode::from(EXIT_TROUBLE),
         },
-        Ok(Request::Run(arguments)) => run(&rt, &arguments),
+        Ok(Request::Run(arguments)) => {
+            let _closed = [taken(&rt), taken(&rt), taken(&rt)];
+            run(&rt, &arguments)
+        }
+    }
+}
+
+/// Opens a folder for reading in the place of the first standard stream that is closed. Else a file
+/// of the tree would get its number, and messages would be written into that file. Such a stream
+/// can't be read or written, as one that is closed. `None` if all are open.
+fn taken(rt: &HostRuntime) -> Option<File> {
+    match fs::open(rt, "/") {
+        Ok(open) if open.as_fd().as_raw_fd() <= STDERR => Some(open),
+        _ => None,
     }
 }
 
