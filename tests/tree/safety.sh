@@ -250,6 +250,27 @@ syncs() {
   check 'sync: -w fails: the old bytes' holds src/a.c "$text"
 }
 
+# Tests that a diff of -d that goes to a file is on the disk before the next file is changed, and that
+# no file is changed after one that isn't.
+syncs_diffs() {
+  local calls='write,fdatasync,rename'
+  small_tree
+  strace -f -o "$work/calls" -e trace="$calls" "$TREE" -q -d -DA src > "$work/diff" 2> "$work/err"
+  check '-d to a file: each diff is synced' same \
+    "$(sed -n 's/^[0-9]* *\(write(1\|fdatasync\|rename\).*/\1/p' "$work/calls" | tr '\n' ' ')" \
+    'rename write(1 fdatasync rename write(1 fdatasync '
+  small_tree
+  strace -f -o "$work/calls" -e trace="$calls" "$TREE" -q -d -DA src 2> "$work/err" | cat > "$work/diff"
+  check '-d to a pipe: none is' same "$(grep -c fdatasync "$work/calls")" 0
+  small_tree
+  strace -f -o /dev/null -e trace=fdatasync -e inject=fdatasync:error=EIO:when=1 "$TREE" -q -d -DA src \
+    > "$work/diff" 2> "$work/err"
+  check '-d: a sync fails: status' same "$?" 2
+  check '-d: a sync fails: message' has_line "$work/err" 'unifdef-tree: stdout: Cannot be written'
+  check '-d: a sync fails: the file' holds src/a.c 'yes\n'
+  check '-d: a sync fails: the next file' holds src/folder/b.c "$text"
+}
+
 # Tests each call that a run makes, failing in turn from the first one about the tree on: each file
 # is old or new, and the status is 2 unless both files are new.
 fails_in_turn() {
@@ -684,6 +705,7 @@ safety() {
     compares_bytes
     looks_at_times
     syncs
+    syncs_diffs
     fails_in_turn
   fi
 }

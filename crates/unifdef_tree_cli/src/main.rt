@@ -5,8 +5,10 @@
 #![tactic(auto)]
 
 mod painter;
+mod synced;
 
 use crate::painter::Painter;
+use crate::synced::Synced;
 use std::alloc::AllocError;
 use std::env::VarError;
 use std::fs::{self, File};
@@ -25,6 +27,9 @@ const VERSION: &str = "unifdef-tree 1.0";
 
 /// The number of the last standard stream.
 const STDERR: i32 = 2;
+
+/// The path of standard output.
+const STDOUT: &str = "/proc/self/fd/1";
 
 /// The last line of a run that couldn't keep folders open.
 const WITHOUT_PROC: &[u8] = b"Without /proc, folders were found by their paths";
@@ -74,9 +79,25 @@ fn taken(rt: &HostRuntime) -> Option<File> {
 fn run(rt: &HostRuntime, arguments: &Arguments) -> ExitCode {
     let stdout = rt.stdout();
     if stdout.is_terminal() && allows_colours(rt, arguments) {
-        run_to(rt, arguments, Painter::new(stdout))
+        return run_to(rt, arguments, Painter::new(stdout));
+    }
+    match diffs(rt, arguments) {
+        Some(file) => run_to(rt, arguments, Synced::new(stdout, file)),
+        None => run_to(rt, arguments, stdout),
+    }
+}
+
+/// Opens standard output anew if the diffs that undo the run go there, and if it is a regular file.
+/// `None` also without `/proc`, or if the user may not read that file.
+fn diffs(rt: &HostRuntime, arguments: &Arguments) -> Option<File> {
+    let undoes = match arguments.task {
+        Task::Replace => arguments.show_changes,
+        Task::Diff | Task::Names => false,
+    };
+    if undoes && fs::metadata(rt, STDOUT).ok()?.is_file() {
+        fs::open(rt, STDOUT).ok()
     } else {
-        run_to(rt, arguments, stdout)
+        None
     }
 }
 
