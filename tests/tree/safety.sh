@@ -271,6 +271,20 @@ syncs_diffs() {
   check '-d: a sync fails: the next file' holds src/folder/b.c "$text"
 }
 
+# Tests that no file is read for -n once its diffs can't be written.
+stops_showing() {
+  [ -w /dev/full ] || return 0
+  small_tree
+  strace -f -o "$work/calls" -e trace=openat "$TREE" -n -DA src > /dev/full 2> "$work/err"
+  check '-n: a full output: status' same "$?" 2
+  check '-n: a full output: messages' same "$(cat "$work/err")" \
+    'unifdef-tree: stdout: Cannot be written
+unifdef-tree: 1 would change, 0 unchanged, 1 faulty
+unifdef-tree: 4 lines removed'
+  check '-n: a full output: the first file' same "$(grep -c '/a.c"' "$work/calls")" 1
+  check '-n: a full output: the next file' same "$(grep -c '/b.c"' "$work/calls")" 0
+}
+
 # Tests each call that a run makes, failing in turn from the first one about the tree on: each file
 # is old or new, and the status is 2 unless both files are new.
 fails_in_turn() {
@@ -706,6 +720,7 @@ safety() {
     looks_at_times
     syncs
     syncs_diffs
+    stops_showing
     fails_in_turn
   fi
 }

@@ -4,7 +4,6 @@ use Rattle.std.proofs.lemmas.List.{get_or-take, length-take}
 use Rattle.std.specs.List.{AllPairs}
 use Rattle.ud_io.specs.Streams.{Stream, Sends}
 use Rattle.ud_tree.specs.declared.arguments.Arguments.{Arguments}
-use Rattle.ud_tree.specs.declared.arguments.Task.TheVariants.{Diff}
 use Rattle.ud_tree.specs.declared.walk.Found.{Found}
 use Rattle.ud_tree.specs.TreeRuns.{IsDone, all_done, stopped}
 use Rattle.ud_tree.specs.Walks.{IsBefore}
@@ -18,19 +17,13 @@ still_failed h is = ap (λ (s : Stream). s.failed) (h.fused is) ∙ is
 pub done_later : {args : Arguments} {a b : Bool} {files done : List Found} →
     (a ≡ true → b ≡ true) → IsDone args a files done → IsDone args b files done
 done_later later all_done = all_done
-done_later later (stopped n task shows is) = stopped n task shows (later is)
+done_later later (stopped n shows is) = stopped n shows (later is)
 
 -- If the output hasn't failed, all files were processed.
 pub all_unfailed : {args : Arguments} {failed : Bool} {files done : List Found} →
     IsDone args failed files done → failed ≡ false → done ≡ files
 all_unfailed all_done off = refl
-all_unfailed (stopped n task shows is) off = absurd cc
-
--- If a run only shows what would change, all files were processed.
-pub all_shown : {args : Arguments} {failed : Bool} {files done : List Found} →
-    IsDone args failed files done → args.task ≡ Diff → done ≡ files
-all_shown all_done diff = refl
-all_shown (stopped n task shows is) diff = absurd cc
+all_unfailed (stopped n shows is) off = absurd cc
 
 -- The first ones of some files are in their order.
 first_before : (n : ℕ) (files : List Found) → AllPairs IsBefore files →
@@ -47,4 +40,4 @@ first_before n files h i j d below within =
 pub done_before : {args : Arguments} {failed : Bool} {files done : List Found} →
     IsDone args failed files done → AllPairs IsBefore files → AllPairs IsBefore done
 done_before all_done h = h
-done_before {files = files} (stopped n task shows is) h = first_before n files h
+done_before {files = files} (stopped n shows is) h = first_before n files h

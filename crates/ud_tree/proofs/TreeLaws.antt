@@ -20,10 +20,10 @@ use Rattle.ud_tree.specs.declared.walk.Found.{Found}
 use Rattle.ud_tree.specs.Changes.{ReplacesShowing}
 use Rattle.ud_tree.specs.Runs.{ReadsOne, reads, FileResult, Unshown, ReplacesOne, replaces, no_name, EachFile, no_file, then_file, names_of}
 use Rattle.ud_tree.specs.Shown.{ShowsOne, ListsOne}
-use Rattle.ud_tree.specs.TreeRuns.{DoesBy, DoesOne, IsRun, Run}
+use Rattle.ud_tree.specs.TreeRuns.{DoesBy, IsRun, Run}
 use Rattle.ud_tree.specs.TreeDiffs.{ShowsAs, ShowsDiffs, no_diff, diffs}
 use Rattle.ud_tree.specs.Walks.{IsBefore}
-use Rattle.ud_tree.proofs.DoneLemmas.{all_shown, done_before}
+use Rattle.ud_tree.proofs.DoneLemmas.{done_before}
 use Rattle.ud_tree.specs.TreeMoments.{TouchesNothing, TouchesFreshOrNone, OldOrOutput}
 
 -- A fact about each call of two parts holds of each call of both.
@@ -261,7 +261,6 @@ pub run_shows : (o : TextOptions) (run : Run) → IsPlanned run.args.plan o →
 run_shows o run p diff (inl h) = no_diff (record { calls = h.walk.calls; are = h.walk.are }) h.unshown
 run_shows o run p diff (inr h) = let all = h.ends.does in
     let shows = h.ends.shows in
-    let each = subst (λ (fs : List Found). EachFile (DoesOne run.args) h.mid (names_of fs) run.new all.results) (all_shown all.is_done diff) all.each in
-    diffs h.mid h.files all.results shows.listed h.is_walk
-    (each_shows p (subst (λ (t : Task). EachFile (DoesBy t run.args) h.mid (names_of h.files) run.new all.results) diff each))
+    diffs h.mid h.files all.done all.results shows.listed h.is_walk all.is_done
+    (each_shows p (subst (λ (t : Task). EachFile (DoesBy t run.args) h.mid (names_of all.done) run.new all.results) diff all.each))
     shows.shown_is (shows.is_wanted (λ names. absurd cc))

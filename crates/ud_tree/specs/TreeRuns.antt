@@ -5,6 +5,7 @@
 --   WritesBy task args name before after update edits   a file was processed by the task
 --   DoesFile job name before after update edits lists lists'   what is asked for is done
 --   DoesJob job files before after counts lists lists'   the same with each file
+--   shows_changes args                      changes are shown, made or not
 --   IsDone args failed files done           which files are processed before a run ends
 --   DoesFiles job files before after counts lists lists'   the same for those
 --   Ending, Tally                           how a run ends, and the numbers of its last lines
@@ -94,11 +95,22 @@ DoesJob job files before after counts lists lists' =
     WritesAll job.arguments.now (DoesOne job.arguments.now) before (names_of files) after counts
     lists lists'
 
+-- `shows_by task shows`: diffs are printed by a run with this task, where `shows` says whether one
+-- that replaces files prints them.
+abbrev shows_by : Task → Bool → Bool
+shows_by Replace shows = shows
+shows_by Diff shows = true
+shows_by Names shows = false
+
+-- `shows_changes args`: diffs are printed, of what a run changes or of what it would change.
+abbrev pub shows_changes : Arguments → Bool
+shows_changes args = shows_by args.task args.show_changes
+
 -- `IsDone args failed files done`: `done` is `files`; or only the first of them, if changes are to
 -- be shown and the output has failed.
 pub data IsDone (args : Arguments) (failed : Bool) (files : List Found) : List Found → Type 0 where
   all_done : IsDone args failed files files
-  stopped : (count : ℕ) → args.task ≡ Replace → args.show_changes ≡ true → failed ≡ true →
+  stopped : (count : ℕ) → shows_changes args ≡ true → failed ≡ true →
       IsDone args failed files (take count files)
 
 -- `DoesFiles job files before after counts lists lists'`: `DoesJob` of the files that are

@@ -3,7 +3,7 @@
 ghost use Rattle.std.specs.Prelude.{◌≡◌, true, false};
 ghost use Rattle.ud_tree.specs.Fates.{no_edits};
 ghost use Rattle.ud_tree.specs.Reports.{KeepsScreen};
-ghost use Rattle.ud_tree.specs.TreeRuns.{DoesFile, DoesFiles};
+ghost use Rattle.ud_tree.specs.TreeRuns.{DoesFile, DoesFiles, shows_changes};
 ghost use Rattle.ud_tree.specs.Writing.{stage};
 
 use crate::arguments::{Arguments, Task};
@@ -25,7 +25,7 @@ use ud_replace::{ReplaceError, Update};
 /// counts of the files.
 ///
 /// If changes are to be shown, no file is processed once the output has failed: nothing would show
-/// how to undo its change.
+/// its change, or how to undo it.
 pub(crate) fn process_files<T: Tree, W: Write, E: Write>(
     job: &Job<'_>,
     tree: &mut T,
@@ -57,14 +57,15 @@ pub(crate) fn process_files<T: Tree, W: Write, E: Write>(
 
 /// Returns whether changes should be shown but no longer can be.
 fn is_unrecorded<W: Write>(arguments: &Arguments, out: &Watched<W>) -> bool
-    ensures yes { result ≡ true → (arguments.now.task ≡ Task.Replace) ×
-        (arguments.now.show_changes ≡ true) × (out.now.failed ≡ true) }
+    ensures yes { result ≡ true →
+        (shows_changes arguments.now ≡ true) × (out.now.failed ≡ true) }
     ensures no { result ≡ false → arguments.now.task ≡ Task.Replace →
         arguments.now.show_changes ≡ true → out.now.failed ≡ false }
 {
     match arguments.task {
         Task::Replace => arguments.show_changes && out.failed(),
-        Task::Diff | Task::Names => false,
+        Task::Diff => out.failed(),
+        Task::Names => false,
     }
 }
 

@@ -22,7 +22,7 @@ loop-done-preserved g c = record {
 pub returns-then-is_unrecorded : goal.returns-then-is_unrecorded
 returns-then-is_unrecorded g c = record {
   done = take c.loop-done.done c.args.files.now;
-  is_done = let it = c.is_unrecorded.ensures.yes c.if-is_unrecorded.true in stopped c.loop-done.done it.0 it.1 it.2;
+  is_done = let it = c.is_unrecorded.ensures.yes c.if-is_unrecorded.true in stopped c.loop-done.done it.0 it.1;
   does = c.loop-done.invariant.written;
 }
 
