@@ -285,6 +285,38 @@ unifdef-tree: 4 lines removed'
   check '-n: a full output: the next file' same "$(grep -c '/b.c"' "$work/calls")" 0
 }
 
+# Tests that only the user's rights excuse an owner or a group that isn't set, and that a mode that a
+# file has already isn't set.
+gives_or_tells() {
+  local error
+  small_tree
+  chmod 600 src/a.c
+  strace -f -o "$work/calls" -e trace=fchmod "$TREE" -DA src/a.c > /dev/null 2>&1
+  check 'a mode that the file has: status' same "$?" 1
+  check 'a mode that the file has: no call' same "$(grep -c 'fchmod(' "$work/calls")" 0
+  [ "$(id -u)" -eq 0 ] || return 0
+  for error in EDQUOT EIO EROFS; do
+    small_tree
+    chown 65534:65534 src/a.c
+    strace -f -o /dev/null -e trace=fchown -e inject=fchown:error="$error" "$TREE" -DA src/a.c \
+      > /dev/null 2> "$work/err"
+    check "fchown $error: status" same "$?" 2
+    check "fchown $error: message" grep -q '^unifdef-tree: src/a.c: Cannot be written: ' "$work/err"
+    check "fchown $error: the file" holds src/a.c "$text"
+    check "fchown $error: its owner" same "$(stat -c %u src/a.c)" 65534
+    check "fchown $error: nothing left over" no_rest
+  done
+  for error in EPERM EINVAL EOPNOTSUPP ENOSYS; do
+    small_tree
+    chown 65534:65534 src/a.c
+    chmod 4755 src/a.c
+    strace -f -o /dev/null -e trace=fchown -e inject=fchown:error="$error" "$TREE" -DA src/a.c \
+      > /dev/null 2> "$work/err"
+    check "fchown $error: status" same "$?" 1
+    check "fchown $error: mode and owner" same "$(stat -c '%a %u' src/a.c)" '755 0'
+  done
+}
+
 # Tests each call that a run makes, failing in turn from the first one about the tree on: each file
 # is old or new, and the status is 2 unless both files are new.
 fails_in_turn() {
@@ -721,6 +753,7 @@ safety() {
     syncs
     syncs_diffs
     stops_showing
+    gives_or_tells
     fails_in_turn
   fi
 }

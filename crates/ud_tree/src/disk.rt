@@ -288,18 +288,39 @@ fn write_some<W: Write>(file: &mut Option<W>, bytes: &[u8]) -> io::Result<usize>
 /// Gives an open file the owner and group of another one, or only the group, as the user may. Then
 /// gives it that one's mode, but no other rights if the owner or the group differs. No name is
 /// used, since another program may have put another file there.
+///
+/// # Errors
+/// Fails if the owner, the group or the mode can't be set for another reason than that the user may
+/// not. A mode that the file has already isn't set: some file systems refuse that.
 fn set_mode_and_owner<F: OpenFile + AsFd + Drop>(file: &F, like: &FileStat) -> io::Result<()> {
     let own = file.metadata()?;
     if own.uid() != like.owner || own.gid() != like.group {
         let both = fchown(file, Some(like.owner), Some(like.group));
-        if both.is_err() {
-            let _ = fchown(file, None, Some(like.group));
+        if !was_set(both)? {
+            was_set(fchown(file, None, Some(like.group)))?;
         }
     }
     let now = file.metadata()?;
     let same = now.uid() == like.owner && now.gid() == like.group;
     let mode = if same { like.mode } else { like.mode & ACCESS };
     file.set_permissions(Permissions::from_mode(mode))
+}
+
+/// Returns whether an owner or a group was set: false if the user may not set it, if the user's
+/// namespace doesn't have it, or if the file system has none.
+///
+/// # Errors
+/// Fails if it couldn't be set for another reason, as a full quota.
+fn was_set(answer: io::Result<()>) -> io::Result<bool> {
+    match answer {
+        Ok(()) => Ok(true),
+        Err(error) => match error.kind() {
+            ErrorKind::PermissionDenied | ErrorKind::InvalidInput | ErrorKind::Unsupported => {
+                Ok(false)
+            }
+            _ => Err(error),
+        },
+    }
 }
 
 /// Writes `text` over the bytes of a file, and cuts off the rest.
