@@ -48,11 +48,15 @@ gives_to_open_file() {
   small_tree
   run_paused fchmod 1 put_link
   check 'a link in the place of the new file: status' same "$status" 2
-  check 'a link in its place: message' grep -q '^unifdef-tree: src/a.c: Cannot be replaced' "$work/err"
+  check 'a link in its place: message' has_line "$work/err" 'unifdef-tree: src/a.c: Changed meanwhile'
   check 'a link in its place: the file' holds src/a.c "$text"
   check 'a link in its place: what it leads to' same \
     "$(stat -c %a "$work/victim") $(cat "$work/victim")" '600 mine'
   check 'a link in its place: it stays' same "$(readlink src/.unifdef-tree.a.c)" "$work/victim"
+  small_tree
+  run_paused fchmod 1 rm src/.unifdef-tree.a.c
+  check 'the new file is gone: message' has_line "$work/err" 'unifdef-tree: src/a.c: Changed meanwhile'
+  check 'the new file is gone: the file' holds src/a.c "$text"
 }
 
 put_link() {

@@ -11,7 +11,7 @@
 --   TellsIf message faulty old new   a message was written, or nothing
 --
 -- `old` and `new` are the report before and after.
-use Rattle.std.specs.Prelude.{◌≡◌, ℕ, List, [], ◌∷◌, ◌++◌, Bool, Result}
+use Rattle.std.specs.Prelude.{◌≡◌, ◌⊎◌, ℕ, List, [], ◌∷◌, ◌++◌, Bool, Result}
 use Rattle.std.specs.Prelude.{Ok, Err, codes, if◌then◌else◌}
 use Rattle.unifdef.specs.RunMessages.{fault_message}
 use Rattle.ud_faults.specs.declared.run.RunFault.{RunFault}
@@ -50,7 +50,8 @@ pub data IsTextMessage (name : List ℕ) (f : RunFault) (message : List ℕ) : T
   is_raw : message ≡ fault_message name f → IsTextMessage name f message
 
 -- `IsMessageOf name e message`: `message` is the message of the error `e` of the file `name`. A
--- fault of its text has unifdef's message.
+-- fault of its text has unifdef's message. If the new file wasn't renamed, the message says how to
+-- write into the file, or that another program has changed something meanwhile.
 abbrev pub IsMessageOf : List ℕ → ReplaceError → List ℕ → Type 0
 IsMessageOf name (Text f) message = IsTextMessage name f message
 IsMessageOf name Read message = IsFailureOf name (codes "Cannot be read") message
@@ -64,7 +65,8 @@ IsMessageOf name ChangedMeanwhile message = message ≡ fault_line name (codes "
 IsMessageOf name Locked message = message ≡ locked_line name
 IsMessageOf name Write message = IsFailureOf name (codes "Cannot be written") message
 IsMessageOf name NotRenamed message =
-    IsFailureOf name (codes "Cannot be replaced; -w writes into it") message
+    IsFailureOf name (codes "Cannot be replaced; -w writes into it") message ⊎
+    (message ≡ fault_line name (codes "Changed meanwhile"))
 IsMessageOf name HalfWritten message = IsFailureOf name (codes "Half written") message
 
 -- `IsTold name update told`: `told` is the message of the error of the file `name`, or empty if it

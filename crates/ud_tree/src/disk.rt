@@ -488,10 +488,10 @@ fn check_path<R: Files>(files: &R, open: &Option<R::File>, path: &str) -> io::Re
     let Some(file) = open else {
         return Err(io::Error::from(ErrorKind::NotFound));
     };
-    if same_file(&file.metadata()?, &files.symlink_metadata(path)?) {
-        Ok(())
-    } else {
-        Err(other_file())
+    match files.symlink_metadata(path) {
+        Ok(found) if same_file(&file.metadata()?, &found) => Ok(()),
+        Err(error) if error.kind() != ErrorKind::NotFound => Err(error),
+        _ => Err(other_file()),
     }
 }
 

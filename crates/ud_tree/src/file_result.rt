@@ -6,10 +6,11 @@ ghost use Rattle.ud_tree.specs.Fates.{fate_of};
 ghost use Rattle.ud_tree.specs.Reports.{TellsOf};
 
 use crate::counts::Fate;
+use crate::folders::is_other_file;
 use crate::job::Job;
 use crate::report::Report;
 use crate::tree::Tree;
-use std::io::Write;
+use std::io::{self, Write};
 use ud_replace::{ReplaceError, Update};
 
 /// Returns the fate of a file.
@@ -61,14 +62,19 @@ impl<E: Write> Report<E> {
             ),
             ReplaceError::ChangedMeanwhile => self.fault(path, b"Changed meanwhile"),
             ReplaceError::Locked => self.locked(path),
-            ReplaceError::NotRenamed => {
-                self.failure(
-                    path,
-                    b"Cannot be replaced; -w writes into it",
-                    tree.reason(),
-                );
-            }
+            ReplaceError::NotRenamed => self.not_renamed(path, tree.reason()),
             ReplaceError::HalfWritten => self.failure(path, b"Half written", tree.reason()),
+        }
+    }
+
+    /// Writes that the new file wasn't renamed. Writing into the old one is no way if another
+    /// program has taken away the new one.
+    fn not_renamed(&mut self, path: &[u8], reason: Option<io::Error>)
+        ensures { TellsOf (IsMessageOf path.now ReplaceError.NotRenamed) self.old self.new }
+    {
+        match reason {
+            Some(error) if is_other_file(error) => self.fault(path, b"Changed meanwhile"),
+            _ => self.failure(path, b"Cannot be replaced; -w writes into it", reason),
         }
     }
 }

@@ -172,6 +172,12 @@ pub(crate) fn other_file() -> io::Error {
     io::Error::new(ErrorKind::ResourceBusy, "changed meanwhile")
 }
 
+/// Returns whether an error is that of `other_file`. The system calls a file busy, too, if it is
+/// mounted by itself.
+pub(crate) fn is_other_file(error: io::Error) -> bool {
+    error.kind() == ErrorKind::ResourceBusy && error.raw_os_error().is_none()
+}
+
 /// Returns the identity of an open file.
 fn id_of<F: OpenFile>(open: &F) -> io::Result<FileId> {
     Ok(file_id(&open.metadata()?))

@@ -17,4 +17,4 @@ pub returns-in-HalfWritten : goal.returns-in-HalfWritten
 returns-in-HalfWritten g c = error_is c.args.path.now HalfWritten c.in-HalfWritten.is (reports_tells c.failure-in-HalfWritten.ensures)
 
 pub returns-in-NotRenamed : goal.returns-in-NotRenamed
-returns-in-NotRenamed g c = error_is c.args.path.now NotRenamed c.in-NotRenamed.is (reports_tells c.failure-in-NotRenamed.ensures)
+returns-in-NotRenamed g c = error_is c.args.path.now NotRenamed c.in-NotRenamed.is c.not_renamed.ensures
