@@ -4,7 +4,7 @@
 #
 # tree.sh [PROGRAM [UNIFDEF]]: ./unifdef-tree and ./unifdef by default.
 set -u -o pipefail
-export LC_ALL=C
+export LC_ALL=C TERM=xterm
 here=$(cd "$(dirname "$0")" && pwd)
 TREE=$(realpath "${1:-$here/../unifdef-tree}")
 UNIFDEF=$(realpath "${2:-$here/../unifdef}")
@@ -279,6 +279,14 @@ refused_arguments() {
 0:-n -s src:-n and -s don't go together
 0:-d -s src:-d and -s don't go together
 0:-p -s src:-p and -s don't go together
+0:-s -w src:-w and -s don't go together
+0:-s -b src:-b and -s don't go together
+0:-s -c src:-c and -s don't go together
+0:-s -K src:-K and -s don't go together
+0:-s -k src:-k and -s don't go together
+0:-s -l src:-l and -s don't go together
+0:-s -DA src:Symbols and -s don't go together: it lists all names
+0:-s -iUA src:Symbols and -s don't go together: it lists all names
 0:-p -c src:-p and -c don't go together: the complement is no C
 0:-p -t src:-p and -t don't go together: plain text has no comments
 1::No path
@@ -287,7 +295,10 @@ EOT
   tree -D '' -UA src
   check 'refused: an empty argument' same "$status $(cat "$work/err")" '2 unifdef-tree: Bad symbol: -D'
   tree -DA $'src/\xff.c'
-  check 'refused: not UTF-8' same "$status $(cat "$work/err")" '2 unifdef-tree: Cannot take arguments'
+  check 'refused: not UTF-8' same "$status $(cat "$work/err")" \
+    "2 unifdef-tree: src/\\xff.c: Argument isn't UTF-8; name its folder"
+  tree -DA "$(repeat x 5000)"$'\xff.c'
+  check 'refused: not UTF-8, and long' same "$status $(cat "$work/err")" '2 unifdef-tree: Cannot take arguments'
   check 'refused: nothing is done' holds src/good.c "$text"
 }
 
@@ -316,6 +327,9 @@ refusals() {
   check 'refusals: its message' has_line "$work/err" "unifdef-tree: src/sealed/a.c: Its folder can't be written; -w writes into the file"
   check 'refusals: a closed folder' has_line "$work/err" 'unifdef-tree: src/closed/: Cannot be read: Permission denied'
   check 'refusals: an unreadable file' has_line "$work/err" 'unifdef-tree: src/unreadable.c: Cannot be read: Permission denied'
+  tree_as_user -DA src/closed
+  check 'refusals: a closed folder alone' same "$status $(cat "$work/err")" \
+    '2 unifdef-tree: src/closed/: Cannot be read: Permission denied'
   tree_as_user -w -DA src/sealed
   check 'refusals: -w into a sealed folder' holds src/sealed/a.c 'yes\n'
   chmod 755 src/sealed src/closed
@@ -916,6 +930,9 @@ counts() {
     script -qec "'$TREE' $i -DB src" /dev/null < /dev/null > "$work/out"
     check "counter: none under $i" same "$(grep -c -e 'of 100 files' -e $'\x1b' "$work/out")" 0
   done
+  TERM=dumb script -qec "'$TREE' -DB src" /dev/null < /dev/null | tr -d '\r' > "$work/out"
+  check 'counter: none on a dumb terminal' same "$(cat "$work/out")" \
+    'unifdef-tree: 0 changed, 100 unchanged, 0 faulty'
   tree -DA src
   check 'counter: nowhere else' same "$(cat "$work/err")" 'unifdef-tree: 0 changed, 100 unchanged, 0 faulty'
   tree -q -DA src
@@ -940,6 +957,8 @@ colours() {
   check 'colours: none with NO_COLOR' same "$(cat "$work/shown")" "$plain"
   NO_COLOR='' script -qec "'$TREE' -n -q -UA src" /dev/null < /dev/null > "$work/shown"
   check 'colours: an empty NO_COLOR counts as unset' grep -q "$esc" "$work/shown"
+  TERM=dumb script -qec "'$TREE' -n -q -UA src" /dev/null < /dev/null | tr -d '\r' > "$work/shown"
+  check 'colours: none on a dumb terminal' same "$(cat "$work/shown")" "$plain"
   check 'colours: none in a pipe' same "$(grep -c "$esc" "$work/out")" 0
 }
 

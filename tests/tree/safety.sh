@@ -699,6 +699,29 @@ undoes_elsewhere() {
   check '-d: a path above: patch -R -d .. -p1' holds src/folder/b.c "$text"
 }
 
+# Tests files whose directives a run wouldn't find: in UTF-16, or on a first line after a byte order
+# mark.
+marks() {
+  local name
+  fresh_tree
+  printf '\377\376#\0i\0f\0d\0e\0f\0 \0A\0\n\0' > src/little.h
+  printf '\376\377\0#\0i\0f\0 \0A\0\n' > src/big.h
+  put src/first.h '\xef\xbb\xbf # ifdef A\nyes\n#endif\n'
+  put src/later.h '\xef\xbb\xbf#pragma once\n#ifdef A\nyes\n#endif\n'
+  put src/empty.h '\xef\xbb\xbf'
+  cp -r src was
+  tree -DA src
+  check 'marks: messages' same "$status $(cat "$work/err")" '2 unifdef-tree: src/big.h: Cannot be read: text in UTF-16
+unifdef-tree: src/first.h: Cannot be read: byte order mark before #if
+unifdef-tree: src/little.h: Cannot be read: text in UTF-16
+unifdef-tree: 1 changed, 1 unchanged, 3 faulty
+unifdef-tree: 2 lines removed'
+  check 'marks: a directive on a later line' holds src/later.h '\xef\xbb\xbf#pragma once\nyes\n'
+  for name in big.h first.h little.h; do
+    check "marks: $name" cmp "src/$name" "was/$name"
+  done
+}
+
 # Tests that no file of the tree is opened in the place of a closed stream, into which messages or
 # diffs would then be written.
 closed_streams() {
@@ -734,6 +757,7 @@ closed_streams() {
 
 safety() {
   closed_streams
+  marks
   locks
   inputs
   long_lines

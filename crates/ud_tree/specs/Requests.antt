@@ -1,6 +1,7 @@
 -- Requests: what a command line asks for (unifdef-tree(1)).
 --
 --   task_of gs              the task
+--   HasNoChange gs          no flag says how files are changed
 --   AreFitting gs           the options are compatible
 --   IsArgumentsOf gs args   the arguments of a run
 --   IsRequestOf gs r        the request
@@ -8,7 +9,7 @@
 --
 -- `gs` is what the words of the command line give, one option or path after another.
 use Rattle.std.specs.Prelude.{◌≡◌, ◌⊎◌, ℕ, List, [], true, false, Some, None, map, string_bytes}
-use Rattle.std.specs.Prelude.{codes, if◌then◌else◌, not, ◌&&◌}
+use Rattle.std.specs.Prelude.{codes, if◌then◌else◌, not, ◌&&◌, ◌∷◌}
 use Rattle.ud_model.specs.answer.CommandLine.{UsageFault, unknown_option, missing_argument}
 use Rattle.ud_model.specs.answer.CommandLine.{bad_symbol_in, bad_mode_in, too_many_files}
 use Rattle.ud_model.specs.answer.CommandLine as args
@@ -25,9 +26,7 @@ use Rattle.ud_tree.specs.declared.arguments.ArgumentFault.{ArgumentFault}
 use Rattle.ud_tree.specs.declared.arguments.ArgumentFault.TheVariants.{UnknownOption}
 use Rattle.ud_tree.specs.declared.arguments.ArgumentFault.TheVariants.{MissingArgument, BadSymbol}
 use Rattle.ud_tree.specs.declared.arguments.ArgumentFault.TheVariants.{BadMode}
-use Rattle.ud_tree.specs.declared.arguments.ArgumentFault.TheVariants.{DiffAndNames}
-use Rattle.ud_tree.specs.declared.arguments.ArgumentFault.TheVariants.{ChangesAndNames}
-use Rattle.ud_tree.specs.declared.arguments.ArgumentFault.TheVariants.{PruningAndNames}
+use Rattle.ud_tree.specs.declared.arguments.ArgumentFault.TheVariants.{BesideNames, SymbolsAndNames}
 use Rattle.ud_tree.specs.declared.arguments.ArgumentFault.TheVariants.{PruningAndComplement}
 use Rattle.ud_tree.specs.declared.arguments.ArgumentFault.TheVariants.{PruningAndPlain}
 use Rattle.ud_tree.specs.declared.arguments.ArgumentFault.TheVariants.{OptionAfterPath, NoPath}
@@ -38,12 +37,23 @@ abbrev pub task_of : List Parsed → Task
 task_of gs = if has_flag (codes "n") gs then Diff
     else if has_flag (codes "s") gs then Names else Replace
 
--- `AreFitting gs`: the options are compatible: `-s` with none of `-n`, `-d` and `-p`, and `-p` with
--- neither `-c` nor `-t`.
+-- `HasNoChange gs`: no flag is given that says how files are changed, or how that is shown.
+pub record HasNoChange (gs : List Parsed) : Type 0 where
+  pub diff : has_flag (codes "n") gs ≡ false
+  pub changes : has_flag (codes "d") gs ≡ false
+  pub pruning : has_flag (codes "p") gs ≡ false
+  pub into : has_flag (codes "w") gs ≡ false
+  pub blank : has_flag (codes "b") gs ≡ false
+  pub complement : has_flag (codes "c") gs ≡ false
+  pub strict : has_flag (codes "K") gs ≡ false
+  pub constants : has_flag (codes "k") gs ≡ false
+  pub renumber : has_flag (codes "l") gs ≡ false
+
+-- `AreFitting gs`: the options are compatible: `-s` with none that says how files are changed, nor
+-- with one that names a symbol, and `-p` with neither `-c` nor `-t`.
 pub record AreFitting (gs : List Parsed) : Type 0 where
-  pub diff : has_flag (codes "s") gs ≡ true → has_flag (codes "n") gs ≡ false
-  pub changes : has_flag (codes "s") gs ≡ true → has_flag (codes "d") gs ≡ false
-  pub pruning : has_flag (codes "s") gs ≡ true → has_flag (codes "p") gs ≡ false
+  pub names : has_flag (codes "s") gs ≡ true → HasNoChange gs
+  pub symbols : has_flag (codes "s") gs ≡ true → has_symbols gs ≡ false
   pub complement : has_flag (codes "p") gs ≡ true → has_flag (codes "c") gs ≡ false
   pub plain : has_flag (codes "p") gs ≡ true → has_flag (codes "t") gs ≡ false
 
@@ -99,9 +109,8 @@ IsFaultIn gs (MissingArgument c) = (first_fault gs ≡ Some (lacking c)) ⊎
     HasUsage gs (missing_argument c)
 IsFaultIn gs (BadSymbol w) = IsBadWord bad_symbol_in gs (string_bytes w)
 IsFaultIn gs (BadMode w) = IsBadWord bad_mode_in gs (string_bytes w)
-IsFaultIn gs DiffAndNames = AreGiven (codes "n") (codes "s") gs
-IsFaultIn gs ChangesAndNames = AreGiven (codes "d") (codes "s") gs
-IsFaultIn gs PruningAndNames = AreGiven (codes "p") (codes "s") gs
+IsFaultIn gs (BesideNames c) = AreGiven (c ∷ []) (codes "s") gs
+IsFaultIn gs SymbolsAndNames = (has_symbols gs ≡ true) × (has_flag (codes "s") gs ≡ true)
 IsFaultIn gs PruningAndComplement = AreGiven (codes "p") (codes "c") gs
 IsFaultIn gs PruningAndPlain = AreGiven (codes "p") (codes "t") gs
 IsFaultIn gs (OptionAfterPath w) = (n : ℕ) × (first_fault gs ≡ Some (late n (string_bytes w)))

@@ -157,8 +157,8 @@ pub data TellsGiven (path : List ℕ) (node : Node) (old new : ReportState) : Ty
 
 -- `Stops from_input left messages told`: no file follows a walk with these messages. Memory ran
 -- out, and a line says so. Or paths come from the input, which has failed, and the one message says
--- so. Or a path of the command line has a fault, reported in the messages. Or no file below the
--- paths matches, and a line says so.
+-- so. Or a path of the command line, or one below it, has a fault, reported in the messages. Or no
+-- file below the paths matches, and a line says so.
 pub data Stops (from_input : Bool) (left : Source) (messages : List (List ℕ))
     (told : List ℕ) : Type 0 where
   no_memory : told ≡ line_of (codes "Out of memory") → Stops from_input left messages told

@@ -1,11 +1,12 @@
 //! The arguments of unifdef-tree(1), by POSIX XBD 12.2: options first, then paths.
 
 ghost use Rattle.std.specs.Prelude.{◌≡◌, None, IfOk, IfErr, IfSome, IfNone, map, string_bytes};
+ghost use Rattle.std.specs.Prelude.{◌∷◌, [], true};
 ghost use Rattle.ud_args.specs.ParsedArgs.{parsed};
 ghost use Rattle.ud_args.specs.ParsedSettings.{IsUsageOf};
-ghost use Rattle.ud_args.specs.TreeWords.{given_in, first_fault, unifdef_args};
+ghost use Rattle.ud_args.specs.TreeWords.{given_in, first_fault, has_flag, unifdef_args};
 ghost use Rattle.ud_tree.specs.Requests.{IsRequestOf, IsArgumentsOf, IsFaultIn};
-ghost use Rattle.ud_tree.specs.Requests.{AreFitting, task_of};
+ghost use Rattle.ud_tree.specs.Requests.{AreFitting, HasNoChange, task_of};
 
 use std::alloc::Global;
 use ud_args::{
@@ -85,12 +86,10 @@ pub enum ArgumentFault {
     BadSymbol(String),
     /// An argument of `-x` that is no exit mode.
     BadMode(String),
-    /// `-n` and `-s` together.
-    DiffAndNames,
-    /// `-d` and `-s` together.
-    ChangesAndNames,
-    /// `-p` and `-s` together.
-    PruningAndNames,
+    /// `-s` together with this flag, which it would ignore.
+    BesideNames(char),
+    /// `-s` together with an option that names a symbol.
+    SymbolsAndNames,
     /// `-p` and `-c` together.
     PruningAndComplement,
     /// `-p` and `-t` together.
@@ -176,18 +175,47 @@ fn clash(given: &[ParsedArg<'_>]) -> Option<ArgumentFault>
     ensures fault { IfSome result (IsFaultIn (parsed given.now)) }
     ensures fits { IfNone result (AreFitting (parsed given.now)) }
 {
-    let names = has_flag(given, 's');
+    if has_flag(given, 's') {
+        if let Some(letter) = beside_names(given) {
+            return Some(ArgumentFault::BesideNames(letter));
+        }
+        if has_symbols(given) {
+            return Some(ArgumentFault::SymbolsAndNames);
+        }
+    }
     let prunes = has_flag(given, 'p');
-    if names && has_flag(given, 'n') {
-        Some(ArgumentFault::DiffAndNames)
-    } else if names && has_flag(given, 'd') {
-        Some(ArgumentFault::ChangesAndNames)
-    } else if names && prunes {
-        Some(ArgumentFault::PruningAndNames)
-    } else if prunes && has_flag(given, 'c') {
+    if prunes && has_flag(given, 'c') {
         Some(ArgumentFault::PruningAndComplement)
     } else if prunes && has_flag(given, 't') {
         Some(ArgumentFault::PruningAndPlain)
+    } else {
+        None
+    }
+}
+
+/// Returns a flag that says how files are changed, if one is given.
+fn beside_names(given: &[ParsedArg<'_>]) -> Option<char>
+    ensures given { IfSome result (λ c. has_flag (c ∷ []) (parsed given.now) ≡ true) }
+    ensures fits { IfNone result (HasNoChange (parsed given.now)) }
+{
+    if has_flag(given, 'n') {
+        Some('n')
+    } else if has_flag(given, 'd') {
+        Some('d')
+    } else if has_flag(given, 'p') {
+        Some('p')
+    } else if has_flag(given, 'w') {
+        Some('w')
+    } else if has_flag(given, 'b') {
+        Some('b')
+    } else if has_flag(given, 'c') {
+        Some('c')
+    } else if has_flag(given, 'K') {
+        Some('K')
+    } else if has_flag(given, 'k') {
+        Some('k')
+    } else if has_flag(given, 'l') {
+        Some('l')
     } else {
         None
     }

@@ -147,9 +147,50 @@ fn read_file<R: Files>(files: &R, path: &str, text: &mut Vec<u8>) -> io::Result<
     Ok(stat)
 }
 
-/// Reads the rest of a file. Stops once a line over the limit is found: most such files aren't
-/// text, and may be larger than memory.
+/// Reads the rest of a file.
+///
+/// # Errors
+/// Fails also if the bytes aren't read as the text that they are.
 fn read_rest<F: Read>(file: &mut F, stat: &FileStat, text: &mut Vec<u8>) -> io::Result<()> {
+    read_bytes(file, stat, text)?;
+    check_marks(text.as_slice())
+}
+
+/// Checks that a text has no byte order mark of UTF-16, whose directives wouldn't be found, and none
+/// before a condition in its first line, which wouldn't be found.
+fn check_marks(text: &[u8]) -> io::Result<()> {
+    if text.starts_with(b"\xff\xfe") || text.starts_with(b"\xfe\xff") {
+        return Err(io::Error::new(ErrorKind::InvalidData, "text in UTF-16"));
+    }
+    match text.strip_prefix(b"\xef\xbb\xbf".as_slice()) {
+        Some(rest) if begins_section(rest) => Err(io::Error::new(
+            ErrorKind::InvalidData,
+            "byte order mark before #if",
+        )),
+        _ => Ok(()),
+    }
+}
+
+/// Returns whether a text begins with `#if`, `#ifdef` or `#ifndef`, perhaps with blanks beside `#`.
+fn begins_section(text: &[u8]) -> bool {
+    match after_blanks(text).strip_prefix(b"#".as_slice()) {
+        Some(rest) => after_blanks(rest).starts_with(b"if"),
+        None => false,
+    }
+}
+
+/// Returns a text without the spaces and tabs at its beginning.
+fn after_blanks(text: &[u8]) -> &[u8] {
+    let blanks = text
+        .iter()
+        .position(|byte| *byte != b' ' && *byte != b'\t')
+        .unwrap_or(text.len());
+    &text[blanks..]
+}
+
+/// Reads the bytes of the rest of a file. Stops once a line over the limit is found: most such files
+/// aren't text, and may be larger than memory.
+fn read_bytes<F: Read>(file: &mut F, stat: &FileStat, text: &mut Vec<u8>) -> io::Result<()> {
     // Beside the file's bytes there is room to see that it has ended, so it takes two reads.
     let expected = stat.version.size.min(BLOCK_BYTES) as usize;
     text.reserve_exact(expected + 1)?;
@@ -303,6 +344,9 @@ fn set_mode_and_owner<F: OpenFile + AsFd + Drop>(file: &F, like: &FileStat) -> i
     let now = file.metadata()?;
     let same = now.uid() == like.owner && now.gid() == like.group;
     let mode = if same { like.mode } else { like.mode & ACCESS };
+    if now.mode() & MODE == mode {
+        return Ok(());
+    }
     file.set_permissions(Permissions::from_mode(mode))
 }
 

@@ -19,7 +19,7 @@ use ud_engine::Watched;
 const INPUT_BYTES: usize = 8_192;
 
 /// Returns the files of the run; `None` if the input can't be read, if a path of the command line
-/// has a fault, or if no file matches.
+/// has a fault, or if no file matches. That has a message, unless the walk has one.
 pub(crate) fn find_files<T: Tree, R: Read, E: Write>(
     job: &Job<'_>,
     tree: &mut T,
@@ -39,6 +39,9 @@ pub(crate) fn find_files<T: Tree, R: Read, E: Write>(
     }
     let files = walk.finish()?;
     if files.is_empty() && !job.arguments.from_input {
+        if 0 < report.faulty() {
+            return Ok(None);
+        }
         report.line(&[b"No file matches"]);
         return Ok(None);
     }

@@ -38,7 +38,7 @@ pub use help::print_help;
 pub use job::Job;
 pub use laws::{law_run_old_or_new, law_run_reads, law_run_renames, law_run_shows, law_run_status};
 pub use lock::Lock;
-pub use report::{report_argument_fault, report_line};
+pub use report::{report_argument_fault, report_bad_argument, report_line};
 pub use run::run_tree;
 pub use tree::Tree;
 pub use ud_replace::{FileId, Lookup, Node, NodeKind};

@@ -19,7 +19,7 @@ ghost use Rattle.ud_tree.specs.WalkMessages.{IsRefusal};
 
 use crate::arguments::{ArgumentFault, Arguments};
 use crate::job::Job;
-use crate::paths::{FRESH, folder, fresh_end};
+use crate::paths::{FRESH, escaped, folder, fresh_end};
 use crate::send::{send_visible, send_visible_parts};
 use itoa::Buffer;
 use std::alloc::{AllocError, Global};
@@ -378,6 +378,18 @@ impl<E: Write> Report<E> {
     }
 }
 
+/// Writes that an argument isn't UTF-8. Files with such names are found in their folders, each with a
+/// fault of its own.
+pub fn report_bad_argument<E: Write>(alloc: Global, err: &mut Watched<E>, argument: &[u8]) {
+    match escaped(alloc, argument) {
+        Ok(shown) => {
+            let shown = shown.as_slice();
+            report_line(alloc, err, &[shown, b": Argument isn't UTF-8; name its folder"]);
+        }
+        Err(_) => report_line(alloc, err, &[b"Out of memory"]),
+    }
+}
+
 /// The usage of the program.
 pub(crate) const USAGE: &[u8] =
     b"usage: unifdef-tree [-dnpqrw0] [-g pattern]... [-bcKklt] [-Dsym[=val]]... [-Usym]...\n                    [-iDsym[=val]]... [-iUsym]... [-xmode] [--] path...\n       unifdef-tree -s [-qr0] [-g pattern]... [-t] [--] path...\n       unifdef-tree -h | -V\n";
@@ -406,13 +418,14 @@ pub fn report_argument_fault<E: Write>(alloc: Global, err: &mut Watched<E>, faul
             let mode = word.strip_prefix(b"-x".as_slice()).unwrap_or(word);
             report_line(alloc, err, &[b"Bad exit mode: ", mode]);
         }
-        ArgumentFault::DiffAndNames => report_line(alloc, err, &[b"-n and -s don't go together"]),
-        ArgumentFault::ChangesAndNames => {
-            report_line(alloc, err, &[b"-d and -s don't go together"]);
+        ArgumentFault::BesideNames(letter) => {
+            report_letter(alloc, err, b"-", *letter, b" and -s don't go together");
         }
-        ArgumentFault::PruningAndNames => {
-            report_line(alloc, err, &[b"-p and -s don't go together"]);
-        }
+        ArgumentFault::SymbolsAndNames => report_line(
+            alloc,
+            err,
+            &[b"Symbols and -s don't go together: it lists all names"],
+        ),
         ArgumentFault::PruningAndComplement => report_line(
             alloc,
             err,

@@ -10,7 +10,7 @@ mod synced;
 use crate::painter::Painter;
 use crate::synced::Synced;
 use std::alloc::AllocError;
-use std::env::VarError;
+use std::env::{Env, FillError, VarError};
 use std::fs::{self, File};
 use std::io::{IsTerminal, Write};
 use std::os::fd::{AsFd, AsRawFd};
@@ -19,7 +19,7 @@ use std::{env, io};
 use ud_io::Watched;
 use ud_tree::{
     Arguments, Disk, EXIT_TROUBLE, Job, Request, Task, parse_arguments, print_help,
-    report_argument_fault, report_line, run_tree,
+    report_argument_fault, report_bad_argument, report_line, run_tree,
 };
 
 /// The version that `-V` prints.
@@ -27,6 +27,9 @@ const VERSION: &str = "unifdef-tree 1.0";
 
 /// The number of the last standard stream.
 const STDERR: i32 = 2;
+
+/// The most bytes of an argument that a message shows.
+const ARGUMENT_BYTES: usize = 4096;
 
 /// The path of standard output.
 const STDOUT: &str = "/proc/self/fd/1";
@@ -37,7 +40,10 @@ const WITHOUT_PROC: &[u8] = b"Without /proc, folders were found by their paths";
 fn main(rt: HostRuntime) -> ExitCode {
     let Ok(args) = args(&rt) else {
         let mut err = Watched::new(rt.stderr());
-        report_line(rt.alloc(), &mut err, &[b"Cannot take arguments"]);
+        match bad_argument(&rt) {
+            Ok(word) => report_bad_argument(rt.alloc(), &mut err, word.as_slice()),
+            Err(_) => report_line(rt.alloc(), &mut err, &[b"Cannot take arguments"]),
+        }
         return ExitCode::from(EXIT_TROUBLE);
     };
     match parse_arguments(rt.alloc(), args.as_slice()) {
@@ -107,7 +113,7 @@ fn run_to<W: Write + Drop>(rt: &HostRuntime, arguments: &Arguments, stdout: W) -
     let job = Job {
         alloc: rt.alloc(),
         arguments,
-        is_terminal: stderr.is_terminal() && allows_counter(arguments),
+        is_terminal: stderr.is_terminal() && allows_counter(arguments) && !is_dumb(rt),
     };
     let mut disk = Disk::new(rt, rt.alloc());
     let mut input = Watched::new(rt.stdin());
@@ -130,15 +136,24 @@ fn allows_counter(arguments: &Arguments) -> bool {
     replaces && !arguments.quiet && !arguments.list_remaining && !arguments.show_changes
 }
 
-/// Returns whether a terminal may show colours: changes are shown, and `NO_COLOR` is unset or
-/// empty.
+/// Returns whether a terminal may show colours: changes are shown, the terminal isn't a dumb one, and
+/// `NO_COLOR` is unset or empty.
 fn allows_colours(rt: &HostRuntime, arguments: &Arguments) -> bool {
     match arguments.task {
+        Task::Diff if is_dumb(rt) => false,
         Task::Diff => match env::var(rt, "NO_COLOR") {
             Ok(value) => value.is_empty(),
             Err(error) => matches!(error, VarError::NotPresent),
         },
         Task::Replace | Task::Names => false,
+    }
+}
+
+/// Returns whether the terminal can neither colour a line nor remove it, by its kind.
+fn is_dumb(rt: &HostRuntime) -> bool {
+    match env::var(rt, "TERM") {
+        Ok(kind) => kind.as_str() == "dumb",
+        Err(_) => false,
     }
 }
 
@@ -149,4 +164,24 @@ fn args(rt: &HostRuntime) -> io::Result<Vec<String>> {
         args.push(word).map_err(AllocError::from)?;
     }
     Ok(args)
+}
+
+/// Returns the first argument that isn't UTF-8.
+///
+/// # Errors
+/// Fails if there is none, if it has more bytes than are looked at, or if memory runs out.
+fn bad_argument(rt: &HostRuntime) -> Result<Vec<u8>, AllocError> {
+    let mut word = [0u8; ARGUMENT_BYTES];
+    for number in 1..usize::MAX {
+        match rt.arg(number, &mut word) {
+            Ok(len) if str::from_utf8(&word[..len]).is_err() => {
+                let mut owned = Vec::new(rt.alloc());
+                owned.extend_from_slice(&word[..len])?;
+                return Ok(owned);
+            }
+            Err(FillError::NotPresent) => return Err(AllocError),
+            Ok(_) | Err(FillError::TooLong) => {}
+        }
+    }
+    Err(AllocError)
 }

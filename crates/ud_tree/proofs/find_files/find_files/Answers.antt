@@ -1,13 +1,19 @@
-use Rattle.std.proofs.Common.{refl, sym, ◌<◌, length}
+use Rattle.std.proofs.Common.{ℕ, refl, sym, subst, ◌<◌, length}
 use Rattle.ud_tree.specs.WalkMessages.{no_match}
 use Rattle.ud_tree.proofs.WalkLemmas.{walk_found}
 use Rattle.ud_tree.proofs.CoverLemmas.{paths_kept}
-use Rattle.ud_tree.proofs.WalkTellLemmas.{stops_told, some_files, some_unless, some_told}
+use Rattle.ud_tree.proofs.WalkTellLemmas.{stops_told, stops_bad, some_files, some_unless, some_told}
 use Rattle.ud_tree.proofs.find_files.find_files.Goals.{else-is_empty-via-then-is_empty+else-not-job, else-is_empty-via-else-is_empty}
 use Rattle.ud_tree.proofs.find_files.find_files.Goals as goal
 
 pub returns-then-not-all-clause-ends : goal.returns-then-not-all-clause-ends
 returns-then-not-all-clause-ends g c = λ none. record { files = tt; stops = c.in_ok-all.ensures.walks.stops c.if-not-all.true none }
+
+pub returns-then-faulty-gt0-clause-ends : goal.returns-then-faulty-gt0-clause-ends
+returns-then-faulty-gt0-clause-ends g c = λ none. record {
+  files = tt;
+  stops = stops_bad _ none c.if-not-job.true (subst (λ (n : ℕ). 0 < n) c.faulty.ensures c.if-faulty-gt0.true) c.walk_all.ensures.goes_on.told;
+}
 
 pub returns-then-not-job-clause-ends : goal.returns-then-not-job-clause-ends
 returns-then-not-job-clause-ends g c = λ none. record { files = tt; stops = stops_told (λ ms. no_match c.if-not-job.true refl) c.walk_all.ensures.goes_on.told c.line.ensures }
