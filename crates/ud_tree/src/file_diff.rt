@@ -3,11 +3,12 @@
 ghost use Rattle.std.specs.Prelude.{IfSome};
 ghost use Rattle.ud_diff.specs.Patching.{IsDiff};
 
-use crate::folded_marks::folded_marks;
+use crate::folded_marks::{first_line, folded_marks};
 use crate::job::Job;
 use crate::marked::Marked;
+use std::alloc::{AllocError, Global};
 use ud_args::Plan;
-use ud_diff::unified_diff;
+use ud_diff::{SAME, unified_diff};
 use ud_engine::{Engine, RunFault, Watched};
 use ud_sections::{Complement, Show};
 
@@ -30,16 +31,40 @@ pub(crate) fn marks_of(job: &Job<'_>, text: &[u8]) -> Option<Vec<u8>> {
     let plan = &job.arguments.plan.run;
     let settings = plan.settings();
     let printer = Marked::new(settings.blank);
-    let mut marks = Vec::new(job.alloc);
+    let mut marked = Vec::new(job.alloc);
     let printed = if settings.complement {
-        print_text(plan, Complement::new(printer), text, &mut marks)
+        print_text(plan, Complement::new(printer), text, &mut marked)
     } else {
-        print_text(plan, printer, text, &mut marks)
+        print_text(plan, printer, text, &mut marked)
     };
     if printed.is_err() {
         return None;
     }
-    Some(marks)
+    marks_in(job.alloc, text, marked.as_slice()).ok()
+}
+
+/// Returns the marks of the lines of a text, by what `Marked` printed for it.
+fn marks_in(alloc: Global, text: &[u8], marked: &[u8]) -> Result<Vec<u8>, AllocError> {
+    let mut marks = Vec::new(alloc);
+    let (mut rest, mut printed) = (text, marked);
+    for _byte in 0..marked.len() {
+        let Some((mark, after)) = printed.split_first() else {
+            break;
+        };
+        let (line, later) = first_line(rest);
+        rest = later;
+        match printed.strip_prefix(line) {
+            Some(after) => {
+                printed = after;
+                marks.push(SAME)?;
+            }
+            None => {
+                printed = after;
+                marks.push(*mark)?;
+            }
+        }
+    }
+    Ok(marks)
 }
 
 /// Appends the output of a printer for a text.

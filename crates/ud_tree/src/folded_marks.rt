@@ -17,7 +17,7 @@ const REMOVED: u8 = b'-';
 const VERTICAL_TAB: u8 = 11;
 
 /// Returns the first line of a text, and the rest.
-fn first_line(text: &[u8]) -> (&[u8], &[u8]) {
+pub(crate) fn first_line(text: &[u8]) -> (&[u8], &[u8]) {
     let line = line_in(text, 1);
     let used = line.body.len() + line.ending.len();
     text.split_at(used)

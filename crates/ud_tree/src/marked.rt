@@ -1,11 +1,16 @@
 //! A printer that shows what happened to each line.
 
+use ud_diff::EDITED;
 use ud_model::Verdict;
-use ud_sections::{Pieces, Show, Step};
+use ud_sections::{LineOutput, Pieces, Show, Step};
 use ud_text::Line;
 
-/// A printer that prints a mark instead of the output for each line, as `unified_diff` expects: `=`
-/// if the line is printed as it is, `-` if nothing is printed, and `~` for another line.
+/// The mark of a line that is removed.
+const REMOVED: u8 = 0;
+
+/// A printer that prints each line that stays as it is, and a mark in place of each other one:
+/// `EDITED` for a line that another one replaces, and `REMOVED` if nothing is printed. So many lines
+/// that stay are printed at once.
 #[derive(Drop)]
 pub(crate) struct Marked {
     /// True if removed lines are blanked.
@@ -32,18 +37,26 @@ impl Show for Marked {
 
     fn pieces<'a>(&'a mut self, line: &Line<'a>, step: Step) -> Pieces<'a> {
         let blank: &'a [u8] = if self.blank { line.ending } else { &[] };
-        let same = Pieces::for_line(line, step, blank).same();
+        let pieces = Pieces::for_line(line, step, blank);
+        if pieces.same() {
+            return pieces;
+        }
         let mark: &'a [u8] = if step.verdict.is_removed() && !self.blank {
-            b"-"
-        } else if same {
-            b"="
+            &[REMOVED]
         } else {
-            b"~"
+            &[EDITED]
         };
         let alone = Step {
             verdict: Verdict::Remove,
             keyword: step.keyword,
         };
         Pieces::for_line(line, alone, mark)
+    }
+
+    fn line_output(&self, verdict: Verdict) -> LineOutput {
+        match verdict {
+            Verdict::Keep => LineOutput::Whole,
+            _ => LineOutput::Parts,
+        }
     }
 }
