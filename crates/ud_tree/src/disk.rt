@@ -33,6 +33,9 @@ const MODE: u32 = 0o7777;
 /// file that is larger, or claims to be, takes more as it is read.
 const BLOCK_BYTES: u64 = 16 << 20;
 
+/// The least bytes read at once, for a file that claims to be smaller.
+const SMALL_BLOCK_BYTES: u64 = 8 << 10;
+
 /// A file that is open for reading and writing.
 #[derive(Drop)]
 struct Opened<R: Files> {
@@ -188,15 +191,19 @@ fn after_blanks(text: &[u8]) -> &[u8] {
     &text[blanks..]
 }
 
-/// Reads the bytes of the rest of a file. Stops once a line over the limit is found: most such files
-/// aren't text, and may be larger than memory.
+/// Reads the bytes of the rest of a file: by one read, if it has the size that was found. Stops once a line over
+/// the limit is found: most such files aren't text, and may be larger than memory.
 fn read_bytes<F: Read>(file: &mut F, stat: &FileStat, text: &mut Vec<u8>) -> io::Result<()> {
-    // Beside the file's bytes there is room to see that it has ended, so it takes two reads.
-    let expected = stat.version.size.min(BLOCK_BYTES) as usize;
-    text.reserve_exact(expected + 1)?;
+    let size = stat.version.size;
+    // There is room for more than the file, so a read that ends at its size was cut by its end.
+    let block = size.clamp(SMALL_BLOCK_BYTES, BLOCK_BYTES) as usize + 1;
     for _block in 0..u64::MAX {
-        let count = file.by_ref().take(BLOCK_BYTES).read_to_end(text)?;
-        if (count as u64) < BLOCK_BYTES {
+        let count = match read_block(file, block, text) {
+            Ok(count) => count,
+            Err(error) if error.kind() == ErrorKind::Interrupted => continue,
+            Err(error) => return Err(error),
+        };
+        if count == 0 || (count < block && text.len() as u64 == size) {
             return Ok(());
         }
         if ends_in_long_line(text.as_slice()) {
@@ -204,6 +211,19 @@ fn read_bytes<F: Read>(file: &mut F, stat: &FileStat, text: &mut Vec<u8>) -> io:
         }
     }
     Ok(())
+}
+
+/// Appends at most `block` bytes of a file by one read. Returns how many.
+fn read_block<F: Read>(file: &mut F, block: usize, text: &mut Vec<u8>) -> io::Result<usize> {
+    let before = text.len();
+    text.resize(before.saturating_add(block), 0)?;
+    let read = file.read(&mut text.as_mut_slice()[before..]);
+    let count = match &read {
+        Ok(count) => *count,
+        Err(_) => 0,
+    };
+    text.truncate(before.saturating_add(count));
+    read
 }
 
 /// Returns whether the last line of a text is over the limit.
