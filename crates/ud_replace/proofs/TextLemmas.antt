@@ -1,6 +1,9 @@
 -- The run over a text in memory, and the pass over its output.
 use Rattle.std.proofs.Common.{◌≡◌, ℕ, List, [], ◌++◌, Bool, true, false, ◌||◌, bytes_eq, Option, None, Some, Ok, Err, refl, sym, ap, ◌∙◌, subst, arith}
-use Rattle.std.specs.Prelude.{nat_lt}
+use Rattle.std.specs.Prelude.{nat_lt, not}
+use Rattle.std.proofs.lemmas.Slice.Eq.{bytes_eq-Decides}
+use Rattle.ud_model.specs.declared.settings.Listing.TheVariants.{Off}
+use Rattle.ud_model.proofs.output.Changed.{changed}
 use Rattle.ud_io.specs.Watched.{AppendsAllOrPrefix}
 use Rattle.ud_model.specs.conditions.Conditions.{Rules}
 use Rattle.ud_model.specs.sections.Items.{Options, rules_of}
@@ -12,7 +15,7 @@ use Rattle.ud_passes.specs.pruning.PrunedTexts.{pruned_text, edited_count}
 use Rattle.ud_replace.specs.declared.error.ReplaceError.{ReplaceError}
 use Rattle.ud_replace.specs.declared.error.ReplaceError.TheVariants.{Text, OutOfMemory}
 use Rattle.ud_replace.specs.declared.text_plan.TextRun.{TextRun}
-use Rattle.ud_replace.specs.TextOutcomes.{TextOptions, unpruned, pruned, folded, may_fold, goes_back, comes_back, StaysUnfolded, as_run, as_faulty, as_pruned, as_folded, RunsOver, error_of, FailsOver, over_faulty, over_memory}
+use Rattle.ud_replace.specs.TextOutcomes.{TextOptions, unpruned, pruned, folded, may_fold, goes_back, comes_back, StaysUnfolded, as_run, as_faulty, as_pruned, as_folded, RunsOver, same_run, error_of, FailsOver, over_faulty, over_memory}
 use Rattle.ud_replace.specs.UnprunedRuns.{RunsUnpruned, FailsUnpruned, run_faulty, no_memory_left, PrunesInto}
 use Rattle.ud_replace.specs.FoldedRuns.{RunsPruned, LeavesFolded, RunsFolded, TriesFolded, FoldsOrStays}
 use Rattle.ud_model.specs.output.FoldedTexts.{folded_text, restored_text}
@@ -28,8 +31,8 @@ pub runs_unpruned : (o : Options) (input text before left : List ℕ) (reader wr
 runs_unpruned o input text before left reader writer d e m ran = grind arith
 
 -- A run that ended at the text's fault, while its reader and its writer worked.
-faulty_run : (o : Options) (input text before left : List ℕ) (reader writer : Bool) (f : RunFault) → input ≡ text →
-    ErrorMatchesStreams reader writer (Err f) → (reader ≡ false → writer ≡ false → RunAnswers o input (Some before) (Some left) (Err f)) →
+faulty_run : (o : Options) (input text : List ℕ) (before left : Option (List ℕ)) (reader writer : Bool) (f : RunFault) → input ≡ text →
+    ErrorMatchesStreams reader writer (Err f) → (reader ≡ false → writer ≡ false → RunAnswers o input before left (Err f)) →
     ¬ (f ≡ ReadFault) → ¬ (f ≡ WriteFault) → FailsUnpruned o text (Text f)
 faulty_run o input text before left reader writer f e m ran no_read no_write =
     let reads = works reader (Err f) ReadFault f m.read_fails.0 refl no_read in
@@ -38,8 +41,8 @@ faulty_run o input text before left reader writer f e m ran no_read no_write =
     subst (λ (t : List ℕ). FailsUnpruned o t (Text f)) e (run_faulty h.outcome f h.runs h.answered.0 h.answered.1)
 
 -- A run that ended with an error is that of the text, or one of memory.
-pub fails_unpruned : (o : Options) (input text before left : List ℕ) (reader writer : Bool) (f : RunFault) → input ≡ text →
-    ErrorMatchesStreams reader writer (Err f) → (reader ≡ false → writer ≡ false → RunAnswers o input (Some before) (Some left) (Err f)) →
+pub fails_unpruned : (o : Options) (input text : List ℕ) (before left : Option (List ℕ)) (reader writer : Bool) (f : RunFault) → input ≡ text →
+    ErrorMatchesStreams reader writer (Err f) → (reader ≡ false → writer ≡ false → RunAnswers o input before left (Err f)) →
     FailsUnpruned o text (error_of f)
 fails_unpruned o input text before left reader writer (TextFault t) e m ran =
     faulty_run o input text before left reader writer (TextFault t) e m ran (λ q. absurd cc) (λ q. absurd cc)
@@ -72,6 +75,27 @@ runs_as_is o ran none differs edited h = record {
   differs_is = differs ∙ h.differs_is;
   edited_is = edited;
 }
+
+-- If no line differs, the output is the text.
+same_bytes : (out text : List ℕ) (d : Bool) → d ≡ not (bytes_eq out text) → d ≡ false → text ≡ out
+same_bytes out text d is none = grind (arith, bytes_eq-Decides)
+
+-- A run in which no line differs gave the text itself, unless lines are numbered or listed.
+pub stays_itself : (o : TextOptions) (input text : List ℕ) (before left : Option (List ℕ)) (reader writer d : Bool) → o.prunes ≡ false → o.run.settings.renumber ≡ false →
+    o.run.settings.listing ≡ Off → input ≡ text → ErrorMatchesStreams reader writer (Ok d) →
+    (reader ≡ false → writer ≡ false → RunAnswers o.run input before left (Ok d)) → d ≡ false → RunsOver o text [] text same_run
+stays_itself o input text before left reader writer d none unnumbered unlisted is m ran same =
+    subst (λ (t : List ℕ). RunsOver o t [] t same_run) is (record {
+      outcome = unpruned h.outcome;
+      runs = as_run none h.runs;
+      faultless = h.answered.0;
+      appended = same_bytes h.outcome.output input d (h.answered.1 ∙ changed o.run unnumbered unlisted input h.runs h.answered.0) same;
+      differs_is = sym same ∙ h.answered.1;
+      edited_is = refl;
+    })
+  where
+    h : RunAnswers o.run input before left (Ok d)
+    h = ran m.works.0 m.works.1
 
 -- Bytes were written.
 pub all_written : (old new given : List ℕ) (failed : Bool) → failed ≡ false → AppendsAllOrPrefix failed (Some old) (Some new) given → new ≡ old ++ given

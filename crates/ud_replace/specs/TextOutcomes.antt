@@ -14,6 +14,7 @@
 --   HasTextOutcome o text a   `a` is the outcome of `text`
 --   TextRun                   what a run over a text returns
 --   RunsOver o text old new ran   the output for a text was appended to `old`
+--   same_run                  what a run returns if the output is the text itself
 --   error_of f                the error of a file, by the fault of a run over its text
 --   FailsOver o text e        the run over a text failed
 --   IsOutputOf o text output edited   the output of the outcome of a text
@@ -124,6 +125,10 @@ pub record RunsOver (o : TextOptions) (text old new : List ℕ) (ran : TextRun) 
   pub appended : new ≡ old ++ outcome.output
   pub differs_is : ran.differs ≡ outcome.differs
   pub edited_is : ran.edited ≡ outcome.edited
+
+-- `same_run`: what a run returns if the output is the text itself.
+abbrev pub same_run : TextRun
+same_run = record { differs = false; edited = 0 }
 
 -- `error_of f`: the error of a file, by the fault of a run over its text. The text and the output
 -- are in memory, so a fault other than the text's means that memory ran out.

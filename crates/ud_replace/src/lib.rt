@@ -31,4 +31,4 @@ pub use node::{FileId, Lookup, Node, NodeKind};
 pub use replacement::{Target, replace, replace_keeping};
 pub use stat::{FileStat, FileTime, FileVersion};
 pub use text_plan::{TextPlan, TextRun};
-pub use text_run::run_text;
+pub use text_run::{run_text, stays};

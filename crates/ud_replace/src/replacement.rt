@@ -1,6 +1,6 @@
 //! Replaces one file by the output for it.
 
-ghost use Rattle.std.specs.Prelude.{◌≡◌, ◌<◌, List, [], true, false, is_ok};
+ghost use Rattle.std.specs.Prelude.{◌≡◌, ◌<◌, List, [], true, false, is_ok, if◌then◌else◌};
 ghost use Rattle.ud_replace.specs.Calls.{Call};
 ghost use Rattle.ud_replace.specs.Filling.{LooksAgain, Confirms, Fills};
 ghost use Rattle.ud_replace.specs.Replacing.{Overwrites, RenamesAt, PutsAt, JudgesAt, ReplacesAt};
@@ -13,7 +13,7 @@ use crate::folder::{CreateError, Folder};
 use crate::node::FileId;
 use crate::stat::FileStat;
 use crate::text_plan::TextPlan;
-use crate::text_run::run_text;
+use crate::text_run::{run_text, stays};
 use std::alloc::Global;
 use ud_engine::Watched;
 
@@ -84,6 +84,7 @@ pub fn replace<F: Folder>(
     let mut text = Vec::new(alloc);
     let mut out = Watched::new(Vec::<u8>::new(alloc));
     let mut edited = 0;
+    let mut same = false;
     replace_keeping(
         alloc,
         plan,
@@ -92,12 +93,14 @@ pub fn replace<F: Folder>(
         &mut text,
         &mut out,
         &mut edited,
+        &mut same,
     )
 }
 
 /// Replaces a file as `replace` does. Leaves its text in `text` and the output for it in `out`,
 /// which must be empty before, and in `edited` the number of edited conditions of the output. The
-/// output is for the text that was read, even if the file is unchanged.
+/// output is for the text that was read, even if the file is unchanged. If `same` is then true, the
+/// output is the text itself, and isn't left in `out`.
 ///
 /// # Errors
 /// As `replace`. Then `text` and `out` may have any bytes, and `edited` any number.
@@ -109,6 +112,7 @@ pub fn replace_keeping<F: Folder>(
     text: &mut Vec<u8>,
     out: &mut Watched<Vec<u8>>,
     edited: &mut usize,
+    same: &mut bool,
 ) -> Result<Update, ReplaceError>
     requires unread { text.old.items ≡ [] }
     requires empty { out.old.inner.items ≡ [] }
@@ -117,7 +121,7 @@ pub fn replace_keeping<F: Folder>(
         (F.history folder.old) (F.history folder.new) result }
     ensures output { (o : TextOptions) → IsPlanned plan.now o → is_ok result ≡ true →
         KeepsAt o target.now (F.history folder.old) (F.history folder.new) result text.new.items
-        out.new.inner.items edited.new }
+        (if same.new then text.new.items else out.new.inner.items) edited.new }
 {
     match folder.read(target.name, text) {
         None => Err(ReplaceError::Read),
@@ -133,6 +137,7 @@ pub fn replace_keeping<F: Folder>(
                 &Before { alloc, text, stat },
                 out,
                 edited,
+                same,
             )
         }
     }
@@ -146,14 +151,24 @@ fn replace_text<F: Folder>(
     before: &Before<'_>,
     out: &mut Watched<Vec<u8>>,
     edited: &mut usize,
+    same: &mut bool,
 ) -> Result<Update, ReplaceError>
     requires empty { out.old.inner.items ≡ [] }
     requires not_failed { out.old.failed ≡ false }
     ensures calls { (o : TextOptions) → IsPlanned plan.now o → JudgesAt o target.now
         before.now.text.now before.now.stat (F.history folder.old) (F.history folder.new) result }
     ensures output { (o : TextOptions) → IsPlanned plan.now o → is_ok result ≡ true →
-        IsOutputOf o before.now.text.now out.new.inner.items edited.new }
+        IsOutputOf o before.now.text.now
+        (if same.new then before.now.text.now else out.new.inner.items) edited.new }
 {
+    *same = match stays(plan, before.text) {
+        Ok(same) => same,
+        Err(error) => return Err(error),
+    };
+    if *same {
+        *edited = 0;
+        return Ok(Update::Unchanged);
+    }
     match run_text(before.alloc, plan, before.text, out) {
         Err(error) => Err(error),
         Ok(ran) => {

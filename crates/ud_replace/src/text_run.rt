@@ -2,10 +2,10 @@
 //!
 //! If conditions are to be pruned, the text is first folded, if possible (`folded_run.rt`).
 
-ghost use Rattle.std.specs.Prelude.{◌≡◌, ◌++◌, true, false, MatchResult};
+ghost use Rattle.std.specs.Prelude.{◌≡◌, ◌++◌, [], true, false, MatchResult};
 ghost use Rattle.ud_args.specs.Plans.{ForOptionsOf};
 ghost use Rattle.ud_replace.specs.TextOutcomes.{TextOptions, IsPlanned, RunsOver, FailsOver};
-ghost use Rattle.ud_replace.specs.TextOutcomes.{error_of};
+ghost use Rattle.ud_replace.specs.TextOutcomes.{error_of, same_run};
 ghost use Rattle.ud_replace.specs.UnprunedRuns.{RunsUnpruned, FailsUnpruned, PrunesInto};
 ghost use Rattle.ud_replace.specs.FoldedRuns.{RunsPruned};
 
@@ -13,10 +13,12 @@ use crate::error::ReplaceError;
 use crate::folded_run::try_folded;
 use crate::text_plan::{TextPlan, TextRun};
 use std::alloc::Global;
+use std::io::sink;
 use ud_args::Plan;
 use ud_cond::Rules;
 use ud_engine::{RunFault, Watched, run};
 use ud_io::write_all;
+use ud_model::Listing;
 use ud_passes::prune;
 
 /// Appends the output for a text, as the plan asks.
@@ -39,6 +41,37 @@ pub fn run_text(
     }
     let differs = run_unpruned(&plan.run, text, out)?;
     Ok(TextRun { differs, edited: 0 })
+}
+
+/// Returns whether the output for a text is known to be the text itself. Nothing is written, and no
+/// memory is taken. If conditions are to be pruned, names are listed or lines are numbered, it isn't
+/// known.
+///
+/// # Errors
+/// As `run_text`.
+pub fn stays(plan: &TextPlan, text: &[u8]) -> Result<bool, ReplaceError>
+    ensures { (o : TextOptions) → IsPlanned plan.now o → MatchResult result
+        (λ same. same ≡ true → RunsOver o text.now [] text.now same_run) (FailsOver o text.now) }
+{
+    if !copies_lines(plan) {
+        return Ok(false);
+    }
+    let mut reader = Watched::new(text);
+    let mut nowhere = Watched::new(sink());
+    match run(&plan.run, &mut reader, &mut nowhere) {
+        Ok(differs) => Ok(!differs),
+        Err(fault) => Err(error_of(fault)),
+    }
+}
+
+/// Returns whether the output is made of the text's lines: not listed, not numbered, not pruned.
+fn copies_lines(plan: &TextPlan) -> bool
+    ensures unpruned { result ≡ true → plan.now.prunes ≡ false }
+    ensures unnumbered { result ≡ true → plan.now.run.settings.renumber ≡ false }
+    ensures unlisted { result ≡ true → plan.now.run.settings.listing ≡ Listing.Off }
+{
+    let settings = plan.run.settings();
+    !plan.prunes && !settings.renumber && matches!(settings.listing, Listing::Off)
 }
 
 /// Appends the output for a text, with pruned conditions.

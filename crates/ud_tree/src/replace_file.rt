@@ -1,6 +1,6 @@
 //! Replacing one file.
 
-ghost use Rattle.std.specs.Prelude.{◌≡◌, [], true, false, Ok, is_ok};
+ghost use Rattle.std.specs.Prelude.{◌≡◌, [], true, false, Ok, is_ok, if◌then◌else◌};
 ghost use Rattle.ud_tree.specs.Changes.{KeepsAs, ShowsChange};
 ghost use Rattle.ud_tree.specs.Fates.{fate_of, is_changed, no_edits, removed_by};
 ghost use Rattle.ud_tree.specs.Runs.{ReplacesOne};
@@ -47,25 +47,36 @@ pub(crate) fn replace_file<T: Tree, W: Write, E: Write>(
     let mut text = Vec::new(job.alloc);
     let mut output = Watched::new(Vec::<u8>::new(job.alloc));
     let mut count = 0;
-    let update = match replace_named(job, tree, file, &mut text, &mut output, &mut count) {
+    let mut same = false;
+    let replaced = replace_named(
+        job,
+        tree,
+        file,
+        &mut text,
+        &mut output,
+        &mut count,
+        &mut same,
+    );
+    let update = match replaced {
         Ok(update) => update,
         Err(error) => return Err(error),
     };
+    let output = left(same, text.as_slice(), output.inner().as_slice());
     *edits = Edits {
         conditions: count,
-        lines: removed_by(update, text.as_slice(), output.inner().as_slice()),
+        lines: removed_by(update, text.as_slice(), output),
     };
-    report.search(job, file.name, output.inner().as_slice());
-    let diff = change_of(
-        job,
-        file.name,
-        update,
-        text.as_slice(),
-        output.inner().as_slice(),
-        report,
-    );
+    report.search(job, file.name, output);
+    let diff = change_of(job, file.name, update, text.as_slice(), output, report);
     send(out, diff.as_slice());
     Ok(update)
+}
+
+/// Returns the output for a text: the text if that is the same, else what was left.
+fn left<'a>(same: bool, text: &'a [u8], output: &'a [u8]) -> &'a [u8]
+    ensures { result.now ≡ (if same then text.now else output.now) }
+{
+    if same { text } else { output }
 }
 
 /// Returns the diff of a changed file, if the arguments ask for it; else nothing. If memory runs
@@ -122,7 +133,8 @@ fn is_change(update: Update) -> bool
 }
 
 /// Replaces a file by a new one. Leaves its text in `text` and the output for it in `output`, which
-/// are empty before, and the number of its edited conditions in `edited`.
+/// are empty before, and the number of its edited conditions in `edited`. If `same` is then true,
+/// the output is the text, and isn't left in `output`.
 fn replace_named<T: Tree>(
     job: &Job<'_>,
     tree: &mut T,
@@ -130,6 +142,7 @@ fn replace_named<T: Tree>(
     text: &mut Vec<u8>,
     output: &mut Watched<Vec<u8>>,
     edited: &mut usize,
+    same: &mut bool,
 ) -> Result<Update, ReplaceError>
     requires unread { text.old.items ≡ [] }
     requires empty { output.old.inner.items ≡ [] }
@@ -138,7 +151,8 @@ fn replace_named<T: Tree>(
         file.entry.name.now (T.history tree.old) (T.history tree.new) result }
     ensures keeps { is_ok result ≡ true → KeepsAs job.now.arguments.now.plan
         job.now.arguments.now.write_into file.entry.name.now (T.history tree.old)
-        (T.history tree.new) result text.new.items output.new.inner.items edited.new }
+        (T.history tree.new) result text.new.items
+        (if same.new then text.new.items else output.new.inner.items) edited.new }
 {
     let name = file.name;
     match fresh_name(job.alloc, name) {
@@ -158,6 +172,7 @@ fn replace_named<T: Tree>(
                 text,
                 output,
                 edited,
+                same,
             )
         }
     }

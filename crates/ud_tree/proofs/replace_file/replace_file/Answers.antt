@@ -14,7 +14,7 @@ returns-in-Err-clause-writes g c = record {
   does = λ told. record {
     does = c.in-Err.ensures.replaces;
     change = subst (λ (n : Edits). ShowsUpdate c.args.job.now.arguments.now.plan c.args.job.now.arguments.now.write_into c.args.job.now.arguments.now.show_changes c.args.file.name.now
-        (g.T.Folder.history c.args.tree.now) (g.T.Folder.history c.replace_named.new.tree) (Err c.in-Err.error) [] n []) (sym c.requires.none) after_error;
+        (g.T.Folder.history c.args.tree.now) (g.T.Folder.history c.replace_named-replaced.new.tree) (Err c.in-Err.error) [] n []) (sym c.requires.none) after_error;
   };
   sent = sends_none (stream_of g.W.Write.contents c.args.out.now);
   finds = finds_none refl (λ lost. lost);
@@ -23,17 +23,13 @@ returns-in-Err-clause-writes g c = record {
 pub returns-clause-writes : goal.returns-clause-writes
 returns-clause-writes g c = record {
   shown = c.change_of-diff.result.items;
-  outputs = made c.args.file.name.now c.as_slice-3.result.now;
+  outputs = made c.args.file.name.now c.left-output.result.now;
   does = λ told. record {
     does = c.in-Ok.ensures.replaces;
-    change = after_update _ _ _ (λ o p. rw (← (c.as_slice-3.ensures.value ∙ ap (λ v. v.items) c.inner-2.ensures)) at (c.in-Ok.ensures.keeps refl o p))
-        (rw (c.as_slice.ensures.value, c.as_slice-2.ensures.value ∙ ap (λ v. v.items) c.inner.ensures, ← (c.as_slice-3.ensures.value ∙ ap (λ v. v.items) c.inner-2.ensures)) at c.removed_by.ensures)
-        (rw (
-          c.as_slice-4.ensures.value,
-          c.as_slice-5.ensures.value ∙ ap (λ v. v.items) c.inner-3.ensures,
-          ← (c.as_slice-3.ensures.value ∙ ap (λ v. v.items) c.inner-2.ensures),
-        ) at c.change_of-diff.ensures.change);
+    change = after_update _ _ _ (λ o p. rw (← (rw (c.as_slice.ensures.value, c.as_slice-2.ensures.value ∙ ap (λ v. v.items) c.inner.ensures) at c.left-output.ensures)) at (c.in-Ok.ensures.keeps refl o p))
+        (rw c.as_slice-3.ensures.value at c.removed_by.ensures)
+        (rw c.as_slice-4.ensures.value at c.change_of-diff.ensures.change);
   };
-  sent = sends_same c.as_slice-6.ensures.value c.send.ensures;
-  finds = finds_then (made c.args.file.name.now c.as_slice-3.result.now) [] (finds_output c.search.ensures.finds) (finds_none c.change_of-diff.ensures.remaining c.change_of-diff.ensures.lost);
+  sent = sends_same c.as_slice-5.ensures.value c.send.ensures;
+  finds = finds_then (made c.args.file.name.now c.left-output.result.now) [] (finds_output c.search.ensures.finds) (finds_none c.change_of-diff.ensures.remaining c.change_of-diff.ensures.lost);
 }
