@@ -73,7 +73,6 @@ fn table(alloc: Global, names: &[String]) -> Result<Symbols, SymbolFault> {
     for name in names {
         symbols.define(name.as_bytes(), b"1", false)?;
     }
-    symbols.cache_paths();
     Ok(symbols)
 }
 

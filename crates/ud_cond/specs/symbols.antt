@@ -2,4 +2,3 @@
 pub mod SymbolTable
 pub mod Keys
 pub mod NameFilters
-pub mod Paths

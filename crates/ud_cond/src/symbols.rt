@@ -3,8 +3,6 @@
 //! Each name has one row. The rows are sorted by the names' keys, which are numbers, then by name.
 //! A binary search finds a name, and a later call for a name changes its row.
 //! Memory is taken before anything changes, so a failed call leaves the table as it was.
-//!
-//! Where each path from name to name ends is cached once, after the last call.
 
 ghost use Rattle.std.specs.Prelude.{◌≡◌, ◌++◌, ◌∷◌, [], List, option_map, OnOk, OnErr, IfOk, IfErr};
 ghost use Rattle.std.specs.Prelude.{ℕ, IsErrOf, Some, None, ◌↔◌, false, true, IsTrue, length};
@@ -17,17 +15,14 @@ ghost use Rattle.ud_cond.specs.symbols.Keys as spec;
 ghost use Rattle.ud_cond.specs.symbols.SymbolTable.{TableRepresents, SetsEntry, name_cmp};
 ghost use Rattle.ud_cond.specs.symbols.SymbolTable.{same_key_cmp, IsRowOf, IsGapFor, name_at};
 ghost use Rattle.ud_cond.specs.symbols.SymbolTable.{AreSorted};
-ghost use Rattle.ud_cond.specs.symbols.Paths.{LeadsTo, AllLead};
 ghost use Rattle.ud_cond.specs.CondViews.{as_entry, argument_for};
 
 use first_bytes::FirstBytes;
 use keys::key_of;
 use name_filter::NameFilter;
-use paths::Path;
 use std::alloc::Global;
 use std::cmp::Ordering;
 use std::marker::Model;
-use std::mem;
 use ud_model::bytes::{is_identifier, is_name};
 
 mod calls;
@@ -35,7 +30,6 @@ mod fault;
 mod first_bytes;
 mod keys;
 mod name_filter;
-mod paths;
 
 pub use calls::SymbolCalls;
 pub use fault::SymbolFault;
@@ -186,8 +180,6 @@ pub struct Symbols {
     rows: Vec<Row>,
     /// The filter of the rows' names.
     filter: NameFilter,
-    /// The end of the path from each row's name; empty unless cached.
-    paths: Vec<Path>,
     /// The first bytes of the rows' names.
     first_bytes: FirstBytes,
 }
@@ -196,9 +188,7 @@ impl Model for Symbols {
     ghost use Rattle.std.specs.Prelude.{List};
     ghost use Rattle.ud_model.specs.conditions.Table.{Argument};
     ghost use Rattle.ud_cond.specs.symbols.SymbolTable.{AreSorted};
-    ghost use Rattle.std.specs.Prelude.{length};
     ghost use Rattle.ud_cond.specs.symbols.NameFilters.{AllNames, has_slot, has_first};
-    ghost use Rattle.ud_cond.specs.symbols.Paths.{AllLead};
 
     ghost Value = { List Argument };
 
@@ -206,7 +196,6 @@ impl Model for Symbols {
 
     ghost invariant = { λ s. AreSorted s.rows.items ×
         AllNames (has_slot s.filter.words) s.rows.items ×
-        AllLead s.rows.items (length s.rows.items) s.paths.items ×
         AllNames (has_first s.first_bytes.bytes) s.rows.items };
 }
 
@@ -220,7 +209,6 @@ impl Symbols {
             alloc,
             rows: Vec::new(alloc),
             filter: NameFilter::new(),
-            paths: Vec::new(alloc),
             first_bytes: FirstBytes::new(),
         }
     }
@@ -289,110 +277,6 @@ impl Symbols {
         self.first_bytes.contains(byte)
     }
 
-    /// Caches the end of the path from each name, if a value is a name. Changes no result.
-    ///
-    /// Each later call for a name makes the cache stale, so call this once, after the last name.
-    pub fn cache_paths(&mut self)
-        ensures { self.new ≡ self.old }
-    {
-        if self.paths.capacity() == 0 {
-            return;
-        }
-        let space = mem::replace(&mut self.paths, Vec::new(self.alloc));
-        if let Some(paths) = self.followed_paths(space) {
-            self.paths = paths;
-        }
-    }
-
-    /// Returns the end of the path from each name, after as many steps as there are rows. A path
-    /// that still goes on is a cycle. Uses the memory of `space`, and returns `None` if more is
-    /// needed and can't be had.
-    fn followed_paths(&self, space: Vec<Path>) -> Option<Vec<Path>>
-        ensures { IfSome result (λ p. AllLead self.now (length self.now) p.items) }
-    {
-        let mut paths = self.first_steps(space)?;
-        let mut steps = 1;
-        while steps < self.count() {
-            self.follow_twice(steps, &mut paths);
-            steps = steps.saturating_add(steps);
-        }
-        Some(paths)
-    }
-
-    /// Returns the path from each name after one step. Uses `space` as `followed_paths` does.
-    fn first_steps(&self, space: Vec<Path>) -> Option<Vec<Path>>
-        ensures { IfSome result (λ p. (length p.items ≡ length self.now) ×
-            AllLead self.now 1 p.items) }
-    {
-        let mut paths = space;
-        paths.clear();
-        for i in 0..self.count() {
-            if paths.push(self.first_step(i)).is_err() {
-                return None;
-            }
-        }
-        Some(paths)
-    }
-
-    /// Returns the path from the name of row `i` after one step.
-    fn first_step(&self, i: usize) -> Path
-        requires within { i < length self.now }
-        ensures { LeadsTo self.now (name_at self.now i) 1 result }
-    {
-        let Some(text) = self.rows[i].entry().value else {
-            return Path::Nothing;
-        };
-        if !is_identifier(text) {
-            return Path::Text(i);
-        }
-        match self.row_position(text) {
-            Some(next) => Path::Name(next),
-            None => Path::Nothing,
-        }
-    }
-
-    /// Follows each path, which has at least `steps` steps, twice as far.
-    fn follow_twice(&self, steps: usize, paths: &mut Vec<Path>)
-        requires all { length paths.old.items ≡ length self.now }
-        requires lead { AllLead self.now steps paths.old.items }
-        ensures all { length paths.new.items ≡ length self.now }
-        ensures lead { AllLead self.now (steps + steps) paths.new.items }
-    {
-        for i in 0..paths.len() {
-            let path = self.path_twice(steps, paths.as_slice(), i);
-            paths[i] = path;
-        }
-    }
-
-    /// Returns the path of row `i` followed twice as far, by the path of the name it leads to.
-    fn path_twice(&self, steps: usize, paths: &[Path], i: usize) -> Path
-        requires all { length paths.now ≡ length self.now }
-        requires within { i < length paths.now }
-        requires lead { AllLead self.now steps paths.now }
-        ensures { LeadsTo self.now (name_at self.now i) (steps + steps) result }
-    {
-        match paths[i] {
-            Path::Name(next) => paths[next],
-            end => end,
-        }
-    }
-
-    /// Returns the position of the row of `name`, or `None` if there is none.
-    #[inline(always)]
-    fn row_position(&self, name: &[u8]) -> Option<usize>
-        ensures found { IfSome result (λ i. IsRowOf self.now i name.now) }
-        ensures absent { IfNone result (entry_in self.now name.now ≡ None) }
-    {
-        let key = key_of(name);
-        if !self.filter.may_contain(key) {
-            return None;
-        }
-        match self.binary_search(key, name) {
-            Ok(i) => Some(i),
-            Err(_) => None,
-        }
-    }
-
     /// Returns the number of rows.
     fn count(&self) -> usize
         ensures { result ≡ length self.now }
@@ -412,25 +296,6 @@ impl Symbols {
     /// Returns `None` if a name on the path isn't defined, or if the path has more steps than there
     /// are rows: it is then a cycle.
     pub(crate) fn resolve<'a>(&'a self, name: &'a [u8]) -> Option<&'a [u8]>
-        ensures { option_map (λ v. v.now) result ≡ ends.resolve self.now name.now }
-    {
-        if self.paths.is_empty() {
-            return self.follow(name);
-        }
-        let Some(i) = self.row_position(name) else {
-            return None;
-        };
-        match self.paths.get(i) {
-            Some(Path::Text(end)) => self.rows[*end].entry().value,
-            // A path that still goes on is a cycle.
-            Some(Path::Name(_)) => None,
-            Some(Path::Nothing) => None,
-            None => self.follow(name),
-        }
-    }
-
-    /// Resolves `name` as `resolve` does, step by step.
-    fn follow<'a>(&'a self, name: &'a [u8]) -> Option<&'a [u8]>
         ensures { option_map (λ v. v.now) result ≡ ends.resolve self.now name.now }
     {
         let mut at = name;
@@ -495,31 +360,12 @@ impl Symbols {
         self.add(row)
     }
 
-    /// Takes memory for the paths of all rows and one more, once a value is an identifier, so
-    /// `cache_paths` takes none.
-    fn reserve_paths(&mut self, value: Option<&[u8]>) -> Result<(), SymbolFault>
-        ensures same { self.new ≡ self.old }
-        ensures fault { OnErr result (IsErrOf result SymbolFault.OutOfMemory) }
-    {
-        let leads_on = match value {
-            Some(text) => is_identifier(text),
-            None => false,
-        };
-        if !leads_on && self.paths.capacity() == 0 {
-            return Ok(());
-        }
-        self.paths.clear();
-        self.paths.reserve(self.rows.len().saturating_add(1))?;
-        Ok(())
-    }
-
     /// Replaces the row of the same name, or inserts the row.
     fn add(&mut self, row: Row) -> Result<(), SymbolFault>
         ensures ok { OnOk result (SetsEntry self.old self.new row) }
         ensures err { OnErr result (self.new ≡ self.old) }
         ensures fault { OnErr result (IsErrOf result SymbolFault.OutOfMemory) }
     {
-        self.reserve_paths(row.entry().value)?;
         let key = row.key();
         match self.binary_search(key, row.name()) {
             Ok(i) => {
@@ -535,7 +381,6 @@ impl Symbols {
         requires row { IsRowOf self.old i row.name }
         ensures { self.new ≡ set self.old i row }
     {
-        self.paths.clear();
         self.rows[i] = row;
     }
 
@@ -547,7 +392,6 @@ impl Symbols {
         ensures err { OnErr result (self.new ≡ self.old) }
         ensures fault { OnErr result (IsErrOf result SymbolFault.OutOfMemory) }
     {
-        self.paths.clear();
         self.filter.insert(key);
         self.first_bytes.insert(row.name());
         let added = self.rows.insert(i, row);

@@ -2,5 +2,4 @@
 pub mod TableLemmas
 pub mod SortedLemmas
 pub mod FilterLemmas
-pub mod PathLemmas
 pub mod StableLemmas

@@ -72,7 +72,7 @@ impl SymbolCalls {
         }
     }
 
-    /// Returns the table after these calls, with paths cached.
+    /// Returns the table after these calls.
     ///
     /// # Errors
     /// `OutOfMemory` if an allocation fails; never without any call.
@@ -88,7 +88,6 @@ impl SymbolCalls {
         'rows: for row in rows {
             symbols.add(row)?;
         }
-        symbols.cache_paths();
         Ok(symbols)
     }
 }

@@ -9,14 +9,14 @@ use Rattle.unifdef.proofs.running.tool.Goals as goal
 use Rattle.unifdef.proofs.running.tool.Given.{Over}
 
 -- the message names the input of the arguments, and reports how the run and the flush ended
-message_is : (g : Over) (c : goal.After-drop-plan-inside-in-Ok g) →
+message_is : (g : Over) (c : goal.After-drop-plan-inside g) →
     AppendsAllOrPrefix c.report_result.new.err.failed (g.E.Write.contents c.args.err.now.inner) (g.E.Write.contents c.report_result.new.err.inner)
     (result_message (display_name (map string_bytes c.args.args.now)) (final_result c.run-ran.result c.flush-flushed.result))
 message_is g c =
     all_or_prefix_same c.report_result.new.err.failed _ _ _ _ (ap₂ result_message (c.display_name.ensures c.in-Ok.ensures.ok) c.final_result-ended.ensures) c.report_result.ensures.message
 
 -- the status is that of this end, too
-status_is : (g : Over) (c : goal.After-drop-plan-inside-in-Ok g) →
+status_is : (g : Over) (c : goal.After-drop-plan-inside g) →
     c.report_result.result ≡ result_status (options_of (map string_bytes c.args.args.now)).settings (final_result c.run-ran.result c.flush-flushed.result)
 status_is g c = c.report_result.ensures.status ∙ ap₂ result_status (c.settings.ensures ∙ c.in-Ok.ensures.ok.said) c.final_result-ended.ensures
 

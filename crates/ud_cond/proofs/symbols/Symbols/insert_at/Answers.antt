@@ -4,7 +4,6 @@ use Rattle.ud_cond.specs.symbols.SymbolTable.{IsGapFor}
 use Rattle.ud_cond.specs.symbols.NameFilters.{slot_is_set, has_slot, has_first}
 use Rattle.ud_cond.proofs.lemmas.symbols.SortedLemmas.{sorted-added}
 use Rattle.ud_cond.proofs.lemmas.symbols.FilterLemmas.{noted-kept, noted-added}
-use Rattle.ud_cond.proofs.lemmas.symbols.PathLemmas.{none_lead}
 use Rattle.ud_cond.proofs.symbols.Symbols.insert_at.Goals as goal
 
 pub invariant_of-self : goal.invariant_of-self
@@ -17,7 +16,6 @@ invariant_of-self c =
       noted-added (has_slot c.insert.new.self.words) c.self.inside.rows.items c.args.i c.args.row (is_ok c.insert-added.result)
           (noted-kept (has_slot c.self.inside.filter.words) (has_slot c.insert.new.self.words) c.self.inside.rows.items
           (λ name. c.insert.ensures.others_kept (key_of name)) c.self.invariant.1) gap.within new,
-      none_lead _ _ c.clear.new.self.items c.clear.ensures.items,
       noted-added (has_first c.insert-2.new.self.bytes) c.self.inside.rows.items c.args.i c.args.row (is_ok c.insert-added.result)
-          (noted-kept (has_first c.self.inside.first_bytes.bytes) (has_first c.insert-2.new.self.bytes) c.self.inside.rows.items c.insert-2.ensures.others_kept c.self.invariant.3) gap.within first,
+          (noted-kept (has_first c.self.inside.first_bytes.bytes) (has_first c.insert-2.new.self.bytes) c.self.inside.rows.items c.insert-2.ensures.others_kept c.self.invariant.2) gap.within first,
     )

@@ -10,5 +10,5 @@ pub returns : goal.returns
 returns c = λ calls represents none rest.
     let name = c.args.byte ∷ rest in
     let rows = c.self.inside.rows.items in
-    let unlisted = none-unmarked (has_first c.self.inside.first_bytes.bytes) rows name c.self.invariant.3 (sym c.contains.ensures ∙ none) in
+    let unlisted = none-unmarked (has_first c.self.inside.first_bytes.bytes) rows name c.self.invariant.2 (sym c.contains.ensures ∙ none) in
     sym (represents name) ∙ ap (λ rows. entry_in rows name) (sym c.self.view_is) ∙ entry_from-none None rows name unlisted

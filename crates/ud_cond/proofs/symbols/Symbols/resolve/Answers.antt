@@ -1,14 +1,16 @@
--- By the path of the row, which has as many steps as there are rows.
-use Rattle.std.proofs.Common.{sym, ap}
-use Rattle.ud_model.specs.conditions.Symbols.{text_in}
-use Rattle.ud_cond.proofs.lemmas.symbols.PathLemmas.{first_none, none_at_name}
+use Rattle.std.proofs.Common.{◌≡◌, ◌∙◌, sym, ap, suc, ◌-◌, ◌+◌, length, arith}
+use Rattle.ud_model.specs.conditions.Symbols.{resolve, resolve_within}
+use Rattle.ud_model.proofs.conditions.SymbolLemmas.{ends_behind}
 use Rattle.ud_cond.proofs.symbols.Symbols.resolve.Goals as goal
 
-pub returns-in_default : goal.returns-in_default
-returns-in_default c = sym (first_none c.args.self.now c.args.name.now (ap text_in c.in_default.ensures.absent))
+pub steps-init : goal.steps-init
+unfolding resolve
+steps-init c = let all : length c.args.self.now ≡ c.count-most.result - 0 = omega arith in
+    ap (λ k. resolve_within k c.args.self.now c.args.name.now) all
 
-pub returns-in-Some-Name : goal.returns-in-Some-Name
-returns-in-Some-Name c =
-    none_at_name c.self.inside.rows.items c.args.self.now c.self.view_is c.self.inside.paths.items c.deref.result.now c.deref.ensures.value c.self.invariant.2
-    c.in-Some.i c.in-Some-Name.field-0-0 c.in-Some-Name.field-0.now _ c.in-Some-Name.ensures.lookup.0 c.in-Some-Name.ensures.lookup.1 c.in-Some-Name.field-0-is
-    c.args.name.now c.in-Some.ensures.found.named
+pub steps-preserved : goal.steps-preserved
+steps-preserved c =
+    let one : c.count-most.result - c.steps.counter ≡ suc (c.count-most.result - (c.steps.counter + 1)) = omega arith in
+    c.steps.invariant ∙ ap (λ k. resolve_within k c.args.self.now c.steps.at.now) one
+    ∙ ends_behind c.args.self.now (c.count-most.result - (c.steps.counter + 1)) c.steps.at.now c.in_ok-text.text.now
+    (sym c.in_ok-text.ensures) (sym c.is_identifier.ensures ∙ c.if-not-is_identifier.false)
