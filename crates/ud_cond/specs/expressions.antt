@@ -3,6 +3,5 @@ pub mod Evaluation
 pub mod Stacks
 pub mod DefinedOperands
 pub mod Keepings
-pub mod TwoSlots
 pub mod Digits
 pub mod ResidualReading

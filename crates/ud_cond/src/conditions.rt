@@ -1,7 +1,7 @@
 //! The conditions of directives, as the table decides them.
 //!
-//! An expression is evaluated with signed numbers first, on the fast path if possible. If the
-//! expression has a `u`, its value is the one with 0 as the least number.
+//! An expression is evaluated with signed numbers first. If it has a `u`, its value is the one with
+//! 0 as the least number.
 
 ghost use Rattle.std.specs.Prelude.{◌≡◌, ◌≤◌, List, length, option_map, true, IfSome};
 ghost use Rattle.ud_model.specs.text.Bytes.{are_word_bytes, is_identifier};
@@ -10,10 +10,9 @@ ghost use Rattle.ud_model.specs.conditions.Conditions as spec;
 ghost use Rattle.ud_model.specs.declared.limits.TheConstants.{LINE_BYTES};
 ghost use Rattle.ud_cond.specs.symbols.SymbolTable.{TableRepresents};
 ghost use Rattle.ud_cond.specs.CondViews.{as_rules, as_decision};
-ghost use Rattle.ud_cond.specs.expressions.Evaluation.{cond_of_value, DecidesFast};
+ghost use Rattle.ud_cond.specs.expressions.Evaluation.{cond_of_value};
 
 use crate::expressions::evaluation::evaluate;
-use crate::expressions::fast_path::evaluate_fast;
 use crate::expressions::values::{Scope, Value};
 use crate::symbols::Symbols;
 use ud_model::bytes::{are_white, is_digit, skip_white, word_len};
@@ -51,40 +50,9 @@ pub(crate) fn cond_of_value(rules: Rules, value: Value) -> Cond
     }
 }
 
-/// Returns the condition that the value of a text decides in a scope, if the text suits the fast
-/// path and has no `u`, as most do.
-#[inline(never)]
-pub(crate) fn fast_cond(scope: &Scope<'_>, rules: Rules, text: &[u8]) -> Option<Cond>
-    ensures { IfSome result (λ cond. DecidesFast scope.now (as_rules rules) text.now cond) }
-{
-    let value = evaluate_fast(scope, text)?;
-    if value.unsigned {
-        return None;
-    }
-    Some(cond_of_value(rules, value))
-}
-
 /// Returns the condition of the text of an `#if` or `#elif`.
-#[inline(always)]
-fn expression_cond(text: &[u8], symbols: &Symbols, rules: Rules) -> Cond
-    requires fits { length text.now ≤ LINE_BYTES }
-    ensures { result ≡ spec.expression_cond text.now symbols.now (as_rules rules) }
-{
-    let signed = Scope {
-        symbols: Some(symbols),
-        strict: rules.strict,
-        unsigned: false,
-    };
-    match fast_cond(&signed, rules, text) {
-        Some(cond) => cond,
-        None => general_expression_cond(text, symbols, rules),
-    }
-}
-
-/// Returns the condition of any text of an `#if` or `#elif`, without the fast path.
-#[cold]
 #[inline(never)]
-fn general_expression_cond(text: &[u8], symbols: &Symbols, rules: Rules) -> Cond
+fn expression_cond(text: &[u8], symbols: &Symbols, rules: Rules) -> Cond
     requires fits { length text.now ≤ LINE_BYTES }
     ensures { result ≡ spec.expression_cond text.now symbols.now (as_rules rules) }
 {

@@ -1,9 +1,7 @@
 //! Evaluates the expressions of `#if` and `#elif` (C11 6.10.1).
 //!
-//! `fast_path` evaluates the common ones, in which few operators are pending and only `defined` has
-//! parentheses. `reader` reads all others, with the two stacks of `stacks`. Both read the text
-//! through `tokens`, build no tree and allocate nothing. The reader's `keeper.Keeper` determines
-//! what it keeps of each part.
+//! `reader` reads a text through `tokens`, with the two stacks of `stacks`. It builds no tree and
+//! allocates nothing. Its `keeper.Keeper` determines what it keeps of each part.
 //!
 //! `evaluation` keeps the value of each part, a `values.Value`; `constants` evaluates constants,
 //! and `operators` has the precedence of each operator. `residuals` keeps a `parts.Part`, and so
@@ -13,12 +11,10 @@
 
 mod constants;
 pub(crate) mod evaluation;
-pub(crate) mod fast_path;
 mod keeper;
 mod operators;
 mod packed_value;
 mod parts;
-mod pending_slot;
 mod reader;
 pub(crate) mod residuals;
 mod stacks;

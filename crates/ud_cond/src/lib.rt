@@ -4,10 +4,10 @@
 //! `ud_model.specs.conditions.Conditions` the decision on a directive.
 //! `specs.symbols.SymbolTable` defines what a `Symbols` represents and how its rows are sorted,
 //! `specs.symbols.NameFilters` which names are known to be unlisted without a search,
-//! `specs.expressions.Evaluation` the value that `fast_path` or `evaluation` has of an expression,
-//! and `specs.expressions.ResidualReading` what `residuals` has of one.
-//! `specs.expressions.TwoSlots` and `specs.expressions.Stacks` define which operators are pending
-//! meanwhile, and `specs.expressions.Keepings` what a reader keeps of the parts.
+//! `specs.expressions.Evaluation` the value that `evaluation` has of an expression, and
+//! `specs.expressions.ResidualReading` what `residuals` has of one. `specs.expressions.Stacks`
+//! defines which operators are pending meanwhile, and `specs.expressions.Keepings` what a reader
+//! keeps of the parts.
 #![tactic(auto)]
 
 mod conditions;

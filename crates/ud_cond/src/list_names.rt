@@ -6,7 +6,7 @@ ghost use Rattle.ud_model.specs.conditions.Names.{names_of, names_in_tree, name_
 ghost use Rattle.ud_model.specs.conditions.Conditions.{sole_name};
 ghost use Rattle.ud_model.specs.declared.limits.TheConstants.{LINE_BYTES};
 
-use crate::conditions::{Rules, fast_cond, sole_name};
+use crate::conditions::sole_name;
 use crate::expressions::evaluation::evaluate;
 use crate::expressions::values::Scope;
 use names_iter::Names;
@@ -14,7 +14,7 @@ use ud_model::{Kind, Test};
 
 pub(crate) mod names_iter;
 
-/// Returns whether a text is one expression. Most texts suit the fast path.
+/// Returns whether a text is one expression.
 fn is_expression(text: &[u8]) -> bool
     requires fits { length text.now ≤ LINE_BYTES }
     ensures { result ≡ is_some (expression_of text.now) }
@@ -24,13 +24,6 @@ fn is_expression(text: &[u8]) -> bool
         strict: false,
         unsigned: false,
     };
-    let rules = Rules {
-        constants: false,
-        strict: false,
-    };
-    if let Some(_) = fast_cond(&scope, rules, text) {
-        return true;
-    }
     evaluate(&scope, text).is_some()
 }
 

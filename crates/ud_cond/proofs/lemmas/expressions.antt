@@ -1,7 +1,6 @@
 -- Lemmas on the evaluation of expressions.
 pub mod ReadingLemmas
 pub mod DefinedLemmas
-pub mod FastPathLemmas
 pub mod StackLemmas
 pub mod NamedLemmas
 pub mod EvaluationLemmas

@@ -6,18 +6,14 @@
 --   value_meaning table strict u     the value of each part of an expression
 --   value_of_tree table strict u e   the value of a tree
 --   cond_of_value rules v            the condition that a value decides
---   DecidesFast s rules text cond    the value of a text has no `u`, and decides this condition
---   step_in, reads_in, reduce_in     a step, a whole text, and a reduction in a scope
-use Rattle.std.specs.Prelude.{◌≡◌, ℕ, List, [], Option, Some, None, Bool, true, false, ◌||◌}
+use Rattle.std.specs.Prelude.{ℕ, List, [], Option, Some, None, Bool, true, false, ◌||◌}
 use Rattle.std.specs.Prelude.{◌&&◌, not, if◌then◌else◌}
 use Rattle.std.specs.Borrow.{Bor}
 use Rattle.ud_model.specs.conditions.Table.{Argument, entry_in}
 use Rattle.ud_model.specs.conditions.Constants.{has_u}
 use Rattle.ud_model.specs.conditions.Symbols.{resolve}
 use Rattle.ud_model.specs.conditions.Expressions.{Expression}
-use Rattle.ud_model.specs.conditions.Tokens.{Token}
-use Rattle.ud_model.specs.aids.Parsing.{Meaning, ParseState, Frame}
-use Rattle.ud_model.specs.aids.Parsing as spec
+use Rattle.ud_model.specs.aids.Parsing.{Meaning}
 use Rattle.ud_model.specs.conditions.Values.{constant_value, end_value, name_value, name_has_u}
 use Rattle.ud_model.specs.conditions.Values.{defined_value, apply_unary, apply_binary, number_of}
 use Rattle.ud_model.specs.conditions.Values.{has_unsigned}
@@ -113,19 +109,6 @@ value_meaning_in s = value_meaning (table_in s) s.strict s.unsigned
 abbrev pub value_keeping : Keeping Value Value (Unit {0})
 value_keeping = record { part = λ v n. v; flags = λ v. []; notes = λ n. None }
 
--- `step_in s state token`: the state after one more token, by the values in a scope
-abbrev pub step_in : Scope → ParseState Value → Token → ParseState Value
-step_in s = spec.step (value_meaning_in s)
-
--- `reads_in s state text`: the value of the expression that goes on with `text`
-abbrev pub reads_in : Scope → ParseState Value → List ℕ → Option Value
-reads_in s = spec.reads (value_meaning_in s)
-
--- `reduce_in s least x frames`: the value `x` after the operators of `frames` that bind at least as
--- tightly as `least` are applied, and the frames that are left
-abbrev pub reduce_in : Scope → ℕ → Value → List (Frame Value) → Value × List (Frame Value)
-reduce_in s = spec.reduce (value_meaning_in s)
-
 -- `value_of_tree table strict u e`: the value of the tree `e`
 abbrev pub value_of_tree : List Argument → Bool → Bool → Expression → Value
 value_of_tree table strict u e = record {
@@ -140,11 +123,3 @@ abbrev pub cond_of_value : Rules → Value → Cond
 cond_of_value rules v =
     if v.calls_undefined || not (rules.constants || v.listed) then Unknown
     else truth_of v.number
-
--- `DecidesFast s rules text cond`: the text is an expression. Its value in the scope `s` has no
--- `u`, and decides the condition `cond`.
-pub record DecidesFast (s : Scope) (rules : Rules) (text : List ℕ) (cond : Cond) : Type 0 where
-  pub value : Value
-  pub read : Some value ≡ reads_in s (spec.needs []) text
-  pub signed : value.unsigned ≡ false
-  pub decides : cond ≡ cond_of_value rules value

@@ -1,9 +1,8 @@
 -- The text after `defined`, case by case: what it means in a state that asks for a name.
-use Rattle.std.proofs.Common.{◌≡◌, ℕ, ◌≤◌, ◌+◌, List, length, Bool, Some, None, arith}
+use Rattle.std.proofs.Common.{◌≡◌, ℕ, List, Bool, Some, None, arith}
 use Rattle.ud_model.specs.conditions.Tokens.{next_token}
 use Rattle.ud_model.specs.aids.Parsing.{Meaning, Frame, reads, has, asks}
-use Rattle.ud_cond.specs.expressions.DefinedOperands.{asked_name, Asked}
-use Rattle.ud_cond.specs.expressions.Keepings.{tokens_asked}
+use Rattle.ud_cond.specs.expressions.DefinedOperands.{asked_name}
 use Rattle.ud_cond.proofs.lemmas.expressions.ReadingLemmas.{reads-on, reads-stuck}
 
 module _ {A : Type 0} (m : Meaning A) (s : List (Frame A)) where
@@ -14,11 +13,3 @@ module _ {A : Type 0} (m : Meaning A) (s : List (Frame A)) where
   -- no name
   pub asked_none : (text : List ℕ) → asked_name (next_token text) ≡ None → reads m (asks s) text ≡ None
   asked_none text e = grind (arith, reads-on, reads-stuck)
-
-tokens : (p : Bool) → 2 ≤ tokens_asked p
-tokens p = grind arith
-
--- a `defined` and its name are an operand
-pub asks-name : {A : Type 0} (m : Meaning A) (text n : List ℕ) (p : Bool) (rest : List ℕ) → asked_name (next_token text) ≡ Some (n, p, rest) → length rest + tokens_asked p ≤ length text + 1 →
-    Asked m asks text (m.is_defined n p) rest
-asks-name m text n p rest e l = grind (arith, asked, tokens)

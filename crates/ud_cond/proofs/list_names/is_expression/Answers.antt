@@ -5,6 +5,3 @@ use Rattle.ud_cond.proofs.list_names.is_expression.Goals as goal
 
 pub returns : goal.returns
 returns c = c.is_some.ensures ∙ ap is_some c.evaluate.ensures ∙ reads-some (value_meaning [] false false) c.args.text.now
-
-pub returns-in-Some : goal.returns-in-Some
-returns-in-Some c = ap is_some c.in-Some.ensures.read ∙ reads-some (value_meaning [] false false) c.args.text.now
