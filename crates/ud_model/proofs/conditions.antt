@@ -14,6 +14,7 @@ pub mod TokenLemmas
 pub mod OneExpression
 pub mod DecidedConditions
 pub mod SpreadTexts
+pub mod SpacedTexts
 pub mod SpacesInFront
 pub mod ChoiceValues
 pub mod ResidualTruth

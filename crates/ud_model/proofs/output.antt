@@ -24,6 +24,7 @@ pub mod OnlyDead
 pub mod LiveAnswers
 pub mod ProcessedPruned
 pub mod CProcessed
+pub mod NodesAlike
 pub mod ProcessedAlike
 pub mod ProcessedAnswers
 pub mod ProcessedOnce
@@ -59,7 +60,6 @@ pub mod StrictTrees
 pub mod StrictRuns
 pub mod FoldedLines
 pub mod FoldedReadings
-pub mod LogicalSelected
 pub mod LoneLines
 pub mod Inserting
 pub mod CountedLines
@@ -76,15 +76,17 @@ pub mod FlagArguments
 pub mod OptionAnswers
 pub mod ReachedPruned
 pub mod ReachedAlike
-pub mod SimplifiedSelected
 pub mod SimplifiedLines
 pub mod SimplifiedReadings
 pub mod SimplifiedItems
 pub mod SimplifiedTree
 pub mod SimplifiedLineTexts
 pub mod SimplifiedAgain
-pub mod ChosenWorlds
 pub mod SimplifiedRuns
 pub mod PartTrees
 pub mod PartReads
 pub mod PartOutcomes
+pub mod LogicalNodes
+pub mod ProcessedSimplified
+pub mod RewrittenAnswers
+pub mod NamesNumbers

@@ -12,11 +12,11 @@ pub mod StrictLines
 pub mod InsertedLines
 pub mod InsertedNodes
 pub mod PresumedLines
-pub mod SimplifiedTrees
 pub mod SimplifiedTexts
 pub mod LeftOperands
 pub mod Processing
 pub mod ProcessedFiles
+pub mod DecidedByNumbers
 pub mod FoldedTexts
-pub mod LogicalTrees
+pub mod LogicalProcessing
 pub mod TextsInParts

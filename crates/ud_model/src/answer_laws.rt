@@ -1,10 +1,10 @@
 //! Laws of answers: the laws of the output, stated for arguments, an input and the answer to them.
 
-ghost use Rattle.std.specs.Prelude.{◌≡◌, ℕ, List, ◌++◌, length, map, not, bytes_eq, None};
+ghost use Rattle.std.specs.Prelude.{◌≡◌, ℕ, List, ◌++◌, length, map, not, bytes_eq, None, Bool};
 ghost use Rattle.ud_model.specs.text.Lines.{lines_of};
 ghost use Rattle.ud_model.specs.text.Scans.{Reading};
-ghost use Rattle.ud_model.specs.sections.Tree.{Tree, lines};
-ghost use Rattle.ud_model.specs.sections.Items.{Options, reading_of};
+ghost use Rattle.ud_model.specs.sections.Tree.{Tree, Nodes, closed, lines};
+ghost use Rattle.ud_model.specs.sections.Items.{Options, reading_of, mode_by};
 ghost use Rattle.ud_model.specs.answer.CommandLine.{options_of};
 ghost use Rattle.ud_model.specs.answer.Outcomes.{Outcome, HasOutcome};
 ghost use Rattle.ud_model.specs.answer.Answer.{Answer, IsAnswer, status_by, copy_answer, Succeeds};
@@ -16,9 +16,11 @@ ghost use Rattle.ud_model.specs.conditions.Table.{Argument};
 ghost use Rattle.ud_model.specs.output.GoneSymbols.{SelectsWithout};
 ghost use Rattle.ud_model.specs.output.LiveLines.{LeavesLive, SelectsLive};
 ghost use Rattle.ud_model.specs.output.InsertedLines.{read_as};
-ghost use Rattle.ud_model.specs.output.Processing.{Processes, over_readings, DecidesAsC};
+ghost use Rattle.ud_model.specs.output.Processing.{Processes, over_readings};
 ghost use Rattle.ud_model.specs.output.Processing.{HasOneChoice};
-ghost use Rattle.ud_model.specs.output.ProcessedFiles.{FileTree};
+ghost use Rattle.ud_model.specs.output.ProcessedFiles.{FileTree, IsPrinted, IsOutput};
+ghost use Rattle.ud_model.specs.output.DecidedByNumbers.{MayDecide, AreTrue, decides_by};
+ghost use Rattle.ud_model.specs.conditions.CValues.{Number};
 ghost use Rattle.ud_model.specs.output.TextsInParts.{MayBeParts, in_parts, AnswersBoth};
 ghost use Rattle.ud_model.specs.declared.kind.Mode.{Mode};
 
@@ -36,52 +38,53 @@ pub fn law_answer_again()
         IsAnswer args a.output (copy_answer args a.output) }
 {}
 
-/// Input and output have the same selected lines, as the tool reads them.
-///
-/// The arguments only decide conditions, and the input has no fault. Each symbol that the options
-/// don't name may be any number, and each evaluated condition may be decided in any way that this
-/// allows. The lines selected from the output are then those selected from the input, byte by byte
-/// (C11 6.10.1p4, p6). Under `-t` each line is read by itself, and comments are plain text.
-pub fn law_answer_reading_selects()
-    ensures { (args : List (List ℕ)) (input : List ℕ) (a : Answer) → Succeeds args input a →
-        IsPlain (options_of args) → SelectsAlike (options_of args) input a.output }
-{}
-
 /// A C compiler selects the same text from input and output, unless `-t` is given.
 ///
-/// The arguments only decide conditions, without `-t`, and the input has no fault. Each symbol that
-/// the options don't name may be any number, and C may decide each evaluated condition in any way
-/// that this allows. Each line is read as C reads it. C then selects the same lines from the output
-/// as from the input, byte by byte (C11 5.1.1.2, 6.10.1p4, p6).
+/// The arguments only decide conditions, and the input has no fault. Each symbol that the options
+/// don't name may be any number, and C may decide each evaluated condition in any way that this
+/// allows. C then selects the same lines from the output as from the input, byte by byte. Each line
+/// is read as C reads it. Under `-t` it is read by itself, with comments as plain text, so a
+/// compiler may select others (C11 5.1.1.2, 6.10.1p4, p6).
 pub fn law_answer_selects()
-    ensures readings { (args : List (List ℕ)) → IsPlainC (options_of args) →
+    ensures readings { (args : List (List ℕ)) → IsPlain (options_of args) →
         (text : List ℕ) (t : Tree Reading) → IsTreeOf (options_of args) text t →
-        map (λ x. reading_of x) (lines t) ≡ read_as Mode.C text }
+        map (λ x. reading_of x) (lines t)
+        ≡ read_as (mode_by (options_of args).settings.plain) text }
     ensures selected { (args : List (List ℕ)) (input : List ℕ) (a : Answer) →
-        Succeeds args input a → IsPlainC (options_of args) →
+        Succeeds args input a → IsPlain (options_of args) →
         SelectsAlike (options_of args) input a.output }
 {}
 
 /// A program stays the same, file by file and include by include, unless `-t` is given.
 ///
-/// The arguments only decide conditions, without `-t`. Each file of a tree is replaced by the
-/// answer to it, or left alone. A preprocessor goes through a file and the files it includes, and
-/// each line that it takes may change its state. It decides each condition in its current state, in
-/// a way that C may if the options are true. Whatever state it can reach with the files, it can
-/// reach with their outputs, by the same lines in the same order (C11 5.1.1.2, 6.10.1p6, 6.10.2).
-/// If it never has more than one choice, it reaches no other.
+/// The options only decide conditions, without `-t`. Each file of a tree is replaced by its output,
+/// perhaps simplified if `prunes`, or left alone. A preprocessor goes through a file and the files
+/// it includes, and each line that it takes may change its state. It decides each condition in its
+/// current state, in a way that C may if the options are true; if `prunes`, by numbers for the uses
+/// of names, which stay the same if other operands are removed. Whatever state it can reach with
+/// the files, it can reach with what replaces them, by the same lines in the same order (C11
+/// 5.1.1.2, 6.10.1p4, p6, 6.10.2). If it never has more than one choice, it reaches no other.
+///
+/// A preprocessor decides so if each of its states gives each name a number.
 pub fn law_answer_processed<P: Preprocessing>()
-    ensures as_before { (args : List (List ℕ)) → IsPlainC (options_of args) →
-        DecidesAsC (options_of args).table P.decides → (k : FileTree args P.File) (f : P.File)
-        (s t : P.State) →
+    ensures as_before { (o : Options) (prunes : Bool) → IsPlainC o → MayDecide o prunes P.decides →
+        (k : FileTree o prunes P.File) (f : P.File) (s t : P.State) →
         let p = over_readings P.takes P.enters P.leaves P.decides in
         Processes p k.before (k.before f) s t → Processes p k.after (k.after f) s t }
-    ensures only { (args : List (List ℕ)) → IsPlainC (options_of args) →
-        DecidesAsC (options_of args).table P.decides → (k : FileTree args P.File) (f : P.File)
-        (s t u : P.State) →
+    ensures only { (o : Options) (prunes : Bool) → IsPlainC o → MayDecide o prunes P.decides →
+        (k : FileTree o prunes P.File) (f : P.File) (s t u : P.State) →
         let p = over_readings P.takes P.enters P.leaves P.decides in
         HasOneChoice p → Processes p k.before (k.before f) s t →
         Processes p k.after (k.after f) s u → u ≡ t }
+    ensures answers { (args : List (List ℕ)) (input : List ℕ) (a : Answer) →
+        Succeeds args input a → IsPrinted (options_of args) input a.output }
+    ensures nodes { (o : Options) (prunes : Bool) → IsPlainC o → (input output : List ℕ) →
+        IsOutput o prunes input output → (ns : Nodes Reading) → IsTreeOf o input (closed ns) →
+        (us : Nodes Reading) × IsTreeOf o output (closed us) }
+    ensures names { (o : Options) (prunes : Bool) (value : P.State → List ℕ → Number)
+        (is_known : P.State → List ℕ → Bool) →
+        ((s : P.State) → AreTrue o.table (value s) (is_known s)) →
+        MayDecide o prunes (decides_by value is_known) }
 {}
 
 /// After a run, the build may forget a symbol that no condition of the output names.

@@ -114,11 +114,8 @@ pub fn law_answer_numbers()
     ensures counted { (args more : List (List ℕ)) (input : List ℕ) (js : List Judged)
         (a c : Answer) → AnswersNumbered args more input a c → JudgesAs args input js →
         CountsLines (options_of args) js a.output c.output }
-    ensures reading_selects { (args more : List (List ℕ)) (input : List ℕ) (a c : Answer) →
-        AnswersNumbered args more input a c → a.status ≢ 2 →
-        StillSelects (options_of args) input a.output c.output }
     ensures selects { (args more : List (List ℕ)) (input : List ℕ) (a c : Answer) →
-        AnswersNumbered args more input a c → a.status ≢ 2 → IsPlainC (options_of args) →
+        AnswersNumbered args more input a c → a.status ≢ 2 →
         StillSelects (options_of args) input a.output c.output }
 {}
 

@@ -126,24 +126,6 @@ pub fn law_reading_selects()
         IsCPair k.options w k.before v k.after → IsCWorld k.options.table v k.after }
 {}
 
-/// A C compiler selects the same lines from input and output, unless `-t` is given.
-///
-/// Without `-t` each line is read in C mode, as C reads it. This is `law_reading_selects` for a
-/// compiler. Under `-t` a compiler may select other lines, for it recognizes comments (C11 5.1.1.2,
-/// 6.10.1p4, p6).
-pub fn law_c_selects()
-    ensures readings { (o : Options) → IsPlainC o → (text : List ℕ) (t : Tree Reading) →
-        IsTreeOf o text t → map (λ x. reading_of x) (lines t) ≡ read_as Mode.C text }
-    ensures selected { (k : CleanRun) → k.options.settings.plain ≡ false → (w v : World Reading) →
-        IsCPair k.options w k.before v k.after →
-        selected_bytes v k.after ≡ selected_bytes w k.before }
-    ensures conditions { (k : CleanRun) → k.options.settings.plain ≡ false →
-        map condition_in (openers k.after) ≡ map (λ e. condition_in e.line)
-        (openers_in (pruned_lines k.before)) }
-    ensures world { (k : CleanRun) → k.options.settings.plain ≡ false → (w v : World Reading) →
-        IsCPair k.options w k.before v k.after → IsCWorld k.options.table v k.after }
-{}
-
 /// The build may forget a symbol that no condition names.
 ///
 /// No condition of the nodes has the name, and no symbol has it as its value. Let another table

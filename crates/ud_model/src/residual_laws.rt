@@ -1,6 +1,7 @@
 //! Laws of residuals: conditions and texts without the operands that the table decides.
 
 ghost use Rattle.std.specs.Prelude.{◌≡◌, ◌↔◌, ◌⊎◌, ℕ, List, [], ◌∷◌, ◌++◌, map, Some, true, false};
+ghost use Rattle.std.specs.Prelude.{Bool};
 ghost use Rattle.std.specs.List.{flat_map};
 ghost use Rattle.ud_model.specs.text.Lines.{Line, lines_of};
 ghost use Rattle.ud_model.specs.text.Scans.{Reading};
@@ -22,23 +23,25 @@ ghost use Rattle.ud_model.specs.sections.Tree.{Nodes, closed};
 ghost use Rattle.ud_model.specs.output.Worlds.{World, truths_of, selected};
 ghost use Rattle.ud_model.specs.output.Rereading.{NoneIgnores, IsTreeOf, IsPlainC, selected_bytes};
 ghost use Rattle.ud_model.specs.output.Rereading.{KeepsTruths, LinesFit};
-ghost use Rattle.ud_model.specs.output.CSelection.{CTriple};
 ghost use Rattle.ud_model.specs.output.InsertedLines.{read_as};
-ghost use Rattle.ud_model.specs.output.SimplifiedTrees.{NodesSimplified, IsChosenWorld};
-ghost use Rattle.ud_model.specs.output.SimplifiedTrees.{SelectsChosen};
 ghost use Rattle.ud_model.specs.output.SimplifiedTexts.{simplified_line, simplified_text};
 ghost use Rattle.ud_model.specs.output.SimplifiedTexts.{simplified_under};
 ghost use Rattle.ud_model.specs.output.LeftOperands.{IsSimplified};
 ghost use Rattle.ud_model.specs.output.FoldedTexts.{folded_text, folded_line, is_foldable};
 ghost use Rattle.ud_model.specs.output.FoldedTexts.{continued, shown_lines, IsReadAs, has_tab};
 ghost use Rattle.ud_model.specs.output.FoldedTexts.{logical_lines, folded_readings, unnumbered};
-ghost use Rattle.ud_model.specs.output.FoldedTexts.{c_lines, SimplifiesFolded};
-ghost use Rattle.ud_model.specs.output.LogicalTrees.{CSelects, HasNoLong};
+ghost use Rattle.ud_model.specs.output.FoldedTexts.{c_lines, CLine};
+ghost use Rattle.ud_model.specs.output.Processing.{Processes, HasOneChoice};
+ghost use Rattle.ud_model.specs.output.LogicalProcessing.{over_logical_lines, HasNoLong, IsCTree};
+ghost use Rattle.ud_model.specs.output.DecidedByNumbers.{MayDecide};
+ghost use Rattle.ud_model.specs.output.LogicalProcessing.{IsRewritten, RewrittenTree};
 ghost use Rattle.ud_model.specs.answer.CommandLine.{options_of};
 ghost use Rattle.ud_model.specs.answer.Answer.{Answer, IsAnswer, Succeeds, copy_answer};
 ghost use Rattle.ud_model.specs.declared.cond.Cond.{Cond};
 ghost use Rattle.ud_model.specs.declared.kind.Mode.{Mode};
 ghost use Rattle.ud_model.specs.declared.kind.Test.{Test};
+
+use crate::output_laws::Preprocessing;
 
 /// The residual of a condition is true exactly if the condition is.
 ///
@@ -57,6 +60,8 @@ pub fn law_residual_truth()
     ensures no { (table : List Argument) (rules : Rules) (e : Expression) (m : Choice e)
         (c : Number) → IsAllowed table m → HasValue e m c →
         (residual table rules e).cond ≡ Cond.No → IsZero c }
+    ensures allowed { (table : List Argument) (rules : Rules) (e : Expression) (m : Choice e) →
+        IsAllowed table m → IsAllowed table (stay table rules m) }
 {}
 
 /// The residual of a condition has tokens of the condition, in their order, and no others.
@@ -95,21 +100,6 @@ pub fn law_residual_text()
         simplified_cells table rules cells }
 {}
 
-/// C selects the same lines from a tree and from the tree with simplified conditions.
-///
-/// Each use of an open name may have any number. By these numbers, each condition that C evaluates
-/// has the truth of the condition it comes from (C11 6.10.1p4, p6).
-pub fn law_residual_selects()
-    ensures selected { (table : List Argument) (rules : Rules) (w v : World Reading)
-        (ns us : Nodes Reading) → NodesSimplified table rules w v ns us →
-        selected v us ≡ selected w ns }
-    ensures world { (table : List Argument) (rules : Rules) (w v : World Reading)
-        (ns us : Nodes Reading) → NodesSimplified table rules w v ns us →
-        IsChosenWorld table w ns → IsChosenWorld table v us }
-    ensures allowed { (table : List Argument) (rules : Rules) (e : Expression) (m : Choice e) →
-        IsAllowed table m → IsAllowed table (stay table rules m) }
-{}
-
 /// A line that joins no neighbour changes the scan of no other line.
 ///
 /// Texts that differ in such lines alone are read alike: each line that they share has the same
@@ -123,13 +113,17 @@ pub fn law_other_lines_stay()
 
 /// A simplified text has bytes of the text, in their order, and no others.
 ///
-/// Simplifying again removes nothing.
+/// Simplifying again removes nothing. Its lines are the simplified lines of the text, one for one,
+/// with their numbers.
 pub fn law_simplified_text()
     ensures bytes { (table : List Argument) (rules : Rules) (bytes : List ℕ) →
         IsSublist (simplified_text table rules bytes) bytes }
     ensures again { (table : List Argument) (rules : Rules) (bytes : List ℕ) →
         simplified_text table rules (simplified_text table rules bytes) ≡
         simplified_text table rules bytes }
+    ensures lines { (table : List Argument) (rules : Rules) (bytes : List ℕ) →
+        lines_of (simplified_text table rules bytes) ≡
+        map (simplified_line table rules) (read_as Mode.C bytes) }
 {}
 
 /// A simplified text keeps a decided operand only for one of a few reasons.
@@ -144,38 +138,13 @@ pub fn law_operands_left()
         IsSimplified table rules r d }
 {}
 
-/// A simplified text has the tree of the text, with simplified openers.
+/// A further run over the simplified output copies it.
 ///
-/// Its lines are the simplified lines of the text, one for one, with their numbers.
-pub fn law_simplified_tree()
-    ensures lines { (table : List Argument) (rules : Rules) (bytes : List ℕ) →
-        lines_of (simplified_text table rules bytes) ≡
-        map (simplified_line table rules) (read_as Mode.C bytes) }
-    ensures tree { (o : Options) (bytes : List ℕ) (ns : Nodes Reading) → NoneIgnores o.table →
-        o.settings.plain ≡ false → IsTreeOf o bytes (closed ns) → (us : Nodes Reading) ×
-        IsTreeOf o (simplified_under o bytes) (closed us) ×
-        ((w v : World Reading) → truths_of v us ≡ truths_of w ns →
-        NodesSimplified o.table (rules_of o.settings) w v ns us) }
-{}
-
-/// C selects the same lines from the simplified output as from the input.
-///
-/// `x` gives the conditions of the output the truths that C may give those of the input, and `v`
-/// gives these truths to the conditions of the simplified output. With the same numbers for the
-/// uses of open names, each of them has this truth (C11 5.1.1.2, 6.10.1p4, p6).
-///
-/// A further run over the simplified output copies it, without a fault (unifdef(1)).
+/// The arguments only decide conditions, without `-t`, and the input has no fault. No line of the
+/// output is too long. The run over the simplified output then has no fault and no message, and its
+/// status is that of a copy (unifdef(1)).
 pub fn law_answer_simplified()
-    ensures selected { (args : List (List ℕ)) (input : List ℕ) (a : Answer) →
-        let o = options_of args in Succeeds args input a → IsPlainC o →
-        (c : CTriple o input a.output (simplified_under o a.output)) →
-        selected_bytes c.v c.ss ≡ selected_bytes c.w c.ns }
-    ensures world { (o : Options) → IsPlainC o → (bytes : List ℕ) (us ss : Nodes Reading) →
-        IsTreeOf o bytes (closed us) →
-        IsTreeOf o (simplified_under o bytes) (closed ss) → (x v : World Reading) →
-        truths_of v ss ≡ truths_of x us →
-        IsChosenWorld o.table x us → IsChosenWorld o.table v ss }
-    ensures again { (args : List (List ℕ)) (input : List ℕ) (a : Answer) → Succeeds args input a →
+    ensures { (args : List (List ℕ)) (input : List ℕ) (a : Answer) → Succeeds args input a →
         IsPlainC (options_of args) → LinesFit (lines_of a.output) →
         let text = simplified_under (options_of args) a.output in
         IsAnswer args text (copy_answer args text) }
@@ -201,10 +170,8 @@ pub fn law_folded_lines()
 ///
 /// Each logical line stays, or is folded to one line that is read by itself. A directive keeps its
 /// kind, and the bytes after its keyword but for white space. All other lines keep their bytes and
-/// their scans. No line is lost, and only the numbers of lines change.
-///
-/// So C selects the same lines of both texts by the same truths of their conditions, if no
-/// directive of the folded text is over several lines (C11 5.1.1.2, phases 2 and 3, 6.10p2).
+/// their scans. No line is lost, and only the numbers of lines change (C11 5.1.1.2, phases 2 and 3,
+/// 6.10p2).
 pub fn law_folded_text()
     ensures all { (bytes : List ℕ) → let rs = read_as Mode.C bytes in
         flat_map (λ (line : List Reading). line) (logical_lines rs) ≡ rs }
@@ -212,53 +179,26 @@ pub fn law_folded_text()
         map unnumbered (read_as Mode.C (folded_text bytes)) ≡
         map unnumbered (flat_map folded_readings (logical_lines (read_as Mode.C bytes))) }
     ensures same { (bytes : List ℕ) → c_lines (folded_text bytes) ≡ c_lines bytes }
-    ensures selected { (o : Options) → IsPlainC o → (bytes : List ℕ) →
-        HasNoLong (folded_text bytes) → (ns : Nodes Reading) →
-        IsTreeOf o (folded_text bytes) (closed ns) → (w : World Reading) →
-        CSelects bytes (truths_of w ns) (selected_bytes w ns) }
 {}
 
-/// C selects the same lines from a text that is simplified while it is folded.
+/// A program stays the same, by logical lines, also if its files are simplified while folded.
 ///
-/// The run is over the folded input, and `final` is a text that gives the simplified output if it
-/// is folded. C selects the same lines of both folded texts. If no directive of these is over
-/// several lines, C selects the same lines of the input and of `final`, by their logical lines
-/// (C11 5.1.1.2, 6.10p2, 6.10.1p6). A further run over the folded `final` copies it, without a
-/// fault, and no operand goes (unifdef(1)).
-pub fn law_answer_folded()
-    ensures selected { (args : List (List ℕ)) (input final : List ℕ) (a : Answer) →
-        SimplifiesFolded args input final a →
-        (c : CTriple (options_of args) (folded_text input) a.output (folded_text final)) →
-        selected_bytes c.v c.ss ≡ selected_bytes c.w c.ns }
-    ensures file { (args : List (List ℕ)) (input final : List ℕ) (a : Answer) →
-        SimplifiesFolded args input final a → HasNoLong (folded_text input) →
-        HasNoLong (folded_text final) →
-        (c : CTriple (options_of args) (folded_text input) a.output (folded_text final)) →
-        CSelects input (truths_of c.w c.ns) (selected_bytes c.w c.ns) ×
-        CSelects final (truths_of c.v c.ss) (selected_bytes c.w c.ns) }
-    ensures again { (args : List (List ℕ)) (input final : List ℕ) (a : Answer) →
-        SimplifiesFolded args input final a → LinesFit (lines_of a.output) →
-        IsAnswer args (folded_text final) (copy_answer args (folded_text final)) ×
-        (simplified_under (options_of args) (folded_text final) ≡ folded_text final) }
-{}
-
-/// C selects the same lines from the simplified output as from the input, for any numbers.
-///
-/// The arguments only decide conditions, without `-t`, and the input has no fault. In the world `w`
-/// each condition of the input that C evaluates has a truth that some numbers for the uses of the
-/// open names give it. In `v` each opener of the simplified output has the truth of the opener it
-/// comes from. C then selects the same lines, byte by byte. Each condition of the simplified output
-/// that it evaluates has a value with this truth (C11 5.1.1.2, 6.10.1p4, p6).
-pub fn law_answer_chosen()
-    ensures tree { (args : List (List ℕ)) (input : List ℕ) (a : Answer) →
-        let o = options_of args in Succeeds args input a → IsPlainC o → (ns : Nodes Reading) →
-        IsTreeOf o input (closed ns) →
-        (ss : Nodes Reading) × IsTreeOf o (simplified_under o a.output) (closed ss) }
-    ensures truths { (args : List (List ℕ)) (input : List ℕ) (a : Answer) →
-        let o = options_of args in Succeeds args input a → IsPlainC o → (ns ss : Nodes Reading) →
-        IsTreeOf o input (closed ns) → IsTreeOf o (simplified_under o a.output) (closed ss) →
-        (w : World Reading) → (v : World Reading) × KeepsTruths w ns v ss }
-    ensures selected { (args : List (List ℕ)) (input : List ℕ) (a : Answer) →
-        let o = options_of args in Succeeds args input a → IsPlainC o →
-        SelectsChosen o input (simplified_under o a.output) }
+/// This is `law_answer_processed` for a preprocessor that goes through the logical lines of files,
+/// so that it decides whole conditions. Each file is replaced by a text that gives, if it is
+/// folded, the output of a run over the folded file, perhaps simplified; or it is left alone. No
+/// directive of the folded texts is over several lines (C11 5.1.1.2, phase 2, 6.10.1p4, p6,
+/// 6.10.2).
+pub fn law_answer_rewritten<P: Preprocessing>()
+    ensures as_before { (o : Options) (prunes : Bool) → IsPlainC o → MayDecide o prunes P.decides →
+        (k : RewrittenTree o prunes P.File) (f : P.File) (s t : P.State) →
+        let p = over_logical_lines P.takes P.enters P.leaves P.decides in
+        Processes p k.before (k.before f) s t → Processes p k.after (k.after f) s t }
+    ensures only { (o : Options) (prunes : Bool) → IsPlainC o → MayDecide o prunes P.decides →
+        (k : RewrittenTree o prunes P.File) (f : P.File) (s t u : P.State) →
+        let p = over_logical_lines P.takes P.enters P.leaves P.decides in
+        HasOneChoice p → Processes p k.before (k.before f) s t →
+        Processes p k.after (k.after f) s u → u ≡ t }
+    ensures nodes { (o : Options) (prunes : Bool) → IsPlainC o → (input final : List ℕ) →
+        IsRewritten o prunes input final →
+        ((ns : Nodes CLine) × IsCTree input ns) × ((us : Nodes CLine) × IsCTree final us) }
 {}

@@ -13,6 +13,7 @@ use Rattle.ud_model.specs.conditions.Choices.{Choice, for_constant, for_name, fo
 use Rattle.ud_model.specs.declared.cond.Cond.{Cond}
 use Rattle.ud_model.specs.declared.cond.Cond.TheVariants.{Yes, No}
 use Rattle.ud_model.specs.declared.operator.Operator.TheVariants.{Or, And, Not}
+use Rattle.ud_model.specs.output.CSelection.{HasTruth}
 use Rattle.ud_model.proofs.conditions.ChoiceValues.{choice_may}
 use Rattle.ud_model.proofs.conditions.DecidedConditions.{yes_is_true, no_is_false}
 use Rattle.ud_model.proofs.conditions.OneValue.{no_and, no_or}
@@ -199,3 +200,7 @@ module _ (table : List Argument) (rules : Rules) where
   tells h (of_or_left {a = a} {b = b} {m = m} {k = k} {x = x} d n) = grind (arith, or_left, tells h.0 d)
   tells h (of_or_both {a = a} {b = b} {m = m} {k = k} {x = x} {y = y} {c = c} d z f g) = grind (arith, or_both, tells h.0 d, tells h.1 f)
   tells h (of_parens {a = a} {m = m} {c = c} d) = grind (arith, parens_tell, tells h d)
+
+-- A truth of one value is a truth of the other, if both are 0 or neither is.
+pub truth_kept : (b : Bool) (c d : Number) → (IsZero c → IsZero d) → (IsZero d → IsZero c) → HasTruth b c → HasTruth b d
+truth_kept b c d f g h = grind arith

@@ -33,7 +33,7 @@ abbrev pub Spread : List ℕ → List ℕ → Type 0
 Spread u t = (white : Bool) × IsSpread white u t
 
 -- Both texts are empty, or begin with the same byte, which isn't white space.
-data SameFront : List ℕ → List ℕ → Type 0 where
+pub data SameFront : List ℕ → List ℕ → Type 0 where
   no_front : SameFront [] []
   front : {u t : List ℕ} (b : ℕ) → is_white b ≡ false → IsSpread false u t → SameFront (b ∷ u) (b ∷ t)
 
@@ -42,7 +42,7 @@ skip_kept : {u t : List ℕ} (b : ℕ) (w : Bool) → is_white b ≡ w → IsSpr
     SameFront (if w then skip_white u else b ∷ u) (if w then skip_white t else b ∷ t)
 skip_kept b w h g k = grind (arith, front)
 
-skipped : {w : Bool} {u t : List ℕ} → IsSpread w u t → SameFront (skip_white u) (skip_white t)
+pub skipped : {w : Bool} {u t : List ℕ} → IsSpread w u t → SameFront (skip_white u) (skip_white t)
 skipped nothing = no_front
 skipped (kept b s) = skip_kept b (is_white b) refl s (skipped s)
 skipped (behind {u = u} {t = t} b e s) = grind (arith, skipped s)
@@ -114,7 +114,7 @@ same_sign b s =
     (next_if (b == 126) (finds (operator Complement) (false, s)) unread))))))))))))))
 
 -- Both texts begin with the same word, and the rests are spread so.
-record SameWord (u t : List ℕ) : Type 0 where
+pub record SameWord (u t : List ℕ) : Type 0 where
   pub word : leading_word u ≡ leading_word t
   pub rest : IsSpread false (skip_word u) (skip_word t)
 
@@ -130,7 +130,7 @@ word_kept {u = u} {t = t} b false e s f = record {
   rest = subst (λ (w : Bool). IsSpread false (if w then skip_word u else b ∷ u) (if w then skip_word t else b ∷ t)) (sym e) (kept b s);
 }
 
-same_word : {w : Bool} {u t : List ℕ} → w ≡ false → IsSpread w u t → SameWord u t
+pub same_word : {w : Bool} {u t : List ℕ} → w ≡ false → IsSpread w u t → SameWord u t
 same_word n nothing = record { word = refl; rest = nothing }
 same_word n (kept b s) = word_kept b (is_word_byte b) refl s (λ h. same_word h s)
 same_word n (behind b e s) = cc

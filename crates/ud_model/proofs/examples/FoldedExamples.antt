@@ -1,14 +1,12 @@
 -- Examples: texts that are folded, and the way back, computed by the checker.
-use Rattle.std.proofs.Common.{◌≡◌, refl, ℕ, List, [], ◌∷◌, length, map}
+use Rattle.std.proofs.Common.{◌≡◌, refl, ℕ, List, [], ◌∷◌}
 use Rattle.std.specs.List.{flat_map}
 use Rattle.ud_model.specs.text.Lines.{split_lines, line_at}
 use Rattle.ud_model.specs.text.Lexemes.{lexeme_at, lex_from, lex, kind_at_end}
 use Rattle.ud_model.specs.text.Scanning.{joins, scan_after_run, next_reading}
-use Rattle.ud_model.specs.output.FoldedTexts.{folded_text, restored_text, unnumbered, directive_line, other_lines, c_lines, logical_lines}
-use Rattle.ud_model.specs.output.LogicalTrees.{unknown_opener, c_items}
-use Rattle.ud_model.specs.output.InsertedLines.{read_as}
-use Rattle.ud_model.specs.sections.Tree.{if_line, text_line, item_with}
-use Rattle.ud_model.specs.text.Scans.{Reading}
+use Rattle.ud_model.specs.output.FoldedTexts.{folded_text, restored_text, unnumbered, directive_line, other_lines, c_lines}
+use Rattle.ud_model.specs.output.LogicalProcessing.{unknown_opener, line_items}
+use Rattle.ud_model.specs.sections.Tree.{if_line, text_line}
 use Rattle.ud_model.specs.declared.kind.Kind.TheVariants.{If}
 use Rattle.ud_model.specs.declared.kind.Mode.TheVariants.{C}
 
@@ -33,10 +31,10 @@ read_a : c_lines text_a ≡ directive_line If (32 ∷ 65 ∷ 32 ∷ 124 ∷ 124 
 unfolding split_lines joins scan_after_run lexeme_at lex_from lex kind_at_end
 read_a = refl
 
--- The `#if` has two lines.
-items_a : map (item_with (λ (rs : List Reading). length rs))
-    (flat_map c_items (logical_lines (read_as C text_a))) ≡
-    if_line (unknown_opener 2) ∷ text_line 1 ∷ []
+-- So the `#if` is one logical line.
+items_a : flat_map line_items (c_lines text_a) ≡
+    if_line (unknown_opener (directive_line If (32 ∷ 65 ∷ 32 ∷ 124 ∷ 124 ∷ 32 ∷ 66 ∷ []))) ∷
+    text_line (other_lines (unnumbered (next_reading [] C (line_at 3 (120 ∷ 10 ∷ []))) ∷ [])) ∷ []
 unfolding split_lines joins scan_after_run lexeme_at lex_from lex kind_at_end
 items_a = refl
 

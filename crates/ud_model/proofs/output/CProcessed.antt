@@ -1,13 +1,11 @@
 -- A preprocessor that decides as C may agrees with the decision on each opener that it reaches in a
 -- text without a fault.
-use Rattle.std.proofs.Common.{◌≡◌, ℕ, List, [], ◌∷◌, ◌++◌, Bool, true, false, not, Option, refl, ap, subst, if◌then◌else◌, arith, rules}
-use Rattle.ud_model.specs.text.Bytes.{is_white, skip_white}
+use Rattle.std.proofs.Common.{◌≡◌, ℕ, List, [], ◌∷◌, ◌++◌, Bool, true, false, not, Option, refl, ap, subst, arith, rules}
 use Rattle.ud_model.specs.text.Scans.{Scan, Reading}
 use Rattle.ud_model.specs.sections.Directives.{Content}
 use Rattle.ud_model.specs.conditions.Expressions.{Expression}
 use Rattle.ud_model.specs.declared.cond.Cond.{Cond}
 use Rattle.ud_model.specs.declared.cond.Cond.TheVariants.{Yes}
-use Rattle.ud_model.specs.declared.kind.Test.{Test}
 use Rattle.ud_model.specs.declared.verdict.Verdict.{Verdict}
 use Rattle.ud_model.specs.declared.verdict.Verdict.TheVariants.{Keep}
 use Rattle.ud_model.specs.sections.Tree.{Item, Opener, Nodes, Groups, Elifs, text_line, if_line, elif_line, else_line, endif_line, nothing, section, conditional, otherwise, first, elif, lines_of_nodes, lines_of_groups, lines_of_elifs}
@@ -15,9 +13,9 @@ use Rattle.ud_model.specs.sections.Tree as tree
 use Rattle.ud_model.specs.sections.Pruning.{marked, any_true, is_kept, an_if, an_elif, an_else, conds_of_elifs, conds_of_groups, endif_verdict}
 use Rattle.ud_model.specs.aids.SoFar.{verdict_so_far, nodes_so_far, groups_so_far, elifs_so_far}
 use Rattle.ud_model.specs.sections.Items.{Options}
-use Rattle.ud_model.specs.output.CSelection.{condition_by_test, condition_in, MayBe}
+use Rattle.ud_model.specs.output.CSelection.{condition_in, MayBe}
 use Rattle.ud_model.specs.output.Processing.{Condition, condition_with, condition_on, expression_written, Preprocessor, over_readings, DecidesAsC, AgreesAs, NoneTrue, first_false, elif_false}
-use Rattle.ud_model.proofs.conditions.SpacesInFront.{condition_past}
+use Rattle.ud_model.proofs.conditions.SpacedTexts.{condition_spaced}
 use Rattle.ud_model.proofs.output.Each.{Pairwise, pairwise_parts}
 use Rattle.ud_model.proofs.output.CConditions.{item_fits}
 use Rattle.ud_model.proofs.output.Changed.{as_many_nodes, as_many_groups, as_many_elifs}
@@ -26,17 +24,9 @@ use Rattle.ud_model.proofs.output.ProcessedPruned.{IsRight, NodesRight, GroupsRi
 
 -- 1. The expression of a condition as it is written.
 
-condition_next : (p : Test) (b : ℕ) (t : List ℕ) (w : Bool) → is_white b ≡ w → condition_by_test p (skip_white t) ≡ condition_by_test p t →
-    condition_by_test p (if w then skip_white t else b ∷ t) ≡ condition_by_test p (b ∷ t)
-condition_next p b t w h g = grind (arith, condition_past)
-
-condition_skips : (p : Test) (t : List ℕ) → condition_by_test p (skip_white t) ≡ condition_by_test p t
-condition_skips p [] = refl
-condition_skips p (b ∷ t) = condition_next p b t (is_white b) refl (condition_skips p t)
-
 -- The expression of the condition as it is written is the condition of the line.
 expression_is : (r : Reading) → expression_written (condition_on r) ≡ condition_in r
-expression_is r = grind (arith, condition_skips)
+expression_is r = grind (arith, condition_spaced)
 
 -- 2. Down the tree.
 

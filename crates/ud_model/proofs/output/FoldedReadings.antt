@@ -395,7 +395,7 @@ continued_unnumbered : (rs : List Reading) → continued (map unnumbered rs) ≡
 continued_unnumbered [] = refl
 continued_unnumbered (r ∷ rs) = grind (arith, continued_unnumbered rs)
 
-logical_unnumbered : (rs : List Reading) → logical_lines (map unnumbered rs) ≡ map (map unnumbered) (logical_lines rs)
+pub logical_unnumbered : (rs : List Reading) → logical_lines (map unnumbered rs) ≡ map (map unnumbered) (logical_lines rs)
 logical_unnumbered [] = refl
 logical_unnumbered (r ∷ rs) = grind (arith, continued_unnumbered rs, logical_unnumbered rs)
 

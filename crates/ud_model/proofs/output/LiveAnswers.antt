@@ -24,7 +24,7 @@ use Rattle.ud_model.proofs.output.WorldsExist.{Rise, text_rise}
 
 module _ {L M : Type 0} (f : L → M) where
   mutual
-    lines_with : (ns : Nodes L) → lines_of_nodes (with_lines f ns) ≡ map (item_with f) (lines_of_nodes ns)
+    pub lines_with : (ns : Nodes L) → lines_of_nodes (with_lines f ns) ≡ map (item_with f) (lines_of_nodes ns)
     lines_with nothing = refl
     lines_with (text ns l) =
         ap (λ (xs : List (Item M)). xs ++ text_line (f l) ∷ []) (lines_with ns) ∙ sym (map-append (item_with f) (lines_of_nodes ns) (text_line l ∷ []))

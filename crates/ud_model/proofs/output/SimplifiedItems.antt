@@ -1,16 +1,15 @@
 -- Simplified items: line for line, the items of a simplified text are those of the text, with the
 -- residuals of their conditions.
-use Rattle.std.proofs.Common.{◌≡◌, List, refl, sym, ◌∙◌, ap, subst, arith}
+use Rattle.std.proofs.Common.{◌≡◌, List, refl, sym, ◌∙◌, ap, subst}
 use Rattle.ud_model.specs.text.Scans.{Reading}
-use Rattle.ud_model.specs.sections.Directives.{directive, Directive, content_of, role_of}
-use Rattle.ud_model.specs.conditions.Conditions.{Decision}
+use Rattle.ud_model.specs.sections.Directives.{Content, directive, Directive, content_of, role_of}
+use Rattle.ud_model.specs.conditions.Conditions.{Decision, decision_on}
 use Rattle.ud_model.specs.sections.Tree.{Item, Opener, text_line, if_line, elif_line, else_line, endif_line}
-use Rattle.ud_model.specs.sections.Items.{Options, item_of, directive_item, rules_of}
-use Rattle.ud_model.specs.output.SimplifiedTrees.{LineSimplified, condition_stays}
+use Rattle.ud_model.specs.sections.Items.{Options, item_of, item_by, directive_item, rules_of}
 use Rattle.ud_model.specs.declared.kind.Kind.{Kind}
 use Rattle.ud_model.proofs.output.Each.{Pairs, no_pair, pair}
 use Rattle.ud_model.proofs.output.InsertedTree.{items}
-use Rattle.ud_model.proofs.output.SimplifiedLines.{SameIf, line_simplified}
+use Rattle.ud_model.proofs.output.SimplifiedLines.{SameIf, both_if, both_elif, LineSimplified, condition_stays, line_simplified}
 use Rattle.ud_model.proofs.output.SimplifiedReadings.{ReadingSimplified, reading_stays, reading_edited}
 
 module _ (o : Options) where
@@ -32,12 +31,15 @@ module _ (o : Options) where
   same_item (else_line r) = an_else
   same_item (endif_line r) = an_endif
 
-  by_kind : (r s : Reading) (j k : Kind) (d e : Decision) → SameIf j k → Simplified r s → ItemSimplified (directive_item r (role_of j) d) (directive_item s (role_of k) e)
-  by_kind r s j k d e h g = grind (arith, an_if, an_elif)
+  by_kind : (r s : Reading) {j k : Kind} (d e : Decision) → SameIf j k → Simplified r s → ItemSimplified (directive_item r (role_of j) d) (directive_item s (role_of k) e)
+  by_kind r s d e both_if g = an_if g
+  by_kind r s d e both_elif g = an_elif g
 
   edited_item : (r s : Reading) (d e : Directive) → content_of r.scan ≡ directive d → content_of s.scan ≡ directive e →
       SameIf d.kind e.kind → Simplified r s → ItemSimplified (item_of o r) (item_of o s)
-  edited_item r s d e p q i j = grind (arith, by_kind)
+  edited_item r s d e p q i j = subst (λ (c : Content). ItemSimplified (item_by o r c) (item_of o s)) (sym p)
+      (subst (λ (c : Content). ItemSimplified (directive_item r (role_of d.kind) (decision_on r.scan d o.table (rules_of o.settings))) (item_by o s c)) (sym q)
+      (by_kind r s (decision_on r.scan d o.table (rules_of o.settings)) (decision_on s.scan e o.table (rules_of o.settings)) i j))
 
   item_simplified : (r s : Reading) → ReadingSimplified o.table (rules_of o.settings) r s → ItemSimplified (item_of o r) (item_of o s)
   item_simplified r s (reading_stays e q h) = subst (λ (x : Reading). ItemSimplified (item_of o r) (item_of o x)) (sym q) (same_item (item_of o r))

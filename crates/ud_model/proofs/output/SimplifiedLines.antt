@@ -9,23 +9,20 @@ use Rattle.ud_model.specs.text.Lines.{Line, text_of, ending_of}
 use Rattle.ud_model.specs.text.Scans.{Scan, Reading, is_spanning}
 use Rattle.ud_model.specs.text.Lexemes.{Cell, shown}
 use Rattle.ud_model.specs.text.Scanning.{content_cells, scan_after_run, scan_after}
-use Rattle.ud_model.specs.sections.Directives.{Content, cut_keyword, directive, text, Directive, content_of}
+use Rattle.ud_model.specs.sections.Directives.{Content, cut_keyword, directive, text, Directive, content_of, test_of}
 use Rattle.ud_model.specs.sections.DirectiveParts.{HasDirective}
 use Rattle.ud_model.specs.conditions.Table.{Argument}
 use Rattle.ud_model.specs.conditions.Conditions.{Rules}
-use Rattle.ud_model.specs.conditions.Expressions.{Expression}
-use Rattle.ud_model.specs.conditions.Residuals.{residual}
 use Rattle.ud_model.specs.conditions.ResidualTexts.{simplified_cells}
-use Rattle.ud_model.specs.aids.Parsing.{expression_of}
-use Rattle.ud_model.specs.output.CSelection.{condition_in, condition_by, condition_after}
-use Rattle.ud_model.specs.output.SimplifiedTrees.{LineSimplified, condition_stays, operands_go}
+use Rattle.ud_model.specs.output.Processing.{condition_with, condition_on}
+use Rattle.ud_model.specs.output.DecidedByNumbers.{if_condition}
+use Rattle.ud_model.specs.declared.kind.Test.TheVariants.{Nonzero}
 use Rattle.ud_model.specs.output.SimplifiedTexts.{keyword_end, condition_cells, same_if, has_condition, left_cells_of, left_line, may_change, line_by, simplified_line}
 use Rattle.ud_model.specs.declared.kind.Kind.{Kind}
 use Rattle.ud_model.specs.declared.kind.Kind.TheVariants.{If, Elif}
 use Rattle.ud_model.specs.declared.kind.Mode.TheVariants.{C}
 use Rattle.ud_model.proofs.text.ScanBytes.{masked-content_cells}
 use Rattle.ud_model.proofs.sections.SplitLines.{directive_is}
-use Rattle.ud_model.proofs.conditions.ResidualRead.{read_as, untouched}
 
 abbrev pub byte_of : Cell → ℕ
 byte_of c = c.byte
@@ -90,31 +87,22 @@ module _ (table : List Argument) (rules : Rules) where
       ∙ ap (λ (x : List ℕ). drop (keyword_end d) x) (sym (masked-content_cells [] l) ∙ ap (λ (s : Scan). s.masked) (sym e) ∙ split)
       ∙ drop_at front i.parts.rest (keyword_end d) (sym n) ∙ sym i.after
 
-  -- The condition of an edited line is the condition, or its residual.
-  conditions : (l k : Reading) (cells : List Cell) → condition_in l ≡ expression_of (map shown cells) →
-      condition_in k ≡ expression_of (map shown (simplified_cells table rules cells)) → LineSimplified table rules l k
-  conditions l k cells p q = go (option_is (expression_of (map shown cells)))
-    where
-      by : (e : Expression) → expression_of (map shown cells) ≡ Some e →
-          (f : Expression) × (expression_of (map shown (simplified_cells table rules cells)) ≡ Some f) × ((f ≡ e) ⊎ (f ≡ (residual table rules e).tree)) → LineSimplified table rules l k
-      by e i (f, j, inl s) = condition_stays (q ∙ j ∙ ap (λ (x : Expression). Some x) s ∙ sym (p ∙ i))
-      by e i (f, j, inr s) = operands_go (p ∙ i) (q ∙ j ∙ ap (λ (x : Expression). Some x) s)
+  -- `k` has the condition of the line `l`, or the rest of it.
+  pub data LineSimplified (l k : Reading) : Type 0 where
+    condition_stays : condition_on k ≡ condition_on l → LineSimplified l k
+    operands_go : (cells : List Cell) → condition_on l ≡ if_condition cells → condition_on k ≡ if_condition (simplified_cells table rules cells) → LineSimplified l k
 
-      go : (expression_of (map shown cells) ≡ None) ⊎ ((e : Expression) × (expression_of (map shown cells) ≡ Some e)) → LineSimplified table rules l k
-      go (inl n) = condition_stays (q ∙ ap (λ (x : List Cell). expression_of (map shown x)) (untouched table rules cells n) ∙ sym p)
-      go (inr (e, i)) = by e i (read_as table rules e cells i)
+  condition_is : (scan : Scan) (c : Content) (d : Directive) → c ≡ directive d → test_of d.kind ≡ Nonzero → scan.joins_after ≡ false → (cells : List Cell) → d.after ≡ map shown cells →
+      condition_with scan c ≡ if_condition cells
+  condition_is scan c d e t h cells f = grind (arith, e, t, h, f)
 
-  shown_by : (scan : Scan) (d : Directive) (c : Content) → c ≡ directive d → scan.joins_after ≡ false → condition_by scan c ≡ condition_after d.kind d.after
-  shown_by scan d c e h = grind arith
+  both_values : (j k : Kind) → SameIf j k → (test_of j ≡ Nonzero) × (test_of k ≡ Nonzero)
+  both_values j k h = grind arith
 
-  first_of : (j : Kind) (k : Kind) (after : List ℕ) → SameIf j k → (condition_after j after ≡ expression_of after) × (condition_after k after ≡ expression_of after)
-  first_of j k after h = grind arith
-
-  -- The edited line has the residual of the condition.
+  -- The edited line has the rest of the condition.
   pub line_simplified : (l k : Reading) (d : Directive) → IsEdited l.line l.scan d → l.scan ≡ scan_after [] C l.line →
-      k.scan ≡ scan_after_run [] (left_line table rules l.line d) → LineSimplified table rules l k
-  line_simplified l k d i e f = conditions l k (condition_cells l.line d)
-      (shown_by l.scan d (content_of l.scan) i.has (or_parts l.scan.joins_before l.scan.joins_after i.lone).1
-      ∙ (first_of d.kind i.now.kind d.after i.kind).0 ∙ ap expression_of (sym (after_is l.line l.scan d e i.has)))
-      (shown_by k.scan i.now (content_of k.scan) (ap content_of f ∙ i.has_now) (ap (λ (s : Scan). s.joins_after) f ∙ i.alone)
-      ∙ (first_of d.kind i.now.kind i.now.after i.kind).1 ∙ ap expression_of i.after)
+      k.scan ≡ scan_after_run [] (left_line table rules l.line d) → LineSimplified l k
+  line_simplified l k d i e f = let t = both_values d.kind i.now.kind i.kind in
+      operands_go (condition_cells l.line d)
+      (condition_is l.scan (content_of l.scan) d i.has t.0 (or_parts l.scan.joins_before l.scan.joins_after i.lone).1 (condition_cells l.line d) (sym (after_is l.line l.scan d e i.has)))
+      (condition_is k.scan (content_of k.scan) i.now (ap content_of f ∙ i.has_now) t.1 (ap (λ (s : Scan). s.joins_after) f ∙ i.alone) (simplified_cells table rules (condition_cells l.line d)) i.after)

@@ -21,7 +21,7 @@ use Rattle.ud_model.specs.answer.Outcomes.{Outcome, HasOutcome}
 use Rattle.ud_model.specs.answer.Answer.{Answer, IsAnswer, refused, ran, copy_answer}
 use Rattle.ud_model.specs.output.Rereading.{IsPlainC, IsTreeOf, LinesFit}
 use Rattle.ud_model.specs.output.InsertedLines.{read_as}
-use Rattle.ud_model.specs.output.SimplifiedTrees.{no_nodes, text_stays, section_stays, conditions_alone, with_else, first_group, next_group}
+use Rattle.ud_model.proofs.output.NodesAlike.{nothing_alike, text_alike, section_alike, conditional_alike, otherwise_alike, first_alike, elif_alike}
 use Rattle.ud_model.specs.output.SimplifiedTexts.{condition_cells, simplified_line, simplified_under}
 use Rattle.ud_model.specs.declared.cond.Cond.TheVariants.{Unknown}
 use Rattle.ud_model.specs.declared.kind.Kind.{Kind}
@@ -160,17 +160,17 @@ module _ (o : Options) where
 
   mutual
     pub height_left : {ns us : Nodes Reading} → Like o ns us → height_of_nodes us ≡ height_of_nodes ns
-    height_left no_nodes = refl
-    height_left (text_stays p) = height_left p
-    height_left (section_stays p q) = ap₂ (λ (m n : ℕ). max m (suc n)) (height_left p) (height_groups q)
+    height_left nothing_alike = refl
+    height_left (text_alike p e) = height_left p
+    height_left (section_alike p q) = ap₂ (λ (m n : ℕ). max m (suc n)) (height_left p) (height_groups q)
 
     height_groups : {gs hs : Groups Reading} → GroupsLike o gs hs → height_of_groups hs ≡ height_of_groups gs
-    height_groups (conditions_alone p) = height_elifs p
-    height_groups (with_else p q) = ap₂ (λ (m n : ℕ). max m n) (height_elifs p) (height_left q)
+    height_groups (conditional_alike p) = height_elifs p
+    height_groups (otherwise_alike p q) = ap₂ (λ (m n : ℕ). max m n) (height_elifs p) (height_left q)
 
     height_elifs : {es fs : Elifs Reading} → ElifsLike o es fs → height_of_elifs fs ≡ height_of_elifs es
-    height_elifs (first_group i n) = height_left n
-    height_elifs (next_group p i n) = ap₂ (λ (m n : ℕ). max m n) (height_elifs p) (height_left n)
+    height_elifs (first_alike i n) = height_left n
+    height_elifs (elif_alike p i n) = ap₂ (λ (m n : ℕ). max m n) (height_elifs p) (height_left n)
 
 -- 5. The run.
 

@@ -10,13 +10,11 @@
 --   IsCWorld table w ns            C may give each condition that it evaluates in the world `w` the
 --                                  truth that `w` gives it
 --   IsCPair o w ns v us            `w` is such a world of `ns`, and `v` gives its truths to `us`
---   CTriple o input output text    such a pair of the first two texts, with the same truths for the
---                                  openers of the third
 --   SelectsAlike o input output    in such worlds the same lines are selected from both texts
 --
 -- A condition that continues on the next line, or whose text is no expression, may be true or
 -- false. The lines are lines as read: under `-t` each by itself, with comments and continuations as
--- text, so a C compiler may select others (law_reading_selects, law_c_selects).
+-- text, so a C compiler may select others (law_reading_selects).
 --
 -- Example: of `#if A && X`, `#elif X`, `#endif` with A undefined, the first condition is false in
 -- each C world, and the second one true or false. `#if 1 / 0` has no C world, since C gives its
@@ -33,7 +31,7 @@ use Rattle.ud_model.specs.conditions.Conditions.{sole_name}
 use Rattle.ud_model.specs.conditions.CValues.{Number, IsZero, IsCValue}
 use Rattle.ud_model.specs.sections.Tree.{Nodes, closed}
 use Rattle.ud_model.specs.sections.Items.{Options}
-use Rattle.ud_model.specs.output.Worlds.{World, EachReached, truths_of}
+use Rattle.ud_model.specs.output.Worlds.{World, EachReached}
 use Rattle.ud_model.specs.output.Rereading.{IsTreeOf, KeepsTruths, selected_bytes}
 use Rattle.ud_model.specs.declared.kind.Kind.{Kind}
 use Rattle.ud_model.specs.declared.kind.Test.{Test}
@@ -86,22 +84,6 @@ pub record IsCPair (o : Options) (w : World Reading) (before : Nodes Reading) (v
     (after : Nodes Reading) : Type 0 where
   pub c_world : IsCWorld o.table w before
   pub truths : KeepsTruths w before v after
-
--- Truths that C may give the conditions of the input, and those of two further texts. The input has
--- the nodes `ns`, the output `us`, and the text `ss`. `w` is a world of `ns`; `x` gives its truths
--- to the openers of `us` that come from them, and `v` gives these truths to the openers of `ss`.
-pub record CTriple (o : Options) (input output text : List ℕ) : Type 0 where
-  pub ns : Nodes Reading
-  pub us : Nodes Reading
-  pub ss : Nodes Reading
-  pub of_input : IsTreeOf o input (closed ns)
-  pub of_output : IsTreeOf o output (closed us)
-  pub of_text : IsTreeOf o text (closed ss)
-  pub w : World Reading
-  pub x : World Reading
-  pub v : World Reading
-  pub pair : IsCPair o w ns x us
-  pub same : truths_of v ss ≡ truths_of x us
 
 -- `SelectsAlike o input output`: whatever truths C may give the conditions of the input, the lines
 -- selected from both texts are the same, byte by byte (6.10.1p6).

@@ -11,8 +11,6 @@
 --   restored_text bytes   the way back: the newlines in place of the vertical tabs
 --   folded_readings rs    a logical line, or its folded line as it is read
 --   c_lines bytes         the logical lines of a text as C reads them
---   SimplifiesFolded args input final a
---                         `final` folds to the simplified output of a run over the folded input
 --
 -- Each newline that continues the directive becomes a vertical tab. The backslash before it is left
 -- out, unless it lies in a comment. So a splice becomes white space, with white space beside it
@@ -24,6 +22,7 @@ use Rattle.std.specs.Prelude.{◌≡◌, ℕ, ◌==◌, nat_le, List, [], ◌∷
 use Rattle.std.specs.Prelude.{Bool, true, false, not, ◌&&◌, ◌||◌, if◌then◌else◌, bytes_eq}
 use Rattle.std.specs.List.{flat_map, list_all, list_any}
 use Rattle.ud_model.specs.text.Bytes.{backslash, space, is_white, is_quote}
+use Rattle.ud_model.specs.text.SpacedBytes.{spaced}
 use Rattle.ud_model.specs.text.Lines.{Line, text_of, lines_of}
 use Rattle.ud_model.specs.text.Splicing.{is_empty, content}
 use Rattle.ud_model.specs.text.Scans.{Scan, Reading}
@@ -32,10 +31,7 @@ use Rattle.ud_model.specs.sections.Directives.{Content, cut_keyword, directive, 
 use Rattle.ud_model.specs.sections.Directives.{Directive, is_outside}
 use Rattle.ud_model.specs.aids.Parsing.{tokens_of}
 use Rattle.ud_model.specs.output.InsertedLines.{read_as}
-use Rattle.ud_model.specs.output.Rereading.{IsPlainC}
-use Rattle.ud_model.specs.output.SimplifiedTexts.{keeps_ending, simplified_under}
-use Rattle.ud_model.specs.answer.CommandLine.{options_of}
-use Rattle.ud_model.specs.answer.Answer.{Answer, Succeeds}
+use Rattle.ud_model.specs.output.SimplifiedTexts.{keeps_ending}
 use Rattle.ud_model.specs.declared.kind.Kind.{Kind}
 use Rattle.ud_model.specs.declared.kind.Mode.TheVariants.{C}
 use Rattle.ud_model.specs.declared.limits.TheConstants.{LINE_BYTES}
@@ -152,14 +148,6 @@ is_foldable rs = begins_directive rs && not (is_empty (last_ending rs)) &&
 abbrev pub joined_after : Directive → List Reading → List ℕ
 joined_after d rs = d.after ++ flat_map (λ (r : Reading). r.scan.masked) rs
 
--- `spaced white bytes`: the bytes with one space for all white space before a byte, and without any
--- at the end. White space is before the first byte if `white`.
-abbrev pub spaced : Bool → List ℕ → List ℕ
-spaced white [] = []
-spaced white (b ∷ bytes) =
-    if is_white b then spaced true bytes
-    else (if white then space ∷ b ∷ [] else b ∷ []) ++ spaced false bytes
-
 -- `IsReadAs e d rs`: the directive `e` has the kind and the keyword of `d`, which the lines `rs`
 -- continue. After the keyword come the same bytes but for white space, and the same tokens.
 pub record IsReadAs (e d : Directive) (rs : List Reading) : Type 0 where
@@ -259,12 +247,3 @@ c_line rs = c_line_in rs rs
 -- `c_lines bytes`: the logical lines of the text as C reads them, without the numbers of lines.
 abbrev pub c_lines : List ℕ → List CLine
 c_lines bytes = map c_line (logical_lines (map unnumbered (read_as C bytes)))
-
--- `SimplifiesFolded args input final a`: under plain options without -t, `a` is the answer to the
--- folded input, without a fault. `final` is a text that gives the simplified output if it is
--- folded.
-pub record SimplifiesFolded (args : List (List ℕ)) (input final : List ℕ) (a : Answer) : Type 0
-  where
-    pub succeeds : Succeeds args (folded_text input) a
-    pub plain : IsPlainC (options_of args)
-    pub folds : folded_text final ≡ simplified_under (options_of args) a.output

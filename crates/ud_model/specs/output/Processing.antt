@@ -31,7 +31,7 @@
 -- Example: in `#define A 1`, `#if A`, `x`, `#endif` the first line leads to a state where the
 -- condition is true, and `x` is taken.
 use Rattle.std.specs.Prelude.{◌≡◌, ℕ, List, [], Bool, true, false, Option, None, if◌then◌else◌}
-use Rattle.ud_model.specs.text.Bytes.{skip_white}
+use Rattle.ud_model.specs.text.SpacedBytes.{spaced}
 use Rattle.ud_model.specs.text.Scans.{Scan, Reading}
 use Rattle.ud_model.specs.sections.Directives.{Content, cut_keyword, directive, text, content_of}
 use Rattle.ud_model.specs.sections.Directives.{test_of}
@@ -48,8 +48,8 @@ use Rattle.ud_model.specs.output.CSelection.{condition_by_test, MayBe}
 use Rattle.ud_model.specs.declared.kind.Test.{Test}
 use Rattle.ud_model.specs.declared.kind.Test.TheVariants.{Nothing}
 
--- The condition of a directive, as written: its test, the masked text after the keyword and white
--- space, and whether it continues on the next line.
+-- The condition of a directive, as written: its test, the masked text after the keyword, and
+-- whether it continues on the next line. White space counts as one space before a byte.
 pub record Condition : Type 0 where
   pub test : Test
   pub text : List ℕ
@@ -62,7 +62,7 @@ no_condition = record { test = Nothing; text = []; goes_on = false }
 -- `condition_of_test test after on`: the condition with this test and the text `after` the keyword.
 abbrev pub condition_of_test : Test → List ℕ → Bool → Condition
 condition_of_test Nothing after on = no_condition
-condition_of_test test after on = record { test = test; text = skip_white after; goes_on = on }
+condition_of_test test after on = record { test = test; text = spaced true after; goes_on = on }
 
 -- `condition_with scan content`: the condition of a line with this content.
 abbrev pub condition_with : Scan → Content → Condition

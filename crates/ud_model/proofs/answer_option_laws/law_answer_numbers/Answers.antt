@@ -12,8 +12,5 @@ returns-clause-blanks c = λ args right. keeps_with_b args right
 pub returns-clause-counted : goal.returns-clause-counted
 returns-clause-counted c = λ args more input js a k w j. answered_counted w.plain j.no_fault w.keeps j.judged w.answer w.numbered
 
-pub returns-clause-reading_selects : goal.returns-clause-reading_selects
-returns-clause-reading_selects c = λ args more input a k r n. answered_selects_numbered r n
-
 pub returns-clause-selects : goal.returns-clause-selects
-returns-clause-selects c = λ args more input a k r n p. answered_selects_numbered r n
+returns-clause-selects c = λ args more input a k r n. answered_selects_numbered r n

@@ -1,6 +1,5 @@
 -- Each logical line is read by itself, and only numbers change.
 use Rattle.ud_model.proofs.output.FoldedReadings.{all_there, readings_folded, same_c_lines}
-use Rattle.ud_model.proofs.output.LogicalSelected.{text_selects}
 use Rattle.ud_model.proofs.residual_laws.law_folded_text.Goals as goal
 
 pub returns-clause-all : goal.returns-clause-all
@@ -11,6 +10,3 @@ returns-clause-readings c = readings_folded
 
 pub returns-clause-same : goal.returns-clause-same
 returns-clause-same c = same_c_lines
-
-pub returns-clause-selected : goal.returns-clause-selected
-returns-clause-selected c = text_selects

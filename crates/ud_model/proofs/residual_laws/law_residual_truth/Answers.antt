@@ -1,5 +1,6 @@
 -- By the way in which the value comes about.
 use Rattle.ud_model.proofs.conditions.ResidualTruth.{Tells, tells}
+use Rattle.ud_model.proofs.conditions.StayedChoices.{stay_allowed}
 use Rattle.ud_model.proofs.conditions.OneValue.{one_value}
 use Rattle.ud_model.specs.conditions.Residuals.{residual}
 use Rattle.ud_model.specs.conditions.Choices.{stay}
@@ -16,3 +17,6 @@ returns-clause-no c = λ table rules e m c a d. let t : Tells (residual table ru
 
 pub returns-clause-one : goal.returns-clause-one
 returns-clause-one c = λ e m x y p q. one_value p q
+
+pub returns-clause-allowed : goal.returns-clause-allowed
+returns-clause-allowed c = λ table rules e m p. stay_allowed table rules m p
