@@ -5,4 +5,3 @@ pub mod ProcessingExamples
 pub mod PresumedExamples
 pub mod ResidualExamples
 pub mod FoldedExamples
-pub mod PartsExamples

@@ -83,9 +83,6 @@ pub mod SimplifiedTree
 pub mod SimplifiedLineTexts
 pub mod SimplifiedAgain
 pub mod SimplifiedRuns
-pub mod PartTrees
-pub mod PartReads
-pub mod PartOutcomes
 pub mod LogicalNodes
 pub mod ProcessedSimplified
 pub mod RewrittenAnswers

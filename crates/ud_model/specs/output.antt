@@ -19,4 +19,3 @@ pub mod ProcessedFiles
 pub mod DecidedByNumbers
 pub mod FoldedTexts
 pub mod LogicalProcessing
-pub mod TextsInParts

@@ -1,12 +1,11 @@
 //! Laws of answers: the laws of the output, stated for arguments, an input and the answer to them.
 
-ghost use Rattle.std.specs.Prelude.{◌≡◌, ℕ, List, ◌++◌, length, map, not, bytes_eq, None, Bool};
+ghost use Rattle.std.specs.Prelude.{◌≡◌, ℕ, List, map, not, bytes_eq, Bool};
 ghost use Rattle.ud_model.specs.text.Lines.{lines_of};
 ghost use Rattle.ud_model.specs.text.Scans.{Reading};
 ghost use Rattle.ud_model.specs.sections.Tree.{Tree, Nodes, closed, lines};
 ghost use Rattle.ud_model.specs.sections.Items.{Options, reading_of, mode_by};
 ghost use Rattle.ud_model.specs.answer.CommandLine.{options_of};
-ghost use Rattle.ud_model.specs.answer.Outcomes.{Outcome, HasOutcome};
 ghost use Rattle.ud_model.specs.answer.Answer.{Answer, IsAnswer, status_by, copy_answer, Succeeds};
 ghost use Rattle.ud_model.specs.output.Worlds.{selected};
 ghost use Rattle.ud_model.specs.output.Rereading.{IsPlain, IsTreeOf, LinesFit};
@@ -21,8 +20,6 @@ ghost use Rattle.ud_model.specs.output.Processing.{HasOneChoice};
 ghost use Rattle.ud_model.specs.output.ProcessedFiles.{FileTree, IsPrinted, IsOutput};
 ghost use Rattle.ud_model.specs.output.DecidedByNumbers.{MayDecide, AreTrue, decides_by};
 ghost use Rattle.ud_model.specs.conditions.CValues.{Number};
-ghost use Rattle.ud_model.specs.output.TextsInParts.{MayBeParts, in_parts, AnswersBoth};
-ghost use Rattle.ud_model.specs.declared.kind.Mode.{Mode};
 
 use crate::output_laws::Preprocessing;
 
@@ -123,19 +120,4 @@ pub fn law_answer_status()
     ensures { (args : List (List ℕ)) (input : List ℕ) (a : Answer) → Succeeds args input a →
         PrintsText (options_of args) → a.status
         ≡ status_by (options_of args).settings.exit_mode (not (bytes_eq a.output input)) }
-{}
-
-/// A text may be processed part by part, unless `-n` is given.
-///
-/// The first part has no fault. It is empty or ends in a newline, with no backslash before it
-/// unless `-t` is given. The output for the whole is then the output for the first part, then that
-/// for the second. A fault of the second part is a fault of the whole, later by the lines of the
-/// first. Some line differs if a line of either part does (unifdef(1)).
-pub fn law_answer_in_parts()
-    ensures outcome { (o : Options) (text more : List ℕ) (r s : Outcome) →
-        MayBeParts o text more → HasOutcome o text r → r.fault ≡ None → HasOutcome o more s →
-        HasOutcome o (text ++ more) (in_parts (length (lines_of text)) r s) }
-    ensures answer { (args : List (List ℕ)) (text more : List ℕ) (a b : Answer) →
-        MayBeParts (options_of args) text more → Succeeds args text a → IsAnswer args more b →
-        (c : Answer) → IsAnswer args (text ++ more) c → AnswersBoth a b c }
 {}

@@ -10,7 +10,6 @@ ghost use Rattle.ud_model.specs.answer.CommandLine.{has_flag, parsed_args, usage
 ghost use Rattle.ud_model.specs.answer.OptionArguments.{AddsOption};
 ghost use Rattle.ud_model.specs.answer.Answer.{Answer, IsAnswer, JudgesAs, Succeeds};
 ghost use Rattle.ud_model.specs.answer.Printing.{Judged};
-ghost use Rattle.ud_model.specs.output.Rereading.{IsPlainC};
 ghost use Rattle.ud_model.specs.output.ListedNames.{with_listing, AreAlikeArgs, ListsNames};
 ghost use Rattle.ud_model.specs.output.ListedNames.{NeverCounts};
 ghost use Rattle.ud_model.specs.output.BlankedLines.{AreBlankedBy, Blanks, endings_of};

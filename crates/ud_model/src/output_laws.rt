@@ -7,21 +7,15 @@ ghost use Rattle.ud_model.specs.sections.Tree.{Nodes, Tree, closed, lines, with_
 ghost use Rattle.ud_model.specs.sections.Items.{Options, reading_of, mode_by};
 ghost use Rattle.ud_model.specs.answer.Outcomes.{Outcome, HasOutcome};
 ghost use Rattle.ud_model.specs.output.Worlds.{World, Agrees, selected, openers, openers_in};
-ghost use Rattle.ud_model.specs.output.Pruned.{Edited, edited, IsPruned, ArePruned, pruned_lines};
+ghost use Rattle.ud_model.specs.output.Pruned.{Edited, IsPruned, ArePruned, pruned_lines};
 ghost use Rattle.ud_model.specs.output.Pruned.{IsUndecided};
 ghost use Rattle.ud_model.specs.output.Rereading.{IsPlain, IsTreeOf, IsClean, CleanRun, LinesFit};
-ghost use Rattle.ud_model.specs.output.Rereading.{line_bytes, edited_bytes, KeepsTruths, IsPlainC};
+ghost use Rattle.ud_model.specs.output.Rereading.{line_bytes, edited_bytes, KeepsTruths};
 ghost use Rattle.ud_model.specs.output.Rereading.{PrintsText, selected_bytes};
 ghost use Rattle.ud_model.specs.output.CSelection.{IsCWorld, condition_in, IsCPair};
-ghost use Rattle.ud_model.specs.output.GoneSymbols.{IsGone};
-ghost use Rattle.ud_model.specs.output.ListedNames.{DifferAtMostAt};
-ghost use Rattle.ud_model.specs.conditions.Table.{Argument};
-ghost use Rattle.ud_model.specs.output.LiveLines.{text_lines_in, AreNumbered, AreLive};
 ghost use Rattle.ud_model.specs.output.InsertedLines.{read_as};
 ghost use Rattle.ud_model.specs.output.Processing.{Condition, Processes, over_readings, agreeing};
 ghost use Rattle.ud_model.specs.output.Processing.{of_origin};
-ghost use Rattle.ud_model.specs.declared.kind.Mode.{Mode};
-ghost use Rattle.ud_model.specs.declared.verdict.Verdict.{Verdict};
 
 /// The exit status reports whether the output is a copy.
 ///
@@ -32,32 +26,6 @@ pub fn law_changed()
         HasOutcome o input r → r.fault ≡ None → r.differs ≡ not (bytes_eq r.output input) }
 {}
 
-/// Pruning keeps the selected lines: in a world that agrees with the decided conditions, the lines
-/// selected from the pruned nodes are those selected from the nodes (C11 6.10.1p6).
-pub fn law_selected_tree()
-    ensures { (w : World Reading) (ns : Nodes Reading) (ps : Nodes (Edited Reading)) →
-        IsPruned ns ps → Agrees w ns → selected (λ e. w e.line) ps
-        ≡ map (edited Verdict.Keep) (selected w ns) }
-{}
-
-/// Exactly the dead lines are removed: a text line stays if some world that agrees with the decided
-/// conditions selects it, and otherwise goes (C11 6.10.1p6).
-///
-/// No two lines have the same number. Such a world may give an unknown condition either truth,
-/// whatever the condition says.
-pub fn law_only_dead_lines()
-    ensures { (ns : Nodes Reading) → AreNumbered ns →
-        AreLive ns (map (λ e. e.line) (text_lines_in (pruned_lines ns))) }
-{}
-
-/// The output is well nested: the lines that the marks leave, with edited directives, have exactly
-/// one tree whose sections are all closed (unifdef(1)).
-pub fn law_printed()
-    ensures exists { (ns : Nodes Reading) → (ps : Nodes (Edited Reading)) × IsPruned ns ps }
-    ensures only { (ns : Nodes Reading) (ps qs : Nodes (Edited Reading)) → IsPruned ns ps →
-        IsPruned ns qs → ps ≡ qs }
-{}
-
 /// The pruned tree is what the table of verdicts leaves, section by section.
 ///
 /// A section that gives way leaves the nodes of its first kept group. Each other section keeps its
@@ -65,15 +33,6 @@ pub fn law_printed()
 pub fn law_pruned()
     ensures { (ns : Nodes Reading) (ps : Nodes (Edited Reading)) →
         IsPruned ns ps ↔ ArePruned ns ps }
-{}
-
-/// A text without a fault has a tree whose sections are all closed, and no text has two trees (C11
-/// 6.10).
-pub fn law_tree_of()
-    ensures exists { (o : Options) (input : List ℕ) (r : Outcome) → HasOutcome o input r →
-        r.fault ≡ None → (ns : Nodes Reading) × IsTreeOf o input (closed ns) }
-    ensures only { (o : Options) (text : List ℕ) (t u : Tree Reading) → IsTreeOf o text t →
-        IsTreeOf o text u → t ≡ u }
 {}
 
 /// The output needs no further run of unifdef(1).
@@ -124,16 +83,6 @@ pub fn law_reading_selects()
         ≡ map (λ e. condition_in e.line) (openers_in (pruned_lines k.before)) }
     ensures world { (k : CleanRun) (w v : World Reading) →
         IsCPair k.options w k.before v k.after → IsCWorld k.options.table v k.after }
-{}
-
-/// The build may forget a symbol that no condition names.
-///
-/// No condition of the nodes has the name, and no symbol has it as its value. Let another table
-/// differ from this one on that name alone. C may then give the conditions the same truths by
-/// either table, so it selects the same lines (C11 6.10.1p4, p6).
-pub fn law_symbol_is_gone()
-    ensures { (t u : List Argument) (name : List ℕ) (ns : Nodes Reading) → IsGone t name ns →
-        DifferAtMostAt name t u → (w : World Reading) → IsCWorld t w ns ↔ IsCWorld u w ns }
 {}
 
 /// A preprocessor: what it may do in each state. It may have several choices, or none (C11 5.1.1.2,

@@ -18,11 +18,10 @@ ghost use Rattle.ud_model.specs.conditions.ResidualTexts.{chosen, keeps, simplif
 ghost use Rattle.ud_model.specs.conditions.Sublists.{IsSublist};
 ghost use Rattle.ud_model.specs.conditions.Choices.{Choice, IsAllowed, HasValue, stay};
 ghost use Rattle.ud_model.specs.sections.Directives.{Directive, directive, content_of, test_of};
-ghost use Rattle.ud_model.specs.sections.Items.{Options, rules_of};
+ghost use Rattle.ud_model.specs.sections.Items.{Options};
 ghost use Rattle.ud_model.specs.sections.Tree.{Nodes, closed};
-ghost use Rattle.ud_model.specs.output.Worlds.{World, truths_of, selected};
-ghost use Rattle.ud_model.specs.output.Rereading.{NoneIgnores, IsTreeOf, IsPlainC, selected_bytes};
-ghost use Rattle.ud_model.specs.output.Rereading.{KeepsTruths, LinesFit};
+ghost use Rattle.ud_model.specs.output.Rereading.{IsTreeOf, IsPlainC};
+ghost use Rattle.ud_model.specs.output.Rereading.{LinesFit};
 ghost use Rattle.ud_model.specs.output.InsertedLines.{read_as};
 ghost use Rattle.ud_model.specs.output.SimplifiedTexts.{simplified_line, simplified_text};
 ghost use Rattle.ud_model.specs.output.SimplifiedTexts.{simplified_under};

@@ -1,6 +1,6 @@
 -- Of the text lines exactly the live ones are left.
-use Rattle.std.proofs.Common.{inl, inr, ◌≡◌, ℕ, suc, ◌+◌, ◌<◌, ◌≤◌, List, [], ◌∷◌, ◌++◌, length, map, Bool, Option, Some, None, refl, sym, ◌∙◌, ap, ap₂, subst, arith}
-use Rattle.std.specs.Prelude.{◌⊎◌, slice_index}
+use Rattle.std.proofs.Common.{inl, inr, ◌≡◌, ℕ, suc, ◌+◌, ◌≤◌, List, [], ◌∷◌, ◌++◌, length, map, Bool, Option, Some, None, refl, sym, ◌∙◌, ap, ap₂, subst, arith}
+use Rattle.std.specs.Prelude.{◌⊎◌}
 use Rattle.std.specs.List.{Contains}
 use Rattle.std.proofs.Math.Logic.{⊎_elim}
 use Rattle.std.proofs.lemmas.List.{length-map}
@@ -13,8 +13,7 @@ use Rattle.ud_model.specs.sections.Pruning.{marks}
 use Rattle.ud_model.specs.sections.Items.{reading_of, line_of}
 use Rattle.ud_model.specs.output.Worlds.{World, or_else, lines_or, where_true, selected, selected_groups, selected_elifs, openers, Agrees}
 use Rattle.ud_model.specs.output.Pruned.{Edited, edited, pruned_lines, IsUnknown}
-use Rattle.std.specs.List.Sorted.{IsStrictlyIncreasing}
-use Rattle.ud_model.specs.output.LiveLines.{text_lines_in, AreThose, none_is, this_is, this_is_not, AreNumbered, IsLive, AreLive}
+use Rattle.ud_model.specs.output.LiveLines.{text_lines_in, AreThose, none_is, this_is, this_is_not, IsLive, AreLive}
 use Rattle.ud_model.proofs.output.Folded.{folded}
 use Rattle.ud_model.proofs.output.PrintedPruned.{printed-pruned}
 use Rattle.ud_model.proofs.output.PrunedTree.{openers_lines}
@@ -200,25 +199,3 @@ module _ (ns : Nodes Reading) where
       each_stays : (es : List (Edited Reading)) → ((e : Edited Reading) → Contains es e → edited Keep e.line ≡ e) → map (edited Keep) (map line_from es) ≡ es
       each_stays [] f = refl
       each_stays (e ∷ es) f = ap₂ (λ (d : Edited Reading) (ds : List (Edited Reading)). d ∷ ds) (f e (is_first e es)) (each_stays es (λ d c. f d (is_later e es d c)))
-
--- 5. Rising numbers.
-
-abbrev number_of : Item Reading → ℕ
-number_of x = (line_of x).number
-
-rise_on : (n : ℕ) (y : Item Reading) (ys : List (Item Reading)) → n ≤ number_of y → IsStrictlyIncreasing (map number_of (y ∷ ys)) → Rise n (map reading_of (y ∷ ys))
-rise_on n y [] l h = (l, tt)
-rise_on n y (z ∷ zs) l h = (
-  l,
-  rise_on (suc (number_of y)) z zs (let m : number_of y < number_of z = h 0 (omega arith) in omega (arith, m)) (λ k b.
-      let e : suc k + 1 ≡ suc (k + 1) = omega arith in
-      subst (λ (i : ℕ). slice_index (map number_of (z ∷ zs)) k < slice_index (map number_of (y ∷ z ∷ zs)) i) e (h (suc k) (omega (arith, b)))),
-)
-
-numbers_rise : (ys : List (Item Reading)) → IsStrictlyIncreasing (map number_of ys) → Rise 0 (map reading_of ys)
-numbers_rise [] h = tt
-numbers_rise (y ∷ ys) h = rise_on 0 y ys (omega arith) h
-
--- Of numbered nodes exactly the live text lines are left.
-pub only_live : (ns : Nodes Reading) → AreNumbered ns → AreLive ns (map line_from (text_lines_in (pruned_lines ns)))
-only_live ns h = live_lines ns 0 (numbers_rise (lines_of_nodes ns) h)

@@ -75,12 +75,6 @@ pub data LinesWithInserted : List Reading → List Reading → Type 0 where
   inserted_line : {d : Reading} {rs ss : List Reading} → IsInserted d → LinesWithInserted rs ss →
       LinesWithInserted rs (d ∷ ss)
 
--- `HasTreeWithInserted o output us`: `output` has a tree of the nodes `us`, with text lines
--- inserted.
-abbrev pub HasTreeWithInserted : Options → List ℕ → Nodes Reading → Type 0
-HasTreeWithInserted o output us =
-    (vs : Nodes Reading) × IsTreeOf o output (closed vs) × NodesWithInserted us vs
-
 -- `SelectsWithInserted o text us v ls`: `text` has a tree of the nodes `us` with lines inserted. If
 -- each of its openers has the truth that `v` gives it in `us`, C selects lines with the bytes `ls`,
 -- and inserted lines.

@@ -4,7 +4,6 @@
 --
 --   text_lines_in xs     the text lines among the lines `xs`, in order
 --   AreThose Is xs ys    `ys` are the elements of `xs` that are `Is`, in order
---   AreNumbered ns       each line of the nodes has a higher number than the one before it
 --   IsLive ns l          some world that agrees with the decided conditions selects the line `l`
 --   AreLive ns ls        `ls` are the live text lines of the nodes, in order
 --   LeavesLive o t out   the text lines of `out` are the live ones of the text `t`, byte by byte
@@ -17,11 +16,10 @@
 -- are live. With A defined only `a` is.
 use Rattle.std.specs.Prelude.{◌≡◌, ℕ, List, [], ◌∷◌, ◌++◌, map}
 use Rattle.std.specs.List.{Contains}
-use Rattle.std.specs.List.Sorted.{IsStrictlyIncreasing}
 use Rattle.ud_model.specs.text.Scans.{Reading}
 use Rattle.ud_model.specs.sections.Tree.{Item, Nodes, closed, text_line, if_line, elif_line}
 use Rattle.ud_model.specs.sections.Tree.{else_line, endif_line, lines_of_nodes}
-use Rattle.ud_model.specs.sections.Items.{Options, line_of}
+use Rattle.ud_model.specs.sections.Items.{Options}
 use Rattle.ud_model.specs.output.Worlds.{World, selected, Agrees}
 use Rattle.ud_model.specs.output.Rereading.{IsTreeOf, line_bytes}
 use Rattle.ud_model.specs.output.CSelection.{IsCWorld}
@@ -46,10 +44,6 @@ pub data AreThose {X : Type 0} (Is : X → Type 0) : List X → List X → Type 
   this_is : {x : X} {xs ys : List X} → Is x → AreThose Is xs ys → AreThose Is (x ∷ xs) (x ∷ ys)
   this_is_not : {x : X} {xs ys : List X} → (Is x → ⊥) → AreThose Is xs ys →
       AreThose Is (x ∷ xs) ys
-
--- `AreNumbered ns`: each line of the nodes has a higher number than the one before it.
-abbrev pub AreNumbered : Nodes Reading → Type 0
-AreNumbered ns = IsStrictlyIncreasing (map (λ x. (line_of x).number) (lines_of_nodes ns))
 
 -- `IsLive ns l`: some world that agrees with the decided conditions of the nodes selects the line
 -- `l`.

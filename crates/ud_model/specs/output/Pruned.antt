@@ -12,7 +12,7 @@
 --
 -- All else follows from the table (Pruning). A section that gives way leaves the nodes of its first
 -- kept group, if any. Each other section keeps its kept groups in order, each opener with its
--- verdict (law_pruned). Nodes have exactly one pruned tree (law_printed).
+-- verdict (law_pruned). Nodes have exactly one pruned tree.
 --
 -- Example: of `#if X`, `#elif defined A`, `#elif Y`, `#else`, `#endif` under -DA three lines are
 -- left: an `#if X`, an `#else` from the second line and an `#endif` from the third.

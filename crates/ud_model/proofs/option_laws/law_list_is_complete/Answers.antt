@@ -1,5 +1,5 @@
 -- The names of each line are listed, so each condition is decided alike.
-use Rattle.ud_model.proofs.output.ListComplete.{list_complete, list_serves, alike_but_one}
+use Rattle.ud_model.proofs.output.ListComplete.{list_complete, list_serves}
 use Rattle.ud_model.proofs.option_laws.law_list_is_complete.Goals as goal
 
 pub returns-clause-listed : goal.returns-clause-listed
@@ -7,6 +7,3 @@ returns-clause-listed c = λ o p input l r k e a run. list_complete o p input k 
 
 pub returns-clause-serves : goal.returns-clause-serves
 returns-clause-serves c = λ q o p input l r s k e a run. list_serves q o p input s.settings s.lister s.listed k e a.settings a.entries run
-
-pub returns-clause-alike : goal.returns-clause-alike
-returns-clause-alike c = λ list name o p out none same. alike_but_one list name o.table p.table out none same
