@@ -19,8 +19,10 @@ pub mod SpacesInFront
 pub mod ChoiceValues
 pub mod ResidualTruth
 pub mod ResidualShape
+pub mod ResidualOperands
 pub mod KeptTokens
 pub mod ResidualRead
+pub mod ResidualAgain
 pub mod ResidualUnknown
 pub mod ResidualSame
 pub mod ReducedTrees

@@ -3,6 +3,7 @@ pub mod Sizes
 pub mod PrunedHeights
 pub mod Formed
 pub mod RereadLaws
+pub mod SelectedAgain
 pub mod Heeding
 pub mod ExchangedContent
 pub mod ExchangedScan
@@ -77,6 +78,7 @@ pub mod OptionAnswers
 pub mod ReachedPruned
 pub mod ReachedAlike
 pub mod SimplifiedLines
+pub mod SimplifiedConditions
 pub mod SimplifiedReadings
 pub mod SimplifiedItems
 pub mod SimplifiedTree

@@ -20,12 +20,12 @@ use Rattle.ud_model.proofs.text.LinesLemmas.{no_newline-append, text_of-line_at}
 use Rattle.ud_model.proofs.conditions.ResidualRead.{cells_go}
 use Rattle.ud_model.proofs.output.Formed.{IsEnd, ended}
 use Rattle.ud_model.proofs.output.SimplifiedLines.{after_is}
-use Rattle.ud_model.proofs.output.SimplifiedAgain.{unspliced}
 use Rattle.ud_text.specs.lines.LinesState.{UpToNewline}
 use Rattle.ud_text.proofs.lemmas.lines.NewlineLemmas.{up_to_newline-once}
 use Rattle.ud_text.proofs.lemmas.scan.MaskLemmas.{no_newline-take, no_newline-drop}
 use Rattle.ud_passes.specs.pruning.Cells.{AreCells, byte_of}
 use Rattle.ud_passes.specs.pruning.EditedLines.{c_reading, IsScannedAlone, is_meant, IsCondition, line_if_read, IsEditedAt}
+use Rattle.ud_model.proofs.text.ScanLaws.{unspliced}
 
 -- 1. Sublists.
 

@@ -7,8 +7,8 @@ use Rattle.ud_model.specs.conditions.Residuals.{is_unit, is_unknown, stands_alon
 use Rattle.ud_model.specs.conditions.ResidualTexts.{joined_flags, keeps}
 use Rattle.ud_model.specs.output.LeftOperands.{HasNoUnit, IsReduced}
 use Rattle.ud_model.specs.declared.operator.Operator.TheVariants.{Or, And, Not}
-use Rattle.ud_model.proofs.conditions.ResidualShape.{operands_undecided}
-use Rattle.ud_model.proofs.conditions.ResidualRead.{AreTrue, fixed_true}
+use Rattle.ud_model.proofs.conditions.ResidualAgain.{AreTrue, fixed_true}
+use Rattle.ud_model.proofs.conditions.ResidualOperands.{operands_undecided}
 
 true_parts : (xs ys : List Bool) → AreTrue (xs ++ ys) → AreTrue xs × AreTrue ys
 true_parts [] ys h = (tt, h)

@@ -12,7 +12,8 @@ use Rattle.ud_model.specs.output.CSelection.{IsCWorld}
 use Rattle.ud_model.specs.declared.settings.Settings.{Settings}
 use Rattle.ud_model.specs.declared.settings.Listing.TheVariants.{Off}
 use Rattle.ud_model.proofs.output.Changed.{changed}
-use Rattle.ud_model.proofs.output.RereadLaws.{runs_output, c_selected_again}
+use Rattle.ud_model.proofs.output.RereadLaws.{runs_output}
+use Rattle.ud_model.proofs.output.SelectedAgain.{c_selected_again}
 
 -- A run whose status isn't 2 has no fault.
 pub faultless : (s : Settings) (d : Bool) (f : Option Fault) → status_of s d f ≢ 2 → f ≡ None

@@ -15,7 +15,6 @@ use Rattle.ud_model.specs.sections.Directives.{Directive, directive, content_of,
 use Rattle.ud_model.specs.sections.DirectiveParts.{first_is, HasDirective}
 use Rattle.ud_model.specs.declared.kind.Kind.{Kind}
 use Rattle.ud_model.proofs.sections.SplitLines.{directive_is}
-use Rattle.ud_model.proofs.output.SimplifiedAgain.{unspliced}
 use Rattle.std.proofs.lemmas.Slice.Eq.{bytes_eq-Decides}
 use Rattle.ud_model.specs.aids.Parsing.{tokens_of}
 use Rattle.ud_model.specs.output.InsertedLines.{in_mode, read_as}
@@ -24,6 +23,7 @@ use Rattle.ud_model.specs.output.FoldedTexts.{is_foldable, IsReadAs, vertical_ta
 use Rattle.ud_model.proofs.conditions.SpreadTexts.{begins_white, IsSpread, nothing, kept, behind, in_front, Spread, spread_tokens}
 use Rattle.ud_model.proofs.output.Each.{Each, each_parts, each_both}
 use Rattle.ud_model.proofs.output.LeftLines.{spliced_body}
+use Rattle.ud_model.proofs.text.ScanLaws.{unspliced}
 
 -- 1. A comment has a space before each of its bytes, but for its first one, a slash.
 

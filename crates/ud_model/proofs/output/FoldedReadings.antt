@@ -24,10 +24,10 @@ use Rattle.ud_model.proofs.output.Formed.{IsEnd, whole_ending, no_feed_parts, no
 use Rattle.ud_model.proofs.output.LeavesOff.{joins_none}
 use Rattle.ud_model.proofs.output.RereadChain.{AllButLast, IsInner, lines_end}
 use Rattle.ud_model.proofs.output.RereadMore.{IsLine}
-use Rattle.ud_model.proofs.output.ListComplete.{read_more}
 use Rattle.ud_model.proofs.output.OutputPieces.{output_lines}
 use Rattle.ud_model.proofs.output.SimplifiedLineTexts.{own_line}
 use Rattle.ud_model.proofs.output.FoldedLines.{IsMeasured, measured, folded_shown, folded_has}
+use Rattle.ud_model.proofs.text.ScanLaws.{read_more}
 
 -- 1. Logical lines, each of which is read by itself.
 

@@ -17,8 +17,8 @@ use Rattle.ud_model.proofs.sections.Soundness.{reading_of-item_of, read_lines, l
 use Rattle.ud_model.proofs.output.Each.{Each, each_both}
 use Rattle.ud_model.proofs.output.Heeding.{ReadIn, none_read, one_read, the_mode, Heeds, item_heeds, one_mode, are_read}
 use Rattle.ud_model.proofs.output.CountedText.{counted_text}
-use Rattle.ud_model.proofs.output.ListComplete.{read_more}
 use Rattle.ud_model.proofs.output.InsertedTree.{items, Inserted, strewn_counted, weave_inserted}
+use Rattle.ud_model.proofs.text.ScanLaws.{read_more}
 
 -- The readings of items are those from which they come.
 pub readings_back : (o : Options) (rs : List Reading) → map reading_of (items o rs) ≡ rs

@@ -26,6 +26,7 @@ use Rattle.ud_model.proofs.answer.LevelLemmas.{length_levels}
 use Rattle.ud_model.specs.output.InsertedLines.{in_mode, read_in}
 use Rattle.ud_model.proofs.output.Each.{Each, each_parts}
 use Rattle.ud_model.proofs.output.Heeding.{the_mode, one_mode, sound_heed}
+use Rattle.ud_model.proofs.text.ScanLaws.{read_more}
 
 -- 1. Items with the same names.
 
@@ -119,10 +120,6 @@ each_map f Q (x ∷ xs) h = (h.0, each_map f Q xs h.1)
 pub each_unmap : {A B : Type 0} (f : A → B) (Q : B → Type 0) (xs : List A) → Each Q (map f xs) → Each (λ x. Q (f x)) xs
 each_unmap f Q [] h = tt
 each_unmap f Q (x ∷ xs) h = (h.0, each_unmap f Q xs h.1)
-
--- The readings of lines with one more.
-pub read_more : (m : Mode) (ls : List Line) (l : Line) → read_in m (ls ++ l ∷ []) ≡ read_in m ls ++ next_reading (read_in m ls) m l ∷ []
-read_more m ls l = grind (arith, map-append, readings_after-append)
 
 -- The readings of longer lists of lines begin so.
 read_front : (m : Mode) (ls : List Line) (l : Line) (later : List Line) →

@@ -16,11 +16,12 @@ use Rattle.ud_model.proofs.output.PrintedPruned.{printed-pruned}
 use Rattle.ud_model.proofs.output.AnswerLaws.{faultless}
 use Rattle.ud_model.proofs.output.CSelected.{c_agrees}
 use Rattle.ud_model.proofs.output.OnlyDead.{line_from, live_lines, texts_stay}
-use Rattle.ud_model.proofs.output.RereadLaws.{what_is_left, clear_run, kept_bytes, c_world_again, c_selected_again}
+use Rattle.ud_model.proofs.output.RereadLaws.{what_is_left, kept_bytes}
 use Rattle.ud_model.proofs.output.SymbolsGone.{same_worlds}
 use Rattle.ud_model.specs.conditions.Table.{Argument}
 use Rattle.ud_model.specs.output.GoneSymbols.{SelectsWithout}
 use Rattle.ud_model.proofs.output.WorldsExist.{Rise, text_rise}
+use Rattle.ud_model.proofs.output.SelectedAgain.{clear_run, c_world_again, c_selected_again}
 
 module _ {L M : Type 0} (f : L → M) where
   mutual

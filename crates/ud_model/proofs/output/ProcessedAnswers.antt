@@ -26,10 +26,11 @@ use Rattle.ud_model.proofs.output.Each.{Each, each_both, Pairwise}
 use Rattle.ud_model.proofs.output.Folded.{folded}
 use Rattle.ud_model.proofs.output.ProcessedAlike.{IsText, LinesText, pruned_stay, whole_stay, IsDoneAlike, nodes_alike, processed_alike}
 use Rattle.ud_model.proofs.output.ProcessedPruned.{HasOutput, is_pruned, is_kept, processed}
-use Rattle.ud_model.proofs.output.RereadLaws.{reread, clear_run, seen_alike}
+use Rattle.ud_model.proofs.output.RereadLaws.{reread, seen_alike}
 use Rattle.ud_model.proofs.output.EachLines.{IsOf, from_items, AnyOpener}
 use Rattle.ud_model.proofs.output.PrunedTree.{closed_same}
 use Rattle.ud_model.proofs.output.SeenLines.{scanned, left_seen, text_scan_by, with_lines-twice}
+use Rattle.ud_model.proofs.output.SelectedAgain.{clear_run}
 
 -- 1. The text lines of a text are read as text.
 

@@ -18,10 +18,10 @@ use Rattle.ud_model.proofs.conditions.ResidualTruth.{Tells, tells, truth_kept}
 use Rattle.ud_model.proofs.conditions.ResidualRead.{untouched}
 use Rattle.ud_model.proofs.output.PrunedTree.{closed_same}
 use Rattle.ud_model.proofs.output.NodesAlike.{same_nodes, alike_by}
-use Rattle.ud_model.proofs.output.SimplifiedLines.{condition_stays, operands_go}
 use Rattle.ud_model.proofs.output.SimplifiedLineTexts.{lines_left}
 use Rattle.ud_model.proofs.output.SimplifiedTree.{Like, OpenerLeft, simplified_tree}
 use Rattle.ud_model.proofs.output.ProcessedAlike.{TextAlike, OpenerAlike, IsDoneAlike}
+use Rattle.ud_model.proofs.output.SimplifiedConditions.{condition_stays, operands_go}
 
 module _ {S F L : Type 0} (p : Preprocessor S F L) where
   same_text : (l : L) → TextAlike p p l l

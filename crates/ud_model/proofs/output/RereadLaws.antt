@@ -5,18 +5,18 @@ use Rattle.std.proofs.lemmas.List.{length-map}
 use Rattle.ud_model.specs.text.Lines.{Line, text_of, texts_of, lines_of, AreFormed}
 use Rattle.ud_model.specs.text.Scans.{Reading}
 use Rattle.ud_model.specs.sections.Tree.{Item, Nodes, Tree, closed, open_section, lines, lines_of_nodes, innermost, item_with, with_lines}
-use Rattle.ud_model.specs.sections.Pruning.{Mark, marks, Part, first_kept_verdict}
+use Rattle.ud_model.specs.sections.Pruning.{Mark, marks}
 use Rattle.ud_model.specs.sections.Items.{Options, reading_of, line_of}
 use Rattle.ud_model.specs.sections.Faults.{Fault, end_fault, ends_in_comment, last_number}
 use Rattle.ud_model.specs.answer.Printing.{Judged, judged_lines, piece_after, pieces_by, style_of, some_other, printed_by}
 use Rattle.ud_model.specs.answer.Outcomes.{Outcome, HasOutcome, ran_as, HasNoFault, output_by, differs_by}
 use Rattle.ud_model.specs.answer.Outcomes.ReadsAs.{stops, ends}
-use Rattle.ud_model.specs.output.Worlds.{World, selected, EachReached, Agrees, openers, openers_in}
+use Rattle.ud_model.specs.output.Worlds.{World, selected, Agrees, openers, openers_in}
 use Rattle.ud_model.specs.output.Pruned.{Edited, edited, IsPruned, pruned_lines, printed, IsUndecided, IsUnknown, Any}
 use Rattle.ud_model.proofs.output.Folded.{folded}
 use Rattle.ud_model.specs.output.Rereading.{IsPlain, IsTreeOf, CleanRun, KeepsTruths, LinesFit, line_bytes, edited_bytes}
 use Rattle.ud_model.specs.conditions.Expressions.{Expression}
-use Rattle.ud_model.specs.output.CSelection.{condition_in, MayBe, IsCWorld}
+use Rattle.ud_model.specs.output.CSelection.{condition_in}
 use Rattle.ud_model.specs.declared.settings.Listing.{Listing}
 use Rattle.ud_model.specs.declared.verdict.Verdict.TheVariants.{Keep}
 use Rattle.ud_model.proofs.sections.Soundness.{sound_read, one_tree_of, sound_lines, read_lines}
@@ -25,14 +25,12 @@ use Rattle.ud_model.proofs.output.PrintedPruned.{printed-pruned}
 use Rattle.ud_model.proofs.output.PrunedTree.{closed_same, is_folded, pruned_openers}
 use Rattle.ud_model.proofs.output.SelectedPruned.{selected-pruned}
 use Rattle.ud_model.proofs.output.SameShape.{same_selected, openers-with}
-use Rattle.ud_model.proofs.output.SeenLines.{Seen, scanned, left_condition, left_seen, with_lines-twice, map-twice}
-use Rattle.ud_model.proofs.output.ReachedPruned.{pruned_reached}
-use Rattle.ud_model.proofs.output.ReachedAlike.{reached_alike}
+use Rattle.ud_model.proofs.output.SeenLines.{Seen, scanned, left_seen, with_lines-twice, map-twice}
 use Rattle.ud_model.proofs.output.WorldsExist.{world_of}
 use Rattle.ud_model.proofs.output.EachLines.{other_lines}
 use Rattle.ud_model.proofs.output.Undecided.{Keeps, pruned_keeps, Stays, pruned_undecided, undecided_stay}
 use Rattle.ud_model.proofs.output.TreeAlong.{nodes_along}
-use Rattle.ud_model.proofs.output.Each.{Each, Pairwise}
+use Rattle.ud_model.proofs.output.Each.{Each}
 use Rattle.ud_model.proofs.output.Sizes.{whole}
 use Rattle.ud_model.proofs.sections.Stays.{length_marks}
 use Rattle.std.proofs.lemmas.Slice.Eq.{bytes_eq-Decides}
@@ -45,7 +43,6 @@ use Rattle.ud_model.specs.aids.Height.{height, height_of_nodes}
 use Rattle.ud_model.specs.declared.limits.TheConstants.{OPEN_SECTIONS}
 use Rattle.ud_model.proofs.output.RereadChain.{AllButLast, lines_end, again}
 use Rattle.ud_model.proofs.text.LinesLemmas.{lines_exist}
-use Rattle.ud_model.proofs.output.CSelected.{Clear, sound_clear, c_agrees}
 
 abbrev pub left_piece : Item (Edited Reading) → List ℕ
 left_piece y = edited_bytes (line_in y)
@@ -136,7 +133,7 @@ kept_conditions [] h = refl
 kept_conditions (e ∷ es) h = grind (arith, kept_conditions es h.1)
 
 -- The truths of the openers of the folded nodes.
-truths_folded : (w : World Reading) (before : Nodes Reading) (v : World Reading) (after : Nodes Reading) → KeepsTruths w before v after →
+pub truths_folded : (w : World Reading) (before : Nodes Reading) (v : World Reading) (after : Nodes Reading) → KeepsTruths w before v after →
     map v (openers after) ≡ map (λ (e : Edited Reading). w e.line) (openers (folded before))
 truths_folded w before v after t = search (rules, pruned_openers)
 
@@ -184,40 +181,6 @@ module _ (k : CleanRun) where
       (length-map (openers_in (pruned_lines k.before)) (λ (e : Edited Reading). w e.line)
       ∙ sym (length-map (openers_in (pruned_lines k.before)) (λ (e : Edited Reading). condition_in e.line))
       ∙ ap (λ (l : List (Option Expression)). length l) (sym conditions_same) ∙ length-map (openers k.after) condition_in)
-
--- Each line of an input without a fault is clear.
-pub clear_run : {o : Options} {input : List ℕ} {r : Outcome} → HasOutcome o input r → r.fault ≡ None → (ns : Nodes Reading) → IsTreeOf o input (closed ns) →
-    Pairwise (Clear o) (lines (closed ns)) (marks (closed ns))
-clear_run (ran_as (stops xs t f s)) e ns a = cc
-clear_run {o = o} {input = input} (ran_as (ends xs t g)) e ns a =
-    subst (λ (u : Tree Reading). Pairwise (Clear o) (lines u) (marks u)) (one_tree_of o input t (closed ns) (record { items = xs; read = sound_read g.sound; are = g.are }) a)
-    (subst (λ (zs : List (Item Reading)). Pairwise (Clear o) zs (marks t)) (sym (sound_lines g.sound)) (sound_clear o xs t g.sound))
-
-module _ (k : CleanRun) (w : World Reading) (a : Agrees w k.before) (R : Option Expression → Bool → Type 0) where
-  -- A relation between the condition and the truth of each opener that is reached in the input holds
-  -- in the output, if the truths are kept.
-  pub reached_again : (v : World Reading) → KeepsTruths w k.before v k.after → EachReached w (λ o. R (condition_in o.line) (w o.line)) k.before →
-      EachReached v (λ o. R (condition_in o.line) (v o.line)) k.after
-  reached_again v t g =
-      reached_alike scanned left_seen v (λ (e : Edited Reading). w e.line) (λ (s : Seen) (b : Bool). R s.condition b) k.after (folded k.before)
-      (seen_alike k) (truths_folded w k.before v k.after t)
-      (pruned_reached w (λ (l : Reading). R (condition_in l) (w l)) (λ (e : Edited Reading). R (left_seen e).condition (w e.line)) still k.before a g)
-    where
-      still : (part : Part) (l : Reading) → R (condition_in l) (w l) → R (left_condition (first_kept_verdict part) l) (w l)
-      still part l h = grind arith
-
-module _ (k : CleanRun) (w : World Reading) (g : IsCWorld k.options.table w k.before) where
-  -- A world that C may give the input agrees with the decided conditions.
-  pub c_world_agrees : Agrees w k.before
-  c_world_agrees = c_agrees k.options w k.before (clear_run k.clean.runs k.clean.faultless k.before k.of_input) g
-
-  -- C may give the output the world that keeps its truths.
-  pub c_world_again : (v : World Reading) → KeepsTruths w k.before v k.after → IsCWorld k.options.table v k.after
-  c_world_again v t = reached_again k w c_world_agrees (MayBe k.options.table) v t g
-
-  -- Then C selects the same lines.
-  pub c_selected_again : (v : World Reading) → KeepsTruths w k.before v k.after → map line_bytes (selected v k.after) ≡ map line_bytes (selected w k.before)
-  c_selected_again v t = selected_again k w v c_world_agrees t
 
 -- Nothing is decided of the output.
 pub output_undecided : (us ns : Nodes Reading) → with_lines line_bytes us ≡ with_lines edited_bytes (folded ns) → IsUndecided us

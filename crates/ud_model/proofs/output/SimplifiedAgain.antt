@@ -5,9 +5,9 @@ use Rattle.std.proofs.lemmas.List.{drop-map, take-append-drop, length-map}
 use Rattle.std.proofs.lemmas.Bool.{or_parts, cases_Bool, and_from, not_from_false, and_parts, not-true}
 use Rattle.ud_model.specs.text.Lines.{Line, text_of}
 use Rattle.ud_model.specs.text.Scans.{Reading, is_spanning}
-use Rattle.ud_model.specs.text.Splicing.{is_spliced, content, spliced_text, spliced_part, is_empty}
-use Rattle.ud_model.specs.text.Lexemes.{Cell, shown, kind_at_end}
-use Rattle.ud_model.specs.text.Scanning.{is_block, content_cells, scan_after_run, scan_after}
+use Rattle.ud_model.specs.text.Splicing.{is_spliced, content, is_empty}
+use Rattle.ud_model.specs.text.Lexemes.{Cell, shown}
+use Rattle.ud_model.specs.text.Scanning.{content_cells, scan_after_run, scan_after}
 use Rattle.ud_model.specs.sections.Directives.{Content, directive, Directive, content_of}
 use Rattle.ud_model.specs.conditions.Table.{Argument}
 use Rattle.ud_model.specs.conditions.Expressions.{Expression}
@@ -16,10 +16,8 @@ use Rattle.ud_model.specs.conditions.Residuals.{residual, is_unknown, is_undecid
 use Rattle.ud_model.specs.conditions.ResidualTexts.{simplified_cells, left_cells, keeps, is_literal, may_go, is_read, simplified_by}
 use Rattle.ud_model.specs.aids.Parsing.{expression_of}
 use Rattle.ud_model.specs.output.SimplifiedTexts.{keyword_end, condition_cells, left_line, may_change, line_by, simplified_line, simplified_text, is_lone, left_cells_of, is_read_alone}
-use Rattle.ud_model.proofs.text.ScanLaws.{joins_after-code}
-use Rattle.ud_model.proofs.text.ScanLemmas.{joins_last}
 use Rattle.ud_model.proofs.text.ScanBytes.{bytes-content_cells}
-use Rattle.ud_model.proofs.conditions.ResidualRead.{same_or_left, untouched, cells_go, written_left, residual_stays}
+use Rattle.ud_model.proofs.conditions.ResidualRead.{same_or_left, untouched, cells_go, written_left}
 use Rattle.ud_model.proofs.output.Each.{Pairs, no_pair, pair}
 use Rattle.ud_model.proofs.output.SimplifiedLines.{byte_of, option_is, after_is}
 use Rattle.ud_model.proofs.output.SimplifiedLineTexts.{lines_left}
@@ -30,11 +28,8 @@ use Rattle.ud_model.specs.output.InsertedLines.{read_in, read_as}
 use Rattle.ud_model.specs.output.LeftOperands.{IsReduced, IsSimplified, joins_line, not_understood, has_quote, decided, rest_decided, rest_misread}
 use Rattle.ud_model.specs.declared.kind.Mode.TheVariants.{C}
 use Rattle.ud_model.proofs.conditions.ReducedTrees.{fixed_reduced}
-
--- A line that doesn't join the next one has no splice.
-pub unspliced : (l : Line) → (scan_after_run [] l).joins_after ≡ false → is_spliced l ≡ false
-unspliced l h =
-    (or_parts (is_spliced l) (is_block (kind_at_end (spliced_text [] ++ spliced_part l))) (sym (joins_last [] l) ∙ sym (joins_after-code [] l) ∙ h)).0
+use Rattle.ud_model.proofs.text.ScanLaws.{unspliced}
+use Rattle.ud_model.proofs.conditions.ResidualAgain.{residual_stays}
 
 abbrev TrueOrFalse : Bool → Type 0
 TrueOrFalse b = (b ≡ true) ⊎ (b ≡ false)

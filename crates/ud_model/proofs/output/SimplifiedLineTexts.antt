@@ -16,13 +16,13 @@ use Rattle.ud_model.specs.declared.kind.Mode.TheVariants.{C}
 use Rattle.ud_model.proofs.text.ScanBytes.{bytes-content_cells, content-prefix}
 use Rattle.ud_model.proofs.text.LinesLemmas.{no_newline-append, text_of-line_at, lines_exist, map-lines_of}
 use Rattle.ud_model.proofs.text.Pushes.{ByPush, none as nothing_pushed, push, by_push}
-use Rattle.ud_model.proofs.output.ListComplete.{read_more}
 use Rattle.ud_model.proofs.output.Formed.{whole_ending, end_is_some, ending_none, ended, whole_body, no_feed_parts, no_feed_cut}
 use Rattle.ud_model.proofs.output.OutputPieces.{output_lines}
 use Rattle.ud_model.proofs.output.SimplifiedLines.{byte_of, Becomes, it_stays, it_changes, becomes}
 use Rattle.ud_model.proofs.conditions.ResidualRead.{cells_go, of_parts}
 use Rattle.std.specs.List.{concat}
 use Rattle.ud_model.proofs.conditions.ResidualShape.{all_of_it, none_of_it, of_both, of_left}
+use Rattle.ud_model.proofs.text.ScanLaws.{read_more}
 
 cut_there : (b e : List ℕ) → take (length (b ++ e) - length e) (b ++ e) ≡ b
 cut_there b e = take_at b e (length (b ++ e) - length e) (omega (arith, length-append b e))

@@ -3,20 +3,16 @@
 use Rattle.std.proofs.Common.{◌≡◌, ◌≢◌, ℕ, ◌+◌, List, [], ◌∷◌, ◌++◌, length, map, drop, Bool, true, false, Option, Some, None, if◌then◌else◌, refl, sym, ◌∙◌, ap, ap₂, ◌⊎◌, inl, inr, arith, append_assoc, length-append}
 use Rattle.std.proofs.lemmas.List.{drop-map, drop_at}
 use Rattle.std.proofs.lemmas.Slice.Eq.{bytes_eq-Decides}
-use Rattle.std.proofs.lemmas.Bool.{or_parts, and_parts}
+use Rattle.std.proofs.lemmas.Bool.{and_parts}
 use Rattle.ud_model.specs.text.Bytes.{number_sign}
 use Rattle.ud_model.specs.text.Lines.{Line, text_of, ending_of}
 use Rattle.ud_model.specs.text.Scans.{Scan, Reading, is_spanning}
 use Rattle.ud_model.specs.text.Lexemes.{Cell, shown}
 use Rattle.ud_model.specs.text.Scanning.{content_cells, scan_after_run, scan_after}
-use Rattle.ud_model.specs.sections.Directives.{Content, cut_keyword, directive, text, Directive, content_of, test_of}
+use Rattle.ud_model.specs.sections.Directives.{Content, cut_keyword, directive, text, Directive, content_of}
 use Rattle.ud_model.specs.sections.DirectiveParts.{HasDirective}
 use Rattle.ud_model.specs.conditions.Table.{Argument}
 use Rattle.ud_model.specs.conditions.Conditions.{Rules}
-use Rattle.ud_model.specs.conditions.ResidualTexts.{simplified_cells}
-use Rattle.ud_model.specs.output.Processing.{condition_with, condition_on}
-use Rattle.ud_model.specs.output.DecidedByNumbers.{if_condition}
-use Rattle.ud_model.specs.declared.kind.Test.TheVariants.{Nonzero}
 use Rattle.ud_model.specs.output.SimplifiedTexts.{keyword_end, condition_cells, same_if, has_condition, left_cells_of, left_line, may_change, line_by, simplified_line}
 use Rattle.ud_model.specs.declared.kind.Kind.{Kind}
 use Rattle.ud_model.specs.declared.kind.Kind.TheVariants.{If, Elif}
@@ -86,23 +82,3 @@ module _ (table : List Argument) (rules : Rules) where
       sym (drop-map shown (keyword_end d) (content_cells [] l))
       ∙ ap (λ (x : List ℕ). drop (keyword_end d) x) (sym (masked-content_cells [] l) ∙ ap (λ (s : Scan). s.masked) (sym e) ∙ split)
       ∙ drop_at front i.parts.rest (keyword_end d) (sym n) ∙ sym i.after
-
-  -- `k` has the condition of the line `l`, or the rest of it.
-  pub data LineSimplified (l k : Reading) : Type 0 where
-    condition_stays : condition_on k ≡ condition_on l → LineSimplified l k
-    operands_go : (cells : List Cell) → condition_on l ≡ if_condition cells → condition_on k ≡ if_condition (simplified_cells table rules cells) → LineSimplified l k
-
-  condition_is : (scan : Scan) (c : Content) (d : Directive) → c ≡ directive d → test_of d.kind ≡ Nonzero → scan.joins_after ≡ false → (cells : List Cell) → d.after ≡ map shown cells →
-      condition_with scan c ≡ if_condition cells
-  condition_is scan c d e t h cells f = grind (arith, e, t, h, f)
-
-  both_values : (j k : Kind) → SameIf j k → (test_of j ≡ Nonzero) × (test_of k ≡ Nonzero)
-  both_values j k h = grind arith
-
-  -- The edited line has the rest of the condition.
-  pub line_simplified : (l k : Reading) (d : Directive) → IsEdited l.line l.scan d → l.scan ≡ scan_after [] C l.line →
-      k.scan ≡ scan_after_run [] (left_line table rules l.line d) → LineSimplified l k
-  line_simplified l k d i e f = let t = both_values d.kind i.now.kind i.kind in
-      operands_go (condition_cells l.line d)
-      (condition_is l.scan (content_of l.scan) d i.has t.0 (or_parts l.scan.joins_before l.scan.joins_after i.lone).1 (condition_cells l.line d) (sym (after_is l.line l.scan d e i.has)))
-      (condition_is k.scan (content_of k.scan) i.now (ap content_of f ∙ i.has_now) t.1 (ap (λ (s : Scan). s.joins_after) f ∙ i.alone) (simplified_cells table rules (condition_cells l.line d)) i.after)

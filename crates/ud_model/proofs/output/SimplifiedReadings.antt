@@ -22,8 +22,8 @@ use Rattle.ud_model.proofs.text.OtherLineScans.{scanned_alone, scanned_alike}
 use Rattle.ud_model.proofs.output.Each.{Each, each_parts, Pairs, no_pair, pair, pairs_both}
 use Rattle.ud_model.proofs.output.LeavesOff.{HasEnd}
 use Rattle.ud_model.proofs.output.RereadChain.{AllButLast, IsInner, ends_before, lines_end}
-use Rattle.ud_model.proofs.output.ListComplete.{read_more}
 use Rattle.ud_model.proofs.output.SimplifiedLines.{IsEdited, Becomes, it_stays, it_changes, becomes}
+use Rattle.ud_model.proofs.text.ScanLaws.{read_more}
 
 -- 1. Where logical lines end.
 

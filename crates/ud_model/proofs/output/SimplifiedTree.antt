@@ -7,7 +7,6 @@ use Rattle.ud_model.specs.sections.Items.{Options, rules_of, mode_by}
 use Rattle.ud_model.specs.output.Rereading.{NoneIgnores, IsTreeOf}
 use Rattle.ud_model.specs.output.InsertedLines.{read_in}
 use Rattle.ud_model.proofs.output.NodesAlike.{NodesAlike, nothing_alike, text_alike, section_alike, GroupsAlike, conditional_alike, otherwise_alike, ElifsAlike, first_alike, elif_alike}
-use Rattle.ud_model.proofs.output.SimplifiedLines.{LineSimplified}
 use Rattle.ud_model.specs.output.SimplifiedTexts.{simplified_text}
 use Rattle.ud_model.specs.declared.kind.Mode.{Mode}
 use Rattle.ud_model.specs.declared.kind.Mode.TheVariants.{C}
@@ -20,6 +19,7 @@ use Rattle.ud_model.proofs.output.Each.{Pairs}
 use Rattle.ud_model.proofs.output.WovenTrees.{Woven, TextGoes, EndifGoes, ElseGoes, IfGoes, ElifGoes, strewn_pairs, weave_nodes}
 use Rattle.ud_model.proofs.output.SimplifiedReadings.{left_lines, readings_simplified}
 use Rattle.ud_model.proofs.output.SimplifiedItems.{ItemSimplified, a_text, an_if, an_elif, an_else, an_endif, items_simplified}
+use Rattle.ud_model.proofs.output.SimplifiedConditions.{LineSimplified}
 
 -- 1. Nodes.
 

@@ -12,6 +12,8 @@ use Rattle.ud_model.specs.declared.kind.Mode.{Mode}
 use Rattle.ud_model.specs.declared.kind.Mode.TheVariants.{C}
 use Rattle.ud_model.proofs.text.LexStateLemmas.{LexesTo-nil, Masks-step}
 use Rattle.ud_model.proofs.text.ScanLemmas.{LexesTo-same, LexesTo-close, Masks-start, kind_at_place, spliced_text-append, joined_last, joins_last, scan_behind_is, run_of_last}
+use Rattle.ud_model.specs.output.InsertedLines.{read_in}
+use Rattle.std.proofs.lemmas.List.{map-append}
 
 -- The state after further bytes.
 abbrev pub place_after : LexState → List ℕ → LexState
@@ -178,3 +180,12 @@ readings_after-prefix before (l ∷ lines) =
 pub readings_grow : (lines more : List (Mode × Line)) → (rest : List Reading) × (readings_of (lines ++ more) ≡ readings_of lines ++ rest)
 readings_grow lines more = let later = readings_after-prefix (readings_of lines) more in
     (later.0, readings_after-append [] lines more ∙ later.1)
+
+-- The readings of lines with one more.
+pub read_more : (m : Mode) (ls : List Line) (l : Line) → read_in m (ls ++ l ∷ []) ≡ read_in m ls ++ next_reading (read_in m ls) m l ∷ []
+read_more m ls l = grind (arith, map-append, readings_after-append)
+
+-- A line that doesn't join the next one has no splice.
+pub unspliced : (l : Line) → (scan_after_run [] l).joins_after ≡ false → is_spliced l ≡ false
+unspliced l h =
+    (or_parts (is_spliced l) (is_block (kind_at_end (spliced_text [] ++ spliced_part l))) (sym (joins_last [] l) ∙ sym (joins_after-code [] l) ∙ h)).0

@@ -1,7 +1,8 @@
 -- A world that C may give the input agrees with the decided conditions.
-use Rattle.ud_model.proofs.output.RereadLaws.{c_selected_again, conditions_same, c_world_again}
+use Rattle.ud_model.proofs.output.RereadLaws.{conditions_same}
 use Rattle.ud_model.proofs.output.ReadInMode.{read_in_one_mode}
 use Rattle.ud_model.proofs.output_laws.law_reading_selects.Goals as goal
+use Rattle.ud_model.proofs.output.SelectedAgain.{c_selected_again, c_world_again}
 
 pub returns-clause-readings : goal.returns-clause-readings
 returns-clause-readings c = λ o p text t i. read_in_one_mode o p text t i

@@ -1,7 +1,8 @@
 -- Node by node.
-use Rattle.ud_model.proofs.conditions.ResidualShape.{spelling_stays, precedence_stays, operands_undecided, simplified_again, simplified_unknown}
+use Rattle.ud_model.proofs.conditions.ResidualShape.{spelling_stays, precedence_stays}
 use Rattle.ud_model.proofs.conditions.KeptTokens.{kept_are}
 use Rattle.ud_model.proofs.residual_laws.law_residual_shape.Goals as goal
+use Rattle.ud_model.proofs.conditions.ResidualOperands.{operands_undecided, simplified_again, simplified_unknown}
 
 pub returns-clause-tokens : goal.returns-clause-tokens
 returns-clause-tokens c = spelling_stays

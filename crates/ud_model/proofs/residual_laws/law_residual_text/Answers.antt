@@ -1,6 +1,7 @@
 -- The tokens of what is left are those of the tree that is left.
-use Rattle.ud_model.proofs.conditions.ResidualRead.{read_as, cells_go, cells_again}
+use Rattle.ud_model.proofs.conditions.ResidualRead.{read_as, cells_go}
 use Rattle.ud_model.proofs.residual_laws.law_residual_text.Goals as goal
+use Rattle.ud_model.proofs.conditions.ResidualAgain.{cells_again}
 
 pub returns-clause-read : goal.returns-clause-read
 returns-clause-read c = read_as
