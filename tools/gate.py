@@ -33,7 +33,8 @@ CHECK = 3_000_000_000
 # The seconds of a processor that a crate's proof takes, its tests, and one of its edits. Only the
 # order and the time that is shown use them.
 SECONDS = {
-    "ud_model": (85, 0, 9),
+    "ud_model": (60, 0, 7),
+    "ud_laws": (45, 0, 5),
     "ud_io": (20, 0, 0),
     "ud_faults": (30, 0, 0),
     "ud_cond": (220, 0, 0),
@@ -171,7 +172,9 @@ class Schedule:
 
 def is_of_gate(file):
     """Returns whether the gate tries the edit in this file: one of a definition of ud_model, which
-    is checked alone in any case."""
+    is checked alone in any case, or one of ud_laws."""
+    if "/ud_laws/must-fail/" in file:
+        return True
     with open(file, encoding="utf-8") as it:
         return "/ud_model/must-fail/" in file and it.readline().startswith("file: specs/")
 

@@ -33,7 +33,8 @@ CPU = os.environ.get("UNIFDEF_CPU", "")
 # How long each crate takes on 4 quiet processors, where it is split as below, for the order and the
 # estimate. Nothing else depends on these seconds.
 SECONDS = {
-    "ud_model": 95,
+    "ud_model": 65,
+    "ud_laws": 50,
     "ud_io": 18,
     "ud_faults": 25,
     "ud_cond": 249,

@@ -3,5 +3,3 @@ pub mod PrintingLemmas
 pub mod LevelLemmas
 pub mod Onward
 pub mod WordLemmas
-pub mod SameArguments
-pub mod AddedOption

@@ -1,7 +1,1 @@
 -- Small inputs, computed by the checker, against values worked out by hand.
-pub mod CValueExamples
-pub mod SelectionExamples
-pub mod ProcessingExamples
-pub mod PresumedExamples
-pub mod ResidualExamples
-pub mod FoldedExamples

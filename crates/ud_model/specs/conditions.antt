@@ -11,4 +11,3 @@ pub mod CValues
 pub mod Residuals
 pub mod Sublists
 pub mod ResidualTexts
-pub mod Choices

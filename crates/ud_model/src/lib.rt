@@ -6,11 +6,10 @@
 //! without a body whose contract is a theorem over the definitions.
 //!
 //! A new definition belongs to the file of its subject in `specs/`, with a line that reads it
-//! aloud. A new law belongs to `laws`, `option_laws`, `output_laws` or `answer_laws`.
+//! aloud. A law that other laws, or the code above, rest on belongs to `laws` or `output_laws`. All
+//! others are in the crate `ud_laws`.
 #![tactic(auto)]
 
-pub mod answer_laws;
-pub mod answer_option_laws;
 pub mod bytes;
 mod cond;
 pub mod keywords;
@@ -19,9 +18,7 @@ pub mod laws;
 mod limits;
 mod line;
 mod operator;
-pub mod option_laws;
 pub mod output_laws;
-pub mod residual_laws;
 mod scan;
 mod settings;
 mod verdict;

@@ -4,7 +4,7 @@ use Rattle.std.specs.List.{concat}
 use Rattle.std.proofs.lemmas.List.{length-map}
 use Rattle.ud_model.specs.text.Lines.{Line, text_of, texts_of, lines_of, AreFormed}
 use Rattle.ud_model.specs.text.Scans.{Reading}
-use Rattle.ud_model.specs.sections.Tree.{Item, Nodes, Tree, closed, open_section, lines, lines_of_nodes, innermost, item_with, with_lines}
+use Rattle.ud_model.specs.sections.Tree.{Item, Nodes, Tree, closed, open_section, lines_of_nodes, innermost, item_with, with_lines}
 use Rattle.ud_model.specs.sections.Pruning.{Mark, marks}
 use Rattle.ud_model.specs.sections.Items.{Options, reading_of, line_of}
 use Rattle.ud_model.specs.sections.Faults.{Fault, end_fault, ends_in_comment, last_number}

@@ -1,0 +1,4 @@
+pub mod answer
+pub mod conditions
+pub mod examples
+pub mod output

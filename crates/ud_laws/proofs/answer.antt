@@ -1,0 +1,2 @@
+pub mod SameArguments
+pub mod AddedOption

@@ -1,0 +1,13 @@
+pub mod NamedAlike
+pub mod StrictLess
+pub mod StrictItems
+pub mod NeverTurns
+pub mod SpacedTexts
+pub mod ChoiceValues
+pub mod ResidualTruth
+pub mod ResidualOperands
+pub mod ResidualAgain
+pub mod ResidualUnknown
+pub mod ReducedTrees
+pub mod StayedChoices
+pub mod OneValue

@@ -1,0 +1,174 @@
+-- Further symbols: a table with more entries leaves a known value as it is, or makes it unknown.
+use Rattle.std.proofs.Common.{◌≡◌, ◌≢◌, ℕ, List, Bool, true, false, not, ◌&&◌, ◌||◌, Option, Some, None, if◌then◌else◌, ◌⊎◌, inl, inr, ℤ, pos, refl, sym, ◌∙◌, ap, ap₂, subst, arith}
+use Rattle.std.proofs.lemmas.Option.{none-some}
+use Rattle.ud_model.specs.conditions.Table.{Argument, Entry, entry_in}
+use Rattle.ud_model.specs.conditions.Symbols.{defined_text, text_in, ResolvesTo, at_text, by_name, resolve}
+use Rattle.ud_model.specs.conditions.Expressions.{Expression, constant, named, is_defined, unary, binary, parens}
+use Rattle.ud_model.specs.conditions.Values.{truth, is_zero, apply_binary_known, short_circuits, apply_binary, apply_unary_known, apply_unary, constant_value, end_value, defined_name_value, name_value_by, name_value, defined_value_by, defined_value, number_of, has_unsigned, value_of}
+use Rattle.ud_model.specs.conditions.Conditions.{Rules, tree_cond}
+use Rattle.ud_laws.specs.output.ListedNames.{ExtendsTable}
+use Rattle.ud_model.specs.declared.cond.Cond.TheVariants.{Unknown}
+use Rattle.ud_model.specs.declared.operator.Operator.{Operator}
+use Rattle.ud_model.specs.declared.operator.Operator.TheVariants.{Or, And}
+use Rattle.ud_model.proofs.conditions.SymbolLemmas.{end_found, end_is}
+
+-- The value stays, or is unknown.
+abbrev Or_none : ℤ → Option ℤ → Type 0
+Or_none z b = (b ≡ Some z) ⊎ (b ≡ None)
+
+abbrev After : Option ℤ → Option ℤ → Type 0
+After a b = (z : ℤ) → a ≡ Some z → Or_none z b
+
+same_after : (a : Option ℤ) → After a a
+same_after a z e = inl e
+
+operate_after : (b c : Bool) (o : Operator) (x y : ℤ) → After (apply_binary_known b o x y) (apply_binary_known c o x y)
+unfolding apply_binary_known
+operate_after b c o x y = grind arith
+
+change_after : (b c : Bool) (o : Operator) (x : ℤ) → After (apply_unary_known b o x) (apply_unary_known c o x)
+unfolding apply_unary_known
+change_after b c o x = grind arith
+
+alter_after : (b c : Bool) (o : Operator) (x y : Option ℤ) → After x y → After (apply_unary b o x) (apply_unary c o y)
+alter_after b c o x y h z e = grind (arith, change_after)
+
+-- 1. One operand that decides, and both.
+
+both_zero : (a b : Bool) → a ≡ true → Some (truth (not a && not b)) ≡ Some (pos 0)
+both_zero a b e = grind arith
+
+right_zero : (a b : Bool) → b ≡ true → Some (truth (not a && not b)) ≡ Some (pos 0)
+right_zero a b e = grind arith
+
+left_one : (a b : Bool) → a ≡ false → Some (truth (not a || not b)) ≡ Some (pos 1)
+left_one a b e = grind arith
+
+right_one : (a b : Bool) → b ≡ false → Some (truth (not a || not b)) ≡ Some (pos 1)
+right_one a b e = grind arith
+
+-- The value that one operand decides.
+data Decides : Operator → ℤ → Option ℤ → Type 0 where
+  by_none : {o : Operator} {x : ℤ} → Decides o x None
+  and_zero : {x : ℤ} → is_zero x ≡ true → Decides And x (Some (pos 0))
+  or_some : {x : ℤ} → is_zero x ≡ false → Decides Or x (Some (pos 1))
+
+and_by : (x : ℤ) (b : Bool) → is_zero x ≡ b → Decides And x (if b then Some (pos 0) else None)
+and_by x b h = grind (arith, and_zero, by_none)
+
+or_by : (x : ℤ) (b : Bool) → is_zero x ≡ b → Decides Or x (if b then None else Some (pos 1))
+or_by x b h = grind (arith, by_none, or_some)
+
+decides_is : (s : Bool) (o : Operator) (x : ℤ) → Decides o x (short_circuits s o x)
+decides_is s o x = grind (arith, by_none, and_by, or_by)
+
+-- If one operand decides, both operands give the same value.
+left_decides : (b : Bool) (o : Operator) (x y : ℤ) (d : Option ℤ) → Decides o x d → After d (apply_binary_known b o x y)
+unfolding apply_binary_known
+left_decides b o x y _ by_none z e = absurd (none-some z e)
+left_decides b _ x y _ (and_zero h) z e = inl (both_zero (is_zero x) (is_zero y) h ∙ e)
+left_decides b _ x y _ (or_some h) z e = inl (left_one (is_zero x) (is_zero y) h ∙ e)
+
+right_decides : (b : Bool) (o : Operator) (x y : ℤ) (d : Option ℤ) → Decides o y d → After d (apply_binary_known b o x y)
+unfolding apply_binary_known
+right_decides b o x y _ by_none z e = absurd (none-some z e)
+right_decides b _ x y _ (and_zero h) z e = inl (right_zero (is_zero x) (is_zero y) h ∙ e)
+right_decides b _ x y _ (or_some h) z e = inl (right_one (is_zero x) (is_zero y) h ∙ e)
+
+back : (a b : Option ℤ) → ((z : ℤ) → a ≡ Some z → b ≡ Some z) → After b a
+back a b h z e = grind arith
+
+left_back : (b : Bool) (o : Operator) (x y : ℤ) (d : Option ℤ) → Decides o x d → After (apply_binary_known b o x y) d
+unfolding apply_binary_known
+left_back b o x y _ by_none = back None (apply_binary_known b o x y) (λ z e. absurd (none-some z e))
+left_back b _ x y _ (and_zero h) = back (Some (pos 0)) (apply_binary_known b And x y) (λ z e. both_zero (is_zero x) (is_zero y) h ∙ e)
+left_back b _ x y _ (or_some h) = back (Some (pos 1)) (apply_binary_known b Or x y) (λ z e. left_one (is_zero x) (is_zero y) h ∙ e)
+
+right_back : (b : Bool) (o : Operator) (x y : ℤ) (d : Option ℤ) → Decides o y d → After (apply_binary_known b o x y) d
+unfolding apply_binary_known
+right_back b o x y _ by_none = back None (apply_binary_known b o x y) (λ z e. absurd (none-some z e))
+right_back b _ x y _ (and_zero h) = back (Some (pos 0)) (apply_binary_known b And x y) (λ z e. right_zero (is_zero x) (is_zero y) h ∙ e)
+right_back b _ x y _ (or_some h) = back (Some (pos 1)) (apply_binary_known b Or x y) (λ z e. right_one (is_zero x) (is_zero y) h ∙ e)
+
+-- Two operands that decide give the same value.
+two_decide : (o : Operator) (x y : ℤ) (d e : Option ℤ) → Decides o x d → Decides o y e → After d e
+two_decide o x y d e g k z f = grind (arith, none-some)
+
+-- 2. Expressions.
+
+combine_after : (s b c : Bool) (o : Operator) (x y v w : Option ℤ) → After x v → After y w → After (apply_binary s b o x y) (apply_binary s c o v w)
+combine_after s b c o None None v w h k z e = absurd (none-some z e)
+combine_after s b c o (Some p) (Some q) v w h k z e = by (h p refl) (k q refl)
+  where
+    by : Or_none p v → Or_none q w → Or_none z (apply_binary s c o v w)
+    by (inl f) (inl g) = subst (λ (d : Option ℤ). Or_none z d) (sym (ap₂ (apply_binary s c o) f g)) (operate_after b c o p q z e)
+    by (inl f) (inr g) = subst (λ (d : Option ℤ). Or_none z d) (sym (ap₂ (apply_binary s c o) f g)) (left_back b o p q (short_circuits s o p) (decides_is s o p) z e)
+    by (inr f) (inl g) = subst (λ (d : Option ℤ). Or_none z d) (sym (ap₂ (apply_binary s c o) f g)) (right_back b o p q (short_circuits s o q) (decides_is s o q) z e)
+    by (inr f) (inr g) = inr (ap₂ (apply_binary s c o) f g)
+combine_after s b c o (Some p) None v w h k z e = by (h p refl) w
+  where
+    by : Or_none p v → (d : Option ℤ) → Or_none z (apply_binary s c o v d)
+    by (inl f) None = inl (ap (λ (d : Option ℤ). apply_binary s c o d None) f ∙ e)
+    by (inl f) (Some q) =
+        subst (λ (d : Option ℤ). Or_none z d) (sym (ap (λ (d : Option ℤ). apply_binary s c o d (Some q)) f))
+        (left_decides c o p q (short_circuits s o p) (decides_is s o p) z e)
+    by (inr f) None = inr (ap (λ (d : Option ℤ). apply_binary s c o d None) f)
+    by (inr f) (Some q) = grind (arith, two_decide, decides_is, f)
+combine_after s b c o None (Some q) v w h k z e = by (k q refl) v
+  where
+    by : Or_none q w → (d : Option ℤ) → Or_none z (apply_binary s c o d w)
+    by (inl f) None = inl (ap (λ (d : Option ℤ). apply_binary s c o None d) f ∙ e)
+    by (inl f) (Some p) =
+        subst (λ (d : Option ℤ). Or_none z d) (sym (ap (λ (d : Option ℤ). apply_binary s c o (Some p) d) f))
+        (right_decides c o p q (short_circuits s o q) (decides_is s o q) z e)
+    by (inr f) None = inr (ap (λ (d : Option ℤ). apply_binary s c o None d) f)
+    by (inr f) (Some p) = grind (arith, two_decide, decides_is, f)
+
+module _ (t u : List Argument) (more : ExtendsTable t u) where
+  text_more : (n v : List ℕ) (o : Option Entry) → entry_in t n ≡ o → text_in o ≡ Some v → defined_text u n ≡ Some v
+  text_more n v o e f = grind arith
+
+  ends_more : (n v : List ℕ) → ResolvesTo t n v → ResolvesTo u n v
+  ends_more n v (at_text _ _ d i) = at_text n v (text_more n v (entry_in t n) refl d) i
+  ends_more n v (by_name _ m _ d i e) = by_name n m v (text_more n m (entry_in t n) refl d) i (ends_more m v e)
+
+  end_more : (n v : List ℕ) → resolve t n ≡ Some v → resolve u n ≡ Some v
+  end_more n v e = end_found u n v (ends_more n v (end_is t n v e))
+
+  end_after : (b c : Bool) (x y : Option (List ℕ)) → ((v : List ℕ) → x ≡ Some v → y ≡ Some v) → After (end_value b x) (end_value c y)
+  end_after b c x y h z e = grind arith
+
+  entry_after : (b c : Bool) (n : List ℕ) (value : Option (List ℕ)) → After (defined_name_value b (resolve t n) value) (defined_name_value c (resolve u n) value)
+  entry_after b c n None z e = inl e
+  entry_after b c n (Some v) z e = end_after b c (resolve t n) (resolve u n) (λ w f. end_more n w f) z e
+
+  name_by : (b c : Bool) (n : List ℕ) (o : Option Entry) → entry_in t n ≡ o → After (name_value_by b (resolve t n) o) (name_value_by c (resolve u n) (entry_in u n))
+  name_by b c n None f z e = absurd (none-some z e)
+  name_by b c n (Some x) f z e = subst (λ (d : Option Entry). Or_none z (name_value_by c (resolve u n) d)) (sym (more n x f)) (entry_after b c n x.value z e)
+
+  name_after : (b c : Bool) (n : List ℕ) → After (name_value t b n) (name_value u c n)
+  unfolding name_value
+  name_after b c n = name_by b c n (entry_in t n) refl
+
+  defined_by : (n : List ℕ) (o : Option Entry) → entry_in t n ≡ o → After (defined_value_by o) (defined_value_by (entry_in u n))
+  defined_by n o f z e = grind arith
+
+  defined_after : (n : List ℕ) → After (defined_value t n) (defined_value u n)
+  unfolding defined_value
+  defined_after n = defined_by n (entry_in t n) refl
+
+  number_after : (s b c : Bool) (e : Expression) → After (number_of t s b e) (number_of u s c e)
+  number_after s b c (constant w) = same_after (constant_value w)
+  number_after s b c (named n a) = name_after b c n
+  number_after s b c (is_defined n p) = defined_after n
+  number_after s b c (unary o a) = alter_after b c o (number_of t s b a) (number_of u s c a) (number_after s b c a)
+  number_after s b c (binary o a d) = grind (arith, combine_after, number_after s b c a, number_after s b c d)
+  number_after s b c (parens a) = number_after s b c a
+
+  -- The value of an expression stays, or is unknown.
+  pub value_after : (s : Bool) (e : Expression) (z : ℤ) → value_of t s e ≡ Some z → (value_of u s e ≡ Some z) ⊎ (value_of u s e ≡ None)
+  value_after s e z h = number_after s (has_unsigned t e) (has_unsigned u e) e z h
+
+  -- A condition stays, or is unknown.
+  pub cond_after : (e : Expression) (r : Rules) → tree_cond e t r ≢ Unknown → (tree_cond e u r ≡ tree_cond e t r) ⊎ (tree_cond e u r ≡ Unknown)
+  cond_after e r n = grind (arith, value_after)

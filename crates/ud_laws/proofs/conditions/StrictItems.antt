@@ -1,0 +1,85 @@
+-- Under `-K` a line is the same item, but its condition may be unknown.
+use Rattle.std.proofs.Common.{◌≡◌, ◌≢◌, ℕ, List, Bool, true, Option, refl, arith}
+use Rattle.ud_model.specs.text.Scans.{Scan, Reading}
+use Rattle.ud_model.specs.sections.Directives.{Content, Directive, content_of}
+use Rattle.ud_model.specs.conditions.Table.{Argument}
+use Rattle.ud_model.specs.conditions.Expressions.{Expression}
+use Rattle.ud_model.specs.aids.Parsing.{expression_of}
+use Rattle.ud_model.specs.conditions.Conditions.{Decision, tree_cond, tree_cond_if, expression_cond, decision_by_test, decision_on}
+use Rattle.ud_model.specs.sections.Tree.{Item, Opener, text_line, if_line, elif_line, else_line, endif_line}
+use Rattle.ud_model.specs.sections.Items.{Options, item_of, item_by, directive_item}
+use Rattle.ud_laws.specs.output.StrictLines.{under_strict}
+use Rattle.ud_model.specs.declared.cond.Cond.{Cond}
+use Rattle.ud_model.specs.declared.cond.Cond.TheVariants.{Unknown}
+use Rattle.ud_model.specs.declared.kind.Role.{Role}
+use Rattle.ud_model.specs.declared.kind.Role.TheVariants.{IfGroup, ElifGroup, ElseGroup, EndifLine}
+use Rattle.ud_model.specs.declared.kind.Test.{Test}
+use Rattle.ud_model.specs.declared.kind.Test.TheVariants.{Nonzero}
+use Rattle.ud_laws.proofs.conditions.StrictLess.{cond_keeps}
+
+-- The conditions are the same, or the first one is unknown.
+pub data Looser : Cond → Cond → Type 0 where
+  alike : {c : Cond} → Looser c c
+  unknown : {d : Cond} → Looser Unknown d
+
+loose_by : (c d : Cond) → (c ≢ Unknown → d ≡ c) → Looser c d
+loose_by c d h = grind (arith, unknown, alike)
+
+-- The decisions differ in such conditions at most.
+record LooserDecision (d e : Decision) : Type 0 where
+  pub cond : Looser d.cond e.cond
+  pub ignoring : e.ignoring ≡ d.ignoring
+
+same_decision : (d : Decision) → LooserDecision d d
+same_decision d = record { cond = alike; ignoring = refl }
+
+module _ (table : List Argument) (k : Bool) where
+  tree_loose : (s : Bool) (e : Expression) → Looser (tree_cond e table (record { constants = k; strict = true })) (tree_cond e table (record { constants = k; strict = s }))
+  tree_loose s e = grind (arith, loose_by, cond_keeps)
+
+  tree_if_loose : (s : Bool) (e : Option Expression) → Looser (tree_cond_if e table (record { constants = k; strict = true })) (tree_cond_if e table (record { constants = k; strict = s }))
+  tree_if_loose s e = grind (arith, alike, tree_loose)
+
+  expression_loose : (s : Bool) (after : List ℕ) →
+      Looser (expression_cond after table (record { constants = k; strict = true }))
+      (expression_cond after table (record { constants = k; strict = s }))
+  unfolding expression_cond
+  expression_loose s after = tree_if_loose s (expression_of after)
+
+  test_loose : (s : Bool) (t : Test) (after : List ℕ) →
+      LooserDecision (decision_by_test t after table (record { constants = k; strict = true }))
+      (decision_by_test t after table (record { constants = k; strict = s }))
+  test_loose s Nonzero after = record { cond = expression_loose s after; ignoring = refl }
+  test_loose _ _ _ = record { cond = alike; ignoring = refl }
+
+  decision_loose : (s : Bool) (scan : Scan) (d : Directive) →
+      LooserDecision (decision_on scan d table (record { constants = k; strict = true }))
+      (decision_on scan d table (record { constants = k; strict = s }))
+  decision_loose s scan d = grind (arith, test_loose, same_decision)
+
+-- The openers differ in such conditions at most.
+pub record LooserOpener (o p : Opener Reading) : Type 0 where
+  pub line : p.line ≡ o.line
+  pub cond : Looser o.cond p.cond
+  pub ignoring : p.ignoring ≡ o.ignoring
+
+-- The items differ in such conditions at most.
+pub data LooserItem : Item Reading → Item Reading → Type 0 where
+  a_text : {r : Reading} → LooserItem (text_line r) (text_line r)
+  an_if : {o p : Opener Reading} → LooserOpener o p → LooserItem (if_line o) (if_line p)
+  an_elif : {o p : Opener Reading} → LooserOpener o p → LooserItem (elif_line o) (elif_line p)
+  an_else : {r : Reading} → LooserItem (else_line r) (else_line r)
+  an_endif : {r : Reading} → LooserItem (endif_line r) (endif_line r)
+
+role_loose : (r : Reading) (p : Role) (d e : Decision) → LooserDecision d e → LooserItem (directive_item r p d) (directive_item r p e)
+role_loose r IfGroup d e h = an_if (record { line = refl; cond = h.cond; ignoring = h.ignoring })
+role_loose r ElifGroup d e h = an_elif (record { line = refl; cond = h.cond; ignoring = h.ignoring })
+role_loose r ElseGroup d e h = an_else
+role_loose r EndifLine d e h = an_endif
+
+content_loose : (o : Options) (r : Reading) (c : Content) → LooserItem (item_by (under_strict o) r c) (item_by o r c)
+content_loose o r c = grind (arith, role_loose, decision_loose, a_text)
+
+-- Under `-K` a line is the same item, but for an unknown condition.
+pub item_loose : (o : Options) (r : Reading) → LooserItem (item_of (under_strict o) r) (item_of o r)
+item_loose o r = content_loose o r (content_of r.scan)

@@ -1,0 +1,115 @@
+-- A run and the run with `-c` read a text alike, and share its lines.
+use Rattle.std.proofs.Common.{◌≡◌, ℕ, List, [], ◌∷◌, ◌++◌, map, Bool, true, false, Option, refl, sym, ◌∙◌, ap, subst, rules}
+use Rattle.std.specs.List.{concat}
+use Rattle.ud_model.specs.text.Lines.{lines_of}
+use Rattle.ud_model.specs.text.Scans.{Reading}
+use Rattle.ud_model.specs.sections.Directives.{content_of}
+use Rattle.ud_model.specs.conditions.Table.{Argument, entry_in}
+use Rattle.ud_model.specs.sections.Tree.{Item, Tree}
+use Rattle.ud_model.specs.sections.Pruning.{marks}
+use Rattle.ud_model.specs.sections.Items.{Options, mode_after, read_after, rules_of}
+use Rattle.ud_model.specs.sections.Faults.{Fault}
+use Rattle.ud_model.specs.answer.Listing.{names_in_content, names_at}
+use Rattle.ud_model.specs.answer.Printing.{Judged, piece_alone, complemented, judged_lines}
+use Rattle.ud_model.specs.answer.Outcomes.{Outcome, outcome_of, ReadsAs, JudgedAs, judged_as, HasOutcome, ran_as}
+use Rattle.ud_model.specs.answer.Outcomes.ReadsAs.{stops, ends}
+use Rattle.ud_laws.specs.output.SharedLines.{OnlyDecides, with_complement, RunsWithComplement, ShareLines, no_line, stays, goes}
+use Rattle.ud_model.specs.declared.settings.Settings.{Settings}
+use Rattle.ud_model.specs.declared.settings.Listing.TheVariants.{Off}
+use Rattle.ud_model.specs.declared.verdict.Verdict.{Verdict}
+use Rattle.ud_model.specs.declared.verdict.Verdict.TheVariants.{Remove}
+use Rattle.ud_laws.proofs.conditions.NamedAlike.{Alike}
+use Rattle.ud_model.proofs.output.Each.{Each}
+use Rattle.ud_model.proofs.output.Changed.{lone, pieces_lone}
+use Rattle.ud_laws.proofs.output.ListComplete.{AllNames, sound_alike, stop_alike}
+use Rattle.ud_model.proofs.sections.Soundness.{one_run}
+
+each_all : {A : Type 0} (P : A → Type 0) → ((x : A) → P x) → (xs : List A) → Each P xs
+each_all P h [] = tt
+each_all P h (x ∷ xs) = (h x, each_all P h xs)
+
+-- Options with the same table and the same reading of lines read a text alike.
+pub reads_too : (o p : Options) → o.settings.plain ≡ p.settings.plain → rules_of o.settings ≡ rules_of p.settings → p.table ≡ o.table →
+    {input : List ℕ} {xs : List (Item Reading)} {t : Tree Reading} {f : Option Fault} → ReadsAs o input xs t f → ReadsAs p input xs t f
+reads_too o p plain rules table {input = input} a = by_reading a
+  where
+    known : (n : List ℕ) → Alike o.table p.table n
+    known n = subst (λ (u : List Argument). Alike o.table u n) (sym table) (λ m l. refl)
+
+    names : (xs : List (Item Reading)) → AllNames (Alike o.table p.table) xs
+    names xs = each_all (λ x. Each (Alike o.table p.table) (names_at x)) (λ x. each_all (Alike o.table p.table) known (names_at x)) xs
+
+    by_reading : {xs : List (Item Reading)} {t : Tree Reading} {f : Option Fault} → ReadsAs o input xs t f → ReadsAs p input xs t f
+    by_reading (stops xs t f s) =
+        stops xs t f (stop_alike o p plain rules (lines_of input) xs t f s (names xs)
+        (each_all (Alike o.table p.table) known (names_in_content (content_of (read_after xs (mode_after o t) s.faulty).scan))))
+    by_reading (ends xs t g) = ends xs t (record { sound = sound_alike o p plain rules g.sound (names xs); are = g.are })
+
+-- The case of one more line, by whether it is removed.
+share_one : (v : Verdict) (j : Judged) (js : List Judged) (a b : List ℕ) → j.verdict ≡ v → ShareLines js a b →
+    ShareLines (j ∷ js) (piece_alone false j ++ a) (piece_alone false (complemented j) ++ b)
+share_one Remove j js a b h s =
+    let q : (u : Verdict) → Judged = λ u. record { line = j.line; verdict = u; keyword = j.keyword } in
+    subst (λ (u : Verdict). ShareLines (q u ∷ js) (piece_alone false (q u) ++ a) (piece_alone false (complemented (q u)) ++ b)) (sym h) (goes refl s)
+share_one _ j js a b h s =
+    let q : (u : Verdict) → Judged = λ u. record { line = j.line; verdict = u; keyword = j.keyword } in
+    subst (λ (u : Verdict). ShareLines (q u ∷ js) (piece_alone false (q u) ++ a) (piece_alone false (complemented (q u)) ++ b)) (sym h) (stays refl s)
+
+share_all : (js : List Judged) → ShareLines js (concat (map (lone false false) js)) (concat (map (lone false true) js))
+share_all [] = no_line
+share_all (j ∷ js) = share_one j.verdict j js (concat (map (lone false false) js)) (concat (map (lone false true) js)) refl (share_all js)
+
+-- The output if lines are neither blanked nor numbered.
+pub printed_lone : (o : Options) {input : List ℕ} {xs : List (Item Reading)} {t : Tree Reading} {f : Option Fault} {r : Outcome} (c : Bool) → o.settings.listing ≡ Off →
+    o.settings.blank ≡ false → o.settings.renumber ≡ false → o.settings.complement ≡ c → ReadsAs o input xs t f → HasOutcome o input r →
+    r.output ≡ concat (map (lone false c) (judged_lines xs (marks t)))
+printed_lone o {xs = xs} {t = t} c off b n k a run =
+    let js : List Judged = judged_lines xs (marks t) in
+    cc (one_run run (ran_as a), off, pieces_lone o.settings.blank o.settings.complement o.settings.renumber [] js n, b, k)
+
+pub shared : (o : Options) (input : List ℕ) {xs : List (Item Reading)} {t : Tree Reading} {f : Option Fault} {r s : Outcome} → OnlyDecides o →
+    ReadsAs o input xs t f → HasOutcome o input r → HasOutcome (with_complement o) input s →
+    (s.fault ≡ r.fault) × ShareLines (judged_lines xs (marks t)) r.output s.output
+shared o input {xs = xs} {t = t} {r = r} {s = s} p a run turned =
+    let js : List Judged = judged_lines xs (marks t) in
+    let d = reads_too o (with_complement o) refl refl refl a in
+    let here = printed_lone o false p.unlisted p.unblanked p.unnumbered p.uncomplemented a run in
+    let there = printed_lone (with_complement o) true p.unlisted p.unblanked p.unnumbered refl d turned in (
+      ap (λ (z : Outcome). z.fault) (one_run turned (ran_as d)) ∙ ap (λ (z : Outcome). z.fault) (one_run (ran_as a) run),
+      subst (λ (q : List ℕ). ShareLines js r.output q) (sym there) (subst (λ (q : List ℕ). ShareLines js q (concat (map (lone false true) js))) (sym here) (share_all js)),
+    )
+
+-- The run with `-c` has the same fault.
+pub same_fault : (o : Options) (input : List ℕ) {r s : Outcome} → RunsWithComplement o input r s → s.fault ≡ r.fault
+same_fault o input {r} {s} k = by_reading k.runs
+  where
+    by_reading : {q : Outcome} → HasOutcome o input q → s.fault ≡ q.fault
+    by_reading (ran_as reads) = (shared o input k.decides reads (ran_as reads) k.complement).0
+
+-- The runs share the lines of the text.
+pub shared_lines : (o : Options) (input : List ℕ) {js : List Judged} {r s : Outcome} → RunsWithComplement o input r s → JudgedAs o input js →
+    ShareLines js r.output s.output
+shared_lines o input k (judged_as reads) = (shared o input k.decides reads k.runs k.complement).1
+
+-- Tables with the same entry for every name give a text the same outcome.
+pub same_names : (o p : Options) (input : List ℕ) {r : Outcome} → p.settings ≡ o.settings →
+    ((n : List ℕ) → entry_in o.table n ≡ entry_in p.table n) → HasOutcome o input r → HasOutcome p input r
+same_names o p input same every run = by_run run
+  where
+    names : (xs : List (Item Reading)) → AllNames (Alike o.table p.table) xs
+    names xs = each_all (λ x. Each (Alike o.table p.table) (names_at x)) (λ x. each_all (Alike o.table p.table) (λ n m l. every m) (names_at x)) xs
+
+    plain : o.settings.plain ≡ p.settings.plain
+    plain = ap (λ (s : Settings). s.plain) (sym same)
+
+    rules : rules_of o.settings ≡ rules_of p.settings
+    rules = ap (λ (s : Settings). rules_of s) (sym same)
+
+    reads : {xs : List (Item Reading)} {t : Tree Reading} {f : Option Fault} → ReadsAs o input xs t f → ReadsAs p input xs t f
+    reads (stops xs t f s) =
+        stops xs t f (stop_alike o p plain rules (lines_of input) xs t f s (names xs)
+        (each_all (Alike o.table p.table) (λ n m l. every m) (names_in_content (content_of (read_after xs (mode_after o t) s.faulty).scan))))
+    reads (ends xs t g) = ends xs t (record { sound = sound_alike o p plain rules g.sound (names xs); are = g.are })
+
+    by_run : {r : Outcome} → HasOutcome o input r → HasOutcome p input r
+    by_run (ran_as {xs = xs} {t = t} {f = f} a) = subst (HasOutcome p input) (ap (λ (s : Settings). outcome_of s xs t f) same) (ran_as (reads a))

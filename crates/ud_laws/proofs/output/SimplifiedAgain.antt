@@ -1,0 +1,241 @@
+-- Simplified again: a simplified text stays as it is, and each of its conditions is reduced, or may
+-- stay.
+use Rattle.std.proofs.Common.{◌≡◌, ℕ, ◌-◌, List, [], ◌∷◌, ◌++◌, length, map, take, drop, Bool, false, Some, None, if◌then◌else◌, refl, sym, ◌∙◌, ap, ap₂, subst, ◌⊎◌, inl, inr, arith, ◌≤◌, true, not, Option, length-append}
+use Rattle.std.proofs.lemmas.List.{drop-map, take-append-drop, length-map}
+use Rattle.std.proofs.lemmas.Bool.{or_parts, cases_Bool, and_from, not_from_false, and_parts, not-true}
+use Rattle.ud_model.specs.text.Lines.{Line, text_of}
+use Rattle.ud_model.specs.text.Scans.{Reading, is_spanning}
+use Rattle.ud_model.specs.text.Splicing.{is_spliced, content, is_empty}
+use Rattle.ud_model.specs.text.Lexemes.{Cell, shown}
+use Rattle.ud_model.specs.text.Scanning.{content_cells, scan_after_run, scan_after}
+use Rattle.ud_model.specs.sections.Directives.{Content, directive, Directive, content_of}
+use Rattle.ud_model.specs.conditions.Table.{Argument}
+use Rattle.ud_model.specs.conditions.Expressions.{Expression}
+use Rattle.ud_model.specs.conditions.Conditions.{Rules, tree_cond}
+use Rattle.ud_model.specs.conditions.Residuals.{residual, is_unknown, is_undecided}
+use Rattle.ud_model.specs.conditions.ResidualTexts.{simplified_cells, left_cells, keeps, is_literal, may_go, is_read, simplified_by}
+use Rattle.ud_model.specs.aids.Parsing.{expression_of}
+use Rattle.ud_model.specs.output.SimplifiedTexts.{keyword_end, condition_cells, left_line, may_change, line_by, simplified_line, simplified_text, is_lone, left_cells_of, is_read_alone}
+use Rattle.ud_model.proofs.text.ScanBytes.{bytes-content_cells}
+use Rattle.ud_model.proofs.conditions.ResidualRead.{same_or_left, untouched, cells_go, written_left}
+use Rattle.ud_model.proofs.output.Each.{Pairs, no_pair, pair}
+use Rattle.ud_model.proofs.output.SimplifiedLines.{byte_of, option_is, after_is}
+use Rattle.ud_model.proofs.output.SimplifiedLineTexts.{lines_left}
+use Rattle.ud_model.proofs.output.SimplifiedReadings.{IsLeft, ReadingSimplified, reading_stays, reading_edited, readings_simplified}
+use Rattle.std.specs.List.{list_any}
+use Rattle.ud_model.specs.conditions.Sublists.{IsSublist, nothing, without, with_same}
+use Rattle.ud_model.specs.output.InsertedLines.{read_in, read_as}
+use Rattle.ud_laws.specs.output.LeftOperands.{IsReduced, IsSimplified, joins_line, not_understood, has_quote, decided, rest_decided, rest_misread}
+use Rattle.ud_model.specs.declared.kind.Mode.TheVariants.{C}
+use Rattle.ud_laws.proofs.conditions.ReducedTrees.{fixed_reduced}
+use Rattle.ud_model.proofs.text.ScanLaws.{unspliced}
+use Rattle.ud_laws.proofs.conditions.ResidualAgain.{residual_stays}
+
+abbrev TrueOrFalse : Bool → Type 0
+TrueOrFalse b = (b ≡ true) ⊎ (b ≡ false)
+
+module _ (table : List Argument) (rules : Rules) where
+  -- A line of which all cells are left is the line.
+  whole_line : (l : Line) (d : Directive) → is_spliced l ≡ false → simplified_cells table rules (condition_cells l d) ≡ condition_cells l d → left_line table rules l d ≡ l
+  whole_line l d s e =
+      let c : content l ≡ l.body = ap (λ (b : Bool). if b then take (length l.body - 1) l.body else l.body) s in
+      let n : ℕ = keyword_end d in
+      ap (λ (b : List ℕ). record { body = b; ending = l.ending; number = l.number })
+      (ap (λ (cells : List Cell). take n l.body ++ map byte_of cells) e
+      ∙ ap (λ (x : List ℕ). take n l.body ++ x)
+      (sym (drop-map byte_of n (content_cells [] l)) ∙ ap (λ (x : List ℕ). drop n x) (bytes-content_cells [] l ∙ c)) ∙ take-append-drop n l.body)
+
+  -- The line is edited to itself.
+  module _ (r s : Reading) (d : Directive) (i : IsLeft table rules r s d) where
+    abbrev cells_before : List Cell
+    cells_before = condition_cells r.line d
+
+    same_line : left_line table rules r.line d ≡ r.line → simplified_line table rules s ≡ s.line
+    same_line w = grind arith
+
+    pub lone : is_spliced r.line ≡ false
+    lone = grind (arith, unspliced, or_parts)
+
+    still_lone : is_spliced s.line ≡ false
+    still_lone = unspliced s.line (ap (λ (k : Line). (scan_after_run [] k).joins_after) i.line ∙ i.edited.alone)
+
+    has_now : content_of s.scan ≡ directive i.edited.now
+    has_now = ap content_of i.after ∙ i.edited.has_now
+
+    -- The edited line has the residual, which stays.
+    left_again : (e : Expression) → expression_of (map shown (simplified_cells table rules cells_before)) ≡ Some (residual table rules e).tree →
+        simplified_line table rules s ≡ s.line
+    left_again e p = let now : Directive = i.edited.now in
+        let scanned : s.scan ≡ scan_after_run [] s.line = i.after ∙ ap (λ (k : Line). scan_after_run [] k) (sym i.line) in
+        let q : expression_of (map shown (condition_cells s.line now)) ≡ Some (residual table rules e).tree =
+        ap expression_of (after_is table rules s.line s.scan now scanned has_now ∙ i.edited.after) ∙ p in
+        let w = whole_line s.line now still_lone (residual_stays table rules e (condition_cells s.line now) q) in
+        ap (λ (c : Content). line_by table rules s.scan s.line c) has_now ∙ by (may_change table rules s.scan s.line now) w
+      where
+        by : (b : Bool) → left_line table rules s.line i.edited.now ≡ s.line → (if b then left_line table rules s.line i.edited.now else s.line) ≡ s.line
+        by b w = grind arith
+
+    edited_again : simplified_line table rules s ≡ s.line
+    edited_again = by (option_is (expression_of (map shown cells_before)))
+      where
+        go : (e : Expression) → (simplified_cells table rules cells_before ≡ cells_before) ⊎
+            (expression_of (map shown (simplified_cells table rules cells_before)) ≡ Some (residual table rules e).tree) →
+            simplified_line table rules s ≡ s.line
+        go e h = grind (arith, whole_line, lone, left_again)
+
+        by : (expression_of (map shown cells_before) ≡ None) ⊎
+            ((e : Expression) × (expression_of (map shown cells_before) ≡ Some e)) → simplified_line table rules s ≡ s.line
+        by (inl n) = same_line (whole_line r.line d lone (untouched table rules cells_before n))
+        by (inr (e, p)) = go e (same_or_left table rules e cells_before p)
+
+  abbrev left_text : Reading → List ℕ
+  left_text r = text_of (simplified_line table rules r)
+
+  -- A line of a simplified text is simplified as the line of the text.
+  pub line_again : (r s : Reading) → ReadingSimplified table rules r s → simplified_line table rules s ≡ simplified_line table rules r
+  line_again r s (reading_stays e q h) = ap (simplified_line table rules) q
+  line_again r s (reading_edited d i) = edited_again r s d i ∙ sym i.simplified
+
+  -- A line of a simplified text stays.
+  pub line_stays : (r s : Reading) → ReadingSimplified table rules r s → simplified_line table rules s ≡ s.line
+  line_stays r s (reading_stays e q h) = subst (λ (x : Reading). simplified_line table rules x ≡ x.line) (sym q) e
+  line_stays r s (reading_edited d i) = edited_again r s d i
+
+  texts_again : {rs ss : List Reading} → Pairs (ReadingSimplified table rules) rs ss → map left_text ss ≡ map left_text rs
+  texts_again no_pair = refl
+  texts_again (pair {x = r} {y = s} i p) = ap₂ (λ (t : List ℕ) (ts : List (List ℕ)). t ∷ ts) (ap text_of (line_again r s i)) (texts_again p)
+
+  -- A simplified text stays.
+  pub text_again : (bytes : List ℕ) → simplified_text table rules (simplified_text table rules bytes) ≡ simplified_text table rules bytes
+  text_again bytes = grind (arith, lines_left, texts_again, readings_simplified)
+
+-- Operands left: each condition is reduced, or may stay.
+
+-- 1. Sublists of the same length.
+
+pub sub_fewer : {A : Type 0} {xs ys : List A} → IsSublist xs ys → length xs ≤ length ys
+sub_fewer nothing = omega arith
+sub_fewer (without p) = let h = sub_fewer p in omega (arith, h)
+sub_fewer (with_same p) = let h = sub_fewer p in omega (arith, h)
+
+sub_same : {A : Type 0} {xs ys : List A} → IsSublist xs ys → length xs ≡ length ys → xs ≡ ys
+sub_same nothing e = refl
+sub_same (without p) e = let h = sub_fewer p in absurd (omega (arith, h, e))
+sub_same (with_same {y = y} p) e = ap (λ zs. y ∷ zs) (sub_same p (omega (arith, e)))
+
+is_some : {A : Type 0} {x y : A} → ◌≡◌ {A = Option A} (Some x) (Some y) → x ≡ y
+is_some e = cc
+
+module _ (table : List Argument) (rules : Rules) where
+  -- 2. If a line is edited to itself, all cells of its condition are left.
+  all_left : (l : Line) (d : Directive) → is_spliced l ≡ false → left_line table rules l d ≡ l → left_cells_of table rules l d ≡ condition_cells l d
+  all_left l d s e = let n : ℕ = keyword_end d in
+      let left : List Cell = left_cells_of table rules l d in
+      let cells : List Cell = condition_cells l d in
+      let c : content l ≡ l.body = ap (λ (b : Bool). if b then take (length l.body - 1) l.body else l.body) s in
+      let k = ap (λ (x : List ℕ). drop n x) (sym (bytes-content_cells [] l ∙ c)) ∙ drop-map byte_of n (content_cells [] l) in
+      let a : length (take n l.body ++ map byte_of left) ≡ length l.body = ap (λ (x : Line). length x.body) e in
+      let b = length-append (take n l.body) (map byte_of left) in
+      let f = length-append (take n l.body) (drop n l.body) in
+      let g = ap (λ (x : List ℕ). length x) (take-append-drop n l.body) in
+      let i : length (map byte_of left) ≡ length left = length-map left byte_of in
+      let j : length (drop n l.body) ≡ length cells = ap (λ (x : List ℕ). length x) k ∙ length-map cells byte_of in
+      sub_same (cells_go table rules cells) (omega (arith, a, b, f, g, i, j))
+
+  -- 3. A line that stays, whose condition may change.
+  module _ (r : Reading) (d : Directive) (has : content_of r.scan ≡ directive d) (same : simplified_line table rules r ≡ r.line)
+      (alone : r.scan.joins_before ≡ false → r.scan ≡ scan_after [] C r.line) where
+    abbrev cells : List Cell
+    cells = condition_cells r.line d
+
+    abbrev Reason : Type 0
+    Reason = IsSimplified table rules r d
+
+    -- The line is edited to itself.
+    same_now : may_change table rules r.scan r.line d ≡ true → left_line table rules r.line d ≡ r.line
+    same_now m = grind arith
+
+    module _ (lone : is_lone r.scan r.line ≡ true) where
+      joins_none : is_spanning r.scan ≡ false
+      joins_none = not-true (is_spanning r.scan) (and_parts (not (is_spanning r.scan)) (not (is_empty r.line.ending)) lone).0
+
+      scan_is : r.scan ≡ scan_after [] C r.line
+      scan_is = alone (or_parts r.scan.joins_before r.scan.joins_after joins_none).0
+
+      unspliced_line : is_spliced r.line ≡ false
+      unspliced_line = grind (arith, unspliced, scan_is, or_parts, joins_none)
+
+      text_is : map shown cells ≡ d.after
+      text_is = after_is table rules r.line r.scan d scan_is has
+
+      module _ (e : Expression) (p : expression_of d.after ≡ Some e) where
+        tree_is : expression_of (map shown cells) ≡ Some e
+        tree_is = ap expression_of text_is ∙ p
+
+        abbrev rest : List Cell
+        rest = left_cells (keeps table rules e) cells
+
+        module _ (g : may_go table rules e cells ≡ true) (u : is_undecided table rules (residual table rules e) ≡ true) where
+          -- All cells are left, so the tree is its own residual.
+          reduced : is_read table rules e rest ≡ true → is_read_alone table rules r.line d ≡ true → IsReduced table rules e
+          unfolding simplified_cells
+          reduced q z =
+              let a = all_left r.line d unspliced_line (same_now (and_from (is_lone r.scan r.line) (is_read_alone table rules r.line d) lone z)) in
+              let b : left_cells_of table rules r.line d ≡ rest =
+              ap (λ o. simplified_by table rules o cells) tree_is
+              ∙ ap (λ (t : Bool). if t then rest else cells) (and_from (may_go table rules e cells) (is_read table rules e rest) g q) in
+              let w = written_left table rules e cells tree_is rest q in
+              let f = is_some (sym w ∙ ap (λ (cs : List Cell). expression_of (map shown cs)) (sym b ∙ a) ∙ tree_is) in
+              fixed_reduced table rules e f (and_parts (is_unknown (residual table rules e).cond) (is_unknown (tree_cond (residual table rules e).tree table rules)) u).0
+
+          by_line : is_read table rules e rest ≡ true → TrueOrFalse (is_read_alone table rules r.line d) → Reason
+          by_line q h = grind (arith, reduced)
+
+          by_rest : TrueOrFalse (is_read table rules e rest) → Reason
+          by_rest (inl q) = by_line q (cases_Bool (is_read_alone table rules r.line d))
+          by_rest (inr q) = inl (rest_misread e p q)
+
+        by_quote : is_unknown (tree_cond e table rules) ≡ true → is_undecided table rules (residual table rules e) ≡ true →
+            TrueOrFalse (list_any is_literal cells) → Reason
+        by_quote k u (inl q) = inl (has_quote q)
+        by_quote k u (inr q) = search (rules, by_rest, and_from, not_from_false, cases_Bool)
+
+        by_residual : is_unknown (tree_cond e table rules) ≡ true → TrueOrFalse (is_undecided table rules (residual table rules e)) → Reason
+        by_residual k (inl u) = by_quote k u (cases_Bool (list_any is_literal cells))
+        by_residual k (inr u) = inl (rest_decided e p u)
+
+        by_cond : TrueOrFalse (is_unknown (tree_cond e table rules)) → Reason
+        by_cond (inl k) = by_residual k (cases_Bool (is_undecided table rules (residual table rules e)))
+        by_cond (inr k) = inl (decided e p k)
+
+      by_tree : (expression_of d.after ≡ None) ⊎ ((e : Expression) × (expression_of d.after ≡ Some e)) → Reason
+      by_tree (inl n) = inl (not_understood n)
+      by_tree (inr (e, p)) = by_cond e p (cases_Bool (is_unknown (tree_cond e table rules)))
+
+    reason : Reason
+    reason = by (cases_Bool (is_lone r.scan r.line))
+      where
+        by : TrueOrFalse (is_lone r.scan r.line) → Reason
+        by (inl l) = by_tree l (option_is (expression_of d.after))
+        by (inr l) = inl (joins_line l)
+
+  -- 4. The lines of a simplified text.
+
+  lone_scan : (r s : Reading) → ReadingSimplified table rules r s → s.scan.joins_before ≡ false → s.scan ≡ scan_after [] C s.line
+  lone_scan r s h = grind arith
+
+  from : {rs ss : List Reading} → Pairs (ReadingSimplified table rules) rs ss →
+      (before after : List Reading) (s : Reading) → ss ≡ before ++ s ∷ after →
+      (r : Reading) × ReadingSimplified table rules r s
+  from no_pair [] after s e = cc
+  from no_pair (b ∷ before) after s e = cc
+  from (pair {x = r} {y = t} i p) [] after s e = let q : t ≡ s = cc in (r, subst (λ (x : Reading). ReadingSimplified table rules r x) q i)
+  from (pair {ys = ss} i p) (b ∷ before) after s e = let q : ss ≡ before ++ s ∷ after = cc in from p before after s q
+
+  -- Each condition is reduced, or may stay.
+  pub operands_left : (bytes : List ℕ) (before after : List Reading) (s : Reading) (d : Directive) →
+      read_as C (simplified_text table rules bytes) ≡ before ++ s ∷ after → content_of s.scan ≡ directive d →
+      IsSimplified table rules s d
+  operands_left bytes before after s d e h =
+      let f = from (readings_simplified table rules bytes) before after s (ap (λ (ls : List Line). read_in C ls) (sym (lines_left table rules bytes)) ∙ e) in
+      reason s d h (line_stays table rules f.0 s f.1) (lone_scan f.0 s f.1)

@@ -1,0 +1,91 @@
+-- The tree of a simplified text is that of the text, with simplified openers.
+use Rattle.std.proofs.Common.{◌≡◌, ℕ, List, false, refl, sym, ◌∙◌, ap, subst, arith}
+use Rattle.ud_model.specs.text.Lines.{Line, lines_of}
+use Rattle.ud_model.specs.text.Scans.{Reading}
+use Rattle.ud_model.specs.sections.Tree.{Item, Opener, Nodes, Groups, Elifs, closed, text_line, if_line, elif_line, else_line, endif_line, lines_of_nodes}
+use Rattle.ud_model.specs.sections.Items.{Options, rules_of, mode_by}
+use Rattle.ud_model.specs.output.Rereading.{NoneIgnores, IsTreeOf}
+use Rattle.ud_model.specs.output.InsertedLines.{read_in}
+use Rattle.ud_laws.proofs.output.NodesAlike.{NodesAlike, nothing_alike, text_alike, section_alike, GroupsAlike, conditional_alike, otherwise_alike, ElifsAlike, first_alike, elif_alike}
+use Rattle.ud_model.specs.output.SimplifiedTexts.{simplified_text}
+use Rattle.ud_model.specs.declared.kind.Mode.{Mode}
+use Rattle.ud_model.specs.declared.kind.Mode.TheVariants.{C}
+use Rattle.ud_model.proofs.text.Pushes.{by_push}
+use Rattle.ud_model.proofs.sections.Soundness.{read_lines}
+use Rattle.ud_model.proofs.output.Heeding.{ReadIn, the_mode, are_read}
+use Rattle.ud_laws.proofs.output.InsertedTree.{items}
+use Rattle.ud_laws.proofs.output.InsertedText.{read_items, lines_back, items_are}
+use Rattle.ud_model.proofs.output.Each.{Pairs}
+use Rattle.ud_model.proofs.output.WovenTrees.{Woven, TextGoes, EndifGoes, ElseGoes, IfGoes, ElifGoes, strewn_pairs, weave_nodes}
+use Rattle.ud_model.proofs.output.SimplifiedReadings.{left_lines, readings_simplified}
+use Rattle.ud_laws.proofs.output.SimplifiedItems.{ItemSimplified, a_text, an_if, an_elif, an_else, an_endif, items_simplified}
+use Rattle.ud_laws.proofs.output.SimplifiedConditions.{LineSimplified}
+
+-- 1. Nodes.
+
+module _ (o : Options) where
+  -- The line stays.
+  abbrev pub IsSame : Reading → Reading → Type 0
+  IsSame r s = r ≡ s
+
+  abbrev pub OpenerLeft : Opener Reading → Opener Reading → Type 0
+  OpenerLeft p q = LineSimplified o.table (rules_of o.settings) p.line q.line
+
+  -- The tree with simplified openers.
+  abbrev pub Like : Nodes Reading → Nodes Reading → Type 0
+  Like ns us = NodesAlike IsSame OpenerLeft ns us
+
+  abbrev pub GroupsLike : Groups Reading → Groups Reading → Type 0
+  GroupsLike gs hs = GroupsAlike IsSame OpenerLeft gs hs
+
+  abbrev pub ElifsLike : Elifs Reading → Elifs Reading → Type 0
+  ElifsLike es fs = ElifsAlike IsSame OpenerLeft es fs
+
+  text_goes : (r : Reading) (z : Item Reading) → ItemSimplified o (text_line r) z → TextGoes Like GroupsLike ElifsLike r z
+  text_goes r _ a_text = (r, refl, λ ns us n. text_alike n refl)
+
+  endif_goes : (r : Reading) (z : Item Reading) → ItemSimplified o (endif_line r) z → EndifGoes Like GroupsLike ElifsLike r z
+  endif_goes r _ an_endif = (r, refl, λ ns us gs hs n g. section_alike n g)
+
+  else_goes : (r : Reading) (z : Item Reading) → ItemSimplified o (else_line r) z → ElseGoes Like GroupsLike ElifsLike r z
+  else_goes r _ an_else = (r, refl, λ es fs ns us e n. otherwise_alike e n)
+
+  if_goes : (p : Opener Reading) (z : Item Reading) → ItemSimplified o (if_line p) z → IfGoes Like GroupsLike ElifsLike p z
+  if_goes p _ (an_if {q = q} k) = (q, refl, λ ns us n. first_alike k n)
+
+  elif_goes : (p : Opener Reading) (z : Item Reading) → ItemSimplified o (elif_line p) z → ElifGoes Like GroupsLike ElifsLike p z
+  elif_goes p _ (an_elif {q = q} k) = (q, refl, λ es fs ns us e n. elif_alike e k n)
+
+  weave : (ns : Nodes Reading) (zs : List (Item Reading)) → Pairs (ItemSimplified o) (lines_of_nodes ns) zs → Woven Like ns zs
+  weave ns zs s =
+      weave_nodes (ItemSimplified o) (λ r. ⊥) Like GroupsLike ElifsLike (record {
+        nothing_goes = nothing_alike;
+        put_goes = λ ns us d k n. absurd k;
+        text_goes = text_goes;
+        endif_goes = endif_goes;
+        groups_go = λ es fs e. conditional_alike e;
+        else_goes = else_goes;
+        if_goes = if_goes;
+        elif_goes = elif_goes;
+      }) ns zs (strewn_pairs (ItemSimplified o) (λ r. ⊥) s)
+
+  -- 2. The text.
+
+  -- The simplified text has the tree of the text.
+  pub simplified_tree : NoneIgnores o.table → o.settings.plain ≡ false → (bytes : List ℕ) (ns : Nodes Reading) → IsTreeOf o bytes (closed ns) →
+      lines_of (simplified_text o.table (rules_of o.settings) bytes) ≡ left_lines o.table (rules_of o.settings) (lines_of bytes) →
+      (us : Nodes Reading) × IsTreeOf o (simplified_text o.table (rules_of o.settings) bytes) (closed us) × Like ns us
+  simplified_tree n c bytes ns i e = let m : the_mode o ≡ C = ap mode_by c in
+      let ls : List Line = lines_of bytes in
+      let ks : List Line = left_lines o.table (rules_of o.settings) ls in
+      let zs : List (Item Reading) = items o (read_in C ks) in
+      let here : lines_of_nodes ns ≡ items o (read_in C ls) = cc (read_lines i.read, items_are o n i.read, m, i.are) in
+      let w : Woven Like ns zs = grind (arith, weave, items_simplified, readings_simplified) in (
+        w.nodes,
+        record {
+          items = zs;
+          read = are_read o n zs (subst (λ (q : Mode). ReadIn o q zs) (sym m) (read_items o C ks (by_push ks))) (closed w.nodes) w.lines;
+          are = e ∙ sym (lines_back o C ks (by_push ks));
+        },
+        w.alike,
+      )

@@ -1,0 +1,12 @@
+pub mod LiveLines
+pub mod ListedNames
+pub mod GoneSymbols
+pub mod BlankedLines
+pub mod SharedLines
+pub mod StrictLines
+pub mod InsertedNodes
+pub mod PresumedLines
+pub mod LeftOperands
+pub mod ProcessedFiles
+pub mod DecidedByNumbers
+pub mod LogicalProcessing

@@ -1,6 +1,0 @@
--- Each condition is decided alike, so each line is read alike.
-use Rattle.ud_model.proofs.output.SharedLineLemmas.{same_names}
-use Rattle.ud_model.proofs.option_laws.law_last_option_counts.Goals as goal
-
-pub returns : goal.returns
-returns c = λ o p input r same every run. same_names o p input same every run

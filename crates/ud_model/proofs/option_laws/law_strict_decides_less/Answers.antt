@@ -1,9 +1,0 @@
--- An operand that is unknown leaves `&&` and `||` unknown under `-K`.
-use Rattle.ud_model.proofs.conditions.StrictLess.{value_keeps, cond_keeps}
-use Rattle.ud_model.proofs.option_laws.law_strict_decides_less.Goals as goal
-
-pub returns-clause-value : goal.returns-clause-value
-returns-clause-value c = λ table e n h. value_keeps table e n h
-
-pub returns-clause-cond : goal.returns-clause-cond
-returns-clause-cond c = λ table e rules n. cond_keeps table e rules.constants n

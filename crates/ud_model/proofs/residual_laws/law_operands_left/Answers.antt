@@ -1,6 +1,0 @@
--- Case by case.
-use Rattle.ud_model.proofs.output.SimplifiedAgain.{operands_left}
-use Rattle.ud_model.proofs.residual_laws.law_operands_left.Goals as goal
-
-pub returns : goal.returns
-returns c = λ table rules bytes before after r d e h t. operands_left table rules bytes before after r d e h
