@@ -1,5 +1,5 @@
 -- The state of a line processor after many text lines at once.
-use Rattle.std.proofs.Common.{◌≡◌, ℕ, suc, ◌<◌, List, [], ◌∷◌, ◌++◌, length, map, Bool, true, false, not, bytes_eq, ◌||◌, Some, None, refl, sym, ◌∙◌, ap, ap₂, subst, append_assoc, append-nil, arith}
+use Rattle.std.proofs.Common.{◌≡◌, ℕ, suc, ◌<◌, List, [], ◌∷◌, ◌++◌, length, map, Bool, true, false, not, bytes_eq, ◌||◌, Some, None, refl, sym, ◌∙◌, ap, ap₂, subst, append-nil, arith}
 use Rattle.std.specs.List.{concat}
 use Rattle.std.proofs.lemmas.List.Folds.{concat-append}
 use Rattle.std.proofs.lemmas.Slice.Eq.{bytes_eq-Decides}
@@ -26,6 +26,7 @@ use Rattle.ud_engine.specs.DecidedLines.{DecidesBulk}
 use Rattle.ud_engine.specs.ProcessedLines.{text_by, differs_in, lister_of, ProcessorRepresents, PrintsBulk}
 use Rattle.ud_engine.proofs.NameListingLemmas.{lists_none}
 use Rattle.ud_engine.proofs.ProcessorLemmas.{is_off, lists_same, not_off}
+use Rattle.ud_model.proofs.answer.Onward.{pieces_by-append}
 
 judged_line-append : (xs ys : List (Item Reading)) (ms ns : List Mark) → length ms ≡ length xs →
     judged_lines (xs ++ ys) (ms ++ ns) ≡ judged_lines xs ms ++ judged_lines ys ns
@@ -34,14 +35,6 @@ judged_line-append [] ys (m ∷ ms) ns e = cc
 judged_line-append (x ∷ xs) ys [] ns e = cc
 judged_line-append (x ∷ xs) ys (m ∷ ms) ns e =
     ap (λ js. judged_line x m ∷ js) (judged_line-append xs ys ms ns (let h : suc (length ms) ≡ suc (length xs) = e in omega (arith, h)))
-
--- The pieces of lines after others follow the pieces of those.
-pieces_by-append : (piece : List Judged → Judged → List ℕ) (before js ks : List Judged) →
-    pieces_by piece before (js ++ ks) ≡ pieces_by piece before js ++ pieces_by piece (before ++ js) ks
-pieces_by-append piece before [] ks = ap (λ bs. pieces_by piece bs ks) (sym (append-nil before))
-pieces_by-append piece before (j ∷ js) ks = ap (λ ps. piece before j ∷ ps)
-    (pieces_by-append piece (before ++ j ∷ []) js ks
-    ∙ ap (λ bs. pieces_by piece (before ++ j ∷ []) js ++ pieces_by piece bs ks) (append_assoc before (j ∷ []) js))
 
 -- Some line of both differs, if one of the first or one of the others does.
 differ-append : (piece : List Judged → Judged → List ℕ) (before js ks : List Judged) (ps : List (List ℕ)) →

@@ -9,7 +9,6 @@ use Rattle.ud_model.specs.sections.Faults.{Fault, FaultOf, past_last, too_long, 
 use Rattle.ud_model.specs.answer.Printing.{Judged}
 use Rattle.ud_model.specs.answer.Outcomes.{IsLimit, by_lines, by_bytes, lines_so_far, line_so_far, stops, breaks, ReadsSoFar, goes_on}
 use Rattle.ud_model.specs.declared.limits.TheConstants.{LINE_BYTES, TEXT_LINES, OPEN_SECTIONS}
-use Rattle.ud_model.proofs.sections.Soundness.{reading_of-next}
 use Rattle.ud_model.proofs.text.LinesLemmas.{split_lines-append-open, split_lines-append-line, text_of-line_at, numbered_from-next, lines_so_far-append}
 use Rattle.ud_cond.specs.symbols.SymbolTable.{TableRepresents}
 use Rattle.ud_text.specs.lines.LinesState.{LinesRepresent, UpToNewline, BreaksLimit}
@@ -20,6 +19,7 @@ use Rattle.ud_sections.proofs.lemmas.sections.NextLemmas.{lines_more}
 use Rattle.ud_engine.specs.Feeding.{EngineState, IsOpen, EngineRepresentsBuffered, FaultsAfter, PrintsPrefix}
 use Rattle.ud_faults.specs.Faults.{limit_of}
 use Rattle.ud_engine.specs.ProcessedLines.{ProcessorRepresents, PrintsMore}
+use Rattle.ud_model.proofs.sections.FaultStays.{line_of-next_item}
 
 -- The split lines of a text with the prefix of a chunk up to its first newline, if `rest` is the
 -- text's partial line.
@@ -173,7 +173,7 @@ module _ {S : Type 0} (represents : S → List Judged → Type 0) (piece_of : S 
       let to : UpToNewline rest r.2.0 r.2.1 = r.2.2 in
       limit_at rest r.2.0 r.2.1 (too_many_lines line) to r.2.3
       (past_fault h.items (next_item o h.items h.tree (line_at (suc (length (whole_lines text))) (e.lines.held ++ take r.2.0 rest)))
-      (line_at (suc (length (whole_lines text))) (e.lines.held ++ take r.2.0 rest)) line (reading_of-next o h.items h.tree _)
+      (line_at (suc (length (whole_lines text))) (e.lines.held ++ take r.2.0 rest)) line (line_of-next_item o h.items h.tree _)
       (omega (arith, b, is)) (omega (arith, b, k, past, is)))
   limit_stops rest (LineTooLong line) r = let b = before_is in
       let k = h.opened.limit in
@@ -188,7 +188,7 @@ module _ {S : Type 0} (represents : S → List Judged → Type 0) (piece_of : S 
       let bytes : LINE_BYTES < length (e.lines.held ++ take r.2.0 rest) = omega (arith, m, q, w, long) in
       limit_at rest r.2.0 r.2.1 (line_too_long line) to (omega (arith, long, short))
       (long_fault h.items (next_item o h.items h.tree (line_at (suc (length (whole_lines text))) (e.lines.held ++ take r.2.0 rest)))
-      (line_at (suc (length (whole_lines text))) (e.lines.held ++ take r.2.0 rest)) line (reading_of-next o h.items h.tree _)
+      (line_at (suc (length (whole_lines text))) (e.lines.held ++ take r.2.0 rest)) line (line_of-next_item o h.items h.tree _)
       (omega (arith, b, is)) (omega (arith, b, k, fits, is))
       (subst (λ (t : List ℕ). LINE_BYTES < length t) (sym (text_of-line_at (suc (length (whole_lines text))) (e.lines.held ++ take r.2.0 rest))) bytes))
 
@@ -197,13 +197,13 @@ module _ {S : Type 0} (represents : S → List Judged → Type 0) (piece_of : S 
   no_limit _ by_lines some k = let b = before_is in
       let n = h.begun some in
       let past : TEXT_LINES < suc (length (whole_lines text)) =
-      subst (λ (l : Line). TEXT_LINES < l.number) (reading_of-next o h.items h.tree (line_so_far text)) k in
+      subst (λ (l : Line). TEXT_LINES < l.number) (line_of-next_item o h.items h.tree (line_so_far text)) k in
       omega (arith, b, n, past)
   no_limit _ by_bytes some k = let r = ap length (rest_is) in
       let s = h.opened.short in
       let long : LINE_BYTES < length (partial_line text) =
       subst (λ (x : List ℕ). LINE_BYTES < length x) (text_of-line_at (suc (length (whole_lines text))) (partial_line text))
-      (subst (λ (l : Line). LINE_BYTES < length (text_of l)) (reading_of-next o h.items h.tree (line_so_far text)) k) in
+      (subst (λ (l : Line). LINE_BYTES < length (text_of l)) (line_of-next_item o h.items h.tree (line_so_far text)) k) in
       omega (arith, r, s, long)
 
   some_held : (r : List ℕ) → (r ≡ [] → ⊥) → 0 < length r

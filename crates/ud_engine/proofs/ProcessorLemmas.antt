@@ -10,7 +10,7 @@ use Rattle.ud_model.specs.answer.Printing.{Judged, judged_line, judged_lines}
 use Rattle.ud_model.specs.declared.settings.Listing.{Listing}
 use Rattle.ud_model.specs.declared.settings.Listing.TheVariants.{Off}
 use Rattle.ud_model.proofs.answer.PrintingLemmas.{printed-more, differ-more}
-use Rattle.ud_model.proofs.sections.Soundness.{sound_lines, reading_of-next}
+use Rattle.ud_model.proofs.sections.Soundness.{sound_lines}
 use Rattle.ud_model.proofs.sections.Stays.{length_marks}
 use Rattle.ud_sections.specs.sections.StepViews.{as_span}
 use Rattle.ud_sections.specs.declared.sections.step.Step.{Step}
@@ -19,6 +19,7 @@ use Rattle.ud_engine.specs.declared.line_decider.LineDecider.{LineDecider}
 use Rattle.ud_engine.specs.DecidedLines.{DecidesLine}
 use Rattle.ud_engine.specs.ProcessedLines.{differs_in, lister_of, ProcessorRepresents, PrintsMore, ShowsLine, PrintsLine}
 use Rattle.ud_io.specs.Streams.{Stream}
+use Rattle.ud_model.proofs.sections.FaultStays.{line_of-next_item}
 
 -- Of no lines, none differs.
 pub none_differ : (listing : Listing) (piece : List Judged → Judged → List ℕ) → false ≡ differs_in listing piece [] (closed nothing)
@@ -81,4 +82,4 @@ module _ {S : Type 0} (represents : S → List Judged → Type 0) (piece_of : S 
       (represents p.printer (judged_lines xs (marks t)) → ShowsLine put old new buffered left pending (piece_of p.printer (judged_lines xs (marks t))
       (record { line = l; verdict = step.verdict; keyword = as_span step.keyword })) (text_of l)) →
       PrintsLine represents piece_of q o piece xs t l put old new buffered left pending
-  shows_line p q step put old new buffered left pending h k m r s u v w = grind (arith, is_off, piece_is, judged_next, bytes_eq, differs_more, reading_of-next, shows_more)
+  shows_line p q step put old new buffered left pending h k m r s u v w = grind (arith, is_off, piece_is, judged_next, bytes_eq, differs_more, line_of-next_item, shows_more)

@@ -23,6 +23,7 @@ use Rattle.ud_engine.specs.ProcessedLines.{PrintsLine}
 use Rattle.ud_io.specs.Streams.{Stream, TakesAllBut}
 use Rattle.ud_io.proofs.StreamLemmas.{stream_buffered}
 use Rattle.ud_engine.proofs.LinePartLemmas.{before_is, rest_is, split_lines-front_of, parts_behind, line_taken, open_taken, line_next, line_stops}
+use Rattle.ud_io.proofs.BufferingLemmas.{range_from}
 
 -- A last line without a newline has none in its body.
 pub rest_feedless : (n : ℕ) (l : List ℕ) → NoNewline l → NoNewline (line_at n l).body
@@ -113,10 +114,6 @@ module _ {S : Type 0} (represents : S → List Judged → Type 0) (piece_of : S 
       line ∙ ap (λ (k : LinesState). line_at (suc k.before) k.held) is ∙ ap (λ n. line_at (suc n) (e.lines.held ++ take used rest)) (before_is represents piece_of o piece e text printed h) in
       let next = line_next represents piece_of o piece e text printed h rest used (e.lines.held ++ take used rest) lines in
       refused_by l f next.0 (next.1 ∙ ap (λ k. lines_so_far text ++ k ∷ next.0) (sym at)) fails
-
--- The slice from a position to the end.
-pub slice_from : (p : List ℕ) (n : ℕ) → take (length p - n) (drop n p) ≡ drop n p
-slice_from p n = grind (arith, common_steps)
 
 -- No bytes are between a position and itself.
 pub between_none : (p : List ℕ) (n : ℕ) → slice_between p n n ≡ []

@@ -1,6 +1,6 @@
 -- Edited lines: the line that is edited, and the line that is read.
-use Rattle.std.proofs.Common.{◌≡◌, ℕ, ◌-◌, List, [], ◌++◌, length, map, take, drop, Bool, true, false, if◌then◌else◌, bytes_eq, refl, sym, ◌∙◌, ap, subst, ◌⊎◌, length-append, arith, take-append-drop}
-use Rattle.std.proofs.lemmas.List.{drop-map, take_at, take_all}
+use Rattle.std.proofs.Common.{◌≡◌, ℕ, ◌-◌, List, [], ◌++◌, length, map, take, drop, Bool, true, false, if◌then◌else◌, bytes_eq, refl, sym, ◌∙◌, ap, subst, ◌⊎◌, arith, take-append-drop}
+use Rattle.std.proofs.lemmas.List.{drop-map, take_all}
 use Rattle.std.proofs.lemmas.Bool.{and_right}
 use Rattle.std.proofs.lemmas.Slice.Eq.{bytes_eq-Decides}
 use Rattle.ud_model.specs.text.Lines.{Line, NoNewline, IsWhole, text_of, ending_of, line_at, is_ending}
@@ -11,7 +11,6 @@ use Rattle.ud_model.specs.text.Scanning.{content_cells, scan_after_run}
 use Rattle.ud_model.specs.sections.Directives.{Content, directive, Directive, content_of}
 use Rattle.ud_model.specs.conditions.Table.{Argument}
 use Rattle.ud_model.specs.conditions.Conditions.{Rules}
-use Rattle.ud_model.specs.conditions.Sublists.{IsSublist, nothing, without, with_same}
 use Rattle.ud_model.specs.conditions.ResidualTexts.{simplified_cells}
 use Rattle.ud_model.specs.output.SimplifiedTexts.{keyword_end, condition_cells, same_if, has_condition, keeps_ending, is_lone, left_cells_of, left_line, is_read_alone, line_by, simplified_line}
 use Rattle.ud_model.specs.declared.kind.Kind.{Kind}
@@ -26,17 +25,9 @@ use Rattle.ud_text.proofs.lemmas.scan.MaskLemmas.{no_newline-take, no_newline-dr
 use Rattle.ud_passes.specs.pruning.Cells.{AreCells, byte_of}
 use Rattle.ud_passes.specs.pruning.EditedLines.{c_reading, IsScannedAlone, is_meant, IsCondition, line_if_read, IsEditedAt}
 use Rattle.ud_model.proofs.text.ScanLaws.{unspliced}
+use Rattle.ud_model.proofs.output.SimplifiedLineTexts.{fewer, cut_there}
 
 -- 1. Sublists.
-
-fewer : {xs ys : List Cell} → IsSublist xs ys → NoNewline (map byte_of ys) → NoNewline (map byte_of xs)
-fewer nothing h = tt
-fewer (without p) h = fewer p h.1
-fewer (with_same p) h = (h.0, fewer p h.1)
-
--- The texts before equal endings.
-cut_there : (b c : List ℕ) → take (length (b ++ c) - length c) (b ++ c) ≡ b
-cut_there b c = grind (arith, take_at, length-append)
 
 pub same_cut : (b a c : List ℕ) → b ++ c ≡ a ++ c → b ≡ a
 same_cut b a c q = sym (cut_there b c) ∙ ap (λ (x : List ℕ). take (length x - length c) x) q ∙ cut_there a c

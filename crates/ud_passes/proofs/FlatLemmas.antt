@@ -19,7 +19,7 @@ use Rattle.ud_model.specs.output.FoldedTexts.{vertical_tab, has_tab, continued_p
 use Rattle.ud_model.specs.declared.kind.Mode.TheVariants.{C}
 use Rattle.ud_model.proofs.text.ScanBytes.{content-prefix}
 use Rattle.ud_model.proofs.text.LinesLemmas.{text_of-line_at, lines_exist, lines_are, map-lines_of, numbered_from-append, split_lines-line-prefix}
-use Rattle.ud_model.proofs.output.Formed.{ending_none}
+use Rattle.ud_model.proofs.output.Formed.{ending_none, formed_more}
 use Rattle.ud_model.proofs.output.FoldedReadings.{all_there, readings_folded}
 use Rattle.ud_text.specs.lines.LinesState.{UpToNewline}
 use Rattle.ud_text.proofs.lemmas.scan.LongerTextLemmas.{one_text}
@@ -138,16 +138,13 @@ whole_flat t (p, n, e) = (map flat_byte p, open_flat p n, ap (map flat_byte) e �
 first_whole : (t : List ℕ) (ls : List (List ℕ)) → AreFormed (t ∷ ls) → ending_of t ≢ [] → IsWhole t × AreFormed ls
 first_whole t ls f h = grind (arith, ending_none)
 
-with_whole : (t : List ℕ) (ls : List (List ℕ)) → IsWhole t → AreFormed ls → AreFormed (t ∷ ls)
-with_whole t ls w f = grind arith
-
 with_blanks : (rs : List Reading) (ls : List (List ℕ)) → AreFormed ls → AreFormed (blank_texts rs ++ ls)
 with_blanks [] ls f = f
-with_blanks (r ∷ rs) ls f = with_whole (newline ∷ []) (blank_texts rs ++ ls) ([], tt, refl) (with_blanks rs ls f)
+with_blanks (r ∷ rs) ls f = formed_more (newline ∷ []) (blank_texts rs ++ ls) ([], tt, refl) (with_blanks rs ls f)
 
 with_others : (xs ys zs : List (List ℕ)) → AreFormed (xs ++ ys) → (AreFormed ys → AreFormed zs) → (ys ≡ [] → zs ≡ []) → AreFormed (xs ++ zs)
 with_others [] ys zs f g e = g f
-with_others (x ∷ []) ys zs f g e = grind (arith, with_whole)
+with_others (x ∷ []) ys zs f g e = grind (arith, formed_more)
 with_others (x ∷ w ∷ xs) ys zs f g e = (f.0, with_others (w ∷ xs) ys zs f.1 g e)
 
 has_ending : (g : List Reading) → is_foldable g ≡ true → ending_of (text_of (folded_line g)) ≢ []
@@ -166,7 +163,7 @@ one_formed r rs old new s = by (is_foldable (r ∷ rs)) refl
     by : (b : Bool) → is_foldable (r ∷ rs) ≡ b →
         StayFormed (texts (if b then next_reading [] C k ∷ [] else r ∷ rs) ++ old) ((if b then map flat_byte (text_of k) ∷ blank_texts rs else texts (r ∷ rs)) ++ new)
     by true e = (
-      (λ f. let w = first_whole (text_of k) old f (has_ending (r ∷ rs) e) in with_whole (map flat_byte (text_of k)) (blank_texts rs ++ new) (whole_flat (text_of k) w.0) (with_blanks rs new (s.0 w.1))),
+      (λ f. let w = first_whole (text_of k) old f (has_ending (r ∷ rs) e) in formed_more (map flat_byte (text_of k)) (blank_texts rs ++ new) (whole_flat (text_of k) w.0) (with_blanks rs new (s.0 w.1))),
       (λ q. cc),
     )
     by false e = ((λ f. with_others (texts (r ∷ rs)) old new f s.0 s.1), (λ q. cc))

@@ -1,5 +1,5 @@
 -- Left cells: when the rest of a condition's text takes its place.
-use Rattle.std.proofs.Common.{◌≡◌, ℕ, List, [], ◌∷◌, length, map, Bool, true, false, not, ◌&&◌, if◌then◌else◌, Some, None, refl, sym, ◌∙◌, ap, arith}
+use Rattle.std.proofs.Common.{◌≡◌, ℕ, List, [], length, map, Bool, true, false, not, ◌&&◌, if◌then◌else◌, Some, None, sym, ◌∙◌, ap, arith}
 use Rattle.std.specs.List.{list_any}
 use Rattle.std.proofs.lemmas.Bool.{and_left, and_right}
 use Rattle.std.proofs.lemmas.Grind.{common_steps}
@@ -9,19 +9,13 @@ use Rattle.ud_model.specs.conditions.Expressions.{Expression, spelling}
 use Rattle.ud_model.specs.conditions.Conditions.{Rules, tree_cond, expression_cond}
 use Rattle.ud_model.specs.conditions.Residuals.{residual, is_unknown, is_undecided}
 use Rattle.ud_model.specs.conditions.ResidualTexts.{keeps, left_cells, is_literal, may_go, is_read, simplified_tree, simplified_cells}
-use Rattle.ud_model.specs.aids.Parsing.{tokens_of, expression_of}
-use Rattle.ud_model.proofs.conditions.KeptTokens.{SameLength, choose}
-use Rattle.ud_model.proofs.conditions.OneExpression.{expression_is}
-use Rattle.ud_model.proofs.conditions.TokenLemmas.{tokens_of_only}
-use Rattle.ud_model.proofs.conditions.ResidualRead.{written_left}
+use Rattle.ud_model.specs.aids.Parsing.{expression_of}
+use Rattle.ud_model.proofs.conditions.KeptTokens.{choose}
+use Rattle.ud_model.proofs.conditions.ResidualRead.{written_left, untouched}
 use Rattle.ud_passes.specs.pruning.Cells.{AreCells, SameLeft, stands, IsFound}
 use Rattle.ud_passes.specs.declared.pruning.cells.LeftText.{LeftText}
-
-same_size : {A B : Type 0} (xs : List A) (ys : List B) → SameLength xs ys → length xs ≡ length ys
-same_size [] [] h = refl
-same_size (x ∷ xs) (y ∷ ys) h = let k = same_size xs ys h in omega (arith, k)
-same_size [] (y ∷ ys) h = absurd h
-same_size (x ∷ xs) [] h = absurd h
+use Rattle.ud_cond.proofs.lemmas.expressions.KeptLemmas.{same_length}
+use Rattle.ud_cond.proofs.lemmas.NameListLemmas.{tokens-whole}
 
 both : (a b c : Bool) → a ≡ true → b ≡ true → c ≡ true → (a && b && c) ≡ true
 both a b c p q r = grind arith
@@ -35,10 +29,6 @@ module _ (table : List Argument) (rules : Rules) where
   by_tree : (cells : List Cell) (e : Expression) → expression_of (map shown cells) ≡ Some e → simplified_cells table rules cells ≡ simplified_tree table rules e cells
   unfolding simplified_cells
   by_tree cells e p = grind arith
-
-  without_tree : (cells : List Cell) → expression_of (map shown cells) ≡ None → simplified_cells table rules cells ≡ cells
-  unfolding simplified_cells
-  without_tree cells p = grind arith
 
   if_false : (b c : Bool) (xs ys : List Cell) → b ≡ false → (if b && c then xs else ys) ≡ ys
   if_false b c xs ys e = grind arith
@@ -58,18 +48,18 @@ module _ (table : List Argument) (rules : Rules) where
 
   -- A condition that is decided stays.
   pub known_stays : (cells : List Cell) → is_unknown (expression_cond (map shown cells) table rules) ≡ false → simplified_cells table rules cells ≡ cells
-  known_stays cells h = by_option cells (simplified_cells table rules cells ≡ cells) (without_tree cells) (λ e p.
+  known_stays cells h = by_option cells (simplified_cells table rules cells ≡ cells) (untouched table rules cells) (λ e p.
       stays cells e p (and_left (is_unknown (tree_cond e table rules) && is_undecided table rules (residual table rules e)) (not (list_any is_literal cells)) (and_left (is_unknown (tree_cond e table rules)) (is_undecided table rules (residual table rules e)) (ap is_unknown (sym (cond_of (map shown cells) e p)) ∙ h))))
 
   -- A condition whose residual is decided stays.
   pub settled_stays : (cells : List Cell) → ((e : Expression) → expression_of (map shown cells) ≡ Some e → is_unknown (residual table rules e).cond ≡ false) → simplified_cells table rules cells ≡ cells
-  settled_stays cells h = by_option cells (simplified_cells table rules cells ≡ cells) (without_tree cells) (λ e p.
+  settled_stays cells h = by_option cells (simplified_cells table rules cells ≡ cells) (untouched table rules cells) (λ e p.
       stays cells e p (and_left (is_unknown (tree_cond e table rules) && is_undecided table rules (residual table rules e)) (not (list_any is_literal cells))
       (and_right (is_unknown (tree_cond e table rules)) (is_undecided table rules (residual table rules e)) (and_left (is_unknown (residual table rules e).cond) (is_unknown (tree_cond (residual table rules e).tree table rules)) (h e p)))))
 
   -- A text with a quote stays.
   pub quote_stays : (cells : List Cell) → list_any is_literal cells ≡ true → simplified_cells table rules cells ≡ cells
-  quote_stays cells h = by_option cells (simplified_cells table rules cells ≡ cells) (without_tree cells) (λ e p.
+  quote_stays cells h = by_option cells (simplified_cells table rules cells ≡ cells) (untouched table rules cells) (λ e p.
       stays cells e p (and_right (is_unknown (tree_cond e table rules) && is_undecided table rules (residual table rules e)) (not (list_any is_literal cells)) (ap not h)))
 
   -- The rest takes the text's place exactly if it is read so, and unknown.
@@ -105,12 +95,8 @@ module _ (table : List Argument) (rules : Rules) where
     pub found_or_stays : (b : Bool) (text : LeftText) → AreCells left text.bytes.items text.shown.items → b ≡ stands table rules e left → IsFound table rules cells b text
     found_or_stays b text a f = grind (arith, goes, decided, misread)
 
--- The tokens of a text and their flags.
-pub text_tokens : (text : List ℕ) (e : Expression) → expression_of text ≡ Some e → tokens_of text ≡ Some (spelling e)
-text_tokens text e p = tokens_of_only text (spelling e) (expression_is text e p).1
-
 pub flags_long : (table : List Argument) (rules : Rules) (e : Expression) → length (keeps table rules e) ≡ length (spelling e)
-flags_long table rules e = grind (arith, same_size, choose)
+flags_long table rules e = grind (arith, same_length, choose)
 
 -- A text that is left alone.
 pub left_alone : {b s : List ℕ} (xs : List Cell) {c t : List ℕ} → b ≡ [] → s ≡ [] → SameLeft b s xs c t [] → AreCells xs c t

@@ -10,12 +10,13 @@ use Rattle.ud_replace.specs.declared.node.Lookup.TheVariants.{Present}
 use Rattle.ud_replace.specs.declared.node.Node.{Node}
 use Rattle.ud_replace.specs.declared.node.NodeKind.TheVariants.{File}
 use Rattle.ud_replace.specs.declared.node.FileId.{FileId}
-use Rattle.ud_replace.specs.Calls.{Call, walked, WalkCall, met, followed, listed}
+use Rattle.ud_replace.specs.Calls.{Call, walked, met, followed, listed}
 use Rattle.ud_tree.specs.declared.walk.Found.{Found}
 use Rattle.ud_tree.specs.declared.walk.Walk.{Walk}
 use Rattle.ud_tree.specs.Choices.{IsChosen, IsLeft}
 use Rattle.ud_tree.specs.Paths.{last_name}
 use Rattle.ud_tree.specs.Catching.{IsTaken, Grows, Catches}
+use Rattle.ud_tree.proofs.CoverLemmas.{only_one}
 
 -- A walk whose patterns and files are the same.
 pub grows_same : (w v : Walk) → v.patterns.now ≡ w.patterns.now → v.found.items ≡ w.found.items → Grows w v
@@ -54,10 +55,6 @@ taken_left w path id chosen name h is named = grind (arith, common_steps)
 pub catches_none : (calls : List Call) (w v : Walk) → Grows w v → Catches calls calls w v
 catches_none calls w v h = record { calls = []; are = refl; grows = h; taken = λ path node there kind. absurd (omega (arith, there.1)) }
 
--- A list of one call has no other.
-only_call : (w x : WalkCall) → Contains (w ∷ []) x → w ≡ x
-only_call w x h = grind arith
-
 -- One call was made, which met no regular file, or one that is taken.
 pub catches_met : (at : List ℕ) (answer : Lookup) {old new : List Call} (w v : Walk) → new ≡ walked (met at answer) ∷ old → Grows w v →
     ((node : Node) → answer ≡ Present node → node.kind ≡ File → IsTaken v at node.id) → Catches old new w v
@@ -65,7 +62,7 @@ catches_met at answer w v is h taken = record {
   calls = met at answer ∷ [];
   are = is;
   grows = h;
-  taken = λ path node there kind. let e : met at answer ≡ met path (Present node) = only_call (met at answer) (met path (Present node)) there in
+  taken = λ path node there kind. let e : met at answer ≡ met path (Present node) = only_one (met at answer) (met path (Present node)) there in
       let named : at ≡ path = cc in
       let seen : answer ≡ Present node = cc in
       subst (λ (p : List ℕ). IsTaken v p node.id) named (taken node seen kind);
@@ -86,7 +83,7 @@ catches_followed at answer w v is h = record {
   calls = followed at answer ∷ [];
   are = is;
   grows = h;
-  taken = λ path node there kind. let e : followed at answer ≡ met path (Present node) = only_call (followed at answer) (met path (Present node)) there in cc;
+  taken = λ path node there kind. let e : followed at answer ≡ met path (Present node) = only_one (followed at answer) (met path (Present node)) there in cc;
 }
 
 -- A folder was listed.
@@ -96,7 +93,7 @@ catches_listed folder names answer w v is h = record {
   calls = listed folder names answer ∷ [];
   are = is;
   grows = h;
-  taken = λ path node there kind. let e : listed folder names answer ≡ met path (Present node) = only_call (listed folder names answer) (met path (Present node)) there in cc;
+  taken = λ path node there kind. let e : listed folder names answer ≡ met path (Present node) = only_one (listed folder names answer) (met path (Present node)) there in cc;
 }
 
 -- One part after another.

@@ -102,7 +102,7 @@ pub lists_none : ListsNone []
 lists_none folder names answer h = omega (arith, h.1)
 
 -- A list of one call has no other.
-only_one : (w x : WalkCall) → Contains (w ∷ []) x → w ≡ x
+pub only_one : (w x : WalkCall) → Contains (w ∷ []) x → w ≡ x
 only_one w x h = grind arith
 
 lists_no_more : (w : WalkCall) (ws : List WalkCall) → ((folder : List ℕ) (names : List (List ℕ)) (answer : Bool) → ¬ (w ≡ listed folder names answer)) → ListsNone ws → ListsNone (w ∷ ws)

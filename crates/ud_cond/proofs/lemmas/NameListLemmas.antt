@@ -26,7 +26,7 @@ names-spelling (binary o d e) = grind (arith, names-append, names-spelling d, na
 names-spelling (parens e) = grind (arith, names-append, append-nil, names-spelling e)
 
 -- an expression consists of tokens
-tokens-whole : (text : List ℕ) (e : Expression) → expression_of text ≡ Some e → tokens_of text ≡ Some (spelling e)
+pub tokens-whole : (text : List ℕ) (e : Expression) → expression_of text ≡ Some e → tokens_of text ≡ Some (spelling e)
 tokens-whole text e f = tokens_of_only text (spelling e) (expression_is text e f).1
 
 whole_by : (text : List ℕ) (o : Option Expression) → expression_of text ≡ o → is_some o ≡ true → is_some (tokens_of text) ≡ true

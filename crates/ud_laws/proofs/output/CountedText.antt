@@ -16,7 +16,7 @@ use Rattle.ud_model.specs.output.InsertedLines.{with_blank_renumber, AddsNumbers
 use Rattle.ud_model.specs.declared.limits.TheConstants.{TEXT_LINES}
 use Rattle.ud_model.specs.declared.kind.Mode.{Mode}
 use Rattle.ud_model.proofs.text.ScanLaws.{readings_after-append}
-use Rattle.ud_model.proofs.sections.Soundness.{reading_of-next, lines_with_next, sound_lines, one_run}
+use Rattle.ud_model.proofs.sections.Soundness.{lines_with_next, sound_lines, one_run}
 use Rattle.ud_laws.proofs.output.BlankedLineLemmas.{lines_read, judged_read}
 use Rattle.ud_laws.proofs.output.CountedLines.{State, Done, done, first_state, next_state, next_done}
 use Rattle.ud_model.proofs.output.Each.{Each, each_parts, each_both}
@@ -27,6 +27,7 @@ use Rattle.ud_model.proofs.output.RereadChain.{AllButLast, IsInner, ends_before,
 use Rattle.ud_model.proofs.output.RereadLaws.{plain_output, left_piece, item_bytes}
 use Rattle.ud_laws.proofs.output.SharedLineLemmas.{reads_too}
 use Rattle.ud_laws.proofs.output.Inserting.{lines_last}
+use Rattle.ud_model.proofs.sections.FaultStays.{line_of-next_item}
 
 -- The lines are numbered on from this number.
 pub InOrder : ℕ → List Line → Type 0
@@ -57,7 +58,7 @@ module _ (o : Options) (p : IsPlain o) (b n : Bool) (some : (b || n) ≡ true) w
   End xs t = Done o (the_mode o) b n some xs t
 
   few : (xs : List (Item Reading)) (t : Tree Reading) (l : Line) → NoneHolds xs (next_item o xs t l) cases → l.number < 2 ^ 64
-  few xs t l h = grind (arith, reading_of-next)
+  few xs t l h = grind (arith, line_of-next_item)
 
   inside : {xs : List (Item Reading)} {t : Tree Reading} → AreFaultless o xs t → Each IsInner (map line_of xs) → InOrder 1 (map line_of xs) → The xs t
   inside no_lines h i = first_state o (the_mode o) b n some
@@ -121,7 +122,7 @@ counted_lines o input k (judged_as reads) = counted_text o k.plain k.blank k.ren
 module _ (o : Options) where
   few_items : {xs : List (Item Reading)} {t : Tree Reading} → AreFaultless o xs t → Each (λ (l : Line). l.number ≤ TEXT_LINES) (map line_of xs)
   few_items no_lines = tt
-  few_items (one_more xs t s l u e w) = grind (arith, lines_with_next, reading_of-next, each_both, few_items s)
+  few_items (one_more xs t s l u e w) = grind (arith, lines_with_next, line_of-next_item, each_both, few_items s)
 
 each_line : (js : List Judged) → Each (λ (l : Line). l.number ≤ TEXT_LINES) (map (λ (j : Judged). j.line) js) → Each (λ (j : Judged). j.line.number ≤ TEXT_LINES) js
 each_line [] h = tt

@@ -28,14 +28,11 @@ each_all : {A : Type 0} (P : A → Type 0) → ((x : A) → P x) → (xs : List 
 each_all P h [] = tt
 each_all P h (x ∷ xs) = (h x, each_all P h xs)
 
--- Options with the same table and the same reading of lines read a text alike.
-pub reads_too : (o p : Options) → o.settings.plain ≡ p.settings.plain → rules_of o.settings ≡ rules_of p.settings → p.table ≡ o.table →
+-- Options with the same reading of lines, whose tables agree on each name, read a text alike.
+read_alike : (o p : Options) → o.settings.plain ≡ p.settings.plain → rules_of o.settings ≡ rules_of p.settings → ((n : List ℕ) → Alike o.table p.table n) →
     {input : List ℕ} {xs : List (Item Reading)} {t : Tree Reading} {f : Option Fault} → ReadsAs o input xs t f → ReadsAs p input xs t f
-reads_too o p plain rules table {input = input} a = by_reading a
+read_alike o p plain rules known {input = input} a = by_reading a
   where
-    known : (n : List ℕ) → Alike o.table p.table n
-    known n = subst (λ (u : List Argument). Alike o.table u n) (sym table) (λ m l. refl)
-
     names : (xs : List (Item Reading)) → AllNames (Alike o.table p.table) xs
     names xs = each_all (λ x. Each (Alike o.table p.table) (names_at x)) (λ x. each_all (Alike o.table p.table) known (names_at x)) xs
 
@@ -44,6 +41,11 @@ reads_too o p plain rules table {input = input} a = by_reading a
         stops xs t f (stop_alike o p plain rules (lines_of input) xs t f s (names xs)
         (each_all (Alike o.table p.table) known (names_in_content (content_of (read_after xs (mode_after o t) s.faulty).scan))))
     by_reading (ends xs t g) = ends xs t (record { sound = sound_alike o p plain rules g.sound (names xs); are = g.are })
+
+-- Options with the same table and the same reading of lines read a text alike.
+pub reads_too : (o p : Options) → o.settings.plain ≡ p.settings.plain → rules_of o.settings ≡ rules_of p.settings → p.table ≡ o.table →
+    {input : List ℕ} {xs : List (Item Reading)} {t : Tree Reading} {f : Option Fault} → ReadsAs o input xs t f → ReadsAs p input xs t f
+reads_too o p plain rules table a = read_alike o p plain rules (λ n. subst (λ (u : List Argument). Alike o.table u n) (sym table) (λ m l. refl)) a
 
 -- The case of one more line, by whether it is removed.
 share_one : (v : Verdict) (j : Judged) (js : List Judged) (a b : List ℕ) → j.verdict ≡ v → ShareLines js a b →
@@ -96,20 +98,12 @@ pub same_names : (o p : Options) (input : List ℕ) {r : Outcome} → p.settings
     ((n : List ℕ) → entry_in o.table n ≡ entry_in p.table n) → HasOutcome o input r → HasOutcome p input r
 same_names o p input same every run = by_run run
   where
-    names : (xs : List (Item Reading)) → AllNames (Alike o.table p.table) xs
-    names xs = each_all (λ x. Each (Alike o.table p.table) (names_at x)) (λ x. each_all (Alike o.table p.table) (λ n m l. every m) (names_at x)) xs
-
     plain : o.settings.plain ≡ p.settings.plain
     plain = ap (λ (s : Settings). s.plain) (sym same)
 
     rules : rules_of o.settings ≡ rules_of p.settings
     rules = ap (λ (s : Settings). rules_of s) (sym same)
 
-    reads : {xs : List (Item Reading)} {t : Tree Reading} {f : Option Fault} → ReadsAs o input xs t f → ReadsAs p input xs t f
-    reads (stops xs t f s) =
-        stops xs t f (stop_alike o p plain rules (lines_of input) xs t f s (names xs)
-        (each_all (Alike o.table p.table) (λ n m l. every m) (names_in_content (content_of (read_after xs (mode_after o t) s.faulty).scan))))
-    reads (ends xs t g) = ends xs t (record { sound = sound_alike o p plain rules g.sound (names xs); are = g.are })
-
     by_run : {r : Outcome} → HasOutcome o input r → HasOutcome p input r
-    by_run (ran_as {xs = xs} {t = t} {f = f} a) = subst (HasOutcome p input) (ap (λ (s : Settings). outcome_of s xs t f) same) (ran_as (reads a))
+    by_run (ran_as {xs = xs} {t = t} {f = f} a) =
+        subst (HasOutcome p input) (ap (λ (s : Settings). outcome_of s xs t f) same) (ran_as (read_alike o p plain rules (λ n m l. every m) a))

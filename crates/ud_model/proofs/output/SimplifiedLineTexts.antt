@@ -24,11 +24,11 @@ use Rattle.std.specs.List.{concat}
 use Rattle.ud_model.proofs.conditions.ResidualShape.{all_of_it, none_of_it, of_both, of_left}
 use Rattle.ud_model.proofs.text.ScanLaws.{read_more}
 
-cut_there : (b e : List ℕ) → take (length (b ++ e) - length e) (b ++ e) ≡ b
+pub cut_there : (b e : List ℕ) → take (length (b ++ e) - length e) (b ++ e) ≡ b
 cut_there b e = take_at b e (length (b ++ e) - length e) (omega (arith, length-append b e))
 
 -- Cells that are left have no newline.
-fewer : {xs ys : List Cell} → IsSublist xs ys → NoNewline (map byte_of ys) → NoNewline (map byte_of xs)
+pub fewer : {xs ys : List Cell} → IsSublist xs ys → NoNewline (map byte_of ys) → NoNewline (map byte_of xs)
 fewer nothing h = tt
 fewer (without p) h = fewer p h.1
 fewer (with_same p) h = (h.0, fewer p h.1)

@@ -16,7 +16,7 @@ pub word_and_rest : (t : List ℕ) → length (leading_word t) + length (skip_wo
 word_and_rest [] = refl
 word_and_rest (b ∷ bs) = word_one (is_word_byte b) b bs (leading_word bs) (skip_word bs) (word_and_rest bs)
 
-sign_le : (t rest : List ℕ) → skip_hash t ≡ Some rest → length rest ≤ length t
+pub sign_le : (t rest : List ℕ) → skip_hash t ≡ Some rest → length rest ≤ length t
 sign_le t rest e = grind arith
 
 -- In this content the keyword ends within so many bytes, and the bytes after it aren't longer.

@@ -5,7 +5,7 @@ use Rattle.ud_model.specs.text.Lines.{Line, lines_of}
 use Rattle.ud_model.specs.text.Scans.{Reading}
 use Rattle.ud_model.specs.sections.Directives.{content_of}
 use Rattle.ud_model.specs.sections.Tree.{Item, Tree, lines}
-use Rattle.ud_model.specs.sections.Items.{Options, reading_of, line_of, item_of, mode_after, read_after, next_item}
+use Rattle.ud_model.specs.sections.Items.{Options, reading_of, line_of, item_of, next_item}
 use Rattle.ud_model.specs.sections.Faults.{Fault, Case, past_last, too_long, cut, out_of_place, too_deep, obfuscated_case, earlier, cases, Holds, NoneHolds, FaultOf, AreFaultless, no_lines, one_more, end_fault}
 use Rattle.ud_model.specs.output.Rereading.{AreRead, no_items, one_item, IsTreeOf}
 use Rattle.ud_model.specs.answer.Outcomes.{Outcome, FirstFaultAt, HasNoFault, ReadsAs, HasOutcome, ran_as, lines_so_far, line_so_far, RestBreaks, ReadsSoFar, HasOutcomeSoFar, came_as}
@@ -14,15 +14,11 @@ use Rattle.ud_model.specs.answer.Outcomes.ReadsSoFar.{stops as stops_so_far, bre
 use Rattle.ud_model.specs.answer.Answer.{Answer, IsAnswer}
 use Rattle.ud_model.proofs.text.Pushes.{ByPush, none, push, by_push, push_not_nil}
 use Rattle.ud_model.proofs.sections.Unique.{unique}
-use Rattle.ud_model.proofs.sections.FaultStays.{reading_of-item_by}
+use Rattle.ud_model.proofs.sections.FaultStays.{reading_of-item_by, line_of-next_item}
 
 -- An item is of the line that was read.
 pub reading_of-item_of : (o : Options) (r : Reading) → reading_of (item_of o r) ≡ r
 reading_of-item_of o r = reading_of-item_by o r (content_of r.scan)
-
--- The next line's item is of that line.
-pub reading_of-next : (o : Options) (xs : List (Item Reading)) (t : Tree Reading) (l : Line) → line_of (next_item o xs t l) ≡ l
-reading_of-next o xs t l = ap (λ r. r.line) (reading_of-item_of o (read_after xs (mode_after o t) l))
 
 -- Faultless lines were read.
 pub sound_read : {o : Options} {xs : List (Item Reading)} {t : Tree Reading} → AreFaultless o xs t → AreRead o xs t
@@ -36,7 +32,7 @@ read_lines h = grind arith
 module _ (o : Options) where
   -- The lines of items with one more.
   pub lines_with_next : (xs : List (Item Reading)) (t : Tree Reading) (l : Line) → map line_of (xs ++ next_item o xs t l ∷ []) ≡ map line_of xs ++ l ∷ []
-  lines_with_next xs t l = search (rules, map-append, reading_of-next)
+  lines_with_next xs t l = search (rules, map-append, line_of-next_item)
 
   read_once : {xs ys : List (Item Reading)} {t u : Tree Reading} → AreRead o xs t → AreRead o ys u → xs ≡ ys → t ≡ u
   read_once {t = t} {u = u} a b e = unique t u (read_lines a ∙ e ∙ sym (read_lines b))

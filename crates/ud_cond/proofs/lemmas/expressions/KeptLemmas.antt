@@ -21,7 +21,7 @@ kept_same : {k j : Kept} → k.value ≡ j.value → k.number ≡ j.number → k
 kept_same v n c l a b f = grind arith
 
 -- flags of one kind
-same_length : {A B : Type 0} (xs : List A) (ys : List B) → SameLength xs ys → length xs ≡ length ys
+pub same_length : {A B : Type 0} (xs : List A) (ys : List B) → SameLength xs ys → length xs ≡ length ys
 same_length [] [] h = refl
 same_length (x ∷ xs) (y ∷ ys) h = ap (λ (n : ℕ). suc n) (same_length xs ys h)
 same_length [] (y ∷ ys) h = absurd h

@@ -9,7 +9,7 @@ use Rattle.ud_model.specs.sections.Items.{Options, item_of, item_by, mode_after,
 use Rattle.ud_model.specs.sections.Faults.{AreFaultless, one_more, is_cut, ends_removed, last_number, ends_in_comment, end_fault, NoneHolds, cases}
 use Rattle.ud_model.specs.declared.limits.TheConstants.{OPEN_SECTIONS}
 use Rattle.ud_model.specs.declared.verdict.Verdict.{Verdict}
-use Rattle.ud_model.proofs.sections.Soundness.{reading_of-next, sound_lines}
+use Rattle.ud_model.proofs.sections.Soundness.{sound_lines}
 use Rattle.ud_sections.specs.declared.sections.machine.Machine.{Machine}
 use Rattle.ud_sections.specs.declared.sections.machine.Transition.{Transition}
 use Rattle.ud_sections.specs.sections.Actions.{kept_at, plain_at, text_action}
@@ -21,7 +21,9 @@ use Rattle.ud_sections.specs.sections.MachineState.{MachineRepresents, StepsLine
 use Rattle.ud_sections.proofs.lemmas.sections.LineFaults.{clear_line}
 use Rattle.ud_sections.proofs.lemmas.sections.ActionLemmas.{mark_of, innermost_level, depth_levels, plain_inside, end_is, changed_is}
 use Rattle.ud_sections.proofs.lemmas.sections.CheckLemmas.{Taken, taken}
-use Rattle.ud_sections.proofs.lemmas.sections.TransitionLemmas.{TurnsWell, shallow_by, ends_removed_last, last_number_last}
+use Rattle.ud_sections.proofs.lemmas.sections.TransitionLemmas.{TurnsWell, shallow_by, last_number_last}
+use Rattle.ud_model.proofs.output.RereadMore.{last_removed}
+use Rattle.ud_model.proofs.sections.FaultStays.{line_of-next_item}
 
 -- the innermost section gives the mode
 pub plain_is : (m : Machine) (o : Options) (xs : List (Item Reading)) (t : Tree Reading) → MachineRepresents m o xs t →
@@ -45,8 +47,8 @@ reads_line m new o xs t l turn h w settings sections removed last = record {
     sound = one_more xs t h.sound l w.tree w.lines_are w.clear;
     sections = sections ∙ ap (applied turn.change) h.sections ∙ changed_is turn.change _ _ w.changes;
     removed = removed ∙ ap (λ j. is_removed j.verdict) w.decided
-        ∙ sym (ap ends_removed w.marks_are ∙ ends_removed_last (marks t) w.mark);
-    last = last ∙ ap (λ (k : Line). k.number) (sym (reading_of-next o xs t l))
+        ∙ sym (ap ends_removed w.marks_are ∙ last_removed (marks t) w.mark);
+    last = last ∙ ap (λ (k : Line). k.number) (sym (line_of-next_item o xs t l))
         ∙ sym (last_number_last xs (next_item o xs t l));
   };
   mark = w.mark;
@@ -132,7 +134,7 @@ more_text o xs t (r ∷ rs) sound d a =
 
 ends_removed_run : (ms : List Mark) (k : Mark) (r : Reading) (rs : List Reading) →
     ends_removed (ms ++ map (λ v. k) (r ∷ rs)) ≡ is_removed k.verdict
-ends_removed_run ms k r [] = ends_removed_last ms k
+ends_removed_run ms k r [] = last_removed ms k
 ends_removed_run ms k r (q ∷ rs) =
     ap ends_removed (sym (append_assoc ms (k ∷ []) (map (λ v. k) (q ∷ rs)))) ∙ ends_removed_run (ms ++ k ∷ []) k q rs
 

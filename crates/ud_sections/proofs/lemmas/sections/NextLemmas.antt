@@ -6,7 +6,8 @@ use Rattle.ud_model.specs.text.Scans.{Reading}
 use Rattle.ud_model.specs.text.Scanning.{next_reading}
 use Rattle.ud_model.specs.sections.Tree.{Item, Tree}
 use Rattle.ud_model.specs.sections.Items.{Options, reading_of, line_of, mode_after, read_after, next_item}
-use Rattle.ud_model.proofs.sections.Soundness.{reading_of-item_of, reading_of-next}
+use Rattle.ud_model.proofs.sections.Soundness.{reading_of-item_of}
+use Rattle.ud_model.proofs.sections.FaultStays.{line_of-next_item}
 
 -- there is one more reading
 pub readings_more : (o : Options) (xs : List (Item Reading)) (t : Tree Reading) (l : Line) →
@@ -17,4 +18,4 @@ readings_more o xs t l = map-append reading_of xs (next_item o xs t l ∷ [])
 -- there is one more line
 pub lines_more : (o : Options) (xs : List (Item Reading)) (t : Tree Reading) (l : Line) →
     map line_of (xs ++ next_item o xs t l ∷ []) ≡ map line_of xs ++ l ∷ []
-lines_more o xs t l = map-append line_of xs (next_item o xs t l ∷ []) ∙ ap (λ k. map line_of xs ++ k ∷ []) (reading_of-next o xs t l)
+lines_more o xs t l = map-append line_of xs (next_item o xs t l ∷ []) ∙ ap (λ k. map line_of xs ++ k ∷ []) (line_of-next_item o xs t l)

@@ -5,12 +5,12 @@ use Rattle.ud_model.specs.text.Scans.{Scan, Reading}
 use Rattle.ud_model.specs.sections.Directives.{Span, Content, text, content_of}
 use Rattle.ud_model.specs.conditions.Table.{Argument}
 use Rattle.ud_model.specs.sections.Tree.{Item, Tree, lines, depth}
-use Rattle.ud_model.specs.sections.Pruning.{Mark, marks, is_removed}
+use Rattle.ud_model.specs.sections.Pruning.{Mark, marks}
 use Rattle.ud_model.specs.sections.Items.{Options, reading_of, line_of, item_by, rules_of, mode_after, read_after, next_item}
-use Rattle.ud_model.specs.sections.Faults.{FaultOf, NoneHolds, cases, is_cut, ends_removed, last_number, obfuscated}
+use Rattle.ud_model.specs.sections.Faults.{FaultOf, NoneHolds, cases, is_cut, last_number, obfuscated}
 use Rattle.ud_model.specs.answer.Printing.{keyword_in, judged_line}
 use Rattle.ud_model.specs.declared.limits.TheConstants.{OPEN_SECTIONS}
-use Rattle.ud_model.proofs.sections.Soundness.{reading_of-item_of, reading_of-next, sound_lines}
+use Rattle.ud_model.proofs.sections.Soundness.{reading_of-item_of, sound_lines}
 use Rattle.ud_faults.specs.declared.sections.SectionFault.{SectionFault}
 use Rattle.ud_faults.specs.declared.sections.SectionFault.TheVariants.{Obfuscated}
 use Rattle.ud_sections.specs.declared.directives.Cut.{Cut}
@@ -32,6 +32,8 @@ use Rattle.ud_sections.specs.sections.Transitions.{context_of, transition_with, 
 use Rattle.ud_sections.proofs.lemmas.sections.LineFaults.{cut_fault}
 use Rattle.ud_sections.proofs.lemmas.sections.ActionLemmas.{mark_of, innermost_level, depth_levels}
 use Rattle.ud_sections.proofs.lemmas.sections.CheckLemmas.{before_next, IsSeen, Follows, judged_well, judged_ill}
+use Rattle.ud_model.proofs.output.RereadMore.{last_removed}
+use Rattle.ud_model.proofs.sections.FaultStays.{line_of-next_item}
 
 -- the classified line of a line that carries this
 pub record SeenOn (o : Options) (r : Reading) (c : Content) (s : ClassifiedLine) : Type 0 where
@@ -64,7 +66,7 @@ before_is m o xs t h =
 
 module _ (o : Options) (xs : List (Item Reading)) (t : Tree Reading) (l : Line) (e : lines t ≡ xs) (w : IsWithinLimits l) (shallow : depth t ≤ OPEN_SECTIONS) where
   within_item : IsWithinLimits (line_of (next_item o xs t l))
-  within_item = subst IsWithinLimits (sym (reading_of-next o xs t l)) w
+  within_item = subst IsWithinLimits (sym (line_of-next_item o xs t l)) w
 
   -- what is carried by the line
   abbrev carried : Content
@@ -74,7 +76,7 @@ module _ (o : Options) (xs : List (Item Reading)) (t : Tree Reading) (l : Line) 
   carried_item = ap (λ (v : Reading). content_of v.scan) (reading_of-item_of o (read_after xs (mode_after o t) l))
 
   number_is : l.number ≡ (line_of (next_item o xs t l)).number
-  number_is = ap (λ (k : Line). k.number) (sym (reading_of-next o xs t l))
+  number_is = ap (λ (k : Line). k.number) (sym (line_of-next_item o xs t l))
 
   well_seen : (s : ClassifiedLine) → SeenOn o (read_after xs (mode_after o t) l) carried s → (a : Action) →
       checked_by (before_next o.settings.plain t) s l.number ≡ Ok a →
@@ -90,7 +92,7 @@ module _ (o : Options) (xs : List (Item Reading)) (t : Tree Reading) (l : Line) 
         marks_are = f.marks_are;
         changes = f.changes;
         decided =
-            ap₂ (λ (k : Line) (q : Span). record { line = k; verdict = a.verdict; keyword = q }) (sym (reading_of-next o xs t l))
+            ap₂ (λ (k : Line) (q : Span). record { line = k; verdict = a.verdict; keyword = q }) (sym (line_of-next_item o xs t l))
             (scanned.keyword ∙ ap keyword_in (sym carried_item));
       }
 
@@ -160,11 +162,6 @@ pub text_turn : (m : Machine) (o : Options) (scan : Scan) (l : Line) → content
       change = Stay;
     })
 text_turn m o scan l e = rw e refl
-
-pub ends_removed_last : (ms : List Mark) (m : Mark) → ends_removed (ms ++ m ∷ []) ≡ is_removed m.verdict
-ends_removed_last [] m = refl
-ends_removed_last (k ∷ []) m = refl
-ends_removed_last (k ∷ n ∷ ms) m = ends_removed_last (n ∷ ms) m
 
 pub last_number_last : (xs : List (Item Reading)) (x : Item Reading) → last_number (xs ++ x ∷ []) ≡ (line_of x).number
 last_number_last [] x = refl

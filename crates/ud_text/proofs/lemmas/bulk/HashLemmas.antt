@@ -21,6 +21,7 @@ use Rattle.ud_text.proofs.lemmas.bulk.BulkPlainLemmas.{begins_ends, not_special}
 use Rattle.ud_text.proofs.lemmas.bulk.QuietLemmas.{other-append, other-feed}
 use Rattle.ud_text.proofs.lemmas.bulk.QuietLineLemmas.{ended_lines, IsFeed, whole_ending, body_one_line, feed_length}
 use Rattle.ud_text.proofs.lemmas.bulk.TextLemmas.{Unsigned, no_sign, other_sign, text_unsigned, IsOther, NoWord, other_word, other_sure, word_front, word_is_plain, white_other, is_no_keyword-first}
+use Rattle.ud_text.proofs.lemmas.searching.ByteLemmas.{both}
 
 -- bytes have no `#`, if a search finds none among them
 pub no_hash_front : (s : List ℕ) (n : ℕ) → Nowhere (Passes (is_byte 35) s) 0 n → NoHash (take n s)
@@ -64,14 +65,11 @@ past_append white (b ∷ p) q = past_append (is_white_past white b) p q
 white_no_feed : (b : ℕ) → is_white b ≡ true → (b == newline) ≡ false
 white_no_feed b h = grind arith
 
-and_both : (a b : Bool) → (a && b) ≡ true → (a ≡ true) × (b ≡ true)
-and_both a b h = grind arith
-
 -- a line that isn't white stays so over white space
 black_stays : (bytes : List ℕ) → are_white bytes ≡ true → is_white_past_all false bytes ≡ false
 black_stays [] w = refl
 black_stays (b ∷ bytes) w =
-    let parts : (is_white b ≡ true) × (are_white bytes ≡ true) = and_both (is_white b) (are_white bytes) w in
+    let parts : (is_white b ≡ true) × (are_white bytes ≡ true) = both (is_white b) (are_white bytes) w in
     ap (λ (t : Bool). is_white_past_all (t || false) bytes) (white_no_feed b parts.0) ∙ black_stays bytes parts.1
 
 -- a line isn't white, as looking back shows

@@ -5,6 +5,7 @@ use Rattle.ud_model.specs.sections.Directives.{is_no_keyword}
 use Rattle.ud_text.specs.bulk.BulkStates.{is_other_word}
 use Rattle.ud_text.specs.bulk.BulkLexemes.{is_significant, NoSignificant}
 use Rattle.ud_text.proofs.lemmas.bulk.TextLemmas.{is_no_keyword-first}
+use Rattle.ud_model.proofs.text.ByteLemmas.{length-skip_white}
 
 -- white space is insignificant
 white_special : (b : ℕ) → is_white b ≡ true → is_significant b ≡ false
@@ -13,11 +14,6 @@ white_special b h = grind arith
 -- a byte of a word is insignificant
 word_special : (b : ℕ) → is_word_byte b ≡ true → is_significant b ≡ false
 word_special b h = grind arith
-
--- after white space there are no more bytes than with it
-pub past_white_short : (bytes : List ℕ) → length (skip_white bytes) ≤ length bytes
-past_white_short [] = omega arith
-past_white_short (x ∷ bytes) = grind (arith, past_white_short bytes)
 
 -- white space before a word that is no keyword
 pub name_front : (bytes : List ℕ) (a b : ℕ) (more : List ℕ) (n : ℕ) → skip_white bytes ≡ a ∷ b ∷ more → n + length (a ∷ b ∷ more) ≡ length bytes + 2 →
@@ -37,12 +33,12 @@ name_front (x ∷ bytes) a b more n e f o s = by_white (is_white x) refl e (λ m
         NoSignificant (take n (x ∷ bytes)) × (is_other_word (take n (x ∷ bytes)) ≡ true)
     by_white false w g rest = grind (arith, in_front)
     by_white true w g rest =
-        let long : length (a ∷ b ∷ more) ≤ length bytes = subst (λ (l : List ℕ). length l ≤ length bytes) g (past_white_short bytes) in
+        let long : length (a ∷ b ∷ more) ≤ length bytes = subst (λ (l : List ℕ). length l ≤ length bytes) g (length-skip_white bytes) in
         later n (n - 1) (omega arith) w (rest (n - 1) g (omega arith))
 
 -- after white space there are no more bytes than with it, for the word after it
 pub past_white_within : (bytes word : List ℕ) → word ≡ skip_white bytes → length word ≤ length bytes
-past_white_within bytes word e = subst (λ (l : List ℕ). length l ≤ length bytes) (sym e) (past_white_short bytes)
+past_white_within bytes word e = subst (λ (l : List ℕ). length l ≤ length bytes) (sym e) (length-skip_white bytes)
 
 -- white space before a word that is no keyword, for the word after it
 pub name_in_front : (bytes word : List ℕ) → word ≡ skip_white bytes → 2 ≤ length word → is_no_keyword (get_or word 0 0) (get_or word 1 0) ≡ true →

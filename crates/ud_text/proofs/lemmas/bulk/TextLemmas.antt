@@ -12,6 +12,7 @@ use Rattle.ud_model.proofs.sections.Keywords.{no_keyword}
 use Rattle.ud_model.specs.declared.kind.Kind.{Kind}
 use Rattle.ud_text.specs.bulk.BulkStates.{next_bulk_state, BulkState, starts_with_no_keyword, spliced_after, is_other_word, HasNoStop}
 use Rattle.ud_model.proofs.text.ScanLaws.{masked_after}
+use Rattle.ud_text.proofs.lemmas.searching.ByteLemmas.{both}
 
 -- `is_unsure word`: the word is a prefix of a keyword, or a single slash: what follows it might
 -- make a directive
@@ -149,9 +150,6 @@ shown_plain b bytes h k = grind (arith, masked_after, next_plain, front_stays)
 pub word_is_plain : (b : ℕ) → is_word_byte b ≡ true → (is_white b ≡ false) × ((b == slash) ≡ false) × (is_quote b ≡ false)
 word_is_plain b h = grind arith
 
-and_parts : (a b : Bool) → (a && b) ≡ true → (a ≡ true) × (b ≡ true)
-and_parts a b h = grind arith
-
 -- a word that begins with two such bytes is no keyword
 pub other_word : (b c : ℕ) (w v : List ℕ) → is_no_keyword b c ≡ true → (is_word_byte c ≡ true → w ≡ c ∷ v) → kind_of (b ∷ w) ≡ None
 other_word b c w v e f = (no_keyword b c w v e f).0
@@ -173,7 +171,7 @@ word_front b w e = rw e refl
 
 -- the first of two such bytes is one of a word
 pub is_no_keyword-first : (b c : ℕ) → is_no_keyword b c ≡ true → is_word_byte b ≡ true
-is_no_keyword-first b c e = (and_parts (is_word_byte b) (not (list_any (λ (row : List ℕ × Kind). may_begin row.0 b c) keywords)) e).0
+is_no_keyword-first b c e = (both (is_word_byte b) (not (list_any (λ (row : List ℕ × Kind). may_begin row.0 b c) keywords)) e).0
 
 word_shown : (b : ℕ) (bytes tail : List ℕ) → starts_with_no_keyword (b ∷ (bytes ++ tail)) ≡ true → NoWord tail → IsOther (b ∷ masked_after in_text [] bytes)
 word_shown b [] [] e n = cc

@@ -5,9 +5,10 @@ use Rattle.ud_model.specs.text.LineViews.{as_line}
 use Rattle.ud_engine.specs.Advancing.{Advances, StepFails, IsCursor, slice_between}
 use Rattle.ud_engine.specs.Feeding.{EngineState, EngineRepresentsBuffered}
 use Rattle.ud_io.specs.Streams.{stream_of}
-use Rattle.ud_engine.proofs.StepLemmas.{slice_from, lent_put, lent_kept, lent_refused, held_taken}
+use Rattle.ud_engine.proofs.StepLemmas.{lent_put, lent_kept, lent_refused, held_taken}
 use Rattle.ud_engine.proofs.CursorLemmas.{next_after_line}
 use Rattle.ud_engine.proofs.engine.EngineOf.advance_line.Goals as goal
+use Rattle.ud_io.proofs.BufferingLemmas.{range_from}
 
 pub returns-in-Err-clause-moves : goal.returns-in-Err-clause-moves
 returns-in-Err-clause-moves g c = λ s old.
@@ -15,7 +16,7 @@ returns-in-Err-clause-moves g c = λ s old.
     let k = subst (λ (l : LinesState). EngineRepresentsBuffered g.S.Show.represents g.S.Show.piece
     (record { symbols = (g.P.PlanSource.plan c.self.inside.plan).symbols; lines = l; printer = c.self.inside.printer; buffered = c.self.inside.output; fault = c.self.inside.fault }) s.options s.pieces s.text s.printed)
     (sym c.in_default.ensures.unchanged) h in
-    subst (λ (x : List ℕ). StepFails s.options s.pieces (s.text ++ x) s.printed c.in-Err.fault) (slice_from c.args.chunk.now c.args.cursor.now.pos)
+    subst (λ (x : List ℕ). StepFails s.options s.pieces (s.text ++ x) s.printed c.in-Err.fault) (range_from c.args.chunk.now c.args.cursor.now.pos)
     (c.in-Err.ensures.takes s k)
 
 pub returns-in-Ok-clause-moves : goal.returns-in-Ok-clause-moves
@@ -31,7 +32,7 @@ returns-in-Ok-clause-moves g c = λ s old.
     (subst (λ n. there c.push_line_part.new.self (c.args.cursor.now.pos + c.in-Ok.used) n (c.args.cursor.now.pos + c.in-Ok.used)) (sym c.cursor_at.ensures.from)
     (held_taken g.S.Show.represents g.S.Show.piece s.options s.pieces s.text s.printed (stream_of g.W.Write.contents c.args.out.now) (stream_of g.W.Write.contents c.push_line_part.new.out)
     c.args.chunk.now (take (length c.args.chunk.now - c.args.cursor.now.pos) (drop c.args.cursor.now.pos c.args.chunk.now)) c.args.cursor.now.pos c.in-Ok.used
-    (slice_from c.args.chunk.now c.args.cursor.now.pos) c.push_line_part.new.self (c.args.self.now.buffered ++ slice_between c.args.chunk.now c.args.cursor.now.pending_start c.args.cursor.now.pos)
+    (range_from c.args.chunk.now c.args.cursor.now.pos) c.push_line_part.new.self (c.args.self.now.buffered ++ slice_between c.args.chunk.now c.args.cursor.now.pending_start c.args.cursor.now.pos)
     (subst (λ (e : EngineState g.row.S.Denot). Advances g.S.Show.represents g.S.Show.piece c.push_line_part.new.self s.options s.pieces s.text s.printed
     (take c.in-Ok.used (take (length c.args.chunk.now - c.args.cursor.now.pos) (drop c.args.cursor.now.pos c.args.chunk.now)))
     (stream_of g.W.Write.contents c.args.out.now) (stream_of g.W.Write.contents c.push_line_part.new.out)

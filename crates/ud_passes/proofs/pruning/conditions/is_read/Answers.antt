@@ -6,8 +6,9 @@ use Rattle.ud_model.specs.conditions.Residuals.{residual}
 use Rattle.ud_model.specs.conditions.ResidualTexts.{are_tokens}
 use Rattle.ud_model.specs.aids.Parsing.{tokens_of}
 use Rattle.ud_model.proofs.conditions.KeptTokens.{kept_are}
-use Rattle.ud_passes.proofs.LeftLemmas.{text_tokens, flags_long}
+use Rattle.ud_passes.proofs.LeftLemmas.{flags_long}
 use Rattle.ud_passes.proofs.pruning.conditions.is_read.Goals as goal
+use Rattle.ud_cond.proofs.lemmas.NameListLemmas.{tokens-whole}
 
 first : (a b : Bool) → a ≡ true → (not a && b) ≡ false
 first true b e = refl
@@ -21,4 +22,4 @@ pub returns-then-begins_word : goal.returns-then-begins_word
 returns-then-begins_word c = λ table rules e cells k q. sym (first _ (are_tokens (tokens_of (map shown cells)) (spelling (residual table rules e).tree)) (sym (c.begins_word.ensures cells q) ∙ c.if-begins_word.true))
 
 pub returns : goal.returns
-returns c = grind (arith, flags_long, text_tokens, kept_are, second)
+returns c = grind (arith, flags_long, tokens-whole, kept_are, second)
