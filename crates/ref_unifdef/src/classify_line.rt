@@ -86,11 +86,7 @@ fn decide(scan: &Scan<'_>, found: &Directive<'_>, symbols: &Symbols, settings: S
     if found.broken {
         return UNDECIDED;
     }
-    let rules = Rules {
-        constants: settings.constants,
-        strict: settings.strict,
-    };
-    let answer = condition(found.kind, found.after, symbols, rules);
+    let answer = condition(found.kind, found.after, symbols, Rules::of(settings));
     Answer {
         cond: answer.cond,
         ignoring: answer.ignoring && !scan.joins_after,

@@ -118,10 +118,7 @@ pub(crate) fn cond_of(word: &str) -> Cond {
 }
 
 pub(crate) fn rules_of(plan: &Plan) -> Rules {
-    Rules {
-        constants: plan.settings().constants,
-        strict: plan.settings().strict,
-    }
+    Rules::of(plan.settings())
 }
 
 /// Compares the condition of an `#if` and of an `#elif`.

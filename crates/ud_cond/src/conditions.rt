@@ -16,7 +16,7 @@ use crate::expressions::evaluation::evaluate;
 use crate::expressions::values::{Scope, Value};
 use crate::symbols::Symbols;
 use ud_model::bytes::{are_white, is_digit, skip_white, word_len};
-use ud_model::{Cond, Kind, Role, Test};
+use ud_model::{Cond, Kind, Role, Settings, Test};
 
 /// The options for the values of expressions.
 #[derive(Clone, Copy, Debug, PartialEq, Eq)]
@@ -25,6 +25,18 @@ pub struct Rules {
     pub constants: bool,
     /// `true` if `&&` and `||` are unknown whenever an operand is (`-K`).
     pub strict: bool,
+}
+
+impl Rules {
+    /// Returns the rules that the settings give.
+    pub fn of(settings: Settings) -> Rules
+        ensures { result ≡ record { constants = settings.constants; strict = settings.strict } }
+    {
+        Rules {
+            constants: settings.constants,
+            strict: settings.strict,
+        }
+    }
 }
 
 /// The decision on a directive.

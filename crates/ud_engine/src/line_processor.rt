@@ -105,7 +105,7 @@ impl<S: Show> LineProcessor<S> {
     {
         match &mut self.lister {
             Some(lister) => {
-                let listed = self.decider.list_names(
+                self.decider.list_names(
                     line.body,
                     line.ending,
                     line.number,
@@ -115,20 +115,15 @@ impl<S: Show> LineProcessor<S> {
                     pending,
                     output,
                     out,
-                );
-                match listed {
-                    Err(fault) => Err(fault),
-                    Ok(()) => Ok(true),
-                }
+                )?;
+                Ok(true)
             }
-            None => match self.decider.decide(line, symbols, room) {
-                Err(fault) => Err(fault),
-                Ok(step) => {
-                    let shown = append_line(&mut self.printer, line, &step, pending, output, out);
-                    self.differs |= shown;
-                    Ok(shown)
-                }
-            },
+            None => {
+                let step = self.decider.decide(line, symbols, room)?;
+                let shown = append_line(&mut self.printer, line, &step, pending, output, out);
+                self.differs |= shown;
+                Ok(shown)
+            }
         }
     }
 
@@ -154,15 +149,11 @@ impl<S: Show> LineProcessor<S> {
             result }
         ensures unchanged { OnErr result ((out.new ≡ out.old) × (output.new ≡ output.old)) }
     {
-        match self.print(line, symbols, room, pending, output, out) {
-            Err(fault) => Err(fault),
-            Ok(shown) => {
-                if !shown {
-                    output.append_parts(&[pending, line.body, line.ending], out);
-                }
-                Ok(())
-            }
+        let shown = self.print(line, symbols, room, pending, output, out)?;
+        if !shown {
+            output.append_parts(&[pending, line.body, line.ending], out);
         }
+        Ok(())
     }
 
     /// Consumes the longest prefix of `bytes` that is recognized as text lines, if names are listed

@@ -154,11 +154,7 @@ fn append_pruned(
         out.old.inner.items out.new.inner.items) (λ e. e ≡ ReplaceError.OutOfMemory)) }
 {
     let mut pruned = Vec::new(alloc);
-    let settings = plan.settings();
-    let rules = Rules {
-        constants: settings.constants,
-        strict: settings.strict,
-    };
+    let rules = Rules::of(plan.settings());
     let Ok(edited) = prune(text, plan.symbols(), rules, &mut pruned) else {
         return Err(ReplaceError::OutOfMemory);
     };

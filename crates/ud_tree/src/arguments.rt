@@ -139,10 +139,7 @@ fn request_of(alloc: Global, given: &[ParsedArg<'_>]) -> Result<Request, Argumen
     }
     match clash(given) {
         Some(fault) => Err(fault),
-        None => match run_of(alloc, given) {
-            Ok(arguments) => Ok(Request::Run(arguments)),
-            Err(fault) => Err(fault),
-        },
+        None => Ok(Request::Run(run_of(alloc, given)?)),
     }
 }
 

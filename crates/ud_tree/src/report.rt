@@ -107,11 +107,7 @@ fn listing_of(arguments: &Arguments) -> Listing
     if !arguments.plan.prunes {
         return Listing::Listed;
     }
-    let settings = arguments.plan.run.settings();
-    Listing::Explained(Rules {
-        constants: settings.constants,
-        strict: settings.strict,
-    })
+    Listing::Explained(Rules::of(arguments.plan.run.settings()))
 }
 
 /// The messages of a run so far, and the error stream to which they were written.

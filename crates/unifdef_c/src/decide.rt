@@ -93,11 +93,7 @@ fn cond_by_plan(plan: &Plan, expression: &[u8]) -> Cond
     ensures { (calls : List Argument) → TableRepresents plan.now.symbols calls →
         result ≡ (condition_of If expression.now calls (rules_of plan.now.settings)).cond }
 {
-    let settings = plan.settings();
-    let rules = Rules {
-        constants: settings.constants,
-        strict: settings.strict,
-    };
+    let rules = Rules::of(plan.settings());
     condition(Kind::If, expression, plan.symbols(), rules).cond
 }
 

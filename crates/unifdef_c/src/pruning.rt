@@ -114,11 +114,7 @@ fn prune_by_plan(alloc: Global, plan: &Plan, text: &[u8]) -> Result<Pruned, Prun
         IsPruned calls (rules_of plan.now.settings) text.now p) }
     ensures err { IfErr result (λ e. e ≡ PruneFault.OutOfMemory) }
 {
-    let settings = plan.settings();
-    let rules = Rules {
-        constants: settings.constants,
-        strict: settings.strict,
-    };
+    let rules = Rules::of(plan.settings());
     let mut left = Vec::new(alloc);
     match prune(text, plan.symbols(), rules, &mut left) {
         Ok(count) => Ok(Pruned {

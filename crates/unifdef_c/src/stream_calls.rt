@@ -161,12 +161,10 @@ fn open_by_args(alloc: Global, args: &[String]) -> Result<Box<Stream>, BeginFaul
     ensures err { IfErr result (λ e. e ≡ BeginFault.BadWords →
         (f : UsageFault) × (usage_fault (map string_bytes args.now) ≡ Some f)) }
 {
-    match Stream::begin(alloc, args) {
-        Err(fault) => Err(fault),
-        Ok(stream) => match Box::new(alloc, stream) {
-            Ok(owner) => Ok(owner),
-            Err(_) => Err(BeginFault::OutOfMemory),
-        },
+    let stream = Stream::begin(alloc, args)?;
+    match Box::new(alloc, stream) {
+        Ok(owner) => Ok(owner),
+        Err(_) => Err(BeginFault::OutOfMemory),
     }
 }
 

@@ -7,7 +7,7 @@ ghost use Rattle.ud_model.specs.sections.Items.{rules_of};
 ghost use Rattle.ud_model.specs.conditions.Table.{Argument};
 ghost use Rattle.ud_model.specs.declared.limits.TheConstants.{LINE_BYTES};
 ghost use Rattle.ud_cond.specs.symbols.SymbolTable.{TableRepresents};
-ghost use Rattle.ud_cond.specs.CondViews.{as_decision, as_rules};
+ghost use Rattle.ud_cond.specs.CondViews.{as_decision};
 ghost use Rattle.ud_model.specs.text.LineViews.{as_scan};
 ghost use Rattle.ud_sections.specs.directives.ParsedDirectives.{as_directive};
 ghost use Rattle.ud_sections.specs.sections.ClassifiedLines.{classified_with, directive_kind};
@@ -72,20 +72,10 @@ fn condition_on(
             ignoring: false,
         };
     }
-    let answer = condition(found.kind, found.after, symbols, rules_of(settings));
+    let answer = condition(found.kind, found.after, symbols, Rules::of(settings));
     Answer {
         cond: answer.cond,
         ignoring: answer.ignoring && !scan.joins_after,
-    }
-}
-
-/// Returns the rules that the settings give for expressions.
-fn rules_of(settings: Settings) -> Rules
-    ensures { as_rules result ≡ rules_of settings }
-{
-    Rules {
-        constants: settings.constants,
-        strict: settings.strict,
     }
 }
 
