@@ -21,6 +21,10 @@ edit of which answers alone fail is checked once more without those answers. It 
 prover finds values at which a goal is false. If a goal is just left open, the edit isn't decided:
 the contract may accept it or not.
 
+An edit may be of definitions of a crate below, in files such as `../ud_model/specs/FILE.antt`. It
+is checked alone, in that crate's copy first. If it is proved there, the crate of the edit is
+checked over it. The edit is refused if either check refuses it.
+
 Prints a line for each edit, and how many there are at the end. The status is 1 if one is proved or
 can't be tried. With --read, it is 1 if an old text isn't in its file exactly once, or if two edits
 of a crate have one name.
@@ -50,6 +54,9 @@ FUNCTION = re.compile(r'( *)(?:pub(?:\([a-z: ]+\))? )?(?:unsafe )?(?:extern "C" 
 # The folders of edits of a crate: those that `.ci/run` tries, by the gate or by this tool, and
 # further ones.
 FOLDERS = ["must-fail", "must-fail-second"]
+
+# A file that an edit may change: one of the crate itself, or definitions of a crate below.
+EDITABLE = re.compile(r"(?:(?:src|specs|proofs)|\.\./(\w+)/specs)/(?!.*\.\.)")
 
 # A failed obligation, an error in what is written of a function's proof, and any error.
 OBLIGATION = re.compile(r"note: (?:\./)?(src/\S+?\.rt):(\d+):\d+: (?=.*is not proved that)")
@@ -128,7 +135,7 @@ class Edit:
         else is changed too. Returns None if an old text isn't there exactly once."""
         texts, changed, is_inside = dict(texts), set(), True
         for path, old, new in self.pairs:
-            if not old or not re.match(r"(src|specs|proofs)/(?!.*\.\.)", path or ""):
+            if not old or not EDITABLE.match(path or ""):
                 return None
             text = texts.get(path) or read(path)
             if text.count(old) != 1:
@@ -140,6 +147,11 @@ class Edit:
             is_inside &= bool(inside)
             texts[path] = text.replace(old, new)
         return (texts, changed if is_inside else set()) if self.pairs else None
+
+    def below(self):
+        """Returns the crates below that this edit changes, in their order."""
+        named = [EDITABLE.match(path or "") for path, _, _ in self.pairs]
+        return list(dict.fromkeys(it[1] for it in named if it and it[1]))
 
 
 class Checks:
@@ -186,16 +198,18 @@ def link_kept(source, target):
 class Room:
     """A copy of a crate, with what earlier checks kept of it, beside links to those below it."""
 
-    def __init__(self, place, top, crate, below):
+    def __init__(self, place, top, crate, below, edited):
         self.folder, self.checks, self.processor = f"{place}/crates/{crate}", 0, 0
+        self.below = [it for it in below if it in edited]
         shutil.copy2(f"{top}/HANDLES", place)
         with open(f"{top}/crates.txt", encoding="utf-8") as lines:
             kept = [it for it in lines if re.match(r"\w*", it)[0] in (*below, crate)]
         with open(f"{place}/crates.txt", "w", encoding="utf-8") as it:
             it.writelines(kept)
         for it in below:
-            # Of what was made of a crate below, only the library is needed.
+            # Of what was made of a crate below, only the library is needed, unless it is edited.
             how = {"ignore": shutil.ignore_patterns("incremental"), "copy_function": link}
+            how = {"copy_function": link_kept} if it in self.below else how
             shutil.copytree(f"{top}/crates/{it}", f"{place}/crates/{it}", **how)
         shutil.copytree(f"{top}/crates/{crate}", self.folder, copy_function=link_kept)
 
@@ -219,13 +233,17 @@ class Room:
     def check(self, texts):
         """Returns the status of a check with these texts, and the lines that it prints."""
         own = {path: self.read(path) for path in texts}
+        first = [it for it in self.below if any(path.startswith(f"../{it}/") for path in texts)]
         self.write(texts)
         try:
-            status, said, processor = CHECKS.run(self.folder)
+            for folder in [*(f"{self.folder}/../{it}" for it in first), self.folder]:
+                status, said, processor = CHECKS.run(os.path.normpath(folder))
+                self.processor += processor
+                self.checks += 1
+                if status:
+                    break
         finally:
             self.write(own)
-        self.processor += processor
-        self.checks += 1
         return status, said
 
 
@@ -409,7 +427,7 @@ def run(top, crate, below, folders, alone):
     edits, bad = edits_of(top, crate, folders)
     edits = [it for it in edits if not it.is_of_gate]
     with tempfile.TemporaryDirectory(prefix=".edits-", dir=top) as place:
-        room = Room(place, top, crate, below)
+        room = Room(place, top, crate, below, {name for it in edits for name in it.below()})
         for name, verdict, reason in try_edits(room, edits, alone):
             found[verdict].append(name)
             by = "a name is missing: " if NAME.search(reason) else ""
