@@ -5,7 +5,8 @@ The wrong ones are to be refused. The right ones change the contract of a law, w
 or a body under its contract, also that of a caller of a function with a wrong edit. So each is to
 be proved, although all are checked together. Two edits are of bodies with an answer, which then
 fails: without it, one is refused, and one isn't decided, as its contract accepts the body. One edit
-doesn't compile, and nothing is proved or refused of a crate that has it.
+doesn't compile, and nothing is proved or refused of a crate that has it. Three edits are of
+definitions of a crate below: one is refused there, one by the crate itself, and one is proved.
 """
 import os
 import sys
@@ -22,6 +23,7 @@ SOURCE = """\
 #![tactic(auto)]
 
 ghost use Rattle.std.specs.Prelude.{◌≡◌, ◌+◌, ◌<◌, ◌≤◌, ◌^◌, ℕ};
+ghost use Rattle.lower.specs.Steps.{step, height};
 
 /// Returns a number that exceeds neither.
 pub fn lesser(a: u32, b: u32) -> u32
@@ -106,6 +108,40 @@ pub fn law_next()
 pub fn law_order()
     ensures { (n : ℕ) → n ≤ n + 1 }
 {}
+
+/// A number is less than the one a step after it.
+pub fn law_step()
+    ensures more { (n : ℕ) → n < n + step }
+    ensures few { height ≤ 5 }
+{}
+"""
+
+# The crate below, and its definitions.
+LOWER = """\
+//! Definitions, and a law of them.
+
+#![tactic(auto)]
+
+ghost use Rattle.std.specs.Prelude.{◌≤◌};
+ghost use Rattle.lower.specs.Steps.{step, height};
+
+/// No step is as large as 9, and there are some.
+pub fn law_small()
+    ensures small { step ≤ 8 }
+    ensures some { 1 ≤ height }
+{}
+"""
+STEPS = """\
+-- Steps: how much a step adds, and how many there are.
+use Rattle.std.specs.Prelude.{ℕ}
+
+-- `step`: what a step adds.
+abbrev pub step : ℕ
+step = 1
+
+-- `height`: the number of steps.
+abbrev pub height : ℕ
+height = 3
 """
 
 # The answers of the functions whose contracts no search proves, by the divisor of each.
@@ -136,6 +172,14 @@ RIGHT = {
 UNDECIDED = {"third_is_a_fourth": ("let quotient = a / 3;", "let quotient = a / 4;")}
 # Its name comes first, so that it is in the first batch.
 BROKEN = {"broken_same": ("let b = a;", "let b = c;")}
+# Those of definitions of the crate below, as they are named in the crate itself: the path of the
+# file, and the old and the new text.
+BELOW = "../lower/specs/Steps.antt"
+WRONG_BELOW = {
+    "law_small_of_large_steps": ("step = 1", "step = 9"),
+    "law_step_adds_nothing": ("step = 1", "step = 0"),
+}
+RIGHT_BELOW = {"law_step_of_four": ("height = 3", "height = 4")}
 # Those of which one can't be applied, and one has the name of another.
 UNREADABLE = {"lesser_is_absent": ("a % b", "b % a"), "origin_is_1": ("a / 2", "a / 1")}
 
@@ -147,26 +191,31 @@ def write(file, text):
         it.write(text)
 
 
-def write_edits(folder, edits):
+def write_edits(folder, edits, path="src/lib.rt"):
     """Writes a file for each edit."""
     for name, (old, new) in edits.items():
-        write(f"{folder}/{name}.edit", f"file: src/lib.rt\nold: {old}\nnew: {new}\n")
+        write(f"{folder}/{name}.edit", f"file: {path}\nold: {old}\nnew: {new}\n")
 
 
 def main():
     with tempfile.TemporaryDirectory(prefix="edits-control-") as top:
         crate = f"{top}/crates/control"
-        write(f"{top}/crates.txt", "control:\n")
+        write(f"{top}/crates.txt", "lower:\ncontrol: lower\n")
+        write(f"{top}/crates/lower/src/lib.rt", LOWER)
+        write(f"{top}/crates/lower/specs/Lib.antt", "pub mod Steps\n")
+        write(f"{top}/crates/lower/specs/Steps.antt", STEPS)
         write(f"{top}/HANDLES", "Handles allowed: none.\n")
         write(f"{crate}/src/lib.rt", SOURCE)
         for name, divisor in DIVISORS.items():
             answers = ANSWERS.format(name=name, divisor=divisor)
             write(f"{crate}/proofs/{name}/Answers.antt", answers)
         write_edits(f"{crate}/must-fail", {**WRONG, **RIGHT, **UNDECIDED, **BROKEN})
+        write_edits(f"{crate}/must-fail", {**WRONG_BELOW, **RIGHT_BELOW}, BELOW)
         write_edits(f"{crate}/must-fail-second", UNREADABLE)
-        found = run(top, "control", [], ["must-fail"], False)
+        found = run(top, "control", ["lower"], ["must-fail"], False)
         unread = edits_of(top, "control", ["must-fail", "must-fail-second"])[1]
-    wanted = {REFUSED: WRONG, OPEN: UNDECIDED, PROVED: RIGHT, BAD: BROKEN}
+    wanted = {REFUSED: {**WRONG, **WRONG_BELOW}, OPEN: UNDECIDED}
+    wanted |= {PROVED: {**RIGHT, **RIGHT_BELOW}, BAD: BROKEN}
     is_right = all(sorted(found[it]) == sorted(names) for it, names in wanted.items())
     if not is_right or len(unread) != 2:
         return "edits-test: FAILED: not exactly the wrong edits are refused"

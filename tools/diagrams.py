@@ -23,6 +23,7 @@ WORDS = {"Keep": "stays", "Remove": "goes", "ToEndif": "becomes #endif"}
 # What a crate's contract says, in a few words.
 SAYS = {
     "ud_model": "the definitions, and laws over them",
+    "ud_simplified": "what -p makes of a text",
     "ud_faults": "why a run ends, as data",
     "ud_text": "lines and scans are the text's",
     "ud_cond": "a condition's value is the definition's",

@@ -22,8 +22,8 @@ prover finds values at which a goal is false. If a goal is just left open, the e
 the contract may accept it or not.
 
 An edit may be of definitions of a crate below, in files such as `../ud_model/specs/FILE.antt`. It
-is checked alone, in that crate's copy first. If it is proved there, the crate of the edit is
-checked over it. The edit is refused if either check refuses it.
+is checked alone, in the copies of that crate and of those above it, up to the crate of the edit. It
+is refused if one of these checks refuses it.
 
 Prints a line for each edit, and how many there are at the end. The status is 1 if one is proved or
 can't be tried. With --read, it is 1 if an old text isn't in its file exactly once, or if two edits
@@ -200,7 +200,9 @@ class Room:
 
     def __init__(self, place, top, crate, below, edited):
         self.folder, self.checks, self.processor = f"{place}/crates/{crate}", 0, 0
-        self.below = [it for it in below if it in edited]
+        # Those below from the first one that is edited, which are all checked again.
+        first = min([below.index(it) for it in edited], default=len(below))
+        self.below = below[first:]
         shutil.copy2(f"{top}/HANDLES", place)
         with open(f"{top}/crates.txt", encoding="utf-8") as lines:
             kept = [it for it in lines if re.match(r"\w*", it)[0] in (*below, crate)]
@@ -233,11 +235,12 @@ class Room:
     def check(self, texts):
         """Returns the status of a check with these texts, and the lines that it prints."""
         own = {path: self.read(path) for path in texts}
-        first = [it for it in self.below if any(path.startswith(f"../{it}/") for path in texts)]
+        edited = any(path.startswith("../") for path in texts)
         self.write(texts)
         try:
-            for folder in [*(f"{self.folder}/../{it}" for it in first), self.folder]:
-                status, said, processor = CHECKS.run(os.path.normpath(folder))
+            for crate in [*(self.below if edited else []), os.path.basename(self.folder)]:
+                folder = os.path.join(os.path.dirname(self.folder), crate)
+                status, said, processor = CHECKS.run(folder)
                 self.processor += processor
                 self.checks += 1
                 if status:

@@ -34,6 +34,7 @@ CHECK = 3_000_000_000
 # order and the time that is shown use them.
 SECONDS = {
     "ud_model": (60, 0, 7),
+    "ud_simplified": (10, 0, 0),
     "ud_laws": (45, 0, 5),
     "ud_io": (20, 0, 0),
     "ud_faults": (30, 0, 0),
@@ -172,11 +173,12 @@ class Schedule:
 
 def is_of_gate(file):
     """Returns whether the gate tries the edit in this file: one of a definition of ud_model, which
-    is checked alone in any case, or one of ud_laws."""
-    if "/ud_laws/must-fail/" in file:
-        return True
+    is checked alone in any case, or one of ud_laws itself, since `rt ci` edits one crate alone."""
     with open(file, encoding="utf-8") as it:
-        return "/ud_model/must-fail/" in file and it.readline().startswith("file: specs/")
+        first = it.readline()
+    if "/ud_laws/must-fail/" in file:
+        return not first.startswith("file: ../")
+    return "/ud_model/must-fail/" in file and first.startswith("file: specs/")
 
 
 def edits_of_gate(crate):

@@ -34,6 +34,7 @@ CPU = os.environ.get("UNIFDEF_CPU", "")
 # estimate. Nothing else depends on these seconds.
 SECONDS = {
     "ud_model": 65,
+    "ud_simplified": 15,
     "ud_laws": 50,
     "ud_io": 18,
     "ud_faults": 25,

@@ -5,7 +5,7 @@ ghost use Rattle.std.specs.Prelude.{OnOk};
 ghost use Rattle.std.specs.List.{concat, flat_map};
 ghost use Rattle.ud_model.specs.text.Lines.{text_of};
 ghost use Rattle.ud_model.specs.answer.Printing.{Judged, pieces_by, some_other};
-ghost use Rattle.ud_model.specs.text.LineViews.{as_line};
+ghost use Rattle.ud_model.specs.aids.LineViews.{as_line};
 ghost use Rattle.ud_sections.specs.sections.StepViews.{judged_step, HoldsKeyword};
 ghost use Rattle.test_sections.specs.Ruling.{judged_of, HoldsItsKeyword};
 

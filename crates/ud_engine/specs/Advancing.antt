@@ -1,18 +1,18 @@
 -- Advancing: one step through a chunk.
 --
---   slice_between piece from at   the bytes between two positions of a chunk
---   IsCursor room lines piece r   a cursor in a chunk
---   measure piece r               how much there is left to do
---   Advances .. bytes ..          a step took these bytes
---   StepFails .. f                the next line is faulty
---   Takes .. e f s rest pending old new used   an engine took bytes, and is a new one after that
---   StopsIn s rest f                           the next line of an engine in this session is faulty
---   TakesPart .. e f rest pending out out' r   either of these, in each session
---   Steps .. e f s piece at old new next       an engine took the bytes between two cursors
---   Moves .. e f piece at next out out' result `Steps`, or its next line is faulty, in each session
---   IsNext room lines piece at next            a cursor after another one
---   IsPart room lines rest used                the first bytes of `rest` are taken
---   IsStep e f out out' result                 the output and the recorded fault after a step
+--   slice_between piece from at    the bytes between two positions of a chunk
+--   IsCursor room lines piece r    a cursor in a chunk
+--   measure piece r                how much there is left to do
+--   Advances .. bytes ..     a step took these bytes
+--   StepFails .. f                 the next line is faulty
+--   Takes .. used          an engine took bytes, and is a new one after that
+--   StopsIn s rest f               the next line of an engine in this session is faulty
+--   TakesPart .. r           either of these, in each session
+--   Steps .. next        an engine took the bytes between two cursors
+--   Moves .. result      `Steps`, or its next line is faulty, in each session
+--   IsNext room lines piece at n   a cursor after another one
+--   IsPart room lines rest used    the first bytes of `rest` are taken
+--   IsStep e f out out' result     the output and the recorded fault after a step
 use Rattle.std.specs.Prelude.{ℕ, ◌+◌, ◌-◌, ◌<◌, ◌≤◌, List, ◌++◌, length, take, drop, if◌then◌else◌}
 use Rattle.std.specs.Prelude.{◌≡◌, Option, Result, MatchResult, IfErr}
 use Rattle.ud_model.specs.sections.Items.{Options}
@@ -71,22 +71,25 @@ StepFails o piece longer printed (Section f) = FaultsAfter o piece longer printe
 StepFails o piece longer printed Read = ⊥
 StepFails o piece longer printed Write = ⊥
 
--- `Takes .. e f s rest pending old new used`: the engine `e` in the session `s` took the first
--- `used` bytes of `rest`, and is `f` after that. Before the output for them, `pending` is appended.
+-- `Takes .. e f s rest pending old new used`: the engine `e` in the session `s` took the
+-- first `used` bytes of `rest`, and is `f` after that. Before the output for them, `pending` is
+-- appended.
 abbrev pub Takes : {S : Type 0} → (S → List Judged → Type 0) → (S → List Judged → Judged →
     List ℕ) → EngineState S → EngineState S → Session → List ℕ → List ℕ → Stream → Stream → ℕ →
     Type 0
 Takes represents piece_of e f s rest pending old new used =
-    Advances represents piece_of f s.options s.pieces s.text s.printed (take used rest) old new
+    Advances represents piece_of f s.options s.pieces s.text s.printed (take used rest) old
+    new
     (e.buffered ++ pending) f.buffered
 
 -- `StopsIn s rest f`: the next line of `rest` has the fault `f`, for an engine in the session `s`.
 abbrev pub StopsIn : Session → List ℕ → RunFault → Type 0
 StopsIn s rest f = StepFails s.options s.pieces (s.text ++ rest) s.printed f
 
--- `TakesPart .. contents e f rest pending out out' result`: in each session of `e`, it took bytes
--- of `rest` (`Takes`); or the next line is faulty (`StopsIn`).
-abbrev pub TakesPart : {S W : Type 0} → (S → List Judged → Type 0) → (S → List Judged → Judged →
+-- `TakesPart .. contents e f rest pending out out' result`: in each session of `e`, it took
+-- bytes of `rest` (`Takes`); or the next line is faulty (`StopsIn`).
+abbrev pub TakesPart : {S W : Type 0} → (S → List Judged → Type 0) → (S → List Judged →
+    Judged →
     List ℕ) → (W → Option (List ℕ)) → EngineState S → EngineState S → List ℕ → List ℕ →
     WatchedState W → WatchedState W → Result ℕ RunFault → Type 0
 TakesPart represents piece_of contents e f rest pending out out' result =
@@ -95,8 +98,8 @@ TakesPart represents piece_of contents e f rest pending out out' result =
     (stream_of contents out'))
     (StopsIn s rest)
 
--- `Steps .. e f s piece at old new next`: the engine `e` in the session `s` took the bytes of the
--- chunk `piece` from the cursor `at` to the cursor `next`, and is `f` after that.
+-- `Steps .. e f s piece at old new next`: the engine `e` in the session `s` took the
+-- bytes of the chunk `piece` from the cursor `at` to the cursor `next`, and is `f` after that.
 abbrev pub Steps : {S : Type 0} → (S → List Judged → Type 0) → (S → List Judged → Judged →
     List ℕ) → EngineState S → EngineState S → Session → List ℕ → Cursor → Stream → Stream →
     Cursor → Type 0
@@ -106,10 +109,11 @@ Steps represents piece_of e f s piece at old new next =
     (e.buffered ++ slice_between piece at.pending_start at.pos)
     (f.buffered ++ slice_between piece next.pending_start next.pos)
 
--- `Moves .. contents e f piece at next out out' result`: in each session of `e`, it took the bytes
--- from the cursor `at` to the cursor `next` (`Steps`); or the line after `at` is faulty
--- (`StopsIn`).
-abbrev pub Moves : {S W T : Type 0} → (S → List Judged → Type 0) → (S → List Judged → Judged →
+-- `Moves .. contents e f piece at next out out' result`: in each session of `e`, it took
+-- the bytes from the cursor `at` to the cursor `next` (`Steps`); or the line after `at`
+-- is faulty (`StopsIn`).
+abbrev pub Moves : {S W T : Type 0} → (S → List Judged → Type 0) → (S → List Judged →
+    Judged →
     List ℕ) → (W → Option (List ℕ)) → EngineState S → EngineState S → List ℕ → Cursor → Cursor →
     WatchedState W → WatchedState W → Result T RunFault → Type 0
 Moves represents piece_of contents e f piece at next out out' result =

@@ -21,7 +21,7 @@ ghost use Rattle.ud_text.specs.bulk.BulkStates.{is_other_word};
 ghost use Rattle.ud_text.specs.lines.LinesState.{HasCapacity, LinesRepresent};
 ghost use Rattle.ud_text.specs.lines.Borrowing.{CanBorrow};
 ghost use Rattle.ud_model.specs.text.Lines.{NoNewline, line_at, text_of};
-ghost use Rattle.ud_model.specs.text.LineViews.{as_line};
+ghost use Rattle.ud_model.specs.aids.LineViews.{as_line};
 ghost use Rattle.ud_engine.specs.Feeding.{IsOpen, WriterMatches};
 ghost use Rattle.ud_engine.specs.Finishing.{PrintsRest, without_fault};
 ghost use Rattle.ud_engine.specs.Advancing.{IsCursor};
@@ -214,7 +214,8 @@ impl<P: PlanSource, S: Show, H: LineBuffer> EngineOf<P, S, H> {
     ghost use Rattle.ud_engine.specs.Feeding.{FeedsChunk, WriterMatches};
     ghost use Rattle.ud_engine.specs.Feeding.{RecordsFault};
     ghost use Rattle.ud_engine.specs.Finishing.{Finishes};
-    ghost use Rattle.ud_engine.specs.Advancing.{IsCursor, IsNext, Moves, IsPart, TakesPart, IsStep};
+    ghost use Rattle.ud_engine.specs.Advancing.{IsCursor, IsNext, Moves, IsPart};
+    ghost use Rattle.ud_engine.specs.Advancing.{TakesPart, IsStep};
     ghost use Rattle.ud_engine.specs.FaultEffects.{result_after};
 
     /// Returns an engine before the first byte, as `new` does, with an `H` as its line buffer.
@@ -417,8 +418,8 @@ impl<P: PlanSource, S: Show, H: LineBuffer> EngineOf<P, S, H> {
         requires some { cursor.old.pos < length chunk.now }
         ensures next { OnOk result (IsNext H.CAPACITY self.new.lines chunk.now cursor.old
             cursor.new) }
-        ensures moves { Moves S.represents S.piece W.contents self.old self.new chunk.now cursor.old
-            cursor.new out.old out.new result }
+        ensures moves { Moves S.represents S.piece W.contents self.old self.new chunk.now
+            cursor.old cursor.new out.old out.new result }
         ensures stays { OnErr result (cursor.new ≡ cursor.old) }
         ensures step { IsStep self.old self.new out.old out.new result }
     {
@@ -444,8 +445,8 @@ impl<P: PlanSource, S: Show, H: LineBuffer> EngineOf<P, S, H> {
         requires untried { cursor.bulk_tried ≡ false }
         requires some { cursor.pos < cursor.whole_end }
         ensures next { IsNext H.CAPACITY self.new.lines chunk.now cursor result }
-        ensures moves { Moves S.represents S.piece W.contents self.old self.new chunk.now cursor
-            result out.old out.new (Ok result) }
+        ensures moves { Moves S.represents S.piece W.contents self.old self.new chunk.now
+            cursor result out.old out.new (Ok result) }
         ensures fault { self.new.fault ≡ self.old.fault }
     {
         let pending = &chunk[cursor.pending_start..cursor.pos];
@@ -484,8 +485,8 @@ impl<P: PlanSource, S: Show, H: LineBuffer> EngineOf<P, S, H> {
         requires some { cursor.old.pos < length chunk.now }
         ensures next { OnOk result (IsNext H.CAPACITY self.new.lines chunk.now cursor.old
             cursor.new) }
-        ensures moves { Moves S.represents S.piece W.contents self.old self.new chunk.now cursor.old
-            cursor.new out.old out.new result }
+        ensures moves { Moves S.represents S.piece W.contents self.old self.new chunk.now
+            cursor.old cursor.new out.old out.new result }
         ensures stays { OnErr result (cursor.new ≡ cursor.old) }
         ensures step { IsStep self.old self.new out.old out.new result }
     {

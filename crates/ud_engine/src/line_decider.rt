@@ -1,8 +1,7 @@
 //! Deciding lines, one after another, by a scanner and a machine.
 
-ghost use Rattle.std.specs.Prelude.{◌≡◌, ◌≤◌, ◌++◌, [], ℕ, List, length, take, IfOk};
-ghost use Rattle.std.specs.Prelude.{false, OnErr, IfSome, IfNone, IfErr, Some, None, true};
-ghost use Rattle.std.specs.Prelude.{is_some, codes};
+ghost use Rattle.std.specs.Prelude.{◌≡◌, ◌≤◌, ◌++◌, [], ℕ, List, length, take, IfOk, false, OnErr};
+ghost use Rattle.std.specs.Prelude.{IfSome, IfNone, IfErr, Some, None, true, is_some, codes};
 ghost use Rattle.ud_model.specs.text.Lines.{NoNewline};
 ghost use Rattle.ud_model.specs.text.Scans.{Reading};
 ghost use Rattle.ud_model.specs.sections.Tree.{Item, Tree, closed, nothing};
@@ -10,7 +9,7 @@ ghost use Rattle.ud_model.specs.sections.Items.{Options};
 ghost use Rattle.ud_model.specs.sections.Faults.{end_fault};
 ghost use Rattle.ud_model.specs.declared.limits.TheConstants.{TEXT_LINES};
 ghost use Rattle.ud_text.specs.lines.LinesState.{LinesRepresent};
-ghost use Rattle.ud_model.specs.text.LineViews.{as_line};
+ghost use Rattle.ud_model.specs.aids.LineViews.{as_line};
 ghost use Rattle.ud_text.specs.bulk.BulkScanning.{AreWholeLines};
 ghost use Rattle.ud_text.specs.lines.Consuming.{CanConsume};
 ghost use Rattle.ud_sections.specs.sections.Limits.{IsWithinLimits};
@@ -18,8 +17,7 @@ ghost use Rattle.ud_sections.specs.sections.StepViews.{HoldsKeyword};
 ghost use Rattle.ud_sections.specs.sections.MachineState.{end_fault_of, machine_fault};
 ghost use Rattle.ud_sections.specs.sections.Transitions.{text_policy_of};
 ghost use Rattle.ud_engine.specs.DecidedLines.{DeciderRepresents, DecidesNext, DecidesText};
-ghost use Rattle.ud_engine.specs.DecidedLines.{CanBeDecided, DecidesAs, consumed};
-ghost use Rattle.ud_engine.specs.DecidedLines.{line_with};
+ghost use Rattle.ud_engine.specs.DecidedLines.{CanBeDecided, DecidesAs, consumed, line_with};
 ghost use Rattle.ud_engine.specs.NameListing.{ListsNames};
 
 use crate::listing::append_names;

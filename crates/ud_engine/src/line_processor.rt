@@ -9,7 +9,7 @@ ghost use Rattle.ud_model.specs.text.Lines.{NoNewline, is_ending, text_of};
 ghost use Rattle.ud_model.specs.answer.Printing.{Judged};
 ghost use Rattle.ud_model.specs.declared.limits.TheConstants.{TEXT_LINES};
 ghost use Rattle.ud_text.specs.lines.LinesState.{LinesRepresent};
-ghost use Rattle.ud_model.specs.text.LineViews.{as_line};
+ghost use Rattle.ud_model.specs.aids.LineViews.{as_line};
 ghost use Rattle.ud_text.specs.bulk.BulkScanning.{AreWholeLines};
 ghost use Rattle.ud_text.specs.lines.Consuming.{CanConsume};
 ghost use Rattle.ud_sections.specs.sections.Limits.{IsWithinLimits};

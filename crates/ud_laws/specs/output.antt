@@ -10,3 +10,6 @@ pub mod LeftOperands
 pub mod ProcessedFiles
 pub mod DecidedByNumbers
 pub mod LogicalProcessing
+pub mod Processing
+pub mod InsertedLines
+pub mod CSelection

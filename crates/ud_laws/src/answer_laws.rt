@@ -6,20 +6,19 @@ ghost use Rattle.ud_model.specs.text.Scans.{Reading};
 ghost use Rattle.ud_model.specs.sections.Tree.{Tree, Nodes, closed, lines};
 ghost use Rattle.ud_model.specs.sections.Items.{Options, reading_of, mode_by};
 ghost use Rattle.ud_model.specs.answer.CommandLine.{options_of};
-ghost use Rattle.ud_model.specs.answer.Answer.{Answer, IsAnswer, status_by, copy_answer, Succeeds};
-ghost use Rattle.ud_model.specs.output.Worlds.{selected};
-ghost use Rattle.ud_model.specs.output.Rereading.{IsPlain, IsTreeOf, LinesFit};
-ghost use Rattle.ud_model.specs.output.Rereading.{IsPlainC, PrintsText};
-ghost use Rattle.ud_model.specs.output.CSelection.{SelectsAlike};
+ghost use Rattle.ud_model.specs.answer.Answer.{Answer, IsAnswer, status_by};
+ghost use Rattle.ud_laws.specs.answer.Successes.{copy_answer, Succeeds};
+ghost use Rattle.ud_model.specs.laws.Worlds.{selected};
+ghost use Rattle.ud_model.specs.laws.Rereading.{IsPlain, IsTreeOf, LinesFit, IsPlainC, PrintsText};
+ghost use Rattle.ud_laws.specs.output.CSelection.{SelectsAlike};
 ghost use Rattle.ud_model.specs.conditions.Table.{Argument};
 ghost use Rattle.ud_laws.specs.output.GoneSymbols.{SelectsWithout};
 ghost use Rattle.ud_laws.specs.output.LiveLines.{LeavesLive, SelectsLive};
-ghost use Rattle.ud_model.specs.output.InsertedLines.{read_as};
-ghost use Rattle.ud_model.specs.output.Processing.{Processes, over_readings};
-ghost use Rattle.ud_model.specs.output.Processing.{HasOneChoice};
+ghost use Rattle.ud_model.specs.aids.ReadAs.{read_as};
+ghost use Rattle.ud_laws.specs.output.Processing.{Processes, over_readings, HasOneChoice};
 ghost use Rattle.ud_laws.specs.output.ProcessedFiles.{FileTree, IsPrinted, IsOutput};
 ghost use Rattle.ud_laws.specs.output.DecidedByNumbers.{MayDecide, AreTrue, decides_by};
-ghost use Rattle.ud_model.specs.conditions.CValues.{Number};
+ghost use Rattle.ud_model.specs.laws.CValues.{Number};
 
 use crate::output_laws::Preprocessing;
 

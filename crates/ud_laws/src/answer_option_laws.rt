@@ -7,8 +7,9 @@ ghost use Rattle.std.specs.Prelude.{◌≡◌, ◌≢◌, ◌∷◌, codes, ℕ,
 ghost use Rattle.ud_model.specs.text.Lines.{lines_of, partial_line};
 ghost use Rattle.ud_model.specs.sections.Items.{mode_by};
 ghost use Rattle.ud_model.specs.answer.CommandLine.{has_flag, parsed_args, usage_fault, options_of};
-ghost use Rattle.ud_model.specs.answer.OptionArguments.{AddsOption};
-ghost use Rattle.ud_model.specs.answer.Answer.{Answer, IsAnswer, JudgesAs, Succeeds};
+ghost use Rattle.ud_laws.specs.answer.OptionArguments.{AddsOption};
+ghost use Rattle.ud_model.specs.answer.Answer.{Answer, IsAnswer};
+ghost use Rattle.ud_laws.specs.answer.Successes.{JudgesAs, Succeeds};
 ghost use Rattle.ud_model.specs.answer.Printing.{Judged};
 ghost use Rattle.ud_laws.specs.output.ListedNames.{with_listing, AreAlikeArgs, ListsNames};
 ghost use Rattle.ud_laws.specs.output.ListedNames.{NeverCounts};
@@ -16,13 +17,13 @@ ghost use Rattle.ud_laws.specs.output.BlankedLines.{AreBlankedBy, Blanks, ending
 ghost use Rattle.ud_laws.specs.output.SharedLines.{OnlyDecides, with_complement, ShareLines};
 ghost use Rattle.ud_laws.specs.output.SharedLines.{AnswersWithComplement};
 ghost use Rattle.ud_laws.specs.output.StrictLines.{under_strict, KeepAsMuch, pieces_of};
-ghost use Rattle.ud_model.specs.output.InsertedLines.{KeepsNumbers, read_as, CountsLines};
-ghost use Rattle.ud_model.specs.output.InsertedLines.{AnswersNumbered};
+ghost use Rattle.ud_laws.specs.output.InsertedLines.{KeepsNumbers, CountsLines, AnswersNumbered};
+ghost use Rattle.ud_model.specs.aids.ReadAs.{read_as};
 ghost use Rattle.ud_laws.specs.output.InsertedNodes.{StillSelects};
 ghost use Rattle.ud_laws.specs.output.PresumedLines.{HasNoLineDirective, Presumed, Presumes};
 ghost use Rattle.ud_laws.specs.output.PresumedLines.{NumbersAsInput, NumbersSelected};
 ghost use Rattle.ud_laws.specs.output.PresumedLines.{HaveOwnNumbers};
-ghost use Rattle.ud_model.specs.output.Worlds.{selected};
+ghost use Rattle.ud_model.specs.laws.Worlds.{selected};
 ghost use Rattle.ud_model.specs.declared.kind.Mode.{Mode};
 
 /// The list of `-s` is complete for arguments, too.

@@ -4,14 +4,13 @@ ghost use Rattle.std.specs.Prelude.{◌≡◌, ◌↔◌, ℕ, List, map, Bool};
 ghost use Rattle.ud_model.specs.text.Scans.{Scan, Reading};
 ghost use Rattle.ud_model.specs.sections.Tree.{Nodes, Tree, lines};
 ghost use Rattle.ud_model.specs.sections.Items.{Options, reading_of, mode_by};
-ghost use Rattle.ud_model.specs.output.Worlds.{World, selected, openers, openers_in};
-ghost use Rattle.ud_model.specs.output.Pruned.{Edited, IsPruned, ArePruned, pruned_lines};
-ghost use Rattle.ud_model.specs.output.Rereading.{IsPlain, IsTreeOf, CleanRun};
-ghost use Rattle.ud_model.specs.output.Rereading.{selected_bytes};
-ghost use Rattle.ud_model.specs.output.CSelection.{IsCWorld, condition_in, IsCPair};
-ghost use Rattle.ud_model.specs.output.InsertedLines.{read_as};
-ghost use Rattle.ud_model.specs.output.Processing.{Condition, Processes, over_readings, agreeing};
-ghost use Rattle.ud_model.specs.output.Processing.{of_origin};
+ghost use Rattle.ud_model.specs.laws.Worlds.{World, selected, openers, openers_in};
+ghost use Rattle.ud_model.specs.laws.Pruned.{Edited, IsPruned, ArePruned, pruned_lines};
+ghost use Rattle.ud_model.specs.laws.Rereading.{IsPlain, IsTreeOf, CleanRun, selected_bytes};
+ghost use Rattle.ud_laws.specs.output.CSelection.{IsCWorld, IsCPair};
+ghost use Rattle.ud_model.specs.laws.WrittenConditions.{condition_in, Condition};
+ghost use Rattle.ud_model.specs.aids.ReadAs.{read_as};
+ghost use Rattle.ud_laws.specs.output.Processing.{Processes, over_readings, agreeing, of_origin};
 
 /// The pruned tree is what the table of verdicts leaves, section by section.
 ///

@@ -11,7 +11,5 @@ pub mod OneExpression
 pub mod DecidedConditions
 pub mod SpreadTexts
 pub mod SpacesInFront
-pub mod ResidualShape
 pub mod KeptTokens
-pub mod ResidualRead
 pub mod ResidualSame

@@ -38,8 +38,3 @@ pub mod LeavesOff
 pub mod OutputPieces
 pub mod SeenLines
 pub mod WorldsExist
-pub mod FoldedLines
-pub mod FoldedReadings
-pub mod SimplifiedLines
-pub mod SimplifiedReadings
-pub mod SimplifiedLineTexts

@@ -11,4 +11,3 @@ pub mod LexExists
 pub mod TextEnd
 pub mod ScanLaws
 pub mod ScanBytes
-pub mod OtherLineScans

@@ -4,7 +4,6 @@ pub mod Printing
 pub mod Listing
 pub mod SymbolArguments
 pub mod CommandLine
-pub mod OptionArguments
 pub mod Messages
 pub mod Outcomes
 pub mod Answer

@@ -3,11 +3,8 @@ pub mod Table
 pub mod Constants
 pub mod Tokens
 pub mod Expressions
+pub mod Parsing
 pub mod Symbols
 pub mod Values
 pub mod Conditions
 pub mod Names
-pub mod CValues
-pub mod Residuals
-pub mod Sublists
-pub mod ResidualTexts

@@ -1,6 +1,5 @@
 -- Directives, the sections that they form, and the verdict on each line (C11 6.10, unifdef(1)).
 pub mod Directives
-pub mod DirectiveParts
 pub mod Tree
 pub mod Pruning
 pub mod Items

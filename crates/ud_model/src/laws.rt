@@ -3,8 +3,8 @@
 //! The laws about options are in `option_laws`, those about the output in `output_laws`, and those
 //! about the answer to arguments and an input in `answer_laws`.
 
-ghost use Rattle.std.specs.Prelude.{◌≡◌, ◌≢◌, ◌⊎◌, ◌↔◌, ◌++◌, ℕ, suc, List, [], ◌∷◌, length};
-ghost use Rattle.std.specs.Prelude.{map, true, false, Bool, Option, Some, ℤ, pos, bytes_eq, codes};
+ghost use Rattle.std.specs.Prelude.{◌≡◌, ◌≢◌, ◌⊎◌, ◌↔◌, ◌++◌, ℕ, suc, List, [], ◌∷◌, length, map};
+ghost use Rattle.std.specs.Prelude.{true, false, Bool, Option, Some, ℤ, pos, bytes_eq, codes};
 ghost use Rattle.ud_model.specs.text.Lines.{Line, AreLines, AreSplitLines, texts_of, text_of};
 ghost use Rattle.ud_model.specs.text.Lines.{lines_of, whole_lines, partial_line};
 ghost use Rattle.ud_model.specs.text.Scans.{Scan, Reading};
@@ -13,15 +13,15 @@ ghost use Rattle.ud_model.specs.text.Splicing.{spliced_text};
 ghost use Rattle.ud_model.specs.text.Lexemes.{Lexeme, LexemeKind, block_comment, line_comment};
 ghost use Rattle.ud_model.specs.text.Lexemes.{single, Cell, IsLexeme, AreLexemes, LastIsOpen};
 ghost use Rattle.ud_model.specs.text.Lexemes.{cells_of, lexeme_at, lex, shown, kind_at_end};
-ghost use Rattle.ud_model.specs.text.Scanning.{joins, content_cells, scan_after};
-ghost use Rattle.ud_model.specs.text.Scanning.{readings_after, readings_of, AreCLexemes};
-ghost use Rattle.ud_model.specs.text.Scanning.{EndsLogicalLine, c_comment_after};
+ghost use Rattle.ud_model.specs.text.Scanning.{joins, content_cells, scan_after, readings_after};
+ghost use Rattle.ud_model.specs.text.Scanning.{readings_of, AreCLexemes, EndsLogicalLine};
+ghost use Rattle.ud_model.specs.text.Scanning.{c_comment_after};
 ghost use Rattle.ud_model.specs.declared.kind.Mode.{Mode};
 ghost use Rattle.ud_model.specs.declared.kind.CommentAt.{CommentAt};
 ghost use Rattle.ud_model.specs.sections.Directives.{Directive, cut_keyword, directive, text};
 ghost use Rattle.ud_model.specs.sections.Directives.{content_of};
-ghost use Rattle.ud_model.specs.sections.DirectiveParts.{DirectiveParts, AreParts, HasDirective};
-ghost use Rattle.ud_model.specs.sections.DirectiveParts.{HasSplitKeyword};
+ghost use Rattle.ud_model.specs.aids.DirectiveParts.{DirectiveParts, AreParts, HasDirective};
+ghost use Rattle.ud_model.specs.aids.DirectiveParts.{HasSplitKeyword};
 ghost use Rattle.ud_model.specs.sections.Tree.{Item, Tree, lines};
 ghost use Rattle.ud_model.specs.sections.Pruning.{marks, marks_in};
 ghost use Rattle.ud_model.specs.aids.SoFar.{marks_so_far};
@@ -33,21 +33,20 @@ ghost use Rattle.ud_model.specs.answer.Outcomes.{Outcome, ReadsAs, ReadsSoFar, H
 ghost use Rattle.ud_model.specs.answer.Outcomes.{HasOutcomeSoFar};
 ghost use Rattle.ud_model.specs.answer.CommandLine.{option_letters, operands_from, parsed_from};
 ghost use Rattle.ud_model.specs.answer.CommandLine.{parsed_by, parsed_after_option};
-ghost use Rattle.ud_model.specs.aids.LettersThen.{parsed_letters};
+ghost use Rattle.ud_model.specs.aids.LettersThen.{parsed_letters, IsOptionWord};
 ghost use Rattle.ud_model.specs.answer.Answer.{Answer, IsAnswer};
 ghost use Rattle.ud_model.specs.conditions.Table.{Argument, HaveSameEntries};
 ghost use Rattle.ud_model.specs.conditions.Symbols.{ResolvesTo, resolve};
 ghost use Rattle.ud_model.specs.conditions.Expressions.{Expression, IsWritten};
-ghost use Rattle.ud_model.specs.aids.Parsing.{expression_of};
+ghost use Rattle.ud_model.specs.conditions.Parsing.{expression_of};
 ghost use Rattle.ud_model.specs.conditions.Values.{value_of};
 ghost use Rattle.ud_model.specs.conditions.Conditions.{Rules, tree_cond, expression_cond};
 ghost use Rattle.ud_model.specs.conditions.Conditions.{condition_of};
 ghost use Rattle.ud_model.specs.conditions.Names.{names_in, names_of};
 ghost use Rattle.ud_model.specs.declared.cond.Cond.{Cond};
 ghost use Rattle.ud_model.specs.declared.kind.Kind.{Kind};
-ghost use Rattle.ud_model.specs.conditions.CValues.{Number, number, IsCValue};
-ghost use Rattle.ud_model.specs.answer.OptionArguments.{IsOptionWord};
-ghost use Rattle.ud_model.specs.text.Prefixes.{IsPrefix};
+ghost use Rattle.ud_model.specs.laws.CValues.{Number, number, IsCValue};
+ghost use Rattle.ud_model.specs.aids.Prefixes.{IsPrefix};
 
 /// A text splits into lines in exactly one way.
 ///

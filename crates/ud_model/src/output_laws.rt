@@ -6,12 +6,11 @@ ghost use Rattle.ud_model.specs.text.Scans.{Reading};
 ghost use Rattle.ud_model.specs.sections.Tree.{Nodes, closed, lines, with_lines};
 ghost use Rattle.ud_model.specs.sections.Items.{Options};
 ghost use Rattle.ud_model.specs.answer.Outcomes.{Outcome, HasOutcome};
-ghost use Rattle.ud_model.specs.output.Worlds.{World, Agrees};
-ghost use Rattle.ud_model.specs.output.Pruned.{Edited, IsPruned};
-ghost use Rattle.ud_model.specs.output.Pruned.{IsUndecided};
-ghost use Rattle.ud_model.specs.output.Rereading.{IsTreeOf, IsClean, CleanRun, LinesFit};
-ghost use Rattle.ud_model.specs.output.Rereading.{line_bytes, edited_bytes, KeepsTruths};
-ghost use Rattle.ud_model.specs.output.Rereading.{PrintsText, selected_bytes};
+ghost use Rattle.ud_model.specs.laws.Worlds.{World, Agrees};
+ghost use Rattle.ud_model.specs.laws.Pruned.{Edited, IsPruned, IsUndecided};
+ghost use Rattle.ud_model.specs.laws.Rereading.{IsTreeOf, IsClean, CleanRun, LinesFit, line_bytes};
+ghost use Rattle.ud_model.specs.laws.Rereading.{edited_bytes, KeepsTruths, PrintsText};
+ghost use Rattle.ud_model.specs.laws.Rereading.{selected_bytes};
 
 /// The exit status reports whether the output is a copy.
 ///

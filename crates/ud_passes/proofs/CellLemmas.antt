@@ -6,7 +6,7 @@ use Rattle.std.proofs.lemmas.Grind.{common_steps}
 use Rattle.ud_model.specs.text.Bytes.{are_white, skip_white}
 use Rattle.ud_model.specs.text.Lexemes.{Cell, shown}
 use Rattle.ud_model.specs.conditions.Tokens.{Token, at_end, unreadable, found, next_token}
-use Rattle.ud_model.specs.conditions.ResidualTexts.{left_from, ends_operand}
+use Rattle.ud_simplified.specs.ResidualTexts.{left_from, ends_operand}
 use Rattle.ud_passes.specs.pruning.Cells.{AreCells, SameLeft, byte_of}
 
 -- 1. Parts of the cells.

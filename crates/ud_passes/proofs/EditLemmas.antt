@@ -11,21 +11,21 @@ use Rattle.ud_model.specs.text.Scanning.{content_cells, scan_after_run}
 use Rattle.ud_model.specs.sections.Directives.{Content, directive, Directive, content_of}
 use Rattle.ud_model.specs.conditions.Table.{Argument}
 use Rattle.ud_model.specs.conditions.Conditions.{Rules}
-use Rattle.ud_model.specs.conditions.ResidualTexts.{simplified_cells}
-use Rattle.ud_model.specs.output.SimplifiedTexts.{keyword_end, condition_cells, same_if, has_condition, keeps_ending, is_lone, left_cells_of, left_line, is_read_alone, line_by, simplified_line}
+use Rattle.ud_simplified.specs.ResidualTexts.{simplified_cells}
+use Rattle.ud_simplified.specs.SimplifiedTexts.{keyword_end, condition_cells, same_if, has_condition, keeps_ending, is_lone, left_cells_of, left_line, is_read_alone, line_by, simplified_line}
 use Rattle.ud_model.specs.declared.kind.Kind.{Kind}
 use Rattle.ud_model.proofs.text.ScanBytes.{bytes-content_cells}
 use Rattle.ud_model.proofs.text.LinesLemmas.{no_newline-append, text_of-line_at}
-use Rattle.ud_model.proofs.conditions.ResidualRead.{cells_go}
+use Rattle.ud_simplified.proofs.ResidualRead.{cells_go}
 use Rattle.ud_model.proofs.output.Formed.{IsEnd, ended}
-use Rattle.ud_model.proofs.output.SimplifiedLines.{after_is}
+use Rattle.ud_simplified.proofs.SimplifiedLines.{after_is}
 use Rattle.ud_text.specs.lines.LinesState.{UpToNewline}
 use Rattle.ud_text.proofs.lemmas.lines.NewlineLemmas.{up_to_newline-once}
 use Rattle.ud_text.proofs.lemmas.scan.MaskLemmas.{no_newline-take, no_newline-drop}
 use Rattle.ud_passes.specs.pruning.Cells.{AreCells, byte_of}
 use Rattle.ud_passes.specs.pruning.EditedLines.{c_reading, IsScannedAlone, is_meant, IsCondition, line_if_read, IsEditedAt}
 use Rattle.ud_model.proofs.text.ScanLaws.{unspliced}
-use Rattle.ud_model.proofs.output.SimplifiedLineTexts.{fewer, cut_there}
+use Rattle.ud_simplified.proofs.SimplifiedLineTexts.{fewer, cut_there}
 
 -- 1. Sublists.
 

@@ -6,12 +6,12 @@ use Rattle.ud_model.specs.text.Lines.{Line, text_of, lines_of}
 use Rattle.ud_model.specs.text.Scans.{Reading}
 use Rattle.ud_model.specs.conditions.Table.{Argument}
 use Rattle.ud_model.specs.conditions.Conditions.{Rules}
-use Rattle.ud_model.specs.output.InsertedLines.{read_as}
-use Rattle.ud_model.specs.output.Rereading.{LinesFit}
-use Rattle.ud_model.specs.output.SimplifiedTexts.{simplified_line, simplified_text}
+use Rattle.ud_model.specs.aids.ReadAs.{read_as}
+use Rattle.ud_model.specs.laws.Rereading.{LinesFit}
+use Rattle.ud_simplified.specs.SimplifiedTexts.{simplified_line, simplified_text}
 use Rattle.ud_model.specs.declared.kind.Mode.TheVariants.{C}
 use Rattle.ud_model.proofs.text.Pushes.{by_push}
-use Rattle.ud_model.proofs.output.SimplifiedLineTexts.{read_back_by}
+use Rattle.ud_simplified.proofs.SimplifiedLineTexts.{read_back_by}
 use Rattle.ud_passes.specs.pruning.PrunedTexts.{pruned_bytes, pruned_text}
 use Rattle.ud_passes.proofs.PassLemmas.{pruned_short}
 

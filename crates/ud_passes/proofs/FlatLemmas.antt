@@ -14,13 +14,13 @@ use Rattle.ud_model.specs.text.Scans.{Reading}
 use Rattle.ud_model.specs.text.Splicing.{content}
 use Rattle.ud_model.specs.text.Scanning.{next_reading}
 use Rattle.ud_model.specs.sections.Directives.{is_outside}
-use Rattle.ud_model.specs.output.InsertedLines.{read_as}
-use Rattle.ud_model.specs.output.FoldedTexts.{vertical_tab, has_tab, continued_part, folded_body, last_ending, folded_line, is_foldable, logical_lines, folded_text, folded_readings, unnumbered}
+use Rattle.ud_model.specs.aids.ReadAs.{read_as}
+use Rattle.ud_simplified.specs.FoldedTexts.{vertical_tab, has_tab, continued_part, folded_body, last_ending, folded_line, is_foldable, logical_lines, folded_text, folded_readings, unnumbered}
 use Rattle.ud_model.specs.declared.kind.Mode.TheVariants.{C}
 use Rattle.ud_model.proofs.text.ScanBytes.{content-prefix}
 use Rattle.ud_model.proofs.text.LinesLemmas.{text_of-line_at, lines_exist, lines_are, map-lines_of, numbered_from-append, split_lines-line-prefix}
 use Rattle.ud_model.proofs.output.Formed.{ending_none, formed_more}
-use Rattle.ud_model.proofs.output.FoldedReadings.{all_there, readings_folded}
+use Rattle.ud_simplified.proofs.FoldedReadings.{all_there, readings_folded}
 use Rattle.ud_text.specs.lines.LinesState.{UpToNewline}
 use Rattle.ud_text.proofs.lemmas.scan.LongerTextLemmas.{one_text}
 use Rattle.ud_passes.proofs.RestoreLemmas.{lines_read}

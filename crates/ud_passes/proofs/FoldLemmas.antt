@@ -7,15 +7,15 @@ use Rattle.std.proofs.lemmas.List.Folds.{list_all-append}
 use Rattle.std.proofs.lemmas.Bool.{false≢true, leb-true, leb-false}
 use Rattle.std.proofs.lemmas.Slice.Eq.{bytes_eq-Decides}
 use Rattle.ud_model.specs.text.Lines.{Line, NoNewline, text_of, is_ending, lines_of}
-use Rattle.ud_model.specs.text.LineViews.{as_line, as_scan}
+use Rattle.ud_model.specs.aids.LineViews.{as_line, as_scan}
 use Rattle.ud_model.specs.text.Splicing.{is_empty, is_spliced, c_run_of}
 use Rattle.ud_model.specs.text.Scans.{Scan, Reading}
 use Rattle.ud_model.specs.text.Lexemes.{kind_at_end, lex, lex_from, lexeme_at}
 use Rattle.ud_model.specs.text.Scanning.{joins, scan_after, scan_after_run, next_reading, readings_after}
 use Rattle.ud_model.specs.sections.Directives.{content_of}
-use Rattle.ud_model.specs.output.FoldedTexts.{vertical_tab, continued, continued_part, folded_body, last_ending, folded_line, shown_break, shown_lines, is_directive, begins_directive, are_alike, fits, is_shown_as, is_foldable, folded_bytes, folded_lines}
-use Rattle.ud_model.specs.output.SimplifiedTexts.{keeps_ending}
-use Rattle.ud_model.specs.output.InsertedLines.{read_as, in_mode}
+use Rattle.ud_simplified.specs.FoldedTexts.{vertical_tab, continued, continued_part, folded_body, last_ending, folded_line, shown_break, shown_lines, is_directive, begins_directive, are_alike, fits, is_shown_as, is_foldable, folded_bytes, folded_lines}
+use Rattle.ud_simplified.specs.SimplifiedTexts.{keeps_ending}
+use Rattle.ud_model.specs.aids.ReadAs.{read_as, in_mode}
 use Rattle.ud_model.specs.declared.line.Line.{Line as ReadLine}
 use Rattle.ud_model.specs.declared.scan.Scan.{Scan as ReadScan}
 use Rattle.ud_model.specs.declared.limits.TheConstants.{LINE_BYTES}

@@ -7,11 +7,11 @@ use Rattle.ud_model.specs.text.Lexemes.{Cell, shown}
 use Rattle.ud_model.specs.conditions.Table.{Argument}
 use Rattle.ud_model.specs.conditions.Expressions.{Expression, spelling}
 use Rattle.ud_model.specs.conditions.Conditions.{Rules, tree_cond, expression_cond}
-use Rattle.ud_model.specs.conditions.Residuals.{residual, is_unknown, is_undecided}
-use Rattle.ud_model.specs.conditions.ResidualTexts.{keeps, left_cells, is_literal, may_go, is_read, simplified_tree, simplified_cells}
-use Rattle.ud_model.specs.aids.Parsing.{expression_of}
+use Rattle.ud_model.specs.aids.Residuals.{residual, is_unknown, is_undecided, keeps}
+use Rattle.ud_simplified.specs.ResidualTexts.{left_cells, is_literal, may_go, is_read, simplified_tree, simplified_cells}
+use Rattle.ud_model.specs.conditions.Parsing.{expression_of}
 use Rattle.ud_model.proofs.conditions.KeptTokens.{choose}
-use Rattle.ud_model.proofs.conditions.ResidualRead.{written_left, untouched}
+use Rattle.ud_simplified.proofs.ResidualRead.{written_left, untouched}
 use Rattle.ud_passes.specs.pruning.Cells.{AreCells, SameLeft, stands, IsFound}
 use Rattle.ud_passes.specs.declared.pruning.cells.LeftText.{LeftText}
 use Rattle.ud_cond.proofs.lemmas.expressions.KeptLemmas.{same_length}

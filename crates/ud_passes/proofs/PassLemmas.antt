@@ -9,11 +9,11 @@ use Rattle.ud_model.specs.text.Scanning.{scan_after_run, scan_after}
 use Rattle.ud_model.specs.sections.Directives.{Content, cut_keyword, directive, text, content_of}
 use Rattle.ud_model.specs.conditions.Table.{Argument}
 use Rattle.ud_model.specs.conditions.Conditions.{Rules}
-use Rattle.ud_model.specs.output.SimplifiedTexts.{is_lone, keeps_ending, left_line, is_read_back, line_by, simplified_line}
+use Rattle.ud_simplified.specs.SimplifiedTexts.{is_lone, keeps_ending, left_line, is_read_back, line_by, simplified_line}
 use Rattle.ud_model.specs.declared.kind.Mode.TheVariants.{C}
 use Rattle.ud_model.proofs.text.ScanBytes.{scan_after-same}
 use Rattle.ud_model.proofs.output.Each.{Pairs, pair}
-use Rattle.ud_model.proofs.output.SimplifiedReadings.{ReadingSimplified, readings_simplified}
+use Rattle.ud_simplified.proofs.SimplifiedReadings.{ReadingSimplified, readings_simplified}
 use Rattle.ud_text.specs.scan.ScannerState.{ScannerState, ScannerRepresents}
 use Rattle.ud_passes.specs.Passes.{fits}
 use Rattle.ud_passes.specs.Walks.{read_after, AreTexts, HaveBytes, Walked}

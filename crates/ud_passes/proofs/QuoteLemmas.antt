@@ -9,15 +9,15 @@ use Rattle.ud_model.specs.text.Scans.{Scan}
 use Rattle.ud_model.specs.text.Splicing.{content, spliced_part}
 use Rattle.ud_model.specs.text.Scanning.{content_cells, scan_after}
 use Rattle.ud_model.specs.sections.Directives.{Directive, directive, content_of}
-use Rattle.ud_model.specs.sections.DirectiveParts.{HasDirective}
+use Rattle.ud_model.specs.aids.DirectiveParts.{HasDirective}
 use Rattle.ud_model.specs.conditions.Table.{Argument}
 use Rattle.ud_model.specs.conditions.Conditions.{Rules}
-use Rattle.ud_model.specs.conditions.ResidualTexts.{is_literal}
-use Rattle.ud_model.specs.output.SimplifiedTexts.{keyword_end, condition_cells}
+use Rattle.ud_simplified.specs.ResidualTexts.{is_literal}
+use Rattle.ud_simplified.specs.SimplifiedTexts.{keyword_end, condition_cells}
 use Rattle.ud_model.specs.declared.kind.Mode.TheVariants.{C}
 use Rattle.ud_model.proofs.text.ScanBytes.{masked-content_cells}
 use Rattle.ud_model.proofs.sections.SplitLines.{directive_is}
-use Rattle.ud_model.proofs.output.SimplifiedLines.{after_is}
+use Rattle.ud_simplified.proofs.SimplifiedLines.{after_is}
 
 -- 1. Bytes.
 

@@ -7,8 +7,8 @@ use Rattle.std.proofs.lemmas.List.Folds.{flat_map-map}
 use Rattle.ud_model.specs.text.Lines.{Line, text_of, lines_of}
 use Rattle.ud_model.specs.text.Scans.{Scan, Reading}
 use Rattle.ud_model.specs.text.Scanning.{scan_after_run, next_reading, readings_after}
-use Rattle.ud_model.specs.output.InsertedLines.{read_as, in_mode}
-use Rattle.ud_model.specs.output.FoldedTexts.{has_tab, fits, restored_body, restored_line, restored_text}
+use Rattle.ud_model.specs.aids.ReadAs.{read_as, in_mode}
+use Rattle.ud_simplified.specs.FoldedTexts.{has_tab, fits, restored_body, restored_line, restored_text}
 use Rattle.ud_model.specs.declared.kind.Mode.TheVariants.{C}
 use Rattle.ud_model.proofs.text.ScanBytes.{scan_after-same}
 use Rattle.ud_passes.specs.Walks.{read_after, Walked}

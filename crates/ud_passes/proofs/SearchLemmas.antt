@@ -8,7 +8,7 @@ use Rattle.ud_model.specs.text.Lines.{Line, whole_lines}
 use Rattle.ud_model.specs.text.Scans.{Reading}
 use Rattle.ud_model.specs.text.Scanning.{scan_after}
 use Rattle.ud_model.specs.conditions.Table.{Argument}
-use Rattle.ud_model.specs.output.InsertedLines.{read_as}
+use Rattle.ud_model.specs.aids.ReadAs.{read_as}
 use Rattle.ud_model.specs.declared.kind.Mode.{Mode}
 use Rattle.ud_model.proofs.text.LinesLemmas.{are_whole}
 use Rattle.ud_text.proofs.lemmas.bulk.QuietLineLemmas.{ended_lines}

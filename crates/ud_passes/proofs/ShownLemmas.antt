@@ -8,8 +8,8 @@ use Rattle.ud_model.specs.text.Lines.{Line, NoNewline, IsWhole, text_of, ending_
 use Rattle.ud_model.specs.text.Splicing.{is_empty}
 use Rattle.ud_model.specs.text.Scans.{Scan}
 use Rattle.ud_model.specs.text.Scanning.{scan_after_run}
-use Rattle.ud_model.specs.output.FoldedTexts.{has_tab, vertical_tab, blank_follows, tabs_are_beside, fits, is_shown_as}
-use Rattle.ud_model.specs.output.SimplifiedTexts.{keeps_ending}
+use Rattle.ud_simplified.specs.FoldedTexts.{has_tab, vertical_tab, blank_follows, tabs_are_beside, fits, is_shown_as}
+use Rattle.ud_simplified.specs.SimplifiedTexts.{keeps_ending}
 use Rattle.ud_model.specs.declared.kind.Mode.TheVariants.{C}
 use Rattle.ud_model.proofs.text.LinesLemmas.{text_of-line_at}
 use Rattle.ud_model.proofs.text.ScanBytes.{scan_after-same}

@@ -2,8 +2,8 @@
 use Rattle.std.proofs.Common.{◌≡◌, ℕ, List, [], ◌∷◌, length, Bool, true, false, ◌&&◌, Option, Some, option_map, refl, arith}
 use Rattle.std.proofs.lemmas.Bool.{and_left}
 use Rattle.ud_model.specs.conditions.Tokens.{Token, NextToken, at_end, unreadable, found, next_token}
-use Rattle.ud_model.specs.conditions.ResidualTexts.{are_tokens, same_token}
-use Rattle.ud_model.specs.aids.Parsing.{prepend_token, tokens_of}
+use Rattle.ud_simplified.specs.ResidualTexts.{are_tokens, same_token}
+use Rattle.ud_model.specs.conditions.Parsing.{prepend_token, tokens_of}
 use Rattle.ud_cond.proofs.lemmas.expressions.ReadingLemmas.{tokens_of-prepend_token}
 
 by_next : (text : List ℕ) (x : NextToken) → next_token text ≡ x → tokens_of text ≡ prepend_token tokens_of x

@@ -6,7 +6,7 @@ use Rattle.std.proofs.lemmas.Simd.{map-map}
 use Rattle.ud_model.specs.text.Lines.{Line, text_of, texts_of, line_at, numbered_from, whole_lines, split_lines}
 use Rattle.ud_model.specs.text.Scans.{Reading}
 use Rattle.ud_model.specs.text.Scanning.{next_reading, readings_after}
-use Rattle.ud_model.specs.output.InsertedLines.{read_as, in_mode}
+use Rattle.ud_model.specs.aids.ReadAs.{read_as, in_mode}
 use Rattle.ud_model.specs.declared.kind.Mode.{Mode}
 use Rattle.ud_model.proofs.text.LinesLemmas.{map-numbered_from}
 use Rattle.ud_model.proofs.text.ScanBytes.{scan_after-same}

@@ -13,16 +13,16 @@
 --
 -- Example: a walk over `x;` newline `#if A` newline first reads a text line. The pass reads the
 -- next line, since only the pass needs its scan.
-use Rattle.std.specs.Prelude.{◌≡◌, ℕ, ◌+◌, ◌<◌, ◌≤◌, List, [], ◌∷◌, ◌++◌, length, map, take}
-use Rattle.std.specs.Prelude.{Bool, true, false}
+use Rattle.std.specs.Prelude.{◌≡◌, ℕ, ◌+◌, ◌<◌, ◌≤◌, List, [], ◌∷◌, ◌++◌, length, map, take, Bool}
+use Rattle.std.specs.Prelude.{true, false}
 use Rattle.std.specs.List.{concat}
 use Rattle.ud_model.specs.text.Lines.{Line, NoNewline, text_of, texts_of, whole_lines}
 use Rattle.ud_model.specs.text.Lines.{numbered_from}
 use Rattle.ud_model.specs.text.Scans.{Scan, Reading}
 use Rattle.ud_model.specs.text.Scanning.{scan_after, next_reading}
-use Rattle.ud_model.specs.text.LineViews.{as_line}
+use Rattle.ud_model.specs.aids.LineViews.{as_line}
 use Rattle.ud_model.specs.sections.Directives.{text, content_of}
-use Rattle.ud_model.specs.output.InsertedLines.{read_as}
+use Rattle.ud_model.specs.aids.ReadAs.{read_as}
 use Rattle.ud_model.specs.declared.kind.Mode.{Mode}
 use Rattle.ud_model.specs.declared.limits.TheConstants.{LINE_BYTES}
 use Rattle.ud_text.specs.scan.ScannerState.{ScannerState, ScannerRepresents}

@@ -6,7 +6,7 @@
 //!
 //! `flatten` is for a list of lines with their numbers: empty lines are in place of those newlines.
 //!
-//! ud_model defines both texts (`output.FoldedTexts`). `specs/folding` has the flat text
+//! ud_simplified defines both texts (`FoldedTexts`). `specs/folding` has the flat text
 //! (`FlatTexts.antt`), and what the code keeps of a logical line (`LogicalLines.antt`) and of a
 //! text (`Folding.antt`).
 

@@ -4,8 +4,8 @@
 //! that joins no other line is edited if the edited line, by itself, is read as meant; else it
 //! stays. Bytes are only removed.
 //!
-//! ud_model defines the rest of a condition (`conditions.ResidualTexts`) and of a line
-//! (`output.SimplifiedTexts`). `specs/pruning/PrunedTexts.antt` defines the rest of a text with
+//! ud_simplified defines the rest of a condition (`ResidualTexts`) and of a line
+//! (`SimplifiedTexts`). `specs/pruning/PrunedTexts.antt` defines the rest of a text with
 //! lines of any length. `Cells.antt`, `EditedLines.antt` and `Passing.antt` beside it define what
 //! the code keeps of a condition's text, of a line and of a text.
 

@@ -18,7 +18,7 @@ use Rattle.ud_replace.specs.declared.text_plan.TextRun.{TextRun}
 use Rattle.ud_replace.specs.TextOutcomes.{TextOptions, unpruned, pruned, folded, may_fold, goes_back, comes_back, StaysUnfolded, as_run, as_faulty, as_pruned, as_folded, RunsOver, same_run, error_of, FailsOver, over_faulty, over_memory}
 use Rattle.ud_replace.specs.UnprunedRuns.{RunsUnpruned, FailsUnpruned, run_faulty, no_memory_left, PrunesInto}
 use Rattle.ud_replace.specs.FoldedRuns.{RunsPruned, LeavesFolded, RunsFolded, TriesFolded, FoldsOrStays}
-use Rattle.ud_model.specs.output.FoldedTexts.{folded_text, restored_text}
+use Rattle.ud_simplified.specs.FoldedTexts.{folded_text, restored_text}
 use Rattle.ud_model.specs.answer.Outcomes.{Outcome, HasOutcome}
 use Rattle.ud_model.proofs.sections.Soundness.{one_run}
 use Rattle.std.proofs.lemmas.Bool.{false≢true}

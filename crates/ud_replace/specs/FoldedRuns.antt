@@ -8,7 +8,7 @@
 use Rattle.std.specs.Prelude.{◌≡◌, ℕ, List, ◌++◌, true, Option, Some, None}
 use Rattle.ud_model.specs.sections.Items.{Options}
 use Rattle.ud_model.specs.answer.Outcomes.{Outcome, HasOutcome}
-use Rattle.ud_model.specs.output.FoldedTexts.{restored_text}
+use Rattle.ud_simplified.specs.FoldedTexts.{restored_text}
 use Rattle.ud_replace.specs.declared.text_plan.TextRun.{TextRun}
 use Rattle.ud_replace.specs.TextOutcomes.{TextOptions, pruned, comes_back, StaysUnfolded, RunsOver}
 

@@ -124,7 +124,8 @@ pub record TookOutput (o : TextOptions) (name fresh : List ℕ) (old calls : Lis
   pub has : HasTextOutcome o text outcome
   pub no_fault : outcome.fault ≡ None
   pub taken : List Call
-  pub took : Takes fresh (made fresh (Ok tt) ∷ asked name true ∷ was_read name text (Some stat) ∷
+  pub took : Takes fresh (made fresh (Ok tt) ∷ asked name true ∷ was_read name text (Some stat)
+      ∷
       old) outcome.output taken
   pub confirms : Confirms name text stat (synced fresh true ∷ given fresh stat true ∷ taken) calls
       (Ok tt)

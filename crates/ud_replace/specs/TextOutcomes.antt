@@ -21,12 +21,12 @@
 --
 -- Example: under `-UA`, the output for the line `#if A || X` is that line. If conditions are
 -- pruned, it is `#if X`. The lines `#if A || \` and `X` are read as one, with the same output.
-use Rattle.std.specs.Prelude.{◌≡◌, ℕ, List, ◌++◌, Bool, true, false, ◌||◌, Option, None}
-use Rattle.std.specs.Prelude.{nat_lt, not, ◌&&◌, bytes_eq}
+use Rattle.std.specs.Prelude.{◌≡◌, ℕ, List, ◌++◌, Bool, true, false, ◌||◌, Option, None, nat_lt}
+use Rattle.std.specs.Prelude.{not, ◌&&◌, bytes_eq}
 use Rattle.ud_model.specs.sections.Faults.{Fault}
 use Rattle.ud_model.specs.sections.Items.{Options, rules_of}
 use Rattle.ud_model.specs.declared.settings.Settings.{Settings}
-use Rattle.ud_model.specs.output.FoldedTexts.{folded_text, restored_text}
+use Rattle.ud_simplified.specs.FoldedTexts.{folded_text, restored_text}
 use Rattle.ud_model.specs.answer.Outcomes.{Outcome, HasOutcome}
 use Rattle.ud_cond.specs.symbols.SymbolTable.{TableRepresents}
 use Rattle.ud_faults.specs.declared.run.RunFault.{RunFault}

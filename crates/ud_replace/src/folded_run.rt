@@ -6,7 +6,7 @@
 
 ghost use Rattle.std.specs.Prelude.{◌≡◌, false, true, MatchResult, IfOk, IfNone};
 ghost use Rattle.ud_args.specs.Plans.{ForOptionsOf};
-ghost use Rattle.ud_model.specs.output.FoldedTexts.{folded_text, restored_text};
+ghost use Rattle.ud_simplified.specs.FoldedTexts.{folded_text, restored_text};
 ghost use Rattle.ud_replace.specs.TextOutcomes as spec;
 ghost use Rattle.ud_replace.specs.TextOutcomes.{TextOptions, IsPlanned};
 ghost use Rattle.ud_replace.specs.FoldedRuns.{TriesFolded, FoldsOrStays};

@@ -44,8 +44,8 @@ pub fn run_text(
 }
 
 /// Returns whether the output for a text is known to be the text itself. Nothing is written, and no
-/// memory is taken. If conditions are to be pruned, names are listed or lines are numbered, it isn't
-/// known.
+/// memory is taken. If conditions are to be pruned, names are listed or lines are numbered, it
+/// isn't known.
 ///
 /// # Errors
 /// As `run_text`.

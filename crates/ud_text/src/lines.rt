@@ -17,7 +17,7 @@ ghost use Rattle.ud_text.specs.lines.Borrowing.{CanBorrow, IsFirstLine};
 ghost use Rattle.ud_text.specs.lines.LinesState.{LinesRepresent, UpToNewline, BreaksLimit};
 ghost use Rattle.ud_text.specs.lines.LinesState.{with_fault, HasCapacity, IsComplete, IsLastLine};
 ghost use Rattle.ud_text.specs.lines.LinesState.{IsLineOf, Closes};
-ghost use Rattle.ud_model.specs.text.LineViews.{as_line};
+ghost use Rattle.ud_model.specs.aids.LineViews.{as_line};
 ghost use Rattle.ud_text.specs.lines.Consuming.{CanConsume, EachFits};
 ghost use Rattle.ud_text.specs.bulk.BulkScanning.{AreWholeLines};
 

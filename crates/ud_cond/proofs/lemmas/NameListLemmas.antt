@@ -3,7 +3,7 @@ use Rattle.std.proofs.Common.{◌≡◌, ℕ, List, [], ◌∷◌, ◌++◌, app
 use Rattle.std.specs.Option.{option_to_list}
 use Rattle.ud_model.specs.conditions.Tokens.{Token, at_end, unreadable, found, next_token}
 use Rattle.ud_model.specs.conditions.Expressions.{Expression, constant, named, is_defined, unary, binary, parens, spelling}
-use Rattle.ud_model.specs.aids.Parsing.{tokens_of, reads, needs, Meaning, expression_of}
+use Rattle.ud_model.specs.conditions.Parsing.{tokens_of, reads, needs, Meaning, expression_of}
 use Rattle.ud_model.specs.conditions.Names.{names_in, names_in_tree}
 use Rattle.ud_model.proofs.conditions.Readings.{reads_meaning}
 use Rattle.ud_model.proofs.conditions.TokenLemmas.{tokens_of_only}

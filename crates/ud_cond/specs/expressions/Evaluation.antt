@@ -6,14 +6,14 @@
 --   value_meaning table strict u     the value of each part of an expression
 --   value_of_tree table strict u e   the value of a tree
 --   cond_of_value rules v            the condition that a value decides
-use Rattle.std.specs.Prelude.{ℕ, List, [], Option, Some, None, Bool, true, false, ◌||◌}
-use Rattle.std.specs.Prelude.{◌&&◌, not, if◌then◌else◌}
+use Rattle.std.specs.Prelude.{ℕ, List, [], Option, Some, None, Bool, true, false, ◌||◌, ◌&&◌, not}
+use Rattle.std.specs.Prelude.{if◌then◌else◌}
 use Rattle.std.specs.Borrow.{Bor}
 use Rattle.ud_model.specs.conditions.Table.{Argument, entry_in}
 use Rattle.ud_model.specs.conditions.Constants.{has_u}
 use Rattle.ud_model.specs.conditions.Symbols.{resolve}
 use Rattle.ud_model.specs.conditions.Expressions.{Expression}
-use Rattle.ud_model.specs.aids.Parsing.{Meaning}
+use Rattle.ud_model.specs.conditions.Parsing.{Meaning}
 use Rattle.ud_model.specs.conditions.Values.{constant_value, end_value, name_value, name_has_u}
 use Rattle.ud_model.specs.conditions.Values.{defined_value, apply_unary, apply_binary, number_of}
 use Rattle.ud_model.specs.conditions.Values.{has_unsigned}

@@ -1,6 +1,6 @@
 -- Keepings: what a program keeps of an expression while it reads it.
--- `ud_model.specs.aids.Parsing` defines what an expression means. A program keeps a part of its own
--- for each meaning, and may note a flag for each token.
+-- `ud_model.specs.conditions.Parsing` defines what an expression means. A program keeps a part of
+-- its own for each meaning, and may note a flag for each token.
 --
 --   Keeping A P N           the parts `P` and the notes `N` for the meanings `A`
 --   Noted K n fs            the notes, if there are any, are the flags `fs`
@@ -11,8 +11,8 @@
 --   ReadsOperator K m ps x n token ..   a token is read after an operand
 use Rattle.std.specs.Prelude.{◌≡◌, ℕ, ◌+◌, List, [], ◌∷◌, ◌++◌, length, Option, Some, None, IfSome}
 use Rattle.std.specs.Prelude.{Bool, true, false}
-use Rattle.ud_model.specs.aids.Parsing.{Meaning, Frame, left, before, paren, ParseState, needs, has}
-use Rattle.ud_model.specs.aids.Parsing.{reads, step}
+use Rattle.ud_model.specs.conditions.Parsing.{Meaning, Frame, left, before, paren, ParseState}
+use Rattle.ud_model.specs.conditions.Parsing.{needs, has, reads, step}
 use Rattle.ud_model.specs.conditions.Tokens.{Token}
 
 -- How a program keeps the meanings `A`: by parts `P`, and by notes `N` on the tokens so far.

@@ -1,7 +1,6 @@
 -- ResidualReading: the residual of an expression while it is read.
--- `ud_model.specs.conditions.Residuals` defines the residual of a tree, and
--- `ud_model.specs.conditions.ResidualTexts` the flags of its tokens. Both come from the parts, so
--- no tree is needed.
+-- `ud_model.specs.aids.Residuals` defines the residual of a tree, and the flags of its tokens. Both
+-- come from the parts, so no tree is needed.
 --
 --   Kept                         the value, the residual's condition and the flags of a part
 --   kept_meaning table rules     the record `Kept` of each part of an expression
@@ -17,9 +16,8 @@ use Rattle.ud_model.specs.conditions.Table.{Argument}
 use Rattle.ud_model.specs.conditions.Expressions.{Expression}
 use Rattle.ud_model.specs.conditions.Conditions.{Rules, negate}
 use Rattle.ud_model.specs.conditions.Values.{name_value, apply_unary, apply_binary, number_of}
-use Rattle.ud_model.specs.conditions.Residuals.{is_unit, settled, stands_alone, residual}
-use Rattle.ud_model.specs.conditions.ResidualTexts.{keeps}
-use Rattle.ud_model.specs.aids.Parsing.{Meaning, expression_of}
+use Rattle.ud_model.specs.aids.Residuals.{is_unit, settled, stands_alone, residual, keeps}
+use Rattle.ud_model.specs.conditions.Parsing.{Meaning, expression_of}
 use Rattle.ud_model.specs.declared.cond.Cond.{Cond}
 use Rattle.ud_model.specs.declared.operator.Operator.{Operator}
 use Rattle.ud_model.specs.declared.operator.Operator.TheVariants.{Or, And, Not}
@@ -28,9 +26,9 @@ use Rattle.ud_cond.specs.declared.expressions.parts.Part.{Part}
 use Rattle.ud_cond.specs.declared.expressions.residuals.Residuals.{Residuals}
 use Rattle.ud_cond.specs.CondViews.{as_rules}
 use Rattle.ud_cond.specs.expressions.Keepings.{Keeping}
-use Rattle.ud_cond.specs.expressions.Evaluation.{constant_value_of, name_value_of}
-use Rattle.ud_cond.specs.expressions.Evaluation.{defined_value_of, unary_value_of, binary_value_of}
-use Rattle.ud_cond.specs.expressions.Evaluation.{value_of_tree, cond_of_value}
+use Rattle.ud_cond.specs.expressions.Evaluation.{constant_value_of, name_value_of, defined_value_of}
+use Rattle.ud_cond.specs.expressions.Evaluation.{unary_value_of, binary_value_of, value_of_tree}
+use Rattle.ud_cond.specs.expressions.Evaluation.{cond_of_value}
 
 -- `is_joining o`: the operator is `&&` or `||`
 abbrev pub is_joining : Operator → Bool

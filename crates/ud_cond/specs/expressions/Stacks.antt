@@ -1,6 +1,6 @@
--- Stacks: what is pending in an expression, as two stacks.
--- `ud_model.specs.aids.Parsing` has one list of frames for what is pending, and defines what a text
--- means in the state with that list.
+-- Stacks: what is pending in an expression, as two stacks. `ud_model.specs.conditions.Parsing` has
+-- one list of frames for what is pending, and defines what a text means in the state with that
+-- list.
 --
 --   Suffice bytes operands   stacks of such sizes suffice for a text
 --   frames ws vs             what is pending, by the two stacks
@@ -11,7 +11,7 @@
 use Rattle.std.specs.Prelude.{ℕ, ◌<◌, ◌≤◌, ◌+◌, ◌*◌, Bool, true, false, List, [], ◌∷◌, Option, Some}
 use Rattle.std.specs.Prelude.{None}
 use Rattle.ud_model.specs.conditions.Expressions.{precedence}
-use Rattle.ud_model.specs.aids.Parsing.{Frame, left, before, paren}
+use Rattle.ud_model.specs.conditions.Parsing.{Frame, left, before, paren}
 use Rattle.ud_model.specs.declared.operator.Operator.{Operator}
 use Rattle.ud_model.specs.declared.limits.TheConstants.{LINE_BYTES}
 use Rattle.ud_cond.specs.declared.expressions.stacks.PendingOp.{PendingOp}

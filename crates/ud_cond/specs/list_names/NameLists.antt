@@ -8,7 +8,7 @@
 use Rattle.std.specs.Prelude.{ℕ, List, [], ◌∷◌, ◌++◌, Option, Some, None}
 use Rattle.std.specs.Option.{option_to_list}
 use Rattle.ud_model.specs.conditions.Tokens.{Token, name}
-use Rattle.ud_model.specs.aids.Parsing.{tokens_of}
+use Rattle.ud_model.specs.conditions.Parsing.{tokens_of}
 
 -- `name_in_token t`: the name that the token is, if any
 abbrev pub name_in_token : Token → Option (List ℕ)

@@ -1,7 +1,7 @@
 //! The evaluation of any expression, by a reader that keeps the value of each part.
 
 ghost use Rattle.std.specs.Prelude.{◌≡◌, ◌≤◌, [], length};
-ghost use Rattle.ud_model.specs.aids.Parsing as spec;
+ghost use Rattle.ud_model.specs.conditions.Parsing as spec;
 ghost use Rattle.ud_model.specs.declared.limits.TheConstants.{LINE_BYTES};
 ghost use Rattle.ud_cond.specs.expressions.Stacks.{Suffice};
 ghost use Rattle.ud_cond.specs.expressions.Evaluation.{value_meaning_in};

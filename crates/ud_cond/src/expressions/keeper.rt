@@ -1,10 +1,11 @@
 //! What a reader of expressions keeps of each part.
 
 ghost use Rattle.std.specs.Prelude.{◌≡◌, ◌≤◌, ◌<◌, ◌+◌, ◌++◌, ◌∷◌, [], List, Bool, true};
-ghost use Rattle.ud_model.specs.aids.Parsing.{Meaning};
+ghost use Rattle.ud_model.specs.conditions.Parsing.{Meaning};
 ghost use Rattle.ud_model.specs.declared.limits.TheConstants.{LINE_BYTES};
 ghost use Rattle.ud_cond.specs.expressions.Keepings as spec;
-ghost use Rattle.ud_cond.specs.expressions.Keepings.{Keeping, count, Appends, TakesOne, TakesTwo};
+ghost use Rattle.ud_cond.specs.expressions.Keepings.{Keeping, count, Appends, TakesOne};
+ghost use Rattle.ud_cond.specs.expressions.Keepings.{TakesTwo};
 
 use ud_model::Operator;
 
@@ -64,8 +65,8 @@ pub(crate) trait Keeper {
         second: Self::Part,
         notes: &mut Self::Notes,
     ) -> Self::Part
-        ensures kept { TakesTwo Self.keeping ((Self.meaning self.now).binary operator) first second
-            notes.old result notes.new }
+        ensures kept { TakesTwo Self.keeping ((Self.meaning self.now).binary operator) first
+            second notes.old result notes.new }
         ensures long { count Self.keeping notes.new ≤ count Self.keeping notes.old };
 
     /// Returns the part of parentheses around the last operand. The `)` has just come.

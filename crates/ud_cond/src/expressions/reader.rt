@@ -1,15 +1,16 @@
 //! The reader of any expression, token by token over two stacks of fixed size.
 //!
-//! No tree is built and no memory is taken. `ud_model.specs.aids.Parsing` defines what a text means
-//! in a state. A state is what is pending, on the stacks, and an operand, if one has come. The
-//! reader knows operands only through its keeper, and `specs.expressions.Keepings` defines which
-//! state it is in.
+//! No tree is built and no memory is taken. `ud_model.specs.conditions.Parsing` defines what a text
+//! means in a state. A state is what is pending, on the stacks, and an operand, if one has come.
+//! The reader knows operands only through its keeper, and `specs.expressions.Keepings` defines
+//! which state it is in.
 
-ghost use Rattle.std.specs.Prelude.{◌≡◌, ◌≤◌, ◌<◌, ◌+◌, List, [], length, option_map};
-ghost use Rattle.std.specs.Prelude.{None, IfSome, IfNone};
+ghost use Rattle.std.specs.Prelude.{◌≡◌, ◌≤◌, ◌<◌, ◌+◌, List, [], length, option_map, None, IfSome};
+ghost use Rattle.std.specs.Prelude.{IfNone};
 ghost use Rattle.ud_model.specs.conditions.Tokens.{next_token as token_of};
-ghost use Rattle.ud_model.specs.aids.Parsing as spec;
-ghost use Rattle.ud_model.specs.aids.Parsing.{Frame, ParseState, needs, has, step, stuck, reads};
+ghost use Rattle.ud_model.specs.conditions.Parsing as spec;
+ghost use Rattle.ud_model.specs.conditions.Parsing.{Frame, ParseState, needs, has, step, stuck};
+ghost use Rattle.ud_model.specs.conditions.Parsing.{reads};
 ghost use Rattle.ud_model.specs.declared.limits.TheConstants.{LINE_BYTES};
 ghost use Rattle.ud_cond.specs.CondViews.{as_token};
 ghost use Rattle.ud_cond.specs.expressions.DefinedOperands as asking;

@@ -9,9 +9,9 @@
 ghost use Rattle.std.specs.Prelude.{◌≡◌, ◌≤◌, ◌<◌, ◌+◌, ℕ, List, Bool, true, false, ◌&&◌, [], ◌∷◌};
 ghost use Rattle.std.specs.Prelude.{◌++◌, length, replicate, Some, None, IfSome, IfNone};
 ghost use Rattle.ud_model.specs.conditions.Table.{Argument};
-ghost use Rattle.ud_model.specs.conditions.Residuals as residuals;
-ghost use Rattle.ud_model.specs.aids.Parsing as parsing;
-ghost use Rattle.ud_model.specs.aids.Parsing.{reads, needs};
+ghost use Rattle.ud_model.specs.aids.Residuals as residuals;
+ghost use Rattle.ud_model.specs.conditions.Parsing as parsing;
+ghost use Rattle.ud_model.specs.conditions.Parsing.{reads, needs};
 ghost use Rattle.ud_model.specs.declared.limits.TheConstants.{LINE_BYTES};
 ghost use Rattle.ud_cond.specs.CondViews.{as_rules};
 ghost use Rattle.ud_cond.specs.symbols.SymbolTable.{TableRepresents};
@@ -19,9 +19,9 @@ ghost use Rattle.ud_cond.specs.expressions.Stacks.{Suffice};
 ghost use Rattle.ud_cond.specs.expressions.Evaluation.{binary_value_of};
 ghost use Rattle.ud_cond.specs.expressions.Keepings.{TakesTwo, IsMeant};
 ghost use Rattle.ud_cond.specs.expressions.ResidualReading as spec;
-ghost use Rattle.ud_cond.specs.expressions.ResidualReading.{kept_keeping};
-ghost use Rattle.ud_cond.specs.expressions.ResidualReading.{joined_kept, kept_meaning_of};
-ghost use Rattle.ud_cond.specs.expressions.ResidualReading.{KeepsWhole, lost_len, HasResidual};
+ghost use Rattle.ud_cond.specs.expressions.ResidualReading.{kept_keeping, joined_kept};
+ghost use Rattle.ud_cond.specs.expressions.ResidualReading.{kept_meaning_of, KeepsWhole, lost_len};
+ghost use Rattle.ud_cond.specs.expressions.ResidualReading.{HasResidual};
 
 use crate::conditions::{Rules, negate};
 use crate::expressions::keeper::Keeper;
@@ -85,13 +85,6 @@ fn settled(strict: bool, operator: Operator, a: Cond, b: Cond) -> Cond
     } else {
         Cond::Unknown
     }
-}
-
-/// Returns whether both are true.
-fn both(a: bool, b: bool) -> bool
-    ensures { result ≡ (a && b) }
-{
-    a && b
 }
 
 /// Keeps each token of a part, unless the whole part is kept already.
@@ -191,7 +184,7 @@ impl Residuals<'_> {
             cond: settled(self.rules.strict, operator, a.cond, b.cond),
             lost: false,
             left_alone: false,
-            whole: both(a.whole, b.whole),
+            whole: a.whole && b.whole,
             ..joined
         }
     }
@@ -280,7 +273,7 @@ impl Keeper for Residuals<'_> {
 
     fn parens(&self, a: Part, flags: &mut TokenFlags) -> Part {
         let first = a.first.saturating_sub(1);
-        let stay = !both(a.lost, a.left_alone);
+        let stay = !(a.lost && a.left_alone);
         let end = flags.len();
         flags.fill(first, a.first, stay);
         flags.push(stay);
@@ -288,7 +281,7 @@ impl Keeper for Residuals<'_> {
         Part {
             left_alone: true,
             alone: true,
-            whole: both(stay, a.whole),
+            whole: stay && a.whole,
             first,
             kept: kept_in_parens(stay, first, a.kept, end, longer),
             ..a

@@ -5,7 +5,7 @@
 //! many operands. Stacks for the longest line are costly to clear, so a short text gets short ones.
 
 ghost use Rattle.std.specs.Prelude.{◌≡◌, ◌≤◌, ◌+◌, ◌∷◌, [], IfSome, IfNone, IsTrue, false};
-ghost use Rattle.ud_model.specs.aids.Parsing.{left, before, paren};
+ghost use Rattle.ud_model.specs.conditions.Parsing.{left, before, paren};
 ghost use Rattle.ud_cond.specs.expressions.Stacks as spec;
 ghost use Rattle.ud_cond.specs.expressions.Stacks.{weight};
 
@@ -76,7 +76,7 @@ pub(crate) struct Stacks<T, const BYTES: usize, const OPERANDS: usize> {
 impl<T, const BYTES: usize, const OPERANDS: usize> Model for Stacks<T, BYTES, OPERANDS> {
     ghost use Rattle.std.specs.Prelude.{◌≤◌, List, reverse};
     ghost use Rattle.arrayvec.specs.ArrayVec.{array_vec_len};
-    ghost use Rattle.ud_model.specs.aids.Parsing.{Frame};
+    ghost use Rattle.ud_model.specs.conditions.Parsing.{Frame};
     ghost use Rattle.ud_cond.specs.expressions.Stacks.{frames, AreMatched, Suffice};
 
     ghost Value = { List (Frame T) };

@@ -3,7 +3,7 @@
 ghost use Rattle.std.specs.Prelude.{◌≡◌, List, ℕ, is_some, option_map, true, IfNone, IfSome, []};
 ghost use Rattle.std.specs.Prelude.{◌∷◌, Some, None};
 ghost use Rattle.std.specs.Iterator.{YieldsFirstRef, item_count};
-ghost use Rattle.ud_model.specs.aids.Parsing.{tokens_of};
+ghost use Rattle.ud_model.specs.conditions.Parsing.{tokens_of};
 ghost use Rattle.ud_cond.specs.list_names.NameLists.{name_in_token, names_in_text, names_remaining};
 ghost use Rattle.ud_cond.specs.CondViews.{as_token};
 
@@ -21,7 +21,7 @@ pub struct Names<'a> {
 
 impl<'a> Model for Names<'a> {
     ghost use Rattle.std.specs.Prelude.{◌≡◌, List, ℕ, is_some, option_map, true};
-    ghost use Rattle.ud_model.specs.aids.Parsing.{tokens_of};
+    ghost use Rattle.ud_model.specs.conditions.Parsing.{tokens_of};
     ghost use Rattle.ud_cond.specs.list_names.NameLists.{names_remaining};
 
     ghost Value = { List (List ℕ) };
@@ -33,7 +33,7 @@ impl<'a> Model for Names<'a> {
 
 impl<'a> Names<'a> {
     /// Returns an iterator over no names.
-    #[tactic(auto, unfolding(ud_model::specs::aids::Parsing::tokens_of, ud_model::specs::conditions::Tokens::next_token))]
+    #[tactic(auto, unfolding(ud_model::specs::conditions::Parsing::tokens_of, ud_model::specs::conditions::Tokens::next_token))]
     pub(crate) fn none() -> Names<'a>
         ensures { result ≡ [] }
     {
@@ -44,7 +44,7 @@ impl<'a> Names<'a> {
     }
 
     /// Returns an iterator over one name.
-    #[tactic(auto, unfolding(ud_model::specs::aids::Parsing::tokens_of, ud_model::specs::conditions::Tokens::next_token))]
+    #[tactic(auto, unfolding(ud_model::specs::conditions::Parsing::tokens_of, ud_model::specs::conditions::Tokens::next_token))]
     pub(crate) fn one(name: &'a [u8]) -> Names<'a>
         ensures { result ≡ name.now ∷ [] }
     {

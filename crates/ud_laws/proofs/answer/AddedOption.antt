@@ -10,7 +10,7 @@ use Rattle.ud_model.specs.text.Bytes.{hyphen, equals_sign, is_word_byte, are_wor
 use Rattle.ud_model.specs.conditions.Table.{Argument, Entry, entry_from, entry_in}
 use Rattle.ud_model.specs.answer.CommandLine.{ParsedArg, flag, option, operand, unknown, lacking, has_letter, is_flag, takes_argument, parsed_from, parsed_args, parse_symbol, symbol_named, mode_or, parse_exit_mode, mode_from, has_flag, settings_in, argument_in, options_of, argument_fault, first_fault, usage_fault, WordGives, then_gives, letters_give, option_gives, given_next}
 use Rattle.ud_model.specs.answer.SymbolArguments.{is_name, name_before_equals, value_after_equals, value_or_one}
-use Rattle.ud_model.specs.answer.OptionArguments.{AreOptions, no_options, whole_word, two_words, IsSymbolOption, defines, defines_as, undefines, AddsSymbol}
+use Rattle.ud_laws.specs.answer.OptionArguments.{AreOptions, no_options, whole_word, two_words, IsSymbolOption, defines, defines_as, undefines, AddsSymbol}
 use Rattle.ud_model.specs.declared.settings.ExitMode.{ExitMode}
 use Rattle.ud_model.proofs.answer.WordLemmas.{options_given}
 use Rattle.ud_laws.proofs.answer.SameArguments.{Same, given_same, flag_same, mode_same, table_same, both_none, none_of_both, no_fault_same}

@@ -5,8 +5,8 @@ use Rattle.ud_model.specs.conditions.Table.{Argument, Entry, entry_in}
 use Rattle.ud_model.specs.conditions.Symbols.{resolve}
 use Rattle.ud_model.specs.conditions.Expressions.{Expression, named, is_defined}
 use Rattle.ud_model.specs.conditions.Values.{truth, name_value_by, name_value, name_has_u, defined_value, has_unsigned}
-use Rattle.ud_model.specs.conditions.CValues.{Number, signed, IsInRange, typed, CValue, IsCValue}
-use Rattle.ud_model.specs.conditions.CValues as may
+use Rattle.ud_model.specs.laws.CValues.{Number, signed, IsInRange, typed, CValue, IsCValue}
+use Rattle.ud_model.specs.laws.CValues as may
 use Rattle.ud_laws.specs.conditions.Choices.{Choice, IsAllowed, HasValue, of_constant, of_name, of_defined, of_unary, of_binary, of_and_left, of_and_both, of_or_left, of_or_both, of_parens}
 
 -- A known number stays known.

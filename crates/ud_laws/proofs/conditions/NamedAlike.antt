@@ -7,7 +7,7 @@ use Rattle.ud_model.specs.sections.Directives.{Content}
 use Rattle.ud_model.specs.conditions.Table.{Argument, Entry, entry_in}
 use Rattle.ud_model.specs.conditions.Symbols.{defined_text, text_in, ResolvesTo, at_text, by_name, resolve}
 use Rattle.ud_model.specs.conditions.Expressions.{Expression, constant, named, is_defined, unary, binary, parens}
-use Rattle.ud_model.specs.aids.Parsing.{expression_of}
+use Rattle.ud_model.specs.conditions.Parsing.{expression_of}
 use Rattle.ud_model.specs.conditions.Values.{apply_unary, apply_binary, name_value, name_value_by, name_has_u, end_has_u, defined_value, defined_value_by, number_of, has_unsigned}
 use Rattle.ud_model.specs.conditions.Conditions.{Rules, mentions_listed, undefined_by, calls_undefined, tree_cond_if, expression_cond, decision_by_test, ifdef_by, ifdef_decision}
 use Rattle.ud_model.specs.conditions.Names.{names_in, names_in_tree, name_alone, names_by}

@@ -3,8 +3,7 @@ use Rattle.std.proofs.Common.{◌≡◌, Bool, true, false, not, ◌&&◌, List,
 use Rattle.ud_model.specs.conditions.Table.{Argument}
 use Rattle.ud_model.specs.conditions.Expressions.{Expression, unary, binary, parens}
 use Rattle.ud_model.specs.conditions.Conditions.{Rules}
-use Rattle.ud_model.specs.conditions.Residuals.{is_unit, is_unknown, stands_alone, residual}
-use Rattle.ud_model.specs.conditions.ResidualTexts.{joined_flags, keeps}
+use Rattle.ud_model.specs.aids.Residuals.{is_unit, is_unknown, stands_alone, residual, joined_flags, keeps}
 use Rattle.ud_laws.specs.output.LeftOperands.{HasNoUnit, IsReduced}
 use Rattle.ud_model.specs.declared.operator.Operator.TheVariants.{Or, And, Not}
 use Rattle.ud_laws.proofs.conditions.ResidualAgain.{AreTrue, fixed_true}

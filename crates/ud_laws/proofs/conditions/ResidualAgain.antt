@@ -4,12 +4,13 @@ use Rattle.ud_model.specs.text.Lexemes.{Cell, shown}
 use Rattle.ud_model.specs.conditions.Table.{Argument}
 use Rattle.ud_model.specs.conditions.Tokens.{NextToken, next_token}
 use Rattle.ud_model.specs.conditions.Expressions.{Expression, spelling}
-use Rattle.ud_model.specs.aids.Parsing.{expression_of}
+use Rattle.ud_model.specs.conditions.Parsing.{expression_of}
 use Rattle.ud_model.specs.conditions.Conditions.{Rules}
-use Rattle.ud_model.specs.conditions.ResidualTexts.{left_by, left_from, keeps, simplified_cells, chosen}
+use Rattle.ud_model.specs.aids.Residuals.{keeps, chosen}
+use Rattle.ud_simplified.specs.ResidualTexts.{left_by, left_from, simplified_cells}
 use Rattle.std.proofs.lemmas.List.{take-append-drop}
 use Rattle.ud_model.proofs.conditions.KeptTokens.{SameLength, choose, kept_are}
-use Rattle.ud_model.proofs.conditions.ResidualRead.{rest_of, same_or_left, untouched}
+use Rattle.ud_simplified.proofs.ResidualRead.{rest_of, same_or_left, untouched}
 use Rattle.ud_laws.proofs.conditions.ResidualOperands.{again}
 
 -- The text of a residual stays as it is.

@@ -3,12 +3,12 @@ use Rattle.std.proofs.Common.{◌≡◌, Bool, false, ◌&&◌, if◌then◌else
 use Rattle.ud_model.specs.conditions.Table.{Argument}
 use Rattle.ud_model.specs.conditions.Expressions.{Expression, unary, binary, parens}
 use Rattle.ud_model.specs.conditions.Conditions.{Rules, tree_cond}
-use Rattle.ud_model.specs.conditions.Residuals.{Residual, is_unit, is_unknown, settled, joined_if, joined, negated, stands_alone, enclosed, residual, operands, simplified, AreUndecided}
+use Rattle.ud_model.specs.aids.Residuals.{Residual, is_unit, is_unknown, settled, joined_if, joined, negated, stands_alone, enclosed, residual, operands, simplified, AreUndecided}
 use Rattle.ud_model.specs.declared.cond.Cond.TheVariants.{Unknown}
 use Rattle.ud_model.specs.declared.operator.Operator.{Operator}
 use Rattle.ud_model.specs.declared.operator.Operator.TheVariants.{Or, And, Not}
 use Rattle.ud_model.proofs.conditions.DecidedConditions.{negated_unknown}
-use Rattle.ud_model.proofs.conditions.ResidualShape.{left}
+use Rattle.ud_simplified.proofs.ResidualShape.{left}
 
 -- 4. A second time nothing more is removed.
 

@@ -7,13 +7,13 @@ use Rattle.ud_model.specs.conditions.Table.{Argument}
 use Rattle.ud_model.specs.conditions.Expressions.{Expression, constant, named, is_defined, unary, binary, parens}
 use Rattle.ud_model.specs.conditions.Conditions.{Rules, negate}
 use Rattle.ud_model.specs.conditions.Values.{truth}
-use Rattle.ud_model.specs.conditions.CValues.{Number, signed, IsTruth, IsZero}
-use Rattle.ud_model.specs.conditions.Residuals.{Residual, is_unit, settled, joined_if, joined, negated, alone, residual}
+use Rattle.ud_model.specs.laws.CValues.{Number, signed, IsTruth, IsZero}
+use Rattle.ud_model.specs.aids.Residuals.{Residual, is_unit, settled, joined_if, joined, negated, alone, residual}
 use Rattle.ud_laws.specs.conditions.Choices.{Choice, for_constant, for_name, for_defined, for_unary, for_binary, IsAllowed, HasValue, of_constant, of_name, of_defined, of_unary, of_binary, of_and_left, of_and_both, of_or_left, of_or_both, of_parens, one_or_both, bare_or_not, stay}
 use Rattle.ud_model.specs.declared.cond.Cond.{Cond}
 use Rattle.ud_model.specs.declared.cond.Cond.TheVariants.{Yes, No}
 use Rattle.ud_model.specs.declared.operator.Operator.TheVariants.{Or, And, Not}
-use Rattle.ud_model.specs.output.CSelection.{HasTruth}
+use Rattle.ud_laws.specs.output.CSelection.{HasTruth}
 use Rattle.ud_laws.proofs.conditions.ChoiceValues.{choice_may}
 use Rattle.ud_model.proofs.conditions.DecidedConditions.{yes_is_true, no_is_false}
 use Rattle.ud_laws.proofs.conditions.OneValue.{no_and, no_or}

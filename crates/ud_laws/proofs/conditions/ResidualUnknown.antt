@@ -3,11 +3,12 @@ use Rattle.std.proofs.Common.{◌≡◌, List, map, Bool, ◌&&◌, if◌then◌
 use Rattle.ud_model.specs.text.Lexemes.{Cell, shown}
 use Rattle.ud_model.specs.conditions.Table.{Argument}
 use Rattle.ud_model.specs.conditions.Expressions.{Expression}
-use Rattle.ud_model.specs.aids.Parsing.{expression_of}
+use Rattle.ud_model.specs.conditions.Parsing.{expression_of}
 use Rattle.ud_model.specs.conditions.Conditions.{Rules, tree_cond_if, expression_cond}
-use Rattle.ud_model.specs.conditions.ResidualTexts.{left_cells, keeps, may_go, is_read, simplified_by, simplified_cells}
+use Rattle.ud_model.specs.aids.Residuals.{keeps}
+use Rattle.ud_simplified.specs.ResidualTexts.{left_cells, may_go, is_read, simplified_by, simplified_cells}
 use Rattle.ud_model.specs.declared.cond.Cond.TheVariants.{Unknown}
-use Rattle.ud_model.proofs.conditions.ResidualRead.{written_left}
+use Rattle.ud_simplified.proofs.ResidualRead.{written_left}
 
 module _ (table : List Argument) (rules : Rules) where
   -- The simplified text is unknown.

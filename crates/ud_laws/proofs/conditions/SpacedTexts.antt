@@ -1,11 +1,11 @@
 -- A condition means the same with one space for all white space before each byte.
 use Rattle.std.proofs.Common.{◌≡◌, ℕ, List, [], ◌∷◌, ◌++◌, Bool, true, false, ◌&&◌, if◌then◌else◌, Option, refl, sym, ◌∙◌, ap, ap₂, subst, arith}
 use Rattle.ud_model.specs.text.Bytes.{space, is_white, skip_white, leading_word, skip_word, are_white}
-use Rattle.ud_model.specs.text.SpacedBytes.{spaced}
+use Rattle.ud_model.specs.aids.SpacedBytes.{spaced}
 use Rattle.ud_model.specs.conditions.Tokens.{Token}
 use Rattle.ud_model.specs.conditions.Conditions.{sole_name}
-use Rattle.ud_model.specs.aids.Parsing.{tokens_of, reads, parse_all_tokens, itself, needs, expression_of}
-use Rattle.ud_model.specs.output.CSelection.{condition_by_test}
+use Rattle.ud_model.specs.conditions.Parsing.{tokens_of, reads, parse_all_tokens, itself, needs, expression_of}
+use Rattle.ud_model.specs.laws.WrittenConditions.{condition_by_test}
 use Rattle.ud_model.specs.declared.kind.Test.{Test}
 use Rattle.ud_model.proofs.conditions.SpreadTexts.{begins_white, IsSpread, nothing, kept, behind, in_front, Spread, SameFront, no_front, front, skipped, SameWord, same_word, spread_tokens}
 

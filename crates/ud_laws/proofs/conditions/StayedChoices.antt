@@ -4,7 +4,7 @@ use Rattle.std.proofs.Common.{Bool, true, false, ◌&&◌, List, arith}
 use Rattle.ud_model.specs.conditions.Table.{Argument}
 use Rattle.ud_model.specs.conditions.Expressions.{Expression}
 use Rattle.ud_model.specs.conditions.Conditions.{Rules}
-use Rattle.ud_model.specs.conditions.Residuals.{Residual, stands_alone, residual}
+use Rattle.ud_model.specs.aids.Residuals.{Residual, stands_alone, residual}
 use Rattle.ud_laws.specs.conditions.Choices.{Choice, for_unary, for_binary, for_parens, IsAllowed, one_or_both, bare_or_not, stay}
 use Rattle.ud_model.specs.declared.cond.Cond.{Cond}
 use Rattle.ud_model.specs.declared.operator.Operator.{Operator}

@@ -4,10 +4,10 @@ use Rattle.ud_model.specs.conditions.Table.{Argument}
 use Rattle.ud_model.specs.conditions.Constants.{suffix_sign}
 use Rattle.ud_model.specs.conditions.Tokens.{next_token}
 use Rattle.ud_model.specs.conditions.Expressions.{Expression, constant, named, is_defined, unary, binary}
-use Rattle.ud_model.specs.aids.Parsing.{tokens_of, reads, expression_of}
+use Rattle.ud_model.specs.conditions.Parsing.{tokens_of, reads, expression_of}
 use Rattle.ud_model.specs.conditions.Symbols.{resolve}
 use Rattle.ud_model.specs.conditions.Values.{apply_binary_known, apply_unary_known, name_value, name_has_u, defined_value, number_of, value_of}
-use Rattle.ud_model.specs.conditions.CValues.{Number, Gives, IsConstantValue, signed, unsigned, number, plain, by_suffix, by_size, CValue, of_constant, of_known_name, of_known_defined, of_open_defined, of_unary, of_binary, of_and_both, of_or_both, IsCValue}
+use Rattle.ud_model.specs.laws.CValues.{Number, Gives, IsConstantValue, signed, unsigned, number, plain, by_suffix, by_size, CValue, of_constant, of_known_name, of_known_defined, of_open_defined, of_unary, of_binary, of_and_both, of_or_both, IsCValue}
 use Rattle.ud_model.specs.declared.operator.Operator.TheVariants.{Or, And, Equal, Less, Plus, Minus, Over, Remainder, Not, Complement}
 
 -- The argument that defines a name as a value, and the one that undefines it.

@@ -4,7 +4,7 @@ use Rattle.std.specs.List.{flat_map}
 use Rattle.ud_model.specs.text.Lines.{split_lines, line_at}
 use Rattle.ud_model.specs.text.Lexemes.{lexeme_at, lex_from, lex, kind_at_end}
 use Rattle.ud_model.specs.text.Scanning.{joins, scan_after_run, next_reading}
-use Rattle.ud_model.specs.output.FoldedTexts.{folded_text, restored_text, unnumbered, directive_line, other_lines, c_lines}
+use Rattle.ud_simplified.specs.FoldedTexts.{folded_text, restored_text, unnumbered, directive_line, other_lines, c_lines}
 use Rattle.ud_laws.specs.output.LogicalProcessing.{unknown_opener, line_items}
 use Rattle.ud_model.specs.sections.Tree.{if_line, text_line}
 use Rattle.ud_model.specs.declared.kind.Kind.TheVariants.{If}

@@ -1,7 +1,7 @@
 -- Examples: what a preprocessor does with two files, computed by the checker.
 use Rattle.std.proofs.Common.{◌≡◌, refl, ℕ, ◌==◌, ◌||◌, List, [], ◌∷◌, Bool, true, false}
 use Rattle.ud_model.specs.sections.Tree.{Nodes, nothing, text, section, conditional, first}
-use Rattle.ud_model.specs.output.Processing.{Preprocessor, Processes, no_nodes, takes_line, includes_file, selects_group, no_group, true_group, first_true, first_false}
+use Rattle.ud_laws.specs.output.Processing.{Preprocessor, Processes, no_nodes, takes_line, includes_file, selects_group, no_group, true_group, first_true, first_false}
 use Rattle.ud_model.specs.declared.cond.Cond.TheVariants.{Unknown}
 
 -- `has n s`: the line `n` was taken.

@@ -7,12 +7,12 @@ use Rattle.ud_model.specs.text.Scanning.{joins, scan_after_run}
 use Rattle.ud_model.specs.conditions.Table.{Argument}
 use Rattle.ud_model.specs.conditions.Constants.{suffix_sign}
 use Rattle.ud_model.specs.conditions.Tokens.{next_token}
-use Rattle.ud_model.specs.aids.Parsing.{tokens_of, reads, expression_of}
+use Rattle.ud_model.specs.conditions.Parsing.{tokens_of, reads, expression_of}
 use Rattle.ud_model.specs.conditions.Symbols.{resolve}
 use Rattle.ud_model.specs.conditions.Values.{name_value, name_has_u, defined_value, apply_binary_known, apply_unary_known}
 use Rattle.ud_model.specs.conditions.Conditions.{Rules}
-use Rattle.ud_model.specs.conditions.ResidualTexts.{simplified_cells}
-use Rattle.ud_model.specs.output.SimplifiedTexts.{simplified_text}
+use Rattle.ud_simplified.specs.ResidualTexts.{simplified_cells}
+use Rattle.ud_simplified.specs.SimplifiedTexts.{simplified_text}
 use Rattle.ud_laws.proofs.examples.CValueExamples.{sets, undefines}
 
 abbrev symbols : List Argument

@@ -6,14 +6,15 @@ use Rattle.ud_model.specs.text.Scans.{Reading, plain_scan}
 use Rattle.ud_model.specs.conditions.Table.{Argument}
 use Rattle.ud_model.specs.conditions.Tokens.{next_token}
 use Rattle.ud_model.specs.conditions.Expressions.{named, is_defined, binary, unary}
-use Rattle.ud_model.specs.aids.Parsing.{tokens_of, reads, expression_of}
+use Rattle.ud_model.specs.conditions.Parsing.{tokens_of, reads, expression_of}
 use Rattle.ud_model.specs.conditions.Symbols.{resolve}
 use Rattle.ud_model.specs.conditions.Constants.{suffix_sign}
 use Rattle.ud_model.specs.conditions.Values.{name_value, name_has_u, apply_binary_known}
-use Rattle.ud_model.specs.conditions.CValues.{signed, of_and_left, of_open_name, of_known_name}
+use Rattle.ud_model.specs.laws.CValues.{signed, of_and_left, of_open_name, of_known_name}
 use Rattle.ud_model.specs.sections.Tree.{Nodes, Opener, nothing, text, section, conditional, otherwise, first, elif}
-use Rattle.ud_model.specs.output.Worlds.{World, selected, Agrees}
-use Rattle.ud_model.specs.output.CSelection.{condition_in, MayBe, IsCWorld}
+use Rattle.ud_model.specs.laws.Worlds.{World, selected, Agrees}
+use Rattle.ud_laws.specs.output.CSelection.{MayBe, IsCWorld}
+use Rattle.ud_model.specs.laws.WrittenConditions.{condition_in}
 use Rattle.ud_laws.specs.output.GoneSymbols.{names_in_conditions}
 use Rattle.ud_laws.specs.output.ListedNames.{IsNoValue}
 use Rattle.ud_model.specs.declared.cond.Cond.{Cond}

@@ -5,10 +5,11 @@ use Rattle.ud_model.specs.text.Scans.{Reading}
 use Rattle.ud_model.specs.sections.Tree.{Nodes, closed}
 use Rattle.ud_model.specs.sections.Faults.{Fault}
 use Rattle.ud_model.specs.answer.CommandLine.{options_of}
-use Rattle.ud_model.specs.answer.Answer.{Answer, IsAnswer, refused, ran, status_by, status_of, copy_answer}
-use Rattle.ud_model.specs.output.Worlds.{World, selected}
-use Rattle.ud_model.specs.output.Rereading.{IsPlain, IsTreeOf, LinesFit, line_bytes, KeepsTruths}
-use Rattle.ud_model.specs.output.CSelection.{IsCWorld}
+use Rattle.ud_model.specs.answer.Answer.{Answer, IsAnswer, refused, ran, status_by, status_of}
+use Rattle.ud_laws.specs.answer.Successes.{copy_answer}
+use Rattle.ud_model.specs.laws.Worlds.{World, selected}
+use Rattle.ud_model.specs.laws.Rereading.{IsPlain, IsTreeOf, LinesFit, line_bytes, KeepsTruths}
+use Rattle.ud_laws.specs.output.CSelection.{IsCWorld}
 use Rattle.ud_model.specs.declared.settings.Settings.{Settings}
 use Rattle.ud_model.specs.declared.settings.Listing.TheVariants.{Off}
 use Rattle.ud_model.proofs.output.Changed.{changed}

@@ -3,11 +3,12 @@ use Rattle.std.proofs.Common.{◌≡◌, ℕ, List, Bool, true, false, Option, S
 use Rattle.ud_model.specs.text.Scans.{Reading}
 use Rattle.ud_model.specs.conditions.Table.{Argument, Entry, entry_in}
 use Rattle.ud_model.specs.conditions.Expressions.{Expression, is_defined, unary}
-use Rattle.ud_model.specs.aids.Parsing.{expression_of}
+use Rattle.ud_model.specs.conditions.Parsing.{expression_of}
 use Rattle.ud_model.specs.conditions.Values.{truth, is_zero, apply_unary_known, apply_unary, defined_value, defined_value_by, value_of}
 use Rattle.ud_model.specs.conditions.Conditions.{Rules, ifdef_by, ifdef_decision, negate, tree_cond_if, expression_cond, decision_by_test}
-use Rattle.ud_model.specs.conditions.CValues.{Number, number}
-use Rattle.ud_model.specs.output.CSelection.{condition_by_test, condition_in, HasTruth, MayBe}
+use Rattle.ud_model.specs.laws.CValues.{Number, number}
+use Rattle.ud_laws.specs.output.CSelection.{HasTruth, MayBe}
+use Rattle.ud_model.specs.laws.WrittenConditions.{condition_by_test, condition_in}
 use Rattle.ud_model.specs.sections.Tree.{Item, if_line, elif_line}
 use Rattle.ud_model.specs.sections.Items.{Options, item_of}
 use Rattle.ud_model.specs.declared.cond.Cond.{Cond}

@@ -8,13 +8,14 @@ use Rattle.ud_model.specs.declared.cond.Cond.{Cond}
 use Rattle.ud_model.specs.declared.cond.Cond.TheVariants.{Yes}
 use Rattle.ud_model.specs.declared.verdict.Verdict.{Verdict}
 use Rattle.ud_model.specs.declared.verdict.Verdict.TheVariants.{Keep}
-use Rattle.ud_model.specs.sections.Tree.{Item, Opener, Nodes, Groups, Elifs, text_line, if_line, elif_line, else_line, endif_line, nothing, section, conditional, otherwise, first, elif, lines_of_nodes, lines_of_groups, lines_of_elifs}
+use Rattle.ud_model.specs.sections.Tree.{Opener, Nodes, Groups, Elifs, text_line, if_line, elif_line, else_line, endif_line, nothing, section, conditional, otherwise, first, elif, lines_of_nodes, lines_of_groups, lines_of_elifs}
 use Rattle.ud_model.specs.sections.Tree as tree
 use Rattle.ud_model.specs.sections.Pruning.{marked, any_true, is_kept, an_if, an_elif, an_else, conds_of_elifs, conds_of_groups, endif_verdict}
 use Rattle.ud_model.specs.aids.SoFar.{verdict_so_far, nodes_so_far, groups_so_far, elifs_so_far}
 use Rattle.ud_model.specs.sections.Items.{Options}
-use Rattle.ud_model.specs.output.CSelection.{condition_in, MayBe}
-use Rattle.ud_model.specs.output.Processing.{Condition, condition_with, condition_on, expression_written, Preprocessor, over_readings, DecidesAsC, AgreesAs, NoneTrue, first_false, elif_false}
+use Rattle.ud_laws.specs.output.CSelection.{MayBe}
+use Rattle.ud_model.specs.laws.WrittenConditions.{condition_in, Condition, condition_with, condition_on}
+use Rattle.ud_laws.specs.output.Processing.{expression_written, Preprocessor, over_readings, DecidesAsC, AgreesAs, NoneTrue, first_false, elif_false}
 use Rattle.ud_laws.proofs.conditions.SpacedTexts.{condition_spaced}
 use Rattle.ud_model.proofs.output.Each.{Pairwise, pairwise_parts}
 use Rattle.ud_laws.proofs.output.CConditions.{item_fits}

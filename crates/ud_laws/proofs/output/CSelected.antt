@@ -13,8 +13,9 @@ use Rattle.ud_model.specs.sections.Pruning.{Mark, marked, any_true, is_kept, an_
 use Rattle.ud_model.specs.aids.SoFar.{verdict_so_far, nodes_so_far, groups_so_far, elifs_so_far}
 use Rattle.ud_model.specs.sections.Items.{Options, reading_of, item_of, mode_after, read_after, next_item}
 use Rattle.ud_model.specs.sections.Faults.{AreFaultless, no_lines, one_more, ends_removed, is_obfuscated_after, is_directive, keeps_rest}
-use Rattle.ud_model.specs.output.Worlds.{World, or_else, where_true, selected, selected_elifs, EachReached, GroupsReached, ElifsReached, AgreesWith, Agrees}
-use Rattle.ud_model.specs.output.CSelection.{condition_in, MayBe, IsCWorld}
+use Rattle.ud_model.specs.laws.Worlds.{World, or_else, where_true, selected, selected_elifs, EachReached, GroupsReached, ElifsReached, AgreesWith, Agrees}
+use Rattle.ud_laws.specs.output.CSelection.{MayBe, IsCWorld}
+use Rattle.ud_model.specs.laws.WrittenConditions.{condition_in}
 use Rattle.ud_model.specs.declared.verdict.Verdict.{Verdict}
 use Rattle.ud_model.specs.declared.verdict.Verdict.TheVariants.{Keep}
 use Rattle.ud_model.proofs.output.Each.{Pairwise, pairwise_both, pairwise_parts}

@@ -13,9 +13,9 @@ use Rattle.ud_model.specs.sections.Pruning.{Mark, marks, is_removed}
 use Rattle.ud_model.specs.sections.Items.{Options, reading_of, line_of, item_of, read_after}
 use Rattle.ud_model.specs.sections.Faults.{NoneHolds, cases, ends_removed}
 use Rattle.ud_model.specs.answer.Printing.{Judged, piece_by, pieces_by, last_removed, judged_line, judged_lines, keyword_in, number_line, ending_or_newline}
-use Rattle.ud_model.specs.output.Pruned.{Edited, kept_line, printed}
-use Rattle.ud_model.specs.output.Rereading.{line_bytes, edited_bytes}
-use Rattle.ud_model.specs.output.InsertedLines.{IsPrinted, Counted, no_line, goes, blanked, counts_on, starts_anew}
+use Rattle.ud_model.specs.laws.Pruned.{Edited, kept_line, printed}
+use Rattle.ud_model.specs.laws.Rereading.{line_bytes, edited_bytes}
+use Rattle.ud_laws.specs.output.InsertedLines.{IsPrinted, Counted, no_line, goes, blanked, counts_on, starts_anew}
 use Rattle.ud_model.specs.declared.kind.Mode.{Mode}
 use Rattle.ud_model.specs.declared.kind.Mode.TheVariants.{C, Plain}
 use Rattle.ud_model.specs.declared.verdict.Verdict.{Verdict}

@@ -9,10 +9,12 @@ use Rattle.ud_model.specs.sections.Pruning.{marks}
 use Rattle.ud_model.specs.sections.Items.{Options, reading_of, line_of, item_of, read_after, next_item}
 use Rattle.ud_model.specs.sections.Faults.{Fault, AreFaultless, no_lines, one_more, NoneHolds, cases}
 use Rattle.ud_model.specs.answer.Printing.{Judged, judged_lines}
-use Rattle.ud_model.specs.answer.Outcomes.{Outcome, ReadsAs, JudgedAs, judged_as, HasOutcome, ran_as}
-use Rattle.ud_model.specs.output.Pruned.{printed}
-use Rattle.ud_model.specs.output.Rereading.{IsPlain}
-use Rattle.ud_model.specs.output.InsertedLines.{with_blank_renumber, AddsNumbers, read_in, read_as, Counted, CountsLines}
+use Rattle.ud_model.specs.answer.Outcomes.{Outcome, ReadsAs, HasOutcome, ran_as}
+use Rattle.ud_laws.specs.answer.Successes.{JudgedAs, judged_as}
+use Rattle.ud_model.specs.laws.Pruned.{printed}
+use Rattle.ud_model.specs.laws.Rereading.{IsPlain}
+use Rattle.ud_laws.specs.output.InsertedLines.{with_blank_renumber, AddsNumbers, Counted, CountsLines}
+use Rattle.ud_model.specs.aids.ReadAs.{read_in, read_as}
 use Rattle.ud_model.specs.declared.limits.TheConstants.{TEXT_LINES}
 use Rattle.ud_model.specs.declared.kind.Mode.{Mode}
 use Rattle.ud_model.proofs.text.ScanLaws.{readings_after-append}

@@ -7,7 +7,7 @@ use Rattle.std.proofs.Math.Bool.{or-true}
 use Rattle.ud_model.specs.sections.Items.{Options}
 use Rattle.ud_model.specs.answer.CommandLine.{ParsedArg, flag, parsed_from, parsed_args, has_flag, listing_by, settings_in, argument_in, options_of, first_fault, usage_fault, operand_in, name_or_stdin, display_name}
 use Rattle.ud_laws.specs.output.ListedNames.{with_listing}
-use Rattle.ud_model.specs.output.InsertedLines.{with_blank_renumber, KeepsNumbers}
+use Rattle.ud_laws.specs.output.InsertedLines.{with_blank_renumber, KeepsNumbers}
 use Rattle.ud_laws.specs.output.SharedLines.{with_complement}
 use Rattle.ud_laws.specs.output.StrictLines.{under_strict}
 use Rattle.ud_model.specs.declared.settings.Listing.{Listing}

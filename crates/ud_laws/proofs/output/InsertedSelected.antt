@@ -2,7 +2,7 @@
 use Rattle.std.proofs.Common.{◌≡◌, ℕ, suc, List, [], ◌∷◌, ◌++◌, length, map, Bool, Option, Some, None, refl, ap, ap₂, subst, append-nil, length-append, arith}
 use Rattle.ud_model.specs.text.Scans.{Reading}
 use Rattle.ud_model.specs.sections.Tree.{Nodes, Groups, Elifs}
-use Rattle.ud_model.specs.output.Worlds.{World, selected, selected_groups, selected_elifs, or_else, lines_or, where_true, openers, openers_of_groups, openers_of_elifs}
+use Rattle.ud_model.specs.laws.Worlds.{World, selected, selected_groups, selected_elifs, or_else, lines_or, where_true, openers, openers_of_groups, openers_of_elifs}
 use Rattle.ud_laws.specs.output.InsertedNodes.{NodesWithInserted, no_nodes, same_text, inserted_text, same_section, GroupsWithInserted, all_conditional, last_otherwise, ElifsWithInserted, same_first, same_elif, LinesWithInserted, no_lines, same_line, inserted_line}
 
 lines_both : {xs bs cs ds : List Reading} → LinesWithInserted xs bs → LinesWithInserted cs ds → LinesWithInserted (xs ++ cs) (bs ++ ds)

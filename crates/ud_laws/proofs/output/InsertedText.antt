@@ -7,8 +7,9 @@ use Rattle.ud_model.specs.text.Scans.{Reading}
 use Rattle.ud_model.specs.sections.Tree.{Item, Nodes, Tree, closed, lines_of_nodes}
 use Rattle.ud_model.specs.sections.Items.{Options, reading_of, line_of, item_of, mode_after, read_after, next_item}
 use Rattle.ud_model.specs.answer.Outcomes.{Outcome, HasOutcome}
-use Rattle.ud_model.specs.output.Rereading.{NoneIgnores, IsPlain, IsTreeOf, AreRead, no_items, one_item}
-use Rattle.ud_model.specs.output.InsertedLines.{with_blank_renumber, read_in, read_as}
+use Rattle.ud_model.specs.laws.Rereading.{NoneIgnores, IsPlain, IsTreeOf, AreRead, no_items, one_item}
+use Rattle.ud_laws.specs.output.InsertedLines.{with_blank_renumber}
+use Rattle.ud_model.specs.aids.ReadAs.{read_in, read_as}
 use Rattle.ud_laws.specs.output.InsertedNodes.{NodesWithInserted}
 use Rattle.ud_model.specs.declared.kind.Mode.{Mode}
 use Rattle.ud_model.proofs.text.Pushes.{ByPush, none, push, by_push}

@@ -13,7 +13,7 @@ use Rattle.ud_model.specs.sections.Pruning.{Mark}
 use Rattle.ud_model.specs.sections.Items.{Options, reading_of, line_of, item_of, read_after}
 use Rattle.ud_model.specs.sections.Faults.{ends_removed}
 use Rattle.ud_model.specs.answer.Printing.{Judged, Style, piece_by, piece_after, last_removed, judged_lines}
-use Rattle.ud_model.specs.output.InsertedLines.{IsLone}
+use Rattle.ud_laws.specs.output.InsertedLines.{IsLone}
 use Rattle.ud_model.specs.declared.kind.Mode.{Mode}
 use Rattle.ud_model.specs.declared.kind.Mode.TheVariants.{C, Plain}
 use Rattle.ud_model.specs.declared.verdict.Verdict.{Verdict}

@@ -14,19 +14,18 @@ use Rattle.ud_model.specs.sections.Faults.{Fault, AreFaultless, no_lines, one_mo
 use Rattle.ud_model.specs.answer.Listing.{names_in_content, names_at, listed_names, listed, levels}
 use Rattle.ud_model.specs.answer.Outcomes.{Outcome, output_by, FirstFaultAt, ReadsAs, HasOutcome, ran_as}
 use Rattle.ud_model.specs.answer.Outcomes.ReadsAs.{stops, ends}
-use Rattle.ud_model.specs.output.Rereading.{NoneIgnores}
+use Rattle.ud_model.specs.laws.Rereading.{NoneIgnores}
 use Rattle.ud_laws.specs.output.ListedNames.{with_listing, listing_settings, IsListed, LeadsTo, itself, by_value, IsNoValue, AgreeOnListed}
 use Rattle.ud_model.specs.declared.settings.Settings.{Settings}
 use Rattle.ud_model.specs.declared.kind.Mode.{Mode}
 use Rattle.ud_model.proofs.text.LinesLemmas.{split_lines-append-line}
-use Rattle.ud_model.proofs.text.ScanLaws.{readings_after-append, readings_after-prefix}
+use Rattle.ud_model.proofs.text.ScanLaws.{readings_after-append, readings_after-prefix, read_more}
 use Rattle.ud_laws.proofs.conditions.NamedAlike.{Alike, item_alike}
 use Rattle.ud_model.proofs.sections.Soundness.{reading_of-item_of, sound_lines, lines_with_next, one_run}
 use Rattle.ud_model.proofs.answer.LevelLemmas.{length_levels}
-use Rattle.ud_model.specs.output.InsertedLines.{in_mode, read_in}
+use Rattle.ud_model.specs.aids.ReadAs.{in_mode, read_in}
 use Rattle.ud_model.proofs.output.Each.{Each, each_parts}
 use Rattle.ud_model.proofs.output.Heeding.{the_mode, one_mode, sound_heed}
-use Rattle.ud_model.proofs.text.ScanLaws.{read_more}
 
 -- 1. Items with the same names.
 

@@ -7,8 +7,8 @@ use Rattle.ud_model.specs.sections.Items.{Options, reading_of, line_of}
 use Rattle.ud_model.specs.answer.CommandLine.{options_of}
 use Rattle.ud_model.specs.answer.Outcomes.{Outcome, HasOutcome}
 use Rattle.ud_model.specs.answer.Answer.{Answer, IsAnswer, refused, ran}
-use Rattle.ud_model.specs.output.Pruned.{Edited, pruned_lines}
-use Rattle.ud_model.specs.output.Rereading.{CleanRun, IsPlain, IsTreeOf, line_bytes, edited_bytes}
+use Rattle.ud_model.specs.laws.Pruned.{Edited, pruned_lines}
+use Rattle.ud_model.specs.laws.Rereading.{CleanRun, IsPlain, IsTreeOf, line_bytes, edited_bytes}
 use Rattle.ud_laws.specs.output.LiveLines.{text_lines_in, AreLive, LeavesLive, SelectsLive}
 use Rattle.ud_model.proofs.sections.Soundness.{read_lines}
 use Rattle.ud_model.proofs.output.Folded.{folded}

@@ -6,8 +6,8 @@ use Rattle.ud_model.specs.declared.cond.Cond.TheVariants.{Yes, Unknown}
 use Rattle.ud_model.specs.declared.verdict.Verdict.{Verdict}
 use Rattle.ud_model.specs.sections.Tree.{Item, Opener, Nodes, Groups, Elifs, if_line, elif_line, nothing, text, section, conditional, otherwise, first, elif, lines_of_nodes}
 use Rattle.ud_model.specs.sections.Pruning.{Mark}
-use Rattle.ud_model.specs.output.Worlds.{World, AgreesWith, EachReached, GroupsReached, ElifsReached, openers_in}
-use Rattle.ud_model.specs.output.Pruned.{Edited, kept_line, printed, IsUndecided, IsUnknown, Any, EachLine, GroupLines, ElifLines}
+use Rattle.ud_model.specs.laws.Worlds.{World, AgreesWith, EachReached, GroupsReached, ElifsReached, openers_in}
+use Rattle.ud_model.specs.laws.Pruned.{Edited, kept_line, printed, IsUndecided, IsUnknown, Any, EachLine, GroupLines, ElifLines}
 use Rattle.ud_model.proofs.output.EachLines.{IsOf, to_items, from_items}
 use Rattle.ud_laws.specs.output.LiveLines.{text_line_of, text_lines_in}
 use Rattle.ud_model.proofs.output.Each.{Each}

@@ -4,13 +4,13 @@ use Rattle.ud_model.specs.text.Lexemes.{Cell, shown}
 use Rattle.ud_model.specs.conditions.Table.{Argument}
 use Rattle.ud_model.specs.conditions.Expressions.{Expression, constant, named, is_defined, unary, binary, parens}
 use Rattle.ud_model.specs.conditions.Conditions.{Rules}
-use Rattle.ud_model.specs.conditions.CValues.{Number}
-use Rattle.ud_model.specs.conditions.Residuals.{Residual, is_unit, settled, joined_if, stands_alone, residual}
-use Rattle.ud_model.specs.conditions.ResidualTexts.{simplified_cells}
+use Rattle.ud_model.specs.laws.CValues.{Number}
+use Rattle.ud_model.specs.aids.Residuals.{Residual, is_unit, settled, joined_if, stands_alone, residual}
+use Rattle.ud_simplified.specs.ResidualTexts.{simplified_cells}
 use Rattle.ud_laws.specs.conditions.Choices.{Choice, for_unary, IsAllowed, HasValue, one_or_both, bare_or_not, stay}
-use Rattle.ud_model.specs.aids.Parsing.{expression_of}
-use Rattle.ud_model.specs.output.CSelection.{HasTruth, MayBe}
-use Rattle.ud_model.specs.output.Processing.{expression_written, DecidesAsC}
+use Rattle.ud_model.specs.conditions.Parsing.{expression_of}
+use Rattle.ud_laws.specs.output.CSelection.{HasTruth, MayBe}
+use Rattle.ud_laws.specs.output.Processing.{expression_written, DecidesAsC}
 use Rattle.ud_laws.specs.output.DecidedByNumbers.{if_condition, numbers_by, AreTrue, HasTruthBy, decides_by, IsByNumbers, KeepsNumbers}
 use Rattle.ud_model.specs.declared.cond.Cond.{Cond}
 use Rattle.ud_model.specs.declared.operator.Operator.{Operator}
@@ -18,7 +18,7 @@ use Rattle.ud_model.specs.declared.operator.Operator.TheVariants.{Or, And, Not}
 use Rattle.ud_laws.proofs.conditions.ChoiceValues.{choice_may}
 use Rattle.ud_laws.proofs.conditions.OneValue.{one_value}
 use Rattle.ud_laws.proofs.conditions.ResidualTruth.{Tells, tells, truth_kept}
-use Rattle.ud_model.proofs.conditions.ResidualRead.{same_or_left}
+use Rattle.ud_simplified.proofs.ResidualRead.{same_or_left}
 use Rattle.ud_laws.proofs.conditions.SpacedTexts.{expression_spaced}
 
 -- 1. The numbers that stay are those of the names.

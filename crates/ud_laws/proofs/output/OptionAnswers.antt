@@ -4,17 +4,18 @@ use Rattle.std.proofs.lemmas.Option.{none-some}
 use Rattle.ud_model.specs.text.Lines.{Line, lines_of, partial_line}
 use Rattle.ud_model.specs.sections.Items.{Options, mode_by}
 use Rattle.ud_model.specs.answer.CommandLine.{has_flag, parsed_args, usage_fault, options_of}
-use Rattle.ud_model.specs.answer.OptionArguments.{AddsSymbol, AddsOption, added}
-use Rattle.ud_model.specs.answer.Answer.{Answer, IsAnswer, Succeeds, refused, ran, message_or_none}
+use Rattle.ud_laws.specs.answer.OptionArguments.{AddsSymbol, AddsOption, added}
+use Rattle.ud_model.specs.answer.Answer.{Answer, IsAnswer, refused, ran, message_or_none}
+use Rattle.ud_laws.specs.answer.Successes.{Succeeds, JudgedAs}
 use Rattle.ud_model.specs.answer.Printing.{Judged}
-use Rattle.ud_model.specs.answer.Outcomes.{Outcome, HasOutcome, JudgedAs}
-use Rattle.ud_model.specs.output.Rereading.{IsPlain}
-use Rattle.ud_model.specs.output.Worlds.{selected}
+use Rattle.ud_model.specs.answer.Outcomes.{Outcome, HasOutcome}
+use Rattle.ud_model.specs.laws.Rereading.{IsPlain}
+use Rattle.ud_model.specs.laws.Worlds.{selected}
 use Rattle.ud_laws.specs.output.ListedNames.{IsListed, IsNoValue, NeverCounts}
 use Rattle.ud_laws.specs.output.BlankedLines.{Blanks, AreBlankedBy}
 use Rattle.ud_laws.specs.output.SharedLines.{OnlyDecides, RunsWithComplement, ShareLines}
 use Rattle.ud_laws.specs.output.StrictLines.{KeepAsMuch, pieces_of}
-use Rattle.ud_model.specs.output.InsertedLines.{KeepsNumbers, AddsNumbers, AnswersNumbered, CountsLines}
+use Rattle.ud_laws.specs.output.InsertedLines.{KeepsNumbers, AddsNumbers, AnswersNumbered, CountsLines}
 use Rattle.ud_laws.specs.output.PresumedLines.{HasNoLineDirective, NumbersAsInput, NumbersSelected}
 use Rattle.ud_laws.specs.output.InsertedNodes.{StillSelects}
 use Rattle.ud_model.specs.declared.settings.Listing.TheVariants.{Off}

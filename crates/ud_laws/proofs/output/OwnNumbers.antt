@@ -4,7 +4,7 @@ use Rattle.std.proofs.lemmas.List.{map-append, length-map}
 use Rattle.ud_model.specs.text.Lines.{Line, lines_of, texts_of}
 use Rattle.ud_model.specs.text.Scans.{Reading}
 use Rattle.ud_model.specs.text.Scanning.{next_reading, readings_after}
-use Rattle.ud_model.specs.output.InsertedLines.{in_mode, read_as}
+use Rattle.ud_model.specs.aids.ReadAs.{in_mode, read_as}
 use Rattle.ud_laws.specs.output.PresumedLines.{line_operand, HaveNoLineDirective, Presumed, Presumes, HasOwnNumber, HaveOwnNumbers}
 use Rattle.ud_model.specs.declared.kind.Mode.{Mode}
 use Rattle.ud_model.proofs.text.Pushes.{ByPush, none, push, by_push, push_not_nil}

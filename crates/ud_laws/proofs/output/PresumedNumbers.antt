@@ -5,7 +5,7 @@ use Rattle.std.proofs.lemmas.List.{same_from_push}
 use Rattle.ud_model.specs.text.Bytes.{is_white, skip_white}
 use Rattle.ud_model.specs.text.Scans.{Scan, Reading, plain_scan}
 use Rattle.ud_model.specs.answer.Printing.{Judged}
-use Rattle.ud_model.specs.output.InsertedLines.{IsLone, IsBlankLine, IsNumberLine, IsPrinted, Counted, no_line, goes, blanked, counts_on, starts_anew}
+use Rattle.ud_laws.specs.output.InsertedLines.{IsLone, IsBlankLine, IsNumberLine, IsPrinted, Counted, no_line, goes, blanked, counts_on, starts_anew}
 use Rattle.ud_laws.specs.output.InsertedNodes.{IsInserted}
 use Rattle.ud_laws.specs.output.PresumedLines.{line_operand, HaveNoLineDirective, GivesNumber, Presumed, Presumes, no_lines, passes, processes, obeys, IsLineFor, HasInputNumber, HaveInputNumbers}
 use Rattle.ud_model.proofs.text.Pushes.{push_not_nil}

@@ -4,9 +4,9 @@ use Rattle.std.proofs.lemmas.List.{map-append}
 use Rattle.ud_model.specs.text.Scans.{Reading}
 use Rattle.ud_model.specs.sections.Tree.{Item, Nodes, Groups, Elifs, nothing, text, section, conditional, otherwise, first, elif, closed, text_line, elif_line, else_line, endif_line, lines_of_nodes, lines_of_groups, lines_of_elifs}
 use Rattle.ud_model.specs.sections.Items.{Options, reading_of, mode_by}
-use Rattle.ud_model.specs.output.Rereading.{IsPlain, IsTreeOf}
-use Rattle.ud_model.specs.output.Worlds.{World, or_else, lines_or, where_true, selected, selected_groups, selected_elifs}
-use Rattle.ud_model.specs.output.InsertedLines.{read_as}
+use Rattle.ud_model.specs.laws.Rereading.{IsPlain, IsTreeOf}
+use Rattle.ud_model.specs.laws.Worlds.{World, or_else, lines_or, where_true, selected, selected_groups, selected_elifs}
+use Rattle.ud_model.specs.aids.ReadAs.{read_as}
 use Rattle.ud_laws.specs.output.PresumedLines.{Presumed, Presumes, no_lines, passes, processes, obeys, ArePresumed}
 use Rattle.ud_model.proofs.output.Each.{Each, each_parts}
 use Rattle.ud_laws.proofs.output.ListComplete.{each_unmap}

@@ -7,9 +7,10 @@ use Rattle.ud_model.specs.text.Scans.{Scan, Reading}
 use Rattle.ud_model.specs.declared.verdict.Verdict.{Verdict}
 use Rattle.ud_model.specs.declared.verdict.Verdict.TheVariants.{Keep}
 use Rattle.ud_model.specs.sections.Tree.{Opener, Nodes, Groups, Elifs, nothing, text, section, conditional, otherwise, first, elif, opener_with_line, with_lines, groups_with_lines, elifs_with_lines}
-use Rattle.ud_model.specs.output.Pruned.{Edited, edited, EachLine, GroupLines, ElifLines}
-use Rattle.ud_model.specs.output.Rereading.{line_bytes}
-use Rattle.ud_model.specs.output.Processing.{Condition, condition_on, Preprocessor, over_readings, of_origin, Processes, no_nodes, takes_line, includes_file, selects_group, ProcessesOne, no_group, true_group, true_before_else, else_group, ProcessesTrue, first_true, true_before, elif_true, NoneTrue, first_false, elif_false}
+use Rattle.ud_model.specs.laws.Pruned.{Edited, edited, EachLine, GroupLines, ElifLines}
+use Rattle.ud_model.specs.laws.Rereading.{line_bytes}
+use Rattle.ud_model.specs.laws.WrittenConditions.{Condition, condition_on}
+use Rattle.ud_laws.specs.output.Processing.{Preprocessor, over_readings, of_origin, Processes, no_nodes, takes_line, includes_file, selects_group, ProcessesOne, no_group, true_group, true_before_else, else_group, ProcessesTrue, first_true, true_before, elif_true, NoneTrue, first_false, elif_false}
 use Rattle.ud_laws.proofs.output.NodesAlike.{NodesAlike, nothing_alike, text_alike, section_alike, GroupsAlike, conditional_alike, otherwise_alike, ElifsAlike, first_alike, elif_alike}
 use Rattle.ud_model.proofs.output.Folded.{folded}
 use Rattle.ud_model.proofs.output.Undecided.{KeepsCondition, first_keeps}

@@ -8,14 +8,15 @@ use Rattle.ud_model.specs.sections.Items.{Options, reading_of, item_by, item_of,
 use Rattle.ud_model.specs.answer.CommandLine.{options_of}
 use Rattle.ud_model.specs.answer.Answer.{Answer, IsAnswer, refused, ran}
 use Rattle.ud_model.specs.declared.verdict.Verdict.TheVariants.{Keep}
-use Rattle.ud_model.specs.output.Pruned.{Edited, edited}
-use Rattle.ud_model.specs.output.Rereading.{IsPlain, IsPlainC, AreRead, no_items, one_item, IsTreeOf, CleanRun}
-use Rattle.ud_model.specs.output.Processing.{Condition, DecidesAsC, Preprocessor, over_readings, of_origin, Processes}
+use Rattle.ud_model.specs.laws.Pruned.{Edited, edited}
+use Rattle.ud_model.specs.laws.Rereading.{IsPlain, IsPlainC, AreRead, no_items, one_item, IsTreeOf, CleanRun}
+use Rattle.ud_model.specs.laws.WrittenConditions.{Condition}
+use Rattle.ud_laws.specs.output.Processing.{DecidesAsC, Preprocessor, over_readings, of_origin, Processes}
 use Rattle.ud_laws.specs.output.ProcessedFiles.{IsPrinted, printed, unedited, IsOutput, FileTree}
 use Rattle.ud_laws.specs.output.DecidedByNumbers.{KeepsNumbers}
-use Rattle.ud_model.specs.output.SimplifiedTexts.{simplified_under}
+use Rattle.ud_simplified.specs.SimplifiedTexts.{simplified_under}
 use Rattle.ud_laws.proofs.output.SimplifiedTree.{simplified_tree}
-use Rattle.ud_model.proofs.output.SimplifiedLineTexts.{lines_left}
+use Rattle.ud_simplified.proofs.SimplifiedLineTexts.{lines_left}
 use Rattle.ud_laws.proofs.output.ProcessedSimplified.{same_done, simplified_alike}
 use Rattle.ud_model.proofs.sections.Soundness.{reading_of-item_of, read_lines, one_tree_of}
 use Rattle.ud_model.proofs.sections.Stays.{marks_so_far_same}

@@ -1,7 +1,7 @@
 -- A preprocessor with one choice at most ends in one state at most.
 use Rattle.std.proofs.Common.{◌≡◌, Bool, true, false, refl, sym, subst, arith}
 use Rattle.ud_model.specs.sections.Tree.{Opener, Nodes, Groups, Elifs}
-use Rattle.ud_model.specs.output.Processing.{Preprocessor, Processes, no_nodes, takes_line, includes_file, selects_group, ProcessesOne, no_group, true_group, true_before_else, else_group, ProcessesTrue, first_true, true_before, elif_true, NoneTrue, first_false, elif_false, HasOneChoice}
+use Rattle.ud_laws.specs.output.Processing.{Preprocessor, Processes, no_nodes, takes_line, includes_file, selects_group, ProcessesOne, no_group, true_group, true_before_else, else_group, ProcessesTrue, first_true, true_before, elif_true, NoneTrue, first_false, elif_false, HasOneChoice}
 
 module _ {S F L : Type 0} (p : Preprocessor S F L) (files : F → Nodes L) (one : HasOneChoice p) where
   differ : true ≡ false → ⊥

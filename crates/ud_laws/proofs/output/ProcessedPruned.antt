@@ -6,8 +6,8 @@ use Rattle.ud_model.specs.declared.cond.Cond.TheVariants.{Yes, No, Unknown}
 use Rattle.ud_model.specs.sections.Tree.{Opener, Nodes, Groups, Elifs, nothing, text, section, conditional, otherwise, first, elif, with_lines, groups_with_lines, elifs_with_lines}
 use Rattle.ud_model.specs.sections.Pruning.{Part, an_if, an_elif}
 use Rattle.ud_model.specs.declared.verdict.Verdict.TheVariants.{Keep}
-use Rattle.ud_model.specs.output.Pruned.{Edited, edited, then_nodes}
-use Rattle.ud_model.specs.output.Processing.{Preprocessor, Processes, no_nodes, takes_line, includes_file, selects_group, ProcessesOne, no_group, true_group, true_before_else, else_group, ProcessesTrue, first_true, true_before, elif_true, NoneTrue, first_false, elif_false, AgreesAs, agreeing, of_origin}
+use Rattle.ud_model.specs.laws.Pruned.{Edited, edited, then_nodes}
+use Rattle.ud_laws.specs.output.Processing.{Preprocessor, Processes, no_nodes, takes_line, includes_file, selects_group, ProcessesOne, no_group, true_group, true_before_else, else_group, ProcessesTrue, first_true, true_before, elif_true, NoneTrue, first_false, elif_false, AgreesAs, agreeing, of_origin}
 use Rattle.ud_model.proofs.output.Folded.{KeptGroups, none_kept, replaced, kept_groups, ended, with_group, with_else, then_kept, folded, kept_groups_of, kept_elifs_of}
 
 module _ {S F L : Type 0} (p : Preprocessor S F L) where

@@ -5,20 +5,21 @@ use Rattle.ud_model.specs.text.Scans.{Scan, Reading}
 use Rattle.ud_model.specs.sections.Tree.{Opener, Nodes, closed}
 use Rattle.ud_model.specs.sections.Items.{Options, rules_of}
 use Rattle.ud_model.specs.conditions.Expressions.{Expression}
-use Rattle.ud_model.specs.conditions.ResidualTexts.{simplified_cells}
-use Rattle.ud_model.specs.conditions.Residuals.{residual}
+use Rattle.ud_simplified.specs.ResidualTexts.{simplified_cells}
+use Rattle.ud_model.specs.aids.Residuals.{residual}
 use Rattle.ud_laws.specs.conditions.Choices.{stay}
-use Rattle.ud_model.specs.aids.Parsing.{expression_of}
-use Rattle.ud_model.specs.output.Rereading.{IsPlainC, IsTreeOf}
-use Rattle.ud_model.specs.output.SimplifiedTexts.{simplified_under}
-use Rattle.ud_model.specs.output.Processing.{Condition, DecidesAsC, Preprocessor, over_readings}
+use Rattle.ud_model.specs.conditions.Parsing.{expression_of}
+use Rattle.ud_model.specs.laws.Rereading.{IsPlainC, IsTreeOf}
+use Rattle.ud_simplified.specs.SimplifiedTexts.{simplified_under}
+use Rattle.ud_model.specs.laws.WrittenConditions.{Condition}
+use Rattle.ud_laws.specs.output.Processing.{DecidesAsC, Preprocessor, over_readings}
 use Rattle.ud_laws.specs.output.DecidedByNumbers.{if_condition, KeepsNumbers}
 use Rattle.ud_model.proofs.sections.Soundness.{one_tree_of}
 use Rattle.ud_laws.proofs.conditions.ResidualTruth.{Tells, tells, truth_kept}
-use Rattle.ud_model.proofs.conditions.ResidualRead.{untouched}
+use Rattle.ud_simplified.proofs.ResidualRead.{untouched}
 use Rattle.ud_model.proofs.output.PrunedTree.{closed_same}
 use Rattle.ud_laws.proofs.output.NodesAlike.{same_nodes, alike_by}
-use Rattle.ud_model.proofs.output.SimplifiedLineTexts.{lines_left}
+use Rattle.ud_simplified.proofs.SimplifiedLineTexts.{lines_left}
 use Rattle.ud_laws.proofs.output.SimplifiedTree.{Like, OpenerLeft, simplified_tree}
 use Rattle.ud_laws.proofs.output.ProcessedAlike.{TextAlike, OpenerAlike, IsDoneAlike}
 use Rattle.ud_laws.proofs.output.SimplifiedConditions.{condition_stays, operands_go}

@@ -3,7 +3,7 @@
 use Rattle.std.proofs.Common.{◌≡◌, List, [], ◌∷◌, ◌++◌, map, Bool, None, sym, ◌∙◌, ap, ap₂, subst, rules}
 use Rattle.std.proofs.lemmas.List.{map-append}
 use Rattle.ud_model.specs.sections.Tree.{Opener, Nodes, Groups, Elifs, nothing, text, section, conditional, otherwise, first, elif, opener_with_line, with_lines, groups_with_lines, elifs_with_lines}
-use Rattle.ud_model.specs.output.Worlds.{World, selected_elifs, openers, openers_of_groups, openers_of_elifs, EachReached, GroupsReached, ElifsReached}
+use Rattle.ud_model.specs.laws.Worlds.{World, selected_elifs, openers, openers_of_groups, openers_of_elifs, EachReached, GroupsReached, ElifsReached}
 use Rattle.ud_laws.proofs.output.ReachedPruned.{map_none}
 use Rattle.ud_model.proofs.output.SameShape.{openers_apart, long_with, long_elifs, same_elifs}
 

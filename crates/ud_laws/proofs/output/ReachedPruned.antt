@@ -5,8 +5,8 @@ use Rattle.ud_model.specs.declared.cond.Cond.TheVariants.{Yes, No, Unknown}
 use Rattle.ud_model.specs.declared.verdict.Verdict.TheVariants.{Keep}
 use Rattle.ud_model.specs.sections.Tree.{Opener, Nodes, Groups, Elifs, nothing, text, section, conditional, otherwise, first, elif}
 use Rattle.ud_model.specs.sections.Pruning.{Part, an_if, an_elif, first_kept_verdict}
-use Rattle.ud_model.specs.output.Worlds.{World, selected_elifs, EachReached, GroupsReached, ElifsReached, AgreesWith}
-use Rattle.ud_model.specs.output.Pruned.{Edited, edited, then_nodes}
+use Rattle.ud_model.specs.laws.Worlds.{World, selected_elifs, EachReached, GroupsReached, ElifsReached, AgreesWith}
+use Rattle.ud_model.specs.laws.Pruned.{Edited, edited, then_nodes}
 use Rattle.ud_model.proofs.output.Folded.{KeptGroups, none_kept, replaced, kept_groups, ended, with_group, with_else, then_kept, folded, kept_groups_of, kept_elifs_of}
 use Rattle.ud_model.proofs.output.SelectedPruned.{out_world, Fits, Chosen, chosen}
 

@@ -3,8 +3,8 @@ use Rattle.std.proofs.Common.{◌≡◌, ℕ, List, map, arith}
 use Rattle.ud_model.specs.text.Scans.{Reading}
 use Rattle.ud_model.specs.sections.Tree.{Item, Tree, lines}
 use Rattle.ud_model.specs.sections.Items.{Options, reading_of, mode_by}
-use Rattle.ud_model.specs.output.Rereading.{IsPlain, IsTreeOf}
-use Rattle.ud_model.specs.output.InsertedLines.{read_as}
+use Rattle.ud_model.specs.laws.Rereading.{IsPlain, IsTreeOf}
+use Rattle.ud_model.specs.aids.ReadAs.{read_as}
 use Rattle.ud_laws.proofs.output.InsertedText.{items_are, readings_back}
 
 -- The lines of a text's tree are its lines, each read in the one mode.

@@ -4,14 +4,14 @@ use Rattle.std.specs.List.{flat_map}
 use Rattle.ud_model.specs.text.Scans.{Scan, Reading}
 use Rattle.ud_model.specs.sections.Tree.{Nodes, closed}
 use Rattle.ud_model.specs.sections.Items.{Options}
-use Rattle.ud_model.specs.output.Rereading.{IsPlainC, IsTreeOf}
-use Rattle.ud_model.specs.output.FoldedTexts.{CLine, folded_text}
-use Rattle.ud_laws.specs.output.LogicalProcessing.{HasNoLong}
-use Rattle.ud_model.specs.output.Processing.{Condition, Preprocessor, Processes}
+use Rattle.ud_model.specs.laws.Rereading.{IsPlainC, IsTreeOf}
+use Rattle.ud_simplified.specs.FoldedTexts.{CLine, folded_text}
+use Rattle.ud_laws.specs.output.LogicalProcessing.{HasNoLong, line_items, IsCTree, IsRewritten, RewrittenTree}
+use Rattle.ud_model.specs.laws.WrittenConditions.{Condition}
+use Rattle.ud_laws.specs.output.Processing.{Preprocessor, Processes}
 use Rattle.ud_laws.specs.output.ProcessedFiles.{FileTree}
 use Rattle.ud_laws.specs.output.DecidedByNumbers.{MayDecide}
-use Rattle.ud_laws.specs.output.LogicalProcessing.{line_items, IsCTree, IsRewritten, RewrittenTree}
-use Rattle.ud_model.proofs.output.FoldedReadings.{same_c_lines}
+use Rattle.ud_simplified.proofs.FoldedReadings.{same_c_lines}
 use Rattle.ud_laws.proofs.output.ProcessedAlike.{IsDoneAlike, processed_alike}
 use Rattle.ud_laws.proofs.output.ProcessedAnswers.{output_nodes, outputs_processed}
 use Rattle.ud_laws.proofs.output.LogicalNodes.{c_nodes, c_nodes_are, c_nodes_of, lines_short, by_lines, by_logical, nodes_both}

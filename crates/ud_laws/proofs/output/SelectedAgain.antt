@@ -6,12 +6,13 @@ use Rattle.ud_model.specs.sections.Pruning.{marks, Part, first_kept_verdict}
 use Rattle.ud_model.specs.sections.Items.{Options}
 use Rattle.ud_model.specs.answer.Outcomes.{Outcome, HasOutcome, ran_as}
 use Rattle.ud_model.specs.answer.Outcomes.ReadsAs.{stops, ends}
-use Rattle.ud_model.specs.output.Worlds.{World, selected, EachReached, Agrees}
-use Rattle.ud_model.specs.output.Pruned.{Edited}
+use Rattle.ud_model.specs.laws.Worlds.{World, selected, EachReached, Agrees}
+use Rattle.ud_model.specs.laws.Pruned.{Edited}
 use Rattle.ud_model.proofs.output.Folded.{folded}
-use Rattle.ud_model.specs.output.Rereading.{IsTreeOf, CleanRun, KeepsTruths, line_bytes}
+use Rattle.ud_model.specs.laws.Rereading.{IsTreeOf, CleanRun, KeepsTruths, line_bytes}
 use Rattle.ud_model.specs.conditions.Expressions.{Expression}
-use Rattle.ud_model.specs.output.CSelection.{condition_in, MayBe, IsCWorld}
+use Rattle.ud_laws.specs.output.CSelection.{MayBe, IsCWorld}
+use Rattle.ud_model.specs.laws.WrittenConditions.{condition_in}
 use Rattle.ud_model.proofs.sections.Soundness.{sound_read, one_tree_of, sound_lines}
 use Rattle.ud_model.proofs.output.SeenLines.{Seen, scanned, left_condition, left_seen}
 use Rattle.ud_laws.proofs.output.ReachedPruned.{pruned_reached}

@@ -6,7 +6,7 @@ use Rattle.std.proofs.Math.Logic.{⊎_elim}
 use Rattle.std.proofs.lemmas.List.{map-append, length-map}
 use Rattle.std.proofs.lemmas.List.Elements.{Contains-append_left, Contains-append_right, Contains-append_cases}
 use Rattle.ud_model.specs.sections.Tree.{Item, Nodes, Groups, Elifs, text_line, elif_line, else_line, endif_line, nothing, text, section, conditional, otherwise, first, elif, lines_of_nodes, lines_of_groups, lines_of_elifs}
-use Rattle.ud_model.specs.output.Worlds.{World, or_else, lines_or, where_true, selected, selected_groups, selected_elifs, openers, openers_of_groups, openers_of_elifs}
+use Rattle.ud_model.specs.laws.Worlds.{World, or_else, lines_or, where_true, selected, selected_groups, selected_elifs, openers, openers_of_groups, openers_of_elifs}
 use Rattle.ud_laws.specs.output.LiveLines.{text_line_of, text_lines_in}
 use Rattle.ud_model.proofs.output.SameShape.{parts}
 

@@ -11,7 +11,8 @@ use Rattle.ud_model.specs.sections.Items.{Options, mode_after, read_after, rules
 use Rattle.ud_model.specs.sections.Faults.{Fault}
 use Rattle.ud_model.specs.answer.Listing.{names_in_content, names_at}
 use Rattle.ud_model.specs.answer.Printing.{Judged, piece_alone, complemented, judged_lines}
-use Rattle.ud_model.specs.answer.Outcomes.{Outcome, outcome_of, ReadsAs, JudgedAs, judged_as, HasOutcome, ran_as}
+use Rattle.ud_model.specs.answer.Outcomes.{Outcome, outcome_of, ReadsAs, HasOutcome, ran_as}
+use Rattle.ud_laws.specs.answer.Successes.{JudgedAs, judged_as}
 use Rattle.ud_model.specs.answer.Outcomes.ReadsAs.{stops, ends}
 use Rattle.ud_laws.specs.output.SharedLines.{OnlyDecides, with_complement, RunsWithComplement, ShareLines, no_line, stays, goes}
 use Rattle.ud_model.specs.declared.settings.Settings.{Settings}

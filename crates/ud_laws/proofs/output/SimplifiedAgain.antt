@@ -12,19 +12,19 @@ use Rattle.ud_model.specs.sections.Directives.{Content, directive, Directive, co
 use Rattle.ud_model.specs.conditions.Table.{Argument}
 use Rattle.ud_model.specs.conditions.Expressions.{Expression}
 use Rattle.ud_model.specs.conditions.Conditions.{Rules, tree_cond}
-use Rattle.ud_model.specs.conditions.Residuals.{residual, is_unknown, is_undecided}
-use Rattle.ud_model.specs.conditions.ResidualTexts.{simplified_cells, left_cells, keeps, is_literal, may_go, is_read, simplified_by}
-use Rattle.ud_model.specs.aids.Parsing.{expression_of}
-use Rattle.ud_model.specs.output.SimplifiedTexts.{keyword_end, condition_cells, left_line, may_change, line_by, simplified_line, simplified_text, is_lone, left_cells_of, is_read_alone}
+use Rattle.ud_model.specs.aids.Residuals.{residual, is_unknown, is_undecided, keeps}
+use Rattle.ud_simplified.specs.ResidualTexts.{simplified_cells, left_cells, is_literal, may_go, is_read, simplified_by}
+use Rattle.ud_model.specs.conditions.Parsing.{expression_of}
+use Rattle.ud_simplified.specs.SimplifiedTexts.{keyword_end, condition_cells, left_line, may_change, line_by, simplified_line, simplified_text, is_lone, left_cells_of, is_read_alone}
 use Rattle.ud_model.proofs.text.ScanBytes.{bytes-content_cells}
-use Rattle.ud_model.proofs.conditions.ResidualRead.{same_or_left, untouched, cells_go, written_left}
+use Rattle.ud_simplified.proofs.ResidualRead.{same_or_left, untouched, cells_go, written_left}
 use Rattle.ud_model.proofs.output.Each.{Pairs, no_pair, pair}
-use Rattle.ud_model.proofs.output.SimplifiedLines.{byte_of, option_is, after_is}
-use Rattle.ud_model.proofs.output.SimplifiedLineTexts.{lines_left}
-use Rattle.ud_model.proofs.output.SimplifiedReadings.{IsLeft, ReadingSimplified, reading_stays, reading_edited, readings_simplified}
+use Rattle.ud_simplified.proofs.SimplifiedLines.{byte_of, option_is, after_is}
+use Rattle.ud_simplified.proofs.SimplifiedLineTexts.{lines_left}
+use Rattle.ud_simplified.proofs.SimplifiedReadings.{IsLeft, ReadingSimplified, reading_stays, reading_edited, readings_simplified}
 use Rattle.std.specs.List.{list_any}
-use Rattle.ud_model.specs.conditions.Sublists.{IsSublist, nothing, without, with_same}
-use Rattle.ud_model.specs.output.InsertedLines.{read_in, read_as}
+use Rattle.ud_simplified.specs.Sublists.{IsSublist, nothing, without, with_same}
+use Rattle.ud_model.specs.aids.ReadAs.{read_in, read_as}
 use Rattle.ud_laws.specs.output.LeftOperands.{IsReduced, IsSimplified, joins_line, not_understood, has_quote, decided, rest_decided, rest_misread}
 use Rattle.ud_model.specs.declared.kind.Mode.TheVariants.{C}
 use Rattle.ud_laws.proofs.conditions.ReducedTrees.{fixed_reduced}

@@ -7,14 +7,14 @@ use Rattle.ud_model.specs.text.Scanning.{scan_after_run, scan_after}
 use Rattle.ud_model.specs.sections.Directives.{Content, directive, Directive, content_of, test_of}
 use Rattle.ud_model.specs.conditions.Table.{Argument}
 use Rattle.ud_model.specs.conditions.Conditions.{Rules}
-use Rattle.ud_model.specs.conditions.ResidualTexts.{simplified_cells}
-use Rattle.ud_model.specs.output.Processing.{condition_with, condition_on}
+use Rattle.ud_simplified.specs.ResidualTexts.{simplified_cells}
+use Rattle.ud_model.specs.laws.WrittenConditions.{condition_with, condition_on}
 use Rattle.ud_laws.specs.output.DecidedByNumbers.{if_condition}
 use Rattle.ud_model.specs.declared.kind.Test.TheVariants.{Nonzero}
-use Rattle.ud_model.specs.output.SimplifiedTexts.{condition_cells, left_line}
+use Rattle.ud_simplified.specs.SimplifiedTexts.{condition_cells, left_line}
 use Rattle.ud_model.specs.declared.kind.Kind.{Kind}
 use Rattle.ud_model.specs.declared.kind.Mode.TheVariants.{C}
-use Rattle.ud_model.proofs.output.SimplifiedLines.{SameIf, IsEdited, after_is}
+use Rattle.ud_simplified.proofs.SimplifiedLines.{SameIf, IsEdited, after_is}
 
 module _ (table : List Argument) (rules : Rules) where
   -- `k` has the condition of the line `l`, or the rest of it.

@@ -9,8 +9,8 @@ use Rattle.ud_model.specs.sections.Items.{Options, item_of, item_by, directive_i
 use Rattle.ud_model.specs.declared.kind.Kind.{Kind}
 use Rattle.ud_model.proofs.output.Each.{Pairs, no_pair, pair}
 use Rattle.ud_laws.proofs.output.InsertedTree.{items}
-use Rattle.ud_model.proofs.output.SimplifiedLines.{SameIf, both_if, both_elif}
-use Rattle.ud_model.proofs.output.SimplifiedReadings.{ReadingSimplified, reading_stays, reading_edited}
+use Rattle.ud_simplified.proofs.SimplifiedLines.{SameIf, both_if, both_elif}
+use Rattle.ud_simplified.proofs.SimplifiedReadings.{ReadingSimplified, reading_stays, reading_edited}
 use Rattle.ud_laws.proofs.output.SimplifiedConditions.{LineSimplified, condition_stays, line_simplified}
 
 module _ (o : Options) where

@@ -7,22 +7,23 @@ use Rattle.ud_model.specs.text.Splicing.{is_spliced, spliced_text, spliced_part}
 use Rattle.ud_model.specs.text.Lexemes.{LexemeKind, kind_at_end}
 use Rattle.ud_model.specs.text.Scanning.{is_block, comment_at, scan_after_run}
 use Rattle.ud_model.specs.sections.Directives.{Directive, content_of, is_outside}
-use Rattle.ud_model.specs.sections.DirectiveParts.{HasDirective}
+use Rattle.ud_model.specs.aids.DirectiveParts.{HasDirective}
 use Rattle.ud_model.specs.conditions.Table.{Argument}
 use Rattle.ud_model.specs.conditions.Conditions.{Rules, Decision, undecided, decision_on, condition_of, expression_cond}
 use Rattle.ud_model.specs.sections.Tree.{Tree, Item, Nodes, Groups, Elifs, closed}
 use Rattle.ud_model.specs.sections.Items.{Options, reading_of, item_of, rules_of}
 use Rattle.ud_model.specs.sections.Faults.{is_cut, is_in_block, ends_in_comment, end_by, last_number}
-use Rattle.ud_model.specs.output.Pruned.{IsUndecided, IsUnknown, Any}
+use Rattle.ud_model.specs.laws.Pruned.{IsUndecided, IsUnknown, Any}
 use Rattle.ud_model.proofs.output.EachLines.{IsOf, to_items, from_items}
 use Rattle.ud_model.specs.aids.Height.{height_of_nodes, height_of_groups, height_of_elifs}
 use Rattle.ud_model.specs.answer.CommandLine.{options_of}
 use Rattle.ud_model.specs.answer.Outcomes.{Outcome, HasOutcome}
-use Rattle.ud_model.specs.answer.Answer.{Answer, IsAnswer, refused, ran, copy_answer}
-use Rattle.ud_model.specs.output.Rereading.{IsPlainC, IsTreeOf, LinesFit}
-use Rattle.ud_model.specs.output.InsertedLines.{read_as}
+use Rattle.ud_model.specs.answer.Answer.{Answer, IsAnswer, refused, ran}
+use Rattle.ud_laws.specs.answer.Successes.{copy_answer}
+use Rattle.ud_model.specs.laws.Rereading.{IsPlainC, IsTreeOf, LinesFit}
+use Rattle.ud_model.specs.aids.ReadAs.{read_as}
 use Rattle.ud_laws.proofs.output.NodesAlike.{nothing_alike, text_alike, section_alike, conditional_alike, otherwise_alike, first_alike, elif_alike}
-use Rattle.ud_model.specs.output.SimplifiedTexts.{condition_cells, simplified_line, simplified_under}
+use Rattle.ud_simplified.specs.SimplifiedTexts.{condition_cells, simplified_line, simplified_under}
 use Rattle.ud_model.specs.declared.cond.Cond.TheVariants.{Unknown}
 use Rattle.ud_model.specs.declared.kind.Kind.{Kind}
 use Rattle.ud_model.specs.declared.kind.Mode.TheVariants.{C}
@@ -39,11 +40,11 @@ use Rattle.ud_model.proofs.output.Undecided.{undecided_stay}
 use Rattle.ud_model.proofs.output.RereadLaws.{Result, reread, input_tree, output_undecided, runs_again}
 use Rattle.ud_laws.proofs.output.AnswerLaws.{faultless}
 use Rattle.ud_laws.proofs.output.InsertedText.{items_are}
-use Rattle.ud_model.proofs.output.SimplifiedLineTexts.{lines_left, line_bytes}
+use Rattle.ud_simplified.proofs.SimplifiedLineTexts.{lines_left, line_bytes}
 use Rattle.ud_laws.proofs.output.SimplifiedTree.{Like, GroupsLike, ElifsLike, simplified_tree}
 use Rattle.ud_laws.proofs.output.InsertedTree.{items}
-use Rattle.ud_model.proofs.output.SimplifiedLines.{SameIf, becomes, after_is}
-use Rattle.ud_model.proofs.output.SimplifiedReadings.{IsLeft, ReadingSimplified, readings_simplified}
+use Rattle.ud_simplified.proofs.SimplifiedLines.{SameIf, becomes, after_is}
+use Rattle.ud_simplified.proofs.SimplifiedReadings.{IsLeft, ReadingSimplified, readings_simplified}
 use Rattle.ud_laws.proofs.output.SimplifiedAgain.{lone, sub_fewer}
 
 -- 1. Items with an unknown condition.

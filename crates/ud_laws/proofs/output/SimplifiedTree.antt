@@ -4,10 +4,10 @@ use Rattle.ud_model.specs.text.Lines.{Line, lines_of}
 use Rattle.ud_model.specs.text.Scans.{Reading}
 use Rattle.ud_model.specs.sections.Tree.{Item, Opener, Nodes, Groups, Elifs, closed, text_line, if_line, elif_line, else_line, endif_line, lines_of_nodes}
 use Rattle.ud_model.specs.sections.Items.{Options, rules_of, mode_by}
-use Rattle.ud_model.specs.output.Rereading.{NoneIgnores, IsTreeOf}
-use Rattle.ud_model.specs.output.InsertedLines.{read_in}
+use Rattle.ud_model.specs.laws.Rereading.{NoneIgnores, IsTreeOf}
+use Rattle.ud_model.specs.aids.ReadAs.{read_in}
 use Rattle.ud_laws.proofs.output.NodesAlike.{NodesAlike, nothing_alike, text_alike, section_alike, GroupsAlike, conditional_alike, otherwise_alike, ElifsAlike, first_alike, elif_alike}
-use Rattle.ud_model.specs.output.SimplifiedTexts.{simplified_text}
+use Rattle.ud_simplified.specs.SimplifiedTexts.{simplified_text}
 use Rattle.ud_model.specs.declared.kind.Mode.{Mode}
 use Rattle.ud_model.specs.declared.kind.Mode.TheVariants.{C}
 use Rattle.ud_model.proofs.text.Pushes.{by_push}
@@ -17,7 +17,7 @@ use Rattle.ud_laws.proofs.output.InsertedTree.{items}
 use Rattle.ud_laws.proofs.output.InsertedText.{read_items, lines_back, items_are}
 use Rattle.ud_model.proofs.output.Each.{Pairs}
 use Rattle.ud_model.proofs.output.WovenTrees.{Woven, TextGoes, EndifGoes, ElseGoes, IfGoes, ElifGoes, strewn_pairs, weave_nodes}
-use Rattle.ud_model.proofs.output.SimplifiedReadings.{left_lines, readings_simplified}
+use Rattle.ud_simplified.proofs.SimplifiedReadings.{left_lines, readings_simplified}
 use Rattle.ud_laws.proofs.output.SimplifiedItems.{ItemSimplified, a_text, an_if, an_elif, an_else, an_endif, items_simplified}
 use Rattle.ud_laws.proofs.output.SimplifiedConditions.{LineSimplified}
 

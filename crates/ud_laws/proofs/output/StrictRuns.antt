@@ -10,7 +10,8 @@ use Rattle.ud_model.specs.sections.Pruning.{Mark, marks}
 use Rattle.ud_model.specs.sections.Items.{Options, reading_of, line_of, item_of, mode_after, read_after, next_item}
 use Rattle.ud_model.specs.sections.Faults.{Fault, AreFaultless, no_lines, one_more}
 use Rattle.ud_model.specs.answer.Printing.{Judged, judged_line, judged_lines, keyword_in}
-use Rattle.ud_model.specs.answer.Outcomes.{Outcome, ReadsAs, JudgedAs, judged_as, HasOutcome, ran_as}
+use Rattle.ud_model.specs.answer.Outcomes.{Outcome, ReadsAs, HasOutcome, ran_as}
+use Rattle.ud_laws.specs.answer.Successes.{JudgedAs, judged_as}
 use Rattle.ud_model.specs.answer.Outcomes.ReadsAs.{stops, ends}
 use Rattle.ud_laws.specs.output.SharedLines.{OnlyDecides}
 use Rattle.ud_laws.specs.output.StrictLines.{under_strict, KeepsAsMuch, KeepAsMuch, pieces_of}

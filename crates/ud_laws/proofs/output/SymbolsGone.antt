@@ -8,10 +8,11 @@ use Rattle.ud_model.specs.conditions.Table.{Argument}
 use Rattle.ud_model.specs.conditions.Expressions.{Expression, named}
 use Rattle.ud_model.specs.conditions.Names.{names_in, names_in_tree}
 use Rattle.ud_model.specs.conditions.Values.{name_value, name_has_u, defined_value, has_unsigned}
-use Rattle.ud_model.specs.conditions.CValues.{Number, typed, CValue, of_constant, of_known_name, of_open_name, of_known_defined, of_open_defined, of_unary, of_binary, of_and_left, of_and_both, of_or_left, of_or_both, of_parens}
+use Rattle.ud_model.specs.laws.CValues.{Number, typed, CValue, of_constant, of_known_name, of_open_name, of_known_defined, of_open_defined, of_unary, of_binary, of_and_left, of_and_both, of_or_left, of_or_both, of_parens}
 use Rattle.ud_model.specs.sections.Tree.{Nodes, Groups, Elifs, nothing, text, section, conditional, otherwise, first, elif}
-use Rattle.ud_model.specs.output.Worlds.{World, openers, openers_of_groups, openers_of_elifs, EachReached, GroupsReached, ElifsReached}
-use Rattle.ud_model.specs.output.CSelection.{condition_in, MayBe, IsCWorld}
+use Rattle.ud_model.specs.laws.Worlds.{World, openers, openers_of_groups, openers_of_elifs, EachReached, GroupsReached, ElifsReached}
+use Rattle.ud_laws.specs.output.CSelection.{MayBe, IsCWorld}
+use Rattle.ud_model.specs.laws.WrittenConditions.{condition_in}
 use Rattle.ud_laws.specs.output.GoneSymbols.{names_in_conditions}
 use Rattle.ud_laws.specs.output.ListedNames.{IsNoValue, DifferAtMostAt}
 use Rattle.ud_laws.proofs.conditions.NamedAlike.{Alike, name_value_alike, name_has_u_alike, defined_value_alike, has_unsigned_alike}

@@ -11,17 +11,16 @@
 --
 -- CValues says which values an expression may have; here each value comes with the numbers that
 -- lead to it, so two expressions can be compared use by use.
-use Rattle.std.specs.Prelude.{◌≡◌, ℕ, List, Bool, true, false, Some, ℤ, pos, ◌&&◌}
-use Rattle.std.specs.Prelude.{if◌then◌else◌}
+use Rattle.std.specs.Prelude.{◌≡◌, ℕ, List, Bool, true, false, Some, ℤ, pos, ◌&&◌, if◌then◌else◌}
 use Rattle.ud_model.specs.conditions.Table.{Argument}
 use Rattle.ud_model.specs.conditions.Expressions.{Expression, constant, named, is_defined, unary}
 use Rattle.ud_model.specs.conditions.Expressions.{binary, parens}
 use Rattle.ud_model.specs.conditions.Values.{truth, name_value, name_has_u, defined_value}
 use Rattle.ud_model.specs.conditions.Conditions.{Rules}
-use Rattle.ud_model.specs.conditions.CValues.{Number, signed, IsInRange, IsTruth, IsZero, Gives}
-use Rattle.ud_model.specs.conditions.CValues.{GivesUnary, IsConstantValue, typed}
-use Rattle.ud_model.specs.conditions.Residuals.{Residual, is_unit, stands_alone}
-use Rattle.ud_model.specs.conditions.Residuals.{residual, settled, joined_if}
+use Rattle.ud_model.specs.laws.CValues.{Number, signed, IsInRange, IsTruth, IsZero, Gives}
+use Rattle.ud_model.specs.laws.CValues.{GivesUnary, IsConstantValue, typed}
+use Rattle.ud_model.specs.aids.Residuals.{Residual, is_unit, stands_alone, residual, settled}
+use Rattle.ud_model.specs.aids.Residuals.{joined_if}
 use Rattle.ud_model.specs.declared.cond.Cond.{Cond}
 use Rattle.ud_model.specs.declared.operator.Operator.{Operator}
 use Rattle.ud_model.specs.declared.operator.Operator.TheVariants.{Or, And, Not}

@@ -21,22 +21,22 @@
 --
 -- Example: if the macros of each state give each name a number, conditions are decided so.
 use Rattle.std.specs.Prelude.{◌≡◌, ℕ, List, map, Bool, true, false, Option, Some, None}
-use Rattle.ud_model.specs.text.SpacedBytes.{spaced}
+use Rattle.ud_model.specs.aids.SpacedBytes.{spaced}
 use Rattle.ud_model.specs.text.Lexemes.{Cell, shown}
 use Rattle.ud_model.specs.sections.Items.{Options, rules_of}
 use Rattle.ud_model.specs.conditions.Table.{Argument}
 use Rattle.ud_model.specs.conditions.Expressions.{Expression, constant, named, is_defined, unary}
 use Rattle.ud_model.specs.conditions.Expressions.{binary, parens}
 use Rattle.ud_model.specs.conditions.Conditions.{Rules}
-use Rattle.ud_model.specs.conditions.CValues.{Number}
-use Rattle.ud_laws.specs.conditions.Choices.{Choice, for_constant, for_name, for_defined}
-use Rattle.ud_laws.specs.conditions.Choices.{for_unary, for_binary, for_parens, IsAllowed}
-use Rattle.ud_laws.specs.conditions.Choices.{HasValue, stay}
-use Rattle.ud_model.specs.conditions.Residuals.{residual}
-use Rattle.ud_model.specs.conditions.ResidualTexts.{simplified_cells}
-use Rattle.ud_model.specs.aids.Parsing.{expression_of}
-use Rattle.ud_model.specs.output.CSelection.{HasTruth}
-use Rattle.ud_model.specs.output.Processing.{Condition, expression_written, DecidesAsC}
+use Rattle.ud_model.specs.laws.CValues.{Number}
+use Rattle.ud_laws.specs.conditions.Choices.{Choice, for_constant, for_name, for_defined, for_unary}
+use Rattle.ud_laws.specs.conditions.Choices.{for_binary, for_parens, IsAllowed, HasValue, stay}
+use Rattle.ud_model.specs.aids.Residuals.{residual}
+use Rattle.ud_simplified.specs.ResidualTexts.{simplified_cells}
+use Rattle.ud_model.specs.conditions.Parsing.{expression_of}
+use Rattle.ud_laws.specs.output.CSelection.{HasTruth}
+use Rattle.ud_model.specs.laws.WrittenConditions.{Condition}
+use Rattle.ud_laws.specs.output.Processing.{expression_written, DecidesAsC}
 use Rattle.ud_model.specs.declared.kind.Test.TheVariants.{Nonzero}
 
 -- `if_condition cells`: the condition of an `#if` or `#elif` with these cells after its keyword.

@@ -17,9 +17,10 @@ use Rattle.ud_model.specs.conditions.Names.{names_in_tree}
 use Rattle.ud_model.specs.conditions.Table.{Argument}
 use Rattle.ud_model.specs.sections.Tree.{Nodes, closed}
 use Rattle.ud_model.specs.sections.Items.{Options}
-use Rattle.ud_model.specs.output.Worlds.{World, openers}
-use Rattle.ud_model.specs.output.Rereading.{IsTreeOf, selected_bytes}
-use Rattle.ud_model.specs.output.CSelection.{condition_in, IsCWorld, IsCPair}
+use Rattle.ud_model.specs.laws.Worlds.{World, openers}
+use Rattle.ud_model.specs.laws.Rereading.{IsTreeOf, selected_bytes}
+use Rattle.ud_laws.specs.output.CSelection.{IsCWorld, IsCPair}
+use Rattle.ud_model.specs.laws.WrittenConditions.{condition_in}
 use Rattle.ud_laws.specs.output.ListedNames.{IsNoValue, DifferAtMostAt}
 
 -- `names_in_conditions ns`: the names in the conditions of the nodes, in order and with repeats.

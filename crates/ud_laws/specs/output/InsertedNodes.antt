@@ -19,10 +19,10 @@ use Rattle.ud_model.specs.text.Scans.{Reading}
 use Rattle.ud_model.specs.sections.Tree.{Opener, Nodes, Groups, Elifs, nothing, text, section}
 use Rattle.ud_model.specs.sections.Tree.{conditional, otherwise, first, elif, closed}
 use Rattle.ud_model.specs.sections.Items.{Options}
-use Rattle.ud_model.specs.output.Rereading.{IsTreeOf, line_bytes, selected_bytes}
-use Rattle.ud_model.specs.output.CSelection.{IsCPair}
-use Rattle.ud_model.specs.output.Worlds.{World, selected, truths_of}
-use Rattle.ud_model.specs.output.InsertedLines.{IsBlankLine, IsNumberLine}
+use Rattle.ud_model.specs.laws.Rereading.{IsTreeOf, line_bytes, selected_bytes}
+use Rattle.ud_laws.specs.output.CSelection.{IsCPair}
+use Rattle.ud_model.specs.laws.Worlds.{World, selected, truths_of}
+use Rattle.ud_laws.specs.output.InsertedLines.{IsBlankLine, IsNumberLine}
 
 -- `IsSame r s`: both lines have the same bytes and the same scan.
 pub record IsSame (r s : Reading) : Type 0 where

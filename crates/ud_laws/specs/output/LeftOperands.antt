@@ -18,12 +18,12 @@ use Rattle.ud_model.specs.text.Scans.{Reading}
 use Rattle.ud_model.specs.sections.Directives.{Directive}
 use Rattle.ud_model.specs.conditions.Table.{Argument}
 use Rattle.ud_model.specs.conditions.Expressions.{Expression, unary, binary, parens}
-use Rattle.ud_model.specs.aids.Parsing.{expression_of}
+use Rattle.ud_model.specs.conditions.Parsing.{expression_of}
 use Rattle.ud_model.specs.conditions.Conditions.{Rules, tree_cond}
-use Rattle.ud_model.specs.conditions.Residuals.{is_unit, is_unknown, residual, is_undecided}
-use Rattle.ud_model.specs.conditions.Residuals.{operands, AreUndecided}
-use Rattle.ud_model.specs.conditions.ResidualTexts.{left_cells, keeps, is_literal, is_read}
-use Rattle.ud_model.specs.output.SimplifiedTexts.{condition_cells, is_lone, is_read_alone}
+use Rattle.ud_model.specs.aids.Residuals.{is_unit, is_unknown, residual, is_undecided, operands}
+use Rattle.ud_model.specs.aids.Residuals.{AreUndecided, keeps}
+use Rattle.ud_simplified.specs.ResidualTexts.{left_cells, is_literal, is_read}
+use Rattle.ud_simplified.specs.SimplifiedTexts.{condition_cells, is_lone, is_read_alone}
 use Rattle.ud_model.specs.declared.operator.Operator.{Operator}
 use Rattle.ud_model.specs.declared.operator.Operator.TheVariants.{Or, And, Not}
 

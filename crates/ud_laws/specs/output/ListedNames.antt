@@ -22,8 +22,9 @@ use Rattle.ud_model.specs.conditions.Table.{Argument, Entry, entry_in}
 use Rattle.ud_model.specs.conditions.Symbols.{defined_text}
 use Rattle.ud_model.specs.sections.Items.{Options}
 use Rattle.ud_model.specs.answer.CommandLine.{has_flag, parsed_args, usage_fault, options_of}
-use Rattle.ud_model.specs.answer.Answer.{Answer, Succeeds}
-use Rattle.ud_model.specs.output.Rereading.{NoneIgnores}
+use Rattle.ud_model.specs.answer.Answer.{Answer}
+use Rattle.ud_laws.specs.answer.Successes.{Succeeds}
+use Rattle.ud_model.specs.laws.Rereading.{NoneIgnores}
 use Rattle.ud_model.specs.declared.settings.Settings.{Settings}
 use Rattle.ud_model.specs.declared.settings.Listing.TheVariants.{Names}
 

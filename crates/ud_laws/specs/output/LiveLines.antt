@@ -20,9 +20,9 @@ use Rattle.ud_model.specs.text.Scans.{Reading}
 use Rattle.ud_model.specs.sections.Tree.{Item, Nodes, closed, text_line, if_line, elif_line}
 use Rattle.ud_model.specs.sections.Tree.{else_line, endif_line, lines_of_nodes}
 use Rattle.ud_model.specs.sections.Items.{Options}
-use Rattle.ud_model.specs.output.Worlds.{World, selected, Agrees}
-use Rattle.ud_model.specs.output.Rereading.{IsTreeOf, line_bytes}
-use Rattle.ud_model.specs.output.CSelection.{IsCWorld}
+use Rattle.ud_model.specs.laws.Worlds.{World, selected, Agrees}
+use Rattle.ud_model.specs.laws.Rereading.{IsTreeOf, line_bytes}
+use Rattle.ud_laws.specs.output.CSelection.{IsCWorld}
 
 module _ {L : Type 0} where
   -- `text_line_of x`: the line `x`, if it is a text line.

@@ -24,11 +24,12 @@ use Rattle.ud_model.specs.sections.Directives.{content_of, role_of, test_of}
 use Rattle.ud_model.specs.sections.Items.{Options}
 use Rattle.ud_model.specs.sections.Tree.{Item, Opener, Nodes, closed, lines_of_nodes, text_line}
 use Rattle.ud_model.specs.sections.Tree.{if_line, elif_line, else_line, endif_line}
-use Rattle.ud_model.specs.output.InsertedLines.{read_as}
-use Rattle.ud_model.specs.output.Rereading.{IsTreeOf, line_bytes}
-use Rattle.ud_model.specs.output.FoldedTexts.{CLine, directive_line, other_lines, c_lines}
-use Rattle.ud_model.specs.output.FoldedTexts.{is_directive, folded_text}
-use Rattle.ud_model.specs.output.Processing.{Condition, no_condition, Preprocessor}
+use Rattle.ud_model.specs.aids.ReadAs.{read_as}
+use Rattle.ud_model.specs.laws.Rereading.{IsTreeOf, line_bytes}
+use Rattle.ud_simplified.specs.FoldedTexts.{CLine, directive_line, other_lines, c_lines}
+use Rattle.ud_simplified.specs.FoldedTexts.{is_directive, folded_text}
+use Rattle.ud_model.specs.laws.WrittenConditions.{Condition, no_condition}
+use Rattle.ud_laws.specs.output.Processing.{Preprocessor}
 use Rattle.ud_laws.specs.output.ProcessedFiles.{IsOutput}
 use Rattle.ud_model.specs.declared.cond.Cond.TheVariants.{Unknown}
 use Rattle.ud_model.specs.declared.kind.Mode.TheVariants.{C}

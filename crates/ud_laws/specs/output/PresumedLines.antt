@@ -24,9 +24,8 @@
 -- Example: under `-n -UA` the output for `#if X`, `#ifdef A`, `#endif`, `y`, `#endif`, `z` is
 -- `#if X`, `#line 4`, `y`, `#endif`, `z`. If X isn't 0, `z` has the number 6. Else C skips the
 -- `#line`, and `z` has the number 5.
-use Rattle.std.specs.Prelude.{◌≡◌, ◌≤◌, ℕ, suc, List, [], ◌∷◌, ◌++◌, map, Bool, true, not}
-use Rattle.std.specs.Prelude.{false, ◌&&◌}
-use Rattle.std.specs.Prelude.{Option, Some, None, is_some, bytes_eq, codes, decimal, ◌⊎◌}
+use Rattle.std.specs.Prelude.{◌≡◌, ◌≤◌, ℕ, suc, List, [], ◌∷◌, ◌++◌, map, Bool, true, not, false}
+use Rattle.std.specs.Prelude.{◌&&◌, Option, Some, None, is_some, bytes_eq, codes, decimal, ◌⊎◌}
 use Rattle.std.specs.Prelude.{if◌then◌else◌}
 use Rattle.ud_model.specs.text.Bytes.{skip_white, leading_word, skip_word}
 use Rattle.ud_model.specs.text.Lines.{text_of}
@@ -36,9 +35,9 @@ use Rattle.ud_model.specs.sections.Tree.{Nodes, closed}
 use Rattle.ud_model.specs.sections.Pruning.{is_removed}
 use Rattle.ud_model.specs.sections.Items.{Options, mode_by}
 use Rattle.ud_model.specs.answer.Printing.{Judged, piece_by}
-use Rattle.ud_model.specs.output.Worlds.{World, selected}
-use Rattle.ud_model.specs.output.Rereading.{IsTreeOf}
-use Rattle.ud_model.specs.output.InsertedLines.{read_as}
+use Rattle.ud_model.specs.laws.Worlds.{World, selected}
+use Rattle.ud_model.specs.laws.Rereading.{IsTreeOf}
+use Rattle.ud_model.specs.aids.ReadAs.{read_as}
 use Rattle.ud_laws.specs.output.InsertedNodes.{IsInserted}
 use Rattle.ud_model.specs.declared.kind.Mode.{Mode}
 

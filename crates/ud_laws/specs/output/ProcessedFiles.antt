@@ -13,8 +13,8 @@ use Rattle.ud_model.specs.text.Scans.{Reading}
 use Rattle.ud_model.specs.sections.Tree.{Nodes, closed}
 use Rattle.ud_model.specs.sections.Items.{Options}
 use Rattle.ud_model.specs.answer.Outcomes.{Outcome, HasOutcome}
-use Rattle.ud_model.specs.output.Rereading.{IsTreeOf}
-use Rattle.ud_model.specs.output.SimplifiedTexts.{simplified_under}
+use Rattle.ud_model.specs.laws.Rereading.{IsTreeOf}
+use Rattle.ud_simplified.specs.SimplifiedTexts.{simplified_under}
 
 -- `IsPrinted o input output`: with these options, a file with the text `input` may have the text
 -- `output` afterwards.

@@ -3,10 +3,10 @@
 use Rattle.std.proofs.Common.{◌≡◌, ◌≢◌, ℕ, List, [], Option, Some, None, refl, ap, pos, arith}
 use Rattle.ud_model.specs.conditions.Table.{Argument}
 use Rattle.ud_model.specs.conditions.Expressions.{Expression, IsWritten}
-use Rattle.ud_model.specs.aids.Parsing.{expression_of}
+use Rattle.ud_model.specs.conditions.Parsing.{expression_of}
 use Rattle.ud_model.specs.conditions.Conditions.{Rules, tree_cond, tree_cond_if, expression_cond, negate}
 use Rattle.ud_model.specs.conditions.Names.{names_in, names_in_tree, names_of}
-use Rattle.ud_model.specs.conditions.CValues.{Number, number, IsCValue}
+use Rattle.ud_model.specs.laws.CValues.{Number, number, IsCValue}
 use Rattle.ud_model.specs.declared.cond.Cond.{Cond}
 use Rattle.ud_model.specs.declared.cond.Cond.TheVariants.{Yes, No, Unknown}
 use Rattle.ud_model.specs.declared.kind.Kind.TheVariants.{If}

@@ -4,8 +4,7 @@ use Rattle.ud_model.specs.conditions.Table.{Argument}
 use Rattle.ud_model.specs.conditions.Tokens.{operator}
 use Rattle.ud_model.specs.conditions.Expressions.{Expression, unary, binary, parens, spelling}
 use Rattle.ud_model.specs.conditions.Conditions.{Rules}
-use Rattle.ud_model.specs.conditions.Residuals.{Residual, joined_if, stands_alone, residual}
-use Rattle.ud_model.specs.conditions.ResidualTexts.{chosen, all_flags, joined_flags, keeps}
+use Rattle.ud_model.specs.aids.Residuals.{Residual, joined_if, stands_alone, residual, chosen, all_flags, joined_flags, keeps}
 use Rattle.ud_model.specs.declared.cond.Cond.{Cond}
 use Rattle.ud_model.specs.declared.operator.Operator.{Operator}
 use Rattle.ud_model.specs.declared.operator.Operator.TheVariants.{Or, And, Not}

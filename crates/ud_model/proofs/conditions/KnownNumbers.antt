@@ -7,7 +7,7 @@ use Rattle.std.proofs.Common.{◌≡◌, ◌≢◌, ℕ, ◌^◌, ◌<◌, Bool,
 use Rattle.std.specs.Int.{cast_unsigned}
 use mir.Syntax.{w64}
 use Rattle.ud_model.specs.conditions.Values.{fits, fit, truth, is_zero, equal_numbers, apply_binary_known, apply_unary_known}
-use Rattle.ud_model.specs.conditions.CValues.{GivesUnary, Number, signed, unsigned, number, IsTruth, GivesSigned, GivesUnsigned, Gives}
+use Rattle.ud_model.specs.laws.CValues.{GivesUnary, Number, signed, unsigned, number, IsTruth, GivesSigned, GivesUnsigned, Gives}
 use Rattle.ud_model.specs.declared.operator.Operator.{Operator}
 use Rattle.ud_model.specs.declared.operator.Operator.TheVariants.{BitOr, BitXor, BitAnd, Equal, NotEqual, Less, LessEqual, Greater, GreaterEqual, Plus, Minus, Times, Over, Remainder}
 

@@ -12,7 +12,7 @@ use Rattle.ud_model.specs.conditions.Constants.{has_u, constant_number}
 use Rattle.ud_model.specs.conditions.Symbols.{resolve}
 use Rattle.ud_model.specs.conditions.Expressions.{Expression}
 use Rattle.ud_model.specs.conditions.Values.{fits, truth, is_zero, apply_binary_known, short_circuits, apply_binary, apply_unary, limited, constant_value, name_value_by, name_value, defined_value_by, defined_value, number_of, has_unsigned, value_of}
-use Rattle.ud_model.specs.conditions.CValues.{Number, signed, number, IsTruth, IsZero, Gives, GivesUnary, IsConstantValue, plain, by_suffix, by_size, CValue, of_constant, of_known_name, of_open_name, of_known_defined, of_open_defined, of_unary, of_binary, of_and_left, of_and_both, of_or_left, of_or_both, of_parens, IsCValue}
+use Rattle.ud_model.specs.laws.CValues.{Number, signed, number, IsTruth, IsZero, Gives, GivesUnary, IsConstantValue, plain, by_suffix, by_size, CValue, of_constant, of_known_name, of_open_name, of_known_defined, of_open_defined, of_unary, of_binary, of_and_left, of_and_both, of_or_left, of_or_both, of_parens, IsCValue}
 use Rattle.ud_model.specs.declared.operator.Operator.{Operator}
 use Rattle.ud_model.specs.declared.operator.Operator.TheVariants.{Or, And}
 use Rattle.ud_model.proofs.conditions.KnownNumbers.{Agrees, agrees_number, truth_agrees, not_decides, zero_agrees, gives_agrees, changes_agrees}

@@ -3,7 +3,7 @@ use Rattle.std.proofs.Common.{◌≡◌, ℕ, List, [], Option, Some, None, refl
 use Rattle.std.proofs.lemmas.Option.{none-some, same_Some}
 use Rattle.ud_model.specs.conditions.Tokens.{Token, AreTokens}
 use Rattle.ud_model.specs.conditions.Expressions.{Expression, spelling, HasPrecedence, IsWritten}
-use Rattle.ud_model.specs.aids.Parsing.{needs, parse_all_tokens, tokens_of, reads, itself, expression_of}
+use Rattle.ud_model.specs.conditions.Parsing.{needs, parse_all_tokens, tokens_of, reads, itself, expression_of}
 use Rattle.ud_model.proofs.conditions.ParsingComplete.{complete_alone, meaning_itself}
 use Rattle.ud_model.proofs.conditions.ParsingSound.{sound}
 use Rattle.ud_model.proofs.conditions.TokenLemmas.{tokens_of_only, tokens_of_are}

@@ -2,7 +2,7 @@
 use Rattle.std.proofs.Common.{◌≡◌, ℕ, ◌+◌, ◌≤◌, List, [], ◌∷◌, ◌++◌, Some, refl, sym, ◌∙◌, ap, ap₂, append_assoc, append-nil, arith}
 use Rattle.ud_model.specs.conditions.Tokens.{Token, operator, closing}
 use Rattle.ud_model.specs.conditions.Expressions.{Expression, unary, binary, parens, precedence, spelling, HasPrecedence}
-use Rattle.ud_model.specs.aids.Parsing.{Meaning, meaning, Frame, left, before, paren, Below, needs, has, parse_tokens, itself}
+use Rattle.ud_model.specs.conditions.Parsing.{Meaning, meaning, Frame, left, before, paren, Below, needs, has, parse_tokens, itself}
 use Rattle.ud_model.specs.declared.operator.Operator.{Operator}
 
 -- No operator tighter than precedence `k` comes next.

@@ -5,7 +5,7 @@ use Rattle.std.proofs.Common.{◌≡◌, ℕ, ◌+◌, ◌≤◌, List, [], ◌�
 use Rattle.std.proofs.lemmas.Option.{none-some}
 use Rattle.ud_model.specs.conditions.Tokens.{Token, number, name, defined, operator, opening, closing}
 use Rattle.ud_model.specs.conditions.Expressions.{Expression, unary, binary, parens, precedence, is_prefix, spelling, HasPrecedence}
-use Rattle.ud_model.specs.aids.Parsing.{Frame, left, before, paren, ParseState, needs, has, asks, asks_inside, asks_end, stuck, reduce, close, step, alone, finish, parse_tokens, itself}
+use Rattle.ud_model.specs.conditions.Parsing.{Frame, left, before, paren, ParseState, needs, has, asks, asks_inside, asks_end, stuck, reduce, close, step, alone, finish, parse_tokens, itself}
 use Rattle.ud_model.specs.declared.operator.Operator.{Operator}
 use Rattle.ud_model.proofs.conditions.ParsingComplete.{level_most}
 

@@ -2,7 +2,7 @@
 use Rattle.std.proofs.Common.{◌≡◌, ℕ, List, [], ◌∷◌, Bool, if◌then◌else◌, leb, Option, option_map, refl, arith}
 use Rattle.ud_model.specs.conditions.Tokens.{Token}
 use Rattle.ud_model.specs.conditions.Expressions.{Expression, precedence}
-use Rattle.ud_model.specs.aids.Parsing.{Meaning, meaning, Frame, left, before, paren, ParseState, needs, has, asks, asks_inside, asks_end, stuck, reduce, step, parse_tokens, parse_all_tokens, tokens_of, reads, itself, expression_of}
+use Rattle.ud_model.specs.conditions.Parsing.{Meaning, meaning, Frame, left, before, paren, ParseState, needs, has, asks, asks_inside, asks_end, stuck, reduce, step, parse_tokens, parse_all_tokens, tokens_of, reads, itself, expression_of}
 
 module _ {A : Type 0} (m : Meaning A) where
   -- The stack, each tree replaced by its meaning.

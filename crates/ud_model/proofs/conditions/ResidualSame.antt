@@ -3,8 +3,7 @@ use Rattle.std.proofs.Common.{◌≡◌, Bool, true, false, List, ◌∷◌, ap,
 use Rattle.ud_model.specs.conditions.Table.{Argument}
 use Rattle.ud_model.specs.conditions.Expressions.{Expression, unary, binary, parens}
 use Rattle.ud_model.specs.conditions.Conditions.{Rules, tree_cond}
-use Rattle.ud_model.specs.conditions.Residuals.{Residual, is_unit, joined, negated, enclosed, residual}
-use Rattle.ud_model.specs.conditions.ResidualTexts.{joined_flags, keeps}
+use Rattle.ud_model.specs.aids.Residuals.{Residual, is_unit, joined, negated, enclosed, residual, joined_flags, keeps}
 use Rattle.ud_model.specs.declared.cond.Cond.{Cond}
 use Rattle.ud_model.specs.declared.operator.Operator.TheVariants.{Or, And, Not}
 use Rattle.ud_model.proofs.conditions.SymbolLemmas.{SaySame}

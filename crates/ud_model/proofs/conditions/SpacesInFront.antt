@@ -4,9 +4,9 @@ use Rattle.ud_model.specs.text.Bytes.{is_white}
 use Rattle.ud_model.specs.conditions.Table.{Argument}
 use Rattle.ud_model.specs.conditions.Expressions.{Expression}
 use Rattle.ud_model.specs.conditions.Tokens.{Token}
-use Rattle.ud_model.specs.aids.Parsing.{tokens_of, reads, parse_all_tokens, itself, needs, expression_of}
+use Rattle.ud_model.specs.conditions.Parsing.{tokens_of, reads, parse_all_tokens, itself, needs, expression_of}
 use Rattle.ud_model.specs.conditions.Conditions.{Rules, expression_cond, tree_cond_if, decision_by_test}
-use Rattle.ud_model.specs.output.CSelection.{condition_by_test}
+use Rattle.ud_model.specs.laws.WrittenConditions.{condition_by_test}
 use Rattle.ud_model.specs.declared.kind.Test.{Test}
 use Rattle.ud_model.proofs.conditions.SpreadTexts.{behind, unspread, spread_tokens}
 

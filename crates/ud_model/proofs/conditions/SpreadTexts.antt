@@ -4,7 +4,7 @@ use Rattle.std.proofs.lemmas.Bool.{false_from_ne_true}
 use Rattle.ud_model.specs.conditions.Constants.{is_constant}
 use Rattle.ud_model.specs.text.Bytes.{is_white, is_word_byte, is_digit, starts_with_byte, skip_white, leading_word, skip_word}
 use Rattle.ud_model.specs.conditions.Tokens.{Token, number, name, defined, operator, opening, closing, NextToken, at_end, unreadable, found, after_matching_paren, with_arguments, name_token, has_exponent_sign, word_token, one_or_two_bytes, punctuator, leading_token, next_token}
-use Rattle.ud_model.specs.aids.Parsing.{prepend_token, tokens_in, tokens_of}
+use Rattle.ud_model.specs.conditions.Parsing.{prepend_token, tokens_in, tokens_of}
 use Rattle.ud_model.specs.declared.operator.Operator.{Operator}
 use Rattle.ud_model.specs.declared.operator.Operator.TheVariants.{Or, And, BitOr, BitXor, BitAnd, Equal, NotEqual, Less, LessEqual, Greater, GreaterEqual, Plus, Minus, Times, Over, Remainder, Not, Complement}
 use Rattle.ud_model.proofs.conditions.TokenLemmas.{shorter}

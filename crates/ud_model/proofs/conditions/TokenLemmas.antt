@@ -4,7 +4,7 @@ use Rattle.std.proofs.Common.{◌≡◌, ℕ, zero, suc, ◌<◌, ◌≤◌, Lis
 use Rattle.std.proofs.lemmas.Option.{none-some}
 use Rattle.ud_model.specs.text.Bytes.{is_word_byte, skip_white, leading_word, skip_word}
 use Rattle.ud_model.specs.conditions.Tokens.{Token, NextToken, found, after_matching_paren, name_token, word_token, punctuator, leading_token, next_token, AreTokens}
-use Rattle.ud_model.specs.aids.Parsing.{prepend_token, tokens_in, tokens_of}
+use Rattle.ud_model.specs.conditions.Parsing.{prepend_token, tokens_in, tokens_of}
 use Rattle.ud_model.proofs.text.ByteLemmas.{length-skip_white}
 
 -- The rest after the token has fewer bytes than `k`.

@@ -4,7 +4,7 @@ use Rattle.std.proofs.lemmas.Bool.{and_parts}
 use Rattle.ud_model.specs.text.Bytes.{number_sign, slash, space, newline, is_quote, is_white, are_white}
 use Rattle.ud_model.specs.text.Scans.{Scan}
 use Rattle.ud_model.specs.sections.Directives.{Directive, directive, content_of, kind_of, is_continued_outside_comment}
-use Rattle.ud_model.specs.sections.DirectiveParts.{DirectiveParts, HasDirective}
+use Rattle.ud_model.specs.aids.DirectiveParts.{DirectiveParts, HasDirective}
 use Rattle.ud_model.specs.declared.kind.Kind.{Kind}
 use Rattle.ud_model.proofs.output.Each.{Each}
 use Rattle.ud_model.proofs.output.EditedScan.{has_quote, ends_in_slash}

@@ -1,7 +1,7 @@
 -- Each line: a property of each text line and opener of nodes is one of each of their items.
 use Rattle.std.proofs.Common.{List, [], ◌∷◌, ◌++◌, ◌≡◌, ap, ap₂, refl, arith}
 use Rattle.ud_model.specs.sections.Tree.{Item, Opener, Nodes, Groups, Elifs, text_line, if_line, elif_line, else_line, endif_line, nothing, text, section, conditional, otherwise, first, elif, lines_of_nodes, lines_of_groups, lines_of_elifs, opener_with_line, with_lines, groups_with_lines, elifs_with_lines}
-use Rattle.ud_model.specs.output.Pruned.{EachLine, GroupLines, ElifLines, Any}
+use Rattle.ud_model.specs.laws.Pruned.{EachLine, GroupLines, ElifLines, Any}
 use Rattle.ud_model.proofs.output.Each.{Each, each_parts, each_both}
 
 module _ {L : Type 0} (T : L → Type 0) (P : Opener L → Type 0) where

@@ -6,7 +6,7 @@ use Rattle.ud_model.specs.declared.cond.Cond.TheVariants.{Yes, No, Unknown}
 use Rattle.ud_model.specs.declared.verdict.Verdict.TheVariants.{Keep, ToElse, ToEndif}
 use Rattle.ud_model.specs.sections.Tree.{Opener, Nodes, Groups, Elifs, nothing, text, section, conditional, otherwise, first, elif}
 use Rattle.ud_model.specs.sections.Pruning.{Part, an_if, an_elif, first_kept_verdict}
-use Rattle.ud_model.specs.output.Pruned.{Edited, edited, edited_opener, then_nodes}
+use Rattle.ud_model.specs.laws.Pruned.{Edited, edited, edited_opener, then_nodes}
 
 -- The rest of a section's groups.
 pub data KeptGroups (L : Type 0) : Type 0 where

@@ -8,7 +8,7 @@ use Rattle.ud_model.specs.conditions.Table.{Argument, Entry, entry_from}
 use Rattle.ud_model.specs.sections.Tree.{Item, Elifs, Head, Tree, if_line, elif_line, else_line, nothing, first, elif, if_head, elif_head, else_head, closed, open_section, lines, lines_of_nodes, lines_of_elifs, lines_of_head, is_ignoring, opener_of_elifs, opener_of_head}
 use Rattle.ud_model.specs.sections.Items.{Options, item_of, item_by, mode_by, mode_after, read_after, next_item}
 use Rattle.ud_model.specs.sections.Faults.{AreFaultless, no_lines, one_more}
-use Rattle.ud_model.specs.output.Rereading.{NoneIgnores, AreRead, no_items, one_item}
+use Rattle.ud_model.specs.laws.Rereading.{NoneIgnores, AreRead, no_items, one_item}
 use Rattle.ud_model.specs.declared.kind.Mode.{Mode}
 use Rattle.ud_model.proofs.output.Each.{Each, each_parts, each_both}
 use Rattle.ud_model.proofs.sections.Unique.{unique, tree_before}

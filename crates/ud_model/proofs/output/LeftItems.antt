@@ -7,16 +7,15 @@ use Rattle.ud_model.specs.conditions.Table.{Argument}
 use Rattle.ud_model.specs.conditions.Conditions.{Decision, Rules, decision_on}
 use Rattle.ud_model.specs.sections.Tree.{Item, if_line, item_with}
 use Rattle.ud_model.specs.sections.Items.{Options, rules_of, directive_item, item_by, item_of}
-use Rattle.ud_model.specs.output.Pruned.{edited, kept_line}
+use Rattle.ud_model.specs.laws.Pruned.{edited, kept_line}
 use Rattle.ud_model.specs.conditions.Expressions.{Expression}
-use Rattle.ud_model.specs.output.Rereading.{line_bytes, edited_bytes}
-use Rattle.ud_model.specs.output.CSelection.{condition_in}
+use Rattle.ud_model.specs.laws.Rereading.{line_bytes, edited_bytes}
+use Rattle.ud_model.specs.laws.WrittenConditions.{condition_in, Condition, condition_on}
 use Rattle.ud_model.specs.declared.cond.Cond.TheVariants.{Unknown}
 use Rattle.ud_model.specs.declared.kind.Kind.{Kind}
 use Rattle.ud_model.specs.declared.kind.Kind.TheVariants.{Else, Endif}
 use Rattle.ud_model.specs.declared.kind.Role.{Role}
 use Rattle.ud_model.specs.declared.kind.Role.TheVariants.{IfGroup, ElifGroup, ElseGroup}
-use Rattle.ud_model.specs.output.Processing.{Condition, condition_on}
 use Rattle.ud_model.specs.declared.verdict.Verdict.{Verdict}
 use Rattle.ud_model.specs.declared.verdict.Verdict.TheVariants.{ToIf, ToElse, ToEndif, Keep}
 use Rattle.ud_model.proofs.output.Suited.{Suits}

@@ -9,8 +9,8 @@ use Rattle.ud_model.specs.sections.Pruning.{Mark, marks}
 use Rattle.ud_model.specs.sections.Items.{Options, reading_of, line_of}
 use Rattle.ud_model.specs.answer.Printing.{piece_by, keyword_in}
 use Rattle.ud_model.specs.answer.Outcomes.{HasNoFault}
-use Rattle.ud_model.specs.output.Pruned.{Edited, edited, edited_opener, kept_line, printed}
-use Rattle.ud_model.specs.output.Rereading.{edited_bytes}
+use Rattle.ud_model.specs.laws.Pruned.{Edited, edited, edited_opener, kept_line, printed}
+use Rattle.ud_model.specs.laws.Rereading.{edited_bytes}
 use Rattle.ud_model.specs.declared.verdict.Verdict.{Verdict}
 use Rattle.ud_model.specs.declared.verdict.Verdict.TheVariants.{Keep, Remove, ToIf, ToElse, ToEndif}
 use Rattle.ud_model.proofs.output.Formed.{IsLeft, whole_piece, unended_piece, formed_more}

@@ -5,7 +5,7 @@ use Rattle.ud_model.specs.declared.cond.Cond.TheVariants.{Unknown}
 use Rattle.ud_model.specs.declared.verdict.Verdict.TheVariants.{Keep}
 use Rattle.ud_model.specs.sections.Tree.{Opener, Nodes, Groups, Elifs, nothing, text, section, conditional, otherwise, first, elif}
 use Rattle.ud_model.specs.sections.Pruning.{Part, an_if, an_elif, first_kept_verdict}
-use Rattle.ud_model.specs.output.Pruned.{Edited, edited, edited_opener, then_nodes, EachLine, GroupLines, ElifLines, IsUnknown}
+use Rattle.ud_model.specs.laws.Pruned.{Edited, edited, edited_opener, then_nodes, EachLine, GroupLines, ElifLines, IsUnknown}
 use Rattle.ud_model.proofs.output.Folded.{KeptGroups, none_kept, replaced, kept_groups, ended, with_group, with_else, then_kept, folded, kept_groups_of, kept_elifs_of}
 
 module _ {L : Type 0} (T : L → Type 0) (P : Opener L → Type 0) (U : Edited L → Type 0) (Q : Opener (Edited L) → Type 0) (texts : (l : L) → T l → U (edited Keep l))

@@ -1,8 +1,8 @@
 -- Nodes have exactly one pruned tree, and it is the folded one.
 use Rattle.std.proofs.Common.{◌≡◌, List, [], ◌∷◌, ◌++◌, refl, sym, ◌∙◌, ap, ap₂, append-nil, append_assoc}
 use Rattle.ud_model.specs.sections.Tree.{Item, Nodes, Groups, Elifs, Tree, text_line, elif_line, else_line, endif_line, nothing, text, section, conditional, otherwise, first, elif, closed, lines_of_nodes, lines_of_groups, lines_of_elifs}
-use Rattle.ud_model.specs.output.Worlds.{openers, openers_of_groups, openers_of_elifs, opener_line, openers_in}
-use Rattle.ud_model.specs.output.Pruned.{Edited, IsPruned, pruned_lines}
+use Rattle.ud_model.specs.laws.Worlds.{openers, openers_of_groups, openers_of_elifs, opener_line, openers_in}
+use Rattle.ud_model.specs.laws.Pruned.{Edited, IsPruned, pruned_lines}
 use Rattle.ud_model.proofs.sections.Unique.{unique}
 use Rattle.ud_model.proofs.output.Folded.{folded}
 use Rattle.ud_model.proofs.output.PrintedPruned.{printed-pruned}

@@ -5,7 +5,7 @@ use Rattle.ud_model.specs.text.Scans.{Reading}
 use Rattle.ud_model.specs.sections.Tree.{Item, Tree, lines}
 use Rattle.ud_model.specs.sections.Items.{Options, line_of, item_of, read_after, next_item}
 use Rattle.ud_model.specs.sections.Faults.{AreFaultless, no_lines, one_more, NoneHolds, cases}
-use Rattle.ud_model.specs.output.Rereading.{IsPlain}
+use Rattle.ud_model.specs.laws.Rereading.{IsPlain}
 use Rattle.ud_model.proofs.output.Each.{Each, each_parts}
 use Rattle.ud_model.proofs.output.Formed.{whole_ending, end_is_some}
 use Rattle.ud_model.proofs.output.Heeding.{the_mode, one_mode, sound_heed}

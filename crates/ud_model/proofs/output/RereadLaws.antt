@@ -11,12 +11,12 @@ use Rattle.ud_model.specs.sections.Faults.{Fault, end_fault, ends_in_comment, la
 use Rattle.ud_model.specs.answer.Printing.{Judged, judged_lines, piece_after, pieces_by, style_of, some_other, printed_by}
 use Rattle.ud_model.specs.answer.Outcomes.{Outcome, HasOutcome, ran_as, HasNoFault, output_by, differs_by}
 use Rattle.ud_model.specs.answer.Outcomes.ReadsAs.{stops, ends}
-use Rattle.ud_model.specs.output.Worlds.{World, selected, Agrees, openers, openers_in}
-use Rattle.ud_model.specs.output.Pruned.{Edited, edited, IsPruned, pruned_lines, printed, IsUndecided, IsUnknown, Any}
+use Rattle.ud_model.specs.laws.Worlds.{World, selected, Agrees, openers, openers_in}
+use Rattle.ud_model.specs.laws.Pruned.{Edited, edited, IsPruned, pruned_lines, printed, IsUndecided, IsUnknown, Any}
 use Rattle.ud_model.proofs.output.Folded.{folded}
-use Rattle.ud_model.specs.output.Rereading.{IsPlain, IsTreeOf, CleanRun, KeepsTruths, LinesFit, line_bytes, edited_bytes}
+use Rattle.ud_model.specs.laws.Rereading.{IsPlain, IsTreeOf, CleanRun, KeepsTruths, LinesFit, line_bytes, edited_bytes}
 use Rattle.ud_model.specs.conditions.Expressions.{Expression}
-use Rattle.ud_model.specs.output.CSelection.{condition_in}
+use Rattle.ud_model.specs.laws.WrittenConditions.{condition_in}
 use Rattle.ud_model.specs.declared.settings.Listing.{Listing}
 use Rattle.ud_model.specs.declared.verdict.Verdict.TheVariants.{Keep}
 use Rattle.ud_model.proofs.sections.Soundness.{sound_read, one_tree_of, sound_lines, read_lines}

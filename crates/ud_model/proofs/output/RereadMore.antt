@@ -11,8 +11,8 @@ use Rattle.ud_model.specs.sections.Tree.{Item, Tree, nothing, closed, item_with}
 use Rattle.ud_model.specs.sections.Pruning.{marks, Mark, is_removed}
 use Rattle.ud_model.specs.sections.Items.{Options, reading_of, line_of, item_of, read_after}
 use Rattle.ud_model.specs.sections.Faults.{ends_removed, is_cut, ends_in_comment, is_in_block}
-use Rattle.ud_model.specs.output.Pruned.{printed, Edited, kept_line}
-use Rattle.ud_model.specs.output.Rereading.{line_bytes}
+use Rattle.ud_model.specs.laws.Pruned.{printed, Edited, kept_line}
+use Rattle.ud_model.specs.laws.Rereading.{line_bytes}
 use Rattle.ud_model.specs.declared.kind.Mode.{Mode}
 use Rattle.ud_model.proofs.output.Each.{Each, each_both}
 use Rattle.ud_model.proofs.output.Heeding.{ReadIn, none_read, one_read}

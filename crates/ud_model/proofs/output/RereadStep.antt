@@ -12,7 +12,7 @@ use Rattle.ud_model.specs.sections.Pruning.{marks, is_removed}
 use Rattle.ud_model.specs.sections.Items.{Options, reading_of, item_of, read_after}
 use Rattle.ud_model.specs.sections.Faults.{NoneHolds, cases, ends_removed, is_obfuscated_after, is_cut, ends_in_comment, keeps_rest}
 use Rattle.ud_model.specs.answer.Printing.{piece_by, keyword_in}
-use Rattle.ud_model.specs.output.Rereading.{line_bytes}
+use Rattle.ud_model.specs.laws.Rereading.{line_bytes}
 use Rattle.ud_model.specs.declared.kind.Mode.{Mode}
 use Rattle.ud_model.specs.declared.kind.Mode.TheVariants.{C, Plain}
 use Rattle.ud_model.specs.declared.verdict.Verdict.{Verdict}

@@ -3,7 +3,7 @@
 use Rattle.std.proofs.Common.{◌≡◌, List, [], ◌∷◌, ◌++◌, length, map, Bool, Option, option_map, refl, sym, ◌∙◌, ap, ap₂, arith}
 use Rattle.std.proofs.lemmas.List.{map-append, length-map}
 use Rattle.ud_model.specs.sections.Tree.{Opener, Nodes, Groups, Elifs, nothing, text, section, conditional, otherwise, first, elif, opener_with_line, with_lines, groups_with_lines, elifs_with_lines}
-use Rattle.ud_model.specs.output.Worlds.{World, or_else, lines_or, where_true, selected, selected_groups, selected_elifs, openers, openers_of_groups, openers_of_elifs}
+use Rattle.ud_model.specs.laws.Worlds.{World, or_else, lines_or, where_true, selected, selected_groups, selected_elifs, openers, openers_of_groups, openers_of_elifs}
 
 module _ {L M : Type 0} (f : L → M) where
   mutual

@@ -5,10 +5,9 @@ use Rattle.ud_model.specs.text.Scans.{Scan, Reading}
 use Rattle.ud_model.specs.sections.Directives.{Content, directive, content_of}
 use Rattle.ud_model.specs.conditions.Expressions.{Expression}
 use Rattle.ud_model.specs.sections.Tree.{Nodes, Groups, Elifs, nothing, text, section, conditional, otherwise, first, elif, opener_with_line, with_lines, groups_with_lines, elifs_with_lines}
-use Rattle.ud_model.specs.output.Pruned.{Edited}
-use Rattle.ud_model.specs.output.Rereading.{line_bytes, edited_bytes}
-use Rattle.ud_model.specs.output.CSelection.{condition_in}
-use Rattle.ud_model.specs.output.Processing.{Condition, no_condition, condition_on}
+use Rattle.ud_model.specs.laws.Pruned.{Edited}
+use Rattle.ud_model.specs.laws.Rereading.{line_bytes, edited_bytes}
+use Rattle.ud_model.specs.laws.WrittenConditions.{condition_in, Condition, no_condition, condition_on}
 use Rattle.ud_model.specs.declared.verdict.Verdict.{Verdict}
 use Rattle.ud_model.specs.declared.verdict.Verdict.TheVariants.{Keep, ToIf}
 

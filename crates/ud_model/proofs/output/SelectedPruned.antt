@@ -6,8 +6,8 @@ use Rattle.ud_model.specs.declared.cond.Cond.{Cond}
 use Rattle.ud_model.specs.declared.verdict.Verdict.TheVariants.{Keep}
 use Rattle.ud_model.specs.sections.Tree.{Opener, Nodes, Groups, Elifs, nothing, text, section, conditional, otherwise, first, elif}
 use Rattle.ud_model.specs.sections.Pruning.{Part, an_if, an_elif}
-use Rattle.ud_model.specs.output.Worlds.{World, or_else, lines_or, where_true, selected, selected_groups, selected_elifs, EachReached, GroupsReached, ElifsReached, AgreesWith}
-use Rattle.ud_model.specs.output.Pruned.{Edited, edited, then_nodes}
+use Rattle.ud_model.specs.laws.Worlds.{World, or_else, lines_or, where_true, selected, selected_groups, selected_elifs, EachReached, GroupsReached, ElifsReached, AgreesWith}
+use Rattle.ud_model.specs.laws.Pruned.{Edited, edited, then_nodes}
 use Rattle.ud_model.proofs.output.Folded.{KeptGroups, none_kept, replaced, kept_groups, ended, with_group, with_else, then_kept, folded, kept_groups_of, kept_elifs_of}
 
 module _ {L : Type 0} (w : World L) where

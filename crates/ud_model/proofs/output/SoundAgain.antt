@@ -8,7 +8,7 @@ use Rattle.ud_model.specs.sections.Tree.{Item, Tree, depth, lines}
 use Rattle.ud_model.specs.aids.Height.{height}
 use Rattle.ud_model.specs.sections.Items.{Options, line_of, next_item}
 use Rattle.ud_model.specs.sections.Faults.{AreFaultless, no_lines, one_more, NoneHolds, cases, ends_removed, is_obfuscated_after}
-use Rattle.ud_model.specs.output.Rereading.{LinesFit, AreRead, no_items, one_item}
+use Rattle.ud_model.specs.laws.Rereading.{LinesFit, AreRead, no_items, one_item}
 use Rattle.ud_model.specs.declared.kind.Mode.{Mode}
 use Rattle.ud_model.specs.declared.limits.TheConstants.{LINE_BYTES, TEXT_LINES, OPEN_SECTIONS}
 use Rattle.ud_model.proofs.output.Each.{Each, each_parts}

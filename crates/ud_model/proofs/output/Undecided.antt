@@ -8,14 +8,14 @@ use Rattle.ud_model.specs.declared.verdict.Verdict.TheVariants.{Keep, ToIf}
 use Rattle.ud_model.specs.sections.Tree.{Nodes, Groups, Elifs, nothing, text, section, conditional, otherwise, first, elif, closed, Item, Opener, if_line, elif_line, lines_of_nodes}
 use Rattle.ud_model.specs.sections.Pruning.{an_if, an_elif, an_else, Mark, marked, is_kept, conds_of_elifs, conds_of_groups, endif_verdict, marks, Part, first_kept_verdict}
 use Rattle.ud_model.specs.aids.SoFar.{verdict_so_far, nodes_so_far, groups_so_far, elifs_so_far}
-use Rattle.ud_model.specs.output.Pruned.{IsUndecided, IsUnknown, Any, GroupLines, ElifLines, Edited}
+use Rattle.ud_model.specs.laws.Pruned.{IsUndecided, IsUnknown, Any, GroupLines, ElifLines, Edited}
 use Rattle.ud_model.proofs.output.Folded.{folded}
 use Rattle.ud_model.proofs.output.EachLines.{AnyOpener, any_lines, IsOf, to_items}
 use Rattle.ud_model.proofs.output.PrunedLines.{pruned_each}
 use Rattle.ud_model.proofs.output.Each.{Each, each_both}
 use Rattle.ud_model.proofs.sections.Stays.{marks_so_far_same}
 use Rattle.ud_model.proofs.sections.Stages.{Stage, going, stage, next_stage, verdict_at, kept_at, verdict_by_stage, kept_by_stage, stage_next, endif_by_stage}
-use Rattle.ud_model.specs.output.Worlds.{openers, openers_in}
+use Rattle.ud_model.specs.laws.Worlds.{openers, openers_in}
 use Rattle.ud_model.proofs.output.PrunedTree.{openers_lines}
 
 -- A line that stays as it is.

@@ -5,7 +5,7 @@ use Rattle.ud_model.specs.text.Lines.{Line, line_at, numbered_from, lines_of, te
 use Rattle.ud_model.specs.text.Scans.{Reading}
 use Rattle.ud_model.specs.sections.Tree.{Item, Nodes, if_line, elif_line, lines_of_nodes}
 use Rattle.ud_model.specs.sections.Items.{reading_of, line_of}
-use Rattle.ud_model.specs.output.Worlds.{World, openers, openers_in}
+use Rattle.ud_model.specs.laws.Worlds.{World, openers, openers_in}
 use Rattle.ud_model.proofs.output.PrunedTree.{openers_lines}
 
 -- The numbers of these lines rise from this one on.

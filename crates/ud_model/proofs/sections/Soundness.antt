@@ -7,7 +7,7 @@ use Rattle.ud_model.specs.sections.Directives.{content_of}
 use Rattle.ud_model.specs.sections.Tree.{Item, Tree, lines}
 use Rattle.ud_model.specs.sections.Items.{Options, reading_of, line_of, item_of, next_item}
 use Rattle.ud_model.specs.sections.Faults.{Fault, Case, past_last, too_long, cut, out_of_place, too_deep, obfuscated_case, earlier, cases, Holds, NoneHolds, FaultOf, AreFaultless, no_lines, one_more, end_fault}
-use Rattle.ud_model.specs.output.Rereading.{AreRead, no_items, one_item, IsTreeOf}
+use Rattle.ud_model.specs.laws.Rereading.{AreRead, no_items, one_item, IsTreeOf}
 use Rattle.ud_model.specs.answer.Outcomes.{Outcome, FirstFaultAt, HasNoFault, ReadsAs, HasOutcome, ran_as, lines_so_far, line_so_far, RestBreaks, ReadsSoFar, HasOutcomeSoFar, came_as}
 use Rattle.ud_model.specs.answer.Outcomes.ReadsAs.{stops, ends}
 use Rattle.ud_model.specs.answer.Outcomes.ReadsSoFar.{stops as stops_so_far, breaks, goes_on}

@@ -6,7 +6,7 @@ use Rattle.std.proofs.lemmas.Slice.Eq.{bytes_eq-Decides}
 use Rattle.ud_model.specs.text.Bytes.{number_sign, is_white, is_word_byte, are_white, are_word_bytes, skip_white, leading_word, skip_word}
 use Rattle.ud_model.specs.text.Scans.{Scan}
 use Rattle.ud_model.specs.sections.Directives.{Content, Directive, cut_keyword, directive, text, content_of, skip_white_and_hash, skip_hash, may_split_keyword, has_split_keyword, content_after_hash, directive_at, kind_of, is_in_line, is_continued_outside_comment}
-use Rattle.ud_model.specs.sections.DirectiveParts.{DirectiveParts, AreParts, first_is, EndsInKeyword, nothing_follows, IsSplitKeyword, HasSplitKeyword, HasDirective}
+use Rattle.ud_model.specs.aids.DirectiveParts.{DirectiveParts, AreParts, first_is, EndsInKeyword, nothing_follows, IsSplitKeyword, HasSplitKeyword, HasDirective}
 use Rattle.ud_model.specs.declared.kind.Kind.{Kind}
 use Rattle.ud_model.proofs.text.LexLemmas.{same_front}
 

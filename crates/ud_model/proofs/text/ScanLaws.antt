@@ -6,13 +6,13 @@ use Rattle.ud_model.specs.text.Lines.{Line}
 use Rattle.ud_model.specs.text.Scans.{Scan, Reading}
 use Rattle.ud_model.specs.text.Splicing.{is_spliced, is_empty, content, stays_open, spliced_part, spliced_text, extended_run, c_run_from, c_run_of, last_is_spliced}
 use Rattle.ud_model.specs.text.Lexemes.{kind_at_end}
-use Rattle.ud_model.specs.text.Scanning.{is_block, joins, comment_at, scan_after_run, scan_after, next_reading, readings_after, readings_of}
+use Rattle.ud_model.specs.text.Scanning.{is_block, joins, comment_at, scan_after_run, scan_after, next_reading, readings_after, readings_of, EndsLogicalLine, ends_with}
 use Rattle.ud_model.specs.aids.LexStates.{LexState, in_text, LexesTo, next_state, opens_comment, masked_byte, stays_white, kind_in_state, fresh_at, state_after_line, white_after_line, blank_last, Masks}
 use Rattle.ud_model.specs.declared.kind.Mode.{Mode}
 use Rattle.ud_model.specs.declared.kind.Mode.TheVariants.{C}
 use Rattle.ud_model.proofs.text.LexStateLemmas.{LexesTo-nil, Masks-step}
 use Rattle.ud_model.proofs.text.ScanLemmas.{LexesTo-same, LexesTo-close, Masks-start, kind_at_place, spliced_text-append, joined_last, joins_last, scan_behind_is, run_of_last}
-use Rattle.ud_model.specs.output.InsertedLines.{read_in}
+use Rattle.ud_model.specs.aids.ReadAs.{read_in}
 use Rattle.std.proofs.lemmas.List.{map-append}
 
 -- The state after further bytes.
@@ -152,6 +152,9 @@ anew_code prefix group last line alone some = let run : List Line = c_run_of pre
 pub scan_alone : (prefix group : List Reading) (m n : Mode) (last line : Line) → (scan_after prefix m last).joins_after ≡ false → last.ending ≢ [] →
     scan_after ((prefix ++ next_reading prefix m last ∷ []) ++ group) n line ≡ scan_after group n line
 scan_alone prefix group m n last line alone some = grind (arith, anew_code, c_run_from-append)
+
+pub after_end : (before group : List Reading) (m : Mode) (l : Line) → EndsLogicalLine before → scan_after (before ++ group) m l ≡ scan_after group m l
+after_end before group m l (ends_with prefix n last alone some) = scan_alone prefix group n m last l alone some
 
 -- So further lines are read as if no line came before them.
 pub readings_alone : (prefix group : List Reading) (m : Mode) (last : Line) (lines : List (Mode × Line)) → (scan_after prefix m last).joins_after ≡ false →

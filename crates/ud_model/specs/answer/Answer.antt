@@ -4,21 +4,17 @@
 --   Answer                  output, message and status
 --   IsAnswer args input a   `a` is the answer to these arguments and this input; there is
 --                           exactly one
---   Succeeds args input a   it is that answer, and reports no fault
---   JudgesAs args input js  the arguments have no fault, and judge the lines of the input as `js`
---   copy_answer args text   the answer of a run that copies this text
 --
 -- The arguments are parsed (CommandLine). The input is split into lines (Lines). Each line is
 -- scanned (Scans), read as text or a directive (Directives) with its condition (Conditions), so the
 -- lines have a tree (Tree). The tree is pruned (Pruning) and printed (Printing), or its names are
 -- listed (Listing), up to the first fault (Faults, Outcomes).
-use Rattle.std.specs.Prelude.{◌≡◌, ◌≢◌, ℕ, List, [], Bool, true, false, Option, Some, None}
+use Rattle.std.specs.Prelude.{◌≡◌, ℕ, List, [], Bool, true, false, Option, Some, None}
 use Rattle.ud_model.specs.answer.CommandLine.{UsageFault, usage_fault, options_of, display_name}
 use Rattle.ud_model.specs.answer.CommandLine.{usage_message}
 use Rattle.ud_model.specs.sections.Faults.{Fault}
 use Rattle.ud_model.specs.answer.Messages.{message_of, out_of_memory}
-use Rattle.ud_model.specs.answer.Printing.{Judged}
-use Rattle.ud_model.specs.answer.Outcomes.{Outcome, HasOutcome, JudgedAs}
+use Rattle.ud_model.specs.answer.Outcomes.{Outcome, HasOutcome}
 use Rattle.ud_model.specs.declared.settings.Settings.{Settings}
 use Rattle.ud_model.specs.declared.settings.Listing.{Listing}
 use Rattle.ud_model.specs.declared.settings.Listing.TheVariants.{Off, Names, Depths}
@@ -72,29 +68,12 @@ run_answer s name r = record {
       status_of s r.differs r.fault;
 }
 
--- `copy_answer args text`: the answer of a run whose output is a copy of its input `text`.
-abbrev pub copy_answer : List (List ℕ) → List ℕ → Answer
-copy_answer args text =
-    run_answer (options_of args).settings (display_name args)
-    (record { output = text; fault = None; differs = false })
-
 -- `IsAnswer args input a`: `a` is the answer to these arguments and this input: a message on the
 -- first fault of the arguments, or the answer of the run.
 pub data IsAnswer (args : List (List ℕ)) (input : List ℕ) : Answer → Type 0 where
   refused : (f : UsageFault) → usage_fault args ≡ Some f → IsAnswer args input (usage_answer f)
   ran : (r : Outcome) → usage_fault args ≡ None → HasOutcome (options_of args) input r →
       IsAnswer args input (run_answer (options_of args).settings (display_name args) r)
-
--- `Succeeds args input a`: `a` is the answer to these arguments and this input, and neither has a
--- fault.
-pub record Succeeds (args : List (List ℕ)) (input : List ℕ) (a : Answer) : Type 0 where
-  pub answer : IsAnswer args input a
-  pub no_fault : a.status ≢ 2
-
--- `JudgesAs args input js`: the arguments have no fault, and judge the lines of the input as `js`.
-pub record JudgesAs (args : List (List ℕ)) (input : List ℕ) (js : List Judged) : Type 0 where
-  pub no_fault : usage_fault args ≡ None
-  pub judged : JudgedAs (options_of args) input js
 
 -- The answer if memory can't be allocated.
 abbrev pub memory_answer : Answer

@@ -4,8 +4,6 @@
 --                               up to the fault `f` or to its end
 --   ReadsSoFar o given xs t f   the same for a text that goes on: its whole lines count, and the
 --                               rest only for its limits
---   JudgedAs o input js         `js` are the lines of a text that has ended, up to its first fault,
---                               with their verdicts
 --   Outcome                     the output, the fault if any, and whether some line
 --                               differs
 --   outcome_of s xs t f         the outcome of these items with this tree and this fault under the
@@ -25,7 +23,7 @@ use Rattle.ud_model.specs.sections.Pruning.{marks}
 use Rattle.ud_model.specs.sections.Items.{Options, line_of, next_item}
 use Rattle.ud_model.specs.sections.Faults.{Fault, Case, FaultOf, AreFaultless, end_fault, past_last}
 use Rattle.ud_model.specs.sections.Faults.{too_long}
-use Rattle.ud_model.specs.answer.Printing.{Judged, judged_lines, printed_by, some_differ_by}
+use Rattle.ud_model.specs.answer.Printing.{printed_by, some_differ_by}
 use Rattle.ud_model.specs.answer.Listing.{levels, listed}
 use Rattle.ud_model.specs.declared.settings.Settings.{Settings}
 use Rattle.ud_model.specs.declared.settings.Listing.{Listing}
@@ -57,11 +55,6 @@ pub data ReadsAs (o : Options) (input : List ℕ) : List (Item Reading) → Tree
       FirstFaultAt o (lines_of input) xs t f → ReadsAs o input xs t (Some f)
   ends : (xs : List (Item Reading)) (t : Tree Reading) → HasNoFault o (lines_of input) xs t →
       ReadsAs o input xs t (end_fault xs t)
-
--- `JudgedAs o input js`: the text is read as the lines `js`, with their verdicts.
-pub data JudgedAs (o : Options) (input : List ℕ) : List Judged → Type 0 where
-  judged_as : {xs : List (Item Reading)} {t : Tree Reading} {f : Option Fault} →
-      ReadsAs o input xs t f → JudgedAs o input (judged_lines xs (marks t))
 
 -- `lines_so_far given`: the whole lines of a text that goes on.
 abbrev pub lines_so_far : List ℕ → List Line

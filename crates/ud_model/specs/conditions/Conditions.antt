@@ -19,7 +19,7 @@ use Rattle.ud_model.specs.sections.Directives.{Directive, role_of, test_of}
 use Rattle.ud_model.specs.conditions.Table.{Argument, Entry, entry_in}
 use Rattle.ud_model.specs.conditions.Expressions.{Expression, constant, named, is_defined, unary}
 use Rattle.ud_model.specs.conditions.Expressions.{binary, parens}
-use Rattle.ud_model.specs.aids.Parsing.{expression_of}
+use Rattle.ud_model.specs.conditions.Parsing.{expression_of}
 use Rattle.ud_model.specs.conditions.Values.{is_zero, value_of}
 use Rattle.ud_model.specs.declared.cond.Cond.{Cond}
 use Rattle.ud_model.specs.declared.cond.Cond.TheVariants.{Yes, No, Unknown}

@@ -10,13 +10,12 @@
 -- So a directive has in the flat text the number that it has in the text.
 --
 -- Example: `#if A || \`, `  B` becomes the line `#if A ||    B` and an empty one.
-use Rattle.std.specs.Prelude.{ℕ, List, [], ◌∷◌, ◌++◌, ◌==◌, if◌then◌else◌, bytes_eq, map}
-use Rattle.std.specs.Prelude.{filter}
+use Rattle.std.specs.Prelude.{ℕ, List, [], ◌∷◌, ◌++◌, ◌==◌, if◌then◌else◌, bytes_eq, map, filter}
 use Rattle.std.specs.List.{flat_map}
 use Rattle.ud_model.specs.text.Bytes.{newline, space}
 use Rattle.ud_model.specs.text.Lines.{Line, text_of, line_at, texts_of}
 use Rattle.ud_model.specs.text.Scans.{Reading}
-use Rattle.ud_model.specs.output.FoldedTexts.{vertical_tab, folded_line, is_foldable, folded_text}
+use Rattle.ud_simplified.specs.FoldedTexts.{vertical_tab, folded_line, is_foldable, folded_text}
 
 -- `flat_byte b`: the byte `b`, or a space in place of a vertical tab.
 abbrev pub flat_byte : ℕ → ℕ

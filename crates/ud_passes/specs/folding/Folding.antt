@@ -12,8 +12,8 @@ use Rattle.std.specs.List.{flat_map}
 use Rattle.ud_model.specs.text.Scans.{Reading}
 use Rattle.ud_model.specs.text.Splicing.{c_run_of}
 use Rattle.ud_model.specs.text.Scanning.{joins, scan_after}
-use Rattle.ud_model.specs.text.LineViews.{as_line}
-use Rattle.ud_model.specs.output.FoldedTexts.{continued, folded_bytes, folded_lines, restored_line}
+use Rattle.ud_model.specs.aids.LineViews.{as_line}
+use Rattle.ud_simplified.specs.FoldedTexts.{continued, folded_bytes, folded_lines, restored_line}
 use Rattle.ud_model.specs.declared.line.Line.{Line as CodeLine}
 use Rattle.ud_model.specs.declared.scan.Scan.{Scan as CodeScan}
 use Rattle.ud_model.specs.declared.kind.Mode.TheVariants.{C}
@@ -35,8 +35,8 @@ abbrev pub rest_from : List Reading → List Reading → List ℕ
 rest_from [] rs = plain_lines (continued rs) ++ folded_lines rs
 rest_from (g ∷ group) rs = folded_bytes (g ∷ group ++ continued rs) ++ folded_lines rs
 
--- `Takes r group old out l b new`: the line `r` was taken after the lines `group`. Bytes were
--- appended to `old`, and `l` and `b` have the pending lines.
+-- `Takes r group old out l b new`: the line `r` was taken after the lines `group`. Bytes
+-- were appended to `old`, and `l` and `b` have the pending lines.
 pub record Takes (r : Reading) (group : List Reading) (old : List ℕ) (l : LogicalLine)
     (b : Option Last) (new : List ℕ) : Type 0 where
   pub more : List ℕ
@@ -62,7 +62,8 @@ abbrev pub TakesNext : ScannerState → CodeLine → LogicalLine → Option Last
 TakesNext s line l b old m c new = (before : List Reading) → ScannerRepresents s before →
     (n : ℕ) (group : List Reading) → IsGroup l b group →
     IfSome b (λ _. joins (c_run_of before) ≡ true) →
-    Takes (reading_at C (as_line line) (scan_after before C (as_line line)) n) group old m c new
+    Takes (reading_at C (as_line line) (scan_after before C (as_line line)) n) group old m c
+    new
 
 -- `Folded text start l b walk out`: the folded lines before the walk's place were appended to
 -- `start`, except those of the pending logical line.

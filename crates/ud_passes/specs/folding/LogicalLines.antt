@@ -17,14 +17,14 @@ use Rattle.ud_model.specs.text.Lines.{Line, NoNewline, text_of}
 use Rattle.ud_model.specs.text.Splicing.{is_empty, is_spliced}
 use Rattle.ud_model.specs.text.Scans.{Reading}
 use Rattle.ud_model.specs.text.Scanning.{scan_after_run}
-use Rattle.ud_model.specs.text.LineViews.{as_line, as_scan}
+use Rattle.ud_model.specs.aids.LineViews.{as_line, as_scan}
 use Rattle.ud_model.specs.declared.line.Line.{Line as CodeLine}
 use Rattle.ud_model.specs.declared.scan.Scan.{Scan as CodeScan}
 use Rattle.ud_model.specs.declared.kind.Mode.TheVariants.{C}
 use Rattle.ud_model.specs.sections.Directives.{content_of}
-use Rattle.ud_model.specs.output.FoldedTexts.{continued_part, shown_lines, begins_directive}
-use Rattle.ud_model.specs.output.FoldedTexts.{are_alike, fits, is_directive, is_shown_as}
-use Rattle.ud_model.specs.output.SimplifiedTexts.{keeps_ending}
+use Rattle.ud_simplified.specs.FoldedTexts.{continued_part, shown_lines, begins_directive}
+use Rattle.ud_simplified.specs.FoldedTexts.{are_alike, fits, is_directive, is_shown_as}
+use Rattle.ud_simplified.specs.SimplifiedTexts.{keeps_ending}
 use Rattle.ud_passes.specs.Walks.{reading_at}
 use Rattle.ud_passes.specs.declared.folding.logical.Last.{Last}
 use Rattle.ud_passes.specs.declared.folding.logical.LogicalLine.{LogicalLine}

@@ -19,8 +19,8 @@ use Rattle.ud_model.specs.text.Scans.{Reading}
 use Rattle.ud_model.specs.sections.Directives.{Directive, Content, cut_keyword, directive, text}
 use Rattle.ud_model.specs.sections.Directives.{content_of, test_of}
 use Rattle.ud_model.specs.conditions.Conditions.{sole_name}
-use Rattle.ud_model.specs.aids.Parsing.{expression_of}
-use Rattle.ud_model.specs.output.InsertedLines.{read_as}
+use Rattle.ud_model.specs.conditions.Parsing.{expression_of}
+use Rattle.ud_model.specs.aids.ReadAs.{read_as}
 use Rattle.ud_model.specs.declared.kind.Mode.{Mode}
 use Rattle.ud_model.specs.declared.kind.Test.{Test}
 use Rattle.ud_model.specs.declared.kind.Test.TheVariants.{Nonzero, Defined, Undefined, Nothing}

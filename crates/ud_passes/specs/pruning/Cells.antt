@@ -22,10 +22,9 @@ use Rattle.ud_model.specs.text.Lexemes.{Cell, shown}
 use Rattle.ud_model.specs.conditions.Table.{Argument}
 use Rattle.ud_model.specs.conditions.Expressions.{Expression}
 use Rattle.ud_model.specs.conditions.Conditions.{Rules, expression_cond}
-use Rattle.ud_model.specs.conditions.Residuals.{residual, is_unknown}
-use Rattle.ud_model.specs.conditions.ResidualTexts.{keeps, left_from, is_read, is_literal}
-use Rattle.ud_model.specs.conditions.ResidualTexts.{simplified_cells}
-use Rattle.ud_model.specs.aids.Parsing.{expression_of}
+use Rattle.ud_model.specs.aids.Residuals.{residual, is_unknown, keeps}
+use Rattle.ud_simplified.specs.ResidualTexts.{left_from, is_read, is_literal, simplified_cells}
+use Rattle.ud_model.specs.conditions.Parsing.{expression_of}
 use Rattle.ud_model.specs.declared.cond.Cond.TheVariants.{Unknown}
 use Rattle.ud_passes.specs.declared.pruning.cells.CellBytes.{CellBytes}
 use Rattle.ud_passes.specs.declared.pruning.cells.LeftText.{LeftText}

@@ -22,9 +22,9 @@ use Rattle.ud_model.specs.text.Scanning.{scan_after, scan_after_run}
 use Rattle.ud_model.specs.sections.Directives.{Directive, directive, content_of}
 use Rattle.ud_model.specs.conditions.Table.{Argument}
 use Rattle.ud_model.specs.conditions.Conditions.{Rules}
-use Rattle.ud_model.specs.conditions.ResidualTexts.{is_literal}
-use Rattle.ud_model.specs.output.SimplifiedTexts.{condition_cells, has_condition, left_line}
-use Rattle.ud_model.specs.output.SimplifiedTexts.{is_read_alone, left_cells_of, simplified_line}
+use Rattle.ud_simplified.specs.ResidualTexts.{is_literal}
+use Rattle.ud_simplified.specs.SimplifiedTexts.{condition_cells, has_condition, left_line}
+use Rattle.ud_simplified.specs.SimplifiedTexts.{is_read_alone, left_cells_of, simplified_line}
 use Rattle.ud_model.specs.declared.kind.Kind.{Kind}
 use Rattle.ud_model.specs.declared.kind.Mode.TheVariants.{C}
 

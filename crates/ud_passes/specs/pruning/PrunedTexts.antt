@@ -7,15 +7,14 @@
 -- A line over the limit stays. So if all lines fit, the pruned text is the simplified text.
 --
 -- Example: with A undefined, `#if A || X` becomes `#if X`: one edited line.
-use Rattle.std.specs.Prelude.{ℕ, suc, List, [], ◌∷◌, map, Bool, not, if◌then◌else◌}
-use Rattle.std.specs.Prelude.{bytes_eq}
+use Rattle.std.specs.Prelude.{ℕ, suc, List, [], ◌∷◌, map, Bool, not, if◌then◌else◌, bytes_eq}
 use Rattle.std.specs.List.{concat}
 use Rattle.ud_model.specs.text.Lines.{Line, text_of}
 use Rattle.ud_model.specs.text.Scans.{Reading}
 use Rattle.ud_model.specs.conditions.Table.{Argument}
 use Rattle.ud_model.specs.conditions.Conditions.{Rules}
-use Rattle.ud_model.specs.output.InsertedLines.{read_as}
-use Rattle.ud_model.specs.output.SimplifiedTexts.{simplified_line}
+use Rattle.ud_model.specs.aids.ReadAs.{read_as}
+use Rattle.ud_simplified.specs.SimplifiedTexts.{simplified_line}
 use Rattle.ud_model.specs.declared.kind.Mode.TheVariants.{C}
 use Rattle.ud_passes.specs.Passes.{fits}
 

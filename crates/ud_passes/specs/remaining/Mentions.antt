@@ -21,7 +21,7 @@ use Rattle.ud_model.specs.text.Scans.{Reading, is_spanning}
 use Rattle.ud_model.specs.sections.Directives.{Directive, Content, cut_keyword, directive, text}
 use Rattle.ud_model.specs.sections.Directives.{content_of}
 use Rattle.ud_model.specs.conditions.Table.{Argument}
-use Rattle.ud_model.specs.output.InsertedLines.{read_as}
+use Rattle.ud_model.specs.aids.ReadAs.{read_as}
 use Rattle.ud_model.specs.declared.kind.Kind.{Kind}
 use Rattle.ud_model.specs.declared.kind.Kind.TheVariants.{Else, Endif}
 use Rattle.ud_model.specs.declared.kind.Mode.{Mode}

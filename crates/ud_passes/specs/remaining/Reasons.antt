@@ -1,5 +1,5 @@
 -- Reasons: why a condition that names a symbol of the options stays, though operands are removed.
--- These are the cases of the law in `ud_model.specs.output.LeftOperands`.
+-- These are the cases of the law in `ud_laws.specs.output.LeftOperands`.
 --
 --   why_stays table rules kind m   the reason of the condition `m`
 --   reason_of table listing m      the reason that the list gives for the mention `m`, if any
@@ -18,9 +18,8 @@ use Rattle.ud_model.specs.conditions.Table.{Argument}
 use Rattle.ud_model.specs.conditions.Expressions.{Expression}
 use Rattle.ud_model.specs.conditions.Names.{names_in}
 use Rattle.ud_model.specs.conditions.Conditions.{Rules, condition_of, is_listed}
-use Rattle.ud_model.specs.conditions.Residuals.{is_unknown}
-use Rattle.ud_model.specs.conditions.ResidualTexts.{keeps}
-use Rattle.ud_model.specs.aids.Parsing.{expression_of}
+use Rattle.ud_model.specs.aids.Residuals.{is_unknown, keeps}
+use Rattle.ud_model.specs.conditions.Parsing.{expression_of}
 use Rattle.ud_model.specs.sections.Directives.{test_of}
 use Rattle.ud_model.specs.declared.kind.Test.{Test}
 use Rattle.ud_model.specs.declared.kind.Test.TheVariants.{Nonzero, Defined, Undefined, Nothing}
@@ -38,8 +37,7 @@ use Rattle.ud_passes.specs.declared.remaining.reasons.Reason.TheVariants.{Severa
 use Rattle.ud_passes.specs.declared.remaining.reasons.Reason.TheVariants.{NotUnderstood, Misread}
 use Rattle.ud_passes.specs.declared.remaining.reasons.Reason.TheVariants.{InArguments}
 use Rattle.ud_passes.specs.declared.remaining.reasons.Reason.TheVariants.{UnknownOperand}
-use Rattle.ud_passes.specs.declared.remaining.reasons.Reason.TheVariants.{SourceDefines}
-use Rattle.ud_passes.specs.declared.remaining.reasons.Reason.TheVariants.{InComment}
+use Rattle.ud_passes.specs.declared.remaining.reasons.Reason.TheVariants.{SourceDefines, InComment}
 
 -- `is_split m`: the condition is on several lines, or longer than a line may be.
 abbrev pub is_split : Mention → Bool

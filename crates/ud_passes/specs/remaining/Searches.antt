@@ -18,7 +18,7 @@ use Rattle.std.specs.Prelude.{◌≡◌, ℕ, ◌+◌, ◌-◌, ◌<◌, ◌^◌
 use Rattle.std.specs.Prelude.{false, Option, Some, None}
 use Rattle.ud_model.specs.text.Scans.{Reading}
 use Rattle.ud_model.specs.text.Scanning.{scan_after}
-use Rattle.ud_model.specs.text.LineViews.{as_line, as_scan}
+use Rattle.ud_model.specs.aids.LineViews.{as_line, as_scan}
 use Rattle.ud_model.specs.sections.Directives.{content_of}
 use Rattle.ud_model.specs.conditions.Table.{Argument}
 use Rattle.ud_model.specs.declared.kind.Mode.{Mode}
@@ -80,9 +80,10 @@ module _ (table : List Argument) where
   abbrev pub IsTaken : Option Mention → Reading → Option Mention → Bool → Type 0
   IsTaken p r q goes_on = (q ≡ taken p r) × (goes_on ≡ joins_next r)
 
--- `Extends table line scan number p q`: read in any mode, the line with this scan and number makes
--- `q` of the mention `p`.
-abbrev pub Extends : List Argument → CodeLine → CodeScan → ℕ → Option Mention → Option Mention →
+-- `Extends table line scan number p q`: read in any mode, the line with this scan and number
+-- makes `q` of the mention `p`.
+abbrev pub Extends : List Argument → CodeLine → CodeScan → ℕ → Option Mention → Option
+    Mention →
     Type 0
 Extends table line scan number p q = (mode : Mode) →
     q ≡ extended table p (reading_at mode (as_line line) (as_scan scan) number)

@@ -3,8 +3,8 @@
 ghost use Rattle.std.specs.Prelude.{◌≡◌, ℕ, List, true, false};
 ghost use Rattle.std.specs.List.{flat_map};
 ghost use Rattle.ud_model.specs.text.Lines.{lines_of};
-ghost use Rattle.ud_model.specs.output.FoldedTexts.{has_tab, logical_lines};
-ghost use Rattle.ud_model.specs.output.InsertedLines.{read_as};
+ghost use Rattle.ud_simplified.specs.FoldedTexts.{has_tab, logical_lines};
+ghost use Rattle.ud_model.specs.aids.ReadAs.{read_as};
 ghost use Rattle.ud_model.specs.declared.kind.Mode.{Mode};
 ghost use Rattle.ud_passes.specs.folding.FlatTexts.{flat_text, placed_lines};
 

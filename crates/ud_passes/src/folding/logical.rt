@@ -4,10 +4,10 @@ ghost use Rattle.std.specs.Prelude.{◌≡◌, ◌∷◌, ◌++◌, ℕ, List, [
 ghost use Rattle.std.specs.Prelude.{OnOk, Some};
 ghost use Rattle.ud_model.specs.text.Lines.{NoNewline, text_of};
 ghost use Rattle.ud_model.specs.text.Scans.{Reading};
-ghost use Rattle.ud_model.specs.text.LineViews.{as_line, as_scan};
+ghost use Rattle.ud_model.specs.aids.LineViews.{as_line, as_scan};
 ghost use Rattle.ud_model.specs.sections.Directives.{content_of};
-ghost use Rattle.ud_model.specs.output.FoldedTexts as spec;
-ghost use Rattle.ud_model.specs.output.FoldedTexts.{folded_bytes};
+ghost use Rattle.ud_simplified.specs.FoldedTexts as spec;
+ghost use Rattle.ud_simplified.specs.FoldedTexts.{folded_bytes};
 ghost use Rattle.ud_passes.specs.Passes.{Grows};
 ghost use Rattle.ud_passes.specs.folding.LogicalLines.{plain_lines, c_reading, HasItsSplice};
 ghost use Rattle.ud_passes.specs.folding.LogicalLines.{BeginsLine, AddsLine, IsLast, IsLogical};
@@ -215,7 +215,8 @@ impl LogicalLine {
         requires one_line { NoNewline line.now.body.now }
         ensures grows { Grows out.old.items out.new.items }
         ensures taken { IfOk result (λ b. (n : ℕ) → HasItsSplice line.now scan.now →
-            Takes (c_reading line.now scan.now n) [] out.old.items self.new b out.new.items) }
+            Takes (c_reading line.now scan.now n) [] out.old.items self.new b
+            out.new.items) }
     {
         if begins(scan) {
             let last = self.begin(line, scan)?;

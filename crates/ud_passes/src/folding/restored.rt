@@ -3,9 +3,9 @@
 ghost use Rattle.std.specs.Prelude.{◌≡◌, ◌≤◌, ◌<◌, ◌∷◌, ◌++◌, ℕ, List, [], length, IfOk, OnOk};
 ghost use Rattle.std.specs.Prelude.{OnErr};
 ghost use Rattle.ud_model.specs.text.Lines.{NoNewline, text_of};
-ghost use Rattle.ud_model.specs.text.LineViews.{as_line};
-ghost use Rattle.ud_model.specs.output.FoldedTexts.{restored_text, restored_line, restored_body};
-ghost use Rattle.ud_model.specs.output.FoldedTexts.{restored_byte};
+ghost use Rattle.ud_model.specs.aids.LineViews.{as_line};
+ghost use Rattle.ud_simplified.specs.FoldedTexts.{restored_text, restored_line, restored_body};
+ghost use Rattle.ud_simplified.specs.FoldedTexts.{restored_byte};
 ghost use Rattle.ud_model.specs.declared.limits.TheConstants.{LINE_BYTES};
 ghost use Rattle.ud_passes.specs.Passes.{Grows};
 ghost use Rattle.ud_passes.specs.folding.Folding.{Restored};

@@ -3,10 +3,10 @@
 ghost use Rattle.std.specs.Prelude.{◌≡◌, ◌≤◌, [], length, not, true, ◌&&◌, IfOk};
 ghost use Rattle.ud_model.specs.text.Lines.{Line as TextLine, NoNewline, text_of, is_ending};
 ghost use Rattle.ud_model.specs.text.Scanning.{scan_after_run};
-ghost use Rattle.ud_model.specs.text.LineViews.{as_line, as_scan};
+ghost use Rattle.ud_model.specs.aids.LineViews.{as_line, as_scan};
 ghost use Rattle.ud_model.specs.sections.Directives.{content_of};
-ghost use Rattle.ud_model.specs.output.FoldedTexts as spec;
-ghost use Rattle.ud_model.specs.output.FoldedTexts.{is_shown_as, tabs_are_beside};
+ghost use Rattle.ud_simplified.specs.FoldedTexts as spec;
+ghost use Rattle.ud_simplified.specs.FoldedTexts.{is_shown_as, tabs_are_beside};
 ghost use Rattle.ud_model.specs.declared.limits.TheConstants.{LINE_BYTES};
 ghost use Rattle.ud_passes.specs.folding.LogicalLines.{is_line_shown};
 

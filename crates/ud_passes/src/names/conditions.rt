@@ -1,10 +1,10 @@
 //! Whether the condition of a line can be listed.
 
 ghost use Rattle.std.specs.Prelude.{◌≡◌, ◌≤◌, [], length, is_some, true, false};
-ghost use Rattle.ud_model.specs.text.LineViews.{as_scan};
+ghost use Rattle.ud_model.specs.aids.LineViews.{as_scan};
 ghost use Rattle.ud_model.specs.sections.Directives.{content_of, test_of};
 ghost use Rattle.ud_model.specs.conditions.Names.{names_of};
-ghost use Rattle.ud_model.specs.aids.Parsing.{expression_of};
+ghost use Rattle.ud_model.specs.conditions.Parsing.{expression_of};
 ghost use Rattle.ud_model.specs.declared.limits.TheConstants.{LINE_BYTES};
 ghost use Rattle.ud_sections.specs.directives.ParsedDirectives.{as_directive};
 ghost use Rattle.ud_passes.specs.names.UnlistedConditions.{has_unlisted, is_understood};

@@ -1,13 +1,13 @@
 //! The conditions of a text that can't be listed.
 
-ghost use Rattle.std.specs.Prelude.{◌≡◌, ◌+◌, ◌≤◌, ◌<◌, ◌^◌, ◌∷◌, ◌++◌, ℕ, List, [], length};
-ghost use Rattle.std.specs.Prelude.{true, IfOk, OnOk, if◌then◌else◌};
+ghost use Rattle.std.specs.Prelude.{◌≡◌, ◌+◌, ◌≤◌, ◌<◌, ◌^◌, ◌∷◌, ◌++◌, ℕ, List, [], length, true};
+ghost use Rattle.std.specs.Prelude.{IfOk, OnOk, if◌then◌else◌};
 ghost use Rattle.ud_model.specs.text.Lines.{NoNewline, text_of, whole_lines};
 ghost use Rattle.ud_model.specs.text.Scans.{Reading};
 ghost use Rattle.ud_model.specs.text.Scanning.{next_reading};
-ghost use Rattle.ud_model.specs.text.LineViews.{as_line};
+ghost use Rattle.ud_model.specs.aids.LineViews.{as_line};
 ghost use Rattle.ud_model.specs.declared.limits.TheConstants.{LINE_BYTES};
-ghost use Rattle.ud_model.specs.output.InsertedLines.{read_as};
+ghost use Rattle.ud_model.specs.aids.ReadAs.{read_as};
 ghost use Rattle.ud_text.specs.scan.ScannerState.{ScannerRepresents};
 ghost use Rattle.ud_passes.specs.Passes.{Grows, numbered_line};
 ghost use Rattle.ud_passes.specs.names.UnlistedConditions.{is_unlisted_line, unlisted_in};

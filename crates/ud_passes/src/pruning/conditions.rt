@@ -3,15 +3,14 @@
 //! `residual` gives a flag for each token, and the flags decide what is copied. The copy replaces
 //! the text if it has exactly the tokens that are left, and is still unknown.
 
-ghost use Rattle.std.specs.Prelude.{◌≡◌, ◌≤◌, List, length, map, true, false, Some, IfOk};
-ghost use Rattle.std.specs.Prelude.{IsTrue};
+ghost use Rattle.std.specs.Prelude.{◌≡◌, ◌≤◌, List, length, map, true, false, Some, IfOk, IsTrue};
 ghost use Rattle.ud_model.specs.text.Lexemes.{Cell, shown};
 ghost use Rattle.ud_model.specs.conditions.Table.{Argument};
 ghost use Rattle.ud_model.specs.conditions.Expressions.{Expression};
 ghost use Rattle.ud_model.specs.conditions.Conditions.{expression_cond, Rules as SpecRules};
-ghost use Rattle.ud_model.specs.conditions.Residuals as residuals;
-ghost use Rattle.ud_model.specs.conditions.ResidualTexts as spec;
-ghost use Rattle.ud_model.specs.aids.Parsing.{expression_of};
+ghost use Rattle.ud_model.specs.aids.Residuals as residuals;
+ghost use Rattle.ud_simplified.specs.ResidualTexts as spec;
+ghost use Rattle.ud_model.specs.conditions.Parsing.{expression_of};
 ghost use Rattle.ud_model.specs.declared.limits.TheConstants.{LINE_BYTES};
 ghost use Rattle.ud_cond.specs.symbols.SymbolTable.{TableRepresents};
 ghost use Rattle.ud_cond.specs.CondViews.{as_rules};

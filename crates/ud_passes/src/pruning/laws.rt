@@ -4,8 +4,8 @@ ghost use Rattle.std.specs.Prelude.{◌≡◌, ℕ, List};
 ghost use Rattle.ud_model.specs.text.Lines.{lines_of};
 ghost use Rattle.ud_model.specs.conditions.Table.{Argument};
 ghost use Rattle.ud_model.specs.conditions.Conditions.{Rules};
-ghost use Rattle.ud_model.specs.output.Rereading.{LinesFit};
-ghost use Rattle.ud_model.specs.output.SimplifiedTexts.{simplified_text};
+ghost use Rattle.ud_model.specs.laws.Rereading.{LinesFit};
+ghost use Rattle.ud_simplified.specs.SimplifiedTexts.{simplified_text};
 ghost use Rattle.ud_passes.specs.pruning.PrunedTexts.{pruned_text};
 
 /// If no line is too long, the pruned text is the simplified text.

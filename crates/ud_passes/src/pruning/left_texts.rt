@@ -2,14 +2,14 @@
 //!
 //! White space after an operand belongs to the token after it, other white space to the token
 //! before it. It stays or goes with that token, but stays if it has a comment
-//! (`ud_model.specs.conditions.ResidualTexts.left_from`).
+//! (`ud_simplified.specs.ResidualTexts.left_from`).
 
 ghost use Rattle.std.specs.Prelude.{◌≡◌, ◌≤◌, ◌+◌, ◌||◌, ◌∷◌, ◌++◌, List, Bool, [], length, not};
 ghost use Rattle.std.specs.Prelude.{IfOk, OnOk, if◌then◌else◌};
 ghost use Rattle.ud_model.specs.text.Bytes.{are_white};
 ghost use Rattle.ud_model.specs.text.Lexemes.{Cell};
-ghost use Rattle.ud_model.specs.conditions.ResidualTexts as spec;
-ghost use Rattle.ud_model.specs.conditions.ResidualTexts.{left_cells};
+ghost use Rattle.ud_simplified.specs.ResidualTexts as spec;
+ghost use Rattle.ud_simplified.specs.ResidualTexts.{left_cells};
 ghost use Rattle.ud_cond.specs.CondViews.{as_token};
 ghost use Rattle.ud_passes.specs.pruning.Cells.{AreCells, SameLeft, left_at, LeavesAt};
 

@@ -3,20 +3,19 @@
 //! The condition of an `#if` or `#elif` that joins no other line is edited. The edited line
 //! replaces the line only if, by itself, it is read as meant.
 
-ghost use Rattle.std.specs.Prelude.{◌≡◌, ◌≤◌, ◌+◌, List, [], false, length, IfOk, IfSome};
-ghost use Rattle.std.specs.Prelude.{IfNone};
+ghost use Rattle.std.specs.Prelude.{◌≡◌, ◌≤◌, ◌+◌, List, [], false, length, IfOk, IfSome, IfNone};
 ghost use Rattle.std.specs.List.{list_any};
 ghost use Rattle.ud_model.specs.text.Bytes.{is_quote};
 ghost use Rattle.ud_model.specs.text.Lines.{Line as TextLine, NoNewline, text_of};
 ghost use Rattle.ud_model.specs.text.Splicing.{is_empty};
 ghost use Rattle.ud_model.specs.text.Scanning.{scan_after_run};
-ghost use Rattle.ud_model.specs.text.LineViews.{as_line, as_scan};
+ghost use Rattle.ud_model.specs.aids.LineViews.{as_line, as_scan};
 ghost use Rattle.ud_model.specs.conditions.Table.{Argument};
 ghost use Rattle.ud_model.specs.conditions.Conditions.{Rules as SpecRules};
 ghost use Rattle.ud_model.specs.sections.Directives.{content_of, directive as has_directive};
 ghost use Rattle.ud_model.specs.sections.Directives.{Directive as HasDirective};
-ghost use Rattle.ud_model.specs.output.SimplifiedTexts as spec;
-ghost use Rattle.ud_model.specs.output.SimplifiedTexts.{has_condition, line_by};
+ghost use Rattle.ud_simplified.specs.SimplifiedTexts as spec;
+ghost use Rattle.ud_simplified.specs.SimplifiedTexts.{has_condition, line_by};
 ghost use Rattle.ud_model.specs.declared.limits.TheConstants.{LINE_BYTES};
 ghost use Rattle.ud_cond.specs.symbols.SymbolTable.{TableRepresents};
 ghost use Rattle.ud_cond.specs.CondViews.{as_rules};

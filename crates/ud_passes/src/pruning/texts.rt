@@ -5,7 +5,7 @@ ghost use Rattle.std.specs.Prelude.{OnOk, OnErr, if◌then◌else◌};
 ghost use Rattle.ud_model.specs.text.Lines.{NoNewline, text_of};
 ghost use Rattle.ud_model.specs.text.Scans.{Reading};
 ghost use Rattle.ud_model.specs.text.Scanning.{next_reading};
-ghost use Rattle.ud_model.specs.text.LineViews.{as_line};
+ghost use Rattle.ud_model.specs.aids.LineViews.{as_line};
 ghost use Rattle.ud_model.specs.conditions.Table.{Argument};
 ghost use Rattle.ud_model.specs.declared.kind.Mode.{Mode};
 ghost use Rattle.ud_model.specs.declared.limits.TheConstants.{LINE_BYTES};

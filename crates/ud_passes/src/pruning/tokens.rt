@@ -1,12 +1,13 @@
 //! Whether a text has exactly the tokens that are left of another one.
 
 ghost use Rattle.std.specs.Prelude.{◌≡◌, List, [], ◌∷◌, Bool, length, Some, false, IfSome, IfNone};
+ghost use Rattle.std.specs.Prelude.{bytes_eq};
 ghost use Rattle.ud_model.specs.conditions.Tokens.{Token as SpecToken, found};
 ghost use Rattle.ud_model.specs.conditions.Tokens.{next_token as spec_next};
-ghost use Rattle.ud_model.specs.conditions.ResidualTexts as spec;
-ghost use Rattle.ud_model.specs.conditions.ResidualTexts.{are_tokens, chosen, operator_bytes};
-ghost use Rattle.ud_model.specs.aids.Parsing.{tokens_of};
-ghost use Rattle.std.specs.Prelude.{bytes_eq};
+ghost use Rattle.ud_simplified.specs.ResidualTexts as spec;
+ghost use Rattle.ud_model.specs.aids.Residuals.{chosen};
+ghost use Rattle.ud_simplified.specs.ResidualTexts.{are_tokens, operator_bytes};
+ghost use Rattle.ud_model.specs.conditions.Parsing.{tokens_of};
 ghost use Rattle.ud_cond.specs.CondViews.{as_token};
 
 use ud_cond::{NextToken, Token, next_token};

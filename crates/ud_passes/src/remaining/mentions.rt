@@ -1,7 +1,7 @@
 //! The lines that may name a symbol: conditions, definitions, and the ends of groups.
 
 ghost use Rattle.std.specs.Prelude.{◌≡◌, ℕ, List, IfOk, None};
-ghost use Rattle.ud_model.specs.text.LineViews.{as_line, as_scan};
+ghost use Rattle.ud_model.specs.aids.LineViews.{as_line, as_scan};
 ghost use Rattle.ud_model.specs.conditions.Table.{Argument};
 ghost use Rattle.ud_model.specs.declared.kind.Mode.{Mode};
 ghost use Rattle.ud_cond.specs.symbols.SymbolTable.{TableRepresents};

@@ -3,9 +3,9 @@
 ghost use Rattle.std.specs.Prelude.{◌≡◌, ◌≤◌, List, length, not};
 ghost use Rattle.std.specs.List.{list_any};
 ghost use Rattle.ud_model.specs.conditions.Conditions.{condition_of};
-ghost use Rattle.ud_model.specs.conditions.Residuals.{is_unknown};
+ghost use Rattle.ud_model.specs.aids.Residuals.{is_unknown};
 ghost use Rattle.ud_model.specs.conditions.Table.{Argument};
-ghost use Rattle.ud_model.specs.aids.Parsing.{expression_of};
+ghost use Rattle.ud_model.specs.conditions.Parsing.{expression_of};
 ghost use Rattle.ud_model.specs.sections.Directives.{test_of};
 ghost use Rattle.ud_model.specs.declared.limits.TheConstants.{LINE_BYTES};
 ghost use Rattle.ud_cond.specs.CondViews.{as_rules};

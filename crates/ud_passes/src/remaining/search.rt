@@ -1,11 +1,11 @@
 //! The search of a text, line by line.
 
-ghost use Rattle.std.specs.Prelude.{◌≡◌, ◌+◌, ◌<◌, ◌≤◌, ◌^◌, List, [], ◌∷◌, ◌++◌, length};
-ghost use Rattle.std.specs.Prelude.{IfOk, OnOk, if◌then◌else◌, is_some, true, ◌-◌};
+ghost use Rattle.std.specs.Prelude.{◌≡◌, ◌+◌, ◌<◌, ◌≤◌, ◌^◌, List, [], ◌∷◌, ◌++◌, length, IfOk};
+ghost use Rattle.std.specs.Prelude.{OnOk, if◌then◌else◌, is_some, true, ◌-◌};
 ghost use Rattle.ud_model.specs.text.Lines.{NoNewline, text_of};
 ghost use Rattle.ud_model.specs.text.Scans.{Reading};
 ghost use Rattle.ud_model.specs.text.Scanning.{next_reading};
-ghost use Rattle.ud_model.specs.text.LineViews.{as_line};
+ghost use Rattle.ud_model.specs.aids.LineViews.{as_line};
 ghost use Rattle.ud_model.specs.declared.limits.TheConstants.{LINE_BYTES};
 ghost use Rattle.ud_model.specs.conditions.Table.{Argument};
 ghost use Rattle.ud_text.specs.scan.ScannerState.{ScannerRepresents};
@@ -80,7 +80,8 @@ fn take<'t>(
         ScannerRepresents scanner.old before → ScannerRepresents scanner.new
         (before ++ next_reading before mode (as_line line.now) ∷ [])) }
     ensures taken { IfOk result (λ t. (calls : List Argument) → TableRepresents symbols.now calls →
-        TakesNext calls mode scanner.old line.now place.entry after.old.items t after.new.items) }
+        TakesNext calls mode scanner.old line.now place.entry after.old.items t
+        after.new.items) }
 {
     let scan = scanner.read_growing(mode, line)?;
     let begun = take_line(place.begun, &scan, line, place.number, symbols, after)?;

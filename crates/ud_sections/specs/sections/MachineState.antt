@@ -31,7 +31,7 @@ use Rattle.ud_model.specs.sections.Items.{Options, reading_of, mode_after, read_
 use Rattle.ud_model.specs.sections.Faults.{Fault, AreFaultless, FaultOf, last_number, ends_removed}
 use Rattle.ud_model.specs.sections.Faults.{ends_in_comment, end_fault}
 use Rattle.ud_model.specs.answer.Printing.{judged_line}
-use Rattle.ud_model.specs.text.LineViews.{as_line}
+use Rattle.ud_model.specs.aids.LineViews.{as_line}
 use Rattle.ud_model.specs.declared.line.Line.{Line as TheLine}
 use Rattle.ud_model.specs.declared.kind.Mode.{Mode}
 use Rattle.ud_model.specs.declared.verdict.Verdict.{Verdict}

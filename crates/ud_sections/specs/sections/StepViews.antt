@@ -10,7 +10,7 @@ use Rattle.ud_model.specs.answer.Printing.{Judged}
 use Rattle.ud_model.specs.declared.verdict.Verdict.{Verdict}
 use Rattle.ud_model.specs.declared.verdict.Verdict.TheVariants.{Keep, Remove, ToIf, ToElse, ToEndif}
 use Rattle.ud_model.specs.declared.line.Line.{Line}
-use Rattle.ud_model.specs.text.LineViews.{as_line}
+use Rattle.ud_model.specs.aids.LineViews.{as_line}
 use Rattle.ud_sections.specs.declared.sections.step.Span.{Span}
 use Rattle.ud_sections.specs.declared.sections.step.Step.{Step}
 

@@ -8,7 +8,7 @@ ghost use Rattle.ud_model.specs.sections.Directives.{is_continued_outside_commen
 ghost use Rattle.ud_model.specs.sections.Directives.{is_keyword_prefix, may_split_keyword};
 ghost use Rattle.ud_model.specs.sections.Directives.{has_split_keyword, content_after_hash};
 ghost use Rattle.ud_model.specs.text.Scans.{Scan as LineScan};
-ghost use Rattle.ud_model.specs.text.LineViews.{as_scan};
+ghost use Rattle.ud_model.specs.aids.LineViews.{as_scan};
 ghost use Rattle.ud_sections.specs.directives.ParsedDirectives.{content_found, directive_or_text};
 
 use crate::directives::keywords::leading_keyword;

@@ -39,7 +39,7 @@ impl Lister {
     ghost use Rattle.ud_model.specs.sections.Directives.{content_of};
     ghost use Rattle.ud_model.specs.answer.Listing.{names_in_content};
     ghost use Rattle.ud_model.specs.declared.limits.TheConstants.{LINE_BYTES};
-    ghost use Rattle.ud_model.specs.text.LineViews.{as_scan};
+    ghost use Rattle.ud_model.specs.aids.LineViews.{as_scan};
     ghost use Rattle.ud_sections.specs.printing.ListerBorrows.{StaysSame};
 
     /// Creates a lister. Each name follows its depth if `depths`, or else has no prefix.

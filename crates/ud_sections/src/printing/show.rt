@@ -8,7 +8,7 @@ ghost use Rattle.std.specs.Borrow.{sem};
 ghost use Rattle.std.specs.Io.BufRead.{Rests};
 ghost use Rattle.ud_model.specs.text.Lines.{text_of};
 ghost use Rattle.ud_model.specs.answer.Printing.{Judged};
-ghost use Rattle.ud_model.specs.text.LineViews.{as_line};
+ghost use Rattle.ud_model.specs.aids.LineViews.{as_line};
 ghost use Rattle.ud_sections.specs.printing.PieceParts.{concatenated, is_unchanged};
 ghost use Rattle.ud_sections.specs.printing.PrinterOutputs.{GivesLineOutput, GotLine};
 ghost use Rattle.ud_sections.specs.sections.StepViews.{judged_step, HoldsKeyword};

@@ -8,7 +8,7 @@ ghost use Rattle.ud_model.specs.conditions.Table.{Argument};
 ghost use Rattle.ud_model.specs.declared.limits.TheConstants.{LINE_BYTES};
 ghost use Rattle.ud_cond.specs.symbols.SymbolTable.{TableRepresents};
 ghost use Rattle.ud_cond.specs.CondViews.{as_decision};
-ghost use Rattle.ud_model.specs.text.LineViews.{as_scan};
+ghost use Rattle.ud_model.specs.aids.LineViews.{as_scan};
 ghost use Rattle.ud_sections.specs.directives.ParsedDirectives.{as_directive};
 ghost use Rattle.ud_sections.specs.sections.ClassifiedLines.{classified_with, directive_kind};
 ghost use Rattle.ud_sections.specs.sections.StepViews.{as_span};

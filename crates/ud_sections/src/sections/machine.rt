@@ -14,7 +14,7 @@ ghost use Rattle.ud_model.specs.sections.Tree.{Item, Tree, closed, nothing, dept
 ghost use Rattle.ud_model.specs.sections.Directives.{content_of};
 ghost use Rattle.ud_model.specs.sections.Items.{Options, mode_after};
 ghost use Rattle.ud_model.specs.declared.limits.TheConstants.{LINE_BYTES, OPEN_SECTIONS};
-ghost use Rattle.ud_model.specs.text.LineViews.{as_line, as_scan};
+ghost use Rattle.ud_model.specs.aids.LineViews.{as_line, as_scan};
 ghost use Rattle.ud_sections.specs.directives.ParsedDirectives.{content_found};
 ghost use Rattle.ud_sections.specs.directives.ParsedDirectives.{IsWithinScan};
 ghost use Rattle.ud_sections.specs.sections.ClassifiedLines.{classified};

@@ -10,10 +10,10 @@ ghost use Rattle.ud_model.specs.declared.limits.TheConstants.{LINE_BYTES};
 ghost use Rattle.ud_model.specs.text.Lines.{NoNewline};
 ghost use Rattle.ud_model.specs.text.Scans.{Reading};
 ghost use Rattle.ud_model.specs.text.Scanning.{scan_after};
-ghost use Rattle.ud_model.specs.text.LineViews.{as_line, as_scan};
+ghost use Rattle.ud_model.specs.aids.LineViews.{as_line, as_scan};
 ghost use Rattle.ud_text.specs.scan.LexerViews.{shown_in};
-ghost use Rattle.ud_text.specs.scan.ScannerState.{ScannerRepresents, scan_with};
-ghost use Rattle.ud_text.specs.scan.ScannerState.{ReadsNext, IsNextScan};
+ghost use Rattle.ud_text.specs.scan.ScannerState.{ScannerRepresents, scan_with, ReadsNext};
+ghost use Rattle.ud_text.specs.scan.ScannerState.{IsNextScan};
 ghost use Rattle.ud_text.specs.scan.GrowingScans.{GrownScansLine, grown_items};
 
 use crate::lines::LongLineBuffer;

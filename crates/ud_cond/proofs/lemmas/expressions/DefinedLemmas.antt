@@ -1,7 +1,7 @@
 -- The text after `defined`, case by case: what it means in a state that asks for a name.
 use Rattle.std.proofs.Common.{◌≡◌, ℕ, List, Bool, Some, None, arith}
 use Rattle.ud_model.specs.conditions.Tokens.{next_token}
-use Rattle.ud_model.specs.aids.Parsing.{Meaning, Frame, reads, has, asks}
+use Rattle.ud_model.specs.conditions.Parsing.{Meaning, Frame, reads, has, asks}
 use Rattle.ud_cond.specs.expressions.DefinedOperands.{asked_name}
 use Rattle.ud_cond.proofs.lemmas.expressions.ReadingLemmas.{reads-on, reads-stuck}
 

@@ -2,7 +2,7 @@
 use Rattle.std.proofs.Common.{◌≡◌, ℕ, List, [], Bool, false, Some, None, option_map, refl, ap, arith}
 use Rattle.ud_model.specs.conditions.Table.{Argument}
 use Rattle.ud_model.specs.conditions.Expressions.{Expression, constant, named, is_defined, unary, binary, parens}
-use Rattle.ud_model.specs.aids.Parsing.{meaning, reads, needs, expression_of}
+use Rattle.ud_model.specs.conditions.Parsing.{meaning, reads, needs, expression_of}
 use Rattle.ud_model.specs.conditions.Conditions.{Rules, expression_cond}
 use Rattle.ud_model.specs.declared.cond.Cond.TheVariants.{Unknown}
 use Rattle.ud_model.proofs.conditions.Readings.{reads_meaning}

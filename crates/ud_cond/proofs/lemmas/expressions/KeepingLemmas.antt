@@ -2,7 +2,7 @@
 use Rattle.std.proofs.Common.{◌≡◌, ℕ, ◌≤◌, List, [], ◌∷◌, ◌++◌, length, Bool, true, Option, Some, None, IfSome, IfNone, refl, append_assoc, length-append, arith}
 use Rattle.std.proofs.lemmas.Bool.{le-leb, lt-leb}
 use Rattle.ud_model.specs.conditions.Expressions.{precedence}
-use Rattle.ud_model.specs.aids.Parsing.{Meaning, Frame, left, before, paren, ParseState, needs, has, reduce, alone}
+use Rattle.ud_model.specs.conditions.Parsing.{Meaning, Frame, left, before, paren, ParseState, needs, has, reduce, alone}
 use Rattle.ud_model.specs.declared.operator.Operator.{Operator}
 use Rattle.ud_cond.specs.expressions.Stacks.{popped, IsSettled, is_empty}
 use Rattle.ud_cond.specs.expressions.Keepings.{Keeping, number_of, count, Noted, IsKept, TakesOne, TakesTwo, flags_in, parts_of, Awaits, IsAt, Represents}

@@ -3,11 +3,10 @@ use Rattle.std.proofs.Common.{◌≡◌, ℕ, zero, ◌+◌, suc, List, [], ◌�
 use Rattle.ud_model.specs.conditions.Table.{Argument}
 use Rattle.ud_model.specs.conditions.Tokens.{Token, operator}
 use Rattle.ud_model.specs.conditions.Expressions.{Expression, constant, named, is_defined, unary, binary, parens, spelling}
-use Rattle.ud_model.specs.aids.Parsing.{meaning, reads, needs, expression_of}
+use Rattle.ud_model.specs.conditions.Parsing.{meaning, reads, needs, expression_of}
 use Rattle.ud_model.specs.conditions.Conditions.{Rules}
 use Rattle.ud_model.specs.conditions.Values.{number_of}
-use Rattle.ud_model.specs.conditions.Residuals.{Residual, settled, stands_alone, alone, residual}
-use Rattle.ud_model.specs.conditions.ResidualTexts.{joined_flags, all_flags, keeps}
+use Rattle.ud_model.specs.aids.Residuals.{Residual, settled, stands_alone, alone, residual, joined_flags, all_flags, keeps}
 use Rattle.ud_model.specs.declared.operator.Operator.{Operator}
 use Rattle.ud_model.specs.declared.operator.Operator.TheVariants.{Or, And, Not}
 use Rattle.ud_model.proofs.conditions.Readings.{reads_meaning}

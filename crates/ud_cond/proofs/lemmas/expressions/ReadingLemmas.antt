@@ -2,7 +2,7 @@
 -- in the state that the token makes.
 use Rattle.std.proofs.Common.{◌≡◌, ℕ, zero, suc, ◌<◌, List, [], ◌∷◌, length, Option, None, refl, ◌∙◌, ap, arith}
 use Rattle.ud_model.specs.conditions.Tokens.{Token, NextToken, at_end, unreadable, found, next_token}
-use Rattle.ud_model.specs.aids.Parsing.{Meaning, ParseState, stuck, step, finish, parse_tokens, parse_all_tokens, prepend_token, tokens_in, tokens_of, reads}
+use Rattle.ud_model.specs.conditions.Parsing.{Meaning, ParseState, stuck, step, finish, parse_tokens, parse_all_tokens, prepend_token, tokens_in, tokens_of, reads}
 use Rattle.ud_model.proofs.conditions.TokenLemmas.{shorter}
 
 -- the text after a token has fewer than `n` bytes

@@ -3,7 +3,7 @@ use Rattle.std.proofs.Common.{◌≡◌, ◌≤◌, ◌<◌, ℕ, zero, ◌+◌,
 use Rattle.std.proofs.lemmas.List.{length-replicate, replicate-append-replicate}
 use Rattle.ud_model.specs.conditions.Conditions.{Rules}
 use Rattle.ud_model.specs.conditions.Values.{apply_unary, apply_binary}
-use Rattle.ud_model.specs.conditions.Residuals.{is_unit, settled}
+use Rattle.ud_model.specs.aids.Residuals.{is_unit, settled}
 use Rattle.ud_model.specs.declared.cond.Cond.{Cond}
 use Rattle.ud_model.specs.declared.operator.Operator.{Operator}
 use Rattle.ud_cond.specs.declared.expressions.values.Value.{Value}

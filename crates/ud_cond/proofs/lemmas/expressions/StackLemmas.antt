@@ -3,7 +3,7 @@ use Rattle.std.proofs.Common.{◌≡◌, ℕ, ◌≤◌, ◌<◌, ◌+◌, ◌*�
 use Rattle.std.proofs.lemmas.List.{length-reverse, reverse-append}
 use Rattle.ud_model.specs.conditions.Tokens.{at_end, unreadable, next_token}
 use Rattle.ud_model.specs.conditions.Expressions.{precedence}
-use Rattle.ud_model.specs.aids.Parsing.{Meaning, ParseState, finish, reads}
+use Rattle.ud_model.specs.conditions.Parsing.{Meaning, ParseState, finish, reads}
 use Rattle.ud_model.specs.declared.operator.Operator.{Operator}
 use Rattle.ud_cond.specs.declared.expressions.stacks.PendingOp.{PendingOp}
 use Rattle.ud_cond.specs.declared.expressions.stacks.PendingOp.TheVariants.{Binary, Prefix, Opening}

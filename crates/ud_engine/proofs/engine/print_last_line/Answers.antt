@@ -1,7 +1,7 @@
 use Rattle.std.proofs.Common.{rules, sym, ap, subst, suc, List, [], ◌++◌, append-nil, ℕ}
 use Rattle.ud_model.specs.text.Lines.{Line, NoNewline}
 use Rattle.ud_text.specs.lines.LinesState.{LinesState}
-use Rattle.ud_model.specs.text.LineViews.{as_line}
+use Rattle.ud_model.specs.aids.LineViews.{as_line}
 use Rattle.ud_engine.specs.Finishing.{without_fault}
 use Rattle.ud_io.specs.Streams.{stream_of, TakesAllBut}
 use Rattle.ud_engine.proofs.StepLemmas.{rest_feedless}

@@ -1,5 +1,5 @@
 use Rattle.ud_model.specs.sections.Items.{rules_of}
-use Rattle.ud_model.specs.output.Processing.{over_readings}
+use Rattle.ud_laws.specs.output.Processing.{over_readings}
 use Rattle.ud_laws.proofs.output.NamesNumbers.{names_as_c, names_keep}
 use Rattle.ud_laws.proofs.output.ProcessedAnswers.{outputs_processed, output_nodes, answer_output}
 use Rattle.ud_laws.proofs.output.ProcessedOnce.{once}

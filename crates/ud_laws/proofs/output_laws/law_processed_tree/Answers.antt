@@ -2,8 +2,8 @@
 use Rattle.std.proofs.Common.{subst}
 use Rattle.ud_model.specs.text.Scans.{Reading}
 use Rattle.ud_model.specs.sections.Tree.{Nodes}
-use Rattle.ud_model.specs.output.Pruned.{Edited}
-use Rattle.ud_model.specs.output.Processing.{over_readings, agreeing}
+use Rattle.ud_model.specs.laws.Pruned.{Edited}
+use Rattle.ud_laws.specs.output.Processing.{over_readings, agreeing}
 use Rattle.ud_model.proofs.output.PrunedTree.{is_folded}
 use Rattle.ud_laws.proofs.output.ProcessedPruned.{HasOutput, is_pruned, processed, agreeing_right}
 use Rattle.ud_laws.proofs.output_laws.law_processed_tree.Goals as goal

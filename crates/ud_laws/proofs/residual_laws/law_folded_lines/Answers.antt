@@ -1,5 +1,5 @@
 -- The definition compares the masked bytes, and white space beside white space parts no token.
-use Rattle.ud_model.proofs.output.FoldedLines.{folded_shown, folded_read}
+use Rattle.ud_simplified.proofs.FoldedLines.{folded_shown, folded_read}
 use Rattle.ud_laws.proofs.residual_laws.law_folded_lines.Goals as goal
 
 pub returns-clause-masked : goal.returns-clause-masked

@@ -1,5 +1,5 @@
 -- Each logical line is read by itself, and only numbers change.
-use Rattle.ud_model.proofs.output.FoldedReadings.{all_there, readings_folded, same_c_lines}
+use Rattle.ud_simplified.proofs.FoldedReadings.{all_there, readings_folded, same_c_lines}
 use Rattle.ud_laws.proofs.residual_laws.law_folded_text.Goals as goal
 
 pub returns-clause-all : goal.returns-clause-all

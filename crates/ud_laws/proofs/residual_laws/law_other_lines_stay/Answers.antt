@@ -3,9 +3,9 @@ use Rattle.std.proofs.Common.{◌≡◌, List, [], append-nil}
 use Rattle.ud_model.specs.text.Lines.{Line}
 use Rattle.ud_model.specs.text.Scans.{Reading}
 use Rattle.ud_model.specs.text.Scanning.{scan_after}
-use Rattle.ud_model.specs.text.OtherLines.{AreReadAlike}
+use Rattle.ud_simplified.specs.OtherLines.{AreReadAlike}
 use Rattle.ud_model.specs.declared.kind.Mode.{Mode}
-use Rattle.ud_model.proofs.text.OtherLineScans.{scanned_alone, scanned_alike}
+use Rattle.ud_simplified.proofs.OtherLineScans.{scanned_alone, scanned_alike}
 use Rattle.ud_laws.proofs.residual_laws.law_other_lines_stay.Goals as goal
 
 alike : (before after : List Reading) → AreReadAlike before after → (m : Mode) (l : Line) → scan_after before m l ≡ scan_after after m l

@@ -1,5 +1,5 @@
 -- Node by node.
-use Rattle.ud_model.proofs.conditions.ResidualShape.{spelling_stays, precedence_stays}
+use Rattle.ud_simplified.proofs.ResidualShape.{spelling_stays, precedence_stays}
 use Rattle.ud_model.proofs.conditions.KeptTokens.{kept_are}
 use Rattle.ud_laws.proofs.residual_laws.law_residual_shape.Goals as goal
 use Rattle.ud_laws.proofs.conditions.ResidualOperands.{operands_undecided, simplified_again, simplified_unknown}

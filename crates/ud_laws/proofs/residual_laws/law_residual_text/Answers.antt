@@ -1,5 +1,5 @@
 -- The tokens of what is left are those of the tree that is left.
-use Rattle.ud_model.proofs.conditions.ResidualRead.{read_as, cells_go}
+use Rattle.ud_simplified.proofs.ResidualRead.{read_as, cells_go}
 use Rattle.ud_laws.proofs.residual_laws.law_residual_text.Goals as goal
 use Rattle.ud_laws.proofs.conditions.ResidualAgain.{cells_again}
 

@@ -2,7 +2,7 @@
 use Rattle.ud_laws.proofs.conditions.ResidualTruth.{Tells, tells}
 use Rattle.ud_laws.proofs.conditions.StayedChoices.{stay_allowed}
 use Rattle.ud_laws.proofs.conditions.OneValue.{one_value}
-use Rattle.ud_model.specs.conditions.Residuals.{residual}
+use Rattle.ud_model.specs.aids.Residuals.{residual}
 use Rattle.ud_laws.specs.conditions.Choices.{stay}
 use Rattle.ud_laws.proofs.residual_laws.law_residual_truth.Goals as goal
 

@@ -1,5 +1,5 @@
 -- Line by line.
-use Rattle.ud_model.proofs.output.SimplifiedLineTexts.{bytes_left, lines_left}
+use Rattle.ud_simplified.proofs.SimplifiedLineTexts.{bytes_left, lines_left}
 use Rattle.ud_laws.proofs.output.SimplifiedAgain.{text_again}
 use Rattle.ud_laws.proofs.residual_laws.law_simplified_text.Goals as goal
 

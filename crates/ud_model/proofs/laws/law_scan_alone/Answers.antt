@@ -4,8 +4,7 @@ use Rattle.ud_model.specs.text.Lines.{Line}
 use Rattle.ud_model.specs.text.Scans.{Reading}
 use Rattle.ud_model.specs.text.Scanning.{EndsLogicalLine, ends_with, readings_after}
 use Rattle.ud_model.specs.declared.kind.Mode.{Mode}
-use Rattle.ud_model.proofs.text.ScanLaws.{readings_alone}
-use Rattle.ud_model.proofs.text.OtherLineScans.{after_end}
+use Rattle.ud_model.proofs.text.ScanLaws.{readings_alone, after_end}
 use Rattle.ud_model.proofs.laws.law_scan_alone.Goals as goal
 
 all_lines : (before group : List Reading) (ls : List (Mode × Line)) → EndsLogicalLine before →

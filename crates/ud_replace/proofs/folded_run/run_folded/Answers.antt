@@ -1,7 +1,7 @@
 -- By the run over the folded text, and two looks at its output.
 use Rattle.std.proofs.Common.{sym, ap, ◌∙◌, false}
 use Rattle.std.proofs.lemmas.Bool.{not-true, not-false}
-use Rattle.ud_model.specs.output.FoldedTexts.{folded_text}
+use Rattle.ud_simplified.specs.FoldedTexts.{folded_text}
 use Rattle.ud_replace.proofs.TextLemmas.{leaves_failed, leaves_other, comes, runs_folded}
 use Rattle.ud_replace.proofs.folded_run.run_folded.Goals as goal
 

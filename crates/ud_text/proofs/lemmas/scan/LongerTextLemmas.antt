@@ -5,7 +5,7 @@ use Rattle.std.proofs.lemmas.List.{map-append, take_all, length-take-le}
 use Rattle.ud_model.specs.text.Lines.{Line, line_at, numbered_from, lines_of, texts_of, whole_lines, partial_line, last_line, split_lines}
 use Rattle.ud_model.specs.text.Scans.{Reading}
 use Rattle.ud_model.specs.text.Scanning.{scan_after, next_reading, readings_after}
-use Rattle.ud_model.specs.output.InsertedLines.{read_as, in_mode}
+use Rattle.ud_model.specs.aids.ReadAs.{read_as, in_mode}
 use Rattle.ud_model.specs.declared.kind.Mode.{Mode}
 use Rattle.ud_model.proofs.text.LinesLemmas.{split_lines-append, split_lines-open, split_lines-line-prefix, last_line-some, numbered_from-append}
 use Rattle.ud_model.proofs.text.ScanBytes.{scan_after-same}

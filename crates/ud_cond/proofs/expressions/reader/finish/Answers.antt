@@ -1,6 +1,6 @@
 use Rattle.std.proofs.Common.{sym, ◌∙◌, ap, subst}
-use Rattle.ud_model.specs.aids.Parsing as parsing
-use Rattle.ud_model.specs.aids.Parsing.{reduce}
+use Rattle.ud_model.specs.conditions.Parsing as parsing
+use Rattle.ud_model.specs.conditions.Parsing.{reduce}
 use Rattle.ud_cond.specs.expressions.Keepings.{Represents}
 use Rattle.ud_cond.proofs.lemmas.expressions.KeepingLemmas.{has_of, ended}
 use Rattle.ud_cond.proofs.expressions.reader.finish.Goals as goal

@@ -1,5 +1,5 @@
 use Rattle.std.proofs.Common.{◌≡◌, [], refl, sym, ◌∙◌, ap, subst, arith}
-use Rattle.ud_model.specs.aids.Parsing.{reads, needs, has, step}
+use Rattle.ud_model.specs.conditions.Parsing.{reads, needs, has, step}
 use Rattle.ud_model.proofs.conditions.TokenLemmas.{shorter}
 use Rattle.ud_cond.specs.CondViews.{as_token}
 use Rattle.ud_cond.specs.expressions.Stacks.{weight, operand_weight}

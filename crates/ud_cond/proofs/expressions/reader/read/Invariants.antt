@@ -1,5 +1,5 @@
 use Rattle.std.proofs.Common.{◌≡◌, ◌≤◌, ◌+◌, [], length}
-use Rattle.ud_model.specs.aids.Parsing.{ParseState, reads, needs}
+use Rattle.ud_model.specs.conditions.Parsing.{ParseState, reads, needs}
 use Rattle.ud_cond.specs.expressions.Stacks.{weight, operand_weight}
 use Rattle.ud_cond.specs.expressions.Keepings.{count, Represents}
 use Rattle.ud_cond.proofs.expressions.reader.read.Given as goal

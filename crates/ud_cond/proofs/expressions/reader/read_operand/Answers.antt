@@ -1,6 +1,6 @@
 use Rattle.std.proofs.Common.{◌≡◌, ◌∙◌, ◌∷◌, false, true, if◌then◌else◌, sym, ap}
 use Rattle.ud_model.specs.conditions.Expressions.{is_prefix}
-use Rattle.ud_model.specs.aids.Parsing.{reads, step, needs, has, before, paren, stuck}
+use Rattle.ud_model.specs.conditions.Parsing.{reads, step, needs, has, before, paren, stuck}
 use Rattle.ud_cond.specs.CondViews.{as_token}
 use Rattle.ud_cond.specs.expressions.Keepings.{flags_in}
 use Rattle.ud_cond.proofs.lemmas.expressions.ReadingLemmas.{reads-stuck}

@@ -1,5 +1,5 @@
 use Rattle.std.proofs.Common.{◌≡◌, ◌≤◌, List}
-use Rattle.ud_model.specs.aids.Parsing.{Frame, reduce}
+use Rattle.ud_model.specs.conditions.Parsing.{Frame, reduce}
 use Rattle.ud_cond.specs.expressions.Stacks.{weight}
 use Rattle.ud_cond.specs.expressions.Keepings.{count, IsAt}
 use Rattle.ud_cond.proofs.expressions.reader.reduce.Given as goal

@@ -1,6 +1,6 @@
 use Rattle.std.proofs.Common.{sym, ◌∙◌, ap}
-use Rattle.ud_model.specs.aids.Parsing.{expression_of}
-use Rattle.ud_model.specs.conditions.Residuals.{Residual}
+use Rattle.ud_model.specs.conditions.Parsing.{expression_of}
+use Rattle.ud_model.specs.aids.Residuals.{Residual}
 use Rattle.ud_model.proofs.conditions.ResidualSame.{residual_same, keeps_same}
 use Rattle.ud_cond.specs.declared.expressions.parts.Part.{Part}
 use Rattle.ud_cond.specs.CondViews.{as_rules}

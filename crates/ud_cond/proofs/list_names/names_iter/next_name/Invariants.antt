@@ -1,5 +1,5 @@
 use Rattle.std.proofs.Common.{◌≡◌, length, is_some, true}
-use Rattle.ud_model.specs.aids.Parsing.{tokens_of}
+use Rattle.ud_model.specs.conditions.Parsing.{tokens_of}
 use Rattle.ud_cond.specs.list_names.NameLists.{names_in_text}
 use Rattle.ud_cond.proofs.list_names.names_iter.next_name.Given as goal
 

@@ -1,7 +1,7 @@
 use Rattle.std.proofs.Common.{rules, refl, sym, ap, subst, ◌++◌, ◌+◌, ◌-◌, length, take, drop, List, ℕ, arith, length-append}
 use Rattle.ud_cond.specs.symbols.SymbolTable.{TableRepresents}
 use Rattle.ud_text.specs.lines.LinesState.{LinesState}
-use Rattle.ud_model.specs.text.LineViews.{as_line}
+use Rattle.ud_model.specs.aids.LineViews.{as_line}
 use Rattle.ud_engine.specs.Advancing.{Advances, StepFails, IsCursor, slice_between}
 use Rattle.ud_engine.specs.Feeding.{EngineState, EngineRepresentsBuffered}
 use Rattle.ud_io.specs.Streams.{stream_of}

@@ -1,7 +1,7 @@
 use Rattle.std.proofs.Common.{map, refl}
 use Rattle.std.proofs.lemmas.Result.{MatchResult-from_both}
 use Rattle.ud_model.specs.sections.Items.{reading_of, mode_after}
-use Rattle.ud_model.specs.text.LineViews.{as_line}
+use Rattle.ud_model.specs.aids.LineViews.{as_line}
 use Rattle.ud_engine.proofs.DeciderLemmas.{reads_one, second}
 use Rattle.ud_engine.proofs.line_decider.LineDecider.decide_unmarked.Goals as goal
 

@@ -3,7 +3,7 @@ use Rattle.ud_model.specs.text.Scanning.{scan_after}
 use Rattle.ud_model.specs.sections.Items.{reading_of}
 use Rattle.ud_model.specs.sections.Directives.{content_of}
 use Rattle.ud_model.specs.answer.Listing.{names_in_content, depth_prefix}
-use Rattle.ud_model.specs.text.LineViews.{as_line}
+use Rattle.ud_model.specs.aids.LineViews.{as_line}
 use Rattle.ud_io.specs.Streams.{stream_of}
 use Rattle.ud_engine.proofs.DeciderLemmas.{has_next}
 use Rattle.ud_engine.proofs.NameListingLemmas.{lists_one}

@@ -1,5 +1,5 @@
 use Rattle.std.proofs.Common.{refl, rules}
-use Rattle.ud_model.specs.text.LineViews.{as_line}
+use Rattle.ud_model.specs.aids.LineViews.{as_line}
 use Rattle.ud_model.specs.answer.Printing.{judged_lines}
 use Rattle.ud_model.specs.sections.Pruning.{marks}
 use Rattle.ud_io.specs.Streams.{stream_of}

@@ -1,7 +1,7 @@
 -- A line more.
 use Rattle.std.proofs.Common.{◌<◌, ◌++◌, ℕ, List, length, take, drop, length-append, append-nil, append_assoc, sym, ◌∙◌, ap, ap₂}
 use Rattle.ud_model.specs.text.Lines.{Line, text_of, split_lines}
-use Rattle.ud_model.specs.text.LineViews.{as_line}
+use Rattle.ud_model.specs.aids.LineViews.{as_line}
 use Rattle.ud_text.proofs.lemmas.scan.LongerTextLemmas.{some_left}
 use Rattle.ud_text.proofs.lemmas.scan.PassLemmas.{nothing_left}
 use Rattle.ud_passes.specs.folding.FlatTexts.{flat_line, flat_lines}

@@ -1,6 +1,6 @@
 -- The rest of the body is still to be appended.
 use Rattle.std.proofs.Common.{◌≡◌, ◌++◌, drop}
-use Rattle.ud_model.specs.output.FoldedTexts.{restored_body}
+use Rattle.ud_simplified.specs.FoldedTexts.{restored_body}
 use Rattle.ud_passes.specs.Passes.{Grows}
 use Rattle.ud_passes.proofs.folding.restored.append_body.Given as goal
 

@@ -3,8 +3,8 @@ use Rattle.std.proofs.Common.{[], ◌++◌, List, ℕ, length, ◌∙◌, ap, sy
 use Rattle.std.proofs.lemmas.Bool.{le-leb}
 use Rattle.ud_model.specs.text.Lines.{Line, text_of}
 use Rattle.ud_model.specs.text.Scans.{Scan}
-use Rattle.ud_model.specs.text.LineViews.{as_line}
-use Rattle.ud_model.specs.output.FoldedTexts.{restored_body}
+use Rattle.ud_model.specs.aids.LineViews.{as_line}
+use Rattle.ud_simplified.specs.FoldedTexts.{restored_body}
 use Rattle.ud_model.specs.declared.limits.TheConstants.{LINE_BYTES}
 use Rattle.ud_passes.proofs.RestoreLemmas.{line_without_tab, line_restored}
 use Rattle.ud_passes.proofs.folding.restored.append_restored_line.Goals as goal

@@ -1,6 +1,6 @@
 -- One line.
 use Rattle.std.proofs.Common.{◌++◌, List, ℕ, ◌∙◌, ap, sym}
-use Rattle.ud_model.specs.text.LineViews.{as_line}
+use Rattle.ud_model.specs.aids.LineViews.{as_line}
 use Rattle.ud_passes.proofs.RestoreLemmas.{line_more, long_restored}
 use Rattle.ud_passes.proofs.folding.restored.step.Goals as goal
 

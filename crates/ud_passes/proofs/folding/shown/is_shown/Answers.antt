@@ -1,7 +1,7 @@
 -- By the scan of the first line of a text.
 use Rattle.std.proofs.Common.{[], ◌∙◌, ap}
 use Rattle.ud_model.specs.text.Scans.{Scan}
-use Rattle.ud_model.specs.output.FoldedTexts.{is_shown_as}
+use Rattle.ud_simplified.specs.FoldedTexts.{is_shown_as}
 use Rattle.ud_passes.proofs.folding.shown.is_shown.Goals as goal
 
 pub returns : goal.returns

@@ -1,7 +1,7 @@
 -- The line joins the next one, or is masked otherwise.
 use Rattle.std.proofs.Common.{sym, ◌∙◌}
 use Rattle.std.proofs.lemmas.Bool.{not-true}
-use Rattle.ud_model.specs.text.LineViews.{as_scan}
+use Rattle.ud_model.specs.aids.LineViews.{as_scan}
 use Rattle.ud_passes.proofs.ShownLemmas.{joins_next, other_bytes}
 use Rattle.ud_passes.proofs.folding.shown.is_shown_as.Goals as goal
 

@@ -1,6 +1,6 @@
 -- The rest of the bytes decides.
 use Rattle.std.proofs.Common.{◌≡◌, drop, true}
-use Rattle.ud_model.specs.output.FoldedTexts.{tabs_are_beside}
+use Rattle.ud_simplified.specs.FoldedTexts.{tabs_are_beside}
 use Rattle.ud_passes.proofs.ShownLemmas.{left}
 use Rattle.ud_passes.proofs.folding.shown.tabs_are_beside.Given as goal
 

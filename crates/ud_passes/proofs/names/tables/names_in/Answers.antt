@@ -2,7 +2,7 @@
 use Rattle.std.proofs.Common.{◌≡◌, ◌<◌, ◌+◌, ℕ, List, [], ◌∷◌, ◌++◌, map, length, take, take-append-drop, length-append, append_assoc, refl, sym, ◌∙◌, ap, ap₂, arith, rules}
 use Rattle.std.proofs.lemmas.List.{map-append, map_push}
 use Rattle.ud_model.specs.text.Lines.{Line, text_of, line_at, lines_of, texts_of, numbered_from, split_lines}
-use Rattle.ud_model.specs.text.LineViews.{as_line}
+use Rattle.ud_model.specs.aids.LineViews.{as_line}
 use Rattle.ud_passes.specs.names.NameTables.{body_of, names_in}
 use Rattle.ud_model.specs.declared.kind.Mode.TheVariants.{C}
 use Rattle.ud_text.proofs.lemmas.scan.LongerTextLemmas.{after, all_lines, still_whole, one_text, whole_if_more, nothing_ends, some_left}

@@ -2,9 +2,9 @@
 use Rattle.std.proofs.Common.{◌≡◌, Bool, true, false, not, ◌&&◌, map, refl, sym, ◌∙◌, arith}
 use Rattle.ud_model.specs.text.Lexemes.{shown}
 use Rattle.ud_model.specs.conditions.Expressions.{spelling}
-use Rattle.ud_model.specs.conditions.Residuals.{residual}
-use Rattle.ud_model.specs.conditions.ResidualTexts.{are_tokens}
-use Rattle.ud_model.specs.aids.Parsing.{tokens_of}
+use Rattle.ud_model.specs.aids.Residuals.{residual}
+use Rattle.ud_simplified.specs.ResidualTexts.{are_tokens}
+use Rattle.ud_model.specs.conditions.Parsing.{tokens_of}
 use Rattle.ud_model.proofs.conditions.KeptTokens.{kept_are}
 use Rattle.ud_passes.proofs.LeftLemmas.{flags_long}
 use Rattle.ud_passes.proofs.pruning.conditions.is_read.Goals as goal

@@ -1,7 +1,7 @@
 -- One token more.
 use Rattle.std.proofs.Common.{◌+◌, List, drop, Bool, refl, sym, ap, arith, false}
 use Rattle.std.proofs.lemmas.List.{drop_more}
-use Rattle.ud_model.specs.conditions.ResidualTexts.{left_from}
+use Rattle.ud_simplified.specs.ResidualTexts.{left_from}
 use Rattle.ud_passes.proofs.CellLemmas.{same_then, same_on}
 use Rattle.ud_passes.proofs.pruning.left_texts.append_left.Goals as goal
 

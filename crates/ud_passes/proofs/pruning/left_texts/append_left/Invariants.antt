@@ -1,7 +1,7 @@
 -- The rest of the tokens so far was appended.
 use Rattle.std.proofs.Common.{◌≤◌, ◌+◌, List, length, drop}
 use Rattle.ud_model.specs.text.Lexemes.{Cell}
-use Rattle.ud_model.specs.conditions.ResidualTexts.{left_cells}
+use Rattle.ud_simplified.specs.ResidualTexts.{left_cells}
 use Rattle.ud_passes.specs.pruning.Cells.{AreCells, LeavesAt}
 use Rattle.ud_passes.proofs.pruning.left_texts.append_left.Given as goal
 

@@ -3,7 +3,7 @@ use Rattle.std.proofs.Common.{◌≡◌, ℕ, ◌-◌, List, [], ◌++◌, lengt
 use Rattle.std.proofs.lemmas.Grind.{common_steps}
 use Rattle.ud_model.specs.text.Bytes.{skip_white, are_white}
 use Rattle.ud_model.specs.conditions.Tokens.{next_token, found}
-use Rattle.ud_model.specs.conditions.ResidualTexts.{left_from, ends_operand}
+use Rattle.ud_simplified.specs.ResidualTexts.{left_from, ends_operand}
 use Rattle.ud_cond.specs.CondViews.{as_token}
 use Rattle.ud_passes.specs.pruning.Cells.{AreCells, byte_of}
 use Rattle.ud_passes.proofs.CellLemmas.{cells_count, found_left, end_left, unread_left, none_left, two_appended, all_appended, same_on, ok_all}

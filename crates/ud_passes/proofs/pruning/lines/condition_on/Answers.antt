@@ -1,8 +1,8 @@
 -- A directive of another kind stays.
 use Rattle.std.proofs.Common.{◌∙◌, sym, ap}
-use Rattle.ud_model.specs.text.LineViews.{as_scan}
+use Rattle.ud_model.specs.aids.LineViews.{as_scan}
 use Rattle.ud_model.specs.sections.Directives.{Content}
-use Rattle.ud_model.specs.output.SimplifiedTexts.{line_by}
+use Rattle.ud_simplified.specs.SimplifiedTexts.{line_by}
 use Rattle.ud_sections.specs.directives.ParsedDirectives.{as_directive, directive_or_text}
 use Rattle.ud_passes.proofs.EditLemmas.{other_stays}
 use Rattle.ud_passes.proofs.pruning.lines.condition_on.Goals as goal

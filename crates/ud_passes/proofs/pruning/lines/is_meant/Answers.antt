@@ -2,8 +2,8 @@
 use Rattle.std.proofs.Common.{◌≡◌, ℕ, List, [], true, not, ◌&&◌, Bool, false, sym, ◌∙◌, ap}
 use Rattle.ud_model.specs.text.Scans.{Scan}
 use Rattle.ud_model.specs.sections.Directives.{content_of}
-use Rattle.ud_model.specs.text.LineViews.{as_scan}
-use Rattle.ud_model.specs.output.SimplifiedTexts.{has_condition}
+use Rattle.ud_model.specs.aids.LineViews.{as_scan}
+use Rattle.ud_simplified.specs.SimplifiedTexts.{has_condition}
 use Rattle.ud_model.specs.declared.kind.Kind.{Kind}
 use Rattle.ud_passes.specs.pruning.EditedLines.{is_meant}
 use Rattle.ud_passes.proofs.pruning.lines.is_meant.Goals as goal

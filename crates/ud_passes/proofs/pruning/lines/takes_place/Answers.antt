@@ -6,7 +6,7 @@ use Rattle.ud_model.specs.text.Scanning.{scan_after_run}
 use Rattle.ud_model.specs.declared.kind.Kind.{Kind}
 use Rattle.ud_passes.specs.pruning.EditedLines.{is_meant}
 use Rattle.ud_model.specs.text.Lines.{Line}
-use Rattle.ud_model.specs.text.LineViews.{as_line}
+use Rattle.ud_model.specs.aids.LineViews.{as_line}
 use Rattle.ud_passes.proofs.EditLemmas.{other_ending, same_bytes, edited_if, is_end}
 use Rattle.ud_passes.proofs.pruning.lines.takes_place.Goals as goal
 

@@ -4,8 +4,8 @@ use Rattle.std.proofs.lemmas.Bool.{le-leb}
 use Rattle.ud_model.specs.text.Lines.{Line, text_of}
 use Rattle.ud_model.specs.text.Scans.{Scan}
 use Rattle.ud_model.specs.text.Scanning.{next_reading, scan_after}
-use Rattle.ud_model.specs.text.LineViews.{as_line, as_scan}
-use Rattle.ud_model.specs.output.SimplifiedTexts.{simplified_line}
+use Rattle.ud_model.specs.aids.LineViews.{as_line, as_scan}
+use Rattle.ud_simplified.specs.SimplifiedTexts.{simplified_line}
 use Rattle.ud_model.specs.declared.kind.Mode.TheVariants.{C}
 use Rattle.ud_model.specs.declared.limits.TheConstants.{LINE_BYTES}
 use Rattle.ud_cond.specs.CondViews.{as_rules}

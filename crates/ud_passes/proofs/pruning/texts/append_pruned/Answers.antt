@@ -2,7 +2,7 @@
 use Rattle.std.proofs.Common.{◌≡◌, ℕ, List, [], ◌++◌, length, map, append-nil, append_assoc, sym, ◌∙◌, ap, arith}
 use Rattle.std.specs.List.{concat}
 use Rattle.ud_model.specs.text.Scans.{Reading}
-use Rattle.ud_model.specs.output.InsertedLines.{read_as}
+use Rattle.ud_model.specs.aids.ReadAs.{read_as}
 use Rattle.ud_text.proofs.lemmas.scan.PassLemmas.{nothing_left}
 use Rattle.ud_passes.specs.pruning.PrunedTexts.{pruned_bytes, edited_among}
 use Rattle.ud_passes.proofs.WalkLemmas.{walk_ends}

@@ -1,6 +1,6 @@
 -- Text lines, or one line.
 use Rattle.std.proofs.Common.{◌+◌, ℕ, ap}
-use Rattle.ud_model.specs.text.LineViews.{as_line}
+use Rattle.ud_model.specs.aids.LineViews.{as_line}
 use Rattle.ud_cond.specs.CondViews.{as_rules}
 use Rattle.ud_passes.proofs.PassLemmas.{texts_more, long_more, line_pruned}
 use Rattle.ud_passes.proofs.pruning.texts.step.Goals as goal

@@ -2,8 +2,9 @@
 use Rattle.std.proofs.Common.{◌≡◌, ◌+◌, List, ◌∷◌, Bool, false, length, drop, get_or, Some, refl, sym, ◌∙◌, ap, ap₂}
 use Rattle.std.proofs.lemmas.List.{drop_more}
 use Rattle.ud_model.specs.conditions.Tokens.{Token}
-use Rattle.ud_model.specs.conditions.ResidualTexts.{are_tokens, chosen}
-use Rattle.ud_model.specs.aids.Parsing.{tokens_of}
+use Rattle.ud_model.specs.aids.Residuals.{chosen}
+use Rattle.ud_simplified.specs.ResidualTexts.{are_tokens}
+use Rattle.ud_model.specs.conditions.Parsing.{tokens_of}
 use Rattle.ud_cond.specs.CondViews.{as_token}
 use Rattle.ud_passes.proofs.TokenLists.{Begins, begins, Splits, splits, one_less}
 use Rattle.ud_passes.proofs.pruning.tokens.has_tokens.Goals as goal

@@ -1,8 +1,9 @@
 -- The tokens so far are the same.
 use Rattle.std.proofs.Common.{◌≡◌, List, Some, length, drop}
 use Rattle.ud_model.specs.conditions.Tokens.{Token}
-use Rattle.ud_model.specs.conditions.ResidualTexts.{are_tokens, chosen}
-use Rattle.ud_model.specs.aids.Parsing.{tokens_of}
+use Rattle.ud_model.specs.aids.Residuals.{chosen}
+use Rattle.ud_simplified.specs.ResidualTexts.{are_tokens}
+use Rattle.ud_model.specs.conditions.Parsing.{tokens_of}
 use Rattle.ud_passes.proofs.pruning.tokens.has_tokens.Given as goal
 
 abbrev pub invariant-loop-flag : goal.invariant-loop-flag

@@ -1,7 +1,7 @@
 -- No mention, a definition, or a directive.
 use Rattle.std.proofs.Common.{List, ℕ, ◌++◌, Some, sym, ◌∙◌, ap, ap₂}
 use Rattle.ud_model.specs.text.Scans.{Reading}
-use Rattle.ud_model.specs.text.LineViews.{as_line, as_scan}
+use Rattle.ud_model.specs.aids.LineViews.{as_line, as_scan}
 use Rattle.ud_sections.specs.directives.ParsedDirectives.{as_directive, directive_or_text}
 use Rattle.ud_passes.specs.Walks.{reading_at}
 use Rattle.ud_passes.specs.remaining.Mentions.{mention_at, shown_after}

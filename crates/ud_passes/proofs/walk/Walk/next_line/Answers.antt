@@ -2,7 +2,7 @@
 use Rattle.std.proofs.Common.{◌<◌, length, length-append, arith}
 use Rattle.std.proofs.lemmas.Bool.{lt-leb}
 use Rattle.ud_model.specs.text.Lines.{Line, text_of}
-use Rattle.ud_model.specs.text.LineViews.{as_line}
+use Rattle.ud_model.specs.aids.LineViews.{as_line}
 use Rattle.ud_model.specs.declared.limits.TheConstants.{LINE_BYTES}
 use Rattle.ud_passes.proofs.WalkLemmas.{line_next}
 use Rattle.ud_passes.proofs.walk.Walk.next_line.Goals as goal

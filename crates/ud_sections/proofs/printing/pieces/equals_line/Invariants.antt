@@ -1,7 +1,7 @@
 use Rattle.std.proofs.Common.{◌≡◌, ◌++◌, bytes_eq, drop}
 use Rattle.std.specs.List.{flat_map}
 use Rattle.ud_model.specs.text.Lines.{text_of}
-use Rattle.ud_model.specs.text.LineViews.{as_line}
+use Rattle.ud_model.specs.aids.LineViews.{as_line}
 use Rattle.ud_sections.proofs.printing.pieces.equals_line.Given as goal
 
 abbrev pub invariant-loop-part : goal.invariant-loop-part

@@ -2,7 +2,7 @@
 use Rattle.std.proofs.Common.{◌≡◌, ◌∙◌, sym, refl, subst, List, ℕ, Bool, true, false, ◌||◌, ◌++◌}
 use Rattle.ud_model.specs.text.Lines.{NoNewline}
 use Rattle.ud_model.specs.aids.LexStates.{LexesTo}
-use Rattle.ud_model.specs.text.LineViews.{as_line}
+use Rattle.ud_model.specs.aids.LineViews.{as_line}
 use Rattle.ud_text.specs.scan.LexerViews.{lex_state_of}
 use Rattle.ud_text.specs.scan.ScannerState.{scanner_state_of}
 use Rattle.ud_text.proofs.lemmas.scan.ScannerLemmas.{no_newline-content}

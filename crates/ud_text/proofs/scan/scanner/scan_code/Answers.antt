@@ -5,7 +5,7 @@ use Rattle.ud_model.specs.text.Scans.{Reading}
 use Rattle.ud_model.specs.text.Splicing.{is_spliced, content, spliced_text, c_run_of}
 use Rattle.ud_model.specs.text.Scanning.{is_block, comment_at}
 use Rattle.ud_model.specs.aids.LexStates.{LexState, Masks, kind_in_state, fresh_at}
-use Rattle.ud_model.specs.text.LineViews.{as_line}
+use Rattle.ud_model.specs.aids.LineViews.{as_line}
 use Rattle.ud_text.specs.scan.LexerViews.{lex_state_of, shown_in}
 use Rattle.ud_text.specs.scan.ScannerState.{ScannerRepresents, scanner_state_of}
 use Rattle.ud_text.proofs.lemmas.scan.ScannerLemmas.{represents_code, scan_carried, same_parts, no_newline-content}

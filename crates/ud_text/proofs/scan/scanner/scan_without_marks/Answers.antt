@@ -1,6 +1,6 @@
 -- The state carried over the line, and the line's scan.
 use Rattle.std.proofs.Common.{length, ◌∙◌, sym, ap, refl}
-use Rattle.ud_model.specs.text.LineViews.{as_line}
+use Rattle.ud_model.specs.aids.LineViews.{as_line}
 use Rattle.ud_text.specs.scan.LexerViews.{lex_state_of}
 use Rattle.ud_text.specs.scan.ScannerState.{scanner_state_of}
 use Rattle.ud_text.proofs.lemmas.scan.UnmarkedLemmas.{unmarked_carries, unmarked_scan}

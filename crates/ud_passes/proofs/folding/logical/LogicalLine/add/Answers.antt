@@ -1,6 +1,6 @@
 -- A line more.
 use Rattle.std.proofs.Common.{◌++◌, ◌∷◌, [], List, ℕ, ◌∙◌, ap}
-use Rattle.ud_model.specs.text.LineViews.{as_line, as_scan}
+use Rattle.ud_model.specs.aids.LineViews.{as_line, as_scan}
 use Rattle.ud_model.specs.declared.kind.Mode.TheVariants.{C}
 use Rattle.ud_passes.specs.Walks.{reading_at}
 use Rattle.ud_passes.proofs.FoldLemmas.{last_is, logical_more}

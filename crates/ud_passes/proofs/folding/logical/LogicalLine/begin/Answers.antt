@@ -1,6 +1,6 @@
 -- The first line.
 use Rattle.std.proofs.Common.{◌++◌, List, ℕ, ◌∙◌, ap}
-use Rattle.ud_model.specs.text.LineViews.{as_line, as_scan}
+use Rattle.ud_model.specs.aids.LineViews.{as_line, as_scan}
 use Rattle.ud_model.specs.text.Lines.{text_of}
 use Rattle.ud_model.specs.declared.kind.Mode.TheVariants.{C}
 use Rattle.ud_passes.specs.Walks.{reading_at}

@@ -1,7 +1,7 @@
 -- One line, or the lines.
 use Rattle.std.proofs.Common.{◌≡◌, ◌++◌, List, ℕ, Bool, if◌then◌else◌, ◌∙◌, ap, sym, append_assoc}
 use Rattle.ud_passes.specs.folding.LogicalLines.{is_line_shown}
-use Rattle.ud_model.specs.output.FoldedTexts.{folded_bytes}
+use Rattle.ud_simplified.specs.FoldedTexts.{folded_bytes}
 use Rattle.ud_passes.proofs.FoldLemmas.{folded_as}
 use Rattle.ud_passes.proofs.folding.logical.LogicalLine.end.Goals as goal
 

@@ -1,6 +1,6 @@
 -- A logical line begins, or the line is appended.
 use Rattle.std.proofs.Common.{sym, ◌∙◌}
-use Rattle.ud_model.specs.text.LineViews.{as_line, as_scan}
+use Rattle.ud_model.specs.aids.LineViews.{as_line, as_scan}
 use Rattle.ud_model.specs.declared.kind.Mode.TheVariants.{C}
 use Rattle.ud_passes.specs.Walks.{reading_at}
 use Rattle.ud_passes.proofs.FoldLemmas.{takes_line, takes_begun, begins_parts}

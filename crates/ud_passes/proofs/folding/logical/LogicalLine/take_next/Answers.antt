@@ -4,7 +4,7 @@ use Rattle.std.proofs.lemmas.Bool.{not-true, not-false}
 use Rattle.std.proofs.lemmas.Slice.Eq.{bytes_eq-Decides}
 use Rattle.ud_model.specs.text.Scans.{Reading}
 use Rattle.ud_model.specs.text.Lines.{text_of}
-use Rattle.ud_model.specs.text.LineViews.{as_line, as_scan}
+use Rattle.ud_model.specs.aids.LineViews.{as_line, as_scan}
 use Rattle.ud_model.specs.declared.kind.Mode.TheVariants.{C}
 use Rattle.ud_passes.specs.Walks.{reading_at}
 use Rattle.ud_passes.proofs.FoldLemmas.{takes_stays, takes_more, takes_all, other_in}

@@ -1,6 +1,6 @@
 -- Text lines, or one line.
 use Rattle.std.proofs.Common.{sym, ◌∙◌}
-use Rattle.ud_model.specs.text.LineViews.{as_line}
+use Rattle.ud_model.specs.aids.LineViews.{as_line}
 use Rattle.ud_passes.specs.Walks.{read_after}
 use Rattle.ud_passes.proofs.UnlistedLemmas.{texts_more, line_more, line_found, long_line}
 use Rattle.ud_passes.proofs.names.texts.File.step.Goals as goal

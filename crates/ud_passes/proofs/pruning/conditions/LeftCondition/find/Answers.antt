@@ -2,9 +2,9 @@
 use Rattle.std.proofs.Common.{◌≡◌, ℕ, List, Bool, map, Some, sym, ◌∙◌, ap, subst}
 use Rattle.ud_model.specs.text.Lexemes.{shown}
 use Rattle.ud_model.specs.conditions.Conditions.{Rules, expression_cond}
-use Rattle.ud_model.specs.conditions.Residuals.{is_unknown}
-use Rattle.ud_model.specs.conditions.ResidualTexts.{keeps, left_cells}
-use Rattle.ud_model.specs.aids.Parsing.{expression_of}
+use Rattle.ud_model.specs.aids.Residuals.{is_unknown, keeps}
+use Rattle.ud_simplified.specs.ResidualTexts.{left_cells}
+use Rattle.ud_model.specs.conditions.Parsing.{expression_of}
 use Rattle.ud_cond.specs.CondViews.{as_rules}
 use Rattle.ud_passes.specs.pruning.Cells.{AreCells}
 use Rattle.ud_passes.proofs.LeftLemmas.{known_stays, settled_stays, found_or_stays, left_alone}

@@ -1,8 +1,8 @@
 -- The line stays, or its condition is edited.
 use Rattle.std.proofs.Common.{sym, ◌∙◌, ap, inl, inr, subst}
 use Rattle.ud_model.specs.text.Lines.{Line, text_of}
-use Rattle.ud_model.specs.text.LineViews.{as_line, as_scan}
-use Rattle.ud_model.specs.output.SimplifiedTexts.{condition_cells}
+use Rattle.ud_model.specs.aids.LineViews.{as_line, as_scan}
+use Rattle.ud_simplified.specs.SimplifiedTexts.{condition_cells}
 use Rattle.ud_cond.specs.CondViews.{as_rules}
 use Rattle.ud_sections.specs.directives.ParsedDirectives.{as_directive}
 use Rattle.ud_passes.specs.pruning.EditedLines.{IsEditedTo}

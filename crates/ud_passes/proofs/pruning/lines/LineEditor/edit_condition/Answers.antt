@@ -2,12 +2,12 @@
 use Rattle.std.proofs.Common.{◌≡◌, ℕ, ◌+◌, ◌++◌, List, Bool, take, sym, ◌∙◌, ap, ap₂, refl, subst, arith}
 use Rattle.std.proofs.lemmas.Grind.{common_steps}
 use Rattle.ud_model.specs.text.Lines.{Line}
-use Rattle.ud_model.specs.text.LineViews.{as_line}
+use Rattle.ud_model.specs.aids.LineViews.{as_line}
 use Rattle.ud_model.specs.text.Lexemes.{Cell}
 use Rattle.ud_model.specs.sections.Directives.{Directive}
 use Rattle.ud_model.specs.conditions.Conditions.{Rules}
-use Rattle.ud_model.specs.conditions.ResidualTexts.{simplified_cells}
-use Rattle.ud_model.specs.output.SimplifiedTexts.{keyword_end, condition_cells}
+use Rattle.ud_simplified.specs.ResidualTexts.{simplified_cells}
+use Rattle.ud_simplified.specs.SimplifiedTexts.{keyword_end, condition_cells}
 use Rattle.ud_cond.specs.CondViews.{as_rules}
 use Rattle.ud_sections.specs.directives.ParsedDirectives.{as_directive}
 use Rattle.ud_passes.specs.pruning.Cells.{AreCells, IsFound}

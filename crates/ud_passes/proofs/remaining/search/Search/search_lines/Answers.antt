@@ -1,6 +1,6 @@
 -- Text lines, or one line.
 use Rattle.std.proofs.Common.{List, ℕ, refl, sym, subst, arith}
-use Rattle.ud_model.specs.text.LineViews.{as_line}
+use Rattle.ud_model.specs.aids.LineViews.{as_line}
 use Rattle.ud_passes.specs.remaining.Searches.{IsClearTo}
 use Rattle.ud_passes.proofs.SearchLemmas.{texts_clear, still_clear, texts_searched, line_searched, long_searched, none_if}
 use Rattle.ud_passes.proofs.remaining.search.Search.search_lines.Goals as goal

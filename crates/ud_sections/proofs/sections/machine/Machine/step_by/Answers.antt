@@ -1,7 +1,7 @@
 use Rattle.std.proofs.Common.{◌≡◌, ◌∙◌, ap, sym, refl, rules}
 use Rattle.ud_model.specs.sections.Pruning.{is_removed}
 use Rattle.ud_model.specs.sections.Directives.{text}
-use Rattle.ud_model.specs.text.LineViews.{as_line, as_scan}
+use Rattle.ud_model.specs.aids.LineViews.{as_line, as_scan}
 use Rattle.ud_sections.specs.directives.ParsedDirectives.{content_found}
 use Rattle.ud_sections.proofs.lemmas.sections.TransitionLemmas.{turns_well, turns_ill, text_turn}
 use Rattle.ud_sections.proofs.lemmas.sections.MachineLemmas.{reads_line}

@@ -1,6 +1,6 @@
 -- The state isn't changed by the line, and the line's scan.
 use Rattle.std.proofs.Common.{length, ◌∙◌, sym, refl}
-use Rattle.ud_model.specs.text.LineViews.{as_line}
+use Rattle.ud_model.specs.aids.LineViews.{as_line}
 use Rattle.ud_text.proofs.lemmas.scan.UnmarkedLemmas.{unmarked_stays, unmarked_scan_of}
 use Rattle.ud_text.proofs.scan.scanner.Scanner.read_unmarked.Goals as goal
 

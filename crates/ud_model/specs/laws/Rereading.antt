@@ -26,8 +26,8 @@ use Rattle.ud_model.specs.sections.Tree.{Item, Nodes, Tree, closed, nothing, lin
 use Rattle.ud_model.specs.sections.Items.{Options, line_of, next_item}
 use Rattle.ud_model.specs.answer.Printing.{piece_by, keyword_in}
 use Rattle.ud_model.specs.answer.Outcomes.{Outcome, HasOutcome}
-use Rattle.ud_model.specs.output.Worlds.{World, selected, truths_of, openers_in}
-use Rattle.ud_model.specs.output.Pruned.{Edited, pruned_lines}
+use Rattle.ud_model.specs.laws.Worlds.{World, selected, truths_of, openers_in}
+use Rattle.ud_model.specs.laws.Pruned.{Edited, pruned_lines}
 use Rattle.ud_model.specs.declared.settings.Listing.TheVariants.{Off}
 use Rattle.ud_model.specs.declared.limits.TheConstants.{LINE_BYTES}
 

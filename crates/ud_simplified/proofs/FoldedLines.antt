@@ -5,21 +5,21 @@ use Rattle.std.proofs.lemmas.Bool.{and_parts, or_cases}
 use Rattle.std.proofs.lemmas.List.{take-map, take-append-drop}
 use Rattle.ud_model.proofs.text.ScanBytes.{content-prefix, length-masked}
 use Rattle.ud_model.specs.text.Bytes.{slash, space, backslash, number_sign, is_white, is_word_byte}
-use Rattle.ud_model.specs.text.SpacedBytes.{spaced}
+use Rattle.ud_model.specs.aids.SpacedBytes.{spaced}
 use Rattle.ud_model.specs.text.Lines.{Line, lines_of}
 use Rattle.ud_model.specs.text.Lexemes.{LexemeKind, single, lexeme_at, lex_from, lex, shown_as, shown}
 use Rattle.ud_model.specs.text.Splicing.{is_spliced, content, newline_of, spliced_part}
 use Rattle.ud_model.specs.text.Scans.{Scan, Reading}
 use Rattle.ud_model.specs.text.Scanning.{scan_after_run, next_reading, readings_after}
 use Rattle.ud_model.specs.sections.Directives.{Directive, directive, content_of, kind_of, is_outside, is_continued_outside_comment}
-use Rattle.ud_model.specs.sections.DirectiveParts.{first_is, HasDirective}
+use Rattle.ud_model.specs.aids.DirectiveParts.{first_is, HasDirective}
 use Rattle.ud_model.specs.declared.kind.Kind.{Kind}
 use Rattle.ud_model.proofs.sections.SplitLines.{directive_is}
 use Rattle.std.proofs.lemmas.Slice.Eq.{bytes_eq-Decides}
-use Rattle.ud_model.specs.aids.Parsing.{tokens_of}
-use Rattle.ud_model.specs.output.InsertedLines.{in_mode, read_as}
+use Rattle.ud_model.specs.conditions.Parsing.{tokens_of}
+use Rattle.ud_model.specs.aids.ReadAs.{in_mode, read_as}
 use Rattle.ud_model.specs.declared.kind.Mode.TheVariants.{C}
-use Rattle.ud_model.specs.output.FoldedTexts.{is_foldable, IsReadAs, vertical_tab, continued, folded_body, folded_line, shown_lines, is_blank, blank_follows, tabs_are_beside}
+use Rattle.ud_simplified.specs.FoldedTexts.{is_foldable, IsReadAs, vertical_tab, continued, folded_body, folded_line, shown_lines, is_blank, blank_follows, tabs_are_beside}
 use Rattle.ud_model.proofs.conditions.SpreadTexts.{begins_white, IsSpread, nothing, kept, behind, in_front, Spread, spread_tokens}
 use Rattle.ud_model.proofs.output.Each.{Each, each_parts, each_both}
 use Rattle.ud_model.proofs.output.LeftLines.{spliced_body}

@@ -18,20 +18,20 @@
 --
 -- Example: `#if A || \`, `  B` becomes one line, with a vertical tab after `|| `. So does
 -- `#else /* a`, `b */`, with one in the comment.
-use Rattle.std.specs.Prelude.{◌≡◌, ℕ, ◌==◌, nat_le, List, [], ◌∷◌, ◌++◌, length, map}
-use Rattle.std.specs.Prelude.{Bool, true, false, not, ◌&&◌, ◌||◌, if◌then◌else◌, bytes_eq}
+use Rattle.std.specs.Prelude.{◌≡◌, ℕ, ◌==◌, nat_le, List, [], ◌∷◌, ◌++◌, length, map, Bool, true}
+use Rattle.std.specs.Prelude.{false, not, ◌&&◌, ◌||◌, if◌then◌else◌, bytes_eq}
 use Rattle.std.specs.List.{flat_map, list_all, list_any}
 use Rattle.ud_model.specs.text.Bytes.{backslash, space, is_white, is_quote}
-use Rattle.ud_model.specs.text.SpacedBytes.{spaced}
+use Rattle.ud_model.specs.aids.SpacedBytes.{spaced}
 use Rattle.ud_model.specs.text.Lines.{Line, text_of, lines_of}
 use Rattle.ud_model.specs.text.Splicing.{is_empty, content}
 use Rattle.ud_model.specs.text.Scans.{Scan, Reading}
 use Rattle.ud_model.specs.text.Scanning.{scan_after_run, next_reading}
 use Rattle.ud_model.specs.sections.Directives.{Content, cut_keyword, directive, text, content_of}
 use Rattle.ud_model.specs.sections.Directives.{Directive, is_outside}
-use Rattle.ud_model.specs.aids.Parsing.{tokens_of}
-use Rattle.ud_model.specs.output.InsertedLines.{read_as}
-use Rattle.ud_model.specs.output.SimplifiedTexts.{keeps_ending}
+use Rattle.ud_model.specs.conditions.Parsing.{tokens_of}
+use Rattle.ud_model.specs.aids.ReadAs.{read_as}
+use Rattle.ud_simplified.specs.SimplifiedTexts.{keeps_ending}
 use Rattle.ud_model.specs.declared.kind.Kind.{Kind}
 use Rattle.ud_model.specs.declared.kind.Mode.TheVariants.{C}
 use Rattle.ud_model.specs.declared.limits.TheConstants.{LINE_BYTES}

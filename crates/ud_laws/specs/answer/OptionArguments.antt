@@ -1,7 +1,6 @@
 -- OptionArguments: arguments that give options alone, and an argument that names a symbol.
 -- POSIX XBD 12.2, guidelines 4 to 10; unifdef(1), `-D` and `-U`.
 --
---   IsOptionWord w c cs        w is a word of options, with the letters c and cs, and not `--`
 --   AreOptions args            args give options and their option-arguments, and nothing else
 --   IsSymbolOption name w      w is `-Dname`, `-Dname=VALUE` or `-Uname`
 --   AddsSymbol before name w   w names the symbol, and is read as an option after `before`
@@ -9,17 +8,11 @@
 --
 -- Example: `-k`, `-D`, `A`, `-bUB` are options. `-k`, `-D` aren't, since `-D` lacks its argument;
 -- nor are `-k`, `a.c`.
-use Rattle.std.specs.Prelude.{◌≡◌, ℕ, List, [], ◌∷◌, ◌++◌, true, false, Some, None}
-use Rattle.std.specs.Prelude.{bytes_eq, codes, IsUtf8}
+use Rattle.std.specs.Prelude.{◌≡◌, ℕ, List, [], ◌∷◌, ◌++◌, true, Some, None, codes, IsUtf8}
 use Rattle.ud_model.specs.text.Bytes.{equals_sign}
-use Rattle.ud_model.specs.answer.CommandLine.{option_letters}
 use Rattle.ud_model.specs.answer.SymbolArguments.{is_name}
 use Rattle.ud_model.specs.answer.CommandLine.{letters_give}
-
--- `IsOptionWord w c cs`: `w` is a word of options, with the letters `c` and `cs`, and not `--`.
-pub record IsOptionWord (w : List ℕ) (c : ℕ) (cs : List ℕ) : Type 0 where
-  pub no_end : bytes_eq w (codes "--") ≡ false
-  pub letters : option_letters w ≡ c ∷ cs
+use Rattle.ud_model.specs.aids.LettersThen.{IsOptionWord}
 
 -- `AreOptions args`: each of `args` is a word of options, or the option-argument of the one before.
 pub data AreOptions : List (List ℕ) → Type 0 where

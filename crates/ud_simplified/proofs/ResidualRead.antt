@@ -7,14 +7,14 @@ use Rattle.ud_model.specs.text.Lexemes.{Cell, shown}
 use Rattle.ud_model.specs.conditions.Table.{Argument}
 use Rattle.ud_model.specs.conditions.Tokens.{Token, NextToken, found, next_token}
 use Rattle.ud_model.specs.conditions.Expressions.{Expression, spelling, IsWritten}
-use Rattle.ud_model.specs.aids.Parsing.{tokens_of, expression_of}
+use Rattle.ud_model.specs.conditions.Parsing.{tokens_of, expression_of}
 use Rattle.ud_model.specs.conditions.Conditions.{Rules}
-use Rattle.ud_model.specs.conditions.Residuals.{residual}
-use Rattle.ud_model.specs.conditions.ResidualTexts.{cells_before, cells_after, token_left, left_by, left_from, left_cells, keeps, ends_operand, same_token, same_tokens, are_tokens, begins_word, may_go, is_read, simplified_by, simplified_cells}
-use Rattle.ud_model.specs.conditions.Sublists.{IsSublist, nothing, without, with_same}
+use Rattle.ud_model.specs.aids.Residuals.{residual, keeps}
+use Rattle.ud_simplified.specs.ResidualTexts.{cells_before, cells_after, token_left, left_by, left_from, left_cells, ends_operand, same_token, same_tokens, are_tokens, begins_word, may_go, is_read, simplified_by, simplified_cells}
+use Rattle.ud_simplified.specs.Sublists.{IsSublist, nothing, without, with_same}
 use Rattle.ud_model.proofs.conditions.TokenLemmas.{tokens_of_are}
 use Rattle.ud_model.proofs.conditions.OneExpression.{expression_only, expression_is}
-use Rattle.ud_model.proofs.conditions.ResidualShape.{precedence_stays, all_of_it, none_of_it}
+use Rattle.ud_simplified.proofs.ResidualShape.{precedence_stays, all_of_it, none_of_it}
 
 -- 1. Tokens that look alike are the same.
 

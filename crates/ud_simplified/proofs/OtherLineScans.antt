@@ -3,13 +3,10 @@ use Rattle.std.proofs.Common.{◌≡◌, List, [], ◌∷◌, ◌++◌, refl, sy
 use Rattle.ud_model.specs.text.Lines.{Line}
 use Rattle.ud_model.specs.text.Scans.{Scan, Reading}
 use Rattle.ud_model.specs.text.Scanning.{scan_after, next_reading, with_next, EndsLogicalLine, ends_with}
-use Rattle.ud_model.specs.text.OtherLines.{StandsAlone, AreReadAlike, no_lines, same_line, other_line}
+use Rattle.ud_simplified.specs.OtherLines.{StandsAlone, AreReadAlike, no_lines, same_line, other_line}
 use Rattle.ud_model.specs.declared.kind.Mode.{Mode}
 use Rattle.ud_model.specs.declared.kind.Mode.TheVariants.{C}
-use Rattle.ud_model.proofs.text.ScanLaws.{scan_alone}
-
-pub after_end : (before group : List Reading) (m : Mode) (l : Line) → EndsLogicalLine before → scan_after (before ++ group) m l ≡ scan_after group m l
-after_end before group m l (ends_with prefix n last alone some) = scan_alone prefix group n m last l alone some
+use Rattle.ud_model.proofs.text.ScanLaws.{after_end}
 
 -- A line that stands alone is scanned as if it were the first.
 pub scanned_alone : (before : List Reading) (l : Line) → (before ≡ []) ⊎ EndsLogicalLine before → scan_after before C l ≡ scan_after [] C l

@@ -1,8 +1,7 @@
 -- Residual texts: the text of a condition without the tokens of its removed operands.
 --
---   keeps e                  for each token of the tree `e` whether it is left (Residuals)
---   chosen flags xs          the members of `xs` whose flag is true
---   left_cells flags cells   the cells of the text of a condition that are left by these flags
+--   left_cells flags cells   the cells of the text of a condition that are left by these flags of
+--                            its tokens (`keeps` of Residuals)
 --   simplified_cells cells   the cells that are left, or the text itself if it must stay
 --
 -- White space after an operand belongs to the token after it, other white space to the token (or
@@ -15,8 +14,8 @@
 --
 -- Example: with A undefined, ` A || X // c` and ` X || A // c` both become ` X // c`.
 use Rattle.std.specs.Prelude.{ℕ, ◌-◌, List, [], ◌∷◌, ◌++◌, length, map, take, drop, Bool, true}
-use Rattle.std.specs.Prelude.{false, not, ◌&&◌, ◌||◌, if◌then◌else◌, Option, Some, None}
-use Rattle.std.specs.Prelude.{bytes_eq, codes}
+use Rattle.std.specs.Prelude.{false, not, ◌&&◌, ◌||◌, if◌then◌else◌, Option, Some, None, bytes_eq}
+use Rattle.std.specs.Prelude.{codes}
 use Rattle.std.specs.List.{list_any}
 use Rattle.ud_model.specs.text.Bytes.{is_word_byte, skip_white, are_white}
 use Rattle.ud_model.specs.text.Lexemes.{LexemeKind, block_comment, line_comment, literal, single}
@@ -25,52 +24,16 @@ use Rattle.ud_model.specs.conditions.Table.{Argument}
 use Rattle.ud_model.specs.conditions.Tokens.{Token, number, name, defined, operator, opening}
 use Rattle.ud_model.specs.conditions.Tokens.{closing, NextToken, at_end, unreadable, found}
 use Rattle.ud_model.specs.conditions.Tokens.{next_token}
-use Rattle.ud_model.specs.conditions.Expressions.{Expression, unary}
-use Rattle.ud_model.specs.conditions.Expressions.{binary, parens, spelling}
-use Rattle.ud_model.specs.aids.Parsing.{tokens_of, expression_of}
+use Rattle.ud_model.specs.conditions.Expressions.{Expression, spelling}
+use Rattle.ud_model.specs.conditions.Parsing.{tokens_of, expression_of}
 use Rattle.ud_model.specs.conditions.Conditions.{Rules, tree_cond}
-use Rattle.ud_model.specs.conditions.Residuals.{is_unit, is_unknown, stands_alone}
-use Rattle.ud_model.specs.conditions.Residuals.{residual, is_undecided}
+use Rattle.ud_model.specs.aids.Residuals.{is_unknown, residual, is_undecided, keeps}
 use Rattle.ud_model.specs.declared.operator.Operator.{Operator}
 use Rattle.ud_model.specs.declared.operator.Operator.TheVariants.{Or, And, BitOr, BitXor, BitAnd}
 use Rattle.ud_model.specs.declared.operator.Operator.TheVariants.{Equal, NotEqual, Less, LessEqual}
 use Rattle.ud_model.specs.declared.operator.Operator.TheVariants.{Greater, GreaterEqual, Plus}
 use Rattle.ud_model.specs.declared.operator.Operator.TheVariants.{Minus, Times, Over, Remainder}
 use Rattle.ud_model.specs.declared.operator.Operator.TheVariants.{Not, Complement}
-
--- `chosen flags xs`: the members of `xs` whose flag is true, in order.
-abbrev pub chosen : {A : Type 0} → List Bool → List A → List A
-chosen [] xs = []
-chosen (f ∷ flags) [] = []
-chosen (f ∷ flags) (x ∷ xs) = if f then x ∷ chosen flags xs else chosen flags xs
-
--- `all_flags f e`: the flag `f` for each token of the tree `e`.
-abbrev pub all_flags : Bool → Expression → List Bool
-all_flags f e = map (λ t. f) (spelling e)
-
--- `joined_flags b d e f xs ys`: the flags of an operator between `e` and `f`, whose flags are `xs`
--- and `ys`. Only the right operand is left if `b`, only the left one if `d`, else both.
-abbrev pub joined_flags : Bool → Bool → Expression → Expression → List Bool → List Bool → List Bool
-joined_flags b d e f xs ys =
-    if b then all_flags false e ++ false ∷ ys
-    else if d then xs ++ false ∷ all_flags false f
-    else xs ++ true ∷ ys
-
-module _ (table : List Argument) (rules : Rules) where
-  -- `keeps e`: for each token of the tree whether it is left.
-  abbrev pub keeps : Expression → List Bool
-  keeps (unary Not a) = true ∷ keeps a
-  keeps (binary And a b) =
-      joined_flags (is_unit And (residual table rules a).cond)
-      (is_unit And (residual table rules b).cond) a b (keeps a) (keeps b)
-  keeps (binary Or a b) =
-      joined_flags (is_unit Or (residual table rules a).cond)
-      (is_unit Or (residual table rules b).cond) a b (keeps a) (keeps b)
-  keeps (parens a) =
-      not ((residual table rules a).lost && stands_alone (residual table rules a).tree) ∷
-      keeps a ++
-      not ((residual table rules a).lost && stands_alone (residual table rules a).tree) ∷ []
-  keeps e = all_flags true e
 
 -- `ends_operand t`: an operand ends with the token `t`, so an operator or the end follows.
 abbrev pub ends_operand : Token → Bool

@@ -10,10 +10,10 @@ use Rattle.ud_model.specs.text.Scans.{Scan, Reading, is_spanning}
 use Rattle.ud_model.specs.text.Lexemes.{Cell, shown}
 use Rattle.ud_model.specs.text.Scanning.{content_cells, scan_after_run, scan_after}
 use Rattle.ud_model.specs.sections.Directives.{Content, cut_keyword, directive, text, Directive, content_of}
-use Rattle.ud_model.specs.sections.DirectiveParts.{HasDirective}
+use Rattle.ud_model.specs.aids.DirectiveParts.{HasDirective}
 use Rattle.ud_model.specs.conditions.Table.{Argument}
 use Rattle.ud_model.specs.conditions.Conditions.{Rules}
-use Rattle.ud_model.specs.output.SimplifiedTexts.{keyword_end, condition_cells, same_if, has_condition, left_cells_of, left_line, may_change, line_by, simplified_line}
+use Rattle.ud_simplified.specs.SimplifiedTexts.{keyword_end, condition_cells, same_if, has_condition, left_cells_of, left_line, may_change, line_by, simplified_line}
 use Rattle.ud_model.specs.declared.kind.Kind.{Kind}
 use Rattle.ud_model.specs.declared.kind.Kind.TheVariants.{If, Elif}
 use Rattle.ud_model.specs.declared.kind.Mode.TheVariants.{C}

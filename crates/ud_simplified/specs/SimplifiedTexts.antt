@@ -16,8 +16,8 @@
 -- An edited line keeps its number, so both texts have the same count of lines.
 --
 -- Example: with A undefined, `#if A || X // c` becomes `#if X // c`, and `#if!A||X` stays.
-use Rattle.std.specs.Prelude.{ℕ, ◌+◌, List, [], ◌++◌, map, take, drop, Bool, true, false}
-use Rattle.std.specs.Prelude.{not, ◌&&◌, if◌then◌else◌, bytes_eq}
+use Rattle.std.specs.Prelude.{ℕ, ◌+◌, List, [], ◌++◌, map, take, drop, Bool, true, false, not, ◌&&◌}
+use Rattle.std.specs.Prelude.{if◌then◌else◌, bytes_eq}
 use Rattle.std.specs.List.{concat}
 use Rattle.ud_model.specs.text.Lines.{Line, text_of, ending_of}
 use Rattle.ud_model.specs.text.Scans.{Scan, Reading, is_spanning}
@@ -29,8 +29,8 @@ use Rattle.ud_model.specs.sections.Directives.{content_of}
 use Rattle.ud_model.specs.sections.Items.{Options, rules_of}
 use Rattle.ud_model.specs.conditions.Table.{Argument}
 use Rattle.ud_model.specs.conditions.Conditions.{Rules}
-use Rattle.ud_model.specs.conditions.ResidualTexts.{simplified_cells}
-use Rattle.ud_model.specs.output.InsertedLines.{read_as}
+use Rattle.ud_simplified.specs.ResidualTexts.{simplified_cells}
+use Rattle.ud_model.specs.aids.ReadAs.{read_as}
 use Rattle.ud_model.specs.declared.kind.Kind.{Kind}
 use Rattle.ud_model.specs.declared.kind.Kind.TheVariants.{If, Elif}
 use Rattle.ud_model.specs.declared.kind.Mode.TheVariants.{C}

@@ -7,7 +7,6 @@
 --   AddsNumbers o input r s     `s` is the outcome with `-b`, `-n` or both, `r` the one without
 --   AnswersNumbered args more input a c
 --                               `c` is the answer with `-b`, `-n` or both, and `a` the one without
---   read_as mode text           the lines of a text, each read in this mode
 --   IsLone s                    the line is scanned by itself: nothing joins it to its neighbours,
 --                               and it lies in no comment
 --   IsPrinted j r s             `r` and `s` are the output for the judged line `j`: the same bytes
@@ -22,19 +21,18 @@
 --
 -- Example: under `-n -UA` the output for `x`, `#ifdef A`, `y`, `#endif`, `z` is `x`, `#line 5`,
 -- `z`, and `z` has the number 5.
-use Rattle.std.specs.Prelude.{◌≡◌, ℕ, suc, List, [], ◌∷◌, ◌++◌, map, Bool, true, false, codes}
-use Rattle.std.specs.Prelude.{decimal, ◌||◌, None}
-use Rattle.ud_model.specs.text.Lines.{Line, text_of, lines_of}
+use Rattle.std.specs.Prelude.{◌≡◌, ℕ, suc, List, [], ◌∷◌, ◌++◌, Bool, true, false, codes, decimal}
+use Rattle.std.specs.Prelude.{◌||◌, None}
+use Rattle.ud_model.specs.text.Lines.{text_of}
 use Rattle.ud_model.specs.text.Scans.{Reading, plain_scan}
-use Rattle.ud_model.specs.text.Scanning.{readings_of}
 use Rattle.ud_model.specs.sections.Pruning.{is_removed}
 use Rattle.ud_model.specs.sections.Items.{Options, mode_by}
 use Rattle.ud_model.specs.answer.CommandLine.{usage_fault, options_of}
 use Rattle.ud_model.specs.answer.Printing.{Judged, piece_by}
 use Rattle.ud_model.specs.answer.Outcomes.{Outcome, HasOutcome}
 use Rattle.ud_model.specs.answer.Answer.{Answer, IsAnswer}
-use Rattle.ud_model.specs.output.Rereading.{IsPlain}
-use Rattle.ud_model.specs.declared.kind.Mode.{Mode}
+use Rattle.ud_model.specs.laws.Rereading.{IsPlain}
+use Rattle.ud_model.specs.aids.ReadAs.{read_as}
 
 -- `with_blank_renumber b n o`: the options `o`, with `-b` if `b` and `-n` if `n`, else without.
 abbrev pub with_blank_renumber : Bool → Bool → Options → Options
@@ -70,18 +68,6 @@ pub record AnswersNumbered (args more : List (List ℕ)) (input : List ℕ) (a c
     pub keeps : KeepsNumbers args more
     pub answer : IsAnswer args input a
     pub numbered : IsAnswer more input c
-
--- `in_mode m l`: the line `l` with the mode `m`.
-abbrev pub in_mode : Mode → Line → Mode × Line
-in_mode m l = (m, l)
-
--- `read_in m ls`: the readings of the lines `ls`, each read in the mode `m`.
-abbrev pub read_in : Mode → List Line → List Reading
-read_in m ls = readings_of (map (in_mode m) ls)
-
--- `read_as m t`: the readings of the lines of the text `t`, each read in the mode `m`.
-abbrev pub read_as : Mode → List ℕ → List Reading
-read_as m t = read_in m (lines_of t)
 
 -- `IsLone s`: the line is scanned by itself, as in plain mode.
 abbrev pub IsLone : Reading → Type 0

@@ -1,8 +1,6 @@
 -- Processing: what a preprocessor does with the files of a tree, whose lines change its state.
 -- C11 5.1.1.2, 6.10, 6.10.1p6, 6.10.2, 6.10.3.
 --
---   Condition                  the condition of a directive, as written
---   condition_on r             the condition of the directive on the line `r`
 --   expression_written c       the expression that the condition `c` means, if it ends on its line
 --   Preprocessor S F L         what a preprocessor with the states `S` may do at lines `L`, which
 --                              may include the files `F`
@@ -30,11 +28,9 @@
 --
 -- Example: in `#define A 1`, `#if A`, `x`, `#endif` the first line leads to a state where the
 -- condition is true, and `x` is taken.
-use Rattle.std.specs.Prelude.{◌≡◌, ℕ, List, [], Bool, true, false, Option, None, if◌then◌else◌}
-use Rattle.ud_model.specs.text.SpacedBytes.{spaced}
+use Rattle.std.specs.Prelude.{◌≡◌, ℕ, List, Bool, true, false, Option, None, if◌then◌else◌}
 use Rattle.ud_model.specs.text.Scans.{Scan, Reading}
-use Rattle.ud_model.specs.sections.Directives.{Content, cut_keyword, directive, text, content_of}
-use Rattle.ud_model.specs.sections.Directives.{test_of}
+use Rattle.ud_model.specs.sections.Directives.{text}
 use Rattle.ud_model.specs.conditions.Table.{Argument}
 use Rattle.ud_model.specs.conditions.Expressions.{Expression}
 use Rattle.ud_model.specs.declared.cond.Cond.{Cond}
@@ -42,37 +38,10 @@ use Rattle.ud_model.specs.declared.cond.Cond.TheVariants.{Yes, No, Unknown}
 use Rattle.ud_model.specs.sections.Tree.{Opener, Nodes, Groups, Elifs, nothing, section}
 use Rattle.ud_model.specs.sections.Tree.{conditional, otherwise, first, elif, opener_with_line}
 use Rattle.ud_model.specs.sections.Tree as tree
-use Rattle.ud_model.specs.output.Pruned.{Edited}
-use Rattle.ud_model.specs.output.Rereading.{line_bytes}
-use Rattle.ud_model.specs.output.CSelection.{condition_by_test, MayBe}
-use Rattle.ud_model.specs.declared.kind.Test.{Test}
-use Rattle.ud_model.specs.declared.kind.Test.TheVariants.{Nothing}
-
--- The condition of a directive, as written: its test, the masked text after the keyword, and
--- whether it continues on the next line. White space counts as one space before a byte.
-pub record Condition : Type 0 where
-  pub test : Test
-  pub text : List ℕ
-  pub goes_on : Bool
-
--- `no_condition`: the condition of a line that has none.
-abbrev pub no_condition : Condition
-no_condition = record { test = Nothing; text = []; goes_on = false }
-
--- `condition_of_test test after on`: the condition with this test and the text `after` the keyword.
-abbrev pub condition_of_test : Test → List ℕ → Bool → Condition
-condition_of_test Nothing after on = no_condition
-condition_of_test test after on = record { test = test; text = spaced true after; goes_on = on }
-
--- `condition_with scan content`: the condition of a line with this content.
-abbrev pub condition_with : Scan → Content → Condition
-condition_with scan cut_keyword = no_condition
-condition_with scan text = no_condition
-condition_with scan (directive d) = condition_of_test (test_of d.kind) d.after scan.joins_after
-
--- `condition_on r`: the condition of the directive on the line `r`.
-abbrev pub condition_on : Reading → Condition
-condition_on r = condition_with r.scan (content_of r.scan)
+use Rattle.ud_model.specs.laws.Pruned.{Edited}
+use Rattle.ud_model.specs.laws.Rereading.{line_bytes}
+use Rattle.ud_laws.specs.output.CSelection.{MayBe}
+use Rattle.ud_model.specs.laws.WrittenConditions.{condition_by_test, Condition, condition_on}
 
 -- `expression_written c`: the expression that the condition `c` means; None if it continues on the
 -- next line.

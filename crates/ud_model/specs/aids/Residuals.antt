@@ -10,17 +10,20 @@
 --   residual e      the tree `e` without each operand that the table decides, and without its
 --                   operator, unless the operand decides that operator's value
 --   simplified e    the residual of a whole condition, or `e` itself if that is decided
+--   keeps e         for each token of the tree `e` whether it is left
+--   chosen flags xs
+--                   the members of `xs` whose flag is true
 --
 -- An operand is decided as an `#if` of the operand alone would be. Nothing is added, and nothing
 -- moves.
 --
 -- Example: with A undefined, `A || X` leaves `X`, `!A && (A || defined X)` leaves `defined X`, and
 -- `A + X > 2` stays.
-use Rattle.std.specs.Prelude.{◌≡◌, List, [], ◌∷◌, ◌++◌, Bool, true, false, not, ◌&&◌}
-use Rattle.std.specs.Prelude.{if◌then◌else◌}
+use Rattle.std.specs.Prelude.{◌≡◌, List, [], ◌∷◌, ◌++◌, Bool, true, false, not, ◌&&◌, if◌then◌else◌}
+use Rattle.std.specs.Prelude.{map}
 use Rattle.ud_model.specs.conditions.Table.{Argument}
-use Rattle.ud_model.specs.conditions.Expressions.{Expression, is_defined, unary}
-use Rattle.ud_model.specs.conditions.Expressions.{binary, parens}
+use Rattle.ud_model.specs.conditions.Expressions.{Expression, is_defined, unary, binary, parens}
+use Rattle.ud_model.specs.conditions.Expressions.{spelling}
 use Rattle.ud_model.specs.conditions.Conditions.{Rules, tree_cond, negate}
 use Rattle.ud_model.specs.declared.cond.Cond.{Cond}
 use Rattle.ud_model.specs.declared.cond.Cond.TheVariants.{Yes, No, Unknown}
@@ -126,3 +129,37 @@ operands (binary And a b) = operands a ++ operands b
 operands (binary Or a b) = operands a ++ operands b
 operands (parens a) = operands a
 operands e = e ∷ []
+
+-- `chosen flags xs`: the members of `xs` whose flag is true, in order.
+abbrev pub chosen : {A : Type 0} → List Bool → List A → List A
+chosen [] xs = []
+chosen (f ∷ flags) [] = []
+chosen (f ∷ flags) (x ∷ xs) = if f then x ∷ chosen flags xs else chosen flags xs
+
+-- `all_flags f e`: the flag `f` for each token of the tree `e`.
+abbrev pub all_flags : Bool → Expression → List Bool
+all_flags f e = map (λ t. f) (spelling e)
+
+-- `joined_flags b d e f xs ys`: the flags of an operator between `e` and `f`, whose flags are `xs`
+-- and `ys`. Only the right operand is left if `b`, only the left one if `d`, else both.
+abbrev pub joined_flags : Bool → Bool → Expression → Expression → List Bool → List Bool → List Bool
+joined_flags b d e f xs ys =
+    if b then all_flags false e ++ false ∷ ys
+    else if d then xs ++ false ∷ all_flags false f
+    else xs ++ true ∷ ys
+
+module _ (table : List Argument) (rules : Rules) where
+  -- `keeps e`: for each token of the tree whether it is left.
+  abbrev pub keeps : Expression → List Bool
+  keeps (unary Not a) = true ∷ keeps a
+  keeps (binary And a b) =
+      joined_flags (is_unit And (residual table rules a).cond)
+      (is_unit And (residual table rules b).cond) a b (keeps a) (keeps b)
+  keeps (binary Or a b) =
+      joined_flags (is_unit Or (residual table rules a).cond)
+      (is_unit Or (residual table rules b).cond) a b (keeps a) (keeps b)
+  keeps (parens a) =
+      not ((residual table rules a).lost && stands_alone (residual table rules a).tree) ∷
+      keeps a ++
+      not ((residual table rules a).lost && stands_alone (residual table rules a).tree) ∷ []
+  keeps e = all_flags true e

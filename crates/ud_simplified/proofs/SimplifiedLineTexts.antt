@@ -8,20 +8,20 @@ use Rattle.ud_model.specs.text.Lexemes.{Cell}
 use Rattle.ud_model.specs.text.Scanning.{content_cells}
 use Rattle.ud_model.specs.conditions.Table.{Argument}
 use Rattle.ud_model.specs.conditions.Conditions.{Rules}
-use Rattle.ud_model.specs.conditions.Sublists.{IsSublist, nothing, without, with_same}
+use Rattle.ud_simplified.specs.Sublists.{IsSublist, nothing, without, with_same}
 use Rattle.ud_model.specs.sections.Directives.{Directive}
-use Rattle.ud_model.specs.output.InsertedLines.{read_as, read_in}
-use Rattle.ud_model.specs.output.SimplifiedTexts.{keyword_end, condition_cells, left_cells_of, left_line, simplified_line, simplified_text}
+use Rattle.ud_model.specs.aids.ReadAs.{read_as, read_in}
+use Rattle.ud_simplified.specs.SimplifiedTexts.{keyword_end, condition_cells, left_cells_of, left_line, simplified_line, simplified_text}
 use Rattle.ud_model.specs.declared.kind.Mode.TheVariants.{C}
 use Rattle.ud_model.proofs.text.ScanBytes.{bytes-content_cells, content-prefix}
 use Rattle.ud_model.proofs.text.LinesLemmas.{no_newline-append, text_of-line_at, lines_exist, map-lines_of}
 use Rattle.ud_model.proofs.text.Pushes.{ByPush, none as nothing_pushed, push, by_push}
 use Rattle.ud_model.proofs.output.Formed.{whole_ending, end_is_some, ending_none, ended, whole_body, no_feed_parts, no_feed_cut}
 use Rattle.ud_model.proofs.output.OutputPieces.{output_lines}
-use Rattle.ud_model.proofs.output.SimplifiedLines.{byte_of, Becomes, it_stays, it_changes, becomes}
-use Rattle.ud_model.proofs.conditions.ResidualRead.{cells_go, of_parts}
+use Rattle.ud_simplified.proofs.SimplifiedLines.{byte_of, Becomes, it_stays, it_changes, becomes}
+use Rattle.ud_simplified.proofs.ResidualRead.{cells_go, of_parts}
 use Rattle.std.specs.List.{concat}
-use Rattle.ud_model.proofs.conditions.ResidualShape.{all_of_it, none_of_it, of_both, of_left}
+use Rattle.ud_simplified.proofs.ResidualShape.{all_of_it, none_of_it, of_both, of_left}
 use Rattle.ud_model.proofs.text.ScanLaws.{read_more}
 
 pub cut_there : (b e : List ℕ) → take (length (b ++ e) - length e) (b ++ e) ≡ b

@@ -1,0 +1,5 @@
+pub mod Sublists
+pub mod OtherLines
+pub mod ResidualTexts
+pub mod SimplifiedTexts
+pub mod FoldedTexts
