@@ -1,9 +1,5 @@
 -- Outlines: the output of a printer that leaves out the text lines.
 --
---   outlined j           a judged line in an outline: a text line is removed, and a directive keeps
---                        its verdict
---   inner_of outline     the printer of the directives
---
 -- Example: of `#ifdef X`, `x` and `#endif`, all kept, the first and the last are printed.
 use Rattle.std.specs.Prelude.{ℕ, ◌==◌, if◌then◌else◌}
 use Rattle.ud_model.specs.answer.Printing.{Judged}

@@ -1,18 +1,4 @@
 -- ParsedArgs: what the code has read of a command line.
---
---   as_parsed given       the code's option or operand, as one of the definitions
---   parsed given          several of them
---   parsed_arg given      the code's option or operand, in terms of unifdef(1)
---   texts line            the bytes of the words still to be read
---   operands line         each of those words as an operand
---   next_words line waits   what those words give, if an option takes the first of them
---   after_letters line letters   what these letters and then the words give
---   ordinary_word line n w   what a word and then the words after it give
---   remaining line        all that is still to be read
---   remaining_args line   the same, in terms of unifdef(1)
---   parsed_then next      the result of the next call, and all that comes after it
---   letters_of split      the letters of a text whose first letter was split off
---   bytes_of split        the bytes of this text
 use Rattle.std.specs.Prelude.{ℕ, List, [], ◌∷◌, ◌++◌, drop, map, chars, string_bytes, encode_utf8}
 use Rattle.std.specs.Prelude.{true, Option, Some, None, if◌then◌else◌}
 use denote.Ref.{Bor}

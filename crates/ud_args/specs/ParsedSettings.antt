@@ -1,11 +1,4 @@
 -- ParsedSettings: the code's settings and faults of options and operands.
---
---   as_argument symbol   a symbol, as one of the definitions
---   IsSetting g said     `g` is valid, and `said` is its setting
---   IsFaultOf fault u    the code's fault `u` is this fault of the command line
---   IsUsageOf gs u       the code's fault `u` is the first one of `gs`, or a failed allocation
---   with_flag s c        the settings with one more flag
---   after_first bytes    the bytes after the first one
 use Rattle.std.specs.Prelude.{◌≡◌, ℕ, List, [], ◌∷◌, false, ◌||◌, Option, Some, None, option_map}
 use Rattle.std.specs.Prelude.{codes, if◌then◌else◌}
 use Rattle.ud_model.specs.conditions.Table.{Argument}

@@ -1,10 +1,4 @@
 -- Plans: the plan of a run, as set by the arguments of a command line.
---
---   PlanState                a plan, as callers see it
---   IsPlanOf args plan       the arguments have no fault, and the plan is theirs
---   PlanRepresents plan gs   the plan comes from these options and operands, without a fault
---   ForOptionsOf plan P      `P` is true of the options that the plan represents
---   as_operand o             an operand, as one of the definitions
 use Rattle.std.specs.Prelude.{◌≡◌, ℕ, List, Option, None}
 use Rattle.std.specs.List.{filter_map}
 use Rattle.ud_model.specs.declared.settings.Settings.{Settings}

@@ -1,6 +1,4 @@
 -- SymbolStorage: arguments take memory only when an option's symbol is added to the table.
---
---   StoresSymbol gs   `gs` has an option with a symbol, and no fault up to it
 use Rattle.std.specs.Prelude.{◌≡◌, List, [], ◌∷◌, ◌++◌, None, IsSome}
 use Rattle.ud_model.specs.answer.CommandLine.{ParsedArg, first_fault, argument_in}
 

@@ -1,14 +1,5 @@
 -- TreeWords: what the words of unifdef-tree(1) ask for.
 --
---   given_in words      what the words give, in reading order
---   first_fault gs      the first fault of the words, if any
---   has_flag letters gs   a flag with one of these letters is given
---   has_symbols gs      some option names a symbol
---   unifdef_args gs     the options of unifdef(1)
---   word_at n gs        as one word, the option whose argument is in the word with the number `n`
---   patterns_in gs      the patterns of `-g`
---   paths_in gs         the paths
---
 -- `gs` is what the words give, one option or operand after another. The operands are paths.
 use Rattle.std.specs.Prelude.{ℕ, List, [], ◌∷◌, ◌++◌, ◌==◌, map, filter, Bool, true, false, Option}
 use Rattle.std.specs.Prelude.{Some, None, codes, encode_utf8, if◌then◌else◌}

@@ -1,11 +1,5 @@
 -- Hunks: the hunks of a unified diff (POSIX XCU, diff -u), as data.
 --
---   SignedLine      a line after its sign
---   Hunk            lines that change, among some that stay
---   old_lines ls    the lines of the old text among signed lines
---   new_lines ls    the lines of the new text among them
---   turned h        the hunk that changes the new text back
---
 -- Example: a kept line `a`, a removed one `b` and an added one `c` have the old lines `a` and `b`,
 -- and the new lines `a` and `c`.
 use Rattle.std.specs.Prelude.{ℕ, List, map, filter, Bool, true, false}

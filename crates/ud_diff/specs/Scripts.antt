@@ -1,16 +1,5 @@
 -- Scripts: the lines of two texts with their signs, as far as read.
 --
---   signed line              a line of the program, as a signed line
---   signed_lines lines       several of them
---   Extends s t              the script `t` has more of the same two texts than `s`
---   IsScript old new lines   `lines` are all lines of the two texts
---   hunk_of m n lines        the hunk of these lines
---   AppendsHunks lines old new   hunks that turn the old lines into the new ones are appended
---   between i j lines        the lines from the position `i` up to `j`
---   BeginsWithChange lines   the first line is in only one text
---   gap                      the number of kept lines that ends a hunk
---   IsNextHunk lines from start end   where the next changes and their contexts are
---
 -- Example: in a script of ten lines whose sixth line changes, the first hunk begins at the position
 -- 2 and ends at 9.
 use Rattle.std.specs.Prelude.{◌≡◌, ℕ, ◌+◌, ◌-◌, ◌*◌, ◌≤◌, List, [], ◌∷◌, ◌++◌, map, take, drop}

@@ -1,9 +1,4 @@
 -- NameListing: a line decider that lists the names of lines.
---
---   ListsMore o xs t l depths ..     the names of this line, as listed
---   ListsLine o r xs t l depths ..   a decider has also read this line, and listed its names
---   ListsNext .. r new l depths ..   the same for any items, or the line is faulty
---   ListsNames .. l depths ..        the same, and nothing was appended for a faulty line
 use Rattle.std.specs.Prelude.{◌≡◌, ℕ, List, [], ◌∷◌, ◌++◌, Bool, Option, Result, MatchResult, OnErr}
 use Rattle.ud_model.specs.text.Lines.{Line}
 use Rattle.ud_model.specs.text.Scans.{Reading}

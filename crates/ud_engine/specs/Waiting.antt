@@ -1,12 +1,4 @@
 -- Waiting: bytes read that wait to be fed with the rest of their line.
---
---   IsWaiting lines bytes                  the bytes begin the next line, and exceed no limit
---   IsFurther old new end left             there is less left to do
---   FeedsAllBut .. e f bytes left ..       an engine was fed all bytes read, except those
---                                          that are left
---   StopsRun .. e bytes .. f               each run in progress ends with the fault `f`
---   EndsRun .. e bytes .. result           each run in progress that has read all ends with this
---                                          result
 use Rattle.std.specs.Prelude.{◌≡◌, ◌⊎◌, ◌<◌, ◌≤◌, ℕ, List, [], length, Bool, Option, Result, Err}
 use Rattle.std.specs.Io.KnownBytes.{IsAtEnd, prepend_known}
 use Rattle.ud_model.specs.text.Lines.{NoNewline}

@@ -1,7 +1,4 @@
 -- Faults: the program's faults, as faults of the definitions.
---
---   limit_of f   the fault of the definitions for a limit that the text exceeds
---   fault_of f   the fault of the definitions for a fault of the sections
 use Rattle.ud_model.specs.sections.Faults.{Fault, too_many_lines, line_too_long}
 use Rattle.ud_model.specs.sections.Faults.{inappropriate_elif, inappropriate_else}
 use Rattle.ud_model.specs.sections.Faults.{inappropriate_endif, too_many_levels, obfuscated}

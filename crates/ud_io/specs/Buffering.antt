@@ -1,6 +1,4 @@
 -- Buffering: bytes on their way to a writer.
---
---   AppendsAllBut old new bytes rest   all of `bytes` but its suffix `rest` was appended
 use Rattle.std.specs.Prelude.{◌≡◌, ℕ, List, ◌++◌, Option}
 use Rattle.std.specs.Io.KnownBytes.{Appends}
 

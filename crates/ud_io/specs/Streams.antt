@@ -1,12 +1,5 @@
 -- Streams: what happens to bytes sent to a writer that records its failure.
 --
---   Stream                          the contents of a writer, and how its calls ended
---   stream_of contents w            the stream of the writer `w`
---   TakesBy failed failed' old ..   what it took, by whether it had failed and has now failed
---   TakesAllBut old new bytes left  the same between two streams: all of `bytes` but `left`
---   Sends old new bytes             all of `bytes` was written, or a prefix up to a failure
---   Accepts contents buffered ..    bytes were taken, after those of a buffer
---
 -- Example: after a write of "ab" that failed after the "a", the contents are one byte longer, and
 -- the writer has failed. Later bytes are dropped.
 use Rattle.std.specs.Prelude.{◌≡◌, ℕ, List, [], ◌++◌, Bool, true, false, Option}

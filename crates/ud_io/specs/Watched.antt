@@ -1,11 +1,5 @@
 -- Watched: readers and writers that record a failure, and what is known of their bytes.
 --
---   WatchedState T                            a reader or writer, and how its calls ended
---   ReadsOnce old new r buf                   one call of a reader returned `r` and left `buf`
---   WritesOnce old new r bytes                one call of a writer with `bytes` returned `r`
---   AppendsPrefix old new bytes               a prefix of `bytes` was appended
---   AppendsAllOrPrefix failed old new bytes   all of `bytes` was appended, or a prefix if `failed`
---
 -- `old` and `new` are what the reader will still give, or what the writer contains, before and
 -- after. Each is `None` if the stream doesn't report it.
 use Rattle.std.specs.Prelude.{Bool, true, false, ℕ, List, Option, Some, None, length, take, ◌≡◌}

@@ -1,10 +1,5 @@
 -- Passes: what all passes over a text share.
 --
---   Grows old new                   `new` is `old`, perhaps with bytes appended
---   fits l                          the line `l` is within the limit
---   place_at file number            where the line with this number is in the file
---   numbered_line file number body  a line of a list: a line of a file, after its place
---
 -- Example: line 2 of the file `f.c`, `#if A`, is listed as `f.c:2: #if A`.
 use Rattle.std.specs.Prelude.{◌≡◌, ℕ, List, [], ◌∷◌, ◌++◌, length, Bool, leb}
 use Rattle.std.specs.Prelude.{codes, decimal}

@@ -1,7 +1,4 @@
 -- CallRecords: the calls that code hands to a history.
---
---   walk_call_of w   the call of a `FolderWalk`
---   call_of c        the call of a `FolderCall`
 use Rattle.std.specs.Prelude.{map}
 use Rattle.ud_replace.specs.declared.call.FolderWalk.{FolderWalk}
 use Rattle.ud_replace.specs.declared.call.FolderWalk.TheVariants.{Met, Followed, Listed}

@@ -1,7 +1,4 @@
 -- Calls: the calls of a folder, and its answers.
---
---   WalkCall   a call made by a walk over folders, with its answer
---   Call       a call of a folder with its answer
 use Rattle.std.specs.Prelude.{ℕ, List, Bool, Option, Result}
 use Rattle.ud_replace.specs.declared.folder.CreateError.{CreateError}
 use Rattle.ud_replace.specs.declared.node.Lookup.{Lookup}

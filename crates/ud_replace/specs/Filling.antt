@@ -1,12 +1,5 @@
 -- Filling: the calls that fill a file with some bytes, and rename it over another one.
 --
---   Takes name old bytes new                   `name` took these bytes
---   AppendsAll name bytes old new all          `name` took all of `bytes`, or the last call failed
---   IsVersionOf stat seen                      `seen` and `stat` are of the same version of a file
---   LooksAgain name stat old new same          a file was looked at again
---   Confirms name text stat old new r          a file still has the text that was read
---   Fills name fresh before text stat old new r   `fresh` got `text`, and was renamed to `name`
---
 -- `old` and `new` are the calls before and after, the newest first.
 use Rattle.std.specs.Prelude.{◌≡◌, ℕ, ◌≤◌, List, [], ◌∷◌, ◌++◌, length, take, Bool, true, false}
 use Rattle.std.specs.Prelude.{Option, Some, None, Result, Ok, Err}

@@ -1,10 +1,4 @@
 -- FoldedRuns: the run over a text with directives over several lines folded.
---
---   RunsPruned o text old new ran      the output with pruned conditions was appended to `old`
---   LeavesFolded o lines               no outcome of the folded text `lines` is taken
---   RunsFolded o lines old new ran     the restored output for `lines` was appended to `old`
---   TriesFolded o lines old new ran    either of these, for the folded text `lines`
---   FoldsOrStays o text old new ran    the output for `text` was appended so, or the text stays
 use Rattle.std.specs.Prelude.{◌≡◌, ℕ, List, ◌++◌, true, Option, Some, None}
 use Rattle.ud_model.specs.sections.Items.{Options}
 use Rattle.ud_model.specs.answer.Outcomes.{Outcome, HasOutcome}

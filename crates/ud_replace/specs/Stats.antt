@@ -1,7 +1,4 @@
 -- Stats: comparisons of the facts about a file.
---
---   is_of id s               the facts are those of the file `id`
---   has_facts_of stat seen   a file still has the mode, the owner and the links of `stat`
 use Rattle.std.specs.Prelude.{Bool, ◌&&◌, ◌==◌}
 use Rattle.ud_replace.specs.declared.node.FileId.{FileId}
 use Rattle.ud_replace.specs.declared.stat.FileStat.{FileStat}

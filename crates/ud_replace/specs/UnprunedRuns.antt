@@ -1,8 +1,4 @@
 -- UnprunedRuns: the run over a text in memory, before its conditions are pruned.
---
---   RunsUnpruned o text old new differs   the output of the run was appended to `old`
---   FailsUnpruned o text e                the run failed
---   PrunesInto o text old new edited      a text with pruned conditions was appended to `old`
 use Rattle.std.specs.Prelude.{◌≡◌, ℕ, List, ◌++◌, Bool, None}
 use Rattle.ud_model.specs.sections.Items.{Options, rules_of}
 use Rattle.ud_model.specs.answer.Outcomes.{Outcome, HasOutcome}

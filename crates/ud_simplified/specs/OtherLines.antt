@@ -1,8 +1,4 @@
 -- Other lines: texts that differ only in lines that join no neighbour.
---
---   StandsAlone before l        the line `l` after these readings joins neither the line before it
---                               nor the next one
---   AreReadAlike before after   the readings `after` are `before` with other such lines
 use Rattle.std.specs.Prelude.{◌≡◌, ◌≢◌, List, [], ◌⊎◌, false}
 use Rattle.ud_model.specs.text.Lines.{Line}
 use Rattle.ud_model.specs.text.Scans.{Reading}

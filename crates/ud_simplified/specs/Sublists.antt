@@ -1,6 +1,4 @@
 -- Sublists: lists without some of their members.
---
---   IsSublist xs ys   `xs` has some members of `ys`, in their order
 use Rattle.std.specs.Prelude.{List, [], ◌∷◌}
 
 -- `IsSublist xs ys`: `xs` is `ys` without some of its members.

@@ -1,9 +1,4 @@
 -- RunMessages: the message and the status of a run.
---
---   final_result ran flushed   the result of a run after the flush of its output
---   fault_message name f       the message of a fault, with the input's name
---   result_message name e      the message of a result; none if the run ended well
---   result_status s e          the exit status of a result
 use Rattle.std.specs.Prelude.{ℕ, List, [], Bool, true, false, Result, Ok, Err}
 use Rattle.ud_model.specs.answer.Messages.{message_of, read_error, write_error}
 use Rattle.ud_model.specs.answer.Answer.{status_under}

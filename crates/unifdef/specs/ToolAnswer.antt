@@ -1,14 +1,4 @@
 -- ToolAnswer: what a call of the tool gives, compared with the definitions' answers.
---
---   Reports call message     the message was appended to the error stream
---   Answers call a           output, message and status are those of `a`
---   AnswersSpec call input   they are those of the definitions' answer to `input`
---   ReportsOrAnswers call message   the message was reported, or that answer was given
---   FailsForMemory call      memory for a symbol couldn't be allocated
---   RefusesArgs call fault   the arguments' fault was reported, and nothing else was done
---   RefusesFaultyArgs call   the same, if the arguments have a fault
---   AnswersAsDefined call    `AnswersSpec`, if neither the reader nor the output has failed
---   LeavesFlushed call       nothing is left unflushed
 use Rattle.std.specs.Prelude.{◌≡◌, ◌⊎◌, ℕ, List, false, IfSome}
 use Rattle.std.specs.Io.KnownBytes.{Appends}
 use Rattle.ud_model.specs.answer.Answer.{Answer, IsAnswer, memory_answer}

@@ -1,8 +1,5 @@
 -- ToolCall: one call of the tool.
 --
---   Call R W                           its arguments and status, and its streams before and after
---   call_of remaining contents reported args ..   the call with these arguments and streams
---
 -- What a stream gives or contains is `None` if the stream doesn't report it.
 use Rattle.std.specs.Prelude.{ℕ, List, Bool, Option}
 use Rattle.ud_io.specs.Watched.{WatchedState}

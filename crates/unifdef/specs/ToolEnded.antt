@@ -1,10 +1,4 @@
 -- ToolEnded: how the tool ended, whatever failed.
---
---   is_read_error r, is_write_error r   the run returned `r` because a read (a write) failed
---   ToolEnded call                      the reported end of a run and its flush
---   EndsAsRun call                      `ToolEnded`, if the arguments have no fault
---   LagsAsRun call                      the output lags by at most one read, if they have none
---   CallEnds call                       what the contract of `tool` says about how a call ends
 use Rattle.std.specs.Prelude.{◌≡◌, ◌⊎◌, Bool, true, false, not, ◌||◌, None, Result, Ok, Err}
 use Rattle.ud_model.specs.answer.CommandLine.{options_of, display_name, usage_fault}
 use Rattle.ud_faults.specs.declared.run.RunFault.{RunFault}

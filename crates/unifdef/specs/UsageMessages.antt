@@ -1,7 +1,4 @@
 -- UsageMessages: the messages of faults of the arguments.
---
---   usage_text u                                  the message of this fault, or of a lack of memory
---   ReportsUsage gs fault failed old new status   the fault was reported, with this status
 use Rattle.std.specs.Prelude.{◌≡◌, ◌⊎◌, ℕ, List, Bool, Option}
 use Rattle.ud_model.specs.answer.CommandLine.{ParsedArg, UsageFault, unknown_option}
 use Rattle.ud_model.specs.answer.CommandLine.{missing_argument, bad_symbol_in, bad_mode_in}

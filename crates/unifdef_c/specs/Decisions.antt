@@ -1,7 +1,4 @@
 -- Decisions: what a call from C returns for one expression.
---
---   IsDecision block text n       `n` says how the words of `block` decide the expression
---   NamesAnswer text ..           the names of the expression were written, as far as they fit
 use Rattle.std.specs.Prelude.{◌≡◌, ◌⊎◌, ℕ, ℤ, pos, negsuc, ◌<◌, ◌≤◌, List, length, nat_le}
 use Rattle.std.specs.Prelude.{None, Some, if◌then◌else◌}
 use Rattle.ud_model.specs.answer.CommandLine.{UsageFault, usage_fault, options_of}

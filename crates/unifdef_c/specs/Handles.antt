@@ -1,7 +1,4 @@
 -- Handles: what a handle owns.
---
---   handle_owns alloc p s   a stream at `p` and the right to free it; nothing at null
---   stream_coded            the form of a stream in a ghost field
 use Rattle.std.specs.Prelude.{◌≡◌, Option, None, Some}
 use base.Fml.{Fml, ftrue, fex}
 use base.Stored.{Coded}

@@ -1,9 +1,4 @@
 -- Prunings: what a call from C returns for a text without the operands that words decide.
---
---   IsPruned table rules text p   `p` is what a table leaves of the text
---   IsPrunedBy args text p     `p` is what the arguments leave of the text
---   HandsOutPruned text ..     the pruned text was written, as far as it fits
---   PruneAnswer block text ..  this, or nothing: the words are bad, or memory was refused
 use Rattle.std.specs.Prelude.{◌≡◌, ◌==◌, ℕ, ℤ, pos, negsuc, List, length, Bool, not, nat_le}
 use Rattle.std.specs.Prelude.{None, if◌then◌else◌}
 use Rattle.ud_model.specs.answer.CommandLine.{usage_fault, options_of}

@@ -1,14 +1,5 @@
 -- StreamCalls: what the calls from C do for a text that comes in chunks.
 --
---   OpensStream block s        a stream before the first byte, by the words of a block
---   HasBadWords block          the words have a fault, or one of them isn't UTF-8
---   OpensHandle block h n      a handle was opened
---   FeedsHandle h h' chunk n   the next chunk was processed
---   TakesHandle h h' ..        part of the output was taken
---   Tells bytes status ..      a message was handed out
---   TellsEnd name settings ..  the message of a result was handed out
---   EndsHandle h h' ..         the text has ended
---
 -- A handle is the stream that it owns, or `None` if it is closed.
 use Rattle.std.specs.Prelude.{◌≡◌, ◌⊎◌, ℕ, ℤ, pos, negsuc, List, length, nat_le, Option, None, Some}
 use Rattle.std.specs.Prelude.{Bool, Result, Err, if◌then◌else◌}

@@ -1,10 +1,4 @@
 -- StreamCourses: the course of a text in chunks, from the first call to the last.
---
---   IsOf args s                   the stream belongs to these arguments, and its text goes on
---   GoesOn args text given s      it was fed `text`, without a fault, and gave `given`
---   HasStopped args text given s f   it was fed `text`, which has the fault `f`
---   TakesOn given s more t        part of the pending output was taken
---   IsAnswerOf args text given t r   the output taken and pending is the answer's
 use Rattle.std.specs.Prelude.{◌≡◌, ◌≤◌, ℕ, List, [], ◌++◌, length, Bool, false, None, Some, Result}
 use Rattle.std.specs.Prelude.{Err, take}
 use Rattle.ud_model.specs.answer.CommandLine.{usage_fault, options_of, display_name}

@@ -1,7 +1,4 @@
 -- TextCalls: what a call from C returns for a text.
---
---   IsTextAnswer block text a   `a` is the answer to the words of `block` and a text
---   HandsOut a ..               `a` was handed to the caller, as far as it fits
 use Rattle.std.specs.Prelude.{◌≡◌, ◌⊎◌, ◌&&◌, ℕ, List, [], ◌++◌, length, take, drop, nat_le, codes}
 use Rattle.std.specs.Prelude.{if◌then◌else◌}
 use Rattle.ud_model.specs.answer.Answer.{Answer, IsAnswer, memory_answer}

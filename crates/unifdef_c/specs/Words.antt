@@ -1,8 +1,4 @@
 -- Words: the arguments in a block of bytes, each ended by a zero byte.
---
---   words_of bytes   the words of a block
---   block_of words   the block of these words
---   AreUtf8 words    each word is UTF-8
 use Rattle.std.specs.Prelude.{ℕ, List, [], ◌∷◌, ◌++◌, ◌==◌, if◌then◌else◌}
 use Rattle.std.specs.Str.{IsUtf8}
 

@@ -1,7 +1,5 @@
 -- DefinedOperands: the name after `defined`, and what follows.
 -- `ud_model.specs.conditions.Parsing` defines what a text means in a state.
---
---   asked_name next          the name after a `defined`, by the next token
 use Rattle.std.specs.Prelude.{ℕ, Bool, true, false, List, Option, Some, None}
 use Rattle.std.specs.Prelude.{option_map}
 use Rattle.ud_model.specs.conditions.Tokens.{name, opening, closing, NextToken, found}

@@ -1,6 +1,4 @@
 -- Digits: constants of one digit, the common case.
---
---   IsOneDigit w z   the word is a constant without a `u` that denotes `z`
 use Rattle.std.specs.Prelude.{◌≡◌, ℕ, ℤ, List, false, Some}
 use Rattle.ud_model.specs.text.Bytes.{is_identifier, starts_with_byte}
 use Rattle.ud_model.specs.conditions.Constants.{constant_parts, constant_sign}

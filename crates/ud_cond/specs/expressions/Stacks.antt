@@ -1,13 +1,6 @@
 -- Stacks: what is pending in an expression, as two stacks. `ud_model.specs.conditions.Parsing` has
 -- one list of frames for what is pending, and defines what a text means in the state with that
 -- list.
---
---   Suffice bytes operands   stacks of such sizes suffice for a text
---   frames ws vs             what is pending, by the two stacks
---   AreMatched ws vs         each left operand has its operator, and vice versa
---   is_empty s               nothing is pending
---   weight s                 the least number of bytes of the text that the frames take
---   IsSettled j s            no operator on top binds at least as tightly as `j`
 use Rattle.std.specs.Prelude.{ℕ, ◌<◌, ◌≤◌, ◌+◌, ◌*◌, Bool, true, false, List, [], ◌∷◌, Option, Some}
 use Rattle.std.specs.Prelude.{None}
 use Rattle.ud_model.specs.conditions.Expressions.{precedence}

@@ -1,10 +1,6 @@
 -- NameLists: the names in a text, token by token.
 -- `ud_model.specs.conditions.Names` defines the names of a tree. A text with a tree has the same
 -- names, in the order of its tokens.
---
---   name_in_token t              the name that a token is, if any
---   names_in_text text           the names of a text that consists of tokens
---   names_remaining alone text   one name, if any, and then the names of a text
 use Rattle.std.specs.Prelude.{ℕ, List, [], ◌∷◌, ◌++◌, Option, Some, None}
 use Rattle.std.specs.Option.{option_to_list}
 use Rattle.ud_model.specs.conditions.Tokens.{Token, name}

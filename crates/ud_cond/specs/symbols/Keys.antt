@@ -1,7 +1,4 @@
 -- Keys: numbers in which most names differ.
---
---   key_in bytes   the first bytes of a text as one number
---   key_of n       the key of a name
 use Rattle.std.specs.Prelude.{ℕ, ◌-◌, List, [], ◌∷◌, length, drop, slice_index}
 use Rattle.std.specs.Int.{w64, from_be_bytes}
 use Rattle.ud_cond.specs.declared.symbols.keys.TheConstants.{KEY_BYTES}

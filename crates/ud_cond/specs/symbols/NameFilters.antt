@@ -1,13 +1,5 @@
 -- NameFilters: the slots and the first bytes by which most unlisted names are rejected without a
 -- search.
---
---   slot_of key              the slot of a key
---   bit_of words slot        the bit of a slot
---   slot_is_set noted key    the slot of the key is set
---   has_slot noted name      the slot of the name's key is set
---   has_byte bytes b         the set has the byte `b`
---   has_first bytes name     the set has the first byte of the name
---   AllNames p rows          the name of each row passes the test `p`
 use Rattle.std.specs.Prelude.{◌≡◌, ℕ, ◌*◌, ◌/◌, ◌%◌, ◌^◌, ◌==◌, List, [], ◌∷◌, get_or, Bool, true}
 use Rattle.std.specs.Prelude.{false}
 use Rattle.std.specs.Int.{bit_at}

@@ -1,13 +1,6 @@
 -- SymbolTable: the calls that a table of symbols represents, and the order of its rows.
 -- `ud_model.specs.conditions.Table` defines the entry that a list of calls gives a name.
 -- (unifdef(1), `-D`, `-U`, `-iD`, `-iU`)
---
---   TableRepresents table calls   the table represents the accepted calls so far
---   SetsEntry old new a           the new table is the old one with the entry of `a`
---   name_cmp m n                  the order of names
---   AreSorted rows                the rows are sorted, so no two have the same name
---   IsRowOf rows i name           row `i` is the name's
---   IsGapFor rows i name          position `i` is where to insert a row for the name
 use Rattle.std.specs.Prelude.{◌≡◌, ℕ, ◌<◌, ◌≤◌, List, [], length, get_or, None, Some, bytes_eq}
 use Rattle.std.specs.Prelude.{false, if◌then◌else◌}
 use Rattle.std.specs.Ordering.{nat_cmp, ordering_then}

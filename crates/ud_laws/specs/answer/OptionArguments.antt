@@ -1,11 +1,6 @@
 -- OptionArguments: arguments that give options alone, and an argument that names a symbol.
 -- POSIX XBD 12.2, guidelines 4 to 10; unifdef(1), `-D` and `-U`.
 --
---   AreOptions args            args give options and their option-arguments, and nothing else
---   IsSymbolOption name w      w is `-Dname`, `-Dname=VALUE` or `-Uname`
---   AddsSymbol before name w   w names the symbol, and is read as an option after `before`
---   AddsOption name args more  `more` are `args`, with such an option anywhere among the options
---
 -- Example: `-k`, `-D`, `A`, `-bUB` are options. `-k`, `-D` aren't, since `-D` lacks its argument;
 -- nor are `-k`, `a.c`.
 use Rattle.std.specs.Prelude.{◌≡◌, ℕ, List, [], ◌∷◌, ◌++◌, true, Some, None, codes, IsUtf8}

@@ -1,10 +1,4 @@
 -- Successes: arguments and an input without a fault, and the verdicts on the lines of a text.
---
---   copy_answer args text   the answer of a run that copies this text
---   Succeeds args input a   `a` is the answer, and reports no fault
---   JudgedAs o input js     `js` are the lines of a text that has ended, up to its first fault, with
---                           their verdicts
---   JudgesAs args input js  the arguments have no fault, and judge the lines of the input as `js`
 use Rattle.std.specs.Prelude.{◌≡◌, ◌≢◌, ℕ, List, false, None, Option}
 use Rattle.ud_model.specs.answer.CommandLine.{usage_fault, options_of, display_name}
 use Rattle.ud_model.specs.answer.Printing.{Judged, judged_lines}

@@ -1,17 +1,6 @@
 -- Lines in place: the output under `-b`, line for line.
 -- unifdef(1), `-b`, `-l`.
 --
---   Blanks o                  removed lines are blanked, and no names are listed
---   endings_of text           the endings of the lines of a text
---   complemented_if c j       a judged line, with its verdict under `-c` if `c`
---   blanked c j               the output under `-b` for the line: its ending if it is removed, else
---                             the line, perhaps edited
---   IsBlankedLine c j k       the line `k` of the output comes from `j`, and has its number and its
---                             ending
---   AreBlankedLines c js ks   each line of the output comes from the one at its position; a removed
---                             last line without an ending leaves no line
---   AreBlankedBy o js text    the lines of the text are so under the options
---
 -- Example: under `-b -UA` the output for `#ifdef A`, `x`, `#endif`, `y` is three blank lines and
 -- `y`, which is line 4 of both.
 use Rattle.std.specs.Prelude.{◌≡◌, ℕ, List, [], ◌∷◌, map, Bool, true, if◌then◌else◌}

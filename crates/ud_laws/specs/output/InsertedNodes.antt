@@ -2,15 +2,6 @@
 -- them.
 -- C11 6.10: a blank line or a `#line` neither begins nor ends a section.
 --
---   IsSame r s                both lines have the same bytes and the same scan
---   IsInserted d              a blank line by itself, or a `#line`
---   NodesWithInserted ns ms   `ms` are the nodes `ns`, each line with the same scan and each
---                             condition decided alike, with text lines inserted
---   LinesWithInserted rs ss   `ss` are the lines `rs`, each with the same scan, with lines inserted
---   StillSelects o input output numbered
---                             `numbered` selects the lines of `input`, as `output` does, with
---                             lines inserted
---
 -- Example: under `-n -UA` the section of X in `#if X`, `#ifdef A`, `#endif`, `y`, `#endif` has the
 -- text lines `#line 4` and `y`.
 use Rattle.std.specs.Prelude.{◌≡◌, ℕ, List, [], ◌∷◌, ◌⊎◌, map}

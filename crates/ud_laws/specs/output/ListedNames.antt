@@ -1,19 +1,6 @@
 -- ListedNames: the symbols that count for a text, by the list of its names.
 -- unifdef(1), `-s`.
 --
---   with_listing o           the same options, with names listed (`-s`)
---   IsListed n list          the list has the line `n`
---   LeadsTo table n m        `m` is the name `n`, or the value of a name that `n` leads to
---   AgreeOnListed list t u   both tables have the same entry for each name that a listed one
---                            leads to
---   AreAlikeBy list o p      both options have the same settings, and tables that agree so
---   AreAlikeArgs list as bs  both lists of arguments have such options
---   ListsNames args input l  `-s` before the arguments lists the names of an input
---   IsNoValue table n        no symbol has the name `n` as its value
---   NeverCounts args input n the name isn't on that list, and no symbol has it as its value
---   DifferAtMostAt n t u     both tables have the same entry for every other name
---   ExtendsTable t u         `u` has the entries of `t`, and perhaps more
---
 -- Example: of `#if A > 2` the list is `A`; under `-DA=B` A leads to A and to B.
 use Rattle.std.specs.Prelude.{◌≡◌, ◌≢◌, ℕ, List, [], ◌∷◌, ◌++◌, true, false, Some, None, codes}
 use Rattle.ud_model.specs.text.Bytes.{newline, is_identifier}

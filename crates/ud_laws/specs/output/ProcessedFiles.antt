@@ -1,12 +1,6 @@
 -- Processed files: the files of a tree, each with the output for it, as C reads them.
 -- unifdef(1); C11 5.1.1.2.
 --
---   IsPrinted o input output  `output` is the output of a run over the input, without a fault; or
---                             the file stays as it is
---   IsOutput o prunes input output
---                             so is `output`, perhaps simplified if `prunes`
---   FileTree o prunes F       the files `F` of a tree with their outputs, and the nodes of both
---
 -- A file that stays may be one that isn't edited, such as a system header.
 use Rattle.std.specs.Prelude.{◌≡◌, ◌⊎◌, ℕ, List, Bool, true, None}
 use Rattle.ud_model.specs.text.Scans.{Reading}

@@ -1,15 +1,6 @@
 -- SharedLines: how a run and the run with `-c` share the lines of a text.
 -- unifdef(1), `-c`: lines that would be removed are kept, and vice versa.
 --
---   OnlyDecides o       none of `-s`, `-S`, `-b`, `-l`, `-c` and `-n` is given
---   with_complement o   the same options, and `-c`
---   RunsWithComplement o input r s
---                       `s` is the outcome with `-c`, and `r` the one without
---   AnswersWithComplement args input a c
---                       the same for arguments and answers
---   ShareLines js a b   each of the judged lines is printed once: in `a`, as its verdict demands,
---                       if it isn't removed; else in `b`, unchanged
---
 -- Example: under `-UA` the run over `#ifdef A`, `x`, `#endif`, `y` prints `y`, and with `-c` the
 -- three lines before.
 use Rattle.std.specs.Prelude.{◌≡◌, ℕ, List, [], ◌∷◌, ◌++◌, true, false, codes}

@@ -1,8 +1,5 @@
 -- LineViews: the program's lines and scans in the form of the definitions.
 --
---   as_line line   the line with its body, its ending and its number
---   as_scan scan   the scan
---
 -- Example: the scan of a line in plain mode, as `as_scan` gives it, is `plain_scan` of the line.
 use Rattle.ud_model.specs.text.Lines.{Line as TextLine}
 use Rattle.ud_model.specs.text.Scans.{Scan as LineScan}

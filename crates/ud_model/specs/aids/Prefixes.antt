@@ -1,7 +1,5 @@
 -- Prefixes: lists that begin with another list.
 --
---   IsPrefix xs ys   `ys` begins with `xs`
---
 -- Example: `[1]` is a prefix of `[1, 2]`, and so are `[]` and `[1, 2]`.
 use Rattle.std.specs.Prelude.{◌≡◌, List, ◌++◌}
 

@@ -1,9 +1,5 @@
 -- Messages: the text of each fault, which ends with a newline.
 --
---   message_of name fault   a text's fault, with the input's name and the line
---   read_error name         a read that fails; `write_error name` a write that fails
---   out_of_memory           memory for the symbols can't be allocated
---
 -- The messages for faults of the arguments are in CommandLine.
 use Rattle.std.specs.Prelude.{ℕ, List, ◌++◌, codes, decimal}
 use Rattle.ud_model.specs.sections.Faults.{Fault, too_many_lines, line_too_long, obfuscated}

@@ -1,10 +1,5 @@
 -- SymbolArguments: the name and the value of a symbol in an option-argument.
 -- unifdef(1), `-D`, `-U`, `-i`.
---
---   name_before_equals a   the bytes before the first `=`; `value_after_equals a` the ones
---                          after it
---   is_name n              `n` may be a symbol's name
---   value_or_one v         the value of a symbol that is defined
 use Rattle.std.specs.Prelude.{ℕ, List, [], ◌∷◌, Bool, not, ◌&&◌, ◌==◌, Option, Some, None, bytes_eq}
 use Rattle.std.specs.Prelude.{codes, if◌then◌else◌}
 use Rattle.ud_model.specs.text.Bytes.{equals_sign, is_identifier}

@@ -2,12 +2,6 @@
 -- C11 6.5 and 6.10.1p1. Each operator has a precedence; 1 is the loosest. Operators of the same
 -- precedence associate to the left.
 --
---   Expression          a tree of operands and operators; parentheses are a node of their own
---   spelling e          the tokens of a tree
---   HasPrecedence k e   no operator of the tree outside parentheses is looser than `k`, and its
---                       operands are nested by precedence
---   IsWritten text e    `e` is the tree of `text`; a text has one tree at most
---
 -- Example: `1 - 2 - 3` has the tree (1 - 2) - 3 and no other tree.
 use Rattle.std.specs.Prelude.{ℕ, ◌+◌, ◌≤◌, Bool, true, false, IsTrue, List, [], ◌∷◌, ◌++◌}
 use Rattle.ud_model.specs.conditions.Tokens.{Token, number, name, defined, operator, opening}

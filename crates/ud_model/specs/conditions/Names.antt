@@ -1,12 +1,6 @@
 -- Names: the names in a condition, as listed.
 -- unifdef(1), `-s` and `-S`.
 --
---   names_in e            the names of a tree: of each operand and each `defined`, in order and
---                         with repeats
---   names_by test after   the names of a text by its test, if it is understood
---   names_of kind after   the names of the text after a keyword
---   names_on d            the names of a directive; a broken one has none
---
 -- Example: ` F(X) + defined(Y) > 1` has the names F and Y.
 use Rattle.std.specs.Prelude.{ℕ, List, [], ◌∷◌, ◌++◌, Option, Some, None, if◌then◌else◌}
 use Rattle.ud_model.specs.sections.Directives.{Directive, test_of}

@@ -1,10 +1,5 @@
 -- The table: the symbols that the options name.
 -- unifdef(1), `-D`, `-U`, `-iD`, `-iU`: of several options that name a symbol, the last one counts.
---
---   Argument              an option-argument: it defines a name with a value, or undefines it; the
---                         sections of an ignoring one are plain text
---   entry_in table name   the entry of the last argument that names `name`, if any
---   HaveSameEntries t u   both tables have the same entry for each name
 use Rattle.std.specs.Prelude.{◌≡◌, ℕ, List, [], ◌∷◌, Bool, Option, Some, None, bytes_eq}
 use Rattle.std.specs.Prelude.{if◌then◌else◌}
 

@@ -1,12 +1,5 @@
 -- Written conditions: the condition of a directive, as it is written, and the expression that it
 -- means (C11 6.10.1).
---
---   condition_by_test test after   the expression that a text means, by its test
---   condition_after kind after     the expression that the text after a keyword means
---   condition_in r                 the expression of the directive on a line, if its condition ends
---                                  on the line
---   Condition                      the condition of a directive, as written
---   condition_on r                 the condition of the directive on the line `r`
 use Rattle.std.specs.Prelude.{ℕ, List, [], false, Option, None, option_map, if◌then◌else◌, Bool}
 use Rattle.std.specs.Prelude.{true}
 use Rattle.ud_model.specs.text.Scans.{Scan, Reading}

@@ -2,13 +2,6 @@
 -- give.
 -- unifdef(1), `-t`, `-iD`, `-iU`.
 --
---   Options              the options of a command line: the settings, and the arguments that name
---                        symbols
---   item_of o r          the item of a line as read: a text line, or a directive with its
---                        condition
---   mode_after o t       the mode of the line after a text with this tree
---   next_item o xs t l   the item of the line `l` after the lines `xs`, whose tree is `t`
---
 -- A line is read in plain mode under `-t`, and if an ignoring section is open before it. So that
 -- section's `#endif` is read in plain mode, and the section doesn't affect the line after it.
 use Rattle.std.specs.Prelude.{List, map, Bool, true, false, ◌||◌}

@@ -1,12 +1,4 @@
 -- Folding: what the pass that folds a text appends.
---
---   FollowsBy b rs               `b`: the line before `rs` joins the first of them
---   rest_from group rs           the folded lines `rs`, after the pending lines `group`
---   Takes r group old ..         the line `r` was taken after the lines `group`
---   TakesLine line scan l b ..   the same of a line with its scan
---   TakesNext s line l b ..      the same of the line that the scanner `s` reads next
---   Folded text start ..         the lines so far were folded
---   Restored text start ..       the lines so far were restored
 use Rattle.std.specs.Prelude.{◌≡◌, ℕ, List, [], ◌∷◌, ◌++◌, Bool, true, Option, IfSome}
 use Rattle.std.specs.List.{flat_map}
 use Rattle.ud_model.specs.text.Scans.{Reading}

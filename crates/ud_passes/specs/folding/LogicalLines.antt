@@ -1,15 +1,4 @@
 -- Logical lines: what the code keeps of a logical line that begins with a directive.
---
---   plain_lines rs              the bytes of the lines `rs`
---   is_line_shown k bytes       the line `k` has an ending, fits, and is a directive by itself,
---                               with these masked bytes
---   c_reading line scan n       the line with its scan, as one of C
---   HasItsSplice line scan      the scan says whether the line is spliced
---   IsLast b r                  `b` is the line `r`
---   IsLogical l b group         the lines `group` begin a directive, and `b` is the last one
---   BeginsLine line scan l b    a logical line begins
---   AddsLine line scan l b ..   a logical line has one line more
---   IsGroup l b group           the same, or no logical line goes on
 use Rattle.std.specs.Prelude.{◌≡◌, ℕ, List, [], ◌∷◌, ◌++◌, Bool, true, not, ◌&&◌, Option, Some}
 use Rattle.std.specs.Prelude.{None}
 use Rattle.std.specs.List.{flat_map}

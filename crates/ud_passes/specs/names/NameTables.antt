@@ -1,15 +1,6 @@
 -- NameTables: how often each name of a list occurs, as a table.
 -- unifdef(1), `-s`; uniq(1), `-c`.
 --
---   names_in list          the lines of a list, each a name
---   count_of name names    how often a name occurs
---   NameCount              a row of the table: a name, and how often it occurs
---   row_cmp                the order of the rows: greater counts first, then the names
---                          ascending by their bytes
---   IsTable names rows     the table: a row for each name, in this order
---   table_text rows        the rows as printed, each a line
---   Tabulates names old new   the table of the names was appended
---
 -- Example: the table of the lines `A`, `B`, `C` and `B` has the rows 2 of B, 1 of A and 1 of C. The
 -- first is printed as six spaces, `2`, a space and `B`.
 use Rattle.std.specs.Prelude.{◌≡◌, ℕ, ◌-◌, List, ◌++◌, map, length, min, replicate, bytes_eq}

@@ -1,8 +1,4 @@
 -- RowViews: the program's rows, as rows of the definitions.
---
---   as_count r                  the row with its count and its name
---   IsSortedByName names        the names ascend by their bytes
---   AreCounts names rows        the rows of a table, in any order
 use Rattle.std.specs.Prelude.{◌≡◌, ℕ, List, min}
 use Rattle.std.specs.List.{All}
 use Rattle.ud_passes.specs.declared.names.tables.Row.{Row}

@@ -1,8 +1,4 @@
 -- UnlistedLines: what the code knows of a text up to some line.
---
---   listed_text lists file rs    the list of the lines among `rs` that can't be listed, if it is
---                                asked for
---   Listed file text ..          these of the lines so far were counted, and appended
 use Rattle.std.specs.Prelude.{◌≡◌, ℕ, ◌+◌, List, [], ◌++◌, length, Bool, true, if◌then◌else◌}
 use Rattle.std.specs.List.{filter, flat_map}
 use Rattle.ud_model.specs.text.Scans.{Reading}

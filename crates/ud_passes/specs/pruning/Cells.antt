@@ -1,21 +1,4 @@
 -- Cells: what the code keeps of the cells of a condition's text.
---
---   AreCells cells bytes shown          the cells have these bytes, and are shown so
---   SameLeft before shown xs after ys   the text so far with the cells `xs` after it is the longer
---                                       text with the cells `ys` after it
---   left_at p flags cells               the rest of the cells at the place `p`
---   LeavesAt old xs new p flags         the text so far with `xs` after it is the longer text with
---                                       the rest of the cells at the place `p`
---   AreKept table rules e text flags    the text is that of the tree `e`, whose kept tokens have
---                                       these flags
---   IsUnknownResidual table rules text flags
---                                       the residual of the text is unknown, and has the tokens
---                                       with these flags
---   stands table rules e cells          the cells are read as the residual of `e`, and unknown
---   IsFound table rules cells found left
---                                       the rest of the cells was found, or they stay
---   FindsLeft table rules text found left
---                                       the same of the cells of a text without a literal
 use Rattle.std.specs.Prelude.{◌≡◌, ℕ, List, ◌++◌, map, Bool, true, false, Some, ◌&&◌}
 use Rattle.std.specs.List.{list_any}
 use Rattle.ud_model.specs.text.Lexemes.{Cell, shown}

@@ -1,17 +1,4 @@
 -- Edited lines: what the code knows of a line that it edits.
---
---   c_reading l scan             the line `l`, read in C mode with this scan
---   IsScannedAlone scan l        the line is scanned like a text's first, unless the line before
---                                joins it
---   is_meant kind text scan      a line with this scan joins no next line, and has this condition
---   IsCondition l d              the line `l` alone has the directive `d`
---   HasNoQuote l d               no literal is in the directive's text
---   line_if_read l d             the edited line, or the line if that would be misread
---   IsLeftLine .. text bytes     `text` is left of the line's condition, which gives these bytes
---   IsEditedTo edited pruned ..  whether a line was edited, and to which bytes
---   IsEditedAt .. edited bytes   the same of a line with a condition
---   EditsCondition .. bytes      the same, if no quote is in the condition
---   EditsLine .. bytes           the same of a line with its scan
 use Rattle.std.specs.Prelude.{◌≡◌, ℕ, List, [], Bool, true, false, not, ◌&&◌, if◌then◌else◌}
 use Rattle.std.specs.Prelude.{bytes_eq, map}
 use Rattle.std.specs.List.{list_any}

@@ -1,8 +1,4 @@
 -- Passing: what the pass over a text appends.
---
---   PrunesNext .. s l ..     the rest of the next line `l` was appended
---   Pruned .. text start ..  the rest of the lines so far was appended
---   PrunesOn .. walk ..      that of the next lines was appended, too
 use Rattle.std.specs.Prelude.{◌≡◌, ℕ, List, ◌++◌, map, Bool}
 use Rattle.std.specs.List.{concat}
 use Rattle.ud_model.specs.text.Lines.{Line}

@@ -1,9 +1,5 @@
 -- Pruned texts: the rest of a text with lines of any length.
 --
---   pruned_line r        the simplified line, or the line itself if it is too long
---   pruned_text bytes    the text of such lines
---   edited_count bytes   how many of them differ from the line of the text
---
 -- A line over the limit stays. So if all lines fit, the pruned text is the simplified text.
 --
 -- Example: with A undefined, `#if A || X` becomes `#if X`: one edited line.

@@ -1,9 +1,6 @@
 -- ListedNames: whether a text has the name of a symbol of the options.
 -- C11 6.4.2.1.
 --
---   has_listed table in_word text   a word of the text is a name that the table lists
---   names_listed table m            the mention `m` has such a name
---
 -- A word is a longest run of word bytes. So neither `VMS2` nor `0VMS` is the word `VMS`.
 --
 -- Example: if the table lists A, ` defined(A)` has its name, and ` AB || x.a` doesn't.

@@ -1,7 +1,5 @@
 -- Keywords: the keyword that a text begins with.
 --
---   IsLeadingKeyword keyword rest   the first word of `rest` is `keyword`
---
 -- Example: `if x` begins with `if`, two bytes, followed by the space and `x`.
 use Rattle.std.specs.Prelude.{◌≡◌, ◌≤◌, ℕ, List, length, drop, Some}
 use Rattle.ud_model.specs.text.Bytes.{leading_word, skip_word}

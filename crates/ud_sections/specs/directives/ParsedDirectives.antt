@@ -1,8 +1,5 @@
 -- ParsedDirectives: the directive that the program finds on a line, as a value of the definitions.
 --
---   content_found found   a cut keyword, else a directive, else text
---   IsWithinScan found n  a directive found lies within the `n` masked bytes of its line
---
 -- Example: a line where the program finds no directive is text.
 use Rattle.std.specs.Prelude.{◌≡◌, ◌+◌, ℕ, length, Option, Some, None, Result, Ok, Err}
 use Rattle.std.specs.Prelude.{IfOk, IfSome}

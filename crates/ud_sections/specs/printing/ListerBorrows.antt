@@ -1,6 +1,4 @@
 -- ListerBorrows: a lister once the borrow of its prefix has ended.
---
---   StaysSame lister   as before, the lister lists names with or without depths
 use Rattle.std.specs.Prelude.{◌≡◌, Bool}
 use Rattle.std.specs.Borrow.{MutBor, Fml}
 use Rattle.std.specs.Io.BufRead.{Rests}

@@ -1,8 +1,5 @@
 -- Printers: what the printer for the options represents, and what it prints.
 --
---   printer_represents printer before   the printer was given the lines `before`
---   printer_piece printer before j      what it prints for the line `j` after these
---
 -- Example: for `-c -n` the printer is the complement of a `Renumber`. It represents lines if the
 -- `Renumber` represents their complements.
 use Rattle.std.specs.Prelude.{List, ℕ, map}

@@ -1,9 +1,5 @@
 -- Styles: the style of each printer, and what the printer represents.
 --
---   blank_style, renumber_style        the styles of `Blank` and `Renumber`
---   delete_represents printer before   the printer was given the lines `before`; so for the others
---   inner_of complement                the printer that this one complements
---
 -- `Delete` has the style without options, `plain_style`.
 use Rattle.std.specs.Prelude.{◌≡◌, List, true, false}
 use Rattle.ud_model.specs.answer.Printing.{Judged, Style, last_removed}

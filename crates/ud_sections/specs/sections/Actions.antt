@@ -1,8 +1,5 @@
 -- Actions: the action of a line, by the innermost open section.
 --
---   act plain section kind n   the action of a line of this kind and number, or `None`
---   Applies change old new     the change turns the open sections `old` into `new`
---
 -- `plain`: text outside all sections is plain. `section` is the innermost open one.
 use Rattle.std.specs.Prelude.{◌≡◌, ℕ, List, [], ◌∷◌, ◌++◌, Bool, true, not, ◌||◌}
 use Rattle.std.specs.Prelude.{if◌then◌else◌, Option, Some, None}

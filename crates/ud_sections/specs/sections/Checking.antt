@@ -1,7 +1,4 @@
 -- Checking: the machine's check of a line, by the open sections and the line before.
---
---   checked_by before s n             the action of the line `s` of number `n`, or its fault
---   is_obfuscated_by removed s a      a directive over several lines would be edited or removed
 use Rattle.std.specs.Prelude.{ℕ, ◌==◌, Bool, true, false, not, ◌&&◌, ◌||◌, if◌then◌else◌, Option}
 use Rattle.std.specs.Prelude.{Some, None, Result, Ok, Err}
 use Rattle.ud_model.specs.sections.Faults.{keeps_rest}

@@ -1,9 +1,4 @@
 -- ClassifiedLines: what decides a line among the sections.
---
---   line_kind_in role d             the kind of a directive with this role and decision
---   directive_kind scan d table rules   the kind of this directive
---   classified scan table rules c   the classified line with this scan and content
---   item_kind x                     the kind of an item
 use Rattle.std.specs.Prelude.{List, Result, Ok, Err}
 use Rattle.ud_model.specs.text.Scans.{Scan, Reading, is_spanning}
 use Rattle.ud_model.specs.sections.Directives.{Content, cut_keyword, directive, text, role_of}

@@ -1,10 +1,5 @@
 -- OpenSections: the open sections of a text.
 --
---   section_of kept plain h         the open section with this head
---   open_sections_of kept plain t   the open sections of a text, the outermost first
---   section_at d kept plain t       the innermost open section, or `d` if none is open
---   last_or d ls                    the last of `ls`, or `d` if there is none
---
 -- `kept`: the section or the text is in a kept place. `plain`: it is plain text.
 use Rattle.std.specs.Prelude.{ℕ, List, [], ◌∷◌, Bool, true, false, ◌||◌, ◌&&◌, Option, Some}
 use Rattle.ud_model.specs.declared.cond.Cond.{Cond}

@@ -1,8 +1,5 @@
 -- StepViews: lines and their steps, as values of the definitions.
 --
---   judged_step line step    the line with its verdict and the span of its keyword
---   HoldsKeyword step line   an edited directive has its keyword in its line's body
---
 -- Example: a kept text line becomes that line with Keep and an empty keyword at 0.
 use Rattle.std.specs.Prelude.{ℕ, ◌+◌, ◌≤◌, List, length}
 use Rattle.ud_model.specs.sections.Directives.{Span as TextSpan}

@@ -1,10 +1,4 @@
 -- Transitions: the machine's transition for the next line.
---
---   context_of m               the context of the next line
---   text_verdict m             the verdict of the next line, if it is text
---   text_policy_of m           the mode of the next line, and its verdict if it is text
---   transition_of before n s   the transition of the classified line `s` of number `n`
---   IsTransition m scan table n result   the result is the transition of the line with this scan
 use Rattle.std.specs.Prelude.{◌≡◌, ℕ, List, length, Result, Ok, Err}
 use Rattle.ud_model.specs.text.Scans.{Scan}
 use Rattle.ud_model.specs.sections.Directives.{content_of}

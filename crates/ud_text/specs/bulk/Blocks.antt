@@ -1,8 +1,5 @@
 -- Blocks: 64 bytes that are examined at once, with a bit for each significant one.
 --
---   significant_bits bytes   the bit mask of the significant bytes
---   IsBlock row bytes        the block `row` lies within the bytes, and has their bits
---
 -- Example: the bits of `a/b#` are 0b1010.
 use Rattle.std.specs.Prelude.{◌≡◌, ◌≤◌, ◌+◌, ℕ, List, length, take, drop, map}
 use lib.Lanes.{mask_l}

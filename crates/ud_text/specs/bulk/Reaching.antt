@@ -1,9 +1,5 @@
 -- Reaching: what the fast path of a skip knows.
 --
---   Reached start bytes p        the bytes before `p.at` are read, outside comments and literals
---   InReach p bytes              its positions are in order
---   GoesOn bytes p result        a step reads on, or stops
---
 -- Unlike a `Progress`, a `Reach` names no line: some line begins at or before its base.
 use Rattle.std.specs.Prelude.{◌≡◌, ◌≤◌, ℕ, List, length, Bool, true, Option, IfSome}
 use Rattle.ud_text.specs.bulk.BulkStates.{BulkState}

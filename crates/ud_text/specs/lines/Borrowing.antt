@@ -1,10 +1,6 @@
 -- Borrowing: a whole line at the beginning of a chunk, which needn't be buffered.
 -- POSIX XBD 3.206: a line ends with its newline.
 --
---   CanBorrow lines chunk used   the first `used` bytes of the chunk are the next line of the text,
---                                whole, and no limit is exceeded
---   IsFirstLine chunk line       `line` is the first line of the chunk, whole, and not too long
---
 -- Example: if nothing is buffered, the first two bytes of the chunk "a\nb" can be borrowed.
 use Rattle.std.specs.Prelude.{◌≡◌, ℕ, ◌<◌, ◌≤◌, List, [], length, take, true, None}
 use Rattle.ud_model.specs.declared.limits.TheConstants.{LINE_BYTES}

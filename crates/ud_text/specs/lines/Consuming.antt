@@ -1,11 +1,6 @@
 -- Consuming: many whole lines, consumed at once without a buffer.
 -- POSIX XBD 3.206: a line ends with its newline.
 --
---   is_newline b             the byte ends a line
---   EachFits texts           no line has more bytes than a line may have
---   CanConsume lines bytes   the bytes are whole lines that come next in the text, and none of them
---                            exceeds a limit
---
 -- Example: if nothing is buffered, `a` newline `b` newline can be consumed, if two more lines may
 -- come.
 use Rattle.std.specs.Prelude.{◌≡◌, ℕ, ◌+◌, ◌≤◌, ◌==◌, List, [], length, Bool, false, None}

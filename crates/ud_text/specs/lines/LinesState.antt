@@ -1,15 +1,6 @@
 -- LinesState: what is buffered of a text whose bytes come in chunks.
 -- POSIX XBD 3.206: a line ends with its newline. The lines are those of ud_model, `text.Lines`.
 --
---   LinesRepresent lines text       `text` was taken so far: the consumed lines, and the buffered
---                                   bytes
---   UpToNewline chunk used whole    the chunk has `used` bytes up to its first newline
---   BreaksLimit lines chunk fault   the chunk exceeds a limit, with this fault
---   HasCapacity room lines left     `left` more bytes fit after the buffered ones
---   IsComplete lines                a line can be read
---   IsLastLine text line            the line is the last one of the text
---   Closes old new result           the text has ended, and `result` is whether bytes are buffered
---
 -- Example: after "a\nb" with the first line consumed, "b" is buffered and 1 line comes before it.
 use Rattle.std.specs.Prelude.{◌≡◌, ℕ, ◌+◌, ◌<◌, ◌≤◌, List, [], ◌∷◌, ◌++◌, length, take, Bool, true}
 use Rattle.std.specs.Prelude.{false, Option, Some, None, if◌then◌else◌, ◌⊎◌, ◌↔◌, IsTrue, Result}

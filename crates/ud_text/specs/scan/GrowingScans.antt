@@ -1,9 +1,4 @@
 -- GrowingScans: what a scanner with a growing buffer represents.
---
---   items_of masked                           the masked bytes
---   grown_items buffer                        the bytes of a growing buffer
---   GrownScansLine scanner mode line result   the scanner represents one more reading, once the
---                                             borrow of the scan that it returned has ended
 use Rattle.std.specs.Prelude.{ℕ, List, [], ◌∷◌, ◌++◌, Result, OnOk}
 use Rattle.std.specs.Borrow.{MutBor, Fml}
 use Rattle.std.specs.Io.BufRead.{Rests}

@@ -1,9 +1,4 @@
 -- LexerViews: the lexer's states and what it masks, in terms of the definitions.
---
---   lex_state_of state         the lexer's state
---   shown_in borrowed masked   the masked bytes: the borrowed ones or, if there are none, `masked`
---   MasksMore ..               further bytes of a line are read and masked
---   MasksContent ..            the content of a line is read and masked
 use Rattle.std.specs.Prelude.{ℕ, List, ◌++◌, length, Option, Some, None}
 use Rattle.std.specs.Borrow.{Bor}
 use Rattle.ud_model.specs.aids.LexStates.{LexState as TextPlace, in_text, at_slash, in_block}

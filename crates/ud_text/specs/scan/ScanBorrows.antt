@@ -1,8 +1,5 @@
 -- ScanBorrows: what a scanner represents once the borrow of the scan that it returned has ended.
 --
---   ScansLine H scanner mode line   the scanner, with an `H`, represents one more reading: the
---                                   line in this mode, with its scan
---
 -- Example: a new scanner that has read a line represents that line's reading alone.
 use Rattle.std.specs.Prelude.{List, [], ◌∷◌, ◌++◌}
 use Rattle.std.specs.Borrow.{MutBor, Fml, RattleType}

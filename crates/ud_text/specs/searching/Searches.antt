@@ -1,8 +1,5 @@
 -- Searches: what the searches over many bytes at a time look for.
 --
---   is_one_of set b             `b` is one of the five bytes of `set`
---   lowest_set_bit bits lanes   the position of the lowest set bit, or `lanes` if none is set
---
 -- Example: the lowest set bit of 0b100 is 2.
 use Rattle.std.specs.Prelude.{ℕ, ◌==◌, List, Bool, ◌||◌, if◌then◌else◌, slice_index}
 use Rattle.std.specs.Int.{w64, trailing_zeros}
