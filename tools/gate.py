@@ -48,6 +48,7 @@ SECONDS = {
     "unifdef_cli": (70, 0, 0),
     "unifdef_c": (140, 0, 0),
     "ud_replace": (100, 0, 0),
+    "ud_tree_laws": (30, 0, 10),
     "ud_diff": (75, 0, 0),
     "ud_tree": (300, 0, 0),
     "unifdef_tree_cli": (110, 0, 0),
@@ -173,10 +174,11 @@ class Schedule:
 
 def is_of_gate(file):
     """Returns whether the gate tries the edit in this file: one of a definition of ud_model, which
-    is checked alone in any case, or one of ud_laws itself, since `rt ci` edits one crate alone."""
+    is checked alone in any case, or one of a crate of laws itself, since `rt ci` edits one crate
+    alone."""
     with open(file, encoding="utf-8") as it:
         first = it.readline()
-    if "/ud_laws/must-fail/" in file:
+    if "_laws/must-fail/" in file:
         return not first.startswith("file: ../")
     return "/ud_model/must-fail/" in file and first.startswith("file: specs/")
 

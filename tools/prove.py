@@ -48,6 +48,7 @@ SECONDS = {
     "unifdef_cli": 62,
     "unifdef_c": 130,
     "ud_replace": 90,
+    "ud_tree_laws": 30,
     "ud_diff": 70,
     "ud_tree": 250,
     "unifdef_tree_cli": 60,

@@ -1,6 +1,6 @@
 -- The logical lines of a text without long directives have the nodes of its lines, and are processed
 -- as these are.
-use Rattle.std.proofs.Common.{◌&&◌, ◌≡◌, ℕ, List, [], ◌∷◌, ◌++◌, map, Bool, true, false, refl, sym, ◌∙◌, ap, ap₂, subst, append-nil, arith, Some}
+use Rattle.std.proofs.Common.{◌&&◌, if◌then◌else◌, ◌≡◌, ℕ, List, [], ◌∷◌, ◌++◌, map, Bool, true, false, refl, sym, ◌∙◌, ap, ap₂, subst, append-nil, arith, Some}
 use Rattle.std.proofs.lemmas.Bool.{or_parts}
 use Rattle.std.proofs.lemmas.List.{map-append}
 use Rattle.std.specs.List.{flat_map, list_any}
@@ -19,7 +19,7 @@ use Rattle.ud_model.specs.conditions.Conditions.{Decision}
 use Rattle.ud_model.specs.declared.kind.Mode.TheVariants.{C}
 use Rattle.ud_model.specs.declared.kind.Role.{Role}
 use Rattle.ud_model.specs.declared.kind.Test.{Test}
-use Rattle.ud_simplified.specs.FoldedTexts.{is_directive, logical_lines, unnumbered, CLine, directive_line, other_lines, c_line_by, c_line, c_lines, c_line_in}
+use Rattle.ud_simplified.specs.FoldedTexts.{is_directive, logical_lines, unnumbered, CLine, directive_line, other_lines, c_line_by, c_line, c_lines, c_line_in, folded_bytes, folded_line, folded_lines, folded_text, has_tab, is_foldable}
 use Rattle.ud_model.specs.aids.ReadAs.{read_as}
 use Rattle.ud_laws.specs.output.LogicalProcessing.{HasNoLong, is_long, unknown_opener, role_item, line_items, IsCTree, spaced_test, condition_of, takes_text, enters_text, over_logical_lines}
 use Rattle.ud_model.specs.laws.WrittenConditions.{Condition, condition_of_test, condition_with, condition_on}
@@ -30,6 +30,12 @@ use Rattle.ud_model.specs.sections.Directives.{test_of, cut_keyword, text as tex
 use Rattle.ud_model.specs.sections.Items.{Options, item_of, item_by, directive_item}
 use Rattle.ud_model.specs.sections.Tree.{Item, Opener, Nodes, Groups, Elifs, text_line, nothing, text, section, conditional, otherwise, first, elif, closed, item_with, opener_with_line, with_lines, groups_with_lines, elifs_with_lines, if_line, elif_line, lines_of_nodes, lines_of_groups, lines_of_elifs}
 use Rattle.ud_model.specs.text.Scans.{Scan, Reading, is_spanning}
+use Rattle.ud_model.specs.text.Lines.{text_of, lines_of}
+use Rattle.ud_model.proofs.text.Pushes.{by_push}
+use Rattle.ud_model.proofs.output.Changed.{lines_join}
+use Rattle.ud_simplified.proofs.SimplifiedLineTexts.{read_back_by}
+use Rattle.std.specs.List.{concat}
+use Rattle.std.proofs.lemmas.Grind.{flat_map-append}
 
 -- 1. Trees of which no condition is known.
 
@@ -290,3 +296,49 @@ module _ {S F : Type 0} (takes : S → List ℕ → Scan → S → Type 0) (ente
       to = elif_alike a.to (opener_to o h.1) b.to;
       back = elif_alike a.back (opener_back o h.1) b.back;
     }
+
+-- 5. Such a text is its own folded text.
+
+abbrev plain : List Reading → List ℕ
+plain rs = flat_map (λ (r : Reading). text_of r.line) rs
+
+no_directive_on : (r : Reading) → NotLong r → r.scan.joins_after ≡ true → is_directive (content_of r.scan) ≡ false
+no_directive_on r n j = grind (arith, n, j)
+
+not_foldable : (r : Reading) (rs : List Reading) → is_directive (content_of r.scan) ≡ false → is_foldable (r ∷ rs) ≡ false
+not_foldable r rs t = grind (arith, t)
+
+group_stays : (g : List Reading) → IsLogical g → Each NotLong g → folded_bytes g ≡ plain g
+group_stays [] i n = absurd i.one
+group_stays (r ∷ []) i n = by (is_foldable (r ∷ []))
+  where
+    by : (b : Bool) → (if b then text_of (folded_line (r ∷ [])) else plain (r ∷ [])) ≡ plain (r ∷ [])
+    by true = sym (append-nil (text_of r.line))
+    by false = refl
+group_stays (r ∷ s ∷ rs) i n =
+    ap (λ (b : Bool). if b then text_of (folded_line (r ∷ s ∷ rs)) else plain (r ∷ s ∷ rs))
+    (not_foldable r (s ∷ rs) (no_directive_on r n.0 (next_joined r s rs i ∙ i.one.1.0)))
+
+groups_stay : (gs : List (List Reading)) → AreLogical gs → Each NotLong (flat_map (λ (g : List Reading). g) gs) →
+    flat_map folded_bytes gs ≡ plain (flat_map (λ (g : List Reading). g) gs)
+groups_stay [] a n = refl
+groups_stay (g ∷ gs) a n = let m = each_parts NotLong g (flat_map (λ (g : List Reading). g) gs) n in
+    ap₂ (λ (xs ys : List ℕ). xs ++ ys) (group_stays g a.0 m.0) (groups_stay gs a.2 m.1)
+    ∙ sym (flat_map-append (λ (r : Reading). text_of r.line) g (flat_map (λ (g : List Reading). g) gs))
+
+line_texts : (rs : List Reading) → plain rs ≡ concat (map text_of (map (λ (r : Reading). r.line) rs))
+line_texts [] = refl
+line_texts (r ∷ rs) = ap (λ (t : List ℕ). text_of r.line ++ t) (line_texts rs)
+
+-- A text without long directives is its own folded text.
+pub stays_folded : (bytes : List ℕ) → HasNoLong bytes → folded_text bytes ≡ bytes
+stays_folded bytes h = by (has_tab bytes)
+  where
+    by : (b : Bool) → (if b then bytes else folded_lines (read_as C bytes)) ≡ bytes
+    by true = refl
+    by false = groups_stay (logical_lines (read_as C bytes)) (text_logical bytes)
+        (none_long (read_as C bytes) (flat_map (λ (g : List Reading). g) (logical_lines (read_as C bytes))) (ap (map unnumbered) (sym (all_there bytes))) h)
+        ∙ ap plain (all_there bytes)
+        ∙ line_texts (read_as C bytes)
+        ∙ ap (λ ls. concat (map text_of ls)) (read_back_by [] (record { constants = false; strict = false }) (by_push (lines_of bytes)))
+        ∙ lines_join bytes
