@@ -15,7 +15,7 @@ use Rattle.ud_text.proofs.lemmas.lines.ConsumeLemmas.{lines_joined, can_consume_
 use Rattle.ud_text.proofs.lemmas.lines.NewlineLemmas.{up_to_newline-some}
 use Rattle.ud_engine.specs.declared.engine.Cursor.{Cursor}
 use Rattle.ud_engine.specs.declared.line_processor.SkippedText.{SkippedText}
-use Rattle.ud_engine.specs.Advancing.{Advances, IsCursor, IsNext, slice_between, measure}
+use Rattle.ud_engine.specs.Advancing.{EngineAdvances, IsCursor, IsNext, slice_between, measure}
 use Rattle.ud_engine.specs.Feeding.{EngineState, IsOpen, EngineRepresentsBuffered}
 use Rattle.ud_engine.specs.ProcessedLines.{PrintsBulk, printed_of}
 use Rattle.ud_engine.specs.DecidedLines.{consumed}
@@ -73,12 +73,12 @@ module _ {S : Type 0} (represents : S → List Judged → Type 0) (piece_of : S 
     (text printed : List ℕ) (a b : Stream) (f : EngineState S) (g : List ℕ) (bytes : List ℕ) (from at end : ℕ) (ordered : from ≤ at) (later : at ≤ end) where
   -- Copied lines extend the pending bytes.
   pub run_kept : EngineRepresentsBuffered represents piece_of f o piece (text ++ slice_between bytes at end) (printed ++ slice_between bytes at end) → f.buffered ≡ g →
-      Advances represents piece_of f o piece text printed (slice_between bytes at end) a a (g ++ slice_between bytes from at) (f.buffered ++ slice_between bytes from end)
+      EngineAdvances represents piece_of f o piece text printed (slice_between bytes at end) a a (g ++ slice_between bytes from at) (f.buffered ++ slice_between bytes from end)
   run_kept h k = grind (arith, between_more, append_assoc, stream_buffered)
 
   -- Before dropped lines, the pending bytes are appended.
   pub run_dropped : EngineRepresentsBuffered represents piece_of f o piece (text ++ slice_between bytes at end) (printed ++ []) → TakesAllBut a b (g ++ slice_between bytes from at) f.buffered →
-      Advances represents piece_of f o piece text printed (slice_between bytes at end) a b (g ++ slice_between bytes from at) (f.buffered ++ slice_between bytes end end)
+      EngineAdvances represents piece_of f o piece text printed (slice_between bytes at end) a b (g ++ slice_between bytes from at) (f.buffered ++ slice_between bytes end end)
   run_dropped h k = grind (arith, between_none, append-nil)
 
 -- The first bytes of a slice are a slice.
@@ -163,13 +163,13 @@ module _ {S : Type 0} (represents : S → List Judged → Type 0) (piece_of : S 
   module _ (a b : Stream) (from : ℕ) (ordered : from ≤ at) where
     -- Copied lines extend the pending bytes.
     pub passed_kept : passed.kept ≡ true → f.buffered ≡ e.buffered →
-        Advances represents piece_of f o piece text printed (slice_between bytes at (at + passed.count)) a a (e.buffered ++ slice_between bytes from at) (f.buffered ++ slice_between bytes from (at + passed.count))
+        EngineAdvances represents piece_of f o piece text printed (slice_between bytes at (at + passed.count)) a a (e.buffered ++ slice_between bytes from at) (f.buffered ++ slice_between bytes from (at + passed.count))
     passed_kept kept same =
         run_kept represents piece_of o piece text printed a a f e.buffered bytes from at (at + passed.count) ordered (omega arith) (taken_as true kept) same
 
     -- Before dropped lines, the pending bytes are appended.
     pub passed_dropped : passed.kept ≡ false → TakesAllBut a b (e.buffered ++ slice_between bytes from at) f.buffered →
-        Advances represents piece_of f o piece text printed (slice_between bytes at (at + passed.count)) a b (e.buffered ++ slice_between bytes from at)
+        EngineAdvances represents piece_of f o piece text printed (slice_between bytes at (at + passed.count)) a b (e.buffered ++ slice_between bytes from at)
         (f.buffered ++ slice_between bytes (at + passed.count) (at + passed.count))
     passed_dropped kept sent =
         run_dropped represents piece_of o piece text printed a b f e.buffered bytes from at (at + passed.count) ordered (omega arith) (taken_as false kept) sent

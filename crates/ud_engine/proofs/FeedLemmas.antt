@@ -11,7 +11,7 @@ use Rattle.ud_text.specs.lines.LinesState.{LinesState}
 use Rattle.ud_faults.specs.Faults.{fault_of, limit_of}
 use Rattle.ud_faults.specs.declared.run.RunFault.{RunFault}
 use Rattle.ud_faults.specs.declared.run.RunFault.TheVariants.{Text, Section, Read, Write}
-use Rattle.ud_engine.specs.Advancing.{Advances, StepFails, slice_between}
+use Rattle.ud_engine.specs.Advancing.{EngineAdvances, StepFails, slice_between}
 use Rattle.ud_engine.specs.Feeding.{EngineState, IsOpen, EngineRepresentsBuffered, EngineRepresents, Session, IsInSession, Continues, FaultsAfter, PrintsPrefix, FeedFails, Feeds, WriterMatches}
 use Rattle.ud_engine.specs.ProcessedLines.{text_by}
 use Rattle.ud_engine.specs.FaultEffects.{OutputUnchanged, result_after}
@@ -50,7 +50,7 @@ module _ {S : Type 0} (represents : S → List Judged → Type 0) (piece_of : S 
     (text printed : List ℕ) where
   -- Before the first byte of a chunk.
   pub feed_begins : (e : EngineState S) (a : Stream) (bytes : List ℕ) → EngineRepresents represents piece_of e o piece text printed →
-      Advances represents piece_of e o piece text printed (take 0 bytes) a a [] (e.buffered ++ slice_between bytes 0 0)
+      EngineAdvances represents piece_of e o piece text printed (take 0 bytes) a a [] (e.buffered ++ slice_between bytes 0 0)
   feed_begins e a bytes h = record {
     more = [];
     taken = subst (λ x. EngineRepresentsBuffered represents piece_of e o piece (text ++ []) x) (sym (append-nil printed))
@@ -60,9 +60,9 @@ module _ {S : Type 0} (represents : S → List Judged → Type 0) (piece_of : S 
 
   -- One step more.
   pub feed_goes_on : (e f : EngineState S) (a b c : Stream) (bytes : List ℕ) (at end : ℕ) (left rest : List ℕ) → at ≤ end →
-      (h : Advances represents piece_of e o piece text printed (take at bytes) a b [] left) →
-      Advances represents piece_of f o piece (text ++ take at bytes) (printed ++ h.more) (slice_between bytes at end) b c left rest →
-      Advances represents piece_of f o piece text printed (take end bytes) a c [] rest
+      (h : EngineAdvances represents piece_of e o piece text printed (take at bytes) a b [] left) →
+      EngineAdvances represents piece_of f o piece (text ++ take at bytes) (printed ++ h.more) (slice_between bytes at end) b c left rest →
+      EngineAdvances represents piece_of f o piece text printed (take end bytes) a c [] rest
   feed_goes_on e f a b c bytes at end left rest later h k = record {
     more = h.more ++ k.more;
     taken =
@@ -72,7 +72,7 @@ module _ {S : Type 0} (represents : S → List Judged → Type 0) (piece_of : S 
     sent = stream_then a b c h.more left k.more rest h.sent k.sent;
   }
 
-  module _ (e : EngineState S) (a b c : Stream) (bytes : List ℕ) (at : ℕ) (left : List ℕ) (h : Advances represents piece_of e o piece text printed (take at bytes) a b [] left)
+  module _ (e : EngineState S) (a b c : Stream) (bytes : List ℕ) (at : ℕ) (left : List ℕ) (h : EngineAdvances represents piece_of e o piece text printed (take at bytes) a b [] left)
       (works : a.failed ≡ false) (sent : TakesAllBut b c left []) where
     whole_text : (text ++ take at bytes) ++ drop at bytes ≡ text ++ bytes
     whole_text = append_assoc text (take at bytes) (drop at bytes) ∙ ap (λ x. text ++ x) (take-append-drop at bytes)

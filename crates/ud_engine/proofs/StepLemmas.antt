@@ -17,7 +17,7 @@ use Rattle.ud_sections.specs.sections.Limits.{IsWithinLimits}
 use Rattle.ud_faults.specs.Faults.{fault_of}
 use Rattle.ud_faults.specs.declared.sections.SectionFault.{SectionFault}
 use Rattle.ud_faults.specs.declared.run.RunFault.TheVariants.{Section}
-use Rattle.ud_engine.specs.Advancing.{Advances, StepFails, slice_between}
+use Rattle.ud_engine.specs.Advancing.{EngineAdvances, StepFails, slice_between}
 use Rattle.ud_engine.specs.Feeding.{EngineState, IsOpen, EngineRepresentsBuffered}
 use Rattle.ud_engine.specs.ProcessedLines.{PrintsLine}
 use Rattle.ud_io.specs.Streams.{Stream, TakesAllBut}
@@ -56,7 +56,7 @@ module _ {S : Type 0} (represents : S → List Judged → Type 0) (piece_of : S 
   pub open_step : (f : EngineState S) (used : ℕ) (whole : Bool) → whole ≡ false → UpToNewline rest used whole → f.symbols ≡ e.symbols → f.printer ≡ e.printer →
       f.lines ≡ record e.lines { held = e.lines.held ++ take used rest; whole = whole } → LinesRepresent f.lines (text ++ take used rest) → f.lines.fault ≡ None →
       (length f.lines.held ≤ LINE_BYTES) × (e.lines.before < e.lines.last_line) → TakesAllBut a b (e.buffered ++ pending) f.buffered →
-      Advances represents piece_of f o piece text printed (take used rest) a b (g ++ pending) f.buffered
+      EngineAdvances represents piece_of f o piece text printed (take used rest) a b (g ++ pending) f.buffered
   open_step f used whole w to symbols printer is took no_fault limits sent =
       let parts = split_lines-front_of text e.lines.held rest used whole (rest_is represents piece_of o piece e text printed h) to in
       let lines : whole_lines (text ++ take used rest) ≡ whole_lines text =
@@ -78,7 +78,7 @@ module _ {S : Type 0} (represents : S → List Judged → Type 0) (piece_of : S 
       f.lines ≡ record mid { held = []; whole = false; before = mid.before + 1 } → LinesRepresent f.lines (text ++ take used rest) → mid.fault ≡ None → e.lines.before < e.lines.last_line →
       l ≡ line_at (suc mid.before) mid.held →
       PrintsLine represents piece_of f.printer o piece h.items h.tree l true a b e.buffered f.buffered pending →
-      Advances represents piece_of f o piece text printed (take used rest) a b (g ++ pending) f.buffered
+      EngineAdvances represents piece_of f o piece text printed (take used rest) a b (g ++ pending) f.buffered
   line_step f mid used whole l w to symbols is cleared took no_fault few line prints =
       let parts = split_lines-front_of text e.lines.held rest used whole (rest_is represents piece_of o piece e text printed h) to in
       let lines : whole_lines (text ++ take used rest) ≡ whole_lines text ++ (e.lines.held ++ take used rest) ∷ [] =
@@ -168,7 +168,7 @@ module _ {S : Type 0} (represents : S → List Judged → Type 0) (piece_of : S 
 
   -- The output for a line is appended after the pending bytes, and nothing is pending after it.
   pub lent_put : (put : Bool) → put ≡ true → PrintsLine represents piece_of f.printer o piece h.items h.tree l put a b e.buffered f.buffered (slice_between bytes from at) →
-      Advances represents piece_of f o piece text printed (slice_between bytes at end) a b (g ++ slice_between bytes from at) (f.buffered ++ slice_between bytes end end)
+      EngineAdvances represents piece_of f o piece text printed (slice_between bytes at end) a b (g ++ slice_between bytes from at) (f.buffered ++ slice_between bytes end end)
   lent_put false w p = cc
   lent_put true w p = record {
     more = p.more;
@@ -181,7 +181,7 @@ module _ {S : Type 0} (represents : S → List Judged → Type 0) (piece_of : S 
 
   -- An unchanged line extends the pending bytes.
   pub lent_kept : (put : Bool) → put ≡ false → PrintsLine represents piece_of f.printer o piece h.items h.tree l put a b e.buffered f.buffered (slice_between bytes from at) →
-      Advances represents piece_of f o piece text printed (slice_between bytes at end) a b (g ++ slice_between bytes from at) (f.buffered ++ slice_between bytes from end)
+      EngineAdvances represents piece_of f o piece text printed (slice_between bytes at end) a b (g ++ slice_between bytes from at) (f.buffered ++ slice_between bytes from end)
   lent_kept true w p = cc
   lent_kept false w p =
       let joined : f.buffered ++ slice_between bytes from end ≡ (g ++ slice_between bytes from at) ++ p.more =
@@ -209,6 +209,6 @@ module _ {S : Type 0} (represents : S → List Judged → Type 0) (piece_of : S 
 -- Bytes that were taken through the line buffer.
 module _ {S : Type 0} (represents : S → List Judged → Type 0) (piece_of : S → List Judged → Judged → List ℕ) (o : Options) (piece : List Judged → Judged → List ℕ)
     (text printed : List ℕ) (a b : Stream) (bytes rest : List ℕ) (at used : ℕ) (rest_from : rest ≡ drop at bytes) (f : EngineState S) (pending : List ℕ) where
-  pub held_taken : Advances represents piece_of f o piece text printed (take used rest) a b pending f.buffered →
-      Advances represents piece_of f o piece text printed (slice_between bytes at (at + used)) a b pending (f.buffered ++ slice_between bytes (at + used) (at + used))
+  pub held_taken : EngineAdvances represents piece_of f o piece text printed (take used rest) a b pending f.buffered →
+      EngineAdvances represents piece_of f o piece text printed (slice_between bytes at (at + used)) a b pending (f.buffered ++ slice_between bytes (at + used) (at + used))
   held_taken h = grind (arith, between_none, append-nil)

@@ -3,13 +3,13 @@
 --   slice_between piece from at    the bytes between two positions of a chunk
 --   IsCursor room lines piece r    a cursor in a chunk
 --   measure piece r                how much there is left to do
---   Advances .. bytes ..     a step took these bytes
+--   EngineAdvances .. bytes ..     a step took these bytes
 --   StepFails .. f                 the next line is faulty
---   Takes .. used          an engine took bytes, and is a new one after that
+--   ConsumesBytes .. used          an engine took bytes, and is a new one after that
 --   StopsIn s rest f               the next line of an engine in this session is faulty
---   TakesPart .. r           either of these, in each session
---   Steps .. next        an engine took the bytes between two cursors
---   Moves .. result      `Steps`, or its next line is faulty, in each session
+--   ConsumesOrStops .. r           either of these, in each session
+--   ConsumesBetween .. next        an engine took the bytes between two cursors
+--   AdvancesOrStops .. result      `ConsumesBetween`, or its next line is faulty, in each session
 --   IsNext room lines piece at n   a cursor after another one
 --   IsPart room lines rest used    the first bytes of `rest` are taken
 --   IsStep e f out out' result     the output and the recorded fault after a step
@@ -48,10 +48,10 @@ pub record IsCursor (room : ℕ) (lines : LinesState) (piece : List ℕ) (r : Cu
 abbrev pub measure : List ℕ → Cursor → ℕ
 measure piece r = (length piece - r.pos) + (length piece - r.pos) + (if r.bulk_tried then 0 else 1)
 
--- `Advances .. e o piece text printed bytes old new pending left`: a step took `bytes`, which
+-- `EngineAdvances .. e o piece text printed bytes old new pending left`: a step took `bytes`, which
 -- follow `text`. `pending` and the output for `bytes` were appended, except `left`, which is now
 -- pending.
-pub record Advances {S : Type 0} (represents : S → List Judged → Type 0) (piece_of : S →
+pub record EngineAdvances {S : Type 0} (represents : S → List Judged → Type 0) (piece_of : S →
     List Judged →
     Judged → List ℕ) (e : EngineState S) (o : Options)
     (piece : List Judged → Judged →
@@ -71,14 +71,14 @@ StepFails o piece longer printed (Section f) = FaultsAfter o piece longer printe
 StepFails o piece longer printed Read = ⊥
 StepFails o piece longer printed Write = ⊥
 
--- `Takes .. e f s rest pending old new used`: the engine `e` in the session `s` took the
+-- `ConsumesBytes .. e f s rest pending old new used`: the engine `e` in the session `s` took the
 -- first `used` bytes of `rest`, and is `f` after that. Before the output for them, `pending` is
 -- appended.
-abbrev pub Takes : {S : Type 0} → (S → List Judged → Type 0) → (S → List Judged → Judged →
+abbrev pub ConsumesBytes : {S : Type 0} → (S → List Judged → Type 0) → (S → List Judged → Judged →
     List ℕ) → EngineState S → EngineState S → Session → List ℕ → List ℕ → Stream → Stream → ℕ →
     Type 0
-Takes represents piece_of e f s rest pending old new used =
-    Advances represents piece_of f s.options s.pieces s.text s.printed (take used rest) old
+ConsumesBytes represents piece_of e f s rest pending old new used =
+    EngineAdvances represents piece_of f s.options s.pieces s.text s.printed (take used rest) old
     new
     (e.buffered ++ pending) f.buffered
 
@@ -86,39 +86,39 @@ Takes represents piece_of e f s rest pending old new used =
 abbrev pub StopsIn : Session → List ℕ → RunFault → Type 0
 StopsIn s rest f = StepFails s.options s.pieces (s.text ++ rest) s.printed f
 
--- `TakesPart .. contents e f rest pending out out' result`: in each session of `e`, it took
--- bytes of `rest` (`Takes`); or the next line is faulty (`StopsIn`).
-abbrev pub TakesPart : {S W : Type 0} → (S → List Judged → Type 0) → (S → List Judged →
+-- `ConsumesOrStops .. contents e f rest pending out out' result`: in each session of `e`, it took
+-- bytes of `rest` (`ConsumesBytes`); or the next line is faulty (`StopsIn`).
+abbrev pub ConsumesOrStops : {S W : Type 0} → (S → List Judged → Type 0) → (S → List Judged →
     Judged →
     List ℕ) → (W → Option (List ℕ)) → EngineState S → EngineState S → List ℕ → List ℕ →
     WatchedState W → WatchedState W → Result ℕ RunFault → Type 0
-TakesPart represents piece_of contents e f rest pending out out' result =
+ConsumesOrStops represents piece_of contents e f rest pending out out' result =
     (s : Session) → IsBufferedIn represents piece_of e s → MatchResult result
-    (Takes represents piece_of e f s rest pending (stream_of contents out)
+    (ConsumesBytes represents piece_of e f s rest pending (stream_of contents out)
     (stream_of contents out'))
     (StopsIn s rest)
 
--- `Steps .. e f s piece at old new next`: the engine `e` in the session `s` took the
+-- `ConsumesBetween .. e f s piece at old new next`: the engine `e` in the session `s` took the
 -- bytes of the chunk `piece` from the cursor `at` to the cursor `next`, and is `f` after that.
-abbrev pub Steps : {S : Type 0} → (S → List Judged → Type 0) → (S → List Judged → Judged →
+abbrev pub ConsumesBetween : {S : Type 0} → (S → List Judged → Type 0) → (S → List Judged → Judged →
     List ℕ) → EngineState S → EngineState S → Session → List ℕ → Cursor → Stream → Stream →
     Cursor → Type 0
-Steps represents piece_of e f s piece at old new next =
-    Advances represents piece_of f s.options s.pieces s.text s.printed
+ConsumesBetween represents piece_of e f s piece at old new next =
+    EngineAdvances represents piece_of f s.options s.pieces s.text s.printed
     (slice_between piece at.pos next.pos) old new
     (e.buffered ++ slice_between piece at.pending_start at.pos)
     (f.buffered ++ slice_between piece next.pending_start next.pos)
 
--- `Moves .. contents e f piece at next out out' result`: in each session of `e`, it took
--- the bytes from the cursor `at` to the cursor `next` (`Steps`); or the line after `at`
+-- `AdvancesOrStops .. contents e f piece at next out out' result`: in each session of `e`, it took
+-- the bytes from the cursor `at` to the cursor `next` (`ConsumesBetween`); or the line after `at`
 -- is faulty (`StopsIn`).
-abbrev pub Moves : {S W T : Type 0} → (S → List Judged → Type 0) → (S → List Judged →
+abbrev pub AdvancesOrStops : {S W T : Type 0} → (S → List Judged → Type 0) → (S → List Judged →
     Judged →
     List ℕ) → (W → Option (List ℕ)) → EngineState S → EngineState S → List ℕ → Cursor → Cursor →
     WatchedState W → WatchedState W → Result T RunFault → Type 0
-Moves represents piece_of contents e f piece at next out out' result =
+AdvancesOrStops represents piece_of contents e f piece at next out out' result =
     (s : Session) → IsBufferedIn represents piece_of e s → MatchResult result
-    (λ _. Steps represents piece_of e f s piece at (stream_of contents out)
+    (λ _. ConsumesBetween represents piece_of e f s piece at (stream_of contents out)
     (stream_of contents out') next)
     (StopsIn s (drop at.pos piece))
 

@@ -214,8 +214,8 @@ impl<P: PlanSource, S: Show, H: LineBuffer> EngineOf<P, S, H> {
     ghost use Rattle.ud_engine.specs.Feeding.{FeedsChunk, WriterMatches};
     ghost use Rattle.ud_engine.specs.Feeding.{RecordsFault};
     ghost use Rattle.ud_engine.specs.Finishing.{Finishes};
-    ghost use Rattle.ud_engine.specs.Advancing.{IsCursor, IsNext, Moves, IsPart};
-    ghost use Rattle.ud_engine.specs.Advancing.{TakesPart, IsStep};
+    ghost use Rattle.ud_engine.specs.Advancing.{IsCursor, IsNext, AdvancesOrStops, IsPart};
+    ghost use Rattle.ud_engine.specs.Advancing.{ConsumesOrStops, IsStep};
     ghost use Rattle.ud_engine.specs.FaultEffects.{result_after};
 
     /// Returns an engine before the first byte, as `new` does, with an `H` as its line buffer.
@@ -418,7 +418,7 @@ impl<P: PlanSource, S: Show, H: LineBuffer> EngineOf<P, S, H> {
         requires some { cursor.old.pos < length chunk.now }
         ensures next { OnOk result (IsNext H.CAPACITY self.new.lines chunk.now cursor.old
             cursor.new) }
-        ensures moves { Moves S.represents S.piece W.contents self.old self.new chunk.now
+        ensures moves { AdvancesOrStops S.represents S.piece W.contents self.old self.new chunk.now
             cursor.old cursor.new out.old out.new result }
         ensures stays { OnErr result (cursor.new ≡ cursor.old) }
         ensures step { IsStep self.old self.new out.old out.new result }
@@ -445,7 +445,7 @@ impl<P: PlanSource, S: Show, H: LineBuffer> EngineOf<P, S, H> {
         requires untried { cursor.bulk_tried ≡ false }
         requires some { cursor.pos < cursor.whole_end }
         ensures next { IsNext H.CAPACITY self.new.lines chunk.now cursor result }
-        ensures moves { Moves S.represents S.piece W.contents self.old self.new chunk.now
+        ensures moves { AdvancesOrStops S.represents S.piece W.contents self.old self.new chunk.now
             cursor result out.old out.new (Ok result) }
         ensures fault { self.new.fault ≡ self.old.fault }
     {
@@ -485,7 +485,7 @@ impl<P: PlanSource, S: Show, H: LineBuffer> EngineOf<P, S, H> {
         requires some { cursor.old.pos < length chunk.now }
         ensures next { OnOk result (IsNext H.CAPACITY self.new.lines chunk.now cursor.old
             cursor.new) }
-        ensures moves { Moves S.represents S.piece W.contents self.old self.new chunk.now
+        ensures moves { AdvancesOrStops S.represents S.piece W.contents self.old self.new chunk.now
             cursor.old cursor.new out.old out.new result }
         ensures stays { OnErr result (cursor.new ≡ cursor.old) }
         ensures step { IsStep self.old self.new out.old out.new result }
@@ -543,7 +543,7 @@ impl<P: PlanSource, S: Show, H: LineBuffer> EngineOf<P, S, H> {
         requires some { 0 < length rest.now }
         requires fits { HasCapacity H.CAPACITY self.old.lines (length rest.now) }
         ensures part { IfOk result (IsPart H.CAPACITY self.new.lines rest.now) }
-        ensures takes { TakesPart S.represents S.piece W.contents self.old self.new rest.now
+        ensures takes { ConsumesOrStops S.represents S.piece W.contents self.old self.new rest.now
             pending.now out.old out.new result }
         ensures step { IsStep self.old self.new out.old out.new result }
     {

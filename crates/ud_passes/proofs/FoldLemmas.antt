@@ -27,7 +27,7 @@ use Rattle.ud_model.proofs.text.ScanLaws.{joins_before-code, joins_after-code, r
 use Rattle.ud_text.proofs.lemmas.scan.MaskLemmas.{no_newline-take}
 use Rattle.ud_passes.specs.Walks.{reading_at, read_after, AreTexts, HaveBytes, Walked}
 use Rattle.ud_passes.specs.folding.LogicalLines.{plain_lines, is_line_shown, IsLast, IsLogical, IsGroup}
-use Rattle.ud_passes.specs.folding.Folding.{FollowsBy, rest_from, Takes, Folded}
+use Rattle.ud_passes.specs.folding.Folding.{FollowsBy, rest_from, FoldsReading, Folded}
 use Rattle.ud_passes.specs.declared.folding.logical.Last.{Last}
 use Rattle.ud_passes.specs.declared.folding.logical.LogicalLine.{LogicalLine}
 use Rattle.ud_passes.specs.declared.walk.Walk.{Walk}
@@ -145,14 +145,14 @@ begins_parts b a d h = grind arith
 
 module _ (r : Reading) (old : List ℕ) (l : LogicalLine) where
   pub takes_none : (group : List Reading) (more new : List ℕ) → new ≡ old ++ more → ((rs : List Reading) → FollowsBy r.scan.joins_after rs → rest_from group (r ∷ rs) ≡ more ++ rest_from [] rs) →
-      Takes r group old l None new
+      FoldsReading r group old l None new
   takes_none group more new e h = grind arith
 
   -- No logical line of several lines begins on the line.
-  pub takes_line : (new : List ℕ) → new ≡ old ++ text_of r.line → (not r.scan.joins_before && r.scan.joins_after && is_directive (content_of r.scan)) ≡ false → Takes r [] old l None new
+  pub takes_line : (new : List ℕ) → new ≡ old ++ text_of r.line → (not r.scan.joins_before && r.scan.joins_after && is_directive (content_of r.scan)) ≡ false → FoldsReading r [] old l None new
   takes_line new e n = grind (arith, takes_none, rest_after, false≢true, rest_first, text_stays, rest_alone, not_continued)
 
-  pub takes_begun : (b : Last) → IsLogical l b (r ∷ []) → r.scan.joins_before ≡ false → r.scan.joins_after ≡ true → Takes r [] old l (Some b) old
+  pub takes_begun : (b : Last) → IsLogical l b (r ∷ []) → r.scan.joins_before ≡ false → r.scan.joins_after ≡ true → FoldsReading r [] old l (Some b) old
   takes_begun b i j a = record {
     more = [];
     appended = sym (append-nil old);
@@ -164,10 +164,10 @@ module _ (r : Reading) (old : List ℕ) (l : LogicalLine) where
 
   -- The line continues a group.
   module _ (group : List Reading) (begins : begins_directive group ≡ true) (j : r.scan.joins_before ≡ true) where
-    pub takes_stays : (new : List ℕ) → new ≡ (old ++ plain_lines group) ++ text_of r.line → ((more : List Reading) → is_foldable (group ++ r ∷ more) ≡ false) → Takes r group old l None new
+    pub takes_stays : (new : List ℕ) → new ≡ (old ++ plain_lines group) ++ text_of r.line → ((more : List Reading) → is_foldable (group ++ r ∷ more) ≡ false) → FoldsReading r group old l None new
     takes_stays new e f = grind (arith, takes_none, append_assoc, rest_given_up)
 
-    pub takes_more : (b : Last) → IsLogical l b (group ++ r ∷ []) → r.scan.joins_after ≡ true → Takes r group old l (Some b) old
+    pub takes_more : (b : Last) → IsLogical l b (group ++ r ∷ []) → r.scan.joins_after ≡ true → FoldsReading r group old l (Some b) old
     takes_more b i a = record {
       more = [];
       appended = sym (append-nil old);
@@ -177,7 +177,7 @@ module _ (r : Reading) (old : List ℕ) (l : LogicalLine) where
       rest = λ rs f. rest_joined group r rs begins j ∙ rest_of (group ++ r ∷ []) rs (begins_more group r begins);
     }
 
-    pub takes_all : (new : List ℕ) → new ≡ old ++ folded_bytes (group ++ r ∷ []) → r.scan.joins_after ≡ false → Takes r group old l None new
+    pub takes_all : (new : List ℕ) → new ≡ old ++ folded_bytes (group ++ r ∷ []) → r.scan.joins_after ≡ false → FoldsReading r group old l None new
     takes_all new e a = grind arith
 
 -- 5. The lines that go on.
@@ -298,14 +298,14 @@ texts_rest (r ∷ rs) h more = grind (arith, rest_first, text_stays, append_asso
 
 -- A line over the limit stays, and so do the lines before it.
 pub long_taken : (r : Reading) (old : List ℕ) (l : LogicalLine) (b : Option Last) (group : List Reading) (new : List ℕ) → fits r.line ≡ false → IsGroup l b group → IfSome b (λ _. r.scan.joins_before ≡ true) →
-    new ≡ (old ++ plain_lines group) ++ text_of r.line → (m : LogicalLine) → Takes r group old m None new
+    new ≡ (old ++ plain_lines group) ++ text_of r.line → (m : LogicalLine) → FoldsReading r group old m None new
 long_taken r old l None group new f g j e m =
-    subst (λ (x : List Reading). Takes r x old m None new) (sym g)
+    subst (λ (x : List Reading). FoldsReading r x old m None new) (sym g)
     (takes_none r old m [] (text_of r.line) new (e ∙ ap (λ (x : List Reading). (old ++ plain_lines x) ++ text_of r.line) g ∙ ap (λ (x : List ℕ). x ++ text_of r.line) (append-nil old)) (λ rs h. rest_first r rs (long_stays [] r (continued rs) f)))
 long_taken r old l (Some b) group new f g j e m = grind (arith, takes_stays, long_stays)
 
 module _ (text start : List ℕ) (l : LogicalLine) (b : Option Last) (walk : Walk) (out : List ℕ) (s : Folded text start l b walk out) (m : LogicalLine) (next : Walk) (more : List ℕ) where
-  pub line_folded : (d : Option Last) (k : Line) → Walked C text (s.read ++ read_after C s.read k ∷ []) next.rest.now next.scanner → Takes (read_after C s.read k) s.group out m d more → Folded text start m d next more
+  pub line_folded : (d : Option Last) (k : Line) → Walked C text (s.read ++ read_after C s.read k ∷ []) next.rest.now next.scanner → FoldsReading (read_after C s.read k) s.group out m d more → Folded text start m d next more
   line_folded d k w t = grind (arith, if_some, next_joins, append_assoc, joins_before-code)
 
   pub texts_folded : is_some b ≡ false → (bytes : List ℕ) (rs : List Reading) → AreTexts rs → HaveBytes bytes rs → Walked C text (s.read ++ rs) next.rest.now next.scanner → more ≡ out ++ bytes → Folded text start m None next more

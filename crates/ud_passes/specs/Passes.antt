@@ -7,9 +7,9 @@ use Rattle.ud_model.specs.text.Bytes.{newline}
 use Rattle.ud_model.specs.text.Lines.{Line, text_of}
 use Rattle.ud_model.specs.declared.limits.TheConstants.{LINE_BYTES}
 
--- `Grows old new`: `new` is `old`, perhaps with bytes appended.
-abbrev pub Grows : List ℕ → List ℕ → Type 0
-Grows old new = (more : List ℕ) × (new ≡ old ++ more)
+-- `AppendsSome old new`: `new` is `old`, perhaps with bytes appended.
+abbrev pub AppendsSome : List ℕ → List ℕ → Type 0
+AppendsSome old new = (more : List ℕ) × (new ≡ old ++ more)
 
 -- `fits l`: with its ending, the line `l` has no more bytes than a line may have.
 abbrev pub fits : Line → Bool

@@ -1,7 +1,7 @@
 //! The lines of lists.
 
 ghost use Rattle.std.specs.Prelude.{◌≡◌, ◌∷◌, [], ◌++◌, OnOk};
-ghost use Rattle.ud_passes.specs.Passes.{Grows, place_at, numbered_line};
+ghost use Rattle.ud_passes.specs.Passes.{AppendsSome, place_at, numbered_line};
 
 use itoa::Buffer;
 use std::alloc::AllocError;
@@ -11,7 +11,7 @@ use std::alloc::AllocError;
 /// # Errors
 /// Fails if memory runs out.
 pub(crate) fn append_place(list: &mut Vec<u8>, name: &[u8], number: usize) -> Result<(), AllocError>
-    ensures grows { Grows list.old.items list.new.items }
+    ensures grows { AppendsSome list.old.items list.new.items }
     ensures items { OnOk result (list.new.items ≡
         list.old.items ++ place_at name.now number) }
 {
@@ -28,7 +28,7 @@ pub(crate) fn append_place(list: &mut Vec<u8>, name: &[u8], number: usize) -> Re
 /// # Errors
 /// Fails if memory runs out.
 pub(crate) fn append_body(list: &mut Vec<u8>, body: &[u8]) -> Result<(), AllocError>
-    ensures grows { Grows list.old.items list.new.items }
+    ensures grows { AppendsSome list.old.items list.new.items }
     ensures items { OnOk result (list.new.items ≡ list.old.items ++ (body.now ++ 10 ∷ [])) }
 {
     list.extend_from_slice(body)?;
@@ -46,7 +46,7 @@ pub(crate) fn append_line(
     number: usize,
     body: &[u8],
 ) -> Result<(), AllocError>
-    ensures grows { Grows list.old.items list.new.items }
+    ensures grows { AppendsSome list.old.items list.new.items }
     ensures items { OnOk result
         (list.new.items ≡ list.old.items ++ numbered_line name.now number body.now) }
 {

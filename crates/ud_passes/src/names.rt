@@ -9,7 +9,7 @@ ghost use Rattle.std.specs.Prelude.{◌≡◌, ◌+◌, ◌<◌, ◌^◌, ◌++�
 ghost use Rattle.std.specs.Prelude.{if◌then◌else◌};
 ghost use Rattle.ud_passes.specs.names.NameTables.{names_in, Tabulates};
 ghost use Rattle.ud_passes.specs.names.UnlistedConditions.{unlisted_in, unlisted_text};
-ghost use Rattle.ud_passes.specs.Passes.{Grows};
+ghost use Rattle.ud_passes.specs.Passes.{AppendsSome};
 
 use std::alloc::{AllocError, Global};
 use tables::append_table;
@@ -114,7 +114,7 @@ impl Names {
     /// # Errors
     /// Fails if memory runs out. Part of the table may have been appended.
     pub fn append_to(&self, out: &mut Vec<u8>) -> Result<(), AllocError>
-        ensures grows { Grows out.old.items out.new.items }
+        ensures grows { AppendsSome out.old.items out.new.items }
         ensures table { OnOk result
             (Tabulates (names_in self.now.list.items) out.old.items out.new.items) }
     {

@@ -9,7 +9,7 @@ use Rattle.ud_replace.specs.declared.node.FileId.{FileId}
 use Rattle.ud_replace.specs.declared.stat.FileStat.{FileStat}
 use Rattle.ud_replace.specs.Calls.{Call, was_read, asked, made, appended, given, synced, renamed, removed}
 use Rattle.ud_replace.specs.TextOutcomes.{TextOptions, TextOutcome, HasTextOutcome}
-use Rattle.ud_replace.specs.Filling.{Takes, nothing, part, AppendsAll, all, stopped, LooksAgain, Confirms, confirmed, not_read, other_text, other_facts, other_version, Fills, filled, not_taken, not_given, not_synced, not_confirmed, not_renamed}
+use Rattle.ud_replace.specs.Filling.{FileTakes, nothing, part, AppendsAll, all, stopped, LooksAgain, Confirms, confirmed, not_read, other_text, other_facts, other_version, Fills, filled, not_taken, not_given, not_synced, not_confirmed, not_renamed}
 use Rattle.ud_replace.specs.Replacing.{Renames, renames, removes, unrenamed, unrenamed_writes, not_made, locked, denied, denied_writes, Puts, several, read_only, one_link, several_writes, Judges, no_memory, faulty, same, differs, Replaces}
 use Rattle.ud_replace.specs.Moments.{Files, content, AreTrue, EachCall, no_call, then_call, OldOrNew, touches}
 use Rattle.ud_replace.proofs.CallLemmas.{same_name, name_of_test, untouched, extended}
@@ -39,7 +39,7 @@ true_at first e t = subst (λ (l : List Call). AreTrue first l) e t
 
 -- the fresh file takes bytes
 quiet_takes : {o : TextOptions} {name fresh : List ℕ} {first : Files} {old base : List Call} (bytes : List ℕ) (calls : List Call) →
-    Apart first old fresh → Quiet o name first old base → Takes fresh base bytes calls → Quiet o name first old calls
+    Apart first old fresh → Quiet o name first old base → FileTakes fresh base bytes calls → Quiet o name first old calls
 quiet_takes bytes calls a q nothing = q
 quiet_takes {fresh = fresh} _ _ a q (part {bytes = before} {calls = earlier} rest n taken fits) =
     quiet_next (appended fresh rest (Some n)) (quiet_takes before earlier a q taken) a
@@ -89,7 +89,7 @@ quiet_unrenamed a q (not_renamed taken seen h l is) = quiet_at is (quiet_not_ren
 
 -- the bytes of the fresh file
 bytes_of_takes : (fresh : List ℕ) (first : Files) {base : List Call} (bytes : List ℕ) (calls : List Call) →
-    content first base fresh ≡ Some [] → Takes fresh base bytes calls → content first calls fresh ≡ Some bytes
+    content first base fresh ≡ Some [] → FileTakes fresh base bytes calls → content first calls fresh ≡ Some bytes
 bytes_of_takes fresh first bytes calls e nothing = e
 bytes_of_takes fresh first _ _ e (part {bytes = before} {calls = earlier} rest n taken fits) =
     extended fresh rest n (content first earlier) before (bytes_of_takes fresh first before earlier e taken)
@@ -107,7 +107,7 @@ bytes_of_appends : (fresh : List ℕ) (first : Files) {text : List ℕ} {base ne
 bytes_of_appends fresh first e (all taken) = bytes_of_takes fresh first _ _ e taken
 
 -- true answers up to the end were true before
-true_takes : (first : Files) {fresh : List ℕ} {base : List Call} (bytes : List ℕ) (calls : List Call) → Takes fresh base bytes calls → AreTrue first calls → AreTrue first base
+true_takes : (first : Files) {fresh : List ℕ} {base : List Call} (bytes : List ℕ) (calls : List Call) → FileTakes fresh base bytes calls → AreTrue first calls → AreTrue first base
 true_takes first bytes calls nothing t = t
 true_takes first _ _ (part {bytes = before} {calls = earlier} rest n taken fits) t = true_takes first before earlier taken t.1
 

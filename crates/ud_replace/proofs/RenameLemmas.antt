@@ -6,7 +6,7 @@ use Rattle.ud_replace.specs.declared.node.FileId.{FileId}
 use Rattle.ud_replace.specs.declared.stat.FileStat.{FileStat}
 use Rattle.ud_replace.specs.Calls.{Call, was_read, asked, made, given, synced}
 use Rattle.ud_replace.specs.TextOutcomes.{TextOptions, TextOutcome, HasTextOutcome}
-use Rattle.ud_replace.specs.Filling.{Takes, nothing, part, AppendsAll, all, stopped, LooksAgain, Confirms, confirmed, not_read, other_text, other_facts, other_version, Fills, filled, not_taken, not_given, not_synced, not_confirmed, not_renamed}
+use Rattle.ud_replace.specs.Filling.{FileTakes, nothing, part, AppendsAll, all, stopped, LooksAgain, Confirms, confirmed, not_read, other_text, other_facts, other_version, Fills, filled, not_taken, not_given, not_synced, not_confirmed, not_renamed}
 use Rattle.ud_replace.specs.Replacing.{Renames, renames, removes, unrenamed, unrenamed_writes, not_made, locked, denied, denied_writes, Puts, several, read_only, one_link, several_writes, Judges, no_memory, faulty, same, differs, Replaces}
 use Rattle.ud_replace.specs.Moments.{EachCall, no_call, then_call, touches, TookOutput, TouchesFreshOnly}
 use Rattle.ud_replace.proofs.CallLemmas.{name_of_test}
@@ -23,7 +23,7 @@ touches_none : {o : TextOptions} {name fresh : List ℕ} {old calls : List Call}
 touches_none c q t = then_call q (inl (λ n h. absurd (true≢false (sym h ∙ t n))))
 
 takes_careful : {o : TextOptions} {name fresh : List ℕ} {old base : List Call} (bytes : List ℕ) (calls : List Call) →
-    Careful o name fresh old base → Takes fresh base bytes calls → Careful o name fresh old calls
+    Careful o name fresh old base → FileTakes fresh base bytes calls → Careful o name fresh old calls
 takes_careful bytes calls q nothing = q
 takes_careful {fresh = fresh} _ _ q (part {bytes = before} {calls = earlier} rest n taken fits) =
     then_call (takes_careful before earlier q taken) (inl (λ m. name_of_test m fresh))

@@ -4,13 +4,13 @@ use Rattle.std.proofs.lemmas.Grind.{common_steps}
 use Rattle.std.proofs.lemmas.List.{nil_from_length}
 use Rattle.std.proofs.Common.{◌≡◌, ◌==◌, true, ℕ, ◌≤◌, ◌-◌, List, [], ◌∷◌, ◌++◌, length, take, drop, Some, refl, sym, ap, ◌∙◌, subst, append_assoc, take-append-drop, arith}
 use Rattle.ud_replace.specs.Calls.{Call, appended}
-use Rattle.ud_replace.specs.Filling.{Takes, nothing, part}
+use Rattle.ud_replace.specs.Filling.{FileTakes, nothing, part}
 
 -- since `old`, the file took all of `bytes` but `rest`
 pub record TakesAllBut (name : List ℕ) (old : List Call) (bytes rest : List ℕ) (new : List Call) : Type 0 where
   pub taken : List ℕ
   pub joined : bytes ≡ taken ++ rest
-  pub took : Takes name old taken new
+  pub took : FileTakes name old taken new
 
 -- at first, nothing is taken
 pub takes_none : (name : List ℕ) (old : List Call) (bytes : List ℕ) → TakesAllBut name old bytes bytes old
@@ -24,14 +24,14 @@ takes_more name old calls new bytes rest n t fits is = record {
   joined =
       t.joined ∙ ap (λ x. t.taken ++ x) (sym (take-append-drop n rest)) ∙ sym (append_assoc t.taken (take n rest) (drop n rest))
       ∙ ap (λ x. (t.taken ++ take n rest) ++ x) (sym to_end);
-  took = subst (λ (l : List Call). Takes name old (t.taken ++ take n rest) l) (sym is) (part rest n t.took fits);
+  took = subst (λ (l : List Call). FileTakes name old (t.taken ++ take n rest) l) (sym is) (part rest n t.took fits);
 }
   where
     to_end : take (length rest - n) (drop n rest) ≡ drop n rest
     to_end = grind (arith, common_steps)
 
 -- with nothing left, all was taken
-pub takes_all : (name : List ℕ) (old new : List Call) (bytes rest : List ℕ) → TakesAllBut name old bytes rest new → rest ≡ [] → Takes name old bytes new
+pub takes_all : (name : List ℕ) (old new : List Call) (bytes rest : List ℕ) → TakesAllBut name old bytes rest new → rest ≡ [] → FileTakes name old bytes new
 takes_all name old new bytes rest t none = grind (arith, common_steps)
 
 -- a slice of length 0 is empty

@@ -9,25 +9,25 @@ use Rattle.ud_replace.specs.Stats.{has_facts_of}
 use Rattle.ud_replace.specs.declared.stat.FileStat.{FileStat}
 use Rattle.ud_replace.specs.Calls.{Call, was_read, appended, given, synced, looked, renamed}
 
--- `Takes name old bytes new`: since `old`, the file took exactly `bytes`, part by part, and no
+-- `FileTakes name old bytes new`: since `old`, the file took exactly `bytes`, part by part, and no
 -- other call was made.
-pub data Takes (name : List ℕ) (old : List Call) : List ℕ → List Call → Type 0 where
-  nothing : Takes name old [] old
+pub data FileTakes (name : List ℕ) (old : List Call) : List ℕ → List Call → Type 0 where
+  nothing : FileTakes name old [] old
   part : {bytes : List ℕ} {calls : List Call} (rest : List ℕ) (n : ℕ) →
-      Takes name old bytes calls → n ≤ length rest →
-      Takes name old (bytes ++ take n rest) (appended name rest (Some n) ∷ calls)
+      FileTakes name old bytes calls → n ≤ length rest →
+      FileTakes name old (bytes ++ take n rest) (appended name rest (Some n) ∷ calls)
 
--- `TakesNone answer`: an appending call took no byte.
-abbrev pub TakesNone : Option ℕ → Type 0
-TakesNone None = Unit {0}
-TakesNone (Some n) = n ≡ 0
+-- `TakesNoByte answer`: an appending call took no byte.
+abbrev pub TakesNoByte : Option ℕ → Type 0
+TakesNoByte None = Unit {0}
+TakesNoByte (Some n) = n ≡ 0
 
 -- `AppendsAll name bytes old new all`: the file took all of `bytes`. Or it took a prefix of them,
 -- and then a call with the rest took none.
 pub data AppendsAll (name bytes : List ℕ) (old new : List Call) : Bool → Type 0 where
-  all : Takes name old bytes new → AppendsAll name bytes old new true
+  all : FileTakes name old bytes new → AppendsAll name bytes old new true
   stopped : (taken rest : List ℕ) (calls : List Call) (answer : Option ℕ) →
-      bytes ≡ taken ++ rest → Takes name old taken calls → TakesNone answer →
+      bytes ≡ taken ++ rest → FileTakes name old taken calls → TakesNoByte answer →
       new ≡ appended name rest answer ∷ calls → AppendsAll name bytes old new false
 
 -- `IsVersionOf stat seen`: a look found a file with the version of `stat`.

@@ -18,7 +18,7 @@ use Rattle.std.specs.Prelude.{option_map}
 use Rattle.ud_replace.specs.declared.stat.FileStat.{FileStat}
 use Rattle.ud_replace.specs.Calls.{Call, was_read, asked, made, appended, given, synced, looked}
 use Rattle.ud_replace.specs.Calls.{renamed, overwrote, removed, walked}
-use Rattle.ud_replace.specs.Filling.{Takes, Confirms}
+use Rattle.ud_replace.specs.Filling.{FileTakes, Confirms}
 use Rattle.ud_replace.specs.TextOutcomes.{TextOptions, TextOutcome, HasTextOutcome}
 
 -- `Files`: the bytes of each file, by its name; `None` if none has it or a killed run left it.
@@ -124,7 +124,7 @@ pub record TookOutput (o : TextOptions) (name fresh : List ℕ) (old calls : Lis
   pub has : HasTextOutcome o text outcome
   pub no_fault : outcome.fault ≡ None
   pub taken : List Call
-  pub took : Takes fresh (made fresh (Ok tt) ∷ asked name true ∷ was_read name text (Some stat)
+  pub took : FileTakes fresh (made fresh (Ok tt) ∷ asked name true ∷ was_read name text (Some stat)
       ∷
       old) outcome.output taken
   pub confirms : Confirms name text stat (synced fresh true ∷ given fresh stat true ∷ taken) calls

@@ -17,7 +17,7 @@ ghost use Rattle.ud_text.specs.bulk.BulkStates.{BulkState, block_state, can_star
 ghost use Rattle.ud_text.specs.bulk.Blocks.{IsBlock};
 ghost use Rattle.ud_text.specs.bulk.BulkLexemes.{NoStarPair, IsSplice};
 ghost use Rattle.ud_text.specs.bulk.Progress.{ReadTo, bulk_state_of, InOrder, ReadBy, SkippedBy};
-ghost use Rattle.ud_text.specs.bulk.Progress.{InBlock, LeavesBlock, Steps};
+ghost use Rattle.ud_text.specs.bulk.Progress.{InBlock, LeavesBlock, ReadsOnOrStops};
 ghost use Rattle.ud_text.specs.scan.LexerViews.{lex_state_of};
 
 use crate::scan::lexer::{LexState, Lexer};
@@ -145,7 +145,7 @@ fn block_step(lines: &[u8], p: Progress) -> Result<Progress, LineStart>
     requires first { take 2 (drop p.at lines.now) ≡ slash ∷ star ∷ [] }
     ensures further { IfOk result (λ q. InOrder q lines.now × (p.at < q.at)) }
     ensures bound { IfErr result (λ stop. stop.at ≤ length lines.now) }
-    ensures read { Steps lines.now p result }
+    ensures read { ReadsOnOrStops lines.now p result }
 {
     let white = is_line_white_after(&lines[p.base..p.at], p.begins);
     match skip_to_block_end(lines, p.line, p.at + 2, white) {
@@ -162,7 +162,7 @@ fn comment_step(lines: &[u8], p: Progress) -> Result<Progress, LineStart>
     requires first { take 2 (drop p.at lines.now) ≡ slash ∷ slash ∷ [] }
     ensures further { IfOk result (λ q. InOrder q lines.now × (p.at < q.at)) }
     ensures bound { IfErr result (λ stop. stop.at ≤ length lines.now) }
-    ensures read { Steps lines.now p result }
+    ensures read { ReadsOnOrStops lines.now p result }
 {
     match line_comment_len(&lines[p.at..]) {
         None => Err(last_line(lines, p.line, p.at)),
@@ -183,7 +183,7 @@ fn hash_step(lines: &[u8], p: Progress) -> Result<Progress, LineStart>
     requires first { take 1 (drop p.at lines.now) ≡ number_sign ∷ [] }
     ensures further { IfOk result (λ q. InOrder q lines.now × (p.at < q.at)) }
     ensures bound { IfErr result (λ stop. stop.at ≤ length lines.now) }
-    ensures read { Steps lines.now p result }
+    ensures read { ReadsOnOrStops lines.now p result }
 {
     let after = p.at + 1;
     if let Some(count) = other_word_len(&lines[after..]) {
@@ -203,7 +203,7 @@ fn text_step(lines: &[u8], p: Progress) -> Result<Progress, LineStart>
     requires some { p.at < length lines.now }
     ensures further { IfOk result (λ q. InOrder q lines.now × (p.at < q.at)) }
     ensures bound { IfErr result (λ stop. stop.at ≤ length lines.now) }
-    ensures read { Steps lines.now p result }
+    ensures read { ReadsOnOrStops lines.now p result }
 {
     match lexeme_len(&lines[p.at..]) {
         None => Err(last_line(lines, p.line, p.at)),
@@ -222,7 +222,7 @@ fn splice_step(lines: &[u8], p: Progress, count: usize) -> Result<Progress, Line
     requires splice { IsSplice (take count (drop p.at lines.now)) }
     ensures further { IfOk result (λ q. InOrder q lines.now × (p.at < q.at)) }
     ensures bound { IfErr result (λ stop. stop.at ≤ length lines.now) }
-    ensures read { Steps lines.now p result }
+    ensures read { ReadsOnOrStops lines.now p result }
 {
     if is_line_white_after(&lines[p.base..p.at], p.begins) {
         return Err(last_line(lines, p.line, p.at));
@@ -245,7 +245,7 @@ fn significant_step(lines: &[u8], p: Progress) -> Result<Progress, LineStart>
     requires some { p.at < length lines.now }
     ensures further { IfOk result (λ q. InOrder q lines.now × (p.at < q.at)) }
     ensures bound { IfErr result (λ stop. stop.at ≤ length lines.now) }
-    ensures read { Steps lines.now p result }
+    ensures read { ReadsOnOrStops lines.now p result }
 {
     let rest = &lines[p.at..];
     if rest.starts_with(b"#") {

@@ -51,15 +51,15 @@ module _ {A P N : Type 0} (K : Keeping A P N) where
   abbrev pub Appends : A → N → P → N → Type 0
   Appends k n x m = (front : List Bool) → Noted n front → IsKept k front x m
 
-  -- `TakesOne f a n x m`: the part `x` is for `f k`, where `a` is for `k` after one more token
-  abbrev pub TakesOne : (A → A) → P → N → P → N → Type 0
-  TakesOne f a n x m = (k : A) (front : List Bool) → a ≡ K.part k (length front + 1) →
+  -- `KeepsUnary f a n x m`: the part `x` is for `f k`, where `a` is for `k` after one more token
+  abbrev pub KeepsUnary : (A → A) → P → N → P → N → Type 0
+  KeepsUnary f a n x m = (k : A) (front : List Bool) → a ≡ K.part k (length front + 1) →
       Noted n (front ++ true ∷ K.flags k) → IsKept (f k) front x m
 
-  -- `TakesTwo f a b n x m`: the part `x` is for `f k j`, where `a` is for `k`, and `b` for `j`
+  -- `KeepsBinary f a b n x m`: the part `x` is for `f k j`, where `a` is for `k`, and `b` for `j`
   -- after one more token
-  abbrev pub TakesTwo : (A → A → A) → P → P → N → P → N → Type 0
-  TakesTwo f a b n x m = (k j : A) (front : List Bool) → a ≡ K.part k (length front) →
+  abbrev pub KeepsBinary : (A → A → A) → P → P → N → P → N → Type 0
+  KeepsBinary f a b n x m = (k j : A) (front : List Bool) → a ≡ K.part k (length front) →
       b ≡ K.part j (length front + (length (K.flags k) + 1)) →
       Noted n (front ++ K.flags k ++ true ∷ K.flags j) → IsKept (f k j) front x m
 

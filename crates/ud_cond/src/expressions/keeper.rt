@@ -4,8 +4,8 @@ ghost use Rattle.std.specs.Prelude.{◌≡◌, ◌≤◌, ◌<◌, ◌+◌, ◌+
 ghost use Rattle.ud_model.specs.conditions.Parsing.{Meaning};
 ghost use Rattle.ud_model.specs.declared.limits.TheConstants.{LINE_BYTES};
 ghost use Rattle.ud_cond.specs.expressions.Keepings as spec;
-ghost use Rattle.ud_cond.specs.expressions.Keepings.{Keeping, count, Appends, TakesOne};
-ghost use Rattle.ud_cond.specs.expressions.Keepings.{TakesTwo};
+ghost use Rattle.ud_cond.specs.expressions.Keepings.{Keeping, count, Appends, KeepsUnary};
+ghost use Rattle.ud_cond.specs.expressions.Keepings.{KeepsBinary};
 
 use ud_model::Operator;
 
@@ -53,7 +53,7 @@ pub(crate) trait Keeper {
 
     /// Returns the part of a prefix operator and the last operand.
     fn unary(&self, operator: Operator, operand: Self::Part, notes: &mut Self::Notes) -> Self::Part
-        ensures kept { TakesOne Self.keeping ((Self.meaning self.now).unary operator) operand
+        ensures kept { KeepsUnary Self.keeping ((Self.meaning self.now).unary operator) operand
             notes.old result notes.new }
         ensures long { count Self.keeping notes.new ≤ count Self.keeping notes.old };
 
@@ -65,14 +65,14 @@ pub(crate) trait Keeper {
         second: Self::Part,
         notes: &mut Self::Notes,
     ) -> Self::Part
-        ensures kept { TakesTwo Self.keeping ((Self.meaning self.now).binary operator) first
+        ensures kept { KeepsBinary Self.keeping ((Self.meaning self.now).binary operator) first
             second notes.old result notes.new }
         ensures long { count Self.keeping notes.new ≤ count Self.keeping notes.old };
 
     /// Returns the part of parentheses around the last operand. The `)` has just come.
     fn parens(&self, inside: Self::Part, notes: &mut Self::Notes) -> Self::Part
         requires fits { count Self.keeping notes.old < LINE_BYTES }
-        ensures kept { TakesOne Self.keeping (Self.meaning self.now).parens inside
+        ensures kept { KeepsUnary Self.keeping (Self.meaning self.now).parens inside
             notes.old result notes.new }
         ensures long { count Self.keeping notes.new ≤ count Self.keeping notes.old + 1 };
 }

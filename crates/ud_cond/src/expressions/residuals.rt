@@ -17,7 +17,7 @@ ghost use Rattle.ud_cond.specs.CondViews.{as_rules};
 ghost use Rattle.ud_cond.specs.symbols.SymbolTable.{TableRepresents};
 ghost use Rattle.ud_cond.specs.expressions.Stacks.{Suffice};
 ghost use Rattle.ud_cond.specs.expressions.Evaluation.{binary_value_of};
-ghost use Rattle.ud_cond.specs.expressions.Keepings.{TakesTwo, IsMeant};
+ghost use Rattle.ud_cond.specs.expressions.Keepings.{KeepsBinary, IsMeant};
 ghost use Rattle.ud_cond.specs.expressions.ResidualReading as spec;
 ghost use Rattle.ud_cond.specs.expressions.ResidualReading.{kept_keeping, joined_kept};
 ghost use Rattle.ud_cond.specs.expressions.ResidualReading.{kept_meaning_of, KeepsWhole, lost_len};
@@ -150,7 +150,7 @@ impl Residuals<'_> {
 
     /// Joins the last two operands by `&&` or `||`.
     fn join(&self, operator: Operator, a: Part, b: Part, flags: &mut TokenFlags) -> Part
-        ensures kept { TakesTwo kept_keeping (joined_kept (as_rules self.now.rules) operator) a b
+        ensures kept { KeepsBinary kept_keeping (joined_kept (as_rules self.now.rules) operator) a b
             flags.old result flags.new }
         ensures long { length flags.new ≡ length flags.old }
     {

@@ -27,9 +27,9 @@ abbrev pub rest_from : List Reading → List Reading → List ℕ
 rest_from [] rs = plain_lines (continued rs) ++ folded_lines rs
 rest_from (g ∷ group) rs = folded_bytes (g ∷ group ++ continued rs) ++ folded_lines rs
 
--- `Takes r group old out l b new`: the line `r` was taken after the lines `group`. Bytes
+-- `FoldsReading r group old out l b new`: the line `r` was taken after the lines `group`. Bytes
 -- were appended to `old`, and `l` and `b` have the pending lines.
-pub record Takes (r : Reading) (group : List Reading) (old : List ℕ) (l : LogicalLine)
+pub record FoldsReading (r : Reading) (group : List Reading) (old : List ℕ) (l : LogicalLine)
     (b : Option Last) (new : List ℕ) : Type 0 where
   pub more : List ℕ
   pub appended : new ≡ old ++ more
@@ -39,22 +39,22 @@ pub record Takes (r : Reading) (group : List Reading) (old : List ℕ) (l : Logi
   pub rest : (rs : List Reading) → FollowsBy r.scan.joins_after rs →
       rest_from group (r ∷ rs) ≡ more ++ rest_from next rs
 
--- `TakesLine line scan l b old m c new`: the line was taken after those that go on, if `l` and `b`
+-- `FoldsLine line scan l b old m c new`: the line was taken after those that go on, if `l` and `b`
 -- have some.
-abbrev pub TakesLine : CodeLine → CodeScan → LogicalLine → Option Last → List ℕ → LogicalLine →
+abbrev pub FoldsLine : CodeLine → CodeScan → LogicalLine → Option Last → List ℕ → LogicalLine →
     Option Last → List ℕ → Type 0
-TakesLine line scan l b old m c new = (n : ℕ) (group : List Reading) → IsGroup l b group →
+FoldsLine line scan l b old m c new = (n : ℕ) (group : List Reading) → IsGroup l b group →
     IfSome b (λ _. scan.joins_before ≡ true) → HasItsSplice line scan →
-    Takes (c_reading line scan n) group old m c new
+    FoldsReading (c_reading line scan n) group old m c new
 
--- `TakesNext s line l b old m c new`: the line, which comes after those that the scanner `s`
+-- `FoldsNext s line l b old m c new`: the line, which comes after those that the scanner `s`
 -- represents, was taken after those that go on, if `l` and `b` have some.
-abbrev pub TakesNext : ScannerState → CodeLine → LogicalLine → Option Last → List ℕ → LogicalLine →
+abbrev pub FoldsNext : ScannerState → CodeLine → LogicalLine → Option Last → List ℕ → LogicalLine →
     Option Last → List ℕ → Type 0
-TakesNext s line l b old m c new = (before : List Reading) → ScannerRepresents s before →
+FoldsNext s line l b old m c new = (before : List Reading) → ScannerRepresents s before →
     (n : ℕ) (group : List Reading) → IsGroup l b group →
     IfSome b (λ _. joins (c_run_of before) ≡ true) →
-    Takes (reading_at C (as_line line) (scan_after before C (as_line line)) n) group old m c
+    FoldsReading (reading_at C (as_line line) (scan_after before C (as_line line)) n) group old m c
     new
 
 -- `Folded text start l b walk out`: the folded lines before the walk's place were appended to

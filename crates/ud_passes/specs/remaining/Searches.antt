@@ -6,9 +6,9 @@
 --                                that begins there
 --   rest_from table p goes_on rs the mention `p`, which may go on, and the mentions of `rs`
 --   ended p                      the ended mention `p`
---   Extends table line .. p q    `q` is the mention `p` after a line with its scan
+--   ExtendsMention table line .. p q    `q` is the mention `p` after a line with its scan
 --   IsTaken table p r q goes_on  `q` is the mention after the line `r`
---   TakesNext table mode s ..    the line that the scanner `s` reads next was taken
+--   MentionsNext table mode s ..    the line that the scanner `s` reads next was taken
 --   Appends table .. ms          the mentions among `ms` that name a listed symbol were counted
 --                                and appended
 --   EndsLine table ..            a line was taken, and its mention goes on or was appended
@@ -80,20 +80,20 @@ module _ (table : List Argument) where
   abbrev pub IsTaken : Option Mention → Reading → Option Mention → Bool → Type 0
   IsTaken p r q goes_on = (q ≡ taken p r) × (goes_on ≡ joins_next r)
 
--- `Extends table line scan number p q`: read in any mode, the line with this scan and number
+-- `ExtendsMention table line scan number p q`: read in any mode, the line with this scan and number
 -- makes `q` of the mention `p`.
-abbrev pub Extends : List Argument → CodeLine → CodeScan → ℕ → Option Mention → Option
+abbrev pub ExtendsMention : List Argument → CodeLine → CodeScan → ℕ → Option Mention → Option
     Mention →
     Type 0
-Extends table line scan number p q = (mode : Mode) →
+ExtendsMention table line scan number p q = (mode : Mode) →
     q ≡ extended table p (reading_at mode (as_line line) (as_scan scan) number)
 
--- `TakesNext table mode s line place after t more`: the line, which comes after those that the
+-- `MentionsNext table mode s line place after t more`: the line, which comes after those that the
 -- scanner `s` represents, was taken after the mention of the place, whose text is `after`. Then `t`
 -- has the mention, whose text is `more`.
-abbrev pub TakesNext : List Argument → Mode → ScannerState → CodeLine → Place → List ℕ → Taken →
+abbrev pub MentionsNext : List Argument → Mode → ScannerState → CodeLine → Place → List ℕ → Taken →
     List ℕ → Type 0
-TakesNext table mode s line place after t more = (before : List Reading) →
+MentionsNext table mode s line place after t more = (before : List Reading) →
     ScannerRepresents s before → IsTaken table (begun_as place.begun after)
     (reading_at mode (as_line line) (scan_after before mode (as_line line)) place.number)
     (begun_as t.begun more) t.goes_on

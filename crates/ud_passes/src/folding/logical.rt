@@ -8,11 +8,11 @@ ghost use Rattle.ud_model.specs.aids.LineViews.{as_line, as_scan};
 ghost use Rattle.ud_model.specs.sections.Directives.{content_of};
 ghost use Rattle.ud_simplified.specs.FoldedTexts as spec;
 ghost use Rattle.ud_simplified.specs.FoldedTexts.{folded_bytes};
-ghost use Rattle.ud_passes.specs.Passes.{Grows};
+ghost use Rattle.ud_passes.specs.Passes.{AppendsSome};
 ghost use Rattle.ud_passes.specs.folding.LogicalLines.{plain_lines, c_reading, HasItsSplice};
 ghost use Rattle.ud_passes.specs.folding.LogicalLines.{BeginsLine, AddsLine, IsLast, IsLogical};
 ghost use Rattle.ud_passes.specs.folding.LogicalLines.{IsGroup};
-ghost use Rattle.ud_passes.specs.folding.Folding.{rest_from, Takes, TakesLine};
+ghost use Rattle.ud_passes.specs.folding.Folding.{rest_from, FoldsReading, FoldsLine};
 
 use crate::folding::shown::{VERTICAL_TAB, is_directive, is_line_shown};
 use std::alloc::{AllocError, Global};
@@ -88,7 +88,7 @@ fn masked_break(last: &Last<'_>) -> &'static [u8]
 /// # Errors
 /// Fails if memory runs out.
 pub(crate) fn append_line(line: &Line<'_>, out: &mut Vec<u8>) -> Result<(), AllocError>
-    ensures grows { Grows out.old.items out.new.items }
+    ensures grows { AppendsSome out.old.items out.new.items }
     ensures bytes { OnOk result (out.new.items ≡ out.old.items ++ text_of (as_line line.now)) }
 {
     out.extend_from_slice(line.body)?;
@@ -147,7 +147,7 @@ impl LogicalLine {
     /// # Errors
     /// Fails if memory runs out.
     fn end(&mut self, last: &Last<'_>, out: &mut Vec<u8>) -> Result<(), AllocError>
-        ensures grows { Grows out.old.items out.new.items }
+        ensures grows { AppendsSome out.old.items out.new.items }
         ensures bytes { OnOk result ((group : List Reading) → IsLogical self.old last.now group →
             out.new.items ≡ out.old.items ++ folded_bytes group) }
     {
@@ -173,7 +173,7 @@ impl LogicalLine {
         begun: Option<Last<'_>>,
         out: &mut Vec<u8>,
     ) -> Result<(), AllocError>
-        ensures grows { Grows out.old.items out.new.items }
+        ensures grows { AppendsSome out.old.items out.new.items }
         ensures bytes { OnOk result ((group : List Reading) → IsGroup self.now begun.entry group →
             out.new.items ≡ out.old.items ++ plain_lines group) }
     {
@@ -192,7 +192,7 @@ impl LogicalLine {
         begun: Option<Last<'_>>,
         out: &mut Vec<u8>,
     ) -> Result<(), AllocError>
-        ensures grows { Grows out.old.items out.new.items }
+        ensures grows { AppendsSome out.old.items out.new.items }
         ensures bytes { OnOk result ((group : List Reading) → IsGroup self.old begun.entry group →
             out.new.items ≡ out.old.items ++ rest_from group []) }
     {
@@ -213,9 +213,9 @@ impl LogicalLine {
         out: &mut Vec<u8>,
     ) -> Result<Option<Last<'t>>, AllocError>
         requires one_line { NoNewline line.now.body.now }
-        ensures grows { Grows out.old.items out.new.items }
+        ensures grows { AppendsSome out.old.items out.new.items }
         ensures taken { IfOk result (λ b. (n : ℕ) → HasItsSplice line.now scan.now →
-            Takes (c_reading line.now scan.now n) [] out.old.items self.new b
+            FoldsReading (c_reading line.now scan.now n) [] out.old.items self.new b
             out.new.items) }
     {
         if begins(scan) {
@@ -238,8 +238,8 @@ impl LogicalLine {
         out: &mut Vec<u8>,
     ) -> Result<Option<Last<'t>>, AllocError>
         requires one_line { NoNewline line.now.body.now }
-        ensures grows { Grows out.old.items out.new.items }
-        ensures taken { IfOk result (λ b. TakesLine line.now scan.now self.old (Some last.now)
+        ensures grows { AppendsSome out.old.items out.new.items }
+        ensures taken { IfOk result (λ b. FoldsLine line.now scan.now self.old (Some last.now)
             out.old.items self.new b out.new.items) }
     {
         if line.ending != last.line.ending {
@@ -267,8 +267,8 @@ impl LogicalLine {
         out: &mut Vec<u8>,
     ) -> Result<Option<Last<'t>>, AllocError>
         requires one_line { NoNewline line.now.body.now }
-        ensures grows { Grows out.old.items out.new.items }
-        ensures taken { IfOk result (λ b. TakesLine line.now scan.now self.old begun.entry
+        ensures grows { AppendsSome out.old.items out.new.items }
+        ensures taken { IfOk result (λ b. FoldsLine line.now scan.now self.old begun.entry
             out.old.items self.new b out.new.items) }
     {
         match begun {

@@ -7,7 +7,7 @@ ghost use Rattle.ud_model.specs.aids.LineViews.{as_line};
 ghost use Rattle.ud_simplified.specs.FoldedTexts.{restored_text, restored_line, restored_body};
 ghost use Rattle.ud_simplified.specs.FoldedTexts.{restored_byte};
 ghost use Rattle.ud_model.specs.declared.limits.TheConstants.{LINE_BYTES};
-ghost use Rattle.ud_passes.specs.Passes.{Grows};
+ghost use Rattle.ud_passes.specs.Passes.{AppendsSome};
 ghost use Rattle.ud_passes.specs.folding.Folding.{Restored};
 
 use crate::folding::logical::append_line;
@@ -22,7 +22,7 @@ use ud_text::Scanner;
 /// # Errors
 /// Fails if memory runs out.
 fn append_byte(ending: &[u8], byte: u8, masked: u8, out: &mut Vec<u8>) -> Result<(), AllocError>
-    ensures grows { Grows out.old.items out.new.items }
+    ensures grows { AppendsSome out.old.items out.new.items }
     ensures bytes { OnOk result
         (out.new.items ≡ out.old.items ++ restored_byte ending.now byte masked) }
 {
@@ -47,7 +47,7 @@ fn append_body(
     out: &mut Vec<u8>,
 ) -> Result<(), AllocError>
     requires masked { length masked.now ≤ length body.now }
-    ensures grows { Grows out.old.items out.new.items }
+    ensures grows { AppendsSome out.old.items out.new.items }
     ensures bytes { OnOk result
         (out.new.items ≡ out.old.items ++ restored_body ending.now body.now masked.now) }
 {
@@ -65,7 +65,7 @@ fn append_body(
 fn append_restored_line(line: &Line<'_>, out: &mut Vec<u8>) -> Result<(), AllocError>
     requires fits { length (text_of (as_line line.now)) ≤ LINE_BYTES }
     requires one_line { NoNewline line.now.body.now }
-    ensures grows { Grows out.old.items out.new.items }
+    ensures grows { AppendsSome out.old.items out.new.items }
     ensures bytes { OnOk result
         (out.new.items ≡ out.old.items ++ restored_line (as_line line.now)) }
 {
@@ -86,7 +86,7 @@ fn append_restored_line(line: &Line<'_>, out: &mut Vec<u8>) -> Result<(), AllocE
 /// Fails if memory runs out.
 fn step(walk: &mut Walk<'_>, out: &mut Vec<u8>) -> Result<(), AllocError>
     requires some { 0 < length walk.old.rest.now }
-    ensures grows { Grows out.old.items out.new.items }
+    ensures grows { AppendsSome out.old.items out.new.items }
     ensures shorter { length walk.new.rest.now < length walk.old.rest.now }
     ensures restored { OnOk result ((text start : List ℕ) →
         Restored text start walk.old out.old.items →
@@ -108,7 +108,7 @@ fn step(walk: &mut Walk<'_>, out: &mut Vec<u8>) -> Result<(), AllocError>
 /// # Errors
 /// Fails if memory runs out. `out` may then have more bytes.
 fn append_restored(text: &[u8], out: &mut Vec<u8>) -> Result<(), AllocError>
-    ensures grows { Grows out.old.items out.new.items }
+    ensures grows { AppendsSome out.old.items out.new.items }
     ensures restored { OnOk result (out.new.items ≡ out.old.items ++ restored_text text.now) }
 {
     let mut walk = Walk::new(*out.allocator(), text);

@@ -12,8 +12,8 @@ ghost use Rattle.ud_model.specs.declared.kind.Mode.{Mode};
 ghost use Rattle.ud_model.specs.declared.kind.Mode.TheVariants.{C};
 ghost use Rattle.ud_model.specs.declared.limits.TheConstants.{LINE_BYTES};
 ghost use Rattle.ud_text.specs.scan.ScannerState.{ScannerRepresents};
-ghost use Rattle.ud_passes.specs.Passes.{Grows};
-ghost use Rattle.ud_passes.specs.folding.Folding.{TakesNext, Folded};
+ghost use Rattle.ud_passes.specs.Passes.{AppendsSome};
+ghost use Rattle.ud_passes.specs.folding.Folding.{FoldsNext, Folded};
 
 use crate::folding::logical::{Last, LogicalLine, append_line};
 use crate::folding::shown::has_tab;
@@ -34,11 +34,11 @@ fn take<'t>(
 ) -> Result<Option<Last<'t>>, AllocError>
     requires fits { length (text_of (as_line line.now)) ≤ LINE_BYTES }
     requires one_line { NoNewline line.now.body.now }
-    ensures grows { Grows out.old.items out.new.items }
+    ensures grows { AppendsSome out.old.items out.new.items }
     ensures represents { OnOk result ((before : List Reading) →
         ScannerRepresents scanner.old before → ScannerRepresents scanner.new
         (before ++ next_reading before Mode.C (as_line line.now) ∷ [])) }
-    ensures taken { IfOk result (λ b. TakesNext scanner.old line.now logical.old begun.entry
+    ensures taken { IfOk result (λ b. FoldsNext scanner.old line.now logical.old begun.entry
         out.old.items logical.new b out.new.items) }
 {
     let scan = scanner.read_growing(Mode::C, line)?;
@@ -66,7 +66,7 @@ fn step<'t>(
     out: &mut Vec<u8>,
 ) -> Result<Option<Last<'t>>, AllocError>
     requires some { 0 < length walk.old.rest.now }
-    ensures grows { Grows out.old.items out.new.items }
+    ensures grows { AppendsSome out.old.items out.new.items }
     ensures shorter { length walk.new.rest.now < length walk.old.rest.now }
     ensures folded { IfOk result (λ b. (text start : List ℕ) →
         Folded text start logical.old begun.entry walk.old out.old.items →
@@ -94,7 +94,7 @@ fn step<'t>(
 /// # Errors
 /// Fails if memory runs out. `out` may then have more bytes.
 fn append_lines(text: &[u8], out: &mut Vec<u8>) -> Result<(), AllocError>
-    ensures grows { Grows out.old.items out.new.items }
+    ensures grows { AppendsSome out.old.items out.new.items }
     ensures folded { OnOk result
         (out.new.items ≡ out.old.items ++ folded_lines (read_as C text.now)) }
 {
@@ -114,7 +114,7 @@ fn append_lines(text: &[u8], out: &mut Vec<u8>) -> Result<(), AllocError>
 /// # Errors
 /// Fails if memory runs out. `out` may then have more bytes.
 fn append_folded(text: &[u8], out: &mut Vec<u8>) -> Result<(), AllocError>
-    ensures grows { Grows out.old.items out.new.items }
+    ensures grows { AppendsSome out.old.items out.new.items }
     ensures folded { OnOk result (out.new.items ≡ out.old.items ++ folded_text text.now) }
 {
     if has_tab(text) {

@@ -10,7 +10,7 @@ ghost use Rattle.std.specs.Ordering.{nat_cmp};
 ghost use Rattle.ud_passes.specs.names.NameTables.{names_in, row_cmp, row_line, table_text};
 ghost use Rattle.ud_passes.specs.names.NameTables.{Tabulates};
 ghost use Rattle.ud_passes.specs.names.RowViews.{as_count, AreCounts};
-ghost use Rattle.ud_passes.specs.Passes.{Grows};
+ghost use Rattle.ud_passes.specs.Passes.{AppendsSome};
 
 use itoa::Buffer;
 use std::alloc::{AllocError, Global};
@@ -109,7 +109,7 @@ fn sort_rows(rows: &mut Vec<Row<'_>>) -> Result<(), AllocError>
 /// # Errors
 /// Fails if memory runs out.
 fn append_spaces(count: usize, out: &mut Vec<u8>) -> Result<(), AllocError>
-    ensures grows { Grows out.old.items out.new.items }
+    ensures grows { AppendsSome out.old.items out.new.items }
     ensures spaces { OnOk result (out.new.items ≡ out.old.items ++ replicate count 32) }
 {
     for _ in 0..count {
@@ -123,7 +123,7 @@ fn append_spaces(count: usize, out: &mut Vec<u8>) -> Result<(), AllocError>
 /// # Errors
 /// Fails if memory runs out.
 fn append_row(row: &Row<'_>, out: &mut Vec<u8>) -> Result<(), AllocError>
-    ensures grows { Grows out.old.items out.new.items }
+    ensures grows { AppendsSome out.old.items out.new.items }
     ensures line { OnOk result (out.new.items ≡ out.old.items ++ row_line (as_count row.now)) }
 {
     let mut buffer = Buffer::new();
@@ -141,7 +141,7 @@ fn append_row(row: &Row<'_>, out: &mut Vec<u8>) -> Result<(), AllocError>
 /// # Errors
 /// Fails if memory runs out.
 fn append_rows(rows: &[Row<'_>], out: &mut Vec<u8>) -> Result<(), AllocError>
-    ensures grows { Grows out.old.items out.new.items }
+    ensures grows { AppendsSome out.old.items out.new.items }
     ensures lines { OnOk result
         (out.new.items ≡ out.old.items ++ table_text (map as_count rows.now)) }
 {
@@ -156,7 +156,7 @@ fn append_rows(rows: &[Row<'_>], out: &mut Vec<u8>) -> Result<(), AllocError>
 /// # Errors
 /// Fails if memory runs out. Part of the table may have been appended.
 pub(crate) fn append_table(alloc: Global, list: &[u8], out: &mut Vec<u8>) -> Result<(), AllocError>
-    ensures grows { Grows out.old.items out.new.items }
+    ensures grows { AppendsSome out.old.items out.new.items }
     ensures table { OnOk result (Tabulates (names_in list.now) out.old.items out.new.items) }
 {
     let mut names = names_in(alloc, list)?;

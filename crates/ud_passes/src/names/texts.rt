@@ -9,7 +9,7 @@ ghost use Rattle.ud_model.specs.aids.LineViews.{as_line};
 ghost use Rattle.ud_model.specs.declared.limits.TheConstants.{LINE_BYTES};
 ghost use Rattle.ud_model.specs.aids.ReadAs.{read_as};
 ghost use Rattle.ud_text.specs.scan.ScannerState.{ScannerRepresents};
-ghost use Rattle.ud_passes.specs.Passes.{Grows, numbered_line};
+ghost use Rattle.ud_passes.specs.Passes.{AppendsSome, numbered_line};
 ghost use Rattle.ud_passes.specs.names.UnlistedConditions.{is_unlisted_line, unlisted_in};
 ghost use Rattle.ud_passes.specs.names.UnlistedLines.{listed_text, Listed};
 
@@ -77,7 +77,7 @@ impl<'a> File<'a> {
     fn add(self, found: Found, body: &[u8], out: &mut Vec<u8>) -> Result<Found, AllocError>
         requires room { found.count + 1 < 2 ^ 64 }
         requires numbers { found.number + 1 < 2 ^ 64 }
-        ensures grows { Grows out.old.items out.new.items }
+        ensures grows { AppendsSome out.old.items out.new.items }
         ensures count { IfOk result (λ f. f.count ≡ found.count + 1) }
         ensures number { IfOk result (λ f. f.number ≡ found.number + 1) }
         ensures line { OnOk result (out.new.items ≡ out.old.items ++ (if self.entry.lists
@@ -107,7 +107,7 @@ impl<'a> File<'a> {
         requires some { 0 < length walk.old.rest.now }
         requires room { found.number + length walk.old.rest.now < 2 ^ 64 }
         requires fewer { found.count < found.number }
-        ensures grows { Grows out.old.items out.new.items }
+        ensures grows { AppendsSome out.old.items out.new.items }
         ensures shorter { length walk.new.rest.now < length walk.old.rest.now }
         ensures room { IfOk result (λ f.
             f.number + length walk.new.rest.now ≤ found.number + length walk.old.rest.now) }
@@ -149,7 +149,7 @@ impl<'a> File<'a> {
         text: &[u8],
         out: &mut Vec<u8>,
     ) -> Result<usize, AllocError>
-        ensures grows { Grows out.old.items out.new.items }
+        ensures grows { AppendsSome out.old.items out.new.items }
         ensures count { IfOk result (λ n.
             n ≡ length (unlisted_in self.entry.mode text.now)) }
         ensures list { OnOk result (out.new.items ≡ out.old.items ++

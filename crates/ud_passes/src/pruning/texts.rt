@@ -13,7 +13,7 @@ ghost use Rattle.ud_text.specs.scan.ScannerState.{ScannerRepresents};
 ghost use Rattle.ud_cond.specs.symbols.SymbolTable.{TableRepresents};
 ghost use Rattle.ud_cond.specs.CondViews.{as_rules};
 ghost use Rattle.ud_passes.specs.pruning.PrunedTexts.{pruned_text, edited_count};
-ghost use Rattle.ud_passes.specs.Passes.{Grows};
+ghost use Rattle.ud_passes.specs.Passes.{AppendsSome};
 ghost use Rattle.ud_passes.specs.pruning.Passing.{PrunesNext, PrunesOn};
 
 use crate::pruning::lines::LineEditor;
@@ -32,7 +32,7 @@ fn append_either(
     line: &Line<'_>,
     out: &mut Vec<u8>,
 ) -> Result<(), AllocError>
-    ensures grows { Grows out.old.items out.new.items }
+    ensures grows { AppendsSome out.old.items out.new.items }
     ensures bytes { OnOk result (out.new.items ≡ out.old.items ++
         (if edited then bytes.now else text_of (as_line line.now))) }
 {
@@ -57,7 +57,7 @@ fn append_line(
 ) -> Result<bool, AllocError>
     requires fits { length (text_of (as_line line.now)) ≤ LINE_BYTES }
     requires one_line { NoNewline line.now.body.now }
-    ensures grows { Grows out.old.items out.new.items }
+    ensures grows { AppendsSome out.old.items out.new.items }
     ensures represents { OnOk result ((before : List Reading) →
         ScannerRepresents scanner.old before → ScannerRepresents scanner.new
         (before ++ next_reading before Mode.C (as_line line.now) ∷ [])) }
@@ -93,7 +93,7 @@ fn step(
 ) -> Result<usize, AllocError>
     requires some { 0 < length walk.old.rest.now }
     requires room { count + length walk.old.rest.now < 2 ^ 64 }
-    ensures grows { Grows out.old.items out.new.items }
+    ensures grows { AppendsSome out.old.items out.new.items }
     ensures shorter { length walk.new.rest.now < length walk.old.rest.now }
     ensures room { IfOk result (λ n.
         n + length walk.new.rest.now ≤ count + length walk.old.rest.now) }
@@ -126,7 +126,7 @@ fn append_pruned(
     rules: Rules,
     out: &mut Vec<u8>,
 ) -> Result<usize, AllocError>
-    ensures grows { Grows out.old.items out.new.items }
+    ensures grows { AppendsSome out.old.items out.new.items }
     ensures pruned { IfOk result (λ count. (calls : List Argument) →
         TableRepresents symbols.now calls →
         (out.new.items ≡ out.old.items ++ pruned_text calls (as_rules rules) text.now) ×

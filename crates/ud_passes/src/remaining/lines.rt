@@ -1,7 +1,7 @@
 //! The lines of the list.
 
 ghost use Rattle.std.specs.Prelude.{◌≡◌, ◌∷◌, [], ◌++◌, OnOk};
-ghost use Rattle.ud_passes.specs.Passes.{Grows, place_at};
+ghost use Rattle.ud_passes.specs.Passes.{AppendsSome, place_at};
 ghost use Rattle.ud_passes.specs.remaining.Reasons.{reason_text};
 
 use crate::lines::{append_body, append_place};
@@ -19,7 +19,7 @@ pub(crate) fn append_reason(
     reason: Option<Reason>,
     body: &[u8],
 ) -> Result<(), AllocError>
-    ensures grows { Grows list.old.items list.new.items }
+    ensures grows { AppendsSome list.old.items list.new.items }
     ensures items { OnOk result (list.new.items ≡ list.old.items ++ (place_at name.now number ++
         reason_text reason ++ body.now ++ 10 ∷ [])) }
 {

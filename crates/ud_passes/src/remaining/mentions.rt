@@ -9,7 +9,7 @@ ghost use Rattle.ud_sections.specs.directives.ParsedDirectives.{as_directive};
 ghost use Rattle.ud_passes.specs.remaining.Definitions.{is_definition};
 ghost use Rattle.ud_passes.specs.remaining.Mentions.{class_of, shown_after, mention_at};
 ghost use Rattle.ud_passes.specs.Walks.{reading_at};
-ghost use Rattle.ud_passes.specs.remaining.Searches.{as_mention, begun_as, Extends};
+ghost use Rattle.ud_passes.specs.remaining.Searches.{as_mention, begun_as, ExtendsMention};
 
 use crate::remaining::definitions::defines;
 use std::alloc::AllocError;
@@ -103,7 +103,7 @@ fn begin<'t>(
     after: &mut Vec<u8>,
 ) -> Result<Option<Begun<'t>>, AllocError>
     ensures { IfOk result (λ now. (calls : List Argument) → TableRepresents symbols.now calls →
-        Extends calls line.now scan.now number None (begun_as now after.new.items)) }
+        ExtendsMention calls line.now scan.now number None (begun_as now after.new.items)) }
 {
     match directive(scan) {
         Err(_) => Ok(None),
@@ -137,7 +137,7 @@ pub(crate) fn take_line<'t>(
     after: &mut Vec<u8>,
 ) -> Result<Option<Begun<'t>>, AllocError>
     ensures { IfOk result (λ now. (calls : List Argument) → TableRepresents symbols.now calls →
-        Extends calls line.now scan.now number (begun_as begun.entry after.old.items)
+        ExtendsMention calls line.now scan.now number (begun_as begun.entry after.old.items)
         (begun_as now after.new.items)) }
 {
     if begun.is_some() {

@@ -10,10 +10,10 @@ ghost use Rattle.ud_model.specs.declared.limits.TheConstants.{LINE_BYTES};
 ghost use Rattle.ud_model.specs.conditions.Table.{Argument};
 ghost use Rattle.ud_text.specs.scan.ScannerState.{ScannerRepresents};
 ghost use Rattle.ud_cond.specs.symbols.SymbolTable.{TableRepresents};
-ghost use Rattle.ud_passes.specs.Passes.{Grows};
+ghost use Rattle.ud_passes.specs.Passes.{AppendsSome};
 ghost use Rattle.ud_passes.specs.remaining.ListedNames.{names_by};
 ghost use Rattle.ud_passes.specs.remaining.RemainingLists.{line_of, is_condition, is_defining};
-ghost use Rattle.ud_passes.specs.remaining.Searches.{as_mention, begun_as, TakesNext, ended};
+ghost use Rattle.ud_passes.specs.remaining.Searches.{as_mention, begun_as, MentionsNext, ended};
 ghost use Rattle.ud_passes.specs.remaining.Searches.{Appends, EndsLine, SearchesOn, IsClearTo};
 ghost use Rattle.ud_passes.specs.remaining.Mentions.{mentions_of};
 
@@ -80,7 +80,7 @@ fn take<'t>(
         ScannerRepresents scanner.old before → ScannerRepresents scanner.new
         (before ++ next_reading before mode (as_line line.now) ∷ [])) }
     ensures taken { IfOk result (λ t. (calls : List Argument) → TableRepresents symbols.now calls →
-        TakesNext calls mode scanner.old line.now place.entry after.old.items t
+        MentionsNext calls mode scanner.old line.now place.entry after.old.items t
         after.new.items) }
 {
     let scan = scanner.read_growing(mode, line)?;
@@ -166,7 +166,7 @@ impl Search {
     /// # Errors
     /// Fails if memory runs out.
     fn append(&mut self, name: &[u8], symbols: &Symbols, begun: Begun<'_>) -> Result<(), AllocError>
-        ensures grows { Grows self.old.list.items self.new.list.items }
+        ensures grows { AppendsSome self.old.list.items self.new.list.items }
         ensures count { self.new.count ≡ self.old.count }
         ensures defined { self.new.defined ≡ self.old.defined }
         ensures listing { self.new.listing ≡ self.old.listing }
@@ -192,7 +192,7 @@ impl Search {
         symbols: &Symbols,
         begun: Option<Begun<'_>>,
     ) -> Result<(), AllocError>
-        ensures grows { Grows self.old.list.items self.new.list.items }
+        ensures grows { AppendsSome self.old.list.items self.new.list.items }
         ensures listing { self.new.listing ≡ self.old.listing }
         ensures appends { OnOk result ((calls : List Argument) →
             TableRepresents symbols.now calls → Appends calls name.now
@@ -221,7 +221,7 @@ impl Search {
         place: Place<'t>,
     ) -> Result<Place<'t>, AllocError>
         requires room { place.number + 1 < 2 ^ 64 }
-        ensures grows { Grows self.old.list.items self.new.list.items }
+        ensures grows { AppendsSome self.old.list.items self.new.list.items }
         ensures listing { self.new.listing ≡ self.old.listing }
         ensures number { IfOk result (λ p. p.number ≡ place.entry.number + 1) }
         ensures until { IfOk result (λ p. p.until ≡ place.entry.until) }
@@ -259,7 +259,7 @@ impl Search {
     ) -> Result<Place<'t>, AllocError>
         requires some { 0 < length walk.old.rest.now }
         requires room { place.number + length walk.old.rest.now < 2 ^ 64 }
-        ensures grows { Grows self.old.list.items self.new.list.items }
+        ensures grows { AppendsSome self.old.list.items self.new.list.items }
         ensures listing { self.new.listing ≡ self.old.listing }
         ensures shorter { length walk.new.rest.now < length walk.old.rest.now }
         ensures room { IfOk result (λ p. p.number + length walk.new.rest.now ≤
@@ -308,7 +308,7 @@ impl Search {
         mode: Mode,
         symbols: &Symbols,
     ) -> Result<(), AllocError>
-        ensures grows { Grows self.old.list.items self.new.list.items }
+        ensures grows { AppendsSome self.old.list.items self.new.list.items }
         ensures listing { self.new.listing ≡ self.old.listing }
         ensures added { OnOk result ((calls : List Argument) → TableRepresents symbols.now calls →
             Appends calls name.now (mentions_of calls mode text.now) self.old self.new) }

@@ -79,8 +79,8 @@ LeavesBlock bytes line at white result =
     ReadTo start bytes line.at (bulk_state_of line.lexer) at (block_state white) →
     MatchResult result (λ q. ReadBy start bytes q) (λ stop. SkippedBy start bytes stop)
 
--- `Steps bytes p result`: a step from `p` reads on, or stops at the beginning of a line
-abbrev pub Steps : List ℕ → Progress → Result Progress LineStart → Type 0
-Steps bytes p result =
+-- `ReadsOnOrStops bytes p result`: a step from `p` reads on, or stops at the beginning of a line
+abbrev pub ReadsOnOrStops : List ℕ → Progress → Result Progress LineStart → Type 0
+ReadsOnOrStops bytes p result =
     (start : BulkState) → ReadBy start bytes p →
     MatchResult result (λ q. ReadBy start bytes q) (λ line. SkippedBy start bytes line)

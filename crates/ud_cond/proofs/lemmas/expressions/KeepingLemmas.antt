@@ -5,7 +5,7 @@ use Rattle.ud_model.specs.conditions.Expressions.{precedence}
 use Rattle.ud_model.specs.conditions.Parsing.{Meaning, Frame, left, before, paren, ParseState, needs, has, reduce, alone}
 use Rattle.ud_model.specs.declared.operator.Operator.{Operator}
 use Rattle.ud_cond.specs.expressions.Stacks.{popped, IsSettled, is_empty}
-use Rattle.ud_cond.specs.expressions.Keepings.{Keeping, number_of, count, Noted, IsKept, TakesOne, TakesTwo, flags_in, parts_of, Awaits, IsAt, Represents}
+use Rattle.ud_cond.specs.expressions.Keepings.{Keeping, number_of, count, Noted, IsKept, KeepsUnary, KeepsBinary, flags_in, parts_of, Awaits, IsAt, Represents}
 
 -- what holds of a result, if there is one
 pub if_some : {A : Type 0} (o : Option A) {P Q : A → Type 0} → ((x : A) → P x → Q x) → IfSome o P → IfSome o Q
@@ -49,7 +49,7 @@ module _ {A P N : Type 0} (K : Keeping A P N) where
         -- an operator with its left operand
         pub next_binary : (x : P) (t : List (Frame A)) → popped o (Some x) ∷ ps ≡ parts_of K t → least ≤ precedence o →
             part ≡ K.part j (length (flags_in K t)) → Noted K n (flags_in K t ++ K.flags j) →
-            TakesTwo K (m.binary o) x part n now later → Next ps now later j t
+            KeepsBinary K (m.binary o) x part n now later → Next ps now later j t
         next_binary x [] e l p f h = cc
         next_binary x (before q ∷ s) e l p f h = cc
         next_binary x (paren ∷ s) e l p f h = cc
@@ -57,7 +57,7 @@ module _ {A P N : Type 0} (K : Keeping A P N) where
 
         -- a prefix operator
         pub next_prefix : (t : List (Frame A)) → popped o None ∷ ps ≡ parts_of K t → part ≡ K.part j (length (flags_in K t)) → Noted K n (flags_in K t ++ K.flags j) →
-            TakesOne K (m.unary o) part n now later → Next ps now later j t
+            KeepsUnary K (m.unary o) part n now later → Next ps now later j t
         next_prefix [] e p f h = cc
         next_prefix (left q a ∷ s) e p f h = cc
         next_prefix (paren ∷ s) e p f h = cc

@@ -1,5 +1,5 @@
 use Rattle.std.proofs.Common.{rules, refl, sym, subst, ◌++◌, ◌+◌, arith}
-use Rattle.ud_engine.specs.Advancing.{Advances, IsCursor, slice_between}
+use Rattle.ud_engine.specs.Advancing.{EngineAdvances, IsCursor, slice_between}
 use Rattle.ud_engine.specs.Feeding.{EngineState, EngineRepresentsBuffered}
 use Rattle.ud_io.specs.Streams.{stream_of}
 use Rattle.ud_engine.proofs.CursorLemmas.{next_after, passed_kept, passed_dropped}
@@ -24,7 +24,7 @@ returns-then-skipped-clause-moves g c = λ s old.
     let place = subst (λ (e : EngineState g.row.S.Denot). IsCursor g.H.LineBuffer.CAPACITY e.lines c.args.chunk.now c.args.cursor) (sym c.self.view_is) c.requires.cursor in
     let out = stream_of g.W.Write.contents c.args.out.now in
     let f : EngineState g.row.S.Denot = record { symbols = (g.P.PlanSource.plan c.self.inside.plan).symbols; lines = c.skip_text-skipped.new.lines; printer = c.skip_text-skipped.new.self; buffered = c.self.inside.output; fault = c.self.inside.fault } in
-    subst (λ (e : EngineState g.row.S.Denot). Advances g.S.Show.represents g.S.Show.piece f s.options s.pieces s.text s.printed
+    subst (λ (e : EngineState g.row.S.Denot). EngineAdvances g.S.Show.represents g.S.Show.piece f s.options s.pieces s.text s.printed
     (slice_between c.args.chunk.now c.args.cursor.pos (c.args.cursor.pos + c.skip_text-skipped.result.count)) out out
     (e.buffered ++ slice_between c.args.chunk.now c.args.cursor.pending_start c.args.cursor.pos)
     (c.self.inside.output ++ slice_between c.args.chunk.now c.args.cursor.pending_start (c.args.cursor.pos + c.skip_text-skipped.result.count))) c.self.view_is
@@ -39,7 +39,7 @@ returns-clause-moves g c = λ s old.
     let out = stream_of g.W.Write.contents c.args.out.now in
     let f : EngineState g.row.S.Denot = record { symbols = (g.P.PlanSource.plan c.self.inside.plan).symbols; lines = c.skip_text-skipped.new.lines; printer = c.skip_text-skipped.new.self; buffered = c.append.new.self; fault = c.self.inside.fault } in
     let now = stream_of g.W.Write.contents c.append.new.out in
-    subst (λ (e : EngineState g.row.S.Denot). Advances g.S.Show.represents g.S.Show.piece f s.options s.pieces s.text s.printed
+    subst (λ (e : EngineState g.row.S.Denot). EngineAdvances g.S.Show.represents g.S.Show.piece f s.options s.pieces s.text s.printed
     (slice_between c.args.chunk.now c.args.cursor.pos (c.args.cursor.pos + c.skip_text-skipped.result.count)) out now
     (e.buffered ++ slice_between c.args.chunk.now c.args.cursor.pending_start c.args.cursor.pos)
     (c.append.new.self ++ slice_between c.args.chunk.now (c.args.cursor.pos + c.skip_text-skipped.result.count) (c.args.cursor.pos + c.skip_text-skipped.result.count))) c.self.view_is

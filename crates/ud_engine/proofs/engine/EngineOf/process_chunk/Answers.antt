@@ -1,5 +1,5 @@
 use Rattle.std.proofs.Common.{rules, refl, sym, ap, subst, ◌∙◌, ◌++◌, ℕ, [], take, arith}
-use Rattle.ud_engine.specs.Advancing.{Advances, IsCursor, slice_between}
+use Rattle.ud_engine.specs.Advancing.{EngineAdvances, IsCursor, slice_between}
 use Rattle.ud_engine.specs.Feeding.{EngineState, longer}
 use Rattle.ud_io.specs.Streams.{stream_of, Accepts}
 use Rattle.ud_engine.specs.declared.engine.Cursor.{Cursor}
@@ -12,7 +12,7 @@ loop-cursor-init g c = record {
   fault = refl;
   taken = λ s h.
       let a = stream_of g.W.Write.contents c.args.out.now in
-      let begun = λ (at from : ℕ). Advances g.S.Show.represents g.S.Show.piece c.args.self.now s.options s.pieces s.text s.printed (take at c.args.chunk.now) a a []
+      let begun = λ (at from : ℕ). EngineAdvances g.S.Show.represents g.S.Show.piece c.args.self.now s.options s.pieces s.text s.printed (take at c.args.chunk.now) a a []
       (c.args.self.now.buffered ++ slice_between c.args.chunk.now from at) in
       subst (λ n. begun n c.cursor_at-cursor.result.pending_start) (sym c.cursor_at-cursor.ensures.at)
       (subst (λ n. begun 0 n) (sym c.cursor_at-cursor.ensures.from)

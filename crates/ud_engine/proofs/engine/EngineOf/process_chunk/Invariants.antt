@@ -1,5 +1,5 @@
 use Rattle.std.proofs.Common.{◌≡◌, ◌++◌, [], take}
-use Rattle.ud_engine.specs.Advancing.{Advances, IsCursor, slice_between, measure}
+use Rattle.ud_engine.specs.Advancing.{EngineAdvances, IsCursor, slice_between, measure}
 use Rattle.ud_engine.specs.Feeding.{Session, IsInSession}
 use Rattle.ud_io.specs.Streams.{stream_of}
 use Rattle.ud_engine.proofs.engine.EngineOf.process_chunk.Given as goal
@@ -9,7 +9,7 @@ invariant-loop-cursor g l = record {
   place : IsCursor g.H.LineBuffer.CAPACITY l.self.lines l.chunk l.cursor;
   fault : l.self.fault ≡ l.initial.self.fault;
   taken : (s : Session) → IsInSession g.S.Show.represents g.S.Show.piece l.initial.self s →
-      Advances g.S.Show.represents g.S.Show.piece l.self s.options s.pieces s.text s.printed (take l.cursor.pos l.chunk)
+      EngineAdvances g.S.Show.represents g.S.Show.piece l.self s.options s.pieces s.text s.printed (take l.cursor.pos l.chunk)
       (stream_of g.W.Write.contents l.initial.out) (stream_of g.W.Write.contents l.out) [] (l.self.buffered ++ slice_between l.chunk l.cursor.pending_start l.cursor.pos);
 }
 

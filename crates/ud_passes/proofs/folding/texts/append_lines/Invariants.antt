@@ -1,12 +1,12 @@
 -- The folded lines so far were appended.
 use Rattle.std.proofs.Common.{length}
-use Rattle.ud_passes.specs.Passes.{Grows}
+use Rattle.ud_passes.specs.Passes.{AppendsSome}
 use Rattle.ud_passes.specs.folding.Folding.{Folded}
 use Rattle.ud_passes.proofs.folding.texts.append_lines.Given as goal
 
 abbrev pub invariant-lines : goal.invariant-lines
 invariant-lines l = record {
-  grows : Grows l.fn.out.items l.out.items;
+  grows : AppendsSome l.fn.out.items l.out.items;
   folded : Folded l.text l.fn.out.items l.logical l.begun l.walk l.out.items;
 }
 

@@ -1,12 +1,12 @@
 -- The conditions of the lines so far were counted.
 use Rattle.std.proofs.Common.{◌+◌, ◌≤◌, ◌<◌, length}
-use Rattle.ud_passes.specs.Passes.{Grows}
+use Rattle.ud_passes.specs.Passes.{AppendsSome}
 use Rattle.ud_passes.specs.names.UnlistedLines.{Listed}
 use Rattle.ud_passes.proofs.names.texts.File.append_unlisted.Given as goal
 
 abbrev pub invariant-loop-alloc : goal.invariant-loop-alloc
 invariant-loop-alloc l = record {
-  grows : Grows l.fn.out.items l.out.items;
+  grows : AppendsSome l.fn.out.items l.out.items;
   room : l.found.number + length l.walk.rest.now ≤ 1 + length l.text;
   fewer : l.found.count < l.found.number;
   listed : Listed l.self l.text l.fn.out.items l.found l.walk l.out.items;

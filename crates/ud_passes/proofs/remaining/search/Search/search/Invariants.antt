@@ -2,13 +2,13 @@
 use Rattle.std.proofs.Common.{◌≡◌, ◌+◌, ◌≤◌, List, length}
 use Rattle.ud_model.specs.conditions.Table.{Argument}
 use Rattle.ud_cond.specs.symbols.SymbolTable.{TableRepresents}
-use Rattle.ud_passes.specs.Passes.{Grows}
+use Rattle.ud_passes.specs.Passes.{AppendsSome}
 use Rattle.ud_passes.specs.remaining.Searches.{Searched}
 use Rattle.ud_passes.proofs.remaining.search.Search.search.Given as goal
 
 abbrev pub invariant-loop-mode : goal.invariant-loop-mode
 invariant-loop-mode l = record {
-  grows : Grows l.fn.self.list.items l.self.list.items;
+  grows : AppendsSome l.fn.self.list.items l.self.list.items;
   listing : l.self.listing ≡ l.fn.self.listing;
   room : l.place.number + length l.walk.rest.now ≤ 1 + length l.text;
   searched : (calls : List Argument) → TableRepresents l.symbols calls → Searched calls l.mode l.name l.text l.fn.self l.self l.place l.walk;
