@@ -319,11 +319,15 @@ impl Symbols {
         ensures absent { IfErr result (λ i. IsGapFor self.now i name.now) }
         ensures sorted { AreSorted self.now }
     {
-        let i = self.rows.binary_search_by_key(&key, |row| row.key())?;
-        if self.rows[i].has_name(name) {
-            return Ok(i);
+        match self.rows.binary_search_by_key(&key, |row| row.key()) {
+            Err(i) => Err(i),
+            Ok(i) => {
+                if self.rows[i].has_name(name) {
+                    return Ok(i);
+                }
+                self.binary_search_same_key(key, name)
+            }
         }
-        self.binary_search_same_key(key, name)
     }
 
     /// Finds the position as `binary_search` does, if rows of other names have the same key.

@@ -7,7 +7,7 @@ use Rattle.ud_model.specs.answer.Printing.{Judged}
 use Rattle.ud_model.specs.answer.Outcomes.{lines_so_far}
 use Rattle.ud_model.specs.declared.settings.Listing.{Listing}
 use Rattle.ud_model.specs.declared.limits.TheConstants.{TEXT_LINES}
-use Rattle.ud_text.specs.lines.LinesState.{LinesState}
+use Rattle.ud_text.specs.lines.LinesState.{LinesState, untaken}
 use Rattle.ud_faults.specs.Faults.{fault_of, limit_of}
 use Rattle.ud_faults.specs.declared.run.RunFault.{RunFault}
 use Rattle.ud_faults.specs.declared.run.RunFault.TheVariants.{Text, Section, Read, Write}
@@ -36,13 +36,13 @@ pub in_session : {S : Type 0} (represents : S → List Judged → Type 0) (piece
 in_session represents piece_of e h k l = grind arith
 
 -- At first, bytes can be taken.
-pub open_new : (lines : LinesState) → lines ≡ record { held = []; whole = false; before = 0; closed = false; fault = None; last_line = TEXT_LINES } → IsOpen lines
+pub open_new : (lines : LinesState) → lines ≡ untaken TEXT_LINES → IsOpen lines
 open_new lines h = grind arith
 
-pub none_count : (lines : LinesState) → lines ≡ record { held = []; whole = false; before = 0; closed = false; fault = None; last_line = TEXT_LINES } → lines.before ≤ TEXT_LINES
+pub none_count : (lines : LinesState) → lines ≡ untaken TEXT_LINES → lines.before ≤ TEXT_LINES
 none_count lines is = let z = ap (λ (l : LinesState). l.before) is in omega (arith, z)
 
-pub none_begun : (lines : LinesState) → lines ≡ record { held = []; whole = false; before = 0; closed = false; fault = None; last_line = TEXT_LINES } →
+pub none_begun : (lines : LinesState) → lines ≡ untaken TEXT_LINES →
     0 < length lines.held → lines.before < TEXT_LINES
 none_begun lines is some = let z = ap (λ (l : LinesState). length l.held) is in omega (arith, z, some)
 

@@ -16,7 +16,7 @@ ghost use Rattle.ud_model.specs.text.Lines.{is_ending, IsWhole};
 ghost use Rattle.ud_text.specs.lines.Borrowing.{CanBorrow, IsFirstLine};
 ghost use Rattle.ud_text.specs.lines.LinesState.{LinesRepresent, UpToNewline, BreaksLimit};
 ghost use Rattle.ud_text.specs.lines.LinesState.{with_fault, HasCapacity, IsComplete, IsLastLine};
-ghost use Rattle.ud_text.specs.lines.LinesState.{IsLineOf, Closes};
+ghost use Rattle.ud_text.specs.lines.LinesState.{IsLineOf, Closes, untaken};
 ghost use Rattle.ud_model.specs.aids.LineViews.{as_line};
 ghost use Rattle.ud_text.specs.lines.Consuming.{CanConsume, EachFits};
 ghost use Rattle.ud_text.specs.bulk.BulkScanning.{AreWholeLines};
@@ -92,14 +92,7 @@ impl Lines<LongLineBuffer> {
     pub fn new(last_line: u32) -> Lines<LongLineBuffer>
         requires low { 1 ≤ last_line }
         requires high { last_line ≤ TEXT_LINES }
-        ensures value { result ≡ record {
-          held = [];
-          whole = false;
-          before = 0;
-          closed = false;
-          fault = None;
-          last_line = last_line;
-        } }
+        ensures value { result ≡ untaken last_line }
         ensures represents { LinesRepresent result [] }
     {
         Lines::with_buffer(last_line)
@@ -111,14 +104,7 @@ impl<H: LineBuffer> Lines<H> {
     pub fn with_buffer(last_line: u32) -> Lines<H>
         requires low { 1 ≤ last_line }
         requires high { last_line ≤ TEXT_LINES }
-        ensures value { result ≡ record {
-          held = [];
-          whole = false;
-          before = 0;
-          closed = false;
-          fault = None;
-          last_line = last_line;
-        } }
+        ensures value { result ≡ untaken last_line }
         ensures represents { LinesRepresent result [] }
     {
         Lines {
@@ -426,14 +412,7 @@ impl<H: LineBuffer> Lines<H> {
     /// Resets to the beginning of a new text with the same limit, whatever was taken before. Clears
     /// any error.
     pub fn reset(&mut self)
-        ensures value { self.new ≡ record {
-          held = [];
-          whole = false;
-          before = 0;
-          closed = false;
-          fault = None;
-          last_line = self.old.last_line;
-        } }
+        ensures value { self.new ≡ untaken self.old.last_line }
         ensures represents { LinesRepresent self.new [] }
     {
         self.buffer.clear();

@@ -87,6 +87,13 @@ fn settled(strict: bool, operator: Operator, a: Cond, b: Cond) -> Cond
     }
 }
 
+/// Returns whether both are true.
+fn both(a: bool, b: bool) -> bool
+    ensures { result ≡ (a && b) }
+{
+    a && b
+}
+
 /// Keeps each token of a part, unless the whole part is kept already.
 fn keep_whole(whole: bool, flags: &mut TokenFlags, start: usize, end: usize)
     ensures kept { KeepsWhole whole flags.old start end flags.new }
@@ -184,7 +191,7 @@ impl Residuals<'_> {
             cond: settled(self.rules.strict, operator, a.cond, b.cond),
             lost: false,
             left_alone: false,
-            whole: a.whole && b.whole,
+            whole: both(a.whole, b.whole),
             ..joined
         }
     }
@@ -273,7 +280,7 @@ impl Keeper for Residuals<'_> {
 
     fn parens(&self, a: Part, flags: &mut TokenFlags) -> Part {
         let first = a.first.saturating_sub(1);
-        let stay = !(a.lost && a.left_alone);
+        let stay = !both(a.lost, a.left_alone);
         let end = flags.len();
         flags.fill(first, a.first, stay);
         flags.push(stay);
@@ -281,7 +288,7 @@ impl Keeper for Residuals<'_> {
         Part {
             left_alone: true,
             alone: true,
-            whole: stay && a.whole,
+            whole: both(stay, a.whole),
             first,
             kept: kept_in_parens(stay, first, a.kept, end, longer),
             ..a

@@ -21,6 +21,17 @@ pub record LinesState : Type 0 where
   pub fault : Option TextFault
   pub last_line : ℕ
 
+-- `untaken last`: the lines before the first byte of a text that may have `last` lines
+abbrev pub untaken : ℕ → LinesState
+untaken last = record {
+  held = [];
+  whole = false;
+  before = 0;
+  closed = false;
+  fault = None;
+  last_line = last;
+}
+
 -- `LinesRepresent lines text`: `text` was taken so far: it is the consumed lines, and the buffered
 -- bytes
 pub record LinesRepresent (lines : LinesState) (text : List ℕ) : Type 0 where
