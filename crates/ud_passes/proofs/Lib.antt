@@ -1,3 +1,15 @@
+-- Lemmas on the passes. These matter; the others serve them:
+--
+--   WalkLemmas.line_next          a walk goes a line further, or over text lines (`texts_next`)
+--   LeftLemmas.found_or_stays     when the rest of a condition's text takes its place
+--   PassLemmas.line_pruned        a pruned text grows by a line
+--   FitLemmas.fitting             if all lines fit, it is the simplified text
+--   FoldLemmas.takes_line         a folded text grows by a line
+--   RestoreLemmas.line_restored   a restored text, too
+--   FlatLemmas.lines_placed       each line of a flat text is at its number
+--   SearchLemmas.line_searched    the mentions of a text with a line more
+--   TableLemmas.table_of          the rows of a table are sorted
+--   UnlistedLemmas.line_found     the conditions that can't be listed, with a line more
 pub mod WalkLemmas
 pub mod UnlistedLemmas
 pub mod TableLemmas
