@@ -19,3 +19,6 @@ pub mod KeepLemmas
 mod PatternSetLemmas
 mod PatternPartLemmas
 mod PatternPlaceLemmas
+pub mod MeetingLemmas
+pub mod ReadingLemmas
+pub mod NamingLemmas

@@ -25,3 +25,10 @@ pub mod WalkMessages
 pub mod Streams
 pub mod Writing
 pub mod Visible
+pub mod Evidence
+pub mod Reading
+pub mod Opening
+pub mod Creating
+pub mod Changing
+pub mod Meeting
+pub mod Naming

@@ -6,7 +6,7 @@ ghost use Rattle.ud_tree.specs.Fates.{fate_of};
 ghost use Rattle.ud_tree.specs.Reports.{TellsOf};
 
 use crate::counts::Fate;
-use crate::folders::is_other_file;
+use crate::disk::is_other_file;
 use crate::job::Job;
 use crate::report::Report;
 use crate::tree::Tree;

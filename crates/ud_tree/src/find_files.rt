@@ -137,7 +137,7 @@ fn read_input<R: Read>(input: &mut Watched<R>, text: &mut Vec<u8>) -> Result<boo
 }
 
 /// Returns the paths in a text, each ended by a NUL, or the last one by the end of the text.
-fn split_paths(alloc: Global, text: &[u8]) -> Result<Vec<Vec<u8>>, AllocError>
+pub(crate) fn split_paths(alloc: Global, text: &[u8]) -> Result<Vec<Vec<u8>>, AllocError>
     ensures { IfOk result (λ paths. map (λ p. p.items) paths.items ≡ paths_of text.now) }
 {
     let mut paths = Vec::new(alloc);

@@ -18,7 +18,7 @@ use std::process::ExitCode;
 use std::{env, io};
 use ud_io::Watched;
 use ud_tree::{
-    Arguments, Disk, EXIT_TROUBLE, Job, Request, Task, parse_arguments, print_help,
+    Arguments, Calls, Disk, EXIT_TROUBLE, Job, Request, Task, parse_arguments, print_help,
     report_argument_fault, report_bad_argument, report_line, run_tree,
 };
 
@@ -115,7 +115,8 @@ fn run_to<W: Write + Drop>(rt: &HostRuntime, arguments: &Arguments, stdout: W) -
         arguments,
         is_terminal: stderr.is_terminal() && allows_counter(arguments) && !is_dumb(rt),
     };
-    let mut disk = Disk::new(rt, rt.alloc());
+    let calls = Calls::new(rt);
+    let mut disk = Disk::new(&calls, rt.alloc());
     let mut input = Watched::new(rt.stdin());
     let mut out = Watched::new(stdout);
     let err = Watched::new(stderr);

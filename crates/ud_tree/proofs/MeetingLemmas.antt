@@ -1,0 +1,24 @@
+-- MeetingLemmas: what stays if a folder is met for the first time.
+use Rattle.std.proofs.Common.{◌≡◌, ℕ, List, Bool, true, false, Some, None, Option, IsSome, IsNone, is_some, refl, sym, ap, ◌∙◌, subst, cond, string_bytes, nat_cmp}
+use Rattle.std.specs.Cmp.Lexicographic.{slice_cmp}
+use Rattle.std.specs.Str.{bytes_eq}
+use Rattle.std.specs.Map.{update}
+use Rattle.std.specs.BTreeMap as tree
+use Rattle.std.specs.BTreeMap.{BTreeMap, get_by_text}
+use Rattle.std.specs.String.{string_cmp}
+use Rattle.std.specs.declared.string.String.{String}
+use Rattle.std.proofs.lemmas.Slice.Eq.{bytes_eq-Decides}
+use Rattle.std.proofs.lemmas.Map.Text.{btree_map_updates_text}
+use Rattle.ud_tree.specs.declared.disk.folders.Met.{Met}
+use Rattle.ud_tree.specs.Meeting.{KeepsMet}
+
+unless_true : (b : Bool) → ¬ (b ≡ true) → b ≡ false
+unless_true true not_true = absurd (not_true refl)
+unless_true false not_true = refl
+
+-- What is known of the other folders stays.
+pub keeps_first : {Y : Type 0} (bs : List ℕ) (m n : BTreeMap (String Y) Met) (w : Option Met) → IsNone (get_by_text m bs) → tree.UpdatesBy string_cmp (λ k. slice_cmp nat_cmp bs (string_bytes k)) m n w → KeepsMet m n
+keeps_first bs m n w none u folder some =
+    let apart : ¬ (bs ≡ folder) = λ same. let absent : is_some (get_by_text m folder) ≡ false = subst (λ f. is_some (get_by_text m f) ≡ false) same none in cc in
+    let other : bytes_eq bs folder ≡ false = unless_true (bytes_eq bs folder) (λ alike. apart ((bytes_eq-Decides bs folder).0 alike)) in
+    btree_map_updates_text bs m n w u folder ∙ ap (λ b. cond b w (get_by_text m folder)) other

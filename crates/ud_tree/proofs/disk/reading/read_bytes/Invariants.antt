@@ -1,0 +1,6 @@
+use Rattle.std.specs.Io.KnownBytes.{Consumes}
+use Rattle.ud_tree.proofs.disk.reading.read_bytes.Given as goal
+
+abbrev pub invariant-loop-block : goal.invariant-loop-block
+invariant-loop-block g l =
+    Consumes (g.F.Read.remaining l.initial.file) (g.F.Read.remaining l.file) l.text.items
