@@ -19,6 +19,7 @@ pub mod TreeRuns
 pub mod TreeDiffs
 pub mod Summaries
 pub mod Messages
+pub mod ArgumentMessages
 pub mod Shown
 pub mod Lists
 pub mod WalkMessages

@@ -4,10 +4,13 @@
 --   last_name path        the bytes after its last slash
 --   fresh_end path        the end of the name of a new file
 --   fresh_name path       the name of a new file in the same folder
+--   escaped name          a name in ASCII, with each other byte shown
 --
 -- Example: beside `src/a.c` a run makes the file `src/.unifdef-tree.a.c`.
 use Rattle.std.specs.Prelude.{ℕ, suc, List, [], ◌∷◌, ◌++◌, take, drop, ◌==◌, ◌||◌, codes}
-use Rattle.std.specs.Prelude.{if◌then◌else◌, length, nat_lt}
+use Rattle.std.specs.Prelude.{if◌then◌else◌, length, nat_lt, ◌/◌, ◌%◌}
+use Rattle.std.specs.List.{flat_map}
+use Rattle.ud_tree.specs.Visible.{hex_digit}
 
 -- `slash`: the byte between the names of a path.
 abbrev pub slash : ℕ
@@ -31,3 +34,14 @@ fresh_end path = if nat_lt 240 (length (last_name path)) then codes "long" else 
 abbrev pub fresh_name : List ℕ → List ℕ
 fresh_name path = take (folder_len path) path ++ codes ".unifdef-tree." ++
     fresh_end path
+
+-- `escaped_byte b`: the byte `b` if it is printable ASCII and no backslash, else `\x` and its two
+-- hexadecimal digits.
+unfoldable pub escaped_byte : ℕ → List ℕ
+escaped_byte b = if nat_lt b 32 || nat_lt 126 b || b == 92
+    then 92 ∷ 120 ∷ hex_digit (b / 16) ∷ hex_digit (b % 16) ∷ [] else b ∷ []
+
+-- `escaped name`: the name with each byte that isn't printable ASCII, and each backslash, as `\x`
+-- and its two hexadecimal digits.
+unfoldable pub escaped : List ℕ → List ℕ
+escaped name = flat_map escaped_byte name

@@ -1,10 +1,12 @@
 //! Paths: their last names, and names for new files.
 
-ghost use Rattle.std.specs.Prelude.{◌≡◌, ◌≤◌, length, take, IfOk, string_bytes};
+ghost use Rattle.std.specs.Prelude.{◌≡◌, ◌≤◌, ◌++◌, length, take, IfOk, OnOk, string_bytes};
 ghost use Rattle.ud_tree.specs.Choices.{is_fresh};
 ghost use Rattle.ud_tree.specs.Covering.{IsFolderPath};
-ghost use Rattle.ud_tree.specs.Paths.{folder_len, fresh_end, fresh_name, last_name};
+ghost use Rattle.ud_tree.specs.Paths.{escaped, escaped_byte, folder_len, fresh_end, fresh_name};
+ghost use Rattle.ud_tree.specs.Paths.{last_name};
 
+use crate::send::hex_digit;
 use std::alloc::{AllocError, Global};
 
 /// The beginning of the name of each new file.
@@ -92,10 +94,17 @@ pub(crate) fn fresh_name(alloc: Global, path: &[u8]) -> Result<Vec<u8>, AllocErr
     Ok(fresh)
 }
 
-/// Appends the hexadecimal digit of a number below 16.
-fn push_digit(out: &mut Vec<u8>, digit: u8) -> Result<(), AllocError> {
-    let base = if digit < 10 { b'0' } else { b'a' - 10 };
-    out.push(base.saturating_add(digit))?;
+/// Appends a byte, or `\x` and two hexadecimal digits if it isn't printable ASCII or is a backslash.
+#[tactic(auto, unfolding(crate::specs::Paths::escaped_byte))]
+fn push_escaped(out: &mut Vec<u8>, byte: u8) -> Result<(), AllocError>
+    ensures { OnOk result (out.new.items ≡ out.old.items ++ escaped_byte byte) }
+{
+    if byte < b' ' || byte > b'~' || byte == b'\\' {
+        let digits = [b'\\', b'x', hex_digit(byte / 16), hex_digit(byte % 16)];
+        out.extend_from_slice(&digits)?;
+        return Ok(());
+    }
+    out.push(byte)?;
     Ok(())
 }
 
@@ -104,16 +113,13 @@ fn push_digit(out: &mut Vec<u8>, digit: u8) -> Result<(), AllocError> {
 ///
 /// # Errors
 /// Fails if memory runs out.
-pub(crate) fn escaped(alloc: Global, name: &[u8]) -> Result<Vec<u8>, AllocError> {
+#[tactic(auto, unfolding(crate::specs::Paths::escaped))]
+pub(crate) fn escaped(alloc: Global, name: &[u8]) -> Result<Vec<u8>, AllocError>
+    ensures { IfOk result (λ shown. shown.items ≡ escaped name.now) }
+{
     let mut out = Vec::new(alloc);
     for byte in name {
-        if matches!(*byte, b' '..=b'~') && *byte != b'\\' {
-            out.push(*byte)?;
-        } else {
-            out.extend_from_slice(b"\\x")?;
-            push_digit(&mut out, *byte / 16)?;
-            push_digit(&mut out, *byte % 16)?;
-        }
+        push_escaped(&mut out, *byte)?;
     }
     Ok(out)
 }

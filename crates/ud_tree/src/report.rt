@@ -5,10 +5,12 @@
 //! shown during the run, and removed before each message.
 
 ghost use Rattle.std.specs.Prelude.{◌≡◌, List, [], ◌++◌, true};
-ghost use Rattle.std.specs.Prelude.{if◌then◌else◌, OnOk};
+ghost use Rattle.std.specs.Prelude.{encode_utf8, if◌then◌else◌, OnOk};
 ghost use Rattle.std.specs.List.{flat_map};
 ghost use Rattle.unifdef.specs.RunMessages.{fault_message};
 ghost use Rattle.ud_replace.specs.Calls.{met};
+ghost use Rattle.ud_tree.specs.ArgumentMessages.{IsCut, RefusesArgument, argument_message};
+ghost use Rattle.ud_tree.specs.ArgumentMessages.{in_its_place, mode_of};
 ghost use Rattle.ud_tree.specs.Messages.{IsFailureOf, IsTextMessage, fault_line, locked_line};
 ghost use Rattle.ud_tree.specs.Reports.{KeepsScreen, ReportsOf, ReportsOne, Says, Tells, TellsOf};
 ghost use Rattle.ud_tree.specs.Reports.{counted, new_report};
@@ -89,7 +91,9 @@ fn report_text<E: Write>(
 }
 
 /// Returns the text of an error of the system without its number.
-fn without_code(text: &str) -> &str {
+fn without_code(text: &str) -> &str
+    ensures { IsCut text.now result.now }
+{
     match text.rsplit_once(" (os error ") {
         Some((reason, _)) => reason,
         None => text,
@@ -376,11 +380,18 @@ impl<E: Write> Report<E> {
 
 /// Writes that an argument isn't UTF-8. Files with such names are found in their folders, each with a
 /// fault of its own.
-pub fn report_bad_argument<E: Write>(alloc: Global, err: &mut Watched<E>, argument: &[u8]) {
+pub fn report_bad_argument<E: Write>(alloc: Global, err: &mut Watched<E>, argument: &[u8])
+    ensures { RefusesArgument argument.now (stream_of E.contents err.old)
+        (stream_of E.contents err.new) }
+{
     match escaped(alloc, argument) {
         Ok(shown) => {
             let shown = shown.as_slice();
-            report_line(alloc, err, &[shown, b": Argument isn't UTF-8; name its folder"]);
+            report_line(
+                alloc,
+                err,
+                &[shown, b": Argument isn't UTF-8; name its folder"],
+            );
         }
         Err(_) => report_line(alloc, err, &[b"Out of memory"]),
     }
@@ -391,7 +402,10 @@ pub(crate) const USAGE: &[u8] =
     b"usage: unifdef-tree [-dnpqrw0] [-g pattern]... [-bcKklt] [-Dsym[=val]]... [-Usym]...\n                    [-iDsym[=val]]... [-iUsym]... [-xmode] [--] path...\n       unifdef-tree -s [-qr0] [-g pattern]... [-t] [--] path...\n       unifdef-tree -h | -V\n";
 
 /// Writes the message of a fault of the arguments.
-pub fn report_argument_fault<E: Write>(alloc: Global, err: &mut Watched<E>, fault: &ArgumentFault) {
+pub fn report_argument_fault<E: Write>(alloc: Global, err: &mut Watched<E>, fault: &ArgumentFault)
+    ensures { Sends (stream_of E.contents err.old) (stream_of E.contents err.new)
+        (argument_message fault.now) }
+{
     match fault {
         ArgumentFault::UnknownOption(letter) => {
             report_letter(
@@ -410,9 +424,7 @@ pub fn report_argument_fault<E: Write>(alloc: Global, err: &mut Watched<E>, faul
             report_line(alloc, err, &[b"Bad symbol: ", word.as_bytes()]);
         }
         ArgumentFault::BadMode(word) => {
-            let word = word.as_bytes();
-            let mode = word.strip_prefix(b"-x".as_slice()).unwrap_or(word);
-            report_line(alloc, err, &[b"Bad exit mode: ", mode]);
+            report_line(alloc, err, &[b"Bad exit mode: ", mode_of(word.as_bytes())]);
         }
         ArgumentFault::BesideNames(letter) => {
             report_letter(alloc, err, b"-", *letter, b" and -s don't go together");
@@ -444,8 +456,20 @@ pub fn report_argument_fault<E: Write>(alloc: Global, err: &mut Watched<E>, faul
     }
 }
 
+/// Returns the exit mode in an argument of `-x`, which may have the option before it.
+fn mode_of(word: &[u8]) -> &[u8]
+    ensures { result.now ≡ mode_of word.now }
+{
+    if word.starts_with(b"-x") {
+        return &word[2..];
+    }
+    word
+}
+
 /// Returns what to use instead of an option of unifdef(1), version 2.12, that isn't one here.
-fn in_its_place(letter: char) -> &'static [u8] {
+fn in_its_place(letter: char) -> &'static [u8]
+    ensures { result.now ≡ in_its_place letter }
+{
     match letter {
         'B' => b": blank lines stay as they are",
         'e' => b": what can't be edited is left as it is, and named",
@@ -466,7 +490,10 @@ fn report_letter<E: Write>(
     before: &[u8],
     letter: char,
     after: &[u8],
-) {
+)
+    ensures { Sends (stream_of E.contents err.old) (stream_of E.contents err.new)
+        (line_of (before.now ++ encode_utf8 letter ++ after.now)) }
+{
     let mut buffer = [0; 4];
     let bytes = letter.encode_utf8(&mut buffer).as_bytes();
     report_line(alloc, err, &[before, bytes, after]);

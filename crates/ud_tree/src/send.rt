@@ -10,7 +10,7 @@ use ud_io::{Watched, send};
 
 /// Returns the hexadecimal digit of a number below 16.
 #[tactic(auto, unfolding(crate::specs::Visible::hex_digit))]
-fn hex_digit(number: u8) -> u8
+pub(crate) fn hex_digit(number: u8) -> u8
     requires { number < 16 }
     ensures { result ≡ hex_digit number }
 {
