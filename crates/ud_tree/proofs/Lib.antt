@@ -16,6 +16,8 @@ mod ShownLemmas
 pub mod PickLemmas
 pub mod RemainderLemmas
 pub mod KeepLemmas
+pub mod MarkLemmas
+pub mod PrintLemmas
 mod PatternSetLemmas
 mod PatternPartLemmas
 mod PatternPlaceLemmas

@@ -1,4 +1,5 @@
 pub mod Marks
+pub mod FoldedMarks
 pub mod Paths
 pub mod Statuses
 pub mod Fates

@@ -3,34 +3,52 @@
 //! The run over the folded text gives each of its lines a mark. Here each mark becomes the marks of
 //! the lines that the folded line represents.
 
+ghost use Rattle.std.specs.Prelude.{◌≡◌, ◌-◌, ◌<◌, ◌++◌, [], ◌∷◌, ◌==◌};
+ghost use Rattle.std.specs.Prelude.{length, IfOk, IfSome, OnOk, if◌then◌else◌};
+ghost use Rattle.ud_model.specs.text.Lines.{texts_of};
+ghost use Rattle.ud_model.specs.declared.settings.Listing.TheVariants.{Off};
+ghost use Rattle.ud_model.specs.output.FoldedTexts.{folded_text};
+ghost use Rattle.ud_args.specs.Plans.{ForOptionsOf};
+ghost use Rattle.ud_tree.specs.FoldedMarks.{AreFoldedMarks, first_stay, represented, stays};
+ghost use Rattle.ud_tree.specs.FoldedMarks.{unfolded};
+ghost use Rattle.ud_tree.specs.Marks.{first_text, later_texts};
+
 use crate::file_diff::marks_of;
 use crate::job::Job;
+use crate::marked::REMOVED;
 use std::alloc::{AllocError, Global};
 use ud_diff::{EDITED, SAME};
 use ud_passes::fold;
 use ud_text::line_in;
 
-/// The mark of a line that is removed.
-const REMOVED: u8 = b'-';
-
 /// The vertical tab, which represents a newline that continues a directive.
 const VERTICAL_TAB: u8 = 11;
 
 /// Returns the first line of a text, and the rest.
-pub(crate) fn first_line(text: &[u8]) -> (&[u8], &[u8]) {
+pub(crate) fn first_line(text: &[u8]) -> (&[u8], &[u8])
+    ensures first { result.0.now ≡ first_text (texts_of text.now) }
+    ensures rest { texts_of result.1.now ≡ later_texts (texts_of text.now) }
+    ensures shorter { 0 < length text.now → length result.1.now < length text.now }
+{
     let line = line_in(text, 1);
     let used = line.body.len() + line.ending.len();
     text.split_at(used)
 }
 
 /// Returns how many lines a folded line represents.
-fn lines_of(folded: &[u8]) -> usize {
+fn lines_of(folded: &[u8]) -> usize
+    ensures { result ≡ represented folded.now }
+{
     let tabs = folded.iter().filter(|byte| **byte == VERTICAL_TAB).count();
-    tabs.saturating_add(1)
+    tabs + 1
 }
 
 /// Appends the mark of a line, if `left` lines stay from here on. Returns how many stay after it.
-fn push_mark(left: usize, marks: &mut Vec<u8>) -> Result<usize, AllocError> {
+fn push_mark(left: usize, marks: &mut Vec<u8>) -> Result<usize, AllocError>
+    ensures left { IfOk result (λ after. after ≡ left - 1) }
+    ensures mark { OnOk result (marks.new.items ≡
+        marks.old.items ++ (if left == 0 then REMOVED else SAME) ∷ []) }
+{
     if left == 0 {
         marks.push(REMOVED)?;
         return Ok(0);
@@ -40,12 +58,13 @@ fn push_mark(left: usize, marks: &mut Vec<u8>) -> Result<usize, AllocError> {
 }
 
 /// Appends the marks of the lines that a folded line represents, of which the first `stay` stay.
-fn push_marks(folded: &[u8], stay: usize, marks: &mut Vec<u8>) -> Result<(), AllocError> {
-    let mut left = push_mark(stay, marks)?;
-    for byte in folded {
-        if *byte == VERTICAL_TAB {
-            left = push_mark(left, marks)?;
-        }
+fn push_marks(folded: &[u8], stay: usize, marks: &mut Vec<u8>) -> Result<(), AllocError>
+    ensures { OnOk result (marks.new.items ≡
+        marks.old.items ++ first_stay (represented folded.now) stay) }
+{
+    let mut left = stay;
+    for _line in 0..lines_of(folded) {
+        left = push_mark(left, marks)?;
     }
     Ok(())
 }
@@ -56,26 +75,39 @@ fn marks_by(
     folded_marks: &[u8],
     folded: &[u8],
     output: &[u8],
-) -> Result<Vec<u8>, AllocError> {
+) -> Result<Vec<u8>, AllocError>
+    ensures { IfOk result (λ marks. marks.items ≡
+        unfolded folded_marks.now (texts_of folded.now) (texts_of output.now)) }
+{
     let mut marks = Vec::new(alloc);
     let mut rest = folded;
     let mut printed = output;
     for mark in folded_marks {
         let (line, later) = first_line(rest);
         rest = later;
-        let mut stay = 0;
-        if *mark == SAME || *mark == EDITED {
-            let (edited, after) = first_line(printed);
+        if stays(*mark) {
+            let (shown, after) = first_line(printed);
             printed = after;
-            stay = lines_of(edited);
+            push_marks(line, lines_of(shown), &mut marks)?;
+        } else {
+            push_marks(line, 0, &mut marks)?;
         }
-        push_marks(line, stay, &mut marks)?;
     }
     Ok(marks)
 }
 
+/// Returns whether a line with this mark stays: it is the same, or another line replaces it.
+fn stays(mark: u8) -> bool
+    ensures { result ≡ stays mark }
+{
+    mark == SAME || mark == EDITED
+}
+
 /// Returns the marks of a text that is folded; `None` if it isn't folded, or if memory runs out.
-pub(crate) fn folded_marks(job: &Job<'_>, text: &[u8], output: &[u8]) -> Option<Vec<u8>> {
+pub(crate) fn folded_marks(job: &Job<'_>, text: &[u8], output: &[u8]) -> Option<Vec<u8>>
+    ensures { IfSome result (λ marks. ForOptionsOf job.now.arguments.now.plan.run (λ o.
+        o.settings.listing ≡ Off → AreFoldedMarks o text.now output.now marks.items)) }
+{
     if !job.folds() {
         return None;
     }

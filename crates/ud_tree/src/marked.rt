@@ -6,11 +6,12 @@ use ud_sections::{LineOutput, Pieces, Show, Step};
 use ud_text::Line;
 
 /// The mark of a line that is removed.
-const REMOVED: u8 = 0;
+pub(crate) const REMOVED: u8 = 0;
 
 /// A printer that prints each line that stays as it is, and a mark in place of each other one:
 /// `EDITED` for a line that another one replaces, and `REMOVED` if nothing is printed. So many lines
-/// that stay are printed at once.
+/// that stay are printed at once. A newline follows each mark, so the output has as many lines as
+/// the text.
 #[derive(Drop)]
 pub(crate) struct Marked {
     /// True if removed lines are blanked.
@@ -42,9 +43,9 @@ impl Show for Marked {
             return pieces;
         }
         let mark: &'a [u8] = if step.verdict.is_removed() && !self.blank {
-            &[REMOVED]
+            &[REMOVED, b'\n']
         } else {
-            &[EDITED]
+            &[EDITED, b'\n']
         };
         let alone = Step {
             verdict: Verdict::Remove,
