@@ -4,6 +4,10 @@
 //! name (or standard input), and the standard streams.
 #![tactic(auto)]
 
+ghost use Rattle.std.specs.Prelude.{◌≡◌, map, option_and_then, slice_get, string_bytes};
+ghost use Rattle.std.specs.Option.{option_copied};
+ghost use Rattle.ud_model.specs.answer.CommandLine.{input_of};
+
 use std::alloc::AllocError;
 use std::fs::File;
 use std::io::Read;
@@ -29,7 +33,10 @@ fn main(rt: HostRuntime) -> ExitCode {
 }
 
 /// Returns the name of the input file, if the arguments name one.
-fn file_name(args: &[String]) -> Option<&str> {
+fn file_name(args: &[String]) -> Option<&str>
+    ensures { option_copied result ≡ option_and_then
+        (λ index. slice_get (map string_bytes args.now) index) (input_of (map string_bytes args.now)) }
+{
     let index = input_of(args)?;
     Some(args.get(index)?.as_str())
 }
