@@ -97,7 +97,11 @@ pub(crate) fn append_line(line: &Line<'_>, out: &mut Vec<u8>) -> Result<(), Allo
 
 impl LogicalLine {
     /// Returns a logical line without bytes.
-    pub(crate) fn new(alloc: Global) -> LogicalLine {
+    pub(crate) fn new(alloc: Global) -> LogicalLine
+        ensures plain { result.plain.items ≡ [] }
+        ensures body { result.body.items ≡ [] }
+        ensures shown { result.shown.items ≡ [] }
+    {
         LogicalLine {
             plain: Vec::new(alloc),
             body: Vec::new(alloc),

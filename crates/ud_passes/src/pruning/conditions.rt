@@ -3,7 +3,8 @@
 //! `residual` gives a flag for each token, and the flags decide what is copied. The copy replaces
 //! the text if it has exactly the tokens that are left, and is still unknown.
 
-ghost use Rattle.std.specs.Prelude.{◌≡◌, ◌≤◌, List, length, map, true, false, Some, IfOk, IsTrue};
+ghost use Rattle.std.specs.Prelude.{◌≡◌, ◌≤◌, List, [], length, map, true, false, Some, IfOk};
+ghost use Rattle.std.specs.Prelude.{IsTrue};
 ghost use Rattle.ud_model.specs.text.Lexemes.{Cell, shown};
 ghost use Rattle.ud_model.specs.conditions.Table.{Argument};
 ghost use Rattle.ud_model.specs.conditions.Expressions.{Expression};
@@ -79,7 +80,10 @@ fn may_stand(text: &[u8], flags: &[bool], left: &[u8], symbols: &Symbols, rules:
 
 impl LeftCondition {
     /// Returns an empty rest.
-    pub(crate) fn new(alloc: Global) -> LeftCondition {
+    pub(crate) fn new(alloc: Global) -> LeftCondition
+        ensures bytes { result.text.bytes.items ≡ [] }
+        ensures shown { result.text.shown.items ≡ [] }
+    {
         LeftCondition {
             flags: TokenFlags::new(),
             text: LeftText::new(alloc),

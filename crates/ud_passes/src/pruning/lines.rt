@@ -146,7 +146,9 @@ fn takes_place(
 
 impl LineEditor {
     /// Returns an editor.
-    pub(crate) fn new(alloc: Global) -> LineEditor {
+    pub(crate) fn new(alloc: Global) -> LineEditor
+        ensures { result.bytes.items ≡ [] }
+    {
         LineEditor {
             condition: LeftCondition::new(alloc),
             bytes: Vec::new(alloc),
