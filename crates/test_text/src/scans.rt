@@ -2,7 +2,7 @@
 
 use std::test::Fail;
 use ud_model::{CommentAt, Mode};
-use ud_text::{Line, Scan, Scanner, first_mark};
+use ud_text::{Line, Lines, Scan, Scanner, first_mark};
 
 #[test]
 fn a_comment_joins_two_lines(rt: HostRuntime) -> Result<(), Fail> {
@@ -37,6 +37,19 @@ fn a_comment_joins_two_lines(rt: HostRuntime) -> Result<(), Fail> {
     };
     assert_eq!(rt; scanner.read(Mode::C, &second), closing);
     assert!(rt; !scanner.in_comment());
+    Ok(())
+}
+
+#[test]
+fn a_buffered_line_is_scanned(rt: HostRuntime) -> Result<(), Fail> {
+    let mut lines = Lines::new(1);
+    let taken = lines.take(b"x /* c\n")?;
+    if !taken.whole {
+        return Err(Fail::new("the line has its line feed"));
+    }
+    let mut scanner = Scanner::new();
+    let scan = scanner.read(Mode::C, &lines.line());
+    assert_eq!(rt; scan.masked, b"x     ".as_slice());
     Ok(())
 }
 

@@ -356,6 +356,8 @@ impl<H: LineBuffer> Lines<H> {
         ensures fits { length result.body.now ≤ H.CAPACITY }
         ensures value { as_line result ≡ line_at (suc self.now.before) self.now.held }
         ensures bound { result.number ≤ self.now.last_line }
+        ensures one_line { (text : List ℕ) → LinesRepresent self.now text →
+            NoNewline result.body.now }
         ensures represents { (text : List ℕ) → LinesRepresent self.now text →
             IsLastLine text (line_at (suc self.now.before) self.now.held) }
         ensures whole { self.now.whole ≡ true → (text : List ℕ) → LinesRepresent self.now text →

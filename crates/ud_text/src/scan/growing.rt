@@ -46,7 +46,9 @@ pub struct GrowingBuffer {
 /// # Errors
 /// Fails if memory runs out.
 #[inline(never)]
-fn long_buffer(alloc: Global) -> Result<Box<LongLineBuffer>, AllocError> {
+fn long_buffer(alloc: Global) -> Result<Box<LongLineBuffer>, AllocError>
+    ensures { IfOk result (λ buffer. buffer.value.items ≡ []) }
+{
     Ok(Box::new(alloc, ArrayVec::new())?)
 }
 

@@ -1,9 +1,11 @@
 -- Buffering: what each call does to the lines of the bytes taken.
-use Rattle.std.proofs.Common.{◌≡◌, ℕ, suc, ◌+◌, ◌<◌, Bool, true, false, List, [], ◌∷◌, ◌++◌, length, take, sym, ◌∙◌, ap, append-nil, arith}
+use Rattle.std.proofs.Common.{◌≡◌, ℕ, suc, ◌+◌, ◌-◌, ◌<◌, Bool, true, false, List, [], ◌∷◌, ◌++◌, length, take, refl, sym, ◌∙◌, ap, subst, append-nil, arith}
 use Rattle.std.proofs.lemmas.List.{take_all, length-append}
-use Rattle.ud_model.specs.text.Lines.{SplitLines, split_lines, whole_lines, partial_line, texts_of, line_at, numbered_from}
-use Rattle.ud_model.proofs.text.LinesLemmas.{split_lines-append-open, split_lines-append-line, last_line-some, numbered_from-next}
+use Rattle.ud_model.specs.text.Lines.{NoNewline, IsWhole, AreWhole, SplitLines, ending_of, split_lines, whole_lines, partial_line, texts_of, line_at, numbered_from}
+use Rattle.ud_model.proofs.text.LinesLemmas.{are_whole, partial_line-open, split_lines-append-open, split_lines-append-line, last_line-some, numbered_from-next}
 use Rattle.ud_text.specs.lines.LinesState.{LinesState, LinesRepresent, UpToNewline, IsLastLine}
+use Rattle.ud_text.proofs.lemmas.lines.NewlineLemmas.{whole_newlineless}
+use Rattle.ud_text.proofs.lemmas.scan.MaskLemmas.{no_newline-take}
 
 -- nothing is buffered of a text without bytes
 pub represent_nothing : (l : LinesState) → l.held ≡ [] → l.whole ≡ false → l.before ≡ 0 → LinesRepresent l []
@@ -26,6 +28,21 @@ represent_take l text chunk used whole h k m = grind (arith, split_lines-append-
 -- a whole line is consumed
 pub represent_clear : (l : LinesState) (text : List ℕ) → l.whole ≡ true → LinesRepresent l text → LinesRepresent (record l { held = []; whole = false; before = l.before + 1 }) text
 represent_clear l text h k = grind (arith, represent_whole, length-append)
+
+-- the last one of whole lines is whole
+last_whole : (ls : List (List ℕ)) (m : List ℕ) → AreWhole (ls ++ m ∷ []) → IsWhole m
+last_whole [] m w = w.0
+last_whole (k ∷ ls) m w = last_whole ls m w.1
+
+-- the body of the buffered line has no newline
+pub represent_body : (n : ℕ) (l : LinesState) (text : List ℕ) → LinesRepresent l text → NoNewline (line_at n l.held).body
+represent_body n l text h = by_end l.whole refl
+  where
+    by_end : (whole : Bool) → l.whole ≡ whole → NoNewline (line_at n l.held).body
+    by_end true w = whole_newlineless n l.held (last_whole h.consumed l.held
+        (subst AreWhole (ap (λ (q : SplitLines). q.whole) (represent_whole l text w h)) (are_whole text)))
+    by_end false w = no_newline-take (length l.held - length (ending_of l.held)) l.held
+        (subst NoNewline (ap (λ (q : SplitLines). q.rest) (represent_part l text w h)) (partial_line-open text))
 
 -- the consumed lines and the buffered one are the lines of the text
 pub texts_of-represented : (l : LinesState) (text : List ℕ) → 0 < length l.held → (h : LinesRepresent l text) → texts_of text ≡ h.consumed ++ l.held ∷ []

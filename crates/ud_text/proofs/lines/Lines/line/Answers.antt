@@ -1,8 +1,8 @@
 use Rattle.std.proofs.Common.{◌≡◌, true, suc, ◌+◌, ◌<◌, length, inl, inr, sym, subst, ap, add-one}
-use Rattle.ud_model.specs.text.Lines.{SplitLines, line_at}
+use Rattle.ud_model.specs.text.Lines.{NoNewline, Line, SplitLines, line_at}
 use Rattle.ud_text.specs.lines.LinesState.{LinesState, IsLineOf, IsComplete}
 use Rattle.ud_text.specs.contracts.lines.Lines.{the_view}
-use Rattle.ud_text.proofs.lemmas.lines.LinesLemmas.{represent_last, represent_whole, represent_rest}
+use Rattle.ud_text.proofs.lemmas.lines.LinesLemmas.{represent_body, represent_last, represent_whole, represent_rest}
 use Rattle.ud_text.proofs.lines.Lines.line.Goals as goal
 
 -- a line that can be read has bytes
@@ -14,6 +14,10 @@ pub returns-clause-value : goal.returns-clause-value
 returns-clause-value g c =
     subst (λ (l : LinesState). IsLineOf c.split_ending.result.0.now c.split_ending.result.1.now (c.self.inside.consumed + 1) (line_at (suc l.before) l.held)) c.self.view_is
     (rw (add-one, ← c.as_slice.ensures.value) (c.split_ending.ensures.value (suc c.self.inside.consumed)))
+
+pub returns-clause-one_line : goal.returns-clause-one_line
+returns-clause-one_line g c = λ text took.
+    subst (λ (l : Line). NoNewline l.body) (sym (returns-clause-value g c)) (represent_body (suc c.args.self.now.before) c.args.self.now text took)
 
 pub returns-clause-represents : goal.returns-clause-represents
 returns-clause-represents g c = λ text took.
