@@ -40,7 +40,7 @@ SOURCES := crates.txt HANDLES \
 .PHONY: all help build native kit try try-tree case test test-all check edits edits-test cases examples manual-examples differences
 .PHONY: faults fail-alloc tree-test
 .PHONY: install uninstall dist deb release packages-test manuals around bench bench-text
-.PHONY: lib lib-test install-lib uninstall-lib deb-lib
+.PHONY: lib lib-test install-lib uninstall-lib deb-lib clients-test
 .PHONY: bench-library bench-conditions bench-folders pictures trees pruned selects lines lines-test hostile fronts clean
 
 ## proves the crates side by side, and builds ./unifdef
@@ -198,13 +198,20 @@ fail-alloc: kit
 tree-test: unifdef unifdef-tree
 	@tests/tree.sh
 
-## installs ./unifdef, ./unifdef-tree, manuals and
+## runs unifdef2 with the calls of programs that use
+## unifdef 2.x, by each shell that is there
+clients-test: unifdef
+	@tests/unifdef2.sh
+
+## installs ./unifdef, ./unifdef-tree, unifdef2, manuals and
 ## completions under DESTDIR and PREFIX
 install: unifdef unifdef-tree
 	$(INSTALL) -d "$(DESTDIR)$(BINDIR)" "$(DESTDIR)$(MANDIR)/man1" "$(DESTDIR)$(DOCDIR)"
 	$(INSTALL) -d "$(DESTDIR)$(BASHDIR)" "$(DESTDIR)$(ZSHDIR)" "$(DESTDIR)$(FISHDIR)"
-	$(INSTALL) -m 755 unifdef unifdef-tree "$(DESTDIR)$(BINDIR)"
-	$(INSTALL) -m 644 docs/unifdef.1 docs/unifdef-tree.1 "$(DESTDIR)$(MANDIR)/man1"
+	$(INSTALL) -m 755 unifdef unifdef-tree packaging/unifdef2 "$(DESTDIR)$(BINDIR)"
+	$(INSTALL) -d "$(DESTDIR)$(LIBDIR)/unifdef2"
+	ln -sfr "$(DESTDIR)$(BINDIR)/unifdef2" "$(DESTDIR)$(LIBDIR)/unifdef2/unifdef"
+	$(INSTALL) -m 644 docs/unifdef.1 docs/unifdef-tree.1 docs/unifdef2.1 "$(DESTDIR)$(MANDIR)/man1"
 	$(INSTALL) -m 644 $(PAGES) LICENSE "$(DESTDIR)$(DOCDIR)"
 	$(INSTALL) -m 644 packaging/completions/unifdef.bash "$(DESTDIR)$(BASHDIR)/unifdef"
 	$(INSTALL) -m 644 packaging/completions/unifdef.bash "$(DESTDIR)$(BASHDIR)/unifdef-tree"
@@ -214,8 +221,9 @@ install: unifdef unifdef-tree
 
 ## removes what make install installed
 uninstall:
-	rm -f "$(DESTDIR)$(BINDIR)/unifdef" "$(DESTDIR)$(BINDIR)/unifdef-tree"
-	rm -f "$(DESTDIR)$(MANDIR)/man1/unifdef.1" "$(DESTDIR)$(MANDIR)/man1/unifdef-tree.1"
+	rm -f $(foreach program,unifdef unifdef-tree unifdef2,"$(DESTDIR)$(BINDIR)/$(program)" "$(DESTDIR)$(MANDIR)/man1/$(program).1")
+	rm -f "$(DESTDIR)$(LIBDIR)/unifdef2/unifdef"
+	[ ! -d "$(DESTDIR)$(LIBDIR)/unifdef2" ] || rmdir "$(DESTDIR)$(LIBDIR)/unifdef2" 2> /dev/null || true
 	rm -f $(foreach page,$(notdir $(PAGES)) LICENSE,"$(DESTDIR)$(DOCDIR)/$(page)")
 	[ ! -d "$(DESTDIR)$(DOCDIR)" ] || rmdir "$(DESTDIR)$(DOCDIR)" 2> /dev/null || true
 	rm -f "$(DESTDIR)$(BASHDIR)/unifdef" "$(DESTDIR)$(BASHDIR)/unifdef-tree" "$(DESTDIR)$(ZSHDIR)/_unifdef" "$(DESTDIR)$(ZSHDIR)/_unifdef-tree"
@@ -286,7 +294,7 @@ manuals:
 	@tools/lint.sh
 
 ## tries everything around the programs that is quick
-around: manuals cases examples manual-examples differences faults lines-test tree-test lib-test packages-test
+around: manuals cases examples manual-examples differences faults lines-test tree-test clients-test lib-test packages-test
 
 ## measures speed (bench/README.md): the next four
 bench: bench-text bench-library bench-conditions bench-folders

@@ -1,6 +1,7 @@
 #!/bin/sh
 # Prints the version. Fails if CHANGELOG.md, the manuals, lib/unifdef.h, the library's code, the
-# module for Python, the option -V of unifdef-tree and the commit's tag don't agree on it.
+# module for Python, the option -V of unifdef-tree and unifdef2, and the commit's tag don't agree on
+# it.
 #
 # The version is that of the first heading of CHANGELOG.md with a number, as "## 1.0".
 set -u
@@ -25,6 +26,10 @@ if ! grep -qx "#define UNIFDEF_VERSION $number" lib/unifdef.h; then
 fi
 if ! grep -qxF "const VERSION: &str = \"unifdef-tree $version\";" crates/unifdef_tree_cli/src/main.rt; then
   echo "version: crates/unifdef_tree_cli/src/main.rt has another version than $version" >&2
+  result=1
+fi
+if ! grep -q "^ *echo 'unifdef2 $version'$" packaging/unifdef2; then
+  echo "version: packaging/unifdef2 has another version than $version" >&2
   result=1
 fi
 if ! grep -qx "#define UNIFDEF_VERSION_STRING \"$version\"" lib/unifdef.h; then

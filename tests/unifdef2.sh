@@ -1,0 +1,341 @@
+#!/usr/bin/env bash
+# Runs packaging/unifdef2 by each shell that is there: the calls of programs that use unifdef 2.x,
+# the rules of -f, and faults. What must come out follows from the manual of 2.10, or from the text.
+#
+# unifdef2.sh [PROGRAM]: with ./unifdef, or PROGRAM.
+set -u -o pipefail
+export LC_ALL=C
+umask 022
+here=$(cd "$(dirname "$0")/.." && pwd)
+program=$(realpath "${1:-$here/unifdef}")
+script=$here/packaging/unifdef2
+[ -x "$program" ] || { echo "unifdef2: $program is not there: run make" >&2; exit 1; }
+export UNIFDEF=$program
+work=$(mktemp -d)
+trap 'rm -rf "$work"' EXIT
+right=0 wrong=0
+
+# fresh: makes the files of a case anew, and goes to them.
+fresh() {
+  rm -rf "$work/files"
+  mkdir "$work/files"
+  cd "$work/files" || exit 1
+  printf '#ifdef A\na\n#else\nb\n#endif\n' | tee a.c c.c > in.c
+  printf 'x\n' > same.c
+  printf 'x\n#endif\n' > bad.c
+}
+
+# note STATUS WHAT: counts a check, which holds if the status is 0.
+note() {
+  if [ "$1" -eq 0 ]; then
+    right=$((right + 1))
+  else
+    wrong=$((wrong + 1))
+    printf 'unifdef2: %s: %s\n' "${shell[*]}" "$2"
+  fi
+}
+
+# run ARGUMENT..: runs the script in the files of the case, with in.c as its input, and sets `status`.
+run() {
+  status=0
+  "${shell[@]}" "$script" "$@" < in.c > "$work/out" 2> "$work/said" || status=$?
+}
+
+# gives STATUS OUTPUT ARGUMENT..: runs the script, which must have no message.
+gives() {
+  run "${@:3}"
+  [ "$status" -eq "$1" ] && [ "$(cat "$work/out")" = "$2" ] && [ ! -s "$work/said" ]
+  note $? "$(printf '%q ' "${@:3}"): status $status"$'\n'"$(cat "$work/out" "$work/said")"
+}
+
+# has FILE TEXT: checks a file that the last run wrote.
+has() {
+  [ "$(cat -- "$1" 2>&1)" = "$2" ]
+  note $? "$1 has: $(cat -- "$1" 2>&1)"
+}
+
+# listed: prints what a run may change of the files.
+listed() { find . -mindepth 1 -printf '%p %i %m %s %t\n' | sort; }
+
+# refuses MESSAGE ARGUMENT..: runs the script, which must leave all files as they are.
+refuses() {
+  listed > "$work/before"
+  run "${@:2}"
+  [ "$status" -eq 2 ] && [ ! -s "$work/out" ] && grep -qxF -e "$1" "$work/said" && listed | cmp -s - "$work/before"
+  note $? "$(printf '%q ' "${@:2}"): status $status"$'\n'"$(cat "$work/out" "$work/said"; listed | diff "$work/before" -)"
+}
+
+# decides HEADER TEXT OUTPUT: -f with a header must make this of a text, both as printf reads them.
+decides() {
+  fresh
+  printf '%b' "$1" > header
+  printf '%b' "$2" > in.c
+  gives 0 "$(printf '%b' "$3")" -x2 -f header in.c
+}
+
+clients() {
+  # WebKit's generate-api-header.py: the text comes by a pipe, and the status is 0 if it changed.
+  fresh
+  gives 0 '' -DA -UB -x1 -oout.h -
+  has out.h a
+  gives 1 '' -DQ -x1 -oout.h -
+  has out.h "$(cat in.c)"
+  # C-Vise and C-Reduce: the file of -o is there, or is the input.
+  fresh
+  printf '\n#if 0\nz\n#endif\n' >> in.c
+  gives 0 A -s in.c
+  echo old > old.c
+  gives 0 '' -B -x 2 -UA -o old.c in.c
+  has old.c $'b\n\n#if 0\nz\n#endif'
+  gives 0 '' -B -x 2 -k -o in.c in.c
+  has in.c $'#ifdef A\na\n#else\nb\n#endif'
+  gives 1 '' -B -x 0 -DA -o in.c in.c
+  # unifdefall: later options override those of a header.
+  fresh
+  printf '#undef A\n#undef B\n' > undefs
+  printf '#define A 1\n#define F(c) c\n' > defs
+  printf '#if A && !defined(B) && defined F\ny\n#endif\n' > in.c
+  gives 1 y -k -f undefs -f defs in.c
+  gives 1 y -k -I/usr/include -I . -f undefs -f defs in.c
+  gives 1 '' -k -f undefs -f defs -UA in.c
+  gives 1 y -k -UA -f undefs -f defs in.c
+}
+
+options() {
+  local line
+  # In place, with all options after the files, too.
+  fresh
+  gives 1 '' -m -DA a.c same.c c.c
+  has a.c a
+  has same.c x
+  has c.c a
+  fresh
+  gives 0 '' a.c -x1 -m same.c -DA
+  has a.c a
+  fresh
+  gives 1 '' -x1 -m same.c
+  gives 0 '' -m same.c
+  gives 0 '' -x2 -m -DA same.c a.c
+  gives 1 a -m -DA -
+  # With the old text under another name, which the group of letters ends with.
+  fresh
+  chmod 640 a.c
+  ln -s c.c a.c.bak
+  gives 1 '' -bM .bak -DA a.c same.c
+  has a.c $'\na'
+  has a.c.bak "$(cat in.c)"
+  has same.c.bak x
+  has c.c "$(cat in.c)"
+  [ "$(stat -c %a a.c a.c.bak)" = $'640\n640' ]
+  note $? 'the modes of -M'
+  gives 1 '' -M '' -DA c.c
+  has c.c a
+  [ ! -e c.c.bak ]
+  note $? 'an empty suffix'
+  # Standard input and output, and what is no regular file.
+  fresh
+  gives 1 a -DA
+  gives 1 a -DA -
+  gives 1 a -DA in.c -o -
+  run -o/dev/fd/3 -DA in.c 3> out
+  has out a
+  mkfifo pipe
+  exec 4<> pipe
+  gives 1 '' -o pipe -UA in.c
+  read -r -t 10 -u 4 line && [ "$line" = b ] && [ -p pipe ]
+  note $? 'a pipe'
+  exec 4>&-
+  # Modes, and the links of the file of -o, which get no new text.
+  fresh
+  chmod 751 c.c
+  ln c.c hard
+  ln -s c.c soft
+  gives 1 '' -DA -o c.c in.c
+  gives 1 '' -UA -o soft in.c
+  gives 1 '' -DA -o new in.c
+  has c.c a
+  has hard "$(cat in.c)"
+  has soft b
+  [ "$(stat -c %a c.c new soft)" = $'751\n644\n751' ]
+  note $? 'the modes of -o'
+  (umask 077; gives 1 '' -DA -o private in.c)
+  [ "$(stat -c %a private)" = 600 ]
+  note $? 'the mode of a new file'
+  # Bytes of a name and of a value, and words that begin with a hyphen.
+  fresh
+  local name=$'-n a\n\'"$(x)`y`\\*'
+  cp in.c "./$name"
+  gives 1 '' -m -DA -- "$name"
+  has "./$name" a
+  gives 1 '' "-o$name" -UA in.c
+  has "./$name" b
+  # shellcheck disable=SC2016 # The value isn't for this shell.
+  gives 1 a -D "A=\$(x) \"'*" in.c
+  gives 1 b -U A -i DB=1 -iUC in.c
+  [ "$(ls -A)" = "$name"$'\na.c\nbad.c\nc.c\nin.c\nsame.c' ]
+  note $? 'the files that are left'
+  # What has no effect, and options that unifdef has itself.
+  gives 1 $'\na' -dedb -DA in.c
+  gives 1 $'#ifdef A\n#else\nb\n#endif' -cDA -I. in.c
+  gives 0 "unifdef2 $("$here/packaging/version.sh")" -V -z
+}
+
+headers() {
+  local ask='#if A == 2\n2\n#elif defined A\nyes\n#else\nno\n#endif\n'
+  # A value is a word. Others, and that of a macro with arguments, only say that there is a macro.
+  # shellcheck disable=SC1003 # The last backslash is one.
+  decides '#define A 2\n' "$ask" '2\n'
+  decides ' # \tdefine\fA\v 2 /* two */ // 2\n' "$ask" '2\n'
+  # shellcheck disable=SC1003 # The last backslash is one.
+  decides '#define A 2\r\n' "$ask" '2\n'
+  # shellcheck disable=SC1003 # The last backslash is one.
+  decides '#define A 2' "$ask" '2\n'
+  # shellcheck disable=SC1003 # The last backslash is one.
+  decides '#def\\\nine A\\\n 2\\' "$ask" '2\n'
+  # shellcheck disable=SC1003 # The last backslash is one.
+  decides '#define A 2 /* one\n and a half */\n' "$ask" '2\n'
+  # shellcheck disable=SC1003 # The last backslash is one.
+  decides '#define A 1 /* one */ /*\n*/ + 1\n' "$ask" '#if A == 2\n2\n#else\nyes\n#endif\n'
+  # shellcheck disable=SC1003 # The last backslash is one.
+  decides '#define A B\n#define B 2\n' "$ask" '2\n'
+  # shellcheck disable=SC1003 # The last backslash is one.
+  decides '#define A -2\n' '#if A == -2\n-2\n#endif\n' '-2\n'
+  # shellcheck disable=SC1003 # The last backslash is one.
+  decides '#define A 0x2UL\n' "$ask" '2\n'
+  # shellcheck disable=SC1003 # The last backslash is one.
+  decides '#define A "2"\n' '#ifdef A\na\n#endif\n#if A\n#endif\n' 'a\n#if A\n#endif\n'
+  # shellcheck disable=SC1003 # The last backslash is one.
+  decides '#define A caf\0351\n' '#ifdef A\na\n#endif\n' 'a\n'
+  # shellcheck disable=SC1003 # The last backslash is one.
+  decides '#define A\n' '#ifdef A\na\n#endif\n#if A\n#endif\n' 'a\n#if A\n#endif\n'
+  # shellcheck disable=SC1003 # The last backslash is one.
+  decides '#define A(x) 2\n' '#ifdef A\na\n#endif\n#if A(1)\n#endif\n' 'a\n#if A(1)\n#endif\n'
+  # What isn't defined, also as autoconf and CMake write it.
+  decides '#undef A\n' "$ask" 'no\n'
+  decides '/* #undef A */\n' "$ask" 'no\n'
+  decides ' /*\t# undef\tA*/ \n' "$ask" 'no\n'
+  decides '/* here: #undef A */\n' "$ask" "$ask"
+  decides '/*\n#undef A */\n#\n' "$ask" "$ask"
+  decides '/*\n/* #undef A */\n#define A 2\n' "$ask" '2\n'
+  decides '// #undef A\n' "$ask" "$ask"
+  # The last one counts. A comment is none if the header has another one.
+  # shellcheck disable=SC1003 # The last backslash is one.
+  decides '#define A 1\n#define A 2\n' "$ask" '2\n'
+  # shellcheck disable=SC1003 # The last backslash is one.
+  decides '#define A 2\n#undef A\n' "$ask" 'no\n'
+  decides '/* #undef A */\n#define A 2\n' "$ask" '2\n'
+  # shellcheck disable=SC1003 # The last backslash is one.
+  decides '#define A 2\n/* #undef A */\n' "$ask" '2\n'
+  # A condition may hold or not, but an include guard holds. Its own name is no setting.
+  # shellcheck disable=SC1003 # The last backslash is one.
+  decides '#define A 1\n#ifdef B\n#define A 2\n#endif\n' "$ask" "$ask"
+  decides '#ifdef B\n#undef A\n#endif\n#define A 2\n' "$ask" "$ask"
+  decides '#if 1\n/* #undef A */\n#else\n#endif\n' "$ask" "$ask"
+  decides '/* c */\n#pragma once\n#ifndef G\n#define G\n#define A 2\n#endif // G\n\n' "$ask" '2\n'
+  decides '/* #undef B */\n#ifndef G\n#define A 2\n#endif\n/* #undef C */\n' "$ask" '2\n'
+  decides '#ifndef G\n#define G 1\n#if G\n#define B\n#endif\n#define A 2\nint x;\n#endif\n' "$ask#ifdef B\n#endif\n" '2\n#ifdef B\n#endif\n'
+  decides '#ifndef G\n#define G 1\n#endif\n' '#ifndef G\n#endif\n' '#ifndef G\n#endif\n'
+  decides '#ifndef A\n#define A 2\n#endif\n#define B 1\n' "$ask" "$ask"
+  decides '#ifndef G\n#define A 2\n#else\n#endif\n' "$ask" "$ask"
+  decides '#ifndef G\n#define A 2\n#endif\nint x;\n' "$ask" "$ask"
+  decides 'int x;\n#ifndef G\n#define A 2\n#endif\n' "$ask" "$ask"
+  decides '#ifdef A\n#endif\n#define A 2\n' "$ask" '2\n'
+  decides '#if !G\n#define A 2\n#endif\n' "$ask" "$ask"
+  # Comments, strings and characters as C has them, and what else may be in a header.
+  decides '/*\n#define A 2\n*/ /* */ // /*\n#define B 1\n' "$ask" "$ask"
+  # shellcheck disable=SC1003 # The last backslash is one.
+  decides '#define/**/A/**/2\n' "$ask" '2\n'
+  decides '#define S "\\"/*"\n#define A 2\n' "$ask" '2\n'
+  decides "#define C '\\\\'', '/*'\n#define A 2\n" "$ask" '2\n'
+  decides '#define S "/*"\n#define T "\\\\"/* " */\n#define A 2\n' "$ask" '2\n'
+  decides "#define C '\"'/*\n#define A 1\n*/\n#define D '\\\\\\\\'\n#define A 2\n" "$ask" '2\n'
+  decides "don't /*\n#define A 2\n" "$ask" '2\n'
+  decides '#include <x.h>\n#error "x"\n#\n#define\n#define 2 A\n#define B$ 1\n#define defined\n#define A 2\n' "$ask#ifdef B\n#endif\n" '2\n#ifdef B\n#endif\n'
+  decides '' "$ask" "$ask"
+  # Several headers, and their place among the options.
+  fresh
+  echo '#define A' > s.h
+  echo '#undef A' > u.h
+  gives 1 a -fs.h in.c
+  gives 1 b -fs.h -f u.h in.c
+  gives 1 a -UA -fs.h in.c
+  gives 1 b -fs.h -UA in.c
+}
+
+faults() {
+  fresh
+  refuses 'unifdef: bad.c: 2: Inappropriate #endif' -o a.c bad.c
+  refuses 'unifdef: bad.c: 2: Inappropriate #endif' -o new bad.c
+  refuses 'unifdef: bad.c: 2: Inappropriate #endif' -m -DA bad.c a.c
+  refuses 'unifdef: bad.c: 2: Inappropriate #endif' -M.bak bad.c
+  mkdir a.c.bak
+  refuses 'unifdef2: a.c.bak: Is a directory' -M.bak -DA a.c
+  refuses 'unifdef2: Several files need -m or -M' -DA a.c c.c
+  refuses "unifdef2: -o and -m don't go together" -m -o new a.c
+  refuses "unifdef2: -B and -b don't go together" -Bb a.c
+  refuses "unifdef2: -B and -b don't go together" -l a.c -B
+  refuses "unifdef2: -s doesn't go with -m, -M and -o" -s -m a.c
+  refuses "unifdef2: -s doesn't go with -m, -M and -o" -S -o new a.c
+  refuses 'unifdef2: -m and -M need a file' -m
+  refuses 'unifdef2: Option -o needs an argument' a.c -o
+  refuses 'unifdef2: Option -o needs a file' -o '' a.c
+  refuses 'unifdef2: Unknown option -z; -h prints the options' -bz a.c
+  refuses 'unifdef2: Bad exit mode: 3' -x3 a.c
+  refuses 'unifdef2: none: Is no regular file' -m none
+  refuses 'unifdef2: none/new: Cannot be written' -DA -o none/new in.c
+  refuses 'unifdef2: a.c.bak: Cannot be written' -DA -o a.c.bak in.c
+  refuses 'unifdef2: none: Cannot be read' -f none in.c
+  refuses 'unifdef2: .: Cannot be read' -f . in.c
+  refuses 'unifdef2: bad.c: An #endif has no #if' -f bad.c in.c
+  printf '#if 1\n' > "$work/if"
+  refuses "unifdef2: $work/if: An #if has no #endif" -f "$work/if" in.c
+  printf '#define A 1 /* x\n' > "$work/comment"
+  refuses "unifdef2: $work/comment: A comment does not end" -f "$work/comment" in.c
+  # Without the program, or with the script in its place.
+  UNIFDEF=none refuses 'unifdef2: none: No such program; the variable UNIFDEF can name it' in.c
+  UNIFDEF=./in.c refuses 'unifdef2: ./in.c: No such program; the variable UNIFDEF can name it' in.c
+  cp "$script" "$work/unifdef"
+  UNIFDEF=$work/unifdef refuses \
+    "unifdef2: $work/unifdef: Is unifdef2 itself; the variable UNIFDEF must name unifdef" in.c
+  # A program that ends in the middle.
+  printf '#!/bin/sh\nprintf ha\nkill -9 $$\n' > half
+  chmod +x half
+  listed > "$work/before"
+  UNIFDEF=./half run -o a.c in.c
+  [ "$status" -eq 2 ] && listed | cmp -s - "$work/before"
+  note $? 'a program that is killed'
+  # A full disk. No test has a device as the file of -o: a script with a mistake could replace it.
+  if [ -w /dev/full ]; then
+    "${shell[@]}" "$script" -DA in.c > /dev/full 2> "$work/said"
+    [ $? -eq 2 ] && [ -s "$work/said" ]
+    note $? 'a full disk'
+  fi
+}
+
+# Finds the program: beside the script to which a link leads, or else on PATH.
+finds() {
+  fresh
+  mkdir "$work/a bin" "$work/lib"
+  cp "$script" "$work/a bin"
+  ln -s '../a bin/unifdef2' "$work/lib/unifdef"
+  ln -s "$program" "$work/a bin/unifdef"
+  [ "$(unset UNIFDEF; PATH="$work/lib:$PATH" unifdef -x2 -DA in.c)" = a ]
+  note $? 'a program beside it'
+  mkdir "$work/bin"
+  mv "$work/a bin/unifdef" "$work/bin"
+  [ "$(unset UNIFDEF; PATH="$work/bin:$PATH" "$work/lib/unifdef" -x2 -DA in.c)" = a ]
+  note $? 'a program on PATH'
+}
+
+for shell in dash 'bash --posix' 'busybox sh' mksh yash; do
+  read -ra shell <<< "$shell"
+  command -v "${shell[0]}" > /dev/null || continue
+  clients
+  options
+  headers
+  faults
+done
+shell=(sh)
+finds
+echo "unifdef2: $right checks hold, $wrong don't"
+[ "$wrong" -eq 0 ] && [ "$right" -gt 150 ]
