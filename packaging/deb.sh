@@ -2,7 +2,7 @@
 # Makes the Debian packages of the programs, with dpkg's tools:
 #
 #   unifdef-tree       unifdef-tree alone, which can be installed beside Debian's unifdef
-#   unifdef-proved     unifdef, which takes the place of Debian's unifdef
+#   unifdef-proved     unifdef, which takes the place of Debian's unifdef, and unifdef2
 #
 # The same programs give the same packages, byte by byte.
 cd "$(dirname "$0")/.." || exit 1
@@ -37,6 +37,7 @@ remove preprocessor conditionals from the files of a tree, proved
 END
 
 take_program unifdef-proved unifdef
+take unifdef-proved usr/bin/unifdef2 usr/share/man/man1/unifdef2.1.gz usr/lib/unifdef2/unifdef
 build unifdef-proved "$architecture" devel "Depends: libc6 (>= $(newest unifdef))" 'Recommends: unifdef-tree' \
   'Conflicts: unifdef' 'Replaces: unifdef' << 'END'
 remove preprocessor conditionals from C source, proved
@@ -44,8 +45,10 @@ remove preprocessor conditionals from C source, proved
  decide, and the lines that they exclude. It is proved that the program gives
  the answer of a definition of unifdef that can be read.
  .
- It takes the place of Debian's unifdef, but lacks its options B, d, e, f, h,
- I, M, m, o and V. Other packages may call unifdef with these.
+ It takes the place of Debian's unifdef, but breaks programs that call it with
+ the options B, d, e, f, h, I, M, m, o or V, with several files, or with
+ options after a file. unifdef2 takes these: for such a program, put
+ /usr/lib/unifdef2 first on PATH, where it is named unifdef.
 END
 
 rm -r "$pages"

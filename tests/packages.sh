@@ -32,7 +32,10 @@ works_in() {
   check "$1: over a tree" same "$("$2/bin/unifdef-tree" -DA "$work/a.c" 2>&1; cat "$work/a.c")" \
     $'unifdef-tree: 1 changed, 0 unchanged, 0 faulty\nunifdef-tree: 2 lines removed\nx'
   check "$1: the version" same "$("$2/bin/unifdef-tree" -V)" "unifdef-tree $version"
-  for manual in "$2"/share/man/man1/unifdef.1* "$2"/share/man/man1/unifdef-tree.1*; do
+  check "$1: the version of unifdef2" same "$("$2/bin/unifdef2" -V)" "unifdef2 $version"
+  printf '#ifndef A\n#endif\nx\n' > "$work/a.c"
+  check "$1: for programs that use 2.x" same "$(PATH="$2/lib/unifdef2:$PATH" unifdef "$work/a.c" -o "$work/a.c" -DA; echo $?; cat "$work/a.c")" $'1\nx'
+  for manual in "$2"/share/man/man1/unifdef{,-tree,2}.1*; do
     check "$1: ${manual##*/}" shows "$manual" "unifdef $version"
   done
 }
@@ -60,6 +63,7 @@ works_in install "$target/opt/my tools"
 check 'install: files' same "$(cd "$target/opt/my tools" && find . -type f | sort)" \
 "./bin/unifdef
 ./bin/unifdef-tree
+./bin/unifdef2
 ./share/bash-completion/completions/unifdef
 ./share/bash-completion/completions/unifdef-tree
 ./share/doc/unifdef/DEFINITIONS.md
@@ -72,6 +76,7 @@ check 'install: files' same "$(cd "$target/opt/my tools" && find . -type f | sor
 ./share/fish/vendor_completions.d/unifdef.fish
 ./share/man/man1/unifdef-tree.1
 ./share/man/man1/unifdef.1
+./share/man/man1/unifdef2.1
 ./share/zsh/site-functions/_unifdef
 ./share/zsh/site-functions/_unifdef-tree"
 
@@ -79,7 +84,7 @@ check 'install: files' same "$(cd "$target/opt/my tools" && find . -type f | sor
 documents="$target/opt/my tools/share/doc/unifdef"
 touch "$documents/theirs"
 check uninstall "$make" -s uninstall DESTDIR="$target" PREFIX="/opt/my tools"
-check 'uninstall: files' same "$(find "$target" -type f)" "$documents/theirs"
+check 'uninstall: files' same "$(find "$target" ! -type d)" "$documents/theirs"
 rm "$documents/theirs"
 check 'uninstall: again' "$make" -s uninstall DESTDIR="$target" PREFIX="/opt/my tools"
 check 'uninstall: the folder' test ! -e "$documents"
@@ -243,7 +248,7 @@ if command -v dpkg-deb > /dev/null && command -v objdump > /dev/null; then
   check 'deb: is known' is_installed unifdef-proved
   works_in deb "$root/usr"
   check 'deb: goes away' in_root --purge unifdef-proved unifdef-tree
-  check 'deb: leaves nothing' same "$(find "$root" -path "$root/var" -prune -o -type f -print)" ''
+  check 'deb: leaves nothing' same "$(find "$root" -path "$root/var" -prune -o ! -type d -print)" ''
 
   # Beside a package with the name and the files of Debian's unifdef.
   theirs=$work/theirs
