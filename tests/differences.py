@@ -1,5 +1,6 @@
 #!/usr/bin/env python3
-"""Runs the cases that say what unifdef 2.10 does instead, with both programs.
+"""Runs the cases that say what unifdef 2.10 does instead, with both programs, and unifdef2 with
+calls that 2.10 takes.
 
     tests/differences.py [PROGRAM [RELEASED ..]]
 
@@ -37,6 +38,25 @@ FILES = {
     "b.c": b"#if defined(A) || B\na\n#endif\nb\n",
     "defs": b" # define\tA\n#define  B\t 2 \n\t#\tundef  C \n",
 }
+
+# Calls of other programs, which unifdef2 takes as 2.10 does. The manual has more, after "there:".
+CALLS = [
+    "unifdef -x1 -DA -UC -oout.c - < in.c",
+    "unifdef -x1 -DQ -oout.c - < in.c",
+    "unifdef -s in.c",
+    "unifdef -s -x1 in.c",
+    "unifdef -B -x 2 -k -UA -o a.c a.c",
+    "unifdef -k -I. -f defs -UB in.c",
+    "unifdef -UB -f defs -f defs in.c",
+    "unifdef -x1 -m -DA a.c b.c",
+    "unifdef -x1 -m -DQ a.c; unifdef -x2 a.c -m -DA -- b.c",
+    "unifdef -M .old -bcDA a.c b.c; ls",
+    "chmod 640 a.c; unifdef -o a.c -iDA in.c; stat -c '%n %a' *",
+    "ln -s b.c link; unifdef -UA -o link in.c; stat -c '%n %F' *",
+    "printf '#endif\\n' | unifdef -o a.c -; cat a.c",
+    "unifdef -M .old -m -DA a.c none b.c; ls",
+    "unifdef a.c b.c; unifdef -s -m a.c; unifdef -bB a.c; unifdef -z a.c; unifdef a.c -o",
+]
 
 OLD, NEW = "2.10", "2.12"
 
@@ -158,6 +178,19 @@ def check_commands(program: Path, released: Optional[Path]) -> Iterator[bool]:
         yield right
 
 
+def check_calls(program: Path, released: Path) -> Iterator[bool]:
+    """Yields whether unifdef2 does what 2.10 does, by each call. The manual has one with -B."""
+    os.environ["UNIFDEF"] = str(program)
+    manual = (TOP / "docs" / "unifdef.1").read_text(encoding="utf-8").replace("\\e", "\\")
+    calls = [there for there, _ in COMMANDS.findall(manual) if "-B" not in there]
+    for call in calls + CALLS:
+        found = run_command(call, TOP / "packaging" / "unifdef2")
+        wanted = run_command(call, released)
+        if found != wanted:
+            print(f"differences: unifdef2 as {call}: {found}, and 2.10: {wanted}")
+        yield found == wanted
+
+
 def check_new(program: Path, cases: list[Case]) -> Iterator[bool]:
     """Yields whether 2.12 gives what the manual says, for each of its examples."""
     for arguments, text, _, _, answer in examples():
@@ -182,6 +215,8 @@ def results(program: Path, released: Optional[Path], new: Optional[Path]) -> Ite
         yield from check_new(new, cases)
     yield check_closed_pipe(program)
     yield from check_commands(program, released)
+    if released:
+        yield from check_calls(program, released)
 
 
 def main() -> int:
