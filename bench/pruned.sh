@@ -44,7 +44,7 @@ pruned() {
 # shellcheck disable=SC2016 # These too.
 echo '| Sources | Options | Without `-p` | Edited with `-p` | Left with `-p` |'
 echo '|---|---|---|---|---|'
-pruned vim -UVMS -UAMIGA -UMSWIN -UMACOS_X -UHAIKU
+pruned vim -UVMS -UAMIGA -UMSWIN -UMACOS_X
 pruned vim -U__TANDEM -U__QNX__ -U_MSC_VER -U__MINGW32__ -U__CYGWIN__ -U_WIN64
 pruned nethack -UVMS -UAMIGA -UMAC -UTOS -UWIN32 -UMSDOS -UOS2
 pruned nethack -USYSV -UULTRIX -UHPUX -U__BEOS__ -USUNOS4 -U_MSC_VER
