@@ -15,8 +15,8 @@ PYTHONDIR ?= $(shell packaging/pythondir.sh '$(PREFIX)')
 INSTALL ?= install
 LDCONFIG ?= /sbin/ldconfig
 
-# The pages that are installed. They link to one another alone.
-PAGES := $(addprefix docs/,DEFINITIONS.md PROVED.md PROMISES.md PROOFS.md crates.svg)
+# The page that is installed. It links to itself alone.
+PAGES := docs/PROVED.md
 
 # The module for Python.
 MODULE := $(addprefix lib/python/unifdef/,__init__.py __main__.py _library.py py.typed)
@@ -162,8 +162,7 @@ examples: unifdef unifdef-tree
 	@tests/examples.sh docs/EXAMPLES.md
 	@tests/quotes.sh
 
-## runs the examples of the manual, but for those under
-## DIFFERENCES
+## runs the examples of the manual
 manual-examples: unifdef
 	@tests/manual.sh
 
@@ -172,8 +171,8 @@ manual-examples: unifdef
 cases: unifdef
 	@tests/cases.py
 
-## runs the examples under DIFFERENCES, and the other cases
-## that say what unifdef 2.10 does, with both programs
+## runs the examples of docs/DIFFERENCES.md, and the other
+## cases that say what unifdef 2.10 does, with all programs
 differences: unifdef unifdef-tree
 	@tests/differences.py
 

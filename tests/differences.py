@@ -6,7 +6,7 @@ calls that 2.10 takes.
 
 PROGRAM is ./unifdef by default. The released programs are those of the arguments or, without them,
 the first unifdef on PATH whose -V reports 2.10, and the first one that reports 2.12. One that isn't
-there is left out. Each example of the manual under DIFFERENCES must be a case. 2.12 gives what the
+there is left out. Each example of docs/DIFFERENCES.md must be a case. 2.12 gives what the
 example says of it, or else what 2.10 gives.
 """
 
@@ -81,13 +81,12 @@ def released_in(programs: list[Path], version: str) -> Optional[Path]:
 
 
 def examples() -> Iterator[tuple[list[str], bytes, Answer, Answer, Answer]]:
-    """Yields the examples of the manual: arguments, input, and the answers without messages of this
+    """Yields the examples of the page: arguments, input, and the answers without messages of this
     program, of 2.10 and of 2.12."""
-    manual = (TOP / "docs" / "unifdef.1").read_text(encoding="utf-8")
-    section = manual.partition("\n.Sh DIFFERENCES\n")[2].partition("\n.Sh ")[0]
-    found_examples = list(EXAMPLE.finditer(section.replace("\\e", "\\")))
-    if len(found_examples) != section.count("\nhere: ") or not found_examples:
-        raise CaseError("docs/unifdef.1: an example under DIFFERENCES has another form")
+    page = (TOP / "docs" / "DIFFERENCES.md").read_text(encoding="utf-8")
+    found_examples = list(EXAMPLE.finditer(page))
+    if len(found_examples) != page.count("\nhere: ") or not found_examples:
+        raise CaseError("docs/DIFFERENCES.md: an example has another form")
     for found in found_examples:
         arguments, text, *answers = found.groups(default="")
         here, old, new = (
@@ -98,12 +97,12 @@ def examples() -> Iterator[tuple[list[str], bytes, Answer, Answer, Answer]]:
 
 
 def check_manual(cases: list[Case]) -> Iterator[bool]:
-    """Prints each example of the manual that is no case, and yields False for it."""
+    """Prints each example of the page that is no case, and yields False for it."""
     for arguments, text, here, there, _ in examples():
         same = [case for case in cases if (case.arguments, case.input) == (arguments, text)]
         if not any(here.matches(case.answer) and there.matches(case.released) for case in same):
             reason = f"{same[0].path} has other answers" if same else "no case has it"
-            print(f"differences: the manual's {' '.join(arguments)}: {as_literal(text)}: {reason}")
+            print(f"differences: the page's {' '.join(arguments)}: {as_literal(text)}: {reason}")
             yield False
 
 
@@ -192,7 +191,7 @@ def check_calls(program: Path, released: Path) -> Iterator[bool]:
 
 
 def check_new(program: Path, cases: list[Case]) -> Iterator[bool]:
-    """Yields whether 2.12 gives what the manual says, for each of its examples."""
+    """Yields whether 2.12 gives what the page says, for each of its examples."""
     for arguments, text, _, _, answer in examples():
         for case in cases:
             if (case.arguments, case.input) == (arguments, text):
@@ -241,7 +240,7 @@ def main() -> int:
         print(f"differences: {error}", file=sys.stderr)
         return 1
     wrong = found.count(False)
-    print(f"differences: {len(found) - wrong} examples give what the manual says, {wrong} don't")
+    print(f"differences: {len(found) - wrong} examples give what the pages say, {wrong} don't")
     return 0 if wrong == 0 and len(found) > 30 else 1
 
 

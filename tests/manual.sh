@@ -6,7 +6,7 @@
 # There are two forms of examples. Under OPTIONS, a line has the arguments, a colon, two spaces and
 # the input; the line after it has "gives:", the status and, after two spaces, the output. Under
 # EXAMPLES, a line that begins with "$ " is a command, and the lines after it are its output. The
-# examples under DIFFERENCES are cases, which differences.py runs.
+# examples of docs/DIFFERENCES.md are cases, which differences.py runs.
 set -u -o pipefail
 export LC_ALL=C
 here=$(cd "$(dirname "$0")" && pwd)

@@ -66,12 +66,8 @@ check 'install: files' same "$(cd "$target/opt/my tools" && find . -type f | sor
 ./bin/unifdef2
 ./share/bash-completion/completions/unifdef
 ./share/bash-completion/completions/unifdef-tree
-./share/doc/unifdef/DEFINITIONS.md
 ./share/doc/unifdef/LICENSE
-./share/doc/unifdef/PROMISES.md
-./share/doc/unifdef/PROOFS.md
 ./share/doc/unifdef/PROVED.md
-./share/doc/unifdef/crates.svg
 ./share/fish/vendor_completions.d/unifdef-tree.fish
 ./share/fish/vendor_completions.d/unifdef.fish
 ./share/man/man1/unifdef-tree.1

@@ -7,7 +7,7 @@
 Prints each name that isn't there as PAGE:LINE: NAME, and exits with 1 if there is one. Names are
 looked for in backquotes, outside of code blocks:
 
-    docs/DECISIONS.md, Answer.antt     a file or folder of the tree, or the end of its path
+    docs/DESIGN.md, Answer.antt        a file or folder of the tree, or the end of its path
     make faults                        a target of the Makefile
     Type::method                       both in one source file
     Module.definition                  in the file Module.antt
@@ -41,7 +41,7 @@ COMMENTED = re.compile(r"^\s*(?://|--).*?\b(\w+(?:/\w+)+\.(?:antt|rt|md|sh|py))\
 # What is no name of this tree, by what it is.
 EXCEPTIONS = {
     "C's types and escapes": ["intmax_t", "uintmax_t", "\\xHH"],
-    "files of examples": ["a.c", "in.c"],
+    "files of examples": ["a.c", "in.c", "third_party"],
     "built": ["lib/libunifdef.a", "lib/libunifdef.so", "libunifdef.so.1"],
     "stand for others": ["NAME.antt", "NAME.case", "vVERSION", "step_counts_no_line"],
     "units": ["conditions/s", "MB/s"],
