@@ -1,4 +1,10 @@
 //! The plan of a run, as set by the arguments of a command line.
+//!
+//! The settings record the flags as they were given: `-n` stays on beside `-b`. Rejected: settings
+//! that are made consistent, which no caller could compare with the arguments.
+//!
+//! The arguments are read twice, by `input_of` before the file is opened and by `plan` inside
+//! `tool`. Rejected: handing the plan to `tool`, where a caller could pass another one.
 
 ghost use Rattle.std.specs.Prelude.{◌≡◌, ◌++◌, ◌∷◌, [], List, None, IsSome, OnOk, IfOk, IfErr};
 ghost use Rattle.ud_model.specs.conditions.Table.{Argument};

@@ -2,6 +2,10 @@
 //!
 //! A `LineProcessor` gives each decided line to its printer, or lists the line's names. Lines that
 //! the printer leaves unchanged aren't appended: the engine copies them from the chunk.
+//!
+//! Most lines are printed by their verdict alone, and the printer stays unchanged then. So the
+//! result holds for all next text lines too. Rejected: a call of the printer for each of many
+//! lines, which would have to split the bytes into lines again.
 
 ghost use Rattle.std.specs.Prelude.{◌≡◌, bytes_eq, ◌∷◌, [], ◌++◌, ◌≤◌, List, ℕ, length, take, true};
 ghost use Rattle.std.specs.Prelude.{false, OnErr, IsTrue};

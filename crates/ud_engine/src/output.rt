@@ -2,6 +2,9 @@
 //!
 //! The writer records a failed write, and what is appended later is dropped. So appending never
 //! fails, and a caller asks the writer once, at the end of a chunk.
+//!
+//! Output leaves at the latest when `feed` ends, so no line waits for later ones. Rejected: a write
+//! for each line; waiting until the buffer is full, which makes the output of a slow pipe late.
 
 ghost use Rattle.std.specs.Prelude.{◌≡◌, []};
 ghost use Rattle.std.specs.List.{flat_map};

@@ -1,4 +1,8 @@
 //! Where an engine's plan comes from.
+//!
+//! An engine borrows its plan or owns it: C keeps an engine from call to call, and can't keep the
+//! plan that it borrows beside it. Rejected: the plan as an argument of each call, which could be
+//! another one; a count of references, which takes memory.
 
 ghost use Rattle.std.specs.Prelude.{◌≡◌};
 ghost use Rattle.ud_args.specs.Plans.{PlanState};

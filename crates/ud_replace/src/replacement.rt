@@ -1,4 +1,9 @@
 //! Replaces one file by the output for it.
+//!
+//! The file is read again just before the rename. Times aren't enough: an edit may come within one
+//! tick of the clock, and an overlay file system gives a file another number and other times when
+//! it is opened for writing. Rejected: taking the text anew if the bytes differ, since a second run
+//! does that.
 
 ghost use Rattle.std.specs.Prelude.{◌≡◌, ◌<◌, List, [], true, false, is_ok, if◌then◌else◌};
 ghost use Rattle.ud_replace.specs.Calls.{Call};

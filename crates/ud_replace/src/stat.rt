@@ -1,4 +1,9 @@
 //! The facts about a file, without its bytes.
+//!
+//! Two files are the same if they have one device and number, and were made at one time, if the
+//! file system knows that. A file that is saved during the walk may get the number of one that is
+//! gone. Folders aren't compared by time, since an overlay file system copies one when a file is
+//! made in it.
 
 ghost use Rattle.std.specs.Prelude.{◌≡◌};
 ghost use Rattle.ud_replace.specs.Stats.{is_of, has_facts_of};

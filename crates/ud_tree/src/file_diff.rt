@@ -1,4 +1,8 @@
 //! The diff of one file.
+//!
+//! A diff comes from what became of each line, without a search for common lines. Its path has no
+//! `./`, which `git apply` refuses, and is quoted if it begins or ends with a space, which `patch`
+//! loses. Rejected: comparing the texts, which finds no better hunks.
 
 ghost use Rattle.std.specs.Prelude.{◌≡◌, [], false, IfOk, IfSome};
 ghost use Rattle.ud_model.specs.text.Lines.{texts_of};

@@ -1,4 +1,7 @@
 //! The walk over a tree: the files below some paths, each once, in the order of the paths' bytes.
+//!
+//! A name that vanishes from its folder during the walk is no fault, since nothing is lost. A
+//! missing path of the command line is one.
 
 ghost use Rattle.std.specs.Prelude.{◌≡◌, ◌⊎◌, ◌<◌, ◌++◌, ◌∷◌, [], IfOk, OnOk, Bool, map};
 ghost use Rattle.std.specs.Prelude.{true, false};

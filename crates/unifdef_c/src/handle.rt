@@ -1,4 +1,8 @@
 //! What C keeps for a stream: a pointer that owns it, or null.
+//!
+//! The output for one chunk may be longer than any buffer of the caller, so it waits here until it
+//! is taken. Rejected: a table of numbered streams, which needs a lock; refusing a chunk as long as
+//! output is left.
 
 ghost use Rattle.std.specs.Prelude.{◌≡◌, Option, None, Some, MatchOption};
 ghost use Rattle.unifdef_c.specs.declared.stream.Stream.{Stream as Streamed};

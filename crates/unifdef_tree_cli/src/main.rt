@@ -137,8 +137,8 @@ fn allows_counter(arguments: &Arguments) -> bool {
     replaces && !arguments.quiet && !arguments.list_remaining && !arguments.show_changes
 }
 
-/// Returns whether a terminal may show colours: changes are shown, the terminal isn't a dumb one, and
-/// `NO_COLOR` is unset or empty.
+/// Returns whether a terminal may show colours: changes are shown, the terminal isn't a dumb one,
+/// and `NO_COLOR` is unset or empty.
 fn allows_colours(rt: &HostRuntime, arguments: &Arguments) -> bool {
     match arguments.task {
         Task::Diff if is_dumb(rt) => false,

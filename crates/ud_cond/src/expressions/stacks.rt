@@ -3,6 +3,9 @@
 //! Each pending parenthesis or prefix operator takes up a byte of the text, and each left operand
 //! with its operator takes two. So as many operators as the text has bytes suffice, and half as
 //! many operands. Stacks for the longest line are costly to clear, so a short text gets short ones.
+//!
+//! There are six sizes, since an empty stack is cleared as a whole. Rejected: recursion, which
+//! needs much of the program's stack for a long line.
 
 ghost use Rattle.std.specs.Prelude.{◌≡◌, ◌≤◌, ◌+◌, ◌∷◌, [], IfSome, IfNone, IsTrue, false};
 ghost use Rattle.ud_model.specs.conditions.Parsing.{left, before, paren};

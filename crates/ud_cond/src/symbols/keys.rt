@@ -1,4 +1,10 @@
 //! The keys of names: numbers in which most names differ.
+//!
+//! A key is the last `KEY_BYTES` of a name as a number, since names often begin alike. So a step of
+//! the binary search compares two numbers.
+//!
+//! Rejected: an order by bytes alone; a key whose last byte counts most, which inserts numbered
+//! names among the others.
 
 ghost use Rattle.std.specs.Prelude.{◌≡◌, slice_index, IsTrue, bytes_eq, true};
 ghost use Rattle.ud_cond.specs.symbols.Keys as spec;

@@ -1,4 +1,6 @@
 //! A filter that rejects most unlisted names without a search.
+//!
+//! If no row has set the bit of a name's key, the name isn't listed.
 
 ghost use Rattle.std.specs.Prelude.{◌≡◌, ◌<◌, ℕ, true};
 ghost use Rattle.ud_cond.specs.symbols.NameFilters as spec;

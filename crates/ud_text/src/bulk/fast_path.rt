@@ -8,6 +8,9 @@
 //! After a quote, the rest of the line is usually read at once, whatever literals it has.
 //!
 //! A new kind of lexeme is a step here and one in bulk.rt.
+//!
+//! Rejected: keeping the line at each comment, whose newlines would have to be searched; stopping
+//! at lines with one quote; looking back for quotes at each comment.
 
 ghost use Rattle.std.specs.Prelude.{◌≡◌, ◌≤◌, ◌<◌, ◌+◌, ◌-◌, Bool, ℕ, [], ◌∷◌, length, take, drop};
 ghost use Rattle.std.specs.Prelude.{slice_index, true};

@@ -1,4 +1,12 @@
 //! Buffers for a line whose bytes come in chunks.
+//!
+//! A line that is whole in a chunk is borrowed from it, and only a line that a chunk cuts is
+//! copied. Short lines have buffers of their own: a function clears its buffers on entry, and
+//! touches each of their pages, so only a function that long lines reach has the large ones.
+//!
+//! Rejected: one capacity for all lines; an enum of a short and a long array, which is as large as
+//! the long one; an engine that takes memory when a long line comes, which could be refused in the
+//! middle of a text.
 
 ghost use Rattle.std.specs.Prelude.{◌≡◌, ◌+◌, ◌<◌, ◌≤◌, List, ℕ, [], ◌∷◌, ◌++◌, length, true};
 ghost use Rattle.std.specs.Prelude.{false, ◌↔◌, IsSome};

@@ -4,6 +4,8 @@
 //! unchanged: its bytes are then borrowed. From line to line, a scanner carries three things: the
 //! lexer's state after their spliced text, whether the last logical line is white, and whether the
 //! last line joins the next one.
+//!
+//! `Scanner::read` copies the masked line, so that its caller need not keep the line.
 
 ghost use Rattle.std.specs.Prelude.{◌≡◌, ◌≤◌, ◌||◌, ℕ, List, [], ◌∷◌, ◌++◌, length, true, false};
 ghost use Rattle.std.specs.Prelude.{take, IfSome, OnSome};

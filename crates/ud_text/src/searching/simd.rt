@@ -2,6 +2,8 @@
 //!
 //! Each returns what a search byte by byte would. `N` lanes are compared at once; the last ones
 //! overlap those before. The number of lanes affects speed only: a search for a near byte uses few.
+//!
+//! Rejected: 32 lanes and a loop over the rest, which reads many lines byte by byte.
 
 ghost use Rattle.std.specs.Prelude.{◌≡◌, ◌≤◌, ◌<◌, ◌+◌, length, take, drop};
 ghost use Rattle.std.specs.List.{position_or_len};

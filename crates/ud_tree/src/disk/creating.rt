@@ -2,6 +2,10 @@
 //!
 //! A run locks its new file while that is open, and the system unlocks it when the run ends, even
 //! by a signal. So an unlocked new file was left over by a run.
+//!
+//! A new file's name is always the same, made from the file's. While it is there, no other run
+//! replaces the file. Rejected: using the file that was left over, since another program may have
+//! it open; a name that differs from run to run, with which one of two runs loses its update.
 
 ghost use Rattle.std.specs.Prelude.{◌≡◌, ◌⊎◌, IfOk, IfSome};
 ghost use Rattle.std.specs.IoError.{error_kind};

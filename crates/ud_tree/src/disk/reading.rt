@@ -30,14 +30,15 @@ pub(crate) fn read_text<F: Read>(file: &mut F, size: u64, text: &mut Vec<u8>) ->
     check_marks(text.as_slice())
 }
 
-/// Reads the bytes of the rest of a file: by one read, if it has the size that was found. Stops
-/// once a line over the limit is found: most such files aren't text, and may be larger than memory.
+/// Reads the bytes of the rest of a file: by one read, if it has the size that was found and at
+/// most `BLOCK_BYTES`. Stops once a line over the limit is found: most such files aren't text, and
+/// may be larger than memory.
 fn read_bytes<F: Read>(file: &mut F, size: u64, text: &mut Vec<u8>) -> io::Result<()>
     requires empty { text.old.items ≡ [] }
     ensures { OnOk result
         (ReadsAll (F.remaining file.old) (F.remaining file.new) size text.new.items) }
 {
-    // There is room for more than the file, so a read that ends at its size was cut by its end.
+    // A block is larger than the file, so a read that ends at its size was cut by its end.
     let block = size.clamp(SMALL_BLOCK_BYTES, BLOCK_BYTES) as usize + 1;
     for _block in 0..u64::MAX {
         let count = match read_block(file, block, text) {
@@ -87,8 +88,8 @@ fn ends_in_long_line(text: &[u8]) -> bool
     }
 }
 
-/// Checks that a text has no byte order mark of UTF-16, whose directives wouldn't be found, and none
-/// before a condition in its first line, which wouldn't be found.
+/// Checks that a text has no byte order mark of UTF-16, whose directives wouldn't be found, and
+/// none before a condition in its first line, which wouldn't be found.
 fn check_marks(text: &[u8]) -> io::Result<()>
     ensures { is_err result ≡ has_bad_mark text.now }
 {
