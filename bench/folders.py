@@ -4,6 +4,9 @@ README.md in this folder describes it.
 
 folders.py PROGRAM [FOLDER]: prints a table of processor time, user and system together. The folder
 has copies of the headers of the machine by default. No run changes a file.
+
+BENCH_COPIES: the number of copies. BENCH_HEADERS: the directory of the headers. BENCH_RUNS: the
+number of rounds.
 """
 
 import os

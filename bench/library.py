@@ -4,6 +4,9 @@ README.md in this folder describes it.
 
 library.py PROGRAM LIBRARY: prints a table of processor time, user and system together. The text is
 whole headers of the machine, again and again.
+
+BENCH_BYTES: the size of the text. BENCH_RUNS: the number of rounds. BENCH_HEADERS: the directory of
+the headers.
 """
 
 import ctypes
