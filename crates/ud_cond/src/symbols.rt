@@ -3,6 +3,9 @@
 //! Each name has one row. The rows are sorted by the names' keys, which are numbers, then by name.
 //! A binary search finds a name, and a later call for a name changes its row.
 //! Memory is taken before anything changes, so a failed call leaves the table as it was.
+//!
+//! The names that a value leads to are followed at each operand. Rejected: a cache of where each
+//! chain of names ends, for long chains that no command line has.
 
 ghost use Rattle.std.specs.Prelude.{◌≡◌, ◌++◌, ◌∷◌, [], List, option_map, OnOk, OnErr, IfOk, IfErr};
 ghost use Rattle.std.specs.Prelude.{ℕ, IsErrOf, Some, None, ◌↔◌, false, true, IsTrue, length};

@@ -1,4 +1,7 @@
 //! The evaluation of any expression, by a reader that keeps the value of each part.
+//!
+//! Rejected: a fast path without stacks for two pending operators, which saves about a hundredth of
+//! the instructions on real text.
 
 ghost use Rattle.std.specs.Prelude.{◌≡◌, ◌≤◌, [], length};
 ghost use Rattle.ud_model.specs.conditions.Parsing as spec;
