@@ -51,6 +51,13 @@ WORDS = [
 ]
 WORDS = [(re.compile(pattern, re.IGNORECASE), better) for pattern, better in WORDS]
 
+# The same for pages and manuals alone. A manual's list of messages is left out.
+PAGE_WORDS = [
+    (r"\bfolders?\b", "directory"),
+    (r"\bbeside\b", "next to, compared with"),
+]
+PAGE_WORDS = [(re.compile(pattern, re.IGNORECASE), better) for pattern, better in PAGE_WORDS]
+
 # Forms that a native reader stops at, and how many of them 1,000 words of the pages may have.
 FORMS = re.compile(r"\b(that|those)\s+of\b|\b(of|to|by|from|for|in|on|with|at)\s+which\b")
 FORMS_AT_MOST = 1.5
@@ -119,10 +126,10 @@ def findings(path, text):
         if comment is None or fenced:
             continue
         bare = re.sub(r"`[^`]*`", "``", comment)
-        quoted = path.endswith("DEFINITIONS.md")
-        for pattern, better in WORDS:
-            if quoted and "line[ -]feed" in pattern.pattern:
-                continue
+        words = WORDS
+        if kind == "page" and not line.startswith('.It "'):
+            words = WORDS + PAGE_WORDS
+        for pattern, better in words:
             found = pattern.search(bare)
             if found:
                 yield number, f"'{found.group(0)}': {better}"
