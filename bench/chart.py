@@ -31,6 +31,8 @@ SHORT_ROWS = {
     "conditionals, 50 symbols": "conditionals",
 }
 SHORT_PROGRAMS = {"this": "this program", "newer": "2.12", "rebuilt": "2.10, cc -O2", "cat": "cat"}
+# The colours on a dark page.
+DARK = ".page { fill: #0d1117 } text { fill: #e6edf3 } line { stroke: #3d444d }"
 
 
 def table(lines):
@@ -110,7 +112,8 @@ def drawing(names, rows, form):
     yield f' viewBox="0 0 {form.width} {height}" role="img"'
     yield f' font-family="sans-serif" font-size="{form.font}">'
     yield f"<title>{form.head}</title>"
-    yield f'<rect width="{form.width}" height="{height}" fill="#fff"/>'
+    yield f"<style>@media (prefers-color-scheme: dark) {{ {DARK} }}</style>"
+    yield f'<rect class="page" width="{form.width}" height="{height}" fill="#fff"/>'
     yield text(8, 18, form.head)
     x = form.legend
     for name in names:
