@@ -58,6 +58,12 @@ PAGE_WORDS = [
 ]
 PAGE_WORDS = [(re.compile(pattern, re.IGNORECASE), better) for pattern, better in PAGE_WORDS]
 
+# The pages for users. What types and definitions call a fault is an error there.
+USER_PAGES = re.compile(
+    r"README\.md|CHANGELOG\.md|docs/(C|DIFFERENCES|EXAMPLES|PROVED)\.md|docs/.*\.[13]"
+)
+USER_WORDS = [(re.compile(r"\bfault(s|y)?\b", re.IGNORECASE), "error")]
+
 # Forms that a native reader stops at, and how many of them 1,000 words of the pages may have.
 FORMS = re.compile(r"\b(that|those)\s+of\b|\b(of|to|by|from|for|in|on|with|at)\s+which\b")
 FORMS_AT_MOST = 1.5
@@ -128,7 +134,7 @@ def findings(path, text):
         bare = re.sub(r"`[^`]*`", "``", comment)
         words = WORDS
         if kind == "page" and not line.startswith('.It "'):
-            words = WORDS + PAGE_WORDS
+            words = WORDS + PAGE_WORDS + (USER_WORDS if USER_PAGES.fullmatch(path) else [])
         for pattern, better in words:
             found = pattern.search(bare)
             if found:
