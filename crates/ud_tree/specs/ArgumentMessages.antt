@@ -28,7 +28,7 @@ use Rattle.ud_tree.specs.Paths.{escaped}
 use Rattle.ud_tree.specs.Summaries.{line_of}
 
 -- `in_its_place c`: what to use instead of the option with the letter `c` of unifdef(1), version
--- 2.12, if that isn't one here. Nothing for any other letter.
+-- 2.12, if that isn't one here, or of a long option, whose letter is `-`. Nothing for any other one.
 abbrev pub in_its_place : ℕ → List ℕ
 in_its_place c =
     if c == 66 then codes ": blank lines stay as they are"
@@ -39,6 +39,7 @@ in_its_place c =
     else if c == 109 then codes ": files are changed in place without it"
     else if c == 111 then codes ": files are changed in place; unifdef writes to its output"
     else if c == 83 then codes ": -s lists the symbols with their numbers"
+    else if c == 45 then codes ": each option is one letter; -n shows what would change"
     else []
 
 -- `mode_of word`: the exit mode in an argument of `-x`, which may have the option before it.

@@ -24,9 +24,10 @@
 -- `old` and `new` are the report before and after, or the calls, the newest first. `given` and
 -- `left` are what the input has before and after.
 use Rattle.std.specs.Prelude.{◌≡◌, ℕ, ◌+◌, ◌<◌, ◌^◌, List, [], ◌∷◌, ◌++◌, length, map, Bool, true}
-use Rattle.std.specs.Prelude.{false, not, codes, Option, IfSome, IfNone, Vec}
+use Rattle.std.specs.Prelude.{false, not, codes, nat_eq, Option, IfSome, IfNone, Vec}
 use Rattle.std.specs.declared.alloc.Global.{Global}
-use Rattle.std.specs.List.{flat_map, Contains}
+use Rattle.std.specs.List.{flat_map, list_any, Contains}
+use Rattle.ud_replace.specs.declared.node.Lookup.{Lookup}
 use Rattle.ud_replace.specs.declared.node.Lookup.TheVariants.{Present, Absent, Unknown}
 use Rattle.ud_replace.specs.declared.node.Node.{Node}
 use Rattle.ud_replace.specs.declared.node.NodeKind.TheVariants.{File, Link, Other}
@@ -51,7 +52,7 @@ is_refused (followed path answer) = false
 is_refused (listed folder names answer) = not answer
 
 -- `IsRefusal w message`: `w` found nothing or failed, and `message` is a line with its path and the
--- failure.
+-- failure. Or its path has a newline, and the line says what `-0` wants.
 pub data IsRefusal (w : WalkCall) (message : List ℕ) : Type 0 where
   is_missing : (path : List ℕ) → w ≡ met path Absent →
       message ≡ fault_line path (codes "No such file or folder") → IsRefusal w message
@@ -59,6 +60,10 @@ pub data IsRefusal (w : WalkCall) (message : List ℕ) : Type 0 where
       IsFailureOf path (codes "Cannot be found") message → IsRefusal w message
   is_unread : (folder : List ℕ) (names : List (List ℕ)) → w ≡ listed folder names false →
       IsFailureOf folder (codes "Cannot be read") message → IsRefusal w message
+  is_lines : (path : List ℕ) (answer : Lookup) → w ≡ met path answer → is_refused w ≡ true →
+      list_any (λ byte. nat_eq byte 10) path ≡ true → message ≡ line_of (codes
+          "Nothing is at a path of several lines; -0 wants a NUL after each path (git ls-files -z)") →
+      IsRefusal w message
 
 -- `input_message`: the message if the input couldn't be read.
 abbrev pub input_message : List ℕ

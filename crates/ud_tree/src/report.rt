@@ -41,6 +41,10 @@ const STEP: usize = 64;
 /// The fault of a file with another run's file beside it, whose path follows.
 const LOCKED: &[u8] = b"Another run is at it; if none is, remove ";
 
+/// The fault of a path that has newlines, as several paths have after which no NUL is.
+const SEVERAL_LINES: &[u8] =
+    b"Nothing is at a path of several lines; -0 wants a NUL after each path (git ls-files -z)";
+
 /// Writes a message that isn't a fault: the program's name, the parts, and a newline. Control bytes
 /// are shown as `\x` and two hexadecimal digits.
 ///
@@ -345,6 +349,10 @@ impl<E: Write> Report<E> {
     pub(crate) fn missing(&mut self, path: &[u8])
         ensures { ReportsOf (IsRefusal (met path.now Lookup.Absent)) self.old self.new }
     {
+        if path.contains(&b'\n') {
+            self.fault_of(&[SEVERAL_LINES]);
+            return;
+        }
         self.fault(path, b"No such file or folder");
     }
 
@@ -352,6 +360,10 @@ impl<E: Write> Report<E> {
     pub(crate) fn unknown(&mut self, path: &[u8], reason: Option<io::Error>)
         ensures { ReportsOf (IsRefusal (met path.now Lookup.Unknown)) self.old self.new }
     {
+        if path.contains(&b'\n') {
+            self.fault_of(&[SEVERAL_LINES]);
+            return;
+        }
         self.failure(path, b"Cannot be found", reason);
     }
 
@@ -476,6 +488,7 @@ fn in_its_place(letter: char) -> &'static [u8]
         'm' => b": files are changed in place without it",
         'o' => b": files are changed in place; unifdef writes to its output",
         'S' => b": -s lists the symbols with their numbers",
+        '-' => b": each option is one letter; -n shows what would change",
         _ => b"",
     }
 }
