@@ -7,6 +7,10 @@
 mod painter;
 mod synced;
 
+ghost use Rattle.std.specs.Prelude.{◌≡◌};
+ghost use Rattle.unifdef_tree_cli.specs.Screens.{allows_colours, allows_counter, is_dumb};
+ghost use Rattle.unifdef_tree_cli.specs.Screens.{is_unwanted};
+
 use crate::painter::Painter;
 use crate::synced::Synced;
 use std::alloc::AllocError;
@@ -84,7 +88,9 @@ fn taken(rt: &HostRuntime) -> Option<File> {
 /// Runs over the system's files. On a terminal, shows what would change in colours.
 fn run(rt: &HostRuntime, arguments: &Arguments) -> ExitCode {
     let stdout = rt.stdout();
-    if stdout.is_terminal() && allows_colours(rt, arguments) {
+    let dumb = is_dumb(env::var(rt, "TERM"));
+    let paints = allows_colours(arguments.task, dumb, env::var(rt, "NO_COLOR"));
+    if stdout.is_terminal() && paints {
         return run_to(rt, arguments, Painter::new(stdout));
     }
     match diffs(rt, arguments) {
@@ -113,7 +119,9 @@ fn run_to<W: Write + Drop>(rt: &HostRuntime, arguments: &Arguments, stdout: W) -
     let job = Job {
         alloc: rt.alloc(),
         arguments,
-        is_terminal: stderr.is_terminal() && allows_counter(arguments) && !is_dumb(rt),
+        is_terminal: stderr.is_terminal()
+            && allows_counter(arguments)
+            && !is_dumb(env::var(rt, "TERM")),
     };
     let calls = Calls::new(rt);
     let mut disk = Disk::new(&calls, rt.alloc());
@@ -129,7 +137,9 @@ fn run_to<W: Write + Drop>(rt: &HostRuntime, arguments: &Arguments, stdout: W) -
 
 /// Returns whether a terminal may show how many files are done. The last lines remove that, so
 /// there must be some. Nothing else may be written: the output may go to the same terminal.
-fn allows_counter(arguments: &Arguments) -> bool {
+fn allows_counter(arguments: &Arguments) -> bool
+    ensures { result ≡ allows_counter arguments.now }
+{
     let replaces = match arguments.task {
         Task::Replace => true,
         Task::Diff | Task::Names => false,
@@ -137,22 +147,33 @@ fn allows_counter(arguments: &Arguments) -> bool {
     replaces && !arguments.quiet && !arguments.list_remaining && !arguments.show_changes
 }
 
-/// Returns whether a terminal may show colours: changes are shown, the terminal isn't a dumb one,
-/// and `NO_COLOR` is unset or empty.
-fn allows_colours(rt: &HostRuntime, arguments: &Arguments) -> bool {
-    match arguments.task {
-        Task::Diff if is_dumb(rt) => false,
-        Task::Diff => match env::var(rt, "NO_COLOR") {
-            Ok(value) => value.is_empty(),
-            Err(error) => matches!(error, VarError::NotPresent),
-        },
+/// Returns whether a terminal may show colours, by whether it is a dumb one and by the value of
+/// `NO_COLOR`: changes are shown, and the value is unset or empty.
+fn allows_colours(task: Task, dumb: bool, value: Result<String, VarError>) -> bool
+    ensures { result ≡ allows_colours task dumb value }
+{
+    match task {
+        Task::Diff => !dumb && !is_unwanted(value),
         Task::Replace | Task::Names => false,
     }
 }
 
-/// Returns whether the terminal can neither colour a line nor remove it, by its kind.
-fn is_dumb(rt: &HostRuntime) -> bool {
-    match env::var(rt, "TERM") {
+/// Returns whether colours are unwanted, by the value of `NO_COLOR`.
+fn is_unwanted(value: Result<String, VarError>) -> bool
+    ensures { result ≡ is_unwanted value }
+{
+    match value {
+        Ok(value) => !value.is_empty(),
+        Err(VarError::NotPresent) => false,
+        Err(VarError::NotUnicode | VarError::OutOfMemory) => true,
+    }
+}
+
+/// Returns whether the terminal can neither colour a line nor remove it, by the value of `TERM`.
+fn is_dumb(value: Result<String, VarError>) -> bool
+    ensures { result ≡ is_dumb value }
+{
+    match value {
         Ok(kind) => kind.as_str() == "dumb",
         Err(_) => false,
     }

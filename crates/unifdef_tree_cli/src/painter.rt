@@ -1,5 +1,9 @@
 //! The colours of a diff on a terminal.
 
+ghost use Rattle.std.specs.Prelude.{◌≡◌, ◌||◌, [], OnOk, true, false, if◌then◌else◌};
+ghost use Rattle.std.specs.Io.KnownBytes.{Appends};
+ghost use Rattle.unifdef_tree_cli.specs.Painting.{colour_of, has_colour, plain};
+
 use std::io::{self, Write};
 
 /// The bytes that end a colour.
@@ -18,7 +22,9 @@ pub(crate) struct Painter<W: Write + Drop> {
 
 impl<W: Write + Drop> Painter<W> {
     /// Returns a writer at the beginning of a line.
-    pub(crate) fn new(out: W) -> Painter<W> {
+    pub(crate) fn new(out: W) -> Painter<W>
+        ensures { result ≡ record { out = out; is_coloured = false; is_at_start = true } }
+    {
         Painter {
             out,
             is_coloured: false,
@@ -27,7 +33,12 @@ impl<W: Write + Drop> Painter<W> {
     }
 
     /// Writes the colour of a line by its first byte, if it has one.
-    fn begin(&mut self, first: u8) -> io::Result<()> {
+    fn begin(&mut self, first: u8) -> io::Result<()>
+        ensures written { OnOk result (Appends (W.contents self.old.out) (W.contents self.new.out)
+            (colour_of first)) }
+        ensures coloured { self.new.is_coloured ≡ (has_colour first || self.old.is_coloured) }
+        ensures begun { self.new.is_at_start ≡ false }
+    {
         self.is_at_start = false;
         let colour = match first {
             b'-' => b"\x1b[31m",
@@ -40,7 +51,12 @@ impl<W: Write + Drop> Painter<W> {
     }
 
     /// Ends the colour of a line.
-    fn end(&mut self) -> io::Result<()> {
+    fn end(&mut self) -> io::Result<()>
+        ensures written { OnOk result (Appends (W.contents self.old.out) (W.contents self.new.out)
+            (if self.old.is_coloured then plain else [])) }
+        ensures coloured { self.new.is_coloured ≡ false }
+        ensures ended { self.new.is_at_start ≡ true }
+    {
         self.is_at_start = true;
         if !self.is_coloured {
             return Ok(());

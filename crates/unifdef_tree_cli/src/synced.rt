@@ -1,5 +1,7 @@
 //! A writer whose bytes reach the disk.
 
+ghost use Rattle.std.specs.Prelude.{◌≡◌};
+
 use std::fs::OpenFile;
 use std::io::{self, Write};
 
@@ -14,7 +16,9 @@ pub(crate) struct Synced<W: Write + Drop, F: OpenFile + Drop> {
 
 impl<W: Write + Drop, F: OpenFile + Drop> Synced<W, F> {
     /// Returns a writer to a file that is open twice: `out` writes to it.
-    pub(crate) fn new(out: W, file: F) -> Synced<W, F> {
+    pub(crate) fn new(out: W, file: F) -> Synced<W, F>
+        ensures { result ≡ record { out = out; file = file } }
+    {
         Synced { out, file }
     }
 }
