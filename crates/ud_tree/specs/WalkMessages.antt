@@ -62,7 +62,7 @@ pub data IsRefusal (w : WalkCall) (message : List ℕ) : Type 0 where
       IsFailureOf folder (codes "Cannot be read") message → IsRefusal w message
   is_lines : (path : List ℕ) (answer : Lookup) → w ≡ met path answer → is_refused w ≡ true →
       list_any (λ byte. nat_eq byte 10) path ≡ true → message ≡ line_of (codes
-          "Nothing is at a path of several lines; -0 wants a NUL after each path (git ls-files -z)") →
+      "Nothing is at a path of several lines; -0 wants a NUL after each path (git ls-files -z)") →
       IsRefusal w message
 
 -- `input_message`: the message if the input couldn't be read.
