@@ -392,7 +392,10 @@ impl<E: Write> Report<E> {
 
 /// Writes that an argument isn't UTF-8. Files with such names are found in their folders, each with
 /// a fault of its own.
-pub fn report_bad_argument<E: Write>(alloc: Global, err: &mut Watched<E>, argument: &[u8]) {
+pub fn report_bad_argument<E: Write>(alloc: Global, err: &mut Watched<E>, argument: &[u8])
+    ensures { RefusesArgument argument.now (stream_of E.contents err.old)
+        (stream_of E.contents err.new) }
+{
     match escaped(alloc, argument) {
         Ok(shown) => {
             let shown = shown.as_slice();
