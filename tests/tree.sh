@@ -272,6 +272,7 @@ refused_arguments() {
 1:-L src:Unknown option -L
 1:-m src:Unknown option -m: files are changed in place without it
 1:-DA -qa src:Unknown option -a
+1:--dry-run src:Unknown option --: each option is one letter; -n shows what would change
 0:-D:Option -D needs an argument
 0:-g:Option -g needs an argument
 0:-DA src -x2:Option after a path: -x2
@@ -906,6 +907,11 @@ paths_from_input() {
   (cd "$work/run" && "$TREE" -0 -DA < "$work/paths" > "$work/out" 2> "$work/err") || status=$?
   check 'input: find -print0' same "$status $(cat "$work/err")" '1 unifdef-tree: 2 changed, 1 unchanged, 0 faulty
 unifdef-tree: 8 lines removed'
+  find src > "$work/paths"
+  status=0
+  (cd "$work/run" && "$TREE" -0 -q -DA < "$work/paths" > "$work/out" 2> "$work/err") || status=$?
+  check 'input: lines' same "$status $(cat "$work/err")" "2 unifdef-tree: Nothing is at a path of \
+several lines; -0 wants a NUL after each path (git ls-files -z)"
   tree -0 -DA
   check 'input: no path' same "$status $(cat "$work/err")" '0 unifdef-tree: 0 changed, 0 unchanged, 0 faulty'
   for option in -V --version; do

@@ -576,7 +576,23 @@ tree_within() {
     status=$?
 }
 
-# Tests that a file with a line over the limit is not read to its end, which may be far away.
+# Tests that a file of more than one block is read whole, again before it is replaced, and written
+# whole.
+large_files() {
+  fresh_tree
+  { printf '%b' "$text"; yes 'int x;' | head -n 2600000; } > src/a.c
+  { echo yes; yes 'int x;' | head -n 2600000; } > "$work/wanted"
+  for words in -DA '-p -DA' '-w -DA'; do
+    cp src/a.c src/b.c
+    # shellcheck disable=SC2086
+    tree -q $words src/b.c
+    check "a large file: $words: status" same "$status" 1
+    check "a large file: $words: bytes" cmp -s src/b.c "$work/wanted"
+  done
+}
+
+# Tests that a file with a line over the limit is not read to its end, which may be far away. A line
+# of the limit is read, also at the end of a block.
 long_lines() {
   fresh_tree
   put src/a.c "$text"
@@ -585,6 +601,14 @@ long_lines() {
   check 'a long line: status' same "$status" 2
   check 'a long line: message' has_line "$work/err" 'unifdef-tree: src/long.c: Cannot be read: line too long'
   check 'a long line: the other file' holds src/a.c 'yes\n'
+  fresh_tree
+  { printf '%b' "$text"; head -c 65535 /dev/zero | tr '\0' a; echo; } > src/a.c
+  { printf '%b' "$text"; head -c 65536 /dev/zero | tr '\0' a; echo; } > src/b.c
+  tree -q -DA src
+  check 'a line of the limit: status' same "$status" 2
+  check 'a line of the limit: size' same "$(stat -c %s src/a.c)" 65540
+  check 'a line over the limit: message' has_line "$work/err" \
+    'unifdef-tree: src/b.c: 6: Line too long'
 }
 
 # Tests the lists of -r and -s with less and less memory: each is whole, or a message says that it
@@ -760,6 +784,7 @@ safety() {
   marks
   locks
   inputs
+  large_files
   long_lines
   little_memory
   lost_for_memory
