@@ -104,12 +104,12 @@ unfolding split_lines
 read_marks-none ls [] e = refl
 read_marks-none ls (b ∷ bs) e = cc
 
--- What is printed for judged lines, read back.
+-- The bytes printed for judged lines are read back.
 read_each : {X : Type 0} (line shown : X → List ℕ) (xs : List X) → read_marks (map line xs) (map shown xs) ≡ map (λ x. read_mark (line x) (shown x)) xs
 read_each line shown [] = refl
 read_each line shown (x ∷ xs) = ap (λ (ms : List ℕ). read_mark (line x) (shown x) ∷ ms) (read_each line shown xs)
 
--- What is printed in place of a line is the line, or a line of its own.
+-- The bytes printed in place of a line are the line, or a line of their own.
 data Shows (line shown : List ℕ) : Type 0 where
   same : shown ≡ line → Shows line shown
   other : (mark : ℕ) → mark ≢ 10 → shown ≡ mark ∷ 10 ∷ [] → Shows line shown
@@ -123,7 +123,7 @@ shows_formed line shown s (inl whole) = inl (shows_whole line shown s whole)
 shows_formed line shown (same e) (inr rest) = inr (subst IsUnterminated (sym e) rest)
 shows_formed line shown (other mark n e) (inr rest) = inl (mark ∷ [], (n, tt), e)
 
--- What is printed in place of the lines of a text are lines.
+-- The bytes printed in place of the lines of a text are lines.
 all_formed : {X : Type 0} (line shown : X → List ℕ) (shows : (x : X) → Shows (line x) (shown x)) (xs : List X) → AreFormed (map line xs) → AreFormed (map shown xs)
 all_formed line shown shows [] h = tt
 all_formed line shown shows (x ∷ []) h = shows_formed (line x) (shown x) (shows x) h

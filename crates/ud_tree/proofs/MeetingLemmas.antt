@@ -16,7 +16,7 @@ unless_true : (b : Bool) → ¬ (b ≡ true) → b ≡ false
 unless_true true not_true = absurd (not_true refl)
 unless_true false not_true = refl
 
--- What is known of the other folders stays.
+-- Other folders keep what was met there.
 pub keeps_first : {Y : Type 0} (bs : List ℕ) (m n : BTreeMap (String Y) Met) (w : Option Met) → IsNone (get_by_text m bs) → tree.UpdatesBy string_cmp (λ k. slice_cmp nat_cmp bs (string_bytes k)) m n w → KeepsMet m n
 keeps_first bs m n w none u folder some =
     let apart : ¬ (bs ≡ folder) = λ same. let absent : is_some (get_by_text m folder) ≡ false = subst (λ f. is_some (get_by_text m f) ≡ false) same none in cc in

@@ -30,13 +30,13 @@ prints_whole o piece text old mid new more differs e h = record {
   printed = h.appended ∙ ap (λ (x : List ℕ). x ++ h.more) e ∙ append_assoc old more h.more ∙ ap (λ (x : List ℕ). old ++ x) h.printed_is;
 }
 
--- The same for any result of the end.
+-- Any result of the end has the same.
 pub finish_prints : (o : Options) (piece : List Judged → Judged → List ℕ) (text old mid new more : List ℕ) (failed : Bool) (r : Result Bool RunFault) → mid ≡ old ++ more →
     Finishes (record { options = o; pieces = piece; text = text; printed = more }) failed (Some mid) (Some new) r → IfOk r (λ differs. PrintsBy o piece text old new)
 finish_prints o piece text old mid new more failed (Ok differs) e h = prints_whole o piece text old mid new more differs e h
 finish_prints o piece text old mid new more failed (Err f) e h = tt
 
--- What a printer of marks prints for a line under the settings.
+-- A printer of marks prints this for a line under the settings.
 pub piece_by_settings : (s : Settings) (blank b : Bool) (j : Judged) → blank ≡ s.blank → s.complement ≡ b →
     mark_piece blank (if b then complemented j else j) ≡ mark_piece s.blank (judged_by s j)
 piece_by_settings s blank b j e h = ap₂ (λ (x y : Bool). mark_piece x (if y then complemented j else j)) e (sym h)

@@ -28,7 +28,7 @@ use Rattle.ud_tree.specs.Paths.{escaped}
 use Rattle.ud_tree.specs.Summaries.{line_of}
 
 -- `in_its_place c`: what to use instead of the option with the letter `c` of unifdef(1), version
--- 2.12, if that isn't one here, or of a long option, whose letter is `-`. Nothing for any other one.
+-- 2.12, if that isn't one here, or of a long option, whose letter is `-`. Nothing for any other.
 abbrev pub in_its_place : ℕ → List ℕ
 in_its_place c =
     if c == 66 then codes ": blank lines stay as they are"

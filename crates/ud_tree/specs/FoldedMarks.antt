@@ -8,7 +8,8 @@
 --
 -- Example: a directive of three lines stays, and is printed in two. It is one folded line with the
 -- mark `~`, and its lines have the marks `=`, `=` and 0.
-use Rattle.std.specs.Prelude.{◌≡◌, ℕ, ◌+◌, ◌-◌, ◌==◌, ◌||◌, List, [], ◌∷◌, ◌++◌, Bool, min, replicate}
+use Rattle.std.specs.Prelude.{◌≡◌, ℕ, ◌+◌, ◌-◌, ◌==◌, ◌||◌, List, [], ◌∷◌, ◌++◌, Bool, min}
+use Rattle.std.specs.Prelude.{replicate}
 use Rattle.std.specs.Prelude.{if◌then◌else◌}
 use Rattle.std.specs.List.{count_by}
 use Rattle.ud_model.specs.text.Lines.{texts_of}
@@ -36,8 +37,8 @@ abbrev pub marks_for : ℕ → List ℕ → List ℕ → List ℕ
 marks_for m folded shown =
     first_stay (represented folded) (if stays m then represented shown else 0)
 
--- `unfolded ms folded printed`: the marks of the lines that the lines `folded` represent, which have
--- the marks `ms`. For each line that stays, the next one of the lines `printed` is printed.
+-- `unfolded ms folded printed`: the marks of the lines that the lines `folded` represent, which
+-- have the marks `ms`. For each line that stays, the next one of the lines `printed` is printed.
 abbrev pub unfolded : List ℕ → List (List ℕ) → List (List ℕ) → List ℕ
 unfolded [] folded printed = []
 unfolded (m ∷ ms) folded printed = marks_for m (first_text folded) (first_text printed) ++

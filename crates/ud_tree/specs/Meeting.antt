@@ -29,9 +29,10 @@ abbrev pub KeepsMet : {Y : Type 0} → BTreeMap (String Y) Met → BTreeMap (Str
 KeepsMet met met' = (folder : List ℕ) → IsSome (get_by_text met folder) →
     get_by_text met' folder ≡ get_by_text met folder
 
--- `MeetsFirst path id met met'`: `id` was met at the folder `path`, unless one was met there before.
-pub record MeetsFirst {Y : Type 0} (path : List ℕ) (id : FileId) (met met' : BTreeMap (String Y) Met) :
-    Type 0 where
+-- `MeetsFirst path id met met'`: `id` was met at the folder `path`, unless one was met there
+-- before.
+pub record MeetsFirst {Y : Type 0} (path : List ℕ) (id : FileId)
+    (met met' : BTreeMap (String Y) Met) : Type 0 where
   pub folder : List ℕ
   pub slashed : IsFolderPath path folder
   pub first : IsNone (get_by_text met folder) → get_by_text met' folder ≡ Some (Is id)
@@ -55,8 +56,8 @@ pub record Follows {F : Type 0} (followed : List ℕ → Facts → Type 0)
   pub show : shows file shown
   pub same : is_same shown.node.id found.node.id ≡ true
 
--- `TriesProc .. proc proc' file`: it was known whether `/proc` leads to open folders; or it is known
--- now, by a look at this one by its number.
+-- `TriesProc .. proc proc' file`: it was known whether `/proc` leads to open folders; or it is
+-- known now, by a look at this one by its number.
 pub data TriesProc {F : Type 0} (followed : List ℕ → Facts → Type 0)
     (numbers : F → List ℕ → Type 0) (shows : F → Facts → Type 0) (proc proc' : Option Bool)
     (file : F) : Type 0 where

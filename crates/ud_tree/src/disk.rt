@@ -4,8 +4,8 @@
 //! was met there (`Folders`). Paths are UTF-8: the library opens no others, so no other name can be
 //! read. `System` has the calls of the system, and the files beside it say what they are used for.
 
-ghost use Rattle.std.specs.Prelude.{◌≡◌, ◌↔◌, ◌∷◌, ◌⊎◌, [], IfOk, IfSome, MatchResult, None, OnOk, Some};
-ghost use Rattle.std.specs.Prelude.{true, false};
+ghost use Rattle.std.specs.Prelude.{◌≡◌, ◌↔◌, ◌∷◌, ◌⊎◌, [], IfOk, IfSome, MatchResult, OnOk};
+ghost use Rattle.std.specs.Prelude.{None, Some, false, true};
 ghost use Rattle.std.specs.IoError.{error_kind};
 ghost use Rattle.std.specs.Io.{WritesAtMost};
 ghost use Rattle.ud_replace.specs.Calls.{walked};

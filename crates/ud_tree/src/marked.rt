@@ -13,8 +13,8 @@ pub(crate) const REMOVED: u8 = 0;
 
 /// A printer that prints each line that stays as it is, and a mark in place of each other one:
 /// `EDITED` for a line that another one replaces, and `REMOVED` if nothing is printed. So many
-/// lines that stay are printed at once. A newline follows each mark, so the output has as many lines
-/// as the text.
+/// lines that stay are printed at once. A newline follows each mark, so the output has as many
+/// lines as the text.
 #[derive(Drop)]
 pub(crate) struct Marked {
     /// True if removed lines are blanked.

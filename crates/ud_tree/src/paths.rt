@@ -94,7 +94,8 @@ pub(crate) fn fresh_name(alloc: Global, path: &[u8]) -> Result<Vec<u8>, AllocErr
     Ok(fresh)
 }
 
-/// Appends a byte, or `\x` and two hexadecimal digits if it isn't printable ASCII or is a backslash.
+/// Appends a byte, or `\x` and two hexadecimal digits if it isn't printable ASCII or is a
+/// backslash.
 #[tactic(auto, unfolding(crate::specs::Paths::escaped_byte))]
 fn push_escaped(out: &mut Vec<u8>, byte: u8) -> Result<(), AllocError>
     ensures { OnOk result (out.new.items ≡ out.old.items ++ escaped_byte byte) }

@@ -34,8 +34,8 @@ fn main(rt: HostRuntime) -> ExitCode {
 
 /// Returns the name of the input file, if the arguments name one.
 fn file_name(args: &[String]) -> Option<&str>
-    ensures { option_copied result ≡ option_and_then
-        (λ index. slice_get (map string_bytes args.now) index) (input_of (map string_bytes args.now)) }
+    ensures { let words = map string_bytes args.now in
+        option_copied result ≡ option_and_then (slice_get words) (input_of words) }
 {
     let index = input_of(args)?;
     Some(args.get(index)?.as_str())

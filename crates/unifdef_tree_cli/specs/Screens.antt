@@ -19,8 +19,8 @@ replaces Replace = true
 replaces Diff = false
 replaces Names = false
 
--- `allows_counter args`: the number of files may be shown, since the run replaces files and its last
--- lines follow, and since the output has no list and no diff.
+-- `allows_counter args`: the number of files may be shown, since the run replaces files and its
+-- last lines follow, and since the output has no list and no diff.
 abbrev pub allows_counter : Arguments → Bool
 allows_counter args = replaces args.task && not args.quiet && not args.list_remaining &&
     not args.show_changes

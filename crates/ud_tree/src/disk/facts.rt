@@ -12,7 +12,7 @@ use ud_replace::{FileId, FileStat, Node, NodeKind};
 pub struct Facts {
     /// Its kind and identity.
     pub node: Node,
-    /// What else is known of it.
+    /// The other facts about it.
     pub stat: FileStat,
 }
 

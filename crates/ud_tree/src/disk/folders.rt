@@ -5,8 +5,8 @@
 //! the open folder, through `/proc`. One folder is open at a time. To keep folders in another way,
 //! change only `compared` and `entry_of`.
 
-ghost use Rattle.std.specs.Prelude.{◌≡◌, ◌⊎◌, IfOk, IfSome, IsNone, MatchOption, OnOk, Some, false, true};
-ghost use Rattle.std.specs.Prelude.{◌↔◌, string_bytes};
+ghost use Rattle.std.specs.Prelude.{◌≡◌, ◌⊎◌, ◌↔◌, IfOk, IfSome, IsNone, MatchOption, OnOk};
+ghost use Rattle.std.specs.Prelude.{None, Some, false, string_bytes, true};
 ghost use Rattle.std.specs.BTreeMap.{get_by_text};
 ghost use Rattle.ud_tree.specs.Evidence.{is_same};
 ghost use Rattle.ud_tree.specs.Meeting.{EntersAt, Follows, IsCompared, IsEntry, IsPlace, KeepsMet};
@@ -155,7 +155,8 @@ impl<S: System> Folders<S> {
     /// the user may not open it: the folder of a given path needn't be listed.
     fn compared(&mut self, system: &S, folder: &str) -> io::Result<Option<S::File>>
         ensures opened { IfOk result (λ opened. IfSome opened (λ file.
-            S.File.entered file folder.now × IsCompared S.File.shows folder.now self.new.met file)) }
+            S.File.entered file folder.now ×
+            IsCompared S.File.shows folder.now self.new.met file)) }
         ensures kept { KeepsMet self.old.met self.new.met }
     {
         let met = self.met.get(folder).copied();

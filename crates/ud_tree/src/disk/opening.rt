@@ -87,7 +87,8 @@ pub(crate) fn look_at<S: System>(system: &S, path: &str) -> io::Result<FileStat>
     system.look(path)?.regular()
 }
 
-/// Checks that a look at a path finds an open file. Another program may have put another file there.
+/// Checks that a look at a path finds an open file. Another program may have put another file
+/// there.
 ///
 /// # Errors
 /// Fails if it doesn't, or if that can't be known.

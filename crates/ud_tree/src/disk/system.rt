@@ -40,7 +40,7 @@ pub trait SystemFile: Read + Write {
     ghost owner_set: { Self → Option ℕ → ℕ → Result Unit Error → Type 0 };
     /// This mode was set.
     ghost mode_set: { Self → ℕ → Type 0 };
-    /// What came after so many bytes was cut off.
+    /// It was cut off after so many bytes.
     ghost cut_at: { Self → ℕ → Type 0 };
     /// Its bytes are on the disk.
     ghost is_synced: { Self → Type 0 };
@@ -115,8 +115,8 @@ pub trait System {
         requires looked { looked path.now found.now }
         ensures { IfOk result (λ file. Self.File.opened file path.now found.now) };
 
-    /// Opens a regular file for reading and writing, and keeps its bytes. For writing alone, a pipe
-    /// that was put there would wait for a reader.
+    /// Opens a regular file for reading and writing, and keeps its bytes. Opened for writing alone,
+    /// a pipe would wait for a reader.
     fn update(&self, path: &str, found: &Facts) -> io::Result<Self::File>
         requires regular { found.now.node.kind ≡ NodeKind.File }
         requires looked { looked path.now found.now }
