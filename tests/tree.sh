@@ -979,12 +979,19 @@ deep() {
 
 # Tests the deepest conditions with the stack that the manual names.
 small_stack() {
-  local kind n kib
+  local kind n kib words
   fresh_tree
   put src/plain.c "$text"
-  (ulimit -s 300 && tree -DA src; exit "$status")
-  check 'stack: 300 KiB: status' same "$?" 1
-  check 'stack: 300 KiB' holds src/plain.c 'yes\n'
+  (ulimit -s 450 && tree -DA src; exit "$status")
+  check 'stack: 450 KiB: status' same "$?" 1
+  check 'stack: 450 KiB' holds src/plain.c 'yes\n'
+  for words in -DA '-p -r -DA'; do
+    put src/plain.c "$text$(repeat x 9000)\n"
+    # shellcheck disable=SC2086
+    (ulimit -s 650 && tree $words src; exit "$status")
+    check "stack: 650 KiB: a long line: $words: status" same "$?" 1
+    check "stack: 650 KiB: a long line: $words" holds src/plain.c "yes\n$(repeat x 9000)\n"
+  done
   for kind in '(A)' '!A' '- A'; do
     put src/plain.c "#if $(deep "$kind" 65000)\nx\n#endif\n"
     (ulimit -s 1200 && tree -DA src; exit "$status")
