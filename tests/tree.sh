@@ -276,6 +276,7 @@ refused_arguments() {
 0:-D:Option -D needs an argument
 0:-g:Option -g needs an argument
 0:-DA src -x2:Option after a path: -x2
+0:-g include/*.h -DA src:A pattern of -g has no slash: it matches names
 0:-0 src:-0 takes no paths
 0:-n -s src:-n and -s don't go together
 0:-d -s src:-d and -s don't go together

@@ -1,12 +1,12 @@
 -- Marks: the lines of a text one after another, and the marks that are read from a printer's output.
-use Rattle.std.proofs.Common.{◌≡◌, ◌≢◌, ℕ, zero, suc, ◌+◌, ◌-◌, ◌<◌, ◌≤◌, ◌==◌, Bool, true, false, not, ◌&&◌, if◌then◌else◌, cond, List, [], ◌∷◌, ◌++◌, length, take, drop, map, replicate, min, nat_le, get_or, refl, sym, ◌∙◌, ap, ap₂, subst, inl, inr, append_assoc, append-nil, take-append-drop, drop-cons, add-one, arith, bytes_eq, slice_index, ◌⊎◌, Option, None}
+use Rattle.std.proofs.Common.{◌≡◌, ◌≢◌, ℕ, suc, ◌+◌, ◌-◌, ◌<◌, ◌==◌, Bool, true, false, not, ◌&&◌, if◌then◌else◌, List, [], ◌∷◌, ◌++◌, length, take, drop, map, replicate, nat_le, get_or, refl, sym, ◌∙◌, ap, ap₂, subst, inl, inr, append_assoc, take-append-drop, drop-cons, add-one, arith, bytes_eq, ◌⊎◌, Option, None}
 use Rattle.std.specs.List.{concat}
 use Rattle.std.proofs.lemmas.Grind.{common_steps}
 use Rattle.std.proofs.lemmas.List.{take_all, drop_all, replicate-append-replicate}
 use Rattle.std.proofs.lemmas.Bool.Decides.{nat_tests}
 use Rattle.std.proofs.lemmas.Slice.Eq.{bytes_eq-Decides}
 use Rattle.std.proofs.Math.Nat.{le_refl}
-use Rattle.ud_model.specs.text.Lines.{NoNewline, IsWhole, IsUnterminated, AreFormed, AreLines, SplitLines, split_lines, texts_of, last_line, text_of}
+use Rattle.ud_model.specs.text.Lines.{NoNewline, IsWhole, IsUnterminated, AreFormed, SplitLines, split_lines, texts_of, last_line, text_of}
 use Rattle.ud_model.specs.text.Lines.{lines_of}
 use Rattle.ud_model.specs.text.Scans.{Reading}
 use Rattle.ud_model.specs.sections.Tree.{Item, Tree}
@@ -14,11 +14,11 @@ use Rattle.ud_model.specs.sections.Items.{Options, line_of}
 use Rattle.ud_model.specs.sections.Pruning.{is_removed, marks}
 use Rattle.ud_model.specs.sections.Faults.{Fault}
 use Rattle.ud_model.specs.answer.Printing.{Judged, complemented, judged_lines, pieces_by}
-use Rattle.ud_model.specs.answer.Outcomes.{ReadsAs, stops, ends, judged_as}
+use Rattle.ud_model.specs.answer.Outcomes.{ReadsAs, stops, ends}
 use Rattle.ud_model.specs.declared.settings.Settings.{Settings}
 use Rattle.ud_model.proofs.answer.Onward.{read_lines, judged_all}
 use Rattle.ud_model.proofs.sections.Stays.{length_marks}
-use Rattle.ud_model.proofs.text.LinesLemmas.{split_lines-line-prefix, split_lines-open, last_line-some, texts_of-formed, lines_exist, map-lines_of}
+use Rattle.ud_model.proofs.text.LinesLemmas.{split_lines-line-prefix, split_lines-open, texts_of-formed, lines_exist, map-lines_of}
 use Rattle.ud_text.specs.lines.LinesState.{UpToNewline}
 use Rattle.ud_tree.specs.Marks.{AreMarks, judged_by, mark_by, plain_piece, mark_of, mark_piece, first_text, later_texts, read_mark, read_marks}
 use Rattle.ud_tree.specs.FoldedMarks.{first_stay, marks_for, stays, unfolded}
@@ -190,10 +190,11 @@ pub are_marks : (o : Options) (piece : List Judged → Judged → List ℕ) (tex
     ((before : List Judged) → (j : Judged) → piece before j ≡ mark_piece o.settings.blank (judged_by o.settings j)) →
     new ≡ concat (pieces_by piece [] (judged_lines xs (marks t))) → ms ≡ read_marks (texts_of text) (texts_of new) → AreMarks o text ms
 are_marks o piece text new ms {xs} {t} reads alone printed read = record {
-  lines = judged_lines xs (marks t);
-  judged = judged_as reads;
+  items = xs;
+  tree = t;
+  reads = reads;
   all = judged_texts reads;
-  marks = read
+  each = read
       ∙ ap (λ (x : List ℕ). read_marks (texts_of text) (texts_of x)) (printed ∙ ap concat (pieces_alone piece (λ (j : Judged). mark_piece o.settings.blank (judged_by o.settings j)) alone [] (judged_lines xs (marks t))))
       ∙ marks_read o.settings (judged_lines xs (marks t)) text (judged_texts reads);
 }

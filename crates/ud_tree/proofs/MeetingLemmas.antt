@@ -1,8 +1,7 @@
 -- MeetingLemmas: what stays if a folder is met for the first time.
-use Rattle.std.proofs.Common.{◌≡◌, ℕ, List, Bool, true, false, Some, None, Option, IsSome, IsNone, is_some, refl, sym, ap, ◌∙◌, subst, cond, string_bytes, nat_cmp}
+use Rattle.std.proofs.Common.{◌≡◌, ℕ, List, Bool, true, false, Option, IsNone, is_some, refl, ap, ◌∙◌, subst, cond, string_bytes, nat_cmp}
 use Rattle.std.specs.Cmp.Lexicographic.{slice_cmp}
 use Rattle.std.specs.Str.{bytes_eq}
-use Rattle.std.specs.Map.{update}
 use Rattle.std.specs.BTreeMap as tree
 use Rattle.std.specs.BTreeMap.{BTreeMap, get_by_text}
 use Rattle.std.specs.String.{string_cmp}

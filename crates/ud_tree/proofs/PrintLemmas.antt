@@ -1,5 +1,5 @@
 -- Printing: an engine is fed a whole text, and ends.
-use Rattle.std.proofs.Common.{◌≡◌, ℕ, List, [], ◌++◌, Bool, false, if◌then◌else◌, None, Option, Some, Result, Ok, Err, IfOk, IfSome, is_err, refl, sym, ◌∙◌, ap, ap₂, append_assoc}
+use Rattle.std.proofs.Common.{◌≡◌, ℕ, List, [], ◌++◌, Bool, false, if◌then◌else◌, Some, Result, Ok, Err, IfOk, IfSome, is_err, sym, ◌∙◌, ap, ap₂, append_assoc}
 use Rattle.std.specs.Result.{result_ok}
 use Rattle.ud_model.specs.text.Lines.{texts_of}
 use Rattle.ud_model.specs.declared.settings.Settings.{Settings}
@@ -9,9 +9,8 @@ use Rattle.ud_args.specs.Plans.{PlanState, ForOptionsOf}
 use Rattle.ud_engine.specs.ProcessedLines.{text_by}
 use Rattle.ud_model.specs.sections.Items.{Options}
 use Rattle.ud_model.specs.answer.Printing.{Judged, complemented}
-use Rattle.ud_cond.specs.symbols.SymbolTable.{TableRepresents}
 use Rattle.ud_faults.specs.declared.run.RunFault.{RunFault}
-use Rattle.ud_engine.specs.Feeding.{EngineState, Session, Begins, IsInSession, Continues}
+use Rattle.ud_engine.specs.Feeding.{Session}
 use Rattle.ud_engine.specs.Finishing.{Finishes, FinishOk}
 use Rattle.ud_tree.specs.Marks.{AreMarks, PrintsBy, judged_by, mark_piece, read_marks}
 use Rattle.ud_tree.proofs.MarkLemmas.{are_marks}

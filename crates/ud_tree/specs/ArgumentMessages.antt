@@ -21,6 +21,7 @@ use Rattle.ud_tree.specs.declared.arguments.ArgumentFault.TheVariants.{BadMode}
 use Rattle.ud_tree.specs.declared.arguments.ArgumentFault.TheVariants.{BesideNames, SymbolsAndNames}
 use Rattle.ud_tree.specs.declared.arguments.ArgumentFault.TheVariants.{PruningAndComplement}
 use Rattle.ud_tree.specs.declared.arguments.ArgumentFault.TheVariants.{PruningAndPlain}
+use Rattle.ud_tree.specs.declared.arguments.ArgumentFault.TheVariants.{SlashInPattern}
 use Rattle.ud_tree.specs.declared.arguments.ArgumentFault.TheVariants.{OptionAfterPath, NoPath}
 use Rattle.ud_tree.specs.declared.arguments.ArgumentFault.TheVariants.{PathsAndInput, OutOfMemory}
 use Rattle.ud_tree.specs.declared.report.TheConstants.{USAGE}
@@ -63,6 +64,8 @@ argument_message PruningAndComplement =
     line_of (codes "-p and -c don't go together: the complement is no C")
 argument_message PruningAndPlain =
     line_of (codes "-p and -t don't go together: plain text has no comments")
+argument_message SlashInPattern =
+    line_of (codes "A pattern of -g has no slash: it matches names")
 argument_message (OptionAfterPath word) =
     line_of (codes "Option after a path: " ++ string_bytes word)
 argument_message PathsAndInput = line_of (codes "-0 takes no paths")

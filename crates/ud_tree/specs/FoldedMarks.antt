@@ -14,7 +14,7 @@ use Rattle.std.specs.Prelude.{if◌then◌else◌}
 use Rattle.std.specs.List.{count_by}
 use Rattle.ud_model.specs.text.Lines.{texts_of}
 use Rattle.ud_model.specs.sections.Items.{Options}
-use Rattle.ud_model.specs.output.FoldedTexts.{vertical_tab, folded_text}
+use Rattle.ud_simplified.specs.FoldedTexts.{vertical_tab, folded_text}
 use Rattle.ud_diff.specs.declared.script.TheConstants.{SAME, EDITED}
 use Rattle.ud_tree.specs.declared.marked.TheConstants.{REMOVED}
 use Rattle.ud_tree.specs.Marks.{AreMarks, first_text, later_texts}

@@ -20,9 +20,9 @@ use Rattle.ud_model.specs.text.Lines.{text_of, texts_of}
 use Rattle.ud_model.specs.text.Scans.{Reading}
 use Rattle.ud_model.specs.sections.Items.{Options}
 use Rattle.ud_model.specs.sections.Tree.{Item, Tree}
-use Rattle.ud_model.specs.sections.Pruning.{is_removed}
-use Rattle.ud_model.specs.answer.Printing.{Judged, piece_by, complemented}
-use Rattle.ud_model.specs.answer.Outcomes.{JudgedAs, ReadsAs}
+use Rattle.ud_model.specs.sections.Pruning.{is_removed, marks}
+use Rattle.ud_model.specs.answer.Printing.{Judged, judged_lines, piece_by, complemented}
+use Rattle.ud_model.specs.answer.Outcomes.{ReadsAs}
 use Rattle.ud_model.specs.declared.settings.Settings.{Settings}
 use Rattle.ud_engine.specs.ProcessedLines.{text_by}
 use Rattle.ud_diff.specs.declared.script.TheConstants.{SAME, EDITED}
@@ -71,13 +71,14 @@ read_marks ls (p ∷ ps) = read_mark (first_text ls) p ∷ read_marks (later_tex
 abbrev pub mark_by : Settings → Judged → ℕ
 mark_by s j = read_mark (text_of j.line) (mark_piece s.blank (judged_by s j))
 
--- `AreMarks o text ms`: the text is read as some judged lines, which are all of its lines, and `ms`
--- has the mark of each of them.
+-- `AreMarks o text ms`: the text has no fault. It is read as some judged lines, which are all of
+-- its lines, and `ms` has the mark of each of them.
 pub record AreMarks (o : Options) (text ms : List ℕ) : Type 0 where
-  pub lines : List Judged
-  pub judged : JudgedAs o text lines
-  pub all : map (λ j. text_of j.line) lines ≡ texts_of text
-  pub marks : ms ≡ map (mark_by o.settings) lines
+  pub items : List (Item Reading)
+  pub tree : Tree Reading
+  pub reads : ReadsAs o text items tree None
+  pub all : map (λ j. text_of j.line) (judged_lines items (marks tree)) ≡ texts_of text
+  pub each : ms ≡ map (mark_by o.settings) (judged_lines items (marks tree))
 
 -- `PrintsBy o piece text old new`: the text has no fault, and its output by the definition `piece`
 -- was appended to the bytes `old`, which are then `new`.

@@ -3,12 +3,12 @@
 -- The first arguments are evidence: `opened file path facts` and `updates file path facts` that a
 -- file was opened after a look found these facts, `looked` and `shows` as in `Evidence`, `starts b
 -- a` that `b` is the file `a` at its start, and `remaining` what is to be read of a file.
-use Rattle.std.specs.Prelude.{◌≡◌, ℕ, List, Bool, true, Option}
+use Rattle.std.specs.Prelude.{◌≡◌, ℕ, List, true, Option}
 use Rattle.ud_replace.specs.declared.node.NodeKind.TheVariants.{File}
 use Rattle.ud_replace.specs.declared.stat.FileStat.{FileStat}
 use Rattle.ud_tree.specs.declared.disk.facts.Facts.{Facts}
 use Rattle.ud_tree.specs.Evidence.{LeadsTo, is_same}
-use Rattle.ud_tree.specs.Reading.{ReadsAll, has_bad_mark}
+use Rattle.ud_tree.specs.Reading.{ReadsAll}
 
 -- `IsFound looked path stat`: a look at `path` found a regular file, with the facts `stat`.
 pub record IsFound (looked : List ℕ → Facts → Type 0) (path : List ℕ) (stat : FileStat) :

@@ -1,7 +1,7 @@
 -- Reading: the bytes that are read of a file, and the texts that aren't taken.
 --
 -- `old` and `new` are what a reader still has, before and after; `None` if it doesn't report that.
-use Rattle.std.specs.Prelude.{◌≡◌, ℕ, ◌+◌, ◌-◌, ◌≤◌, List, ◌++◌, length, drop, Bool, false, not}
+use Rattle.std.specs.Prelude.{◌≡◌, ℕ, ◌+◌, ◌-◌, List, ◌++◌, length, drop, Bool, not}
 use Rattle.std.specs.Prelude.{◌&&◌, ◌||◌, ◌⊎◌, Option, nat_eq, nat_lt, ◌∷◌, []}
 use Rattle.std.specs.List.{list_any, starts_with}
 use Rattle.std.specs.Io.KnownBytes.{Consumes, IsAtEnd}

@@ -3,13 +3,15 @@
 --   task_of gs              the task
 --   HasNoChange gs          no flag says how files are changed
 --   AreFitting gs           the options are compatible
+--   is_path pattern         the pattern has a slash
 --   IsArgumentsOf gs args   the arguments of a run
 --   IsRequestOf gs r        the request
 --   IsFaultIn gs f          a fault of the command line
 --
 -- `gs` is what the words of the command line give, one option or path after another.
 use Rattle.std.specs.Prelude.{◌≡◌, ◌⊎◌, ℕ, List, [], true, false, Some, None, map, string_bytes}
-use Rattle.std.specs.Prelude.{codes, if◌then◌else◌, not, ◌&&◌, ◌∷◌}
+use Rattle.std.specs.Prelude.{codes, if◌then◌else◌, nat_eq, not, ◌&&◌, ◌∷◌, Bool}
+use Rattle.std.specs.List.{list_any}
 use Rattle.ud_model.specs.answer.CommandLine.{UsageFault, unknown_option, missing_argument}
 use Rattle.ud_model.specs.answer.CommandLine.{bad_symbol_in, bad_mode_in, too_many_files}
 use Rattle.ud_model.specs.answer.CommandLine as args
@@ -29,6 +31,7 @@ use Rattle.ud_tree.specs.declared.arguments.ArgumentFault.TheVariants.{BadMode}
 use Rattle.ud_tree.specs.declared.arguments.ArgumentFault.TheVariants.{BesideNames, SymbolsAndNames}
 use Rattle.ud_tree.specs.declared.arguments.ArgumentFault.TheVariants.{PruningAndComplement}
 use Rattle.ud_tree.specs.declared.arguments.ArgumentFault.TheVariants.{PruningAndPlain}
+use Rattle.ud_tree.specs.declared.arguments.ArgumentFault.TheVariants.{SlashInPattern}
 use Rattle.ud_tree.specs.declared.arguments.ArgumentFault.TheVariants.{OptionAfterPath, NoPath}
 use Rattle.ud_tree.specs.declared.arguments.ArgumentFault.TheVariants.{PathsAndInput, OutOfMemory}
 
@@ -57,15 +60,20 @@ pub record AreFitting (gs : List Parsed) : Type 0 where
   pub complement : has_flag (codes "p") gs ≡ true → has_flag (codes "c") gs ≡ false
   pub plain : has_flag (codes "p") gs ≡ true → has_flag (codes "t") gs ≡ false
 
+-- `is_path pattern`: the pattern has a slash, so no name matches it.
+abbrev pub is_path : List ℕ → Bool
+is_path pattern = list_any (λ byte. nat_eq byte 47) pattern
+
 -- `IsArgumentsOf gs args`: `args` has what is given: the options of unifdef(1), each other option,
 -- the patterns and the paths. `-r` asks for the conditions that still name a symbol or, with `-s`,
 -- for those whose names can't be listed. The options are compatible. Either paths are given, or
--- `-0`.
+-- `-0`. No pattern has a slash.
 pub record IsArgumentsOf (gs : List Parsed) (args : Arguments) : Type 0 where
   pub fitting : AreFitting gs
   pub plan : PlanRepresents args.plan.run (unifdef_args gs)
   pub prunes : args.plan.prunes ≡ has_flag (codes "p") gs
   pub patterns : map string_bytes args.patterns.items ≡ patterns_in gs
+  pub names : list_any is_path (patterns_in gs) ≡ false
   pub paths : map string_bytes args.paths.items ≡ paths_in gs
   pub task : args.task ≡ task_of gs
   pub write_into : args.write_into ≡ has_flag (codes "w") gs
@@ -101,7 +109,7 @@ abbrev pub IsBadWord : (ℕ → UsageFault) → List Parsed → List ℕ → Typ
 IsBadWord fault gs w = (n : ℕ) × HasUsage gs (fault n) × (w ≡ word_at n gs)
 
 -- `IsFaultIn gs f`: `f` is the first fault of the words. Or it is a fault of two incompatible
--- options, of the options of unifdef(1), or of the paths. Or memory ran out.
+-- options, of the options of unifdef(1), of the patterns, or of the paths. Or memory ran out.
 abbrev pub IsFaultIn : List Parsed → ArgumentFault → Type 0
 IsFaultIn gs (UnknownOption c) = (first_fault gs ≡ Some (unknown c)) ⊎
     HasUsage gs (unknown_option c)
@@ -113,6 +121,7 @@ IsFaultIn gs (BesideNames c) = AreGiven (c ∷ []) (codes "s") gs
 IsFaultIn gs SymbolsAndNames = (has_symbols gs ≡ true) × (has_flag (codes "s") gs ≡ true)
 IsFaultIn gs PruningAndComplement = AreGiven (codes "p") (codes "c") gs
 IsFaultIn gs PruningAndPlain = AreGiven (codes "p") (codes "t") gs
+IsFaultIn gs SlashInPattern = list_any is_path (patterns_in gs) ≡ true
 IsFaultIn gs (OptionAfterPath w) = (n : ℕ) × (first_fault gs ≡ Some (late n (string_bytes w)))
 IsFaultIn gs PathsAndInput = (has_flag (codes "0") gs ≡ true) × ¬ (paths_in gs ≡ [])
 IsFaultIn gs NoPath = ((has_flag (codes "0") gs ≡ false) × (paths_in gs ≡ [])) ⊎

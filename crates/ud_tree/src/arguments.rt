@@ -2,11 +2,12 @@
 
 ghost use Rattle.std.specs.Prelude.{◌≡◌, None, IfOk, IfErr, IfSome, IfNone, map, string_bytes};
 ghost use Rattle.std.specs.Prelude.{◌∷◌, [], true};
+ghost use Rattle.std.specs.List.{list_any};
 ghost use Rattle.ud_args.specs.ParsedArgs.{parsed};
 ghost use Rattle.ud_args.specs.ParsedSettings.{IsUsageOf};
 ghost use Rattle.ud_args.specs.TreeWords.{given_in, first_fault, has_flag, unifdef_args};
 ghost use Rattle.ud_tree.specs.Requests.{IsRequestOf, IsArgumentsOf, IsFaultIn};
-ghost use Rattle.ud_tree.specs.Requests.{AreFitting, HasNoChange, task_of};
+ghost use Rattle.ud_tree.specs.Requests.{AreFitting, HasNoChange, is_path, task_of};
 
 use std::alloc::Global;
 use ud_args::{
@@ -94,6 +95,8 @@ pub enum ArgumentFault {
     PruningAndComplement,
     /// `-p` and `-t` together.
     PruningAndPlain,
+    /// A slash in a pattern: names have none.
+    SlashInPattern,
     /// An option after the first path.
     OptionAfterPath(String),
     /// Paths together with `-0`.
@@ -108,8 +111,8 @@ pub enum ArgumentFault {
 ///
 /// # Errors
 /// The first fault of the words from left to right. Else incompatible options, the first fault of
-/// the options of unifdef, or a fault of the paths. `OutOfMemory` if memory can't be allocated.
-/// Nothing was done.
+/// the options of unifdef, or a fault of the patterns or paths. `OutOfMemory` if memory can't be
+/// allocated. Nothing was done.
 pub fn parse_arguments(alloc: Global, words: &[String]) -> Result<Request, ArgumentFault>
     ensures request { IfOk result (IsRequestOf (given_in (map string_bytes words.now))) }
     ensures fault { IfErr result (IsFaultIn (given_in (map string_bytes words.now))) }
@@ -221,8 +224,8 @@ fn beside_names(given: &[ParsedArg<'_>]) -> Option<char>
 /// Returns the arguments of a run, whose options are compatible.
 ///
 /// # Errors
-/// The first fault of the options of unifdef, or a fault of the paths. `OutOfMemory` if memory
-/// can't be allocated.
+/// The first fault of the options of unifdef, or a fault of the patterns or paths. `OutOfMemory` if
+/// memory can't be allocated.
 fn run_of(alloc: Global, given: &[ParsedArg<'_>]) -> Result<Arguments, ArgumentFault>
     requires { AreFitting (parsed given.now) }
     ensures run { IfOk result (IsArgumentsOf (parsed given.now)) }
@@ -235,6 +238,9 @@ fn run_of(alloc: Global, given: &[ParsedArg<'_>]) -> Result<Arguments, ArgumentF
     let Ok(patterns) = patterns(alloc, given) else {
         return Err(ArgumentFault::OutOfMemory);
     };
+    if has_slash(patterns.as_slice()) {
+        return Err(ArgumentFault::SlashInPattern);
+    }
     let Ok(paths) = paths(alloc, given) else {
         return Err(ArgumentFault::OutOfMemory);
     };
@@ -261,6 +267,18 @@ fn run_of(alloc: Global, given: &[ParsedArg<'_>]) -> Result<Arguments, ArgumentF
         show_changes: has_flag(given, 'd'),
         has_symbols: has_symbols(given),
     })
+}
+
+/// Returns whether a pattern has a slash.
+fn has_slash(patterns: &[String]) -> bool
+    ensures { result ≡ list_any is_path (map string_bytes patterns.now) }
+{
+    for pattern in patterns {
+        if pattern.as_bytes().contains(&b'/') {
+            return true;
+        }
+    }
+    false
 }
 
 /// Returns the task.

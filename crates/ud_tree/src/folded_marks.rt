@@ -7,7 +7,7 @@ ghost use Rattle.std.specs.Prelude.{◌≡◌, ◌-◌, ◌<◌, ◌++◌, [], �
 ghost use Rattle.std.specs.Prelude.{length, IfOk, IfSome, OnOk, if◌then◌else◌};
 ghost use Rattle.ud_model.specs.text.Lines.{texts_of};
 ghost use Rattle.ud_model.specs.declared.settings.Listing.TheVariants.{Off};
-ghost use Rattle.ud_model.specs.output.FoldedTexts.{folded_text};
+ghost use Rattle.ud_simplified.specs.FoldedTexts.{folded_text};
 ghost use Rattle.ud_args.specs.Plans.{ForOptionsOf};
 ghost use Rattle.ud_tree.specs.FoldedMarks.{AreFoldedMarks, first_stay, represented, stays};
 ghost use Rattle.ud_tree.specs.FoldedMarks.{unfolded};

@@ -456,6 +456,13 @@ pub fn report_argument_fault<E: Write>(alloc: Global, err: &mut Watched<E>, faul
             err,
             &[b"-p and -t don't go together: plain text has no comments"],
         ),
+        ArgumentFault::SlashInPattern => {
+            report_line(
+                alloc,
+                err,
+                &[b"A pattern of -g has no slash: it matches names"],
+            );
+        }
         ArgumentFault::OptionAfterPath(word) => {
             report_line(alloc, err, &[b"Option after a path: ", word.as_bytes()]);
         }

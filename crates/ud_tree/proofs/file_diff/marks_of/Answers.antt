@@ -1,6 +1,5 @@
 -- By the printer, with `-c` or without.
-use Rattle.std.proofs.Common.{◌≡◌, ℕ, List, true, false, is_err, ap, sym, ◌∙◌, refl}
-use Rattle.ud_io.specs.Watched.{WatchedState}
+use Rattle.std.proofs.Common.{true, false, is_err, ap, sym, ◌∙◌}
 use Rattle.ud_model.specs.text.Lines.{texts_of}
 use Rattle.ud_model.specs.declared.settings.Settings.{Settings}
 use Rattle.ud_tree.specs.declared.marked.Marked.{Marked}

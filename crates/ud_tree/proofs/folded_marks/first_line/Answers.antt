@@ -1,9 +1,7 @@
 -- By the prefix up to the first newline.
-use Rattle.std.proofs.Common.{◌≡◌, ℕ, ◌+◌, length, take, drop, sym, ◌∙◌, ap}
+use Rattle.std.proofs.Common.{ℕ, take, drop, sym, ◌∙◌, ap}
 use Rattle.std.proofs.lemmas.List.{length-append}
-use Rattle.ud_model.specs.text.Lines.{texts_of, text_of}
-use Rattle.ud_model.specs.text.LineViews.{as_line}
-use Rattle.ud_tree.specs.Marks.{first_text, later_texts}
+use Rattle.ud_model.specs.text.Lines.{texts_of}
 use Rattle.ud_tree.proofs.MarkLemmas.{first_up_to, later_up_to}
 use Rattle.ud_tree.proofs.folded_marks.first_line.Goals as goal
 

@@ -1,5 +1,5 @@
 -- One line after another.
-use Rattle.std.proofs.Common.{◌≡◌, ℕ, ◌+◌, ◌++◌, ◌-◌, ◌∷◌, [], List, sym, ◌∙◌, ap, ap₂, append_assoc, append-nil, arith, if◌then◌else◌, ◌==◌}
+use Rattle.std.proofs.Common.{ℕ, ◌++◌, ◌∷◌, [], List, sym, ◌∙◌, ap, ap₂, append_assoc, append-nil, arith, if◌then◌else◌, ◌==◌}
 use Rattle.ud_tree.specs.FoldedMarks.{first_stay}
 use Rattle.ud_tree.proofs.MarkLemmas.{first_stay-more, first_stay-none, mark_after}
 use Rattle.ud_tree.proofs.folded_marks.push_marks.Goals as goal

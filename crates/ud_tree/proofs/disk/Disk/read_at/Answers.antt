@@ -1,4 +1,4 @@
-use Rattle.std.proofs.Common.{◌≡◌, ◌⊎◌, List, ℕ, ap, refl, sym, string_bytes, inl, inr}
+use Rattle.std.proofs.Common.{◌≡◌, ◌⊎◌, List, ℕ, ap, refl, string_bytes, inl, inr}
 use Rattle.ud_tree.specs.Opening.{IsRead, IsReadAgain}
 use Rattle.ud_tree.proofs.NamingLemmas.{at_place}
 use Rattle.ud_tree.proofs.disk.Disk.read_at.Goals as goal

@@ -1,4 +1,4 @@
-use Rattle.std.proofs.Common.{rules, sym}
+use Rattle.std.proofs.Common.{sym}
 use Rattle.ud_tree.specs.Changing.{has_both, gives_both, gives_group}
 use Rattle.ud_tree.proofs.disk.changing.give_owner.Goals as goal
 

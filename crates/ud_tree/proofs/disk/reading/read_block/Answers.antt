@@ -1,4 +1,4 @@
-use Rattle.std.proofs.Common.{take, arith, refl, rules}
+use Rattle.std.proofs.Common.{take, arith, refl}
 use Rattle.std.proofs.lemmas.Grind.{common_steps}
 use Rattle.ud_tree.proofs.ReadingLemmas.{block_read}
 use Rattle.ud_tree.proofs.disk.reading.read_block.Goals as goal
