@@ -31,7 +31,6 @@ use crate::disk::folders::Folders;
 use crate::disk::naming::{leads_to_folder, list_folder, node_at, remove_file, rename_file};
 use crate::disk::opening::{look_at, open_to_write, read_again, read_file};
 use crate::tree::Tree;
-pub use calls::Calls;
 pub use facts::Facts;
 pub(crate) use folders::is_other_file;
 use std::alloc::Global;

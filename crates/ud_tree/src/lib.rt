@@ -31,7 +31,7 @@ mod tree;
 mod walk;
 
 pub use arguments::{ArgumentFault, Arguments, Request, Task, parse_arguments};
-pub use disk::{Calls, Disk, Facts, System, SystemFile};
+pub use disk::{Disk, Facts, System, SystemFile};
 pub use help::print_help;
 pub use job::Job;
 pub use laws::{law_run_old_or_new, law_run_reads, law_run_renames, law_run_shows, law_run_status};

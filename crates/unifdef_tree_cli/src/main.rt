@@ -22,7 +22,7 @@ use std::process::ExitCode;
 use std::{env, io};
 use ud_io::Watched;
 use ud_tree::{
-    Arguments, Calls, Disk, EXIT_TROUBLE, Job, Request, Task, parse_arguments, print_help,
+    Arguments, Disk, EXIT_TROUBLE, Job, Request, Task, parse_arguments, print_help,
     report_argument_fault, report_bad_argument, report_line, run_tree,
 };
 
@@ -123,8 +123,7 @@ fn run_to<W: Write + Drop>(rt: &HostRuntime, arguments: &Arguments, stdout: W) -
             && allows_counter(arguments)
             && !is_dumb(env::var(rt, "TERM")),
     };
-    let calls = Calls::new(rt);
-    let mut disk = Disk::new(&calls, rt.alloc());
+    let mut disk = Disk::new(rt, rt.alloc());
     let mut input = Watched::new(rt.stdin());
     let mut out = Watched::new(stdout);
     let err = Watched::new(stderr);

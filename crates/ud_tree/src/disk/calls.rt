@@ -26,19 +26,6 @@ pub struct Handle {
     file: File,
 }
 
-/// The calls of a runtime.
-#[derive(Clone, Copy)]
-pub struct Calls<'r, R: Files<File = File>> {
-    files: &'r R,
-}
-
-impl<'r, R: Files<File = File>> Calls<'r, R> {
-    /// Returns the calls of a runtime.
-    pub fn new(files: &'r R) -> Calls<'r, R> {
-        Calls { files }
-    }
-}
-
 impl Read for Handle {
     fn read(&mut self, buf: &mut [u8]) -> io::Result<usize> {
         self.file.read(buf)
@@ -114,7 +101,7 @@ impl SystemFile for Handle {
     }
 }
 
-impl<R: Files<File = File>> System for Calls<'_, R> {
+impl<R: Files<File = File>> System for R {
     type File = Handle;
 
     type Names = R::Dir;
@@ -132,23 +119,20 @@ impl<R: Files<File = File>> System for Calls<'_, R> {
     ghost removed = { λ _. Unit {0} };
 
     fn look(&self, path: &str) -> io::Result<Facts> {
-        Ok(facts_of(&self.files.symlink_metadata(path)?))
+        Ok(facts_of(&Files::symlink_metadata(self, path)?))
     }
 
     fn follow(&self, path: &str) -> io::Result<Facts> {
-        Ok(facts_of(&self.files.metadata(path)?))
+        Ok(facts_of(&Files::metadata(self, path)?))
     }
 
     fn open(&self, path: &str, _found: &Facts) -> io::Result<Handle> {
-        let file = fs::open(self.files, path)?;
+        let file = fs::open(self, path)?;
         Ok(Handle { file })
     }
 
     fn update(&self, path: &str, _found: &Facts) -> io::Result<Handle> {
-        let file = OpenOptions::new()
-            .read(true)
-            .write(true)
-            .open(self.files, path)?;
+        let file = OpenOptions::new().read(true).write(true).open(self, path)?;
         Ok(Handle { file })
     }
 
@@ -157,12 +141,12 @@ impl<R: Files<File = File>> System for Calls<'_, R> {
             .write(true)
             .create_new(true)
             .mode(0o600)
-            .open(self.files, path)?;
+            .open(self, path)?;
         Ok(Handle { file })
     }
 
     fn enter(&self, path: &str) -> io::Result<Handle> {
-        let file = fs::open(self.files, path)?;
+        let file = fs::open(self, path)?;
         Ok(Handle { file })
     }
 
@@ -171,15 +155,15 @@ impl<R: Files<File = File>> System for Calls<'_, R> {
     }
 
     fn names(&self, path: &str) -> io::Result<R::Dir> {
-        self.files.open_dir(path)
+        self.open_dir(path)
     }
 
     fn rename(&self, _file: &Handle, from: &str, to: &str) -> io::Result<()> {
-        self.files.rename(from, to)
+        Files::rename(self, from, to)
     }
 
     fn remove(&self, _file: &Handle, path: &str) -> io::Result<()> {
-        self.files.remove_file(path)
+        self.remove_file(path)
     }
 }
 
