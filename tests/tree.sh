@@ -108,7 +108,7 @@ names() {
   check 'names: a file that is named' holds src/a.txt 'yes\n'
   put src/a.txt "$text"
   put src/b.txt "$text"
-  tree -DA -g src/a.txt src/b.txt
+  tree -DA -g a.txt src/b.txt
   check 'names: a file that is named, beside -g' holds src/b.txt 'yes\n'
   check 'names: a file that is named, beside -g: the other one' holds src/a.txt "$text"
   put src/x.cc "$text"
