@@ -581,7 +581,7 @@ tree_within() {
 large_files() {
   local words
   fresh_tree
-  # A small image has no room for them.
+  # An image of a file system may be too small for them.
   [ "$(df -k --output=avail . | tail -n 1)" -gt 150000 ] || return 0
   { printf '%b' "$text"; yes 'int x;' | head -n 2600000; } > src/a.c
   { echo yes; yes 'int x;' | head -n 2600000; } > "$work/wanted"
