@@ -62,7 +62,7 @@ unifdef-proved_${version}_amd64.deb
 unifdef-tree_${version}_amd64.deb"
 check 'checksums' sha256sum --quiet -c SHA256SUMS
 check 'checksums of all' same "$(wc -l < SHA256SUMS)" 8
-check 'what changed' same "$(sed -n '1p' NOTES.md) $(grep -c '^## ' NOTES.md)" "## $version 1"
+check 'what changed' same "$(sed -n '1{s/ (.*//;p}' NOTES.md) $(grep -c '^## ' NOTES.md)" "## $version 1"
 echo '//' >> "$second/lib/unifdef.h"
 check 'a change that is not committed' same "$("$second/packaging/release.sh" 2>&1; echo $?)" \
 "release: commit first: what is not committed would be in some of the files alone
