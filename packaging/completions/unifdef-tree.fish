@@ -35,6 +35,7 @@ function __unifdef_tree_at_options
     end
 end
 
+complete -c unifdef-tree -n __unifdef_tree_at_options -s B -d 'Leave out blank lines that only stood there because of removed ones'
 complete -c unifdef-tree -n __unifdef_tree_at_options -s b -d 'Leave removed lines blank'
 complete -c unifdef-tree -n __unifdef_tree_at_options -s c -d 'Print only the lines that would be removed'
 complete -c unifdef-tree -n __unifdef_tree_at_options -s D -x -a '(__unifdef_tree_values)' -d 'Define a symbol'
@@ -47,7 +48,7 @@ complete -c unifdef-tree -n __unifdef_tree_at_options -s U -x -a '(__unifdef_tre
 complete -c unifdef-tree -n __unifdef_tree_at_options -s x -x -a '0 1 2' -d 'Meaning of the exit status'
 complete -c unifdef-tree -n __unifdef_tree_at_options -s 0 -d 'Read paths from standard input'
 complete -c unifdef-tree -n __unifdef_tree_at_options -s d -d 'Print a diff of what is changed'
-complete -c unifdef-tree -n __unifdef_tree_at_options -s g -x -d 'Select files by name'
+complete -c unifdef-tree -n __unifdef_tree_at_options -s g -x -d 'Select files by name, or leave them out after !'
 complete -c unifdef-tree -n __unifdef_tree_at_options -s h -l help -d 'Print a line for each option'
 complete -c unifdef-tree -n __unifdef_tree_at_options -s n -d 'Show what would change'
 complete -c unifdef-tree -n __unifdef_tree_at_options -s p -d 'Remove decided operands from conditions that stay'

@@ -73,7 +73,7 @@ _unifdef() {
     -D* | -U*) _unifdef_symbol "$command" "${typed:0:2}" "${typed:0:2}" ;;
     -*)
       if [ "$command" = unifdef-tree ]; then
-        _unifdef_after '' '-0 -b -c -D -d -g -h -iD -iU -K -k -l -n -p -q -r -s -t -U -V -w -x0 -x1 -x2 -- --help --version'
+        _unifdef_after '' '-0 -B -b -c -D -d -g -h -iD -iU -K -k -l -n -p -q -r -s -t -U -V -w -x0 -x1 -x2 -- --help --version'
       else
         _unifdef_after '' '-b -c -D -iD -iU -K -k -l -n -S -s -t -U -x0 -x1 -x2 --'
       fi

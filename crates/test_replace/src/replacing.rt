@@ -86,7 +86,11 @@ fn check(
     let alloc = rt.alloc();
     let args = [String::from_str(alloc, "-DA")?];
     let run = plan(alloc, &args).expect(rt, "the arguments have no fault");
-    let plan = TextPlan { run, prunes: false };
+    let plan = TextPlan {
+        run,
+        prunes: false,
+        squeezes: false,
+    };
     check_plan(rt, &plan, text, links, write_into, failures, want)
 }
 
@@ -155,7 +159,11 @@ fn decided_operands_go_if_conditions_are_pruned(rt: HostRuntime) -> Result<(), F
     let alloc = rt.alloc();
     let args = [String::from_str(alloc, "-DA")?];
     let run = plan(alloc, &args).expect(&rt, "the arguments have no fault");
-    let plan = TextPlan { run, prunes: true };
+    let plan = TextPlan {
+        run,
+        prunes: true,
+        squeezes: false,
+    };
     let pruned = Left {
         result: Ok(Update::Replaced),
         calls: b"rmcaaaaaaaaaaaaagsrln",

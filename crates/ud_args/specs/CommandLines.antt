@@ -30,7 +30,7 @@ use Rattle.ud_args.specs.declared.programs.Program.TheVariants.{Unifdef, Unifdef
 -- `is_flag p c`: `c` is the letter of an option of `p` without an argument.
 abbrev pub is_flag : Program → ℕ → Bool
 is_flag Unifdef c = args.is_flag c
-is_flag UnifdefTree c = has_letter (codes "0bcdhKklnpqrstVw") c
+is_flag UnifdefTree c = has_letter (codes "0BbcdhKklnpqrstVw") c
 
 -- `takes_argument p c`: `c` is the letter of an option of `p` with an argument.
 abbrev pub takes_argument : Program → ℕ → Bool

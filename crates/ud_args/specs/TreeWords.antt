@@ -2,10 +2,11 @@
 --
 -- `gs` is what the words give, one option or operand after another. The operands are paths.
 use Rattle.std.specs.Prelude.{ℕ, List, [], ◌∷◌, ◌++◌, ◌==◌, map, filter, Bool, true, false, Option}
-use Rattle.std.specs.Prelude.{Some, None, codes, encode_utf8, if◌then◌else◌}
+use Rattle.std.specs.Prelude.{Some, None, codes, encode_utf8, option_map, bytes_eq, if◌then◌else◌}
 use Rattle.std.specs.List.{filter_map, list_any}
 use Rattle.ud_model.specs.text.Bytes.{hyphen}
 use Rattle.ud_model.specs.answer.CommandLine.{ParsedArg, has_letter, takes_argument}
+use Rattle.ud_model.specs.answer.CommandLine.{parse_symbol}
 use Rattle.ud_args.specs.CommandLines.{Parsed, flag, option, operand, unknown, lacking, late}
 use Rattle.ud_args.specs.CommandLines.{as_arg, parsed_words}
 use Rattle.ud_args.specs.declared.programs.Program.TheVariants.{UnifdefTree}
@@ -44,6 +45,24 @@ names_symbol _ = false
 -- `has_symbols gs`: some option names a symbol.
 abbrev pub has_symbols : List Parsed → Bool
 has_symbols gs = list_any names_symbol gs
+
+-- `symbol_of g`: the name of the symbol in the option `g`, if it is valid.
+abbrev pub symbol_of : Parsed → Option (List ℕ)
+symbol_of (option c n a) = option_map (λ s. s.name) (parse_symbol c a)
+symbol_of _ = None
+
+-- `has_name names n`: `n` is one of the names.
+abbrev pub has_name : List (List ℕ) → List ℕ → Bool
+has_name names n = list_any (bytes_eq n) names
+
+-- `names_with names more`: `names`, and each of `more` that isn't there yet.
+abbrev pub names_with : List (List ℕ) → List (List ℕ) → List (List ℕ)
+names_with names [] = names
+names_with names (n ∷ more) = names_with (if has_name names n then names else names ++ n ∷ []) more
+
+-- `symbol_names gs`: the names of the symbols, in order, each once.
+abbrev pub symbol_names : List Parsed → List (List ℕ)
+symbol_names gs = names_with [] (filter_map symbol_of gs)
 
 -- `is_unifdef_option g`: `g` is an option of unifdef(1), with the same meaning.
 abbrev pub is_unifdef_option : Parsed → Bool

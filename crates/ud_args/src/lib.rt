@@ -20,5 +20,7 @@ mod usage;
 pub use command_line::ParsedArg;
 pub use parse::{display_name, input_of, plan};
 pub use plans::Plan;
-pub use tree_words::{given_by, has_flag, has_symbols, paths, patterns, plan_among, word_at};
+pub use tree_words::{
+    given_by, has_flag, has_symbols, paths, patterns, plan_among, symbol_names, word_at,
+};
 pub use usage::Usage;

@@ -122,7 +122,7 @@ fn parse_exit_mode(argument: &[u8]) -> Option<ExitMode>
 }
 
 /// Returns the symbol of `-D`, `-U` or `-i` with this argument, or `None` if it names no symbol.
-fn parse_symbol(letter: char, argument: &[u8]) -> Option<Symbol<'_>>
+pub(crate) fn parse_symbol(letter: char, argument: &[u8]) -> Option<Symbol<'_>>
     ensures { option_map as_argument result ≡ parse_symbol letter argument.now }
 {
     match letter {

@@ -22,7 +22,7 @@ impl Program {
         let letters: &[char] = match self {
             Program::Unifdef => &['b', 'c', 'k', 'l', 'n', 's', 'K', 'S', 't'],
             Program::UnifdefTree => &[
-                '0', 'b', 'c', 'd', 'h', 'K', 'k', 'l', 'n', 'p', 'q', 'r', 's', 't', 'V', 'w',
+                '0', 'B', 'b', 'c', 'd', 'h', 'K', 'k', 'l', 'n', 'p', 'q', 'r', 's', 't', 'V', 'w',
             ],
         };
         letters.contains(&letter)

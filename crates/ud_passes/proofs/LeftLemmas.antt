@@ -15,7 +15,6 @@ use Rattle.ud_simplified.proofs.ResidualRead.{written_left, untouched}
 use Rattle.ud_passes.specs.pruning.Cells.{AreCells, SameLeft, stands, IsFound}
 use Rattle.ud_passes.specs.declared.pruning.cells.LeftText.{LeftText}
 use Rattle.ud_cond.proofs.lemmas.expressions.KeptLemmas.{same_length}
-use Rattle.ud_cond.proofs.lemmas.NameListLemmas.{tokens-whole}
 
 both : (a b c : Bool) → a ≡ true → b ≡ true → c ≡ true → (a && b && c) ≡ true
 both a b c p q r = grind arith

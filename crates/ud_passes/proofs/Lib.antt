@@ -6,7 +6,8 @@
 --   FitLemmas.fitting             if all lines fit, it is the simplified text
 --   FoldLemmas.takes_line         a folded text grows by a line
 --   RestoreLemmas.line_restored   a restored text, too
---   FlatLemmas.lines_placed       each line of a flat text is at its number
+--   SqueezeLemmas.line_placed     the places of an output, with a line more
+--   SqueezedFlags.only_blanks     only blank lines go from a squeezed text
 --   SearchLemmas.line_searched    the mentions of a text with a line more
 --   TableLemmas.table_of          the rows of a table are sorted
 --   UnlistedLemmas.line_found     the conditions that can't be listed, with a line more
@@ -27,4 +28,6 @@ pub mod SearchLemmas
 pub mod ShownLemmas
 pub mod FoldLemmas
 pub mod RestoreLemmas
-pub mod FlatLemmas
+pub mod UntouchedLemmas
+pub mod SqueezeLemmas
+pub mod SqueezedFlags

@@ -1,6 +1,7 @@
 -- Searches: text lines are passed, a line is taken, and a mention ends.
-use Rattle.std.proofs.Common.{◌≡◌, ℕ, ◌+◌, ◌-◌, ◌≤◌, List, [], ◌∷◌, ◌++◌, length, take, drop, length-append, length-drop, take-append-drop, Bool, true, false, Option, None, Some, is_some, refl, sym, ◌∙◌, ap, subst, append_assoc, append-nil, arith}
-use Rattle.std.specs.List.{concat}
+use Rattle.std.proofs.Common.{◌≡◌, ℕ, ◌+◌, ◌-◌, ◌≤◌, List, [], ◌∷◌, ◌++◌, length, min, take, drop, ◌<◌, ◌^◌, length-append, length-drop, take-append-drop, Bool, true, false, Option, None, Some, is_some, refl, sym, ◌∙◌, ap, subst, append_assoc, append-nil, arith}
+use Rattle.std.specs.Prelude.{bytes_eq, map, filter}
+use Rattle.std.specs.List.{concat, flat_map, list_any}
 use Rattle.std.proofs.lemmas.Bool.{and_right}
 use Rattle.std.proofs.lemmas.Grind.{common_steps, flat_map-append}
 use Rattle.std.proofs.lemmas.List.Elements.{filter-append}
@@ -16,16 +17,20 @@ use Rattle.ud_passes.specs.Passes.{fits}
 use Rattle.ud_passes.specs.Walks.{reading_at, read_after, AreTexts, HaveBytes, Walked}
 use Rattle.ud_passes.specs.remaining.Definitions.{IsClear}
 use Rattle.ud_passes.specs.remaining.Mentions.{Mention, mentions_in, mentions_of, joins_next}
-use Rattle.ud_passes.specs.remaining.ListedNames.{names_by}
-use Rattle.ud_passes.specs.remaining.RemainingLists.{lines_for, named_count, defining_count}
-use Rattle.ud_passes.specs.remaining.Searches.{taken, rest_from, ended, Appends, EndsLine, Searched, IsTaken, begun_as, IsClearTo}
+use Rattle.ud_passes.specs.remaining.ListedNames.{names_by, has_word, names_listed}
+use Rattle.ud_passes.specs.remaining.RemainingLists.{RemainingState, AddsAll, lines_for, named_count, defining_count, line_of, has_name, is_named, remaining_text}
+use Rattle.ud_passes.specs.remaining.Searches.{taken, rest_from, ended, Appends, Counts, EndsLine, Searched, IsTaken, begun_as, IsClearTo}
 use Rattle.ud_passes.specs.declared.remaining.mentions.Begun.{Begun}
 use Rattle.ud_passes.specs.declared.remaining.listing.Listing.{Listing}
+use Rattle.ud_passes.specs.declared.remaining.listing.Listing.TheVariants.{Counted, Texts}
+use Rattle.ud_passes.specs.declared.remaining.mentions.Class.{Class}
+use Rattle.ud_passes.specs.declared.remaining.mentions.Class.TheVariants.{Condition, Definition, Closing}
 use Rattle.ud_passes.specs.declared.remaining.search.Search.{Search}
 use Rattle.ud_passes.specs.declared.remaining.search.Place.{Place}
 use Rattle.ud_passes.specs.declared.walk.Walk.{Walk}
 use Rattle.ud_passes.proofs.DefinitionLemmas.{clear_drop, DefineNothing, lines_clear}
 use Rattle.ud_passes.proofs.MentionLemmas.{one_line, end_here, end_of_text, text_line, taken_long, joins_long}
+use Rattle.ud_passes.proofs.NameLemmas.{has_word-newline}
 use Rattle.ud_passes.proofs.WalkLemmas.{walk_ends}
 
 -- 1. The mentions of more lines.
@@ -90,6 +95,46 @@ module _ (table : List Argument) (name : List ℕ) where
 
   pub appends_more : (ms ns : List Mention) (start mid new : Search) → Appends table name ms start mid → Appends table name ns mid new → Appends table name (ms ++ ns) start new
   appends_more ms ns start mid new a b = grind (arith, common_steps, named_count-append, defining_count-append, lines_for-append)
+
+-- A word of the texts of some mentions is a word of a condition among them.
+pub texts_have : (table : List Argument) (name file : List ℕ) (ms : List Mention) → has_word (bytes_eq name) false (flat_map (line_of table Texts file) ms) ≡ list_any (has_name name) ms
+texts_have table name file [] = refl
+texts_have table name file (m ∷ ms) = by m.class refl (texts_have table name file ms)
+  where
+    by : (class : Class) → m.class ≡ class → has_word (bytes_eq name) false (flat_map (line_of table Texts file) ms) ≡ list_any (has_name name) ms →
+        has_word (bytes_eq name) false (flat_map (line_of table Texts file) (m ∷ ms)) ≡ list_any (has_name name) (m ∷ ms)
+    by (Condition kind) is more = grind (arith, append_assoc, has_word-newline)
+    by Definition is more = grind arith
+    by Closing is more = grind arith
+
+-- So a word of the texts of all mentions is a word of a condition that names a listed symbol.
+pub texts_name : {table : List Argument} {file : List ℕ} {old new : Search} (mode : Mode) (bytes : List ℕ) → Appends table file (mentions_of table mode bytes) old new → old.list.items ≡ [] →
+    old.listing ≡ Texts → (name : List ℕ) → has_word (bytes_eq name) false new.list.items ≡ is_named table mode bytes name
+texts_name {table = table} {file = file} {old = old} mode bytes a none is name =
+    let ms = mentions_of table mode bytes in
+    ap (has_word (bytes_eq name) false) (a.list_is ∙ ap (λ (t : List ℕ). t ++ lines_for table old.listing file ms) none ∙ ap (λ (l : Listing). lines_for table l file ms) is)
+    ∙ texts_have table name file (filter (names_listed table) ms)
+
+-- Mentions that are only counted have no lines.
+counted_lines : (table : List Argument) (name : List ℕ) (ms : List Mention) → flat_map (line_of table Counted name) ms ≡ []
+counted_lines table name [] = refl
+counted_lines table name (m ∷ ms) = counted_lines table name ms
+
+-- The mentions of a text were counted by another search.
+pub counted_all : {table : List Argument} {mode : Mode} {bytes : List ℕ} (name : List ℕ) (found : Search) (old new : RemainingState) → Counts table mode bytes found → old.listing ≡ Counted →
+    new.list ≡ old.list → new.listing ≡ old.listing → new.count ≡ min (old.count + found.count) (2 ^ 64 - 1) → new.defined ≡ min (old.defined + found.defined) (2 ^ 64 - 1) → AddsAll table mode name bytes old new
+counted_all {table = table} {mode = mode} {bytes = bytes} name found old new h is list listing count defined = record {
+  list_is = list ∙ sym (append-nil old.list) ∙ ap (λ (t : List ℕ). old.list ++ t)
+      (sym (ap (λ (l : Listing). remaining_text table l mode name bytes) is ∙ counted_lines table name (filter (names_listed table) (mentions_of table mode bytes))));
+  count_is = λ small. grind (arith, common_steps);
+  defined_is = λ small. grind (arith, common_steps);
+  listing_is = listing;
+}
+
+-- The rest of some names that are filtered by their bytes.
+pub kept_names : {A B : Type 0} (f : A → B) (p : B → Bool) (q : A → Bool) → ((x : A) → q x ≡ p (f x)) → (xs : List A) → map f (filter q xs) ≡ filter p (map f xs)
+kept_names f p q h [] = refl
+kept_names f p q h (x ∷ xs) = grind (arith, h x, kept_names f p q h xs)
 
 -- 3. The places of a search.
 

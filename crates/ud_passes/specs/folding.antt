@@ -1,4 +1,3 @@
 -- Folded texts, and the way back.
 pub mod Folding
 pub mod LogicalLines
-pub mod FlatTexts

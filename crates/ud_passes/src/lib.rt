@@ -8,7 +8,8 @@
 //! - `Remaining` keeps the conditions that still name a symbol of the options.
 //! - `prune` appends a text without the operands of its conditions that the symbols decide.
 //! - `fold` appends a text with each conditional directive on one line, and `restore` goes back.
-//!   `flatten` does as `fold`, and leaves the other lines in their places.
+//! - `is_untouched` tells most texts that `fold` and `prune` leave as they are.
+//! - `squeeze` leaves out the blank lines that only stood there because of lines that went.
 #![tactic(auto)]
 
 mod folding;
@@ -16,9 +17,13 @@ mod lines;
 mod names;
 mod pruning;
 mod remaining;
+mod squeezing;
+mod untouched;
 mod walk;
 
-pub use folding::{flatten, fold, law_flat_text, restore};
+pub use folding::{fold, restore};
 pub use names::Names;
 pub use pruning::{law_pruned_text, prune};
-pub use remaining::{Listing, Remaining};
+pub use remaining::{Listing, Remaining, remove_named};
+pub use squeezing::{Squeezed, squeeze};
+pub use untouched::is_untouched;

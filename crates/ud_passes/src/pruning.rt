@@ -18,5 +18,5 @@ mod texts;
 mod tokens;
 
 pub use laws::law_pruned_text;
-pub(crate) use lines::has_quote;
+pub(crate) use lines::{LineEditor, has_quote};
 pub use texts::prune;

@@ -7,12 +7,13 @@
 //!
 //! `specs/remaining/Mentions.antt` defines the mentions of a text, `Definitions.antt` which lines
 //! define a symbol, and `ListedNames.antt` which mentions name one. `Reasons.antt` defines the
-//! reason for a mention, `RemainingLists.antt` the list, and `Searches.antt` what a search keeps.
+//! reason for a mention, `RemainingLists.antt` the list and which names conditions have, and
+//! `Searches.antt` what a search keeps.
 
-ghost use Rattle.std.specs.Prelude.{◌≡◌, List, [], OnOk, OnErr};
+ghost use Rattle.std.specs.Prelude.{◌≡◌, List, [], OnOk, OnErr, map};
 ghost use Rattle.ud_model.specs.conditions.Table.{Argument};
 ghost use Rattle.ud_cond.specs.symbols.SymbolTable.{TableRepresents};
-ghost use Rattle.ud_passes.specs.remaining.RemainingLists.{AddsAll};
+ghost use Rattle.ud_passes.specs.remaining.RemainingLists.{AddsAll, LeavesUnnamed};
 
 use search::Search;
 use std::alloc::{AllocError, Global};
@@ -27,8 +28,11 @@ mod mentions;
 mod names;
 mod reasons;
 mod search;
+mod unnamed;
 
 pub use listing::Listing;
+use unnamed::find_named;
+pub use unnamed::remove_named;
 
 /// The mentions of symbols in all texts so far: conditions, definitions, and words after an `#else`
 /// or `#endif`.
@@ -109,5 +113,35 @@ impl Remaining {
             search.list.truncate(len);
         }
         result
+    }
+
+    /// Adds a text's mentions, as `add` does, and removes the names that some condition of it has,
+    /// as `remove_named` does. If mentions are only counted, the text is read once.
+    ///
+    /// # Errors
+    /// Fails if memory runs out.
+    pub fn add_named(
+        &mut self,
+        name: &[u8],
+        text: &[u8],
+        mode: Mode,
+        symbols: &Symbols,
+        names: &mut Vec<Vec<u8>>,
+    ) -> Result<(), AllocError>
+        ensures added { OnOk result ((calls : List Argument) → TableRepresents symbols.now calls →
+            AddsAll calls mode name.now text.now self.old self.new) }
+        ensures removed { OnOk result ((calls : List Argument) →
+            TableRepresents symbols.now calls → LeavesUnnamed calls mode text.now
+            (map (λ n. n.items) names.old.items) (map (λ n. n.items) names.new.items)) }
+    {
+        if let Listing::Counted = self.search.listing {
+            let found = find_named(names, text, mode, symbols)?;
+            let all = &mut self.search;
+            all.count = all.count.saturating_add(found.count);
+            all.defined = all.defined.saturating_add(found.defined);
+            return Ok(());
+        }
+        self.add(name, text, mode, symbols)?;
+        remove_named(names, text, mode, symbols)
     }
 }

@@ -7,6 +7,9 @@
 pub mod CallLemmas
 pub mod MomentLemmas
 pub mod RenameLemmas
+mod MarkLemmas
+mod PrintLemmas
+mod SqueezedLemmas
 mod OutcomeLemmas
 mod TakesLemmas
 mod StepLemmas

@@ -205,6 +205,6 @@ moments_judges o name fresh text stat first old new _ t (same a has sound none i
 moments_judges o name fresh text stat first old new _ t (differs a has sound some h) =
     moments_puts a has sound (true_puts first h t).0 (quiet_read o name first old text (Some stat)) t h
 
-pub old_or_new : (o : TextOptions) (first : Files) (id : FileId) (name fresh : List ℕ) (old new : List Call) (r : Result Update ReplaceError) → Replaces o false id name fresh old new r →
+pub old_or_new : (o : TextOptions) (first : Files) (id : FileId) (name fresh text : List ℕ) (old new : List Call) (r : Result Update ReplaceError) → Replaces o false id name fresh text old new r →
     AreTrue first new → EachCall (λ (c : Call) (earlier : List Call). OldOrNew o name first old (c ∷ earlier)) old new
-old_or_new o first id name fresh old new r h t = grind (arith, quiet_at, quiet_read, moments_judges)
+old_or_new o first id name fresh text old new r h t = grind (arith, quiet_at, quiet_read, moments_judges)

@@ -107,6 +107,6 @@ judges_careful o name fresh text stat old new _ (faulty a f has told sound is) =
 judges_careful o name fresh text stat old new _ (same a has sound none is) = careful_at is (reads_careful o name fresh old text (Some stat))
 judges_careful o name fresh text stat old new _ (differs a has sound some h) = puts_careful a has sound (reads_careful o name fresh old text (Some stat)) h
 
-pub one_rename : (o : TextOptions) (id : FileId) (name fresh : List ℕ) (old new : List Call) (r : Result Update ReplaceError) → Replaces o false id name fresh old new r →
+pub one_rename : (o : TextOptions) (id : FileId) (name fresh text : List ℕ) (old new : List Call) (r : Result Update ReplaceError) → Replaces o false id name fresh text old new r →
     EachCall (TouchesFreshOnly o name fresh old) old new
-one_rename o id name fresh old new r h = grind (arith, careful_at, reads_careful, judges_careful)
+one_rename o id name fresh text old new r h = grind (arith, careful_at, reads_careful, judges_careful)

@@ -15,8 +15,9 @@ use Rattle.ud_passes.specs.pruning.PrunedTexts.{pruned_text, edited_count}
 use Rattle.ud_replace.specs.declared.error.ReplaceError.{ReplaceError}
 use Rattle.ud_replace.specs.declared.error.ReplaceError.TheVariants.{Text, OutOfMemory}
 use Rattle.ud_replace.specs.declared.text_plan.TextRun.{TextRun}
-use Rattle.ud_replace.specs.TextOutcomes.{TextOptions, unpruned, pruned, folded, may_fold, goes_back, comes_back, StaysUnfolded, as_run, as_faulty, as_pruned, as_folded, RunsOver, same_run, error_of, FailsOver, over_faulty, over_memory}
-use Rattle.ud_replace.specs.UnprunedRuns.{RunsUnpruned, FailsUnpruned, run_faulty, no_memory_left, PrunesInto}
+use Rattle.ud_replace.specs.TextOutcomes.{TextOptions, unpruned, pruned, folded, may_fold, goes_back, comes_back, StaysUnfolded, as_run, as_faulty, as_pruned, as_folded, RunsUnsqueezed, same_run, error_of, FailsUnsqueezed, unsqueezed_faulty, unsqueezed_memory}
+use Rattle.ud_replace.specs.UnprunedRuns.{RunsUnpruned, FailsUnpruned, run_faulty, no_memory_left, PrunesInto, IsSpared}
+use Rattle.ud_passes.specs.UntouchedTexts.{IsUntouched}
 use Rattle.ud_replace.specs.FoldedRuns.{RunsPruned, LeavesFolded, RunsFolded, TriesFolded, FoldsOrStays}
 use Rattle.ud_simplified.specs.FoldedTexts.{folded_text, restored_text}
 use Rattle.ud_model.specs.answer.Outcomes.{Outcome, HasOutcome}
@@ -52,21 +53,21 @@ fails_unpruned o input text before left reader writer ReadFault e m ran = no_mem
 fails_unpruned o input text before left reader writer WriteFault e m ran = no_memory_left
 
 -- The failure of a run is that of the text, whether or not conditions are pruned.
-pub fails_over : (o : TextOptions) {text : List ℕ} {e : ReplaceError} → StaysUnfolded o text → FailsUnpruned o.run text e → FailsOver o text e
-fails_over o stays (run_faulty a f has is some) = over_faulty (unpruned a) f (as_faulty some has stays) is some
-fails_over o stays no_memory_left = over_memory
+pub fails_over : (o : TextOptions) {text : List ℕ} {e : ReplaceError} → StaysUnfolded o text → FailsUnpruned o.run text e → FailsUnsqueezed o text e
+fails_over o stays (run_faulty a f has is some) = unsqueezed_faulty (unpruned a) f (as_faulty some has stays) is some
+fails_over o stays no_memory_left = unsqueezed_memory
 
 -- Without pruning, no text is folded.
 pub stays_as_is : (o : TextOptions) (text : List ℕ) → o.prunes ≡ false → StaysUnfolded o text
 stays_as_is o text none = λ a i. false≢true (sym none ∙ i.prunes)
 
 -- Memory couldn't be allocated.
-pub fails_memory : (o : TextOptions) (text : List ℕ) {e : ReplaceError} → e ≡ OutOfMemory → FailsOver o text e
-fails_memory o text is = subst (λ (x : ReplaceError). FailsOver o text x) (sym is) over_memory
+pub fails_memory : (o : TextOptions) (text : List ℕ) {e : ReplaceError} → e ≡ OutOfMemory → FailsUnsqueezed o text e
+fails_memory o text is = subst (λ (x : ReplaceError). FailsUnsqueezed o text x) (sym is) unsqueezed_memory
 
 -- Without pruning, the output is that of the run.
 pub runs_as_is : (o : TextOptions) {text before left : List ℕ} {d : Bool} (ran : TextRun) → o.prunes ≡ false → ran.differs ≡ d → ran.edited ≡ 0 →
-    RunsUnpruned o.run text before left d → RunsOver o text before left ran
+    RunsUnpruned o.run text before left d → RunsUnsqueezed o text before left ran
 runs_as_is o ran none differs edited h = record {
   outcome = unpruned h.outcome;
   runs = as_run none h.runs;
@@ -80,22 +81,49 @@ runs_as_is o ran none differs edited h = record {
 same_bytes : (out text : List ℕ) (d : Bool) → d ≡ not (bytes_eq out text) → d ≡ false → text ≡ out
 same_bytes out text d is none = grind (arith, bytes_eq-Decides)
 
+-- A text that pruning leaves isn't folded.
+pub spared_unfolded : (o : TextOptions) (text : List ℕ) → IsSpared o text → StaysUnfolded o text
+spared_unfolded o text spared = λ a i. let u = spared i.prunes in
+    false≢true (sym (itself text (folded_text text) u.unfolded) ∙ i.goes)
+  where
+    itself : (t lines : List ℕ) → lines ≡ t → goes_back lines t ≡ false
+    itself t lines e = grind (arith, bytes_eq-Decides)
+
 -- A run in which no line differs gave the text itself, unless lines are numbered or listed.
-pub stays_itself : (o : TextOptions) (input text : List ℕ) (before left : Option (List ℕ)) (reader writer d : Bool) → o.prunes ≡ false → o.run.settings.renumber ≡ false →
+pub stays_itself : (o : TextOptions) (input text : List ℕ) (before left : Option (List ℕ)) (reader writer d : Bool) → IsSpared o text → o.run.settings.renumber ≡ false →
     o.run.settings.listing ≡ Off → input ≡ text → ErrorMatchesStreams reader writer (Ok d) →
-    (reader ≡ false → writer ≡ false → RunAnswers o.run input before left (Ok d)) → d ≡ false → RunsOver o text [] text same_run
-stays_itself o input text before left reader writer d none unnumbered unlisted is m ran same =
-    subst (λ (t : List ℕ). RunsOver o t [] t same_run) is (record {
-      outcome = unpruned h.outcome;
-      runs = as_run none h.runs;
-      faultless = h.answered.0;
-      appended = same_bytes h.outcome.output input d (h.answered.1 ∙ changed o.run unnumbered unlisted input h.runs h.answered.0) same;
-      differs_is = sym same ∙ h.answered.1;
-      edited_is = refl;
-    })
+    (reader ≡ false → writer ≡ false → RunAnswers o.run input before left (Ok d)) → d ≡ false → RunsUnsqueezed o text [] text same_run
+stays_itself o input text before left reader writer d spared unnumbered unlisted is m ran same = by o.prunes refl
   where
     h : RunAnswers o.run input before left (Ok d)
     h = ran m.works.0 m.works.1
+
+    a : Outcome
+    a = h.outcome
+
+    runs : HasOutcome o.run text a
+    runs = subst (λ (t : List ℕ). HasOutcome o.run t a) is h.runs
+
+    output : text ≡ a.output
+    output = same_bytes a.output text d (h.answered.1 ∙ subst (λ (t : List ℕ). a.differs ≡ not (bytes_eq a.output t)) is (changed o.run unnumbered unlisted input h.runs h.answered.0)) same
+
+    differs : false ≡ a.differs
+    differs = sym same ∙ h.answered.1
+
+    neither : (b : Bool) (n : ℕ) → n ≡ 0 → b ≡ (b || nat_lt 0 n)
+    neither b n e = grind arith
+
+    by : (b : Bool) → o.prunes ≡ b → RunsUnsqueezed o text [] text same_run
+    by false e = record { outcome = unpruned a; runs = as_run e runs; faultless = h.answered.0; appended = output; differs_is = differs; edited_is = refl }
+    by true e = let u = subst (λ (t : List ℕ). IsUntouched o.run.table (rules_of o.run.settings) t) output (spared e) in
+        record {
+          outcome = pruned o.run a;
+          runs = as_pruned e h.answered.0 runs (spared_unfolded o text spared);
+          faultless = h.answered.0;
+          appended = output ∙ sym u.unpruned;
+          differs_is = differs ∙ neither a.differs (edited_count o.run.table (rules_of o.run.settings) a.output) u.unedited;
+          edited_is = sym u.unedited;
+        }
 
 -- Bytes were written.
 pub all_written : (old new given : List ℕ) (failed : Bool) → failed ≡ false → AppendsAllOrPrefix failed (Some old) (Some new) given → new ≡ old ++ given
@@ -123,7 +151,7 @@ runs_pruned o {text = text} {start = start} {whole = whole} {before = before} {l
     }
 
 -- A text that isn't folded.
-pub runs_over : (o : TextOptions) {text before left : List ℕ} (ran : TextRun) → o.prunes ≡ true → StaysUnfolded o text → RunsPruned o.run text before left ran → RunsOver o text before left ran
+pub runs_over : (o : TextOptions) {text before left : List ℕ} (ran : TextRun) → o.prunes ≡ true → StaysUnfolded o text → RunsPruned o.run text before left ran → RunsUnsqueezed o text before left ran
 runs_over o ran wanted stays h = record {
   outcome = pruned o.run h.outcome;
   runs = as_pruned wanted h.faultless h.runs stays;
@@ -135,7 +163,7 @@ runs_over o ran wanted stays h = record {
 
 -- A folded text.
 pub folds_over : (o : TextOptions) {text before left lines : List ℕ} (ran : TextRun) → o.prunes ≡ true → may_fold o.run.settings ≡ true → goes_back lines text ≡ true → lines ≡ folded_text text →
-    RunsFolded o.run lines before left ran → RunsOver o text before left ran
+    RunsFolded o.run lines before left ran → RunsUnsqueezed o text before left ran
 folds_over o {text = text} {before = before} {left = left} ran wanted may goes e given =
     let h = subst (λ (x : List ℕ). RunsFolded o.run x before left ran) e given in
     record {

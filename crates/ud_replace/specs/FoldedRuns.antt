@@ -4,7 +4,8 @@ use Rattle.ud_model.specs.sections.Items.{Options}
 use Rattle.ud_model.specs.answer.Outcomes.{Outcome, HasOutcome}
 use Rattle.ud_simplified.specs.FoldedTexts.{restored_text}
 use Rattle.ud_replace.specs.declared.text_plan.TextRun.{TextRun}
-use Rattle.ud_replace.specs.TextOutcomes.{TextOptions, pruned, comes_back, StaysUnfolded, RunsOver}
+use Rattle.ud_replace.specs.TextOutcomes.{TextOptions, pruned, comes_back, StaysUnfolded}
+use Rattle.ud_replace.specs.TextOutcomes.{RunsUnsqueezed}
 
 -- `RunsPruned o text old new ran`: `text` has no fault, and the output of the run over it was
 -- appended to `old` with pruned conditions. `ran` has whether it differs, and the number of edited
@@ -44,4 +45,4 @@ TriesFolded o lines old new (Some ran) = RunsFolded o lines old new ran
 -- folded.
 abbrev pub FoldsOrStays : TextOptions → List ℕ → List ℕ → List ℕ → Option TextRun → Type 0
 FoldsOrStays o text old new None = StaysUnfolded o text
-FoldsOrStays o text old new (Some ran) = RunsOver o text old new ran
+FoldsOrStays o text old new (Some ran) = RunsUnsqueezed o text old new ran

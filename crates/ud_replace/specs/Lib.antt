@@ -1,7 +1,10 @@
 pub mod Calls
 pub mod Stats
 pub mod Filling
+pub mod Marks
+pub mod FoldedMarks
 pub mod TextOutcomes
+pub mod SqueezedRuns
 pub mod UnprunedRuns
 pub mod FoldedRuns
 pub mod Replacing

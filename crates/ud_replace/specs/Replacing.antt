@@ -4,7 +4,7 @@
 --   Renames into name fresh before text stat old new r   a file with the output is renamed over it
 --   Puts into name fresh before text stat old new r      either of these
 --   Judges o into name fresh text stat old new r         what follows once the file is read
---   Replaces o into id name fresh old new r              all calls of `replace`, which returned `r`
+--   Replaces o into id name fresh text old new r         all calls of `replace`, which returned `r`
 --   Keeps o into id name fresh old new r text output edited   the same calls, with the output
 --   RenamesAt, PutsAt, JudgesAt, ReplacesAt, KeepsAt     the same for a `Target`
 --
@@ -103,19 +103,18 @@ pub data Judges (o : TextOptions) (into : Bool) (name fresh text : List ℕ) (st
       a.fault ≡ None → a.differs ≡ true → Puts into name fresh text a.output stat old new r →
       Judges o into name fresh text stat old new r
 
--- `Replaces o into id name fresh old new r`: the file was read once, and it was the file `id`. Its
--- text decides the rest.
-pub data Replaces (o : TextOptions) (into : Bool) (id : FileId) (name fresh : List ℕ)
+-- `Replaces o into id name fresh text old new r`: the file was read as `text`, and it was the file
+-- `id`. The text decides the rest. If reading failed, `text` is what was read.
+pub data Replaces (o : TextOptions) (into : Bool) (id : FileId) (name fresh text : List ℕ)
     (old new : List Call) : Result Update ReplaceError → Type 0 where
-  unread : (text : List ℕ) → new ≡ was_read name text None ∷ old →
-      Replaces o into id name fresh old new (Err Read)
-  other_file : (text : List ℕ) (stat : FileStat) → is_of id stat ≡ false →
+  unread : new ≡ was_read name text None ∷ old →
+      Replaces o into id name fresh text old new (Err Read)
+  other_file : (stat : FileStat) → is_of id stat ≡ false →
       new ≡ was_read name text (Some stat) ∷ old →
-      Replaces o into id name fresh old new (Err ChangedMeanwhile)
-  judged : {r : Result Update ReplaceError} (text : List ℕ) (stat : FileStat) →
-      is_of id stat ≡ true →
+      Replaces o into id name fresh text old new (Err ChangedMeanwhile)
+  judged : {r : Result Update ReplaceError} (stat : FileStat) → is_of id stat ≡ true →
       Judges o into name fresh text stat (was_read name text (Some stat) ∷ old) new r →
-      Replaces o into id name fresh old new r
+      Replaces o into id name fresh text old new r
 
 -- `Keeps o into id name fresh old new r text output edited`: the file `id` was read once, and its
 -- `text` decided the rest. `output` and `edited` are those of the outcome of this text.
@@ -142,8 +141,8 @@ abbrev pub JudgesAt : TextOptions → Target → List ℕ → FileStat → List 
     Result Update ReplaceError → Type 0
 JudgesAt o t text = Judges o t.write_into t.name.now t.fresh.now text
 
--- `ReplacesAt o target old new r`: the calls of `Replaces` for this target.
-abbrev pub ReplacesAt : TextOptions → Target → List Call → List Call →
+-- `ReplacesAt o target text old new r`: the calls of `Replaces` for this target.
+abbrev pub ReplacesAt : TextOptions → Target → List ℕ → List Call → List Call →
     Result Update ReplaceError → Type 0
 ReplacesAt o t = Replaces o t.write_into t.id t.name.now t.fresh.now
 

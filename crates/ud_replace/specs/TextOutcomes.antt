@@ -1,7 +1,7 @@
--- TextOutcomes: the outcome of a text: of the run over it and, if wanted, of the pass over its
--- output that removes decided operands.
+-- TextOutcomes: the outcome of a text: of the run over it and, if wanted, of the passes over its
+-- output that remove decided operands and blank lines.
 --
---   TextOptions               the options of the run, and whether its conditions are pruned
+--   TextOptions               the options of the run, and which passes go over its output
 --   IsPlanned plan o          `o` has the options of a plan
 --   TextOutcome               the output, the fault, whether it differs, and the edited conditions
 --   unpruned a, pruned o a    the outcome of a run, without and with pruned conditions
@@ -11,7 +11,11 @@
 --   IsFolded o text a         the output for `text` comes from the outcome `a` of the folded text
 --   StaysUnfolded o text      the output for `text` doesn't come from the folded text
 --   folded o a                the outcome `a` of a folded text, restored and with pruned conditions
---   HasTextOutcome o text a   `a` is the outcome of `text`
+--   HasUnsqueezed o text r    `r` is the outcome of `text`, with all blank lines
+--   RunsUnsqueezed, FailsUnsqueezed   such a run appended its output, or failed
+--   AreMarksFor o text output ms   the marks of the lines of `text`, with its output
+--   squeezed ms r             the outcome `r` without the blank lines that go
+--   HasTextOutcome o text r   `r` is the outcome of `text`
 --   TextRun                   what a run over a text returns
 --   RunsOver o text old new ran   the output for a text was appended to `old`
 --   same_run                  what a run returns if the output is the text itself
@@ -22,10 +26,11 @@
 -- Example: under `-UA`, the output for the line `#if A || X` is that line. If conditions are
 -- pruned, it is `#if X`. The lines `#if A || \` and `X` are read as one, with the same output.
 use Rattle.std.specs.Prelude.{◌≡◌, ℕ, List, ◌++◌, Bool, true, false, ◌||◌, Option, None, nat_lt}
-use Rattle.std.specs.Prelude.{not, ◌&&◌, bytes_eq}
+use Rattle.std.specs.Prelude.{not, ◌&&◌, ◌⊎◌, bytes_eq, is_none}
 use Rattle.ud_model.specs.sections.Faults.{Fault}
 use Rattle.ud_model.specs.sections.Items.{Options, rules_of}
 use Rattle.ud_model.specs.declared.settings.Settings.{Settings}
+use Rattle.ud_model.specs.declared.settings.Listing.TheVariants.{Off}
 use Rattle.ud_simplified.specs.FoldedTexts.{folded_text, restored_text}
 use Rattle.ud_model.specs.answer.Outcomes.{Outcome, HasOutcome}
 use Rattle.ud_cond.specs.symbols.SymbolTable.{TableRepresents}
@@ -34,22 +39,28 @@ use Rattle.ud_faults.specs.declared.run.RunFault.TheVariants.{Text as TextFault,
 use Rattle.ud_faults.specs.declared.run.RunFault.TheVariants.{Read as ReadFault, Write}
 use Rattle.ud_engine.specs.Finishing.{text_fault_of}
 use Rattle.ud_passes.specs.pruning.PrunedTexts.{pruned_text, edited_count}
+use Rattle.ud_passes.specs.squeezing.SqueezedTexts.{squeezed_text}
+use Rattle.ud_replace.specs.Marks.{AreMarks}
+use Rattle.ud_replace.specs.FoldedMarks.{AreFoldedMarks}
 use Rattle.ud_replace.specs.declared.error.ReplaceError.{ReplaceError}
 use Rattle.ud_replace.specs.declared.error.ReplaceError.TheVariants.{Text, OutOfMemory}
 use Rattle.ud_replace.specs.declared.text_plan.TextPlan.{TextPlan}
 use Rattle.ud_replace.specs.declared.text_plan.TextRun.{TextRun}
 
--- `TextOptions`: the options of the run over a text, and whether the conditions of its output are
--- pruned.
+-- `TextOptions`: the options of the run over a text, whether the conditions of its output are
+-- pruned, and whether its blank lines are squeezed.
 pub record TextOptions : Type 0 where
   pub run : Options
   pub prunes : Bool
+  pub squeezes : Bool
 
--- `IsPlanned plan o`: `o` has the settings and the symbols of `plan`, and prunes as it does.
+-- `IsPlanned plan o`: `o` has the settings and the symbols of `plan`, and prunes and squeezes as it
+-- does.
 pub record IsPlanned (plan : TextPlan) (o : TextOptions) : Type 0 where
   pub settings : o.run.settings ≡ plan.run.settings
   pub table : TableRepresents plan.run.symbols o.run.table
   pub prunes : o.prunes ≡ plan.prunes
+  pub squeezes : o.squeezes ≡ plan.squeezes
 
 -- `TextOutcome`: the output for a text, its fault if any, whether the output differs, and how many
 -- of its conditions were edited.
@@ -104,17 +115,59 @@ StaysUnfolded o text = (a : Outcome) → ¬ IsFolded o text a
 abbrev pub folded : Options → Outcome → TextOutcome
 folded o a = record (pruned o a) { output = restored_text (pruned o a).output }
 
--- `HasTextOutcome o text r`: `r` is the outcome of `text`. If `text` is folded, it is the outcome
--- of the folded text. Else it is the outcome of the run over `text`, with pruned conditions if
--- pruning is on and the text has no fault.
-pub data HasTextOutcome (o : TextOptions) (text : List ℕ) : TextOutcome → Type 0 where
+-- `HasUnsqueezed o text r`: `r` is the outcome of `text`, with all blank lines. If `text` is
+-- folded, it is the outcome of the folded text. Else it is the outcome of the run over `text`, with
+-- pruned conditions if pruning is on and the text has no fault.
+pub data HasUnsqueezed (o : TextOptions) (text : List ℕ) : TextOutcome → Type 0 where
   as_run : {a : Outcome} → o.prunes ≡ false → HasOutcome o.run text a →
-      HasTextOutcome o text (unpruned a)
+      HasUnsqueezed o text (unpruned a)
   as_faulty : {a : Outcome} → ¬ (a.fault ≡ None) → HasOutcome o.run text a →
-      StaysUnfolded o text → HasTextOutcome o text (unpruned a)
+      StaysUnfolded o text → HasUnsqueezed o text (unpruned a)
   as_pruned : {a : Outcome} → o.prunes ≡ true → a.fault ≡ None → HasOutcome o.run text a →
-      StaysUnfolded o text → HasTextOutcome o text (pruned o.run a)
-  as_folded : {a : Outcome} → IsFolded o text a → HasTextOutcome o text (folded o.run a)
+      StaysUnfolded o text → HasUnsqueezed o text (pruned o.run a)
+  as_folded : {a : Outcome} → IsFolded o text a → HasUnsqueezed o text (folded o.run a)
+
+-- `RunsUnsqueezed o text old new ran`: `text` has no fault, and the output for it, with all blank
+-- lines, was appended to the bytes `old`, which are then `new`. `ran` has whether it differs, and
+-- the edited conditions.
+pub record RunsUnsqueezed (o : TextOptions) (text old new : List ℕ) (ran : TextRun) : Type 0 where
+  pub outcome : TextOutcome
+  pub runs : HasUnsqueezed o text outcome
+  pub faultless : outcome.fault ≡ None
+  pub appended : new ≡ old ++ outcome.output
+  pub differs_is : ran.differs ≡ outcome.differs
+  pub edited_is : ran.edited ≡ outcome.edited
+
+-- `FailsUnsqueezed o text e`: such an outcome of `text` has the fault of `e`. Or memory couldn't be
+-- allocated.
+pub data FailsUnsqueezed (o : TextOptions) (text : List ℕ) : ReplaceError → Type 0 where
+  unsqueezed_faulty : (outcome : TextOutcome) (f : RunFault) → HasUnsqueezed o text outcome →
+      outcome.fault ≡ text_fault_of f → ¬ (outcome.fault ≡ None) → FailsUnsqueezed o text (Text f)
+  unsqueezed_memory : FailsUnsqueezed o text OutOfMemory
+
+-- `AreMarksFor o text output ms`: unless names are listed, `ms` are the marks of the lines of
+-- `text`: those of the run over it, or over the folded text, with the output `output`.
+abbrev pub AreMarksFor : TextOptions → List ℕ → List ℕ → List ℕ → Type 0
+AreMarksFor o text output ms = o.run.settings.listing ≡ Off →
+    AreMarks o.run text ms ⊎ AreFoldedMarks o.run text output ms
+
+-- `goes_squeezed o r`: the outcome `r` is to be squeezed: it has no fault, and differs.
+abbrev pub goes_squeezed : TextOptions → TextOutcome → Bool
+goes_squeezed o r = o.squeezes && r.differs && is_none r.fault
+
+-- `squeezed ms r`: the outcome `r` without the blank lines that go. The lines of the text have the
+-- marks `ms`.
+abbrev pub squeezed : List ℕ → TextOutcome → TextOutcome
+squeezed ms r = record r { output = squeezed_text ms r.output }
+
+-- `HasTextOutcome o text r`: `r` is the outcome of `text`: the one with all blank lines or, if that
+-- is to be squeezed, the squeezed one.
+pub data HasTextOutcome (o : TextOptions) (text : List ℕ) : TextOutcome → Type 0 where
+  as_it_is : {r : TextOutcome} → HasUnsqueezed o text r → goes_squeezed o r ≡ false →
+      HasTextOutcome o text r
+  as_squeezed : {r : TextOutcome} (ms : List ℕ) → HasUnsqueezed o text r →
+      goes_squeezed o r ≡ true → AreMarksFor o text r.output ms →
+      HasTextOutcome o text (squeezed ms r)
 
 -- `RunsOver o text old new ran`: `text` has no fault, and the output for it was appended to the
 -- bytes `old`, which are then `new`. `ran` has whether it differs, and the edited conditions.

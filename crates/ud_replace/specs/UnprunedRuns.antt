@@ -1,12 +1,14 @@
 -- UnprunedRuns: the run over a text in memory, before its conditions are pruned.
-use Rattle.std.specs.Prelude.{◌≡◌, ℕ, List, ◌++◌, Bool, None}
+use Rattle.std.specs.Prelude.{◌≡◌, ℕ, List, ◌++◌, Bool, true, None}
 use Rattle.ud_model.specs.sections.Items.{Options, rules_of}
 use Rattle.ud_model.specs.answer.Outcomes.{Outcome, HasOutcome}
 use Rattle.ud_faults.specs.declared.run.RunFault.{RunFault}
 use Rattle.ud_engine.specs.Finishing.{text_fault_of}
+use Rattle.ud_passes.specs.UntouchedTexts.{IsUntouched}
 use Rattle.ud_passes.specs.pruning.PrunedTexts.{pruned_text, edited_count}
 use Rattle.ud_replace.specs.declared.error.ReplaceError.{ReplaceError}
 use Rattle.ud_replace.specs.declared.error.ReplaceError.TheVariants.{Text, OutOfMemory}
+use Rattle.ud_replace.specs.TextOutcomes.{TextOptions}
 
 -- `RunsUnpruned o text old new differs`: `text` has no fault, and the output of the run over it was
 -- appended to the bytes `old`, which are then `new`. `differs` says whether some line differs.
@@ -29,3 +31,8 @@ pub data FailsUnpruned (o : Options) (text : List ℕ) : ReplaceError → Type 0
 pub record PrunesInto (o : Options) (text old new : List ℕ) (edited : ℕ) : Type 0 where
   pub appended : new ≡ old ++ pruned_text o.table (rules_of o.settings) text
   pub edited_is : edited ≡ edited_count o.table (rules_of o.settings) text
+
+-- `IsSpared o text`: pruning, if it is on, leaves `text` as it is.
+abbrev pub IsSpared : TextOptions → List ℕ → Type 0
+IsSpared o text =
+    o.prunes ≡ true → IsUntouched o.run.table (rules_of o.run.settings) text

@@ -14,8 +14,8 @@ ghost use Rattle.ud_replace.specs.TextOutcomes.{TextOptions};
 /// after `fresh` got the whole output and its bytes reached the disk, and after the file was read
 /// again with the same bytes. Writing into files isn't allowed here.
 pub fn law_one_rename()
-    ensures { (o : TextOptions) (id : FileId) (name fresh : List ℕ) (old new : List Call)
-        (r : Result Update ReplaceError) → Replaces o false id name fresh old new r →
+    ensures { (o : TextOptions) (id : FileId) (name fresh text : List ℕ) (old new : List Call)
+        (r : Result Update ReplaceError) → Replaces o false id name fresh text old new r →
         EachCall (TouchesFreshOnly o name fresh old) old new }
 {}
 
@@ -23,7 +23,8 @@ pub fn law_one_rename()
 /// call. So a process killed between two calls leaves such a state. Writing into files isn't
 /// allowed here.
 pub fn law_old_or_new()
-    ensures { (o : TextOptions) (f : Files) (id : FileId) (name fresh : List ℕ)
+    ensures { (o : TextOptions) (f : Files) (id : FileId) (name fresh text : List ℕ)
         (old new : List Call) (r : Result Update ReplaceError) →
-        Replaces o false id name fresh old new r → AreTrue f new → StaysOldOrNew o name f old new }
+        Replaces o false id name fresh text old new r → AreTrue f new →
+        StaysOldOrNew o name f old new }
 {}

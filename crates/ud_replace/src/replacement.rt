@@ -5,7 +5,7 @@
 //! it is opened for writing. Rejected: taking the text anew if the bytes differ, since a second run
 //! does that.
 
-ghost use Rattle.std.specs.Prelude.{◌≡◌, ◌<◌, List, [], true, false, is_ok, if◌then◌else◌};
+ghost use Rattle.std.specs.Prelude.{◌≡◌, ◌<◌, ℕ, List, [], true, false, is_ok, if◌then◌else◌};
 ghost use Rattle.ud_replace.specs.Calls.{Call};
 ghost use Rattle.ud_replace.specs.Filling.{LooksAgain, Confirms, Fills};
 ghost use Rattle.ud_replace.specs.Replacing.{Overwrites, RenamesAt, PutsAt, JudgesAt, ReplacesAt};
@@ -16,9 +16,10 @@ use crate::append::append_all;
 use crate::error::{ReplaceError, Update};
 use crate::folder::{CreateError, Folder};
 use crate::node::FileId;
+use crate::squeezed_run::run_text;
 use crate::stat::FileStat;
 use crate::text_plan::TextPlan;
-use crate::text_run::{run_text, stays};
+use crate::text_run::stays;
 use std::alloc::Global;
 use ud_engine::Watched;
 
@@ -83,8 +84,8 @@ pub fn replace<F: Folder>(
     folder: &mut F,
     target: &Target<'_>,
 ) -> Result<Update, ReplaceError>
-    ensures calls { (o : TextOptions) → IsPlanned plan.now o → ReplacesAt o target.now
-        (F.history folder.old) (F.history folder.new) result }
+    ensures calls { (text : List ℕ) × ((o : TextOptions) → IsPlanned plan.now o →
+        ReplacesAt o target.now text (F.history folder.old) (F.history folder.new) result) }
 {
     let mut text = Vec::new(alloc);
     let mut out = Watched::new(Vec::<u8>::new(alloc));
@@ -108,7 +109,8 @@ pub fn replace<F: Folder>(
 /// output is the text itself, and isn't left in `out`.
 ///
 /// # Errors
-/// As `replace`. Then `text` and `out` may have any bytes, and `edited` any number.
+/// As `replace`. `text` then has what was read, if reading failed too. `out` may have any bytes,
+/// and `edited` any number.
 pub fn replace_keeping<F: Folder>(
     alloc: Global,
     plan: &TextPlan,
@@ -123,7 +125,7 @@ pub fn replace_keeping<F: Folder>(
     requires empty { out.old.inner.items ≡ [] }
     requires not_failed { out.old.failed ≡ false }
     ensures calls { (o : TextOptions) → IsPlanned plan.now o → ReplacesAt o target.now
-        (F.history folder.old) (F.history folder.new) result }
+        text.new.items (F.history folder.old) (F.history folder.new) result }
     ensures output { (o : TextOptions) → IsPlanned plan.now o → is_ok result ≡ true →
         KeepsAt o target.now (F.history folder.old) (F.history folder.new) result text.new.items
         (if same.new then text.new.items else out.new.inner.items) edited.new }
@@ -166,7 +168,7 @@ fn replace_text<F: Folder>(
         IsOutputOf o before.now.text.now
         (if same.new then before.now.text.now else out.new.inner.items) edited.new }
 {
-    *same = match stays(plan, before.text) {
+    *same = match stays(before.alloc, plan, before.text) {
         Ok(same) => same,
         Err(error) => return Err(error),
     };

@@ -4,9 +4,11 @@
 
 ghost use Rattle.std.specs.Prelude.{◌≡◌, ◌++◌, [], true, false, MatchResult};
 ghost use Rattle.ud_args.specs.Plans.{ForOptionsOf};
-ghost use Rattle.ud_replace.specs.TextOutcomes.{TextOptions, IsPlanned, RunsOver, FailsOver};
-ghost use Rattle.ud_replace.specs.TextOutcomes.{error_of, same_run};
+ghost use Rattle.ud_replace.specs.TextOutcomes.{TextOptions, IsPlanned, RunsUnsqueezed};
+ghost use Rattle.ud_replace.specs.TextOutcomes.{FailsUnsqueezed, RunsOver, FailsOver, error_of};
+ghost use Rattle.ud_replace.specs.TextOutcomes.{same_run};
 ghost use Rattle.ud_replace.specs.UnprunedRuns.{RunsUnpruned, FailsUnpruned, PrunesInto};
+ghost use Rattle.ud_replace.specs.UnprunedRuns.{IsSpared};
 ghost use Rattle.ud_replace.specs.FoldedRuns.{RunsPruned};
 
 use crate::error::ReplaceError;
@@ -19,14 +21,14 @@ use ud_cond::Rules;
 use ud_engine::{RunFault, Watched, run};
 use ud_io::write_all;
 use ud_model::Listing;
-use ud_passes::prune;
+use ud_passes::{is_untouched, prune};
 
-/// Appends the output for a text, as the plan asks.
+/// Appends the output for a text, as the plan asks, with all blank lines.
 ///
 /// # Errors
 /// `Text` if the text has a fault. The output up to the fault was appended, unless conditions are
 /// to be pruned. `OutOfMemory` if memory can't be allocated.
-pub fn run_text(
+pub(crate) fn run_unsqueezed(
     alloc: Global,
     plan: &TextPlan,
     text: &[u8],
@@ -34,7 +36,8 @@ pub fn run_text(
 ) -> Result<TextRun, ReplaceError>
     requires not_failed { out.old.failed ≡ false }
     ensures { (o : TextOptions) → IsPlanned plan.now o → MatchResult result
-        (RunsOver o text.now out.old.inner.items out.new.inner.items) (FailsOver o text.now) }
+        (RunsUnsqueezed o text.now out.old.inner.items out.new.inner.items)
+        (FailsUnsqueezed o text.now) }
 {
     if plan.prunes {
         return run_pruning(alloc, plan, text, out);
@@ -43,17 +46,21 @@ pub fn run_text(
     Ok(TextRun { differs, edited: 0 })
 }
 
-/// Returns whether the output for a text is known to be the text itself. Nothing is written, and no
-/// memory is taken. If conditions are to be pruned, names are listed or lines are numbered, it
-/// isn't known.
+/// Returns whether the output for a text is known to be the text itself. Nothing is written. If
+/// names are listed or lines are numbered, or if a directive or condition may be pruned, it isn't
+/// known.
 ///
 /// # Errors
-/// As `run_text`.
-pub fn stays(plan: &TextPlan, text: &[u8]) -> Result<bool, ReplaceError>
+/// As `run_unsqueezed`.
+pub fn stays(alloc: Global, plan: &TextPlan, text: &[u8]) -> Result<bool, ReplaceError>
     ensures { (o : TextOptions) → IsPlanned plan.now o → MatchResult result
         (λ same. same ≡ true → RunsOver o text.now [] text.now same_run) (FailsOver o text.now) }
 {
-    if !copies_lines(plan) {
+    if !copies_lines(&plan.run) {
+        return Ok(false);
+    }
+    let spared = is_spared(alloc, plan, text)?;
+    if !spared {
         return Ok(false);
     }
     let mut reader = Watched::new(text);
@@ -64,20 +71,37 @@ pub fn stays(plan: &TextPlan, text: &[u8]) -> Result<bool, ReplaceError>
     }
 }
 
-/// Returns whether the output is made of the text's lines: not listed, not numbered, not pruned.
-fn copies_lines(plan: &TextPlan) -> bool
-    ensures unpruned { result ≡ true → plan.now.prunes ≡ false }
-    ensures unnumbered { result ≡ true → plan.now.run.settings.renumber ≡ false }
-    ensures unlisted { result ≡ true → plan.now.run.settings.listing ≡ Listing.Off }
+/// Returns whether the output of the run is made of the text's lines: not listed, not numbered.
+fn copies_lines(plan: &Plan) -> bool
+    ensures unnumbered { result ≡ true → plan.now.settings.renumber ≡ false }
+    ensures unlisted { result ≡ true → plan.now.settings.listing ≡ Listing.Off }
 {
-    let settings = plan.run.settings();
-    !plan.prunes && !settings.renumber && matches!(settings.listing, Listing::Off)
+    let settings = plan.settings();
+    !settings.renumber && matches!(settings.listing, Listing::Off)
+}
+
+/// Returns whether it is known that pruning, if the plan asks for it, leaves a text as it is.
+///
+/// # Errors
+/// `OutOfMemory` if memory can't be allocated.
+fn is_spared(alloc: Global, plan: &TextPlan, text: &[u8]) -> Result<bool, ReplaceError>
+    ensures { (o : TextOptions) → IsPlanned plan.now o → MatchResult result
+        (λ known. known ≡ true → IsSpared o text.now) (λ e. e ≡ ReplaceError.OutOfMemory) }
+{
+    if !plan.prunes {
+        return Ok(true);
+    }
+    let rules = Rules::of(plan.run.settings());
+    match is_untouched(alloc, text, plan.run.symbols(), rules) {
+        Ok(known) => Ok(known),
+        Err(_) => Err(ReplaceError::OutOfMemory),
+    }
 }
 
 /// Appends the output for a text, with pruned conditions.
 ///
 /// # Errors
-/// As `run_text`.
+/// As `run_unsqueezed`.
 fn run_pruning(
     alloc: Global,
     plan: &TextPlan,
@@ -87,7 +111,8 @@ fn run_pruning(
     requires not_failed { out.old.failed ≡ false }
     requires prunes { plan.now.prunes ≡ true }
     ensures { (o : TextOptions) → IsPlanned plan.now o → MatchResult result
-        (RunsOver o text.now out.old.inner.items out.new.inner.items) (FailsOver o text.now) }
+        (RunsUnsqueezed o text.now out.old.inner.items out.new.inner.items)
+        (FailsUnsqueezed o text.now) }
 {
     match try_folded(alloc, plan, text, out)? {
         Some(ran) => Ok(ran),
@@ -101,7 +126,7 @@ fn run_pruning(
 /// Appends the output of the run over a text, with pruned conditions.
 ///
 /// # Errors
-/// As `run_text`.
+/// As `run_unsqueezed`.
 pub(crate) fn run_pruned(
     alloc: Global,
     plan: &Plan,
@@ -165,7 +190,7 @@ fn append_pruned(
 /// Appends the output of the run over a text. Returns whether some line differs.
 ///
 /// # Errors
-/// As `run_text`.
+/// As `run_unsqueezed`.
 fn run_unpruned(plan: &Plan, text: &[u8], out: &mut Watched<Vec<u8>>) -> Result<bool, ReplaceError>
     requires not_failed { out.old.failed ≡ false }
     ensures { ForOptionsOf plan.now (λ o. MatchResult result

@@ -1,10 +1,9 @@
 -- Parts of a walk that take each regular file that they meet, one after another.
-use Rattle.std.proofs.Common.{◌≡◌, ◌⊎◌, inl, inr, ℕ, List, [], ◌∷◌, ◌++◌, map, Bool, true, false, refl, sym, ap, ◌∙◌, subst, arith, append_assoc}
+use Rattle.std.proofs.Common.{◌≡◌, ◌⊎◌, inl, inr, ℕ, List, [], ◌∷◌, ◌++◌, map, Bool, false, refl, sym, ap, ◌∙◌, subst, arith, append_assoc}
 use Rattle.std.proofs.lemmas.List.{map-append}
 use Rattle.std.proofs.lemmas.List.Elements.{All-weaker, All-contains, All-contains_itself, Contains-append_left, Contains-append_cases}
 use Rattle.std.specs.List.{All, Contains}
 use Rattle.std.specs.Prelude.{string_bytes}
-use Rattle.std.proofs.lemmas.Grind.{common_steps}
 use Rattle.ud_replace.specs.declared.node.Lookup.{Lookup}
 use Rattle.ud_replace.specs.declared.node.Lookup.TheVariants.{Present}
 use Rattle.ud_replace.specs.declared.node.Node.{Node}
@@ -13,8 +12,7 @@ use Rattle.ud_replace.specs.declared.node.FileId.{FileId}
 use Rattle.ud_replace.specs.Calls.{Call, walked, met, followed, listed}
 use Rattle.ud_tree.specs.declared.walk.Found.{Found}
 use Rattle.ud_tree.specs.declared.walk.Walk.{Walk}
-use Rattle.ud_tree.specs.Choices.{IsChosen, IsLeft}
-use Rattle.ud_tree.specs.Paths.{last_name}
+use Rattle.ud_tree.specs.Choices.{IsBelow, Chooses, IsLeft}
 use Rattle.ud_tree.specs.Catching.{IsTaken, Grows, Catches}
 use Rattle.ud_tree.proofs.CoverLemmas.{only_one}
 
@@ -45,11 +43,14 @@ taken_later : (w v : Walk) → Grows w v → (path : List ℕ) (id : FileId) →
 taken_later w v h path id (inl there) = inl (there.0, All-contains (Contains v.found.items) w.found.items there.0 h.stay there.1, there.2, there.3)
 taken_later w v h path id (inr left) = inr (subst (λ ps. IsLeft (map string_bytes ps) path) (sym h.same) left)
 
--- A file whose name isn't chosen is taken.
-pub taken_left : (w : Walk) (path : List ℕ) (id : FileId) (chosen : Bool) (name : List ℕ) →
-    (¬ (map string_bytes w.patterns.now ≡ []) → IsChosen (map string_bytes w.patterns.now) name → chosen ≡ true) →
-    chosen ≡ false → name ≡ last_name path → IsTaken w path id
-taken_left w path id chosen name h is named = grind (arith, common_steps)
+-- A file that isn't chosen is taken.
+pub taken_left : (w : Walk) (path : List ℕ) (id : FileId) {seen below : List ℕ} {chosen : Bool} → seen ≡ path → IsBelow seen below →
+    Chooses (map string_bytes w.patterns.now) below chosen → chosen ≡ false → IsTaken w path id
+taken_left w path id {below = below} same b h is = inr (
+  below,
+  subst (λ (p : List ℕ). IsBelow p below) same b,
+  subst (λ (c : Bool). Chooses (map string_bytes w.patterns.now) below c) is h,
+)
 
 -- Nothing was asked.
 pub catches_none : (calls : List Call) (w v : Walk) → Grows w v → Catches calls calls w v

@@ -16,8 +16,8 @@ use Rattle.ud_tree.specs.Reports.{ReportState}
 use Rattle.ud_tree.specs.declared.walk.Found.{Found}
 use Rattle.ud_tree.specs.declared.walk.Walk.{Walk}
 use Rattle.ud_tree.specs.Catching.{Catches}
-use Rattle.ud_tree.specs.Choices.{IsLeft}
-use Rattle.ud_tree.specs.Covering.{IsFolderPath, WasEntered, IsDue, IsVersioned, Begins, at_file, at_folder, at_link, Visits, no_text, was_met, IsIn, StandsIn, Gives, no_path_text, was_given, paths_of, CoversPaths, CoversInput, MissesNone, misses_no_path, misses_no_input}
+use Rattle.ud_tree.specs.Choices.{IsLeft, IsSkipped}
+use Rattle.ud_tree.specs.Covering.{IsFolderPath, WasEntered, IsDue, Begins, at_file, at_folder, at_link, Visits, no_text, was_met, VisitsAll, IsIn, StandsIn, Gives, no_path_text, was_given, paths_of, CoversPaths, CoversInput, MissesNone, misses_no_path, misses_no_input}
 use Rattle.ud_tree.specs.Streams.{Source}
 use Rattle.ud_tree.specs.WalkMessages.{TakesPaths}
 use Rattle.ud_tree.specs.Walks.{IsKept, Adds, adds_none, adds_one, AddsNode, no_node, file_node}
@@ -43,17 +43,17 @@ due_within xs ys a b path w k h = (h.0, h.1, by_case h.2)
     by_case (inr there) = k h.0 there
 
 -- A name that was visited stays so.
-visits_within : {xs ys : List WalkCall} {p q : List ℕ → Type 0} {s t : Type 0} {folder : List ℕ} (name : List ℕ) → Within xs ys → ((path : List ℕ) → p path → q path) → (s → t) →
-    Visits xs p s folder name → Visits ys q t folder name
-visits_within name w d e (no_text other told) = no_text other (e told)
-visits_within {p = p} {q = q} {folder = folder} name w d e (was_met answer seen k) = was_met answer (w (met (folder ++ name) answer) seen) (λ node is kind. by_case (k node is kind))
+visits_within : {pats : List (List ℕ)} → {xs ys : List WalkCall} {p q : List ℕ → Type 0} {s t : Type 0} {folder : List ℕ} (name : List ℕ) → Within xs ys → ((path : List ℕ) → p path → q path) → (s → t) →
+    Visits pats xs p s folder name → Visits pats ys q t folder name
+visits_within {pats = pats} name w d e (no_text other told) = no_text other (e told)
+visits_within {pats = pats} {p = p} {q = q} {folder = folder} name w d e (was_met answer seen k) = was_met answer (w (met (folder ++ name) answer) seen) (λ node is kind. by_case (k node is kind))
   where
-    by_case : IsVersioned name ⊎ p (folder ++ name) → IsVersioned name ⊎ q (folder ++ name)
+    by_case : IsSkipped pats (folder ++ name) name ⊎ p (folder ++ name) → IsSkipped pats (folder ++ name) name ⊎ q (folder ++ name)
     by_case (inl left) = inl left
     by_case (inr due) = inr (d (folder ++ name) due)
 
-visits_all_within : {xs ys : List WalkCall} {p q : List ℕ → Type 0} {s t : Type 0} {folder : List ℕ} (names : List (List ℕ)) → Within xs ys → ((path : List ℕ) → p path → q path) → (s → t) →
-    All (Visits xs p s folder) names → All (Visits ys q t folder) names
+visits_all_within : {pats : List (List ℕ)} → {xs ys : List WalkCall} {p q : List ℕ → Type 0} {s t : Type 0} {folder : List ℕ} (names : List (List ℕ)) → Within xs ys → ((path : List ℕ) → p path → q path) → (s → t) →
+    All (Visits pats xs p s folder) names → All (Visits pats ys q t folder) names
 visits_all_within names w d e h = search (rules, All-weaker, visits_within)
 
 -- A path of the command line that can be taken stays so.
@@ -120,9 +120,9 @@ pub followed_none : (path : List ℕ) (answer : Bool) (other : List ℕ) (seen :
 followed_none path answer other seen = lists_no_more (followed path answer) (met other seen ∷ []) (λ folder names listing e. absurd cc) (met_none other seen)
 
 -- A few calls were made, and none of them lists a folder.
-pub explores_few : (ws : List WalkCall) {calls calls' : List Call} (folders folders' : List (List ℕ))
+pub explores_few : {pats : List (List ℕ)} → (ws : List WalkCall) {calls calls' : List Call} (folders folders' : List (List ℕ))
     (r r' : ReportState) → (0 < r.faulty → 0 < r'.faulty) → calls' ≡ map walked ws ++ calls → ListsNone ws →
-    Within folders folders' → Explores calls calls' folders folders' r r'
+    Within folders folders' → Explores pats calls calls' folders folders' r r'
 explores_few ws folders folders' r r' counted is none kept = record {
   kept = counted;
   made = ws;
@@ -132,7 +132,7 @@ explores_few ws folders folders' r r' counted is none kept = record {
 }
 
 -- Nothing was asked.
-pub explores_none : (calls : List Call) (folders : List (List ℕ)) (r r' : ReportState) → (0 < r.faulty → 0 < r'.faulty) → Explores calls calls folders folders r r'
+pub explores_none : {pats : List (List ℕ)} → (calls : List Call) (folders : List (List ℕ)) (r r' : ReportState) → (0 < r.faulty → 0 < r'.faulty) → Explores pats calls calls folders folders r r'
 explores_none calls folders r r' counted = explores_few [] folders folders r r' counted refl lists_none (λ folder there. there)
 
 -- All folders that waited still wait, and one more may.
@@ -154,48 +154,48 @@ waits_due ws {folders = folders} h =
     (h.folder, h.is_path, inr (subst (λ (fs : List (List ℕ)). Contains fs h.folder) (sym h.grown) (Contains-push folders h.folder)))
 
 -- A path of the command line can be taken.
-pub starts_good : (ws : List WalkCall) (path : List ℕ) {calls calls' : List Call} (folders folders' : List (List ℕ))
+pub starts_good : {pats : List (List ℕ)} → (ws : List WalkCall) (path : List ℕ) {calls calls' : List Call} (folders folders' : List (List ℕ))
     {found' : List Found} (r : ReportState) → calls' ≡ map walked ws ++ calls → ListsNone ws → Within folders folders' →
-    Begins ws (IsDue ws folders') (IsIn found') path → Starts path calls calls' folders folders' found' r r
+    Begins ws (IsDue ws folders') (IsIn found') path → Starts pats path calls calls' folders folders' found' r r
 unfolding explores_few
 starts_good ws path folders folders' r is none kept b = record { explores = explores_few ws folders folders' r r (λ some. some) is none kept; begins = inr b }
 
 -- A path of the command line has a fault.
-pub starts_bad : (ws : List WalkCall) (path : List ℕ) {calls calls' : List Call} (folders : List (List ℕ))
+pub starts_bad : {pats : List (List ℕ)} → (ws : List WalkCall) (path : List ℕ) {calls calls' : List Call} (folders : List (List ℕ))
     {found' : List Found} (r r' : ReportState) → calls' ≡ map walked ws ++ calls → ListsNone ws → 0 < r'.faulty →
-    Starts path calls calls' folders folders found' r r'
+    Starts pats path calls calls' folders folders found' r r'
 starts_bad ws path folders r r' is none some = record { explores = explores_few ws folders folders r r' (λ before. some) is none (waits_still folders); begins = inl some }
 
 -- A name in a folder was looked at.
-visits_met : (answer : Lookup) (path folder name : List ℕ) {calls calls' : List Call} (folders folders' : List (List ℕ))
+visits_met : {pats : List (List ℕ)} → (answer : Lookup) (path folder name : List ℕ) {calls calls' : List Call} (folders folders' : List (List ℕ))
     (r r' : ReportState) → (0 < r.faulty → 0 < r'.faulty) → path ≡ folder ++ name →
     calls' ≡ walked (met path answer) ∷ calls → Within folders folders' →
-    ((node : Node) → answer ≡ Present node → node.kind ≡ Folder → IsVersioned name ⊎
-    IsDue (met path answer ∷ []) folders' path) → VisitsOne folder name calls calls' folders folders' r r'
+    ((node : Node) → answer ≡ Present node → node.kind ≡ Folder → IsSkipped pats path name ⊎
+    IsDue (met path answer ∷ []) folders' path) → VisitsOne pats folder name calls calls' folders folders' r r'
 unfolding explores_few
-visits_met answer path folder name folders folders' r r' counted named is kept due = record {
+visits_met {pats = pats} answer path folder name folders folders' r r' counted named is kept due = record {
   explores = explores_few (met path answer ∷ []) folders folders' r r' counted is (met_none path answer) kept;
   visited = was_met answer (0, omega arith, ap (λ (p : List ℕ). met p answer) named)
-      (λ node is_node kind. subst (λ (p : List ℕ). IsVersioned name ⊎ IsDue (met path answer ∷ []) folders' p) named (due node is_node kind));
+      (λ node is_node kind. subst (λ (p : List ℕ). IsSkipped pats p name ⊎ IsDue (met path answer ∷ []) folders' p) named (due node is_node kind));
 }
 
 -- A name in a folder isn't UTF-8.
-pub visits_other : (folder name : List ℕ) (calls : List Call) (folders : List (List ℕ)) (r r' : ReportState) → ¬ (IsUtf8 name) → 0 < r'.faulty → VisitsOne folder name calls calls folders folders r r'
+pub visits_other : {pats : List (List ℕ)} → (folder name : List ℕ) (calls : List Call) (folders : List (List ℕ)) (r r' : ReportState) → ¬ (IsUtf8 name) → 0 < r'.faulty → VisitsOne pats folder name calls calls folders folders r r'
 visits_other folder name calls folders r r' other some = record { explores = explores_none calls folders r r' (λ before. some); visited = no_text other some }
 
 -- Nothing has the path of a name, or that isn't known.
-pub visits_unmet : (answer : Lookup) (path folder name : List ℕ) {calls calls' : List Call} (folders : List (List ℕ))
+pub visits_unmet : {pats : List (List ℕ)} → (answer : Lookup) (path folder name : List ℕ) {calls calls' : List Call} (folders : List (List ℕ))
     (r r' : ReportState) → (0 < r.faulty → 0 < r'.faulty) → ((node : Node) → ¬ (answer ≡ Present node)) →
     path ≡ folder ++ name → calls' ≡ walked (met path answer) ∷ calls →
-    VisitsOne folder name calls calls' folders folders r r'
+    VisitsOne pats folder name calls calls' folders folders r r'
 visits_unmet answer path folder name folders r r' counted other named is =
     visits_met answer path folder name folders folders r r' counted named is (waits_still folders) (λ node is_node kind. absurd (other node is_node))
 
 -- A node has the path of a name, and was added.
-pub visits_node : (node : Node) (path folder name : List ℕ) {calls calls' : List Call}
+pub visits_node : {pats : List (List ℕ)} → (node : Node) (path folder name : List ℕ) {calls calls' : List Call}
     (folders folders' : List (List ℕ)) (r : ReportState) → path ≡ folder ++ name →
-    calls' ≡ walked (met path (Present node)) ∷ calls → AddsFolder path name node folders folders' →
-    VisitsOne folder name calls calls' folders folders' r r
+    calls' ≡ walked (met path (Present node)) ∷ calls → AddsFolder pats path name node folders folders' →
+    VisitsOne pats folder name calls calls' folders folders' r r
 visits_node node path folder name folders folders' r named is (waits_folder kind w) =
     visits_met (Present node) path folder name folders folders' r r (λ some. some) named is (waits_more w) (λ n is_node k. inr (waits_due (met path (Present node) ∷ []) w))
 visits_node node path folder name folders folders' r named is (left_folder left same) =
@@ -212,8 +212,8 @@ parts_are : (xs ys : List WalkCall) (x y z : List Call) → y ≡ map walked xs 
 parts_are xs ys x y z h k = grind (arith, common_steps, map-append)
 
 -- One part after another.
-pub explores_then : {x y z : List Call} {f g h : List (List ℕ)} {a b c : ReportState} → Explores x y f g a b → Explores y z g h b c → Explores x z f h a c
-explores_then {x = x} {y = y} {z = z} {f = f} {g = g} {h = h} {c = c} k l = record {
+pub explores_then : {pats : List (List ℕ)} → {x y z : List Call} {f g h : List (List ℕ)} {a b c : ReportState} → Explores pats x y f g a b → Explores pats y z g h b c → Explores pats x z f h a c
+explores_then {pats = pats} {x = x} {y = y} {z = z} {f = f} {g = g} {h = h} {c = c} k l = record {
   kept = λ some. l.kept (k.kept some);
   made = l.made ++ k.made;
   are = parts_are k.made l.made x y z k.are l.are;
@@ -222,26 +222,26 @@ explores_then {x = x} {y = y} {z = z} {f = f} {g = g} {h = h} {c = c} k l = reco
 }
   where
     by_case : (folder : List ℕ) (names : List (List ℕ)) (answer : Bool) → Contains l.made (listed folder names answer) ⊎ Contains k.made (listed folder names answer) →
-        All (Visits (l.made ++ k.made) (IsDue (l.made ++ k.made) h) (0 < c.faulty) folder) names
+        All (Visits pats (l.made ++ k.made) (IsDue (l.made ++ k.made) h) (0 < c.faulty) folder) names
     by_case folder names answer (inl now) = visits_all_within names (later_calls k.made l.made) (due_still k.made l.made h) (λ some. some) (l.visits folder names answer now)
     by_case folder names answer (inr before) = visits_all_within names (earlier_calls k.made l.made) (due_later k.made l.made g h l.waits) l.kept (k.visits folder names answer before)
 
 -- Some names of a folder were visited.
-pub record VisitsSome (folder : List ℕ) (names : List (List ℕ)) (x y : List Call) (f g : List (List ℕ)) (a b : ReportState) : Type 0 where
-  pub explores : Explores x y f g a b
-  pub visited : All (Visits explores.made (IsDue explores.made g) (0 < b.faulty) folder) names
+pub record VisitsSome (pats : List (List ℕ)) (folder : List ℕ) (names : List (List ℕ)) (x y : List Call) (f g : List (List ℕ)) (a b : ReportState) : Type 0 where
+  pub explores : Explores pats x y f g a b
+  pub visited : All (Visits pats explores.made (IsDue explores.made g) (0 < b.faulty) folder) names
 
 -- None was yet.
-pub visits_none : (folder : List ℕ) (calls : List Call) (folders : List (List ℕ)) (r : ReportState) → VisitsSome folder [] calls calls folders folders r r
+pub visits_none : {pats : List (List ℕ)} → (folder : List ℕ) (calls : List Call) (folders : List (List ℕ)) (r : ReportState) → VisitsSome pats folder [] calls calls folders folders r r
 unfolding explores_none explores_few
-visits_none folder calls folders r = record { explores = explores_none calls folders r r (λ some. some); visited = All-nil (Visits [] (IsDue [] folders) (0 < r.faulty) folder) }
+visits_none {pats = pats} folder calls folders r = record { explores = explores_none calls folders r r (λ some. some); visited = All-nil (Visits pats [] (IsDue [] folders) (0 < r.faulty) folder) }
 
 -- One name more of a folder was visited.
-pub visits_more : {folder : List ℕ} {names : List (List ℕ)} {name : List ℕ} {x y z : List Call} {f g h : List (List ℕ)}
-    {a b c : ReportState} → VisitsSome folder names x y f g a b → VisitsOne folder name y z g h b c →
-    VisitsSome folder (names ++ name ∷ []) x z f h a c
+pub visits_more : {pats : List (List ℕ)} → {folder : List ℕ} {names : List (List ℕ)} {name : List ℕ} {x y z : List Call} {f g h : List (List ℕ)}
+    {a b c : ReportState} → VisitsSome pats folder names x y f g a b → VisitsOne pats folder name y z g h b c →
+    VisitsSome pats folder (names ++ name ∷ []) x z f h a c
 unfolding explores_then
-visits_more {folder = folder} {names = names} {name = name} {g = g} {h = h} {c = c} k l = record { explores = explores_then k.explores l.explores; visited = All-push here names name earlier now }
+visits_more {pats = pats} {folder = folder} {names = names} {name = name} {g = g} {h = h} {c = c} k l = record { explores = explores_then k.explores l.explores; visited = All-push here names name earlier now }
   where
     xs : List WalkCall
     xs = k.explores.made
@@ -250,7 +250,7 @@ visits_more {folder = folder} {names = names} {name = name} {g = g} {h = h} {c =
     ys = l.explores.made
 
     here : List ℕ → Type 0
-    here = Visits (ys ++ xs) (IsDue (ys ++ xs) h) (0 < c.faulty) folder
+    here = Visits pats (ys ++ xs) (IsDue (ys ++ xs) h) (0 < c.faulty) folder
 
     earlier : All here names
     earlier = visits_all_within names (earlier_calls xs ys) (due_later xs ys g h l.explores.waits) l.explores.kept k.visited
@@ -259,10 +259,10 @@ visits_more {folder = folder} {names = names} {name = name} {g = g} {h = h} {c =
     now = visits_within name (later_calls xs ys) (due_still xs ys h) (λ some. some) l.visited
 
 -- A folder was listed, and then each of its names was visited.
-pub enters_folder : {folder : List ℕ} (names : List (List ℕ)) (answer : Bool) {x y z : List Call} {f g : List (List ℕ)}
+pub enters_folder : {pats : List (List ℕ)} → {folder : List ℕ} (names : List (List ℕ)) (answer : Bool) {x y z : List Call} {f g : List (List ℕ)}
     {a b c : ReportState} → y ≡ walked (listed folder names answer) ∷ x → (0 < a.faulty → 0 < b.faulty) →
-    VisitsSome folder names y z f g b c → Enters folder x z f g a c
-enters_folder {folder = folder} names answer {x = x} {y = y} {z = z} {f = f} {g = g} {c = c} is counted l = record {
+    VisitsSome pats folder names y z f g b c → Enters pats folder x z f g a c
+enters_folder {pats = pats} {folder = folder} names answer {x = x} {y = y} {z = z} {f = f} {g = g} {c = c} is counted l = record {
   explores = record {
     kept = λ some. l.explores.kept (counted some);
     made = ys ++ first ∷ [];
@@ -280,34 +280,34 @@ enters_folder {folder = folder} names answer {x = x} {y = y} {z = z} {f = f} {g 
     first = listed folder names answer
 
     by_case : (d : List ℕ) (ns : List (List ℕ)) (again : Bool) → Contains ys (listed d ns again) ⊎ Contains (first ∷ []) (listed d ns again) →
-        All (Visits (ys ++ first ∷ []) (IsDue (ys ++ first ∷ []) g) (0 < c.faulty) d) ns
+        All (Visits pats (ys ++ first ∷ []) (IsDue (ys ++ first ∷ []) g) (0 < c.faulty) d) ns
     by_case d ns again (inl now) = visits_all_within ns (later_calls (first ∷ []) ys) (due_still (first ∷ []) ys g) (λ some. some) (l.explores.visits d ns again now)
     by_case d ns again (inr at_first) =
         let same : listed folder names answer ≡ listed d ns again = only_one first (listed d ns again) at_first in
         let same_folder : folder ≡ d = cc in
         let same_names : names ≡ ns = cc in
-        subst (λ (e : List ℕ). All (Visits (ys ++ first ∷ []) (IsDue (ys ++ first ∷ []) g) (0 < c.faulty) e) ns) same_folder
-        (subst (λ (es : List (List ℕ)). All (Visits (ys ++ first ∷ []) (IsDue (ys ++ first ∷ []) g) (0 < c.faulty) folder) es) same_names
+        subst (λ (e : List ℕ). All (Visits pats (ys ++ first ∷ []) (IsDue (ys ++ first ∷ []) g) (0 < c.faulty) e) ns) same_folder
+        (subst (λ (es : List (List ℕ)). All (Visits pats (ys ++ first ∷ []) (IsDue (ys ++ first ∷ []) g) (0 < c.faulty) folder) es) same_names
         (visits_all_within names (later_calls (first ∷ []) ys) (due_still (first ∷ []) ys g) (λ some. some) l.visited))
 
 -- One name more of a list.
-one_more : {X : Type 0} (f : X → List ℕ) (xs : List X) (i : ℕ) (v : X) (name : List ℕ) → i < length xs → v ≡ get_or xs i v → name ≡ f v → map f (take (i + 1) xs) ≡ map f (take i xs) ++ name ∷ []
+pub one_more : {X : Type 0} (f : X → List ℕ) (xs : List X) (i : ℕ) (v : X) (name : List ℕ) → i < length xs → v ≡ get_or xs i v → name ≡ f v → map f (take (i + 1) xs) ≡ map f (take i xs) ++ name ∷ []
 one_more f xs i v name within is named = grind (arith, common_steps, take_more, map-append)
 
 -- A folder was listed, and some of its names were visited.
-pub record EntersNames {X : Type 0} (f : X → List ℕ) (folder : List ℕ) (xs : List X) (i : ℕ) (x y : List Call) (a b : List (List ℕ)) (r s : ReportState) : Type 0 where
+pub record EntersNames (pats : List (List ℕ)) {X : Type 0} (f : X → List ℕ) (folder : List ℕ) (xs : List X) (i : ℕ) (x y : List Call) (a b : List (List ℕ)) (r s : ReportState) : Type 0 where
   pub answer : Bool
   pub mid : List Call
   pub is : mid ≡ walked (listed folder (map f xs) answer) ∷ x
   pub middle : ReportState
   pub counted : 0 < r.faulty → 0 < middle.faulty
-  pub some : VisitsSome folder (map f (take i xs)) mid y a b middle s
+  pub some : VisitsSome pats folder (map f (take i xs)) mid y a b middle s
 
 -- None was yet.
-pub enters_begun : {X : Type 0} (f : X → List ℕ) (xs ys : List X) (folder : List ℕ) {x y : List Call}
+pub enters_begun : {pats : List (List ℕ)} → {X : Type 0} (f : X → List ℕ) (xs ys : List X) (folder : List ℕ) {x y : List Call}
     (folders : List (List ℕ)) (r s : ReportState) → (0 < r.faulty → 0 < s.faulty) → ys ≡ xs →
     (answer : Bool) × (y ≡ walked (listed folder (map f xs) answer) ∷ x) →
-    EntersNames f folder ys 0 x y folders folders r s
+    EntersNames pats f folder ys 0 x y folders folders r s
 enters_begun f xs ys folder {x = x} {y = y} folders r s counted same h = record {
   middle = s;
   counted = counted;
@@ -318,45 +318,45 @@ enters_begun f xs ys folder {x = x} {y = y} folders r s counted same h = record 
 }
 
 -- One name more was.
-pub enters_name : {X : Type 0} (f : X → List ℕ) (xs : List X) (i : ℕ) (v : X) (name : List ℕ) {folder : List ℕ}
+pub enters_name : {pats : List (List ℕ)} → {X : Type 0} (f : X → List ℕ) (xs : List X) (i : ℕ) (v : X) (name : List ℕ) {folder : List ℕ}
     {x y z : List Call} {a b c : List (List ℕ)} {r s t : ReportState} → i < length xs → v ≡ get_or xs i v → name ≡ f v →
-    EntersNames f folder xs i x y a b r s → VisitsOne folder name y z b c s t →
-    EntersNames f folder xs (i + 1) x z a c r t
-enters_name f xs i v name {folder = folder} {z = z} {a = a} {c = c} {t = t} within is named h k = record {
+    EntersNames pats f folder xs i x y a b r s → VisitsOne pats folder name y z b c s t →
+    EntersNames pats f folder xs (i + 1) x z a c r t
+enters_name {pats = pats} f xs i v name {folder = folder} {z = z} {a = a} {c = c} {t = t} within is named h k = record {
   middle = h.middle;
   counted = h.counted;
   answer = h.answer;
   mid = h.mid;
   is = h.is;
-  some = subst (λ (ns : List (List ℕ)). VisitsSome folder ns h.mid z a c h.middle t) (sym (one_more f xs i v name within is named)) (visits_more h.some k);
+  some = subst (λ (ns : List (List ℕ)). VisitsSome pats folder ns h.mid z a c h.middle t) (sym (one_more f xs i v name within is named)) (visits_more h.some k);
 }
 
 -- All of them were.
-pub enters_all : {X : Type 0} (f : X → List ℕ) (xs : List X) (i : ℕ) {folder : List ℕ} {x y : List Call}
-    {a b : List (List ℕ)} {r s : ReportState} → i ≡ length xs → EntersNames f folder xs i x y a b r s →
-    Enters folder x y a b r s
-enters_all f xs i {folder = folder} {y = y} {a = a} {b = b} {s = s} all h =
-    enters_folder (map f xs) h.answer h.is h.counted (subst (λ l. VisitsSome folder (map f l) h.mid y a b h.middle s) (take_all i xs (omega arith)) h.some)
+pub enters_all : {pats : List (List ℕ)} → {X : Type 0} (f : X → List ℕ) (xs : List X) (i : ℕ) {folder : List ℕ} {x y : List Call}
+    {a b : List (List ℕ)} {r s : ReportState} → i ≡ length xs → EntersNames pats f folder xs i x y a b r s →
+    Enters pats folder x y a b r s
+enters_all {pats = pats} f xs i {folder = folder} {y = y} {a = a} {b = b} {s = s} all h =
+    enters_folder (map f xs) h.answer h.is h.counted (subst (λ l. VisitsSome pats folder (map f l) h.mid y a b h.middle s) (take_all i xs (omega arith)) h.some)
 
 -- The element that is popped was last.
 pub popped : {X : Type 0} (f : X → List ℕ) (old new : List X) (r : Option X) (x : X) (name : List ℕ) → old ≡ new ++ option_to_list r → r ≡ Some x → name ≡ f x → map f old ≡ map f new ++ name ∷ []
 popped f old new r x name is some named = grind (arith, map-append)
 
 -- Some folders were entered.
-pub record EntersSome (count : ℕ) (x y : List Call) (f g : List (List ℕ)) (a b : ReportState) : Type 0 where
-  pub explores : Explores x y f g a b
+pub record EntersSome (pats : List (List ℕ)) (count : ℕ) (x y : List Call) (f g : List (List ℕ)) (a b : ReportState) : Type 0 where
+  pub explores : Explores pats x y f g a b
   pub many : count ≤ length explores.made
 
 -- None was yet.
-pub enters_none : (calls : List Call) (folders : List (List ℕ)) (r : ReportState) → EntersSome 0 calls calls folders folders r r
+pub enters_none : {pats : List (List ℕ)} → (calls : List Call) (folders : List (List ℕ)) (r : ReportState) → EntersSome pats 0 calls calls folders folders r r
 enters_none calls folders r = record { explores = explores_none calls folders r r (λ some. some); many = omega arith }
 
 -- One folder more, which waited last, was entered.
-pub enters_more : (count : ℕ) {x y z : List Call} {f g h : List (List ℕ)} {a b c : ReportState} (rest : List (List ℕ))
-    (folder : List ℕ) → g ≡ rest ++ folder ∷ [] → EntersSome count x y f g a b → Enters folder y z rest h b c →
-    EntersSome (count + 1) x z f h a c
+pub enters_more : {pats : List (List ℕ)} → (count : ℕ) {x y z : List Call} {f g h : List (List ℕ)} {a b c : ReportState} (rest : List (List ℕ))
+    (folder : List ℕ) → g ≡ rest ++ folder ∷ [] → EntersSome pats count x y f g a b → Enters pats folder y z rest h b c →
+    EntersSome pats (count + 1) x z f h a c
 unfolding explores_then
-enters_more count {x = x} {y = y} {z = z} {f = f} {g = g} {h = h} {b = b} {c = c} rest folder is k l = record { explores = explores_then k.explores entered; many = many }
+enters_more {pats = pats} count {x = x} {y = y} {z = z} {f = f} {g = g} {h = h} {b = b} {c = c} rest folder is k l = record { explores = explores_then k.explores entered; many = many }
   where
     passes : Passes l.explores.made g h
     passes d inside = by_case (Contains-push_cases rest folder d (subst (λ (fs : List (List ℕ)). Contains fs d) is inside))
@@ -365,7 +365,7 @@ enters_more count {x = x} {y = y} {z = z} {f = f} {g = g} {h = h} {b = b} {c = c
         by_case (inl there) = l.explores.waits d there
         by_case (inr same) = inl (subst (λ (e : List ℕ). WasEntered l.explores.made e) same l.entered)
 
-    entered : Explores y z g h b c
+    entered : Explores pats y z g h b c
     entered = record { kept = l.explores.kept; made = l.explores.made; are = l.explores.are; waits = passes; visits = l.explores.visits }
 
     many : count + 1 ≤ length (l.explores.made ++ k.explores.made)
@@ -374,8 +374,16 @@ enters_more count {x = x} {y = y} {z = z} {f = f} {g = g} {h = h} {b = b} {c = c
         omega (arith, both, some, k.many)
 
 -- Folders were entered as often as a machine counts.
-pub exhausts_count : {count : ℕ} {x y : List Call} {f g : List (List ℕ)} {a b : ReportState} → 2 ^ 64 ≤ count + 1 → EntersSome count x y f g a b → Exhausts x y f g a b
+pub exhausts_count : {pats : List (List ℕ)} → {count : ℕ} {x y : List Call} {f g : List (List ℕ)} {a b : ReportState} → 2 ^ 64 ≤ count + 1 → EntersSome pats count x y f g a b → Exhausts pats x y f g a b
 exhausts_count many k = record { explores = k.explores; done = λ few. absurd (omega (arith, many, few, k.many)) }
+
+-- No folder waits any longer.
+pub exhausts_empty : {pats : List (List ℕ)} → {count : ℕ} {x y : List Call} {f g last : List (List ℕ)} {a b : ReportState} → last ≡ g → last ≡ [] → EntersSome pats count x y f g a b →
+    Exhausts pats x y f last a b
+exhausts_empty {pats = pats} {x = x} {y = y} {f = f} {a = a} {b = b} same none k = record {
+  explores = subst (λ (h : List (List ℕ)). Explores pats x y f h a b) (sym same) k.explores;
+  done = λ few. none;
+}
 
 -- A result of which two facts hold.
 pub on_ok_both : {T E : Type 0} (P Q : Type 0) (r : Result T E) → OnOk r P → OnOk r Q → OnOk r (P × Q)
@@ -390,20 +398,20 @@ pub waits_pushed : {X : Type 0} (f : X → List ℕ) (before after : List X) (x 
 waits_pushed f before after x path h is = record { folder = f x; is_path = h; grown = ap (map f) is ∙ map-append f before (x ∷ []) }
 
 -- Some paths of the command line can be taken, or have a fault.
-pub record StartsSome (paths : List (List ℕ)) (x y : List Call) (f g : List (List ℕ)) (found : List Found) (first r : ReportState) : Type 0 where
-  pub explores : Explores x y f g first r
+pub record StartsSome (pats : List (List ℕ)) (paths : List (List ℕ)) (x y : List Call) (f g : List (List ℕ)) (found : List Found) (first r : ReportState) : Type 0 where
+  pub explores : Explores pats x y f g first r
   pub begins : (0 < r.faulty) ⊎ All (Begins explores.made (IsDue explores.made g) (IsIn found)) paths
 
 -- There was none yet.
-pub starts_none : (calls : List Call) (folders : List (List ℕ)) (found : List Found) (r : ReportState) → StartsSome [] calls calls folders folders found r r
+pub starts_none : {pats : List (List ℕ)} → (calls : List Call) (folders : List (List ℕ)) (found : List Found) (r : ReportState) → StartsSome pats [] calls calls folders folders found r r
 unfolding explores_none explores_few
 starts_none calls folders found r = record { explores = explores_none calls folders r r (λ some. some); begins = inr (All-nil (Begins [] (IsDue [] folders) (IsIn found))) }
 
 -- One path more can be taken, or has a fault.
-starts_more : {paths : List (List ℕ)} {path : List ℕ} {x y z : List Call} {f g h : List (List ℕ)}
+starts_more : {pats : List (List ℕ)} → {paths : List (List ℕ)} {path : List ℕ} {x y z : List Call} {f g h : List (List ℕ)}
     {found found' : List Found} {first a b : ReportState} → All (Contains found') found →
-    StartsSome paths x y f g found first a → Starts path y z g h found' a b →
-    StartsSome (paths ++ path ∷ []) x z f h found' first b
+    StartsSome pats paths x y f g found first a → Starts pats path y z g h found' a b →
+    StartsSome pats (paths ++ path ∷ []) x z f h found' first b
 unfolding explores_then
 starts_more {paths = paths} {path = path} {g = g} {h = h} {found = found} {found' = found'} {a = a} {b = b} stay k l =
     record { explores = explores_then k.explores l.explores; begins = by_case k.begins l.begins }
@@ -427,12 +435,12 @@ starts_more {paths = paths} {path = path} {g = g} {h = h} {found = found} {found
         (begins_within (later_calls xs ys) (due_still xs ys h) (λ p id there. there) good))
 
 -- The same, by the index of the path.
-pub starts_at : {X : Type 0} (f : X → List ℕ) (xs : List X) (i : ℕ) (v : X) (path : List ℕ) {x y z : List Call}
+pub starts_at : {pats : List (List ℕ)} → {X : Type 0} (f : X → List ℕ) (xs : List X) (i : ℕ) (v : X) (path : List ℕ) {x y z : List Call}
     {a b c : List (List ℕ)} {found found' : List Found} {first r s : ReportState} → i < length xs → v ≡ get_or xs i v →
-    path ≡ f v → All (Contains found') found → StartsSome (map f (take i xs)) x y a b found first r →
-    Starts path y z b c found' r s → StartsSome (map f (take (i + 1) xs)) x z a c found' first s
-starts_at f xs i v path {x = x} {z = z} {a = a} {c = c} {found' = found'} {first = first} {s = s} within is named stay h k =
-    subst (λ (ps : List (List ℕ)). StartsSome ps x z a c found' first s) (sym (one_more f xs i v path within is named)) (starts_more stay h k)
+    path ≡ f v → All (Contains found') found → StartsSome pats (map f (take i xs)) x y a b found first r →
+    Starts pats path y z b c found' r s → StartsSome pats (map f (take (i + 1) xs)) x z a c found' first s
+starts_at {pats = pats} f xs i v path {x = x} {z = z} {a = a} {c = c} {found' = found'} {first = first} {s = s} within is named stay h k =
+    subst (λ (ps : List (List ℕ)). StartsSome pats ps x z a c found' first s) (sym (one_more f xs i v path within is named)) (starts_more stay h k)
 
 -- Calls of a walk are the same ones if they leave the same calls.
 same_walked : (xs ys : List WalkCall) → map walked xs ≡ map walked ys → xs ≡ ys
@@ -446,20 +454,20 @@ same_calls : (xs ys : List WalkCall) (old : List Call) → map walked xs ++ old 
 same_calls xs ys old e = same_walked xs ys (append_cancel_right (map walked xs) (map walked ys) old e)
 
 -- All paths can be taken, and all folders were entered.
-pub covers_paths : {X : Type 0} (f : X → List ℕ) (xs : List X) (i : ℕ) {x y z : List Call} {a b c : List (List ℕ)}
+pub covers_paths : {pats : List (List ℕ)} → {X : Type 0} (f : X → List ℕ) (xs : List X) (i : ℕ) {x y z : List Call} {a b c : List (List ℕ)}
     {found : List Found} {first r last : ReportState} → i ≡ length xs → ¬ (0 < r.faulty) →
-    StartsSome (map f (take i xs)) x y a b found first r → Exhausts y z b c r last → {w v : Walk} →
+    StartsSome pats (map f (take i xs)) x y a b found first r → Exhausts pats y z b c r last → {w v : Walk} →
     All (Contains v.found.items) found → Catches x z w v → (patterns : List (List ℕ)) →
-    map string_bytes w.patterns.now ≡ patterns →
+    map string_bytes w.patterns.now ≡ patterns → pats ≡ patterns →
     CoversPaths (map f xs) patterns x z (IsIn v.found.items) (0 < last.faulty)
 unfolding explores_then
-covers_paths f xs i {x = x} {y = y} {z = z} {b = b} {c = c} {found = found} {r = r} all fine h k {w = w} {v = v} stay caught patterns are = record {
+covers_paths f xs i {x = x} {y = y} {z = z} {b = b} {c = c} {found = found} {r = r} {last = last} all fine h k {w = w} {v = v} stay caught patterns are same = record {
   calls = ys ++ ws;
   are = (explores_then h.explores k.explores).are;
   waiting = c;
   all_listed = λ few. k.done (fewer few);
   begins = subst (λ l. All Later (map f l)) (take_all i xs (omega arith)) (by_case h.begins);
-  visits = (explores_then h.explores k.explores).visits;
+  visits = subst (λ (ps : List (List ℕ)). VisitsAll ps (ys ++ ws) (IsDue (ys ++ ws) c) (0 < last.faulty)) same (explores_then h.explores k.explores).visits;
   taken = λ path node there kind.
       subst (λ (ps : List (List ℕ)). IsIn v.found.items path node.id ⊎ IsLeft ps path) (ap (map string_bytes) caught.grows.same ∙ are)
       (caught.taken path node (subst (λ (cs : List WalkCall). Contains cs (met path (Present node)))

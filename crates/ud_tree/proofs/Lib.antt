@@ -6,6 +6,7 @@ pub mod ReportLemmas
 pub mod MessageLemmas
 pub mod WalkLemmas
 pub mod WalkTellLemmas
+pub mod ChoiceLemmas
 pub mod CoverLemmas
 pub mod CatchLemmas
 pub mod DoneLemmas
@@ -16,8 +17,6 @@ mod ShownLemmas
 pub mod PickLemmas
 pub mod RemainderLemmas
 pub mod KeepLemmas
-pub mod MarkLemmas
-pub mod PrintLemmas
 mod PatternSetLemmas
 mod PatternPartLemmas
 mod PatternPlaceLemmas

@@ -1,8 +1,7 @@
 -- Places: a pattern matches a name exactly if what follows its first parts matches the rest.
-use Rattle.std.proofs.Common.{◌≡◌, ◌∙◌, ℕ, ◌<◌, ◌≤◌, List, [], ◌∷◌, ◌++◌, length, Bool, true, false, Some, None, refl, sym, ap, subst, arith, append_assoc, ◌+◌, map, drop, get_or}
+use Rattle.std.proofs.Common.{◌≡◌, ◌∙◌, ℕ, ◌<◌, ◌≤◌, List, [], ◌∷◌, ◌++◌, length, Bool, true, false, Some, None, refl, sym, ap, subst, arith, append_assoc}
 use Rattle.std.specs.Prelude.{◌↔◌}
-use Rattle.std.proofs.lemmas.List.{drop_more}
-use Rattle.ud_tree.specs.Patterns.{after_part, Matches, at_end, star, part, MatchesAny}
+use Rattle.ud_tree.specs.Patterns.{after_part, Matches, at_end, star, part}
 use Rattle.ud_tree.specs.PatternPlaces.{Parts, no_part, then_part, Reaches, IsShorter, StopsAt}
 use Rattle.ud_tree.specs.declared.patterns.matching.Progress.{Progress}
 use Rattle.ud_tree.specs.declared.patterns.matching.Progress.TheVariants.{Ended}
@@ -101,14 +100,3 @@ less_than c q p h = omega arith
 
 pub shorter : {p n : List ℕ} (q m : List ℕ) (at : Progress) → Parts p n q m → StopsAt q m at → IsShorter p n at
 shorter q m at steps h = grind (arith, parts_shorter, less_than)
-
--- A pattern that doesn't match leaves the later ones.
-pub any_later : (name p : List ℕ) (ps : List (List ℕ)) → ¬ (Matches p name) → MatchesAny name (p ∷ ps) → MatchesAny name ps
-any_later name p ps never h = grind arith
-
-pub any_none : (name : List ℕ) → ¬ (MatchesAny name [])
-any_none name h = elim h [ ]
-
--- The next pattern comes before those after it.
-pub dropped : {X : Type 0} (g : X → List ℕ) (xs : List X) (i : ℕ) (x : X) → i < length xs → x ≡ get_or xs i x → map g (drop i xs) ≡ g x ∷ map g (drop (i + 1) xs)
-dropped g xs i x within is = grind (arith, drop_more)

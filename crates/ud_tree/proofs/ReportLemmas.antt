@@ -16,11 +16,11 @@ pub writes_then : {a b c : ReportState} {x y : List ℕ} → Writes a b x → Wr
 writes_then h k = record { plain = λ p. k.plain (h.plain p); sent = λ p. sends_then (h.sent p) (k.sent (h.plain p)) }
 
 keeps_then : {a b c : ReportState} → KeepsFinds a b → KeepsFinds b c → KeepsFinds a c
-keeps_then h k = record { remaining = k.remaining ∙ h.remaining; lost = k.lost ∙ h.lost }
+keeps_then h k = record { remaining = k.remaining ∙ h.remaining; unnamed = k.unnamed ∙ h.unnamed; lost = k.lost ∙ h.lost }
 
 -- The report didn't change.
 pub tells_none : (a : ReportState) → Tells a a []
-tells_none a = record { writes = writes_kept (record { quiet = refl; terminal = refl; shown = refl }); keeps = record { remaining = refl; lost = refl } }
+tells_none a = record { writes = writes_kept (record { quiet = refl; terminal = refl; shown = refl }); keeps = record { remaining = refl; unnamed = refl; lost = refl } }
 
 -- Nothing is known of what a terminal shows.
 pub tells_terminal : {a b : ReportState} (x : List ℕ) → a.is_terminal ≡ true → KeepsFinds a b → Tells a b x
@@ -39,7 +39,7 @@ tells_same {a = a} {b = b} e h = subst (λ (z : List ℕ). Tells a b z) e h
 
 -- Nothing was written, and no number of files is shown.
 pub says_none : (a : ReportState) → a.is_shown ≡ false → Says a a []
-says_none a hidden = record { terminal = refl; hidden = hidden; faults = refl; keeps = record { remaining = refl; lost = refl }; cleared = a.err; unshown = λ e. refl; sent = sends_none a.err }
+says_none a hidden = record { terminal = refl; hidden = hidden; faults = refl; keeps = record { remaining = refl; unnamed = refl; lost = refl }; cleared = a.err; unshown = λ e. refl; sent = sends_none a.err }
 
 -- The number of files was removed.
 pub says_cleared : {s : Stream} (a : ReportState) → a.is_shown ≡ true → Says a (record a { err = s; is_shown = false }) []
@@ -48,7 +48,7 @@ says_cleared {s = s} a is =
       terminal = refl;
       hidden = refl;
       faults = refl;
-      keeps = record { remaining = refl; lost = refl };
+      keeps = record { remaining = refl; unnamed = refl; lost = refl };
       cleared = s;
       unshown = λ e. absurd (true≢false (sym is ∙ e));
       sent = sends_none s;
@@ -68,7 +68,7 @@ says_then {c = c} {y = y} h k = record {
 
 -- Bytes were written, once the number of files was removed.
 pub says_sent : {a b : ReportState} {s : Stream} {x : List ℕ} → Says a b [] → Sends b.err s x → Says a (record b { err = s }) x
-says_sent {b = b} h k = says_then h (record { terminal = refl; hidden = h.hidden; faults = refl; keeps = record { remaining = refl; lost = refl }; cleared = b.err; unshown = λ e. refl; sent = k })
+says_sent {b = b} h k = says_then h (record { terminal = refl; hidden = h.hidden; faults = refl; keeps = record { remaining = refl; unnamed = refl; lost = refl }; cleared = b.err; unshown = λ e. refl; sent = k })
 
 -- Equal bytes were written.
 pub says_same : {a b : ReportState} {x y : List ℕ} → x ≡ y → Says a b x → Says a b y
@@ -91,7 +91,7 @@ tells_counted h = record {
     plain = λ p. h.writes.plain (record { no_terminal = p.no_terminal; unshown = p.unshown });
     sent = λ p. h.writes.sent (record { no_terminal = p.no_terminal; unshown = p.unshown });
   };
-  keeps = record { remaining = h.keeps.remaining; lost = h.keeps.lost };
+  keeps = record { remaining = h.keeps.remaining; unnamed = h.keeps.unnamed; lost = h.keeps.lost };
 }
 
 -- So it was written and counted.

@@ -16,9 +16,10 @@ use Rattle.ud_tree.specs.declared.arguments.Arguments.{Arguments}
 use Rattle.ud_tree.specs.declared.arguments.Task.{Task}
 use Rattle.ud_tree.specs.declared.arguments.Task.TheVariants.{Names}
 use Rattle.ud_tree.specs.Fates.{fate_of, is_changed, is_same, is_faulty, no_edits}
-use Rattle.ud_tree.specs.Runs.{FileResult, Unshown, EachFile, no_file, then_file, changed_in, faulty_in, edited_in, removed_in, shown_of, told_of, Counted, names_of, nothing_listed, listed_of, outputs_of}
-use Rattle.ud_tree.specs.Remainders.{FindsAll, listing_of, count_of, defined_of}
-use Rattle.ud_tree.proofs.RemainderLemmas.{finds_none, finds_kept, finds_then, finds_same}
+use Rattle.ud_tree.specs.Runs.{FileResult, Unshown, EachFile, no_file, then_file, changed_in, faulty_in, edited_in, removed_in, shown_of, told_of, Counted, names_of, nothing_listed, listed_of, outputs_of, texts_of}
+use Rattle.ud_tree.specs.Remainders.{FindsAll, listing_of, list_of, count_of, defined_of, unnamed_in}
+use Rattle.ud_tree.specs.Unnamed.{Seeks}
+use Rattle.ud_tree.proofs.RemainderLemmas.{finds_none, finds_kept, finds_then, finds_same, not_lost}
 use Rattle.ud_tree.specs.Statuses.{tree_status}
 use Rattle.ud_tree.specs.Streams.{Source, ends_of}
 use Rattle.ud_io.specs.Streams.{Stream, Sends}
@@ -136,13 +137,20 @@ writes_none {m = m} lists counts a b c d =
       sent = sends_none m.out;
       writes = (tells_none m.report).writes;
       adds = adds_none lists;
-      finds = finds_none refl (λ lost. lost);
+      finds = finds_none refl (λ lost. lost) refl;
     }
 
--- The conditions of the output for one file more were added.
-finds_push : {args : Arguments} {a b c : ReportState} (results : List FileResult) (r : FileResult) → FindsAll args (outputs_of results) a b → FindsAll args r.outputs b c →
-    FindsAll args (outputs_of (results ++ r ∷ [])) a c
-finds_push results r h k = grind (arith, common_steps, finds_same, flat_map-append, finds_then)
+-- The conditions of the output for one file more were added, and names were looked for in its text.
+outputs_push : (results : List FileResult) (r : FileResult) → outputs_of results ++ r.outputs ≡ outputs_of (results ++ r ∷ [])
+outputs_push results r = grind (arith, common_steps, flat_map-append)
+
+texts_push : (results : List FileResult) (r : FileResult) → texts_of results ++ r.texts ≡ texts_of (results ++ r ∷ [])
+texts_push results r = grind (arith, common_steps, flat_map-append)
+
+finds_push : {args : Arguments} {a b c : ReportState} (results : List FileResult) (r : FileResult) → FindsAll args (texts_of results) (outputs_of results) a b → FindsAll args r.texts r.outputs b c →
+    FindsAll args (texts_of (results ++ r ∷ [])) (outputs_of (results ++ r ∷ [])) a c
+finds_push results r h k =
+    finds_same (texts_push results r) (outputs_push results r) (finds_then (texts_of results) r.texts (outputs_of results) r.outputs h k)
 
 -- One file more is processed, and what is shown and told of it was written, after the number of
 -- files was shown.
@@ -161,7 +169,7 @@ pub writes_push : {args : Arguments} {P : List ℕ → List Call → List Call �
 unfolding counted_push
 writes_push files i f name update edits fate after within is named h progress screen p t e a b c d l =
     let w = p.writes in
-    let result : FileResult = record { update = update; shown = w.shown; told = t.message; edits = edits; listed = p.listed; outputs = w.outputs } in
+    let result : FileResult = record { update = update; shown = w.shown; told = t.message; edits = edits; listed = p.listed; outputs = w.outputs; texts = w.texts } in
     record {
       shown = h.shown ++ w.shown;
       told = h.told ++ t.message;
@@ -170,7 +178,8 @@ writes_push files i f name update edits fate after within is named h progress sc
       writes = writes_then h.writes (writes_then (writes_then progress.writes (writes_kept screen)) t.tells.writes);
       adds = adds_push h.counted.results result h.adds p.adds;
       finds = finds_push h.counted.results result h.finds
-          (finds_then [] w.outputs (finds_kept progress.keeps) (finds_same (append-nil w.outputs) (finds_then w.outputs [] w.finds (finds_kept t.tells.keeps))));
+          (finds_then [] w.texts [] w.outputs (finds_kept progress.keeps)
+          (finds_same (append-nil w.texts) (append-nil w.outputs) (finds_then w.texts [] w.outputs [] w.finds (finds_kept t.tells.keeps))));
     }
 
 -- All files are processed, and what is shown and told of them was written.
@@ -190,9 +199,10 @@ lists_unshown out r none h = record {
       record {
         shown = [];
         outputs = [];
-        does = λ told. record { does = h.does; nothing = refl; unedited = none; no_output = refl };
+        texts = [];
+        does = λ told. record { does = h.does; nothing = refl; unedited = none; no_output = refl; no_text = refl };
         sent = sends_none out;
-        finds = finds_none refl (λ lost. lost);
+        finds = finds_none refl (λ lost. lost) refl;
       };
   adds = h.adds;
 }
@@ -245,10 +255,11 @@ sent_begun job {err = err} {r = r} {x = x} is h p = (subst (λ (q : ReportState)
 
 -- The run ends with the status of its counts.
 pub ends : (job : Job) (files : List Found) {old new : Moment} {mid : Stage} {listed : Stream}
-    {list_report end_report last_report : ReportState} {counts : Counts} (lost unwritten : Bool)
+    {seek_report list_report end_report last_report : ReportState} {counts : Counts} (lost unwritten : Bool)
     (in_walk faults hidden status : ℕ) (start lists : NameLists) → start.list.items ≡ [] → start.hidden ≡ 0 →
     start.hidden_list.items ≡ [] → hidden ≡ lists.hidden → (lost ≡ false → mid.report.has_lost ≡ false) →
-    DoesFiles job files (record { calls = old.calls; out = old.out; report = begun job old.err }) mid counts start
+    Seeks job.arguments.now (begun job old.err) seek_report →
+    DoesFiles job files (record { calls = old.calls; out = old.out; report = seek_report }) mid counts start
     lists → WritesList job.arguments.now lists mid.report.remaining.list lost mid.out listed →
     TellsIf list_message lost mid.report list_report → Sends listed new.out [] → unwritten ≡ new.out.failed →
     (new.out.failed ≡ false → new.out.unflushed ≡ false) → TellsIf write_message unwritten list_report end_report →
@@ -260,7 +271,7 @@ pub ends : (job : Job) (files : List Found) {old new : Moment} {mid : Stage} {li
     status ≡ tree_status job.arguments.now.task job.arguments.now.plan.run.settings.exit_mode unheard faults
     counts.changed → EndsWriting job in_walk old files new status
 ends job files {old = old} {new = new} {end_report = end_report} {counts = counts} lost unwritten in_walk faults hidden
-    status start lists no_name none no_condition hidden_now whole_report d l t f failed flushed u e stream same few all
+    status start lists no_name none no_condition hidden_now whole_report sought_now d l t f failed flushed u e stream same few all
     unheard heard is =
     let w = d.does in
     let h = w.counted in
@@ -268,7 +279,9 @@ ends job files {old = old} {new = new} {end_report = end_report} {counts = count
     let of_output = joined (output_messages lost unwritten) in
     let both = tells_same (sym (output_told lost unwritten)) (tells_then t u) in
     let left = end_report.remaining in
-    let last = last_lines args counts.changed counts.unchanged faults hidden counts.edits left.count left.defined in
+    let q = sought_now in
+    let before = writes_then (writes_kept q.screen) w.writes in
+    let last = last_lines args counts.changed counts.unchanged faults hidden counts.edits left.count left.defined end_report.unnamed in
     let all_names = w.adds.names ∙ ap (λ (x : List ℕ). x ++ (listed_of h.results).names) no_name in
     let all_hidden = w.adds.hidden_list ∙ ap (λ (x : List ℕ). x ++ (listed_of h.results).hidden_list) no_condition in
     record {
@@ -281,7 +294,7 @@ ends job files {old = old} {new = new} {end_report = end_report} {counts = count
           each = subst (λ (calls : List Call). EachFile (DoesOne args) old.calls (names_of d.done) calls h.results) (sym same) h.each;
         };
         is_lost = lost;
-        tally = record { faults = faults; hidden = hidden; edits = counts.edits; remaining = left.count; defined = left.defined };
+        tally = record { faults = faults; hidden = hidden; edits = counts.edits; remaining = left.count; defined = left.defined; unnamed = end_report.unnamed };
         shows = record {
           listed = l.listed;
           shown_is = ap (λ (x : List ℕ). x ++ l.listed) h.shown_is;
@@ -290,9 +303,10 @@ ends job files {old = old} {new = new} {end_report = end_report} {counts = count
               subst (λ (x : List ℕ). Tabulates (names_in x) (listed_of h.results).hidden_list l.listed) all_names
               (subst (λ (x : List ℕ). Tabulates (names_in lists.list.items) x l.listed) all_hidden (l.table is off whole));
           remains = λ other on whole wanted calls represents.
-              l.remains other on ∙ (w.finds.added (whole_report whole) wanted calls represents).list_is;
+              l.remains other on ∙ (w.finds.added (whole_report whole) wanted calls represents).list_is
+              ∙ ap (λ (s : RemainingState). s.list ++ list_of calls s.listing args (outputs_of h.results)) q.remaining;
           unsearched = λ other off. by_list args.list_remaining refl (l.is_wanted other)
-              (λ on. l.remains other on ∙ ap (λ (s : RemainingState). s.list) (w.finds.same off));
+              (λ on. l.remains other on ∙ ap (λ (s : RemainingState). s.list) (w.finds.same off ∙ q.remaining));
         };
         totals = record {
           hidden = λ small. let sum = w.adds.hidden (omega (arith, none, small)) in omega (arith, hidden_now, none, sum);
@@ -300,14 +314,17 @@ ends job files {old = old} {new = new} {end_report = end_report} {counts = count
           removed = h.counts_are.removed;
           remaining = λ whole wanted calls represents small.
               ap (λ (s : RemainingState). s.count) both.keeps.remaining
-              ∙ counted_from (count_of calls args (outputs_of h.results)) refl
+              ∙ counted_from (count_of calls args (outputs_of h.results)) (ap (λ (s : RemainingState). s.count) q.remaining)
               (w.finds.added (whole_report whole) wanted calls represents).count_is small;
-          none_remains = λ off. ap (λ (s : RemainingState). s.count) (both.keeps.remaining ∙ w.finds.same off);
+          none_remains = λ off. ap (λ (s : RemainingState). s.count) (both.keeps.remaining ∙ w.finds.same off ∙ q.remaining);
           defined = λ whole wanted calls represents small.
               ap (λ (s : RemainingState). s.defined) both.keeps.remaining
-              ∙ counted_from (defined_of calls args (outputs_of h.results)) refl
+              ∙ counted_from (defined_of calls args (outputs_of h.results)) (ap (λ (s : RemainingState). s.defined) q.remaining)
               (w.finds.added (whole_report whole) wanted calls represents).defined_is small;
-          none_defined = λ off. ap (λ (s : RemainingState). s.defined) (both.keeps.remaining ∙ w.finds.same off);
+          none_defined = λ off. ap (λ (s : RemainingState). s.defined) (both.keeps.remaining ∙ w.finds.same off ∙ q.remaining);
+          unnamed = λ whole calls represents.
+              both.keeps.unnamed ∙ w.finds.unnamed (whole_report whole) calls represents
+              ∙ ap (unnamed_in calls args (texts_of h.results)) (q.names refl (not_lost w.finds.kept (whole_report whole)));
         };
         has_status = record {
           faults_are = subst (λ (b : Bool). in_walk + length (output_messages lost b) + faulty_in h.results < 2 ^ 64 → faults ≡ in_walk + length (output_messages lost b) + faulty_in h.results) failed
@@ -319,8 +336,8 @@ ends job files {old = old} {new = new} {end_report = end_report} {counts = count
         };
         tells = record {
           told_is = ap (λ (x : List ℕ). (x ++ of_output) ++ last) h.told_is ∙ ap (λ (b : Bool). (told_of h.results ++ joined (output_messages lost b)) ++ last) failed;
-          last_is = ap (λ (x : ℕ). last_lines args x counts.unchanged faults hidden counts.edits left.count left.defined) h.counts_are.changed
-              ∙ ap (λ (x : ℕ). last_lines args (changed_in h.results) x faults hidden counts.edits left.count left.defined) h.counts_are.unchanged;
+          last_is = ap (λ (x : ℕ). last_lines args x counts.unchanged faults hidden counts.edits left.count left.defined end_report.unnamed) h.counts_are.changed
+              ∙ ap (λ (x : ℕ). last_lines args (changed_in h.results) x faults hidden counts.edits left.count left.defined end_report.unnamed) h.counts_are.unchanged;
         };
       };
       written = record {
@@ -328,7 +345,7 @@ ends job files {old = old} {new = new} {end_report = end_report} {counts = count
         streams_are = refl;
         sent = sends_same (append-nil (w.shown ++ l.listed)) (sends_then (sends_then w.sent l.sent) f);
         ended = rw stream e.told;
-        tells = λ p. let told = writes_then w.writes both.writes in let plain = plain_begun job old.err p in rw stream (sends_then (told.sent plain) (e.alone (told.plain plain).unshown));
+        tells = λ p. let told = writes_then before both.writes in let plain = plain_begun job old.err p in rw stream (sends_then (told.sent plain) (e.alone (told.plain plain).unshown));
       };
     }
 

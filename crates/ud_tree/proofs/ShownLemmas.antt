@@ -62,16 +62,17 @@ has_diff o name text output seen diff ran h e p is = grind arith
 
 -- Nothing was written of a file.
 pub shows_none : {args : Arguments} {plan : TextPlan} {into : Bool} {r r' : ReportState} {outputs : List Output}
-    {name : List ℕ} {calls calls' : List Call} {update : Result Update ReplaceError} (out : Stream) {n : Edits} →
-    n ≡ no_edits → ReadsOne name calls calls' →
+    {name text : List ℕ} {calls calls' : List Call} {update : Result Update ReplaceError} (out : Stream) {n : Edits} →
+    n ≡ no_edits → ReadsOne name text calls calls' →
     ((o : TextOptions) → IsPlanned plan o → ShowsFile o into name calls calls' update [] no_edits outputs) →
-    FindsAll args outputs r r' →
+    FindsAll args (text ∷ []) outputs r r' →
     WritesOne args (ShowsOne plan into) name (record { calls = calls; out = out; report = r })
     (record { calls = calls'; out = out; report = r' }) update n nothing_listed
-shows_none {into = into} {outputs = outputs} {name = name} {calls = calls} {calls' = calls'} {update = update} out none read h finds = record {
+shows_none {into = into} {outputs = outputs} {name = name} {text = text} {calls = calls} {calls' = calls'} {update = update} out none read h finds = record {
   shown = [];
   outputs = outputs;
-  does = λ told. record { reads = read; shows = λ o p. subst (λ (k : Edits). ShowsFile o into name calls calls' update [] k outputs) (sym none) (h o p) };
+  texts = text ∷ [];
+  does = λ told. record { text = text; is_text = refl; reads = read; shows = λ o p. subst (λ (k : Edits). ShowsFile o into name calls calls' update [] k outputs) (sym none) (h o p) };
   sent = sends_none out;
   finds = finds;
 }

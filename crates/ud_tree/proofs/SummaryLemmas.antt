@@ -1,14 +1,16 @@
 -- Lines from their parts.
-use Rattle.std.proofs.Common.{◌≡◌, ℕ, List, [], ◌++◌, Bool, true, false, cond, refl, sym, ap, ◌∙◌, subst, append_assoc, append-nil, codes, decimal, ◌==◌, ◌&&◌, eqb-true, arith}
-use Rattle.std.proofs.lemmas.Grind.{common_steps}
+use Rattle.std.proofs.Common.{◌≡◌, ℕ, ◌+◌, ◌<◌, List, [], ◌++◌, length, get_or, take, map, Bool, true, false, cond, refl, sym, ap, ◌∙◌, subst, append_assoc, append-nil, codes, decimal, ◌==◌, ◌&&◌, eqb-true, arith}
+use Rattle.std.proofs.lemmas.Grind.{common_steps, flat_map-append}
+use Rattle.std.proofs.lemmas.List.{take_more, map-append}
+use Rattle.std.specs.List.{flat_map}
 use Rattle.ud_tree.specs.Reports.{ReportState, Says}
 use Rattle.ud_tree.specs.declared.arguments.Arguments.{Arguments}
 use Rattle.ud_tree.specs.declared.counts.Counts.{Counts}
 use Rattle.ud_tree.specs.declared.arguments.Task.TheVariants.{Names}
 use Rattle.ud_io.specs.Streams.{Stream, Sends}
-use Rattle.ud_tree.specs.Summaries.{line_of, changes_line, files_text, hidden_text, summary, remaining_text, remaining_line, removed_line, removed_text, edited_line, edited_text, defined_line, defined_text, TellsEnd}
+use Rattle.ud_tree.specs.Summaries.{line_of, changes_line, files_text, hidden_text, summary, remaining_text, remaining_line, removed_line, removed_text, edited_line, edited_text, defined_line, defined_text, unnamed_line, TellsEnd}
 use Rattle.ud_tree.specs.Visible.{visible}
-use Rattle.ud_io.proofs.StreamLemmas.{sends_none, sends_then}
+use Rattle.ud_io.proofs.StreamLemmas.{sends_none, sends_same, sends_then}
 
 -- A line was written in three parts.
 pub line_sent : {a b c d : Stream} (text : List ℕ) → Sends a b (codes "unifdef-tree: ") → Sends b c (visible text) → Sends c d (codes "\n") → Sends a d (line_of text)
@@ -84,12 +86,23 @@ defined_none listed count none = grind arith
 pub defined_told : (listed : Bool) (count : ℕ) (text : List ℕ) → ¬ (count ≡ 0) → text ≡ defined_text listed count → line_of ((decimal count ++ text) ++ []) ≡ defined_line listed count
 defined_told listed count text some q = grind (arith, common_steps)
 
+-- The bytes for one element more follow.
+flat_push : {A : Type 0} (f : A → List ℕ) (g : List ℕ → List ℕ) (xs : List A) (i : ℕ) (x : A) → i < length xs → x ≡ get_or xs i x →
+    flat_map g (map f (take i xs)) ++ g (f x) ≡ flat_map g (map f (take (i + 1) xs))
+flat_push f g xs i x within is = grind (arith, common_steps, take_more, map-append, flat_map-append)
+
+-- The line of one name more was written.
+pub unnamed_sent : {A : Type 0} {a b c : Stream} (f : A → List ℕ) (names : List A) (i : ℕ) (x : A) (name : List ℕ) → i < length names → x ≡ get_or names i x → name ≡ f x →
+    Sends a b (flat_map unnamed_line (map f (take i names))) → Sends b c (line_of (codes "no condition names " ++ (name ++ []))) → Sends a c (flat_map unnamed_line (map f (take (i + 1) names)))
+unnamed_sent f names i x name within is named h k =
+    sends_same (ap (λ n. flat_map unnamed_line (map f (take i names)) ++ unnamed_line n) (append-nil name ∙ named) ∙ flat_push f unnamed_line names i x within is) (sends_then h k)
+
 -- A quiet run ends with nothing.
 pub ends_quiet : (args : Arguments) (counts : Counts) (faults hidden : ℕ) (r : ReportState) → args.quiet ≡ true → TellsEnd args counts faults hidden r r
 ends_quiet args counts faults hidden r quiet = rw quiet (record { told = (r.err, sends_none r.err); alone = λ e. sends_none r.err })
 
--- Other runs end with the five lines.
+-- Other runs end with the lines.
 pub ends_told : (args : Arguments) (counts : Counts) (faults hidden : ℕ) {a b : ReportState} → args.quiet ≡ false →
     Says a b (summary args.task args.list_hidden counts.changed counts.unchanged faults hidden ++ removed_line counts.edits.lines ++ edited_line args.plan.prunes counts.edits.conditions ++
-    remaining_line args.list_remaining a.remaining.count ++ defined_line args.list_remaining a.remaining.defined) → TellsEnd args counts faults hidden a b
+    remaining_line args.list_remaining a.remaining.count ++ defined_line args.list_remaining a.remaining.defined ++ flat_map unnamed_line a.unnamed) → TellsEnd args counts faults hidden a b
 ends_told args counts faults hidden {a = a} {b = b} loud h = rw loud (record { told = (h.cleared, h.sent); alone = λ e. subst (λ (s : Stream). Sends s b.err _) (h.unshown e) h.sent })

@@ -45,25 +45,25 @@ walk_touches [] old = no_call
 walk_touches (w ∷ calls) old = then_call (walk_touches calls old) (λ n h. true≢false (sym h))
 
 -- Reading a file touches none.
-read_touches : {name : List ℕ} {old new : List Call} → ReadsOne name old new → EachCall TouchesNothing old new
-read_touches {name = name} {old = old} (reads text answer is) =
+read_touches : {name text : List ℕ} {old new : List Call} → ReadsOne name text old new → EachCall TouchesNothing old new
+read_touches {name = name} {text = text} {old = old} (reads answer is) =
     let start : EachCall TouchesNothing old old = no_call in
     each_at is (then_call start (λ n t. true≢false (sym t)))
 
 -- Reading files touches none.
-reads_touch : {P : List ℕ → List Call → List Call → FileResult → Type 0} → ((name : List ℕ) (old new : List Call) (result : FileResult) → P name old new result → ReadsOne name old new) →
+reads_touch : {P : List ℕ → List Call → List Call → FileResult → Type 0} → ((name : List ℕ) (old new : List Call) (result : FileResult) → P name old new result → EachCall TouchesNothing old new) →
     {old : List Call} {names : List (List ℕ)} {new : List Call} {results : List FileResult} → EachFile P old names new results → EachCall TouchesNothing old new
 reads_touch w no_file = no_call
-reads_touch w (then_file {mid = mid} {next = next} {name = name} {result = result} h k t) = each_then (reads_touch w h) (read_touches (w name mid next result k))
+reads_touch w (then_file {mid = mid} {next = next} {name = name} {result = result} h k t) = each_then (reads_touch w h) (w name mid next result k)
 
 shows_touch : {plan : TextPlan} {into : Bool} {old : List Call} {names : List (List ℕ)} {new : List Call}
     {results : List FileResult} → EachFile (ShowsOne plan into) old names new results → EachCall TouchesNothing old new
-shows_touch h = reads_touch (λ name old new result k. k.reads) h
+shows_touch h = reads_touch (λ name old new result k. read_touches k.reads) h
 
 lists_touch : {plan : TextPlan} {lists : Bool} {old : List Call} {names : List (List ℕ)} {new : List Call}
     {results : List FileResult} → EachFile (Unshown (ListsOne plan lists)) old names new results →
     EachCall TouchesNothing old new
-lists_touch h = reads_touch (λ name old new result k. k.does.reads) h
+lists_touch h = reads_touch (λ name old new result k. read_touches k.does.reads) h
 
 reads_by : (args : Arguments) (t : Task) → args.task ≡ t → ¬ (t ≡ Replace) → {old : List Call} {names : List (List ℕ)} {new : List Call} {results : List FileResult} →
     EachFile (DoesBy t args) old names new results → EachCall TouchesNothing old new
@@ -76,12 +76,12 @@ run_reads run other (inr h) = each_then (each_at h.is_walk.are (walk_touches h.i
     (reads_by run.args run.args.task refl other h.ends.does.each)
 
 -- Replacing a file touches no file but the new one, up to the rename.
-replace_touches : {o : TextOptions} {plan : TextPlan} {name : List ℕ} {old new : List Call} {update : Result Update ReplaceError} → IsPlanned plan o →
-    ReplacesOne plan false name old new update → EachCall (TouchesFreshOrNone o) old new
-replace_touches {o = o} {name = name} {old = old} {new = new} p (replaces r id fresh is h) =
+replace_touches : {o : TextOptions} {plan : TextPlan} {name text : List ℕ} {old new : List Call} {update : Result Update ReplaceError} → IsPlanned plan o →
+    ReplacesOne plan false name text old new update → EachCall (TouchesFreshOrNone o) old new
+replace_touches {o = o} {name = name} {text = text} {old = old} {new = new} p (replaces r id fresh is h) =
     each_weaker (λ c earlier t. inr (name, old, subst (λ (f : List ℕ). TouchesFreshOnly o name f old c earlier) is t))
-    (one_rename o id name fresh old new r (h o p))
-replace_touches p (no_name is) = each_at is no_call
+    (one_rename o id name fresh text old new r (h o p))
+replace_touches p (no_name none is) = each_at is no_call
 
 replaces_touch : {o : TextOptions} {plan : TextPlan} {shows : Bool} {old : List Call} {names : List (List ℕ)} {new : List Call} {results : List FileResult} → IsPlanned plan o →
     EachFile (ReplacesShowing plan false shows) old names new results → EachCall (TouchesFreshOrNone o) old new
@@ -199,13 +199,13 @@ last_is_new names name h inside = let k = inside.0 in
 
 -- One file more of a run.
 moments_one : {o : TextOptions} {plan : TextPlan} {first : Files} {old : List Call} {names : List (List ℕ)}
-    {mid next : List Call} {name : List ℕ} {update : Result Update ReplaceError} → IsPlanned plan o → IsNew names name →
-    ReplacesOne plan false name mid next update → AreTrue first next →
+    {mid next : List Call} {name text : List ℕ} {update : Result Update ReplaceError} → IsPlanned plan o → IsNew names name →
+    ReplacesOne plan false name text mid next update → AreTrue first next →
     (AreTrue first mid → Moments o first old names mid) → Moments o first old (names ++ name ∷ []) next
-moments_one {o = o} {first = first} {mid = mid} {next = next} {name = name} p fresh_name (replaces r id fresh is k) t m =
-    let moments = old_or_new o first id name fresh mid next r (k o p) t in
+moments_one {o = o} {first = first} {mid = mid} {next = next} {name = name} {text = text} p fresh_name (replaces r id fresh is k) t m =
+    let moments = old_or_new o first id name fresh text mid next r (k o p) t in
     moments_more name fresh_name (m (true_before first moments t)) moments
-moments_one {first = first} {name = name} p fresh_name (no_name is) t m =
+moments_one {first = first} {name = name} p fresh_name (no_name none is) t m =
     moments_more name fresh_name (m (subst (λ (l : List Call). AreTrue first l) is t)) (each_at is no_call)
 
 -- All files of a run.

@@ -21,9 +21,10 @@ use Rattle.ud_tree.specs.declared.arguments.ArgumentFault.TheVariants.{BadMode}
 use Rattle.ud_tree.specs.declared.arguments.ArgumentFault.TheVariants.{BesideNames, SymbolsAndNames}
 use Rattle.ud_tree.specs.declared.arguments.ArgumentFault.TheVariants.{PruningAndComplement}
 use Rattle.ud_tree.specs.declared.arguments.ArgumentFault.TheVariants.{PruningAndPlain}
-use Rattle.ud_tree.specs.declared.arguments.ArgumentFault.TheVariants.{SlashInPattern}
+use Rattle.ud_tree.specs.declared.arguments.ArgumentFault.TheVariants.{SqueezingBeside}
 use Rattle.ud_tree.specs.declared.arguments.ArgumentFault.TheVariants.{OptionAfterPath, NoPath}
-use Rattle.ud_tree.specs.declared.arguments.ArgumentFault.TheVariants.{PathsAndInput, OutOfMemory}
+use Rattle.ud_tree.specs.declared.arguments.ArgumentFault.TheVariants.{PathsAndInput, NoSymbol}
+use Rattle.ud_tree.specs.declared.arguments.ArgumentFault.TheVariants.{OutOfMemory}
 use Rattle.ud_tree.specs.declared.report.TheConstants.{USAGE}
 use Rattle.ud_tree.specs.Paths.{escaped}
 use Rattle.ud_tree.specs.Summaries.{line_of}
@@ -32,8 +33,7 @@ use Rattle.ud_tree.specs.Summaries.{line_of}
 -- 2.12, if that isn't one here, or of a long option, whose letter is `-`. Nothing for any other.
 abbrev pub in_its_place : ℕ → List ℕ
 in_its_place c =
-    if c == 66 then codes ": blank lines stay as they are"
-    else if c == 101 then codes ": what can't be edited is left as it is, and named"
+    if c == 101 then codes ": what can't be edited is left as it is, and named"
     else if c == 102 then codes ": each symbol is an option -D or -U"
     else if c == 73 then codes ": included files are not read"
     else if c == 77 then codes ": -d prints a diff with which patch -R undoes the run"
@@ -64,12 +64,14 @@ argument_message PruningAndComplement =
     line_of (codes "-p and -c don't go together: the complement is no C")
 argument_message PruningAndPlain =
     line_of (codes "-p and -t don't go together: plain text has no comments")
-argument_message SlashInPattern =
-    line_of (codes "A pattern of -g has no slash: it matches names")
+argument_message (SqueezingBeside c) =
+    line_of (codes "-B and -" ++ encode_utf8 c ++ codes " don't go together")
 argument_message (OptionAfterPath word) =
     line_of (codes "Option after a path: " ++ string_bytes word)
 argument_message PathsAndInput = line_of (codes "-0 takes no paths")
 argument_message NoPath = line_of (codes "No path") ++ USAGE.now
+argument_message NoSymbol =
+    line_of (codes "No symbol; -k decides constants alone, -s lists names") ++ USAGE.now
 argument_message OutOfMemory = line_of (codes "Out of memory")
 
 -- `bad_argument_line word`: the line of an argument that isn't UTF-8, with its bytes shown.

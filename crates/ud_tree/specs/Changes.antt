@@ -7,7 +7,7 @@
 --   ReplacesShowing plan into shows name old new result   both: the file was replaced, and is shown
 --
 -- `old` and `new` are the calls before and after, the newest first.
-use Rattle.std.specs.Prelude.{◌≡◌, ℕ, List, [], Bool, true, Result, Ok, Err}
+use Rattle.std.specs.Prelude.{◌≡◌, ℕ, List, [], ◌∷◌, Bool, true, Result, Ok, Err}
 use Rattle.ud_diff.specs.Patching.{IsDiff}
 use Rattle.ud_replace.specs.declared.error.Update.{Update}
 use Rattle.ud_replace.specs.declared.error.ReplaceError.{ReplaceError}
@@ -55,10 +55,12 @@ pub data ShowsUpdate (plan : TextPlan) (into shows : Bool) (name : List ℕ) (ol
       ShowsChange shows name update text output shown →
       ShowsUpdate plan into shows name old new (Ok update) shown edits (made name output)
 
--- `ReplacesShowing plan into shows name old new result`: the file `name` was replaced, and its diff
--- is shown if `shows`.
+-- `ReplacesShowing plan into shows name old new result`: the file `name` was read and replaced, and
+-- its diff is shown if `shows`.
 pub record ReplacesShowing (plan : TextPlan) (into shows : Bool) (name : List ℕ)
     (old new : List Call) (result : FileResult) : Type 0 where
-  pub does : ReplacesOne plan into name old new result.update
+  pub text : List ℕ
+  pub is_text : result.texts ≡ text ∷ []
+  pub does : ReplacesOne plan into name text old new result.update
   pub change : ShowsUpdate plan into shows name old new result.update result.shown
       result.edits result.outputs

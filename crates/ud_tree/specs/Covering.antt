@@ -3,10 +3,9 @@
 --   IsFolderPath path folder      `folder` is `path`, with a slash at its end
 --   WasEntered calls folder       a folder was listed
 --   IsDue calls folders path      a folder was listed, or is waiting
---   IsVersioned name              a folder with this name belongs to version control or quilt
 --   Begins calls due has path     a path of the command line can be taken
---   Visits calls due told folder name   what happened to a name in a folder
---   VisitsAll calls due told      `Visits` for each name in each listed folder
+--   Visits patterns calls due told folder name   what happened to a name in a folder
+--   VisitsAll patterns calls due told   `Visits` for each name in each listed folder
 --   IsIn found path id            a file was found
 --   StandsIn files path id        a list has this file, or the same one at another path
 --   Gives calls has told path     what happened to a path of the input
@@ -30,7 +29,7 @@ use Rattle.ud_replace.specs.declared.node.NodeKind.TheVariants.{Other}
 use Rattle.ud_replace.specs.Calls.{Call, walked, WalkCall, met, followed, listed}
 use Rattle.ud_tree.specs.declared.arguments.Arguments.{Arguments}
 use Rattle.ud_tree.specs.declared.walk.Found.{Found}
-use Rattle.ud_tree.specs.Choices.{IsLeft}
+use Rattle.ud_tree.specs.Choices.{IsLeft, IsSkipped}
 
 -- `IsFolderPath path folder`: `folder` is `path`, with a slash at its end.
 abbrev pub IsFolderPath : List ℕ → List ℕ → Type 0
@@ -46,12 +45,6 @@ abbrev pub IsDue : List WalkCall → List (List ℕ) → List ℕ → Type 0
 IsDue calls folders path = (folder : List ℕ) × IsFolderPath path folder ×
     (WasEntered calls folder ⊎ Contains folders folder)
 
--- `IsVersioned name`: a folder of this name belongs to version control or quilt. It has earlier
--- texts of files, and is left out.
-abbrev pub IsVersioned : List ℕ → Type 0
-IsVersioned name = (name ≡ codes ".git") ⊎ (name ≡ codes ".hg") ⊎ (name ≡ codes ".svn")
-    ⊎ (name ≡ codes ".bzr") ⊎ (name ≡ codes "CVS") ⊎ (name ≡ codes ".pc")
-
 -- `Begins calls due has path`: `path` was met as a regular file, and was found, whatever its name.
 -- Or it was met as a folder, or as a link that leads to one, and that is due.
 pub data Begins (calls : List WalkCall) (due : List ℕ → Type 0) (has : List ℕ → FileId → Type 0)
@@ -63,19 +56,21 @@ pub data Begins (calls : List WalkCall) (due : List ℕ → Type 0) (has : List 
   at_link : (node : Node) → Contains calls (met path (Present node)) → node.kind ≡ Link →
       Contains calls (followed path true) → due path → Begins calls due has path
 
--- `Visits calls due told folder name`: `name` isn't UTF-8, and a message says so. Or it was looked
--- at, and is due if it is a folder, unless that has earlier texts (`IsVersioned`).
-pub data Visits (calls : List WalkCall) (due : List ℕ → Type 0) (told : Type 0)
-    (folder name : List ℕ) : Type 0 where
-  no_text : ¬ (IsUtf8 name) → told → Visits calls due told folder name
+-- `Visits patterns calls due told folder name`: `name` isn't UTF-8, and a message says so. Or it
+-- was looked at, and is due if it is a folder, unless that is left out (`IsSkipped`).
+pub data Visits (patterns : List (List ℕ)) (calls : List WalkCall) (due : List ℕ → Type 0)
+    (told : Type 0) (folder name : List ℕ) : Type 0 where
+  no_text : ¬ (IsUtf8 name) → told → Visits patterns calls due told folder name
   was_met : (answer : Lookup) → Contains calls (met (folder ++ name) answer) →
       ((node : Node) → answer ≡ Present node → node.kind ≡ Folder →
-      IsVersioned name ⊎ due (folder ++ name)) → Visits calls due told folder name
+      IsSkipped patterns (folder ++ name) name ⊎ due (folder ++ name)) →
+      Visits patterns calls due told folder name
 
--- `VisitsAll calls due told`: each name in each listed folder was visited.
-abbrev pub VisitsAll : List WalkCall → (List ℕ → Type 0) → Type 0 → Type 0
-VisitsAll calls due told = (folder : List ℕ) (names : List (List ℕ)) (answer : Bool) →
-    Contains calls (listed folder names answer) → All (Visits calls due told folder) names
+-- `VisitsAll patterns calls due told`: each name in each listed folder was visited.
+abbrev pub VisitsAll : List (List ℕ) → List WalkCall → (List ℕ → Type 0) → Type 0 → Type 0
+VisitsAll patterns calls due told =
+    (folder : List ℕ) (names : List (List ℕ)) (answer : Bool) →
+    Contains calls (listed folder names answer) → All (Visits patterns calls due told folder) names
 
 -- `IsIn found path id`: `found` has a file with this path and identity.
 abbrev pub IsIn : List Found → List ℕ → FileId → Type 0
@@ -124,7 +119,7 @@ pub record CoversPaths (paths patterns : List (List ℕ)) (old new : List Call)
   pub waiting : List (List ℕ)
   pub all_listed : length calls + 1 < 2 ^ 64 → waiting ≡ []
   pub begins : All (Begins calls (IsDue calls waiting) has) paths
-  pub visits : VisitsAll calls (IsDue calls waiting) told
+  pub visits : VisitsAll patterns calls (IsDue calls waiting) told
   pub taken : (path : List ℕ) (node : Node) → Contains calls (met path (Present node)) →
       node.kind ≡ File → has path node.id ⊎ IsLeft patterns path
 

@@ -1,5 +1,3 @@
-pub mod Marks
-pub mod FoldedMarks
 pub mod Paths
 pub mod Statuses
 pub mod Fates
@@ -9,6 +7,7 @@ pub mod Patterns
 pub mod PatternPlaces
 pub mod Choices
 pub mod Remainders
+pub mod Unnamed
 pub mod Requests
 pub mod Changes
 pub mod Walks

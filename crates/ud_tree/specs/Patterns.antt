@@ -4,7 +4,6 @@
 --   set_after text b         a set, by the text after its bracket
 --   after_part pattern b     the pattern after its first part, if that part matches the byte `b`
 --   Matches pattern name     the pattern matches the name
---   MatchesAny name patterns   one of the patterns matches it
 --
 -- A name is bytes. `*` matches any bytes, `?` one byte, and `[..]` one byte of a set, or one not in
 -- it if `!` or `^` comes first. A `]` that comes first in a set is in it, and `-` between two bytes
@@ -108,10 +107,3 @@ pub data Matches : List ℕ → List ℕ → Type 0 where
   -- The first part matches the first byte, and the rest of the pattern matches the others.
   part : {pattern name : List ℕ} (b : ℕ) (after : List ℕ) → after_part pattern b ≡ Some after →
       Matches after name → Matches pattern (b ∷ name)
-
--- `MatchesAny name patterns`: one of the patterns matches the name.
-pub data MatchesAny (name : List ℕ) : List (List ℕ) → Type 0 where
-  first_does : {pattern : List ℕ} {patterns : List (List ℕ)} → Matches pattern name →
-      MatchesAny name (pattern ∷ patterns)
-  later_does : {pattern : List ℕ} {patterns : List (List ℕ)} → MatchesAny name patterns →
-      MatchesAny name (pattern ∷ patterns)

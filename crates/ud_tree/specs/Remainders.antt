@@ -3,20 +3,22 @@
 --
 --   listing_of args   whether these mentions are counted, listed or explained
 --   mode_of args      the mode in which the lines of an output are read
---   folds args        the run over a text goes over the folded text
---   searched_text args output   the text that is searched for those of an output
 --   is_searched args  they are listed or counted
 --   AddsMentions args name output old new   those of an output were counted, and listed
 --   Finds args name output old new   those of an output were added to a report
---   texts_of table listing args outputs   the list of them in some outputs
+--   list_of table listing args outputs   the list of them in some outputs
 --   count_of table args outputs   how many conditions there are in some outputs
 --   defined_of table args outputs   how many lines that define a symbol
+--   has_condition table args text name   a condition of the text names the symbol `name`
+--   unnamed_in table args texts names   those of the names that no condition of the texts has
 --   AddsOutputs table args outputs old new   those of some outputs were counted, and listed
---   FindsAll args outputs old new   those of some outputs were added to a report
+--   FindsAll args texts outputs old new   those of some files were added to a report
+--
+-- The texts are those that were read, the outputs those for them.
 --
 -- Example: under `-r` and `-p` there is a line for each condition, with the reason why it stays.
-use Rattle.std.specs.Prelude.{◌≡◌, ℕ, ◌+◌, ◌<◌, ◌^◌, List, ◌++◌, sum_by}
-use Rattle.std.specs.List.{flat_map}
+use Rattle.std.specs.Prelude.{◌≡◌, ℕ, ◌+◌, ◌<◌, ◌^◌, List, ◌++◌, sum_by, filter}
+use Rattle.std.specs.List.{flat_map, list_any}
 use Rattle.std.specs.Prelude.{Bool, true, false, not, ◌&&◌, ◌||◌, if◌then◌else◌}
 use Rattle.ud_model.specs.conditions.Table.{Argument}
 use Rattle.ud_model.specs.sections.Items.{mode_by}
@@ -28,9 +30,7 @@ use Rattle.ud_passes.specs.declared.remaining.listing.Listing.TheVariants.{Count
 use Rattle.ud_passes.specs.declared.remaining.listing.Listing.TheVariants.{Explained}
 use Rattle.ud_passes.specs.remaining.RemainingLists.{AddsAll, RemainingState}
 use Rattle.ud_passes.specs.remaining.RemainingLists.{remaining_text, remaining_count}
-use Rattle.ud_passes.specs.remaining.RemainingLists.{defined_count}
-use Rattle.ud_passes.specs.folding.FlatTexts.{flat_text}
-use Rattle.ud_replace.specs.TextOutcomes.{may_fold}
+use Rattle.ud_passes.specs.remaining.RemainingLists.{defined_count, is_named}
 use Rattle.ud_tree.specs.declared.arguments.Arguments.{Arguments}
 use Rattle.ud_tree.specs.Reports.{ReportState}
 use Rattle.ud_tree.specs.Runs.{Output}
@@ -57,21 +57,12 @@ mode_of args = mode_by args.plan.run.settings.plain
 abbrev pub is_searched : Arguments → Bool
 is_searched args = args.has_symbols && (args.list_remaining || not args.quiet)
 
--- `folds args`: the run over a text goes over the folded text, if that goes back.
-abbrev pub folds : Arguments → Bool
-folds args = args.plan.prunes && may_fold args.plan.run.settings
-
--- `searched_text args output`: the output, with each of its directives on one line if the run folds
--- them. So the line of such a condition has its own reason.
-abbrev pub searched_text : Arguments → List ℕ → List ℕ
-searched_text args output = if folds args then flat_text output else output
-
 -- `AddsMentions args name output old new`: the mentions in the output for the file `name` were
 -- counted, and listed.
 abbrev pub AddsMentions : Arguments → List ℕ → List ℕ → RemainingState → RemainingState → Type 0
 AddsMentions args name output old new = (calls : List Argument) →
     TableRepresents args.plan.run.symbols calls →
-    AddsAll calls (mode_of args) name (searched_text args output) old new
+    AddsAll calls (mode_of args) name output old new
 
 -- `Finds args name output old new`: the mentions in the output for the file `name` were added to
 -- the report, if they are wanted. If memory ran out, for this output or an earlier one, the report
@@ -81,40 +72,55 @@ pub record Finds (args : Arguments) (name output : List ℕ) (old new : ReportSt
   pub added : new.has_lost ≡ false → is_searched args ≡ true →
       AddsMentions args name output old.remaining new.remaining
   pub same : is_searched args ≡ false → new.remaining ≡ old.remaining
+  pub unnamed : new.unnamed ≡ old.unnamed
 
 module _ (table : List Argument) where
-  -- `texts_of listing args outputs`: the list of what the outputs say, in order.
-  abbrev pub texts_of : Listing → Arguments → List Output → List ℕ
-  texts_of listing args outputs = flat_map
-      (λ o. remaining_text table listing (mode_of args) o.name (searched_text args o.bytes)) outputs
+  -- `list_of listing args outputs`: the list of what the outputs say, in order.
+  abbrev pub list_of : Listing → Arguments → List Output → List ℕ
+  list_of listing args outputs = flat_map
+      (λ o. remaining_text table listing (mode_of args) o.name o.bytes) outputs
 
   -- `count_of args outputs`: how many conditions of the outputs name a listed symbol.
   abbrev pub count_of : Arguments → List Output → ℕ
   count_of args outputs =
-      sum_by (λ o. remaining_count table (mode_of args) (searched_text args o.bytes)) outputs
+      sum_by (λ o. remaining_count table (mode_of args) o.bytes) outputs
 
   -- `defined_of args outputs`: how many lines of the outputs define a listed symbol.
   abbrev pub defined_of : Arguments → List Output → ℕ
   defined_of args outputs =
-      sum_by (λ o. defined_count table (mode_of args) (searched_text args o.bytes)) outputs
+      sum_by (λ o. defined_count table (mode_of args) o.bytes) outputs
+
+  -- `has_condition args text name`: a condition of the text that names a symbol has the word
+  -- `name`.
+  abbrev pub has_condition : Arguments → List ℕ → List ℕ → Bool
+  has_condition args text name = is_named table (mode_of args) text name
+
+  -- `unnamed_in args texts names`: those of the names that no condition of the texts has.
+  abbrev pub unnamed_in : Arguments → List (List ℕ) → List (List ℕ) → List (List ℕ)
+  unnamed_in args texts names =
+      filter (λ n. not (list_any (λ t. has_condition args t n) texts)) names
 
 -- `AddsOutputs table args outputs old new`: what the outputs say of a listed symbol was listed.
 -- Conditions and definitions were counted, unless their count is at its limit.
 pub record AddsOutputs (table : List Argument) (args : Arguments) (outputs : List Output)
     (old new : RemainingState) : Type 0 where
-  pub list_is : new.list ≡ old.list ++ texts_of table old.listing args outputs
+  pub list_is : new.list ≡ old.list ++ list_of table old.listing args outputs
   pub count_is : old.count + count_of table args outputs < 2 ^ 64 →
       new.count ≡ old.count + count_of table args outputs
   pub defined_is : old.defined + defined_of table args outputs < 2 ^ 64 →
       new.defined ≡ old.defined + defined_of table args outputs
   pub listing_is : new.listing ≡ old.listing
 
--- `FindsAll args outputs old new`: the mentions in the outputs were added to the report, if they
--- are wanted. If memory ran out, the report records that.
-pub record FindsAll (args : Arguments) (outputs : List Output) (old new : ReportState) :
-    Type 0 where
+-- `FindsAll args texts outputs old new`: the mentions in the outputs were added to the report, if
+-- they are wanted. The names that a condition of the texts has were removed from those that the
+-- report looks for. If memory ran out, the report records that.
+pub record FindsAll (args : Arguments) (texts : List (List ℕ)) (outputs : List Output)
+    (old new : ReportState) : Type 0 where
   pub kept : old.has_lost ≡ true → new.has_lost ≡ true
   pub added : new.has_lost ≡ false → is_searched args ≡ true → (calls : List Argument) →
       TableRepresents args.plan.run.symbols calls →
       AddsOutputs calls args outputs old.remaining new.remaining
   pub same : is_searched args ≡ false → new.remaining ≡ old.remaining
+  pub unnamed : new.has_lost ≡ false → (calls : List Argument) →
+      TableRepresents args.plan.run.symbols calls →
+      new.unnamed ≡ unnamed_in calls args texts old.unnamed

@@ -5,7 +5,7 @@
 --   counted r                 one fault more is counted
 --   IsPlain r                 the error stream is no terminal
 --   KeepsScreen old new       nothing was written
---   KeepsFinds old new        the conditions that still name a symbol stay
+--   KeepsFinds old new        the conditions that still name a symbol stay, and the names sought
 --   Writes old new bytes      `bytes` were written to such a stream
 --   Tells old new bytes       the same, and the conditions stay
 --   Says old new bytes        `bytes` were written, after the number of files was removed
@@ -20,14 +20,15 @@ use Rattle.ud_passes.specs.declared.remaining.listing.Listing.{Listing}
 use Rattle.ud_passes.specs.remaining.RemainingLists.{RemainingState}
 
 -- `ReportState`: the error stream, whether it is a terminal, whether that shows the number of
--- files, the number of faults, the mentions in outputs, and whether memory ran out for some of
--- these, or for a diff.
+-- files, the number of faults, the mentions in outputs, the names that no condition has so far, and
+-- whether memory ran out for some of these, or for a diff.
 pub record ReportState : Type 0 where
   pub err : Stream
   pub is_terminal : Bool
   pub is_shown : Bool
   pub faulty : ℕ
   pub remaining : RemainingState
+  pub unnamed : List (List ℕ)
   pub has_lost : Bool
 
 -- `new_report is_terminal listing err`: a report without messages, whose error stream is `err`.
@@ -38,6 +39,7 @@ new_report is_terminal listing err = record {
   is_shown = false;
   faulty = 0;
   remaining = record { listing = listing; count = 0; defined = 0; list = [] };
+  unnamed = [];
   has_lost = false;
 }
 
@@ -56,10 +58,11 @@ pub record KeepsScreen (old new : ReportState) : Type 0 where
   pub terminal : new.is_terminal ≡ old.is_terminal
   pub shown : new.is_shown ≡ old.is_shown
 
--- `KeepsFinds old new`: the conditions that still name a symbol stay, and so does whether memory
--- ran out for some.
+-- `KeepsFinds old new`: the conditions that still name a symbol stay, and so do the names that no
+-- condition has, and whether memory ran out for some.
 pub record KeepsFinds (old new : ReportState) : Type 0 where
   pub remaining : new.remaining ≡ old.remaining
+  pub unnamed : new.unnamed ≡ old.unnamed
   pub lost : new.has_lost ≡ old.has_lost
 
 -- `Writes old new bytes`: if the error stream is no terminal, `bytes` were written to it.

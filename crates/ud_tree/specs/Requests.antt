@@ -3,22 +3,21 @@
 --   task_of gs              the task
 --   HasNoChange gs          no flag says how files are changed
 --   AreFitting gs           the options are compatible
---   is_path pattern         the pattern has a slash
+--   decides gs              conditions are to be decided, or their names listed
 --   IsArgumentsOf gs args   the arguments of a run
 --   IsRequestOf gs r        the request
 --   IsFaultIn gs f          a fault of the command line
 --
 -- `gs` is what the words of the command line give, one option or path after another.
 use Rattle.std.specs.Prelude.{◌≡◌, ◌⊎◌, ℕ, List, [], true, false, Some, None, map, string_bytes}
-use Rattle.std.specs.Prelude.{codes, if◌then◌else◌, nat_eq, not, ◌&&◌, ◌∷◌, Bool}
-use Rattle.std.specs.List.{list_any}
+use Rattle.std.specs.Prelude.{codes, if◌then◌else◌, not, ◌&&◌, ◌||◌, ◌∷◌, Bool}
 use Rattle.ud_model.specs.answer.CommandLine.{UsageFault, unknown_option, missing_argument}
 use Rattle.ud_model.specs.answer.CommandLine.{bad_symbol_in, bad_mode_in, too_many_files}
 use Rattle.ud_model.specs.answer.CommandLine as args
 use Rattle.ud_args.specs.Plans.{PlanRepresents}
 use Rattle.ud_args.specs.CommandLines.{Parsed, unknown, lacking, late}
 use Rattle.ud_args.specs.TreeWords.{first_fault, has_flag, has_symbols, unifdef_args, word_at}
-use Rattle.ud_args.specs.TreeWords.{patterns_in, paths_in}
+use Rattle.ud_args.specs.TreeWords.{patterns_in, paths_in, symbol_names}
 use Rattle.ud_tree.specs.declared.arguments.Task.{Task}
 use Rattle.ud_tree.specs.declared.arguments.Task.TheVariants.{Replace, Diff, Names}
 use Rattle.ud_tree.specs.declared.arguments.Arguments.{Arguments}
@@ -31,9 +30,10 @@ use Rattle.ud_tree.specs.declared.arguments.ArgumentFault.TheVariants.{BadMode}
 use Rattle.ud_tree.specs.declared.arguments.ArgumentFault.TheVariants.{BesideNames, SymbolsAndNames}
 use Rattle.ud_tree.specs.declared.arguments.ArgumentFault.TheVariants.{PruningAndComplement}
 use Rattle.ud_tree.specs.declared.arguments.ArgumentFault.TheVariants.{PruningAndPlain}
-use Rattle.ud_tree.specs.declared.arguments.ArgumentFault.TheVariants.{SlashInPattern}
+use Rattle.ud_tree.specs.declared.arguments.ArgumentFault.TheVariants.{SqueezingBeside}
 use Rattle.ud_tree.specs.declared.arguments.ArgumentFault.TheVariants.{OptionAfterPath, NoPath}
-use Rattle.ud_tree.specs.declared.arguments.ArgumentFault.TheVariants.{PathsAndInput, OutOfMemory}
+use Rattle.ud_tree.specs.declared.arguments.ArgumentFault.TheVariants.{PathsAndInput, NoSymbol}
+use Rattle.ud_tree.specs.declared.arguments.ArgumentFault.TheVariants.{OutOfMemory}
 
 -- `task_of gs`: to show what would change with `-n`, to list names with `-s`, else to replace.
 abbrev pub task_of : List Parsed → Task
@@ -45,6 +45,7 @@ pub record HasNoChange (gs : List Parsed) : Type 0 where
   pub diff : has_flag (codes "n") gs ≡ false
   pub changes : has_flag (codes "d") gs ≡ false
   pub pruning : has_flag (codes "p") gs ≡ false
+  pub squeezing : has_flag (codes "B") gs ≡ false
   pub into : has_flag (codes "w") gs ≡ false
   pub blank : has_flag (codes "b") gs ≡ false
   pub complement : has_flag (codes "c") gs ≡ false
@@ -52,28 +53,38 @@ pub record HasNoChange (gs : List Parsed) : Type 0 where
   pub constants : has_flag (codes "k") gs ≡ false
   pub renumber : has_flag (codes "l") gs ≡ false
 
+-- `LeavesLines gs`: no flag is given that blanks or numbers lines, nor `-c` or `-t`.
+pub record LeavesLines (gs : List Parsed) : Type 0 where
+  pub blank : has_flag (codes "b") gs ≡ false
+  pub renumber : has_flag (codes "l") gs ≡ false
+  pub complement : has_flag (codes "c") gs ≡ false
+  pub plain : has_flag (codes "t") gs ≡ false
+
 -- `AreFitting gs`: the options are compatible: `-s` with none that says how files are changed, nor
--- with one that names a symbol, and `-p` with neither `-c` nor `-t`.
+-- with one that names a symbol, `-p` with neither `-c` nor `-t`, and `-B` with none of `-b`, `-l`,
+-- `-c` and `-t`.
 pub record AreFitting (gs : List Parsed) : Type 0 where
   pub names : has_flag (codes "s") gs ≡ true → HasNoChange gs
   pub symbols : has_flag (codes "s") gs ≡ true → has_symbols gs ≡ false
   pub complement : has_flag (codes "p") gs ≡ true → has_flag (codes "c") gs ≡ false
   pub plain : has_flag (codes "p") gs ≡ true → has_flag (codes "t") gs ≡ false
+  pub squeezing : has_flag (codes "B") gs ≡ true → LeavesLines gs
 
--- `is_path pattern`: the pattern has a slash, so no name matches it.
-abbrev pub is_path : List ℕ → Bool
-is_path pattern = list_any (λ byte. nat_eq byte 47) pattern
+-- `decides gs`: an option names a symbol, or the flag `-k` or `-s` is given. Else nothing is asked
+-- for.
+abbrev pub decides : List Parsed → Bool
+decides gs = has_symbols gs || has_flag (codes "k") gs || has_flag (codes "s") gs
 
 -- `IsArgumentsOf gs args`: `args` has what is given: the options of unifdef(1), each other option,
 -- the patterns and the paths. `-r` asks for the conditions that still name a symbol or, with `-s`,
--- for those whose names can't be listed. The options are compatible. Either paths are given, or
--- `-0`. No pattern has a slash.
+-- for those whose names can't be listed. The options are compatible, and ask for something. Either
+-- paths are given, or `-0`.
 pub record IsArgumentsOf (gs : List Parsed) (args : Arguments) : Type 0 where
   pub fitting : AreFitting gs
   pub plan : PlanRepresents args.plan.run (unifdef_args gs)
   pub prunes : args.plan.prunes ≡ has_flag (codes "p") gs
+  pub squeezes : args.plan.squeezes ≡ has_flag (codes "B") gs
   pub patterns : map string_bytes args.patterns.items ≡ patterns_in gs
-  pub names : list_any is_path (patterns_in gs) ≡ false
   pub paths : map string_bytes args.paths.items ≡ paths_in gs
   pub task : args.task ≡ task_of gs
   pub write_into : args.write_into ≡ has_flag (codes "w") gs
@@ -84,6 +95,8 @@ pub record IsArgumentsOf (gs : List Parsed) (args : Arguments) : Type 0 where
   pub list_hidden : args.list_hidden ≡ (has_flag (codes "r") gs && has_flag (codes "s") gs)
   pub show_changes : args.show_changes ≡ has_flag (codes "d") gs
   pub has_symbols : args.has_symbols ≡ has_symbols gs
+  pub symbols : map (λ n. n.items) args.names.items ≡ symbol_names gs
+  pub asks : decides gs ≡ true
   pub no_path : has_flag (codes "0") gs ≡ true → paths_in gs ≡ []
   pub some_path : has_flag (codes "0") gs ≡ false → ¬ (paths_in gs ≡ [])
 
@@ -109,7 +122,8 @@ abbrev pub IsBadWord : (ℕ → UsageFault) → List Parsed → List ℕ → Typ
 IsBadWord fault gs w = (n : ℕ) × HasUsage gs (fault n) × (w ≡ word_at n gs)
 
 -- `IsFaultIn gs f`: `f` is the first fault of the words. Or it is a fault of two incompatible
--- options, of the options of unifdef(1), of the patterns, or of the paths. Or memory ran out.
+-- options, of the options of unifdef(1), or of the paths. Or nothing is asked for,
+-- or memory ran out.
 abbrev pub IsFaultIn : List Parsed → ArgumentFault → Type 0
 IsFaultIn gs (UnknownOption c) = (first_fault gs ≡ Some (unknown c)) ⊎
     HasUsage gs (unknown_option c)
@@ -121,9 +135,10 @@ IsFaultIn gs (BesideNames c) = AreGiven (c ∷ []) (codes "s") gs
 IsFaultIn gs SymbolsAndNames = (has_symbols gs ≡ true) × (has_flag (codes "s") gs ≡ true)
 IsFaultIn gs PruningAndComplement = AreGiven (codes "p") (codes "c") gs
 IsFaultIn gs PruningAndPlain = AreGiven (codes "p") (codes "t") gs
-IsFaultIn gs SlashInPattern = list_any is_path (patterns_in gs) ≡ true
+IsFaultIn gs (SqueezingBeside c) = AreGiven (codes "B") (c ∷ []) gs
 IsFaultIn gs (OptionAfterPath w) = (n : ℕ) × (first_fault gs ≡ Some (late n (string_bytes w)))
 IsFaultIn gs PathsAndInput = (has_flag (codes "0") gs ≡ true) × ¬ (paths_in gs ≡ [])
 IsFaultIn gs NoPath = ((has_flag (codes "0") gs ≡ false) × (paths_in gs ≡ [])) ⊎
     HasUsage gs too_many_files
+IsFaultIn gs NoSymbol = decides gs ≡ false
 IsFaultIn gs OutOfMemory = Unit {0}

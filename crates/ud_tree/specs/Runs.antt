@@ -1,7 +1,7 @@
 -- Runs: the calls for the files of a run, and the files' fates.
 --
---   ReadsOne name old new   a file was read, and no other call was made
---   ReplacesOne plan into name old new update   a file was replaced, or its name took no memory
+--   ReadsOne name text old new   a file was read, and no other call was made
+--   ReplacesOne plan into name text old new update   a file was replaced
 --   Listed, nothing_listed  what is listed of a file
 --   Output, made name bytes   the output for a file
 --   FileResult              the result of a file, and what is written and listed for it
@@ -14,6 +14,7 @@
 --   told_of results         what is written for the files to the error stream
 --   listed_of results       what is listed for the files
 --   outputs_of results      the outputs for the files
+--   texts_of results        the texts of the files
 --   Counted P old names new counts shown told   each file in turn, with the numbers of each fate
 --   names_of files          the paths of the files that the walk found
 --
@@ -37,21 +38,22 @@ use Rattle.ud_tree.specs.Fates.{fate_of, is_changed, is_same, is_faulty, no_edit
 use Rattle.ud_tree.specs.Messages.{IsTold}
 use Rattle.ud_tree.specs.Paths.{fresh_name}
 
--- `ReadsOne name old new`: the file `name` was read, and no other call was made.
-pub data ReadsOne (name : List ℕ) (old new : List Call) : Type 0 where
-  reads : (text : List ℕ) (answer : Option FileStat) → new ≡ was_read name text answer ∷ old →
-      ReadsOne name old new
+-- `ReadsOne name text old new`: the file `name` was read as `text`, and no other call was made. If
+-- reading failed, `text` is what was read.
+pub data ReadsOne (name text : List ℕ) (old new : List Call) : Type 0 where
+  reads : (answer : Option FileStat) → new ≡ was_read name text answer ∷ old →
+      ReadsOne name text old new
 
--- `ReplacesOne plan into name old new update`: the calls replace the file `name`, which the walk
--- met, with the help of a new one, and `update` is their result. Or memory for the new name
--- couldn't be allocated, and no call was made.
-pub data ReplacesOne (plan : TextPlan) (into : Bool) (name : List ℕ) (old new : List Call) :
+-- `ReplacesOne plan into name text old new update`: the calls read the file `name`, which the walk
+-- met, as `text`, and replace it with the help of a new one. `update` is their result. Or memory
+-- for the new name couldn't be allocated, no call was made, and the text is empty.
+pub data ReplacesOne (plan : TextPlan) (into : Bool) (name text : List ℕ) (old new : List Call) :
     Result Update ReplaceError → Type 0 where
   replaces : (r : Result Update ReplaceError) (id : FileId) (fresh : List ℕ) →
       fresh ≡ fresh_name name →
-      ((o : TextOptions) → IsPlanned plan o → Replaces o into id name fresh old new r) →
-      ReplacesOne plan into name old new r
-  no_name : new ≡ old → ReplacesOne plan into name old new (Err OutOfMemory)
+      ((o : TextOptions) → IsPlanned plan o → Replaces o into id name fresh text old new r) →
+      ReplacesOne plan into name text old new r
+  no_name : text ≡ [] → new ≡ old → ReplacesOne plan into name text old new (Err OutOfMemory)
 
 -- `Listed`: what is listed of a file: the list of its names, the number of its conditions whose
 -- names can't be listed, and the list of these conditions.
@@ -74,8 +76,8 @@ abbrev pub made : List ℕ → List ℕ → List Output
 made name bytes = record { name = name; bytes = bytes } ∷ []
 
 -- `FileResult`: the result of a file, the bytes written for it to the output and to the error
--- stream, the edits of its text, made or only shown, what is listed for it, and the output for it
--- (none after an error).
+-- stream, the edits of its text, made or only shown, what is listed for it, the output for it (none
+-- after an error), and the text that was read (none if names are listed).
 pub record FileResult : Type 0 where
   pub update : Result Update ReplaceError
   pub shown : List ℕ
@@ -83,9 +85,10 @@ pub record FileResult : Type 0 where
   pub edits : Edits
   pub listed : Listed
   pub outputs : List Output
+  pub texts : List (List ℕ)
 
 -- `Unshown P name old new result`: `P` holds for the file, its result, and what is listed for it.
--- Nothing is written for it to the output. It has no output of its own, and no edits.
+-- Nothing is written for it to the output. It has no output of its own, no edits, and no text.
 pub record Unshown
     (P : List ℕ → List Call → List Call → Result Update ReplaceError → Listed → Type 0)
     (name : List ℕ) (old new : List Call) (result : FileResult) : Type 0 where
@@ -93,6 +96,7 @@ pub record Unshown
   pub nothing : result.shown ≡ []
   pub unedited : result.edits ≡ no_edits
   pub no_output : result.outputs ≡ []
+  pub no_text : result.texts ≡ []
 
 -- `EachFile P old names new results`: `P name mid next result` holds for each file in turn, where
 -- `mid` and `next` are the calls before and after it. No other call was made. Only the messages of
@@ -153,6 +157,10 @@ listed_of results = record {
 -- `outputs_of results`: the outputs for the files, in order.
 abbrev pub outputs_of : List FileResult → List Output
 outputs_of results = flat_map (λ r. r.outputs) results
+
+-- `texts_of results`: the texts of the files, in order.
+abbrev pub texts_of : List FileResult → List (List ℕ)
+texts_of results = flat_map (λ r. r.texts) results
 
 -- `Counted P old names new counts shown told`: `P` holds for each file in turn, and `counts` has
 -- the numbers of their fates. `shown` and `told` are written for them.

@@ -2,7 +2,7 @@
 --
 --   WasRead name text stat old new   a file was read, and `text` are its bytes
 --   Fails o name calls calls' e      a file couldn't be read, or the run over its text failed
---   RunsFile plan name calls calls' output output' result   a run over the text of a file
+--   RunsFile plan name text calls calls' output output' result   a run over the text of a file
 --   HasDiff o name text diff edited  the diff of a text and its output
 --   ShowsFile o into name calls calls' update shown edits outputs   a file was read, and its diff
 --                                    shown
@@ -51,12 +51,13 @@ pub data Fails (o : TextOptions) (name : List ℕ) (calls calls' : List Call) :
   fails_over : {e : ReplaceError} (text : List ℕ) (stat : FileStat) →
       WasRead name text stat calls calls' → FailsOver o text e → Fails o name calls calls' e
 
--- `RunsFile plan name calls calls' output output' result`: the file `name` was read, and the run
--- over its text turned `output` into `output'`. Or `Fails` is true of the error.
-abbrev pub RunsFile : TextPlan → List ℕ → List Call → List Call → List ℕ → List ℕ →
+-- `RunsFile plan name text calls calls' output output' result`: the file `name` was read, and the
+-- run over its text turned `output` into `output'`. Or `Fails` is true of the error.
+abbrev pub RunsFile : TextPlan → List ℕ → List ℕ → List Call → List Call → List ℕ → List ℕ →
     Result Ran ReplaceError → Type 0
-RunsFile plan name calls calls' output output' result = (o : TextOptions) → IsPlanned plan o →
-    MatchResult result (λ ran. RunsOver o ran.text.items output output' ran.run)
+RunsFile plan name text calls calls' output output' result =
+    (o : TextOptions) → IsPlanned plan o →
+    MatchResult result (λ ran. RunsOver o text output output' ran.run)
     (Fails o name calls calls')
 
 -- `HasDiff o name text diff edited`: `text` has no fault, and its output differs, with `edited`
@@ -95,7 +96,9 @@ pub data ShowsFile (o : TextOptions) (into : Bool) (name : List ℕ) (calls call
 -- shown for it, and its output come from the text read, by the options of the plan.
 pub record ShowsOne (plan : TextPlan) (into : Bool) (name : List ℕ) (calls calls' : List Call)
     (result : FileResult) : Type 0 where
-  pub reads : ReadsOne name calls calls'
+  pub text : List ℕ
+  pub is_text : result.texts ≡ text ∷ []
+  pub reads : ReadsOne name text calls calls'
   pub shows : (o : TextOptions) → IsPlanned plan o →
       ShowsFile o into name calls calls' result.update result.shown result.edits result.outputs
 
@@ -127,6 +130,7 @@ pub data ListsFile (o : TextOptions) (mode : Mode) (lists : Bool) (name : List �
 -- read in the mode of the plan.
 pub record ListsOne (plan : TextPlan) (lists : Bool) (name : List ℕ) (calls calls' : List Call)
     (update : Result Update ReplaceError) (listed : Listed) : Type 0 where
-  pub reads : ReadsOne name calls calls'
+  pub text : List ℕ
+  pub reads : ReadsOne name text calls calls'
   pub lists_file : (o : TextOptions) → IsPlanned plan o →
       ListsFile o (mode_by plan.run.settings.plain) lists name calls calls' update listed

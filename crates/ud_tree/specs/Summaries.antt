@@ -10,12 +10,14 @@
 --   defined_line listed count   how many lines define a symbol
 --   removed_line count        how many lines were removed
 --   edited_line prunes count   how many conditions were edited
---   last_lines args changed unchanged faults hidden edits remaining defined   these lines, unless
---                             quiet
+--   unnamed_line name         no condition names this symbol
+--   last_lines args changed unchanged faults hidden edits remaining defined unnamed   these lines,
+--                             unless quiet
 --   TellsEnd args counts faults hidden old new   they were written last
 --   EndsWith s bytes          the last bytes that were written to `s`
 use Rattle.std.specs.Prelude.{◌≡◌, ℕ, List, [], ◌++◌, Bool, false, not, ◌&&◌, ◌||◌, ◌==◌}
 use Rattle.std.specs.Prelude.{if◌then◌else◌, codes, decimal}
+use Rattle.std.specs.List.{flat_map}
 use Rattle.ud_tree.specs.declared.arguments.Task.{Task}
 use Rattle.ud_tree.specs.declared.arguments.Task.TheVariants.{Replace, Diff, Names}
 use Rattle.ud_tree.specs.declared.arguments.Arguments.{Arguments}
@@ -107,25 +109,33 @@ edited_text count = plural count (codes " condition edited") (codes " conditions
 abbrev pub edited_line : Bool → ℕ → List ℕ
 edited_line prunes count = if prunes then line_of (decimal count ++ edited_text count) else []
 
+-- `unnamed_line name`: the line of a symbol that no condition names.
+abbrev pub unnamed_line : List ℕ → List ℕ
+unnamed_line name = line_of (codes "no condition names " ++ name)
+
 -- `EndsWith s bytes`: the last bytes written to `s` are `bytes`, up to its first failure.
 abbrev pub EndsWith : Stream → List ℕ → Type 0
 EndsWith s bytes = (mid : Stream) × Sends mid s bytes
 
--- `last_lines args changed unchanged faults hidden edits remaining defined`: the summary, and the
--- lines with the numbers of removed lines, of edited conditions, of those that still name a symbol,
--- and of lines that define one; nothing if the run is quiet.
-abbrev pub last_lines : Arguments → ℕ → ℕ → ℕ → ℕ → Edits → ℕ → ℕ → List ℕ
-last_lines args changed unchanged faults hidden edits remaining defined = if args.quiet then []
+-- `last_lines args changed unchanged faults hidden edits remaining defined unnamed`: the summary,
+-- the lines with the numbers of removed lines, of edited conditions, of those that still name a
+-- symbol, and of lines that define one, and the line of each symbol that no condition names;
+-- nothing if the run is quiet.
+abbrev pub last_lines : Arguments → ℕ → ℕ → ℕ → ℕ → Edits → ℕ → ℕ → List (List ℕ) → List ℕ
+last_lines args changed unchanged faults hidden edits remaining defined unnamed =
+    if args.quiet then []
     else summary args.task args.list_hidden changed unchanged faults hidden ++
     removed_line edits.lines ++ edited_line args.plan.prunes edits.conditions ++
-    remaining_line args.list_remaining remaining ++ defined_line args.list_remaining defined
+    remaining_line args.list_remaining remaining ++ defined_line args.list_remaining defined ++
+    flat_map unnamed_line unnamed
 
--- `TellsEnd args counts faults hidden old new`: the last lines were written, with these numbers and
--- those of conditions and definitions, which the report has. Nothing else was, unless a terminal
--- showed the number of files.
+-- `TellsEnd args counts faults hidden old new`: the last lines were written, with these numbers,
+-- those of conditions and definitions, and the names that the report has. Nothing else was, unless
+-- a terminal showed the number of files.
 pub record TellsEnd (args : Arguments) (counts : Counts) (faults hidden : ℕ)
     (old new : ReportState) : Type 0 where
   pub told : EndsWith new.err (last_lines args counts.changed counts.unchanged faults hidden
-      counts.edits old.remaining.count old.remaining.defined)
+      counts.edits old.remaining.count old.remaining.defined old.unnamed)
   pub alone : old.is_shown ≡ false → Sends old.err new.err (last_lines args counts.changed
-      counts.unchanged faults hidden counts.edits old.remaining.count old.remaining.defined)
+      counts.unchanged faults hidden counts.edits old.remaining.count old.remaining.defined
+      old.unnamed)

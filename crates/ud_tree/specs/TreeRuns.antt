@@ -44,10 +44,11 @@ use Rattle.ud_tree.specs.declared.walk.Found.{Found}
 use Rattle.ud_tree.specs.Changes.{ReplacesShowing}
 use Rattle.ud_passes.specs.declared.names.Names.{Names as NameLists}
 use Rattle.ud_passes.specs.names.NameTables.{names_in, Tabulates}
-use Rattle.ud_tree.specs.Remainders.{is_searched, listing_of, texts_of, count_of}
-use Rattle.ud_tree.specs.Remainders.{defined_of}
+use Rattle.ud_tree.specs.Remainders.{is_searched, listing_of, count_of}
+use Rattle.ud_tree.specs.Remainders.{defined_of, list_of, unnamed_in}
+use Rattle.ud_tree.specs.Unnamed.{sought}
 use Rattle.ud_tree.specs.Runs.{FileResult, Unshown, EachFile, shown_of, told_of, listed_of}
-use Rattle.ud_tree.specs.Runs.{outputs_of, nothing_listed}
+use Rattle.ud_tree.specs.Runs.{outputs_of, texts_of, nothing_listed}
 use Rattle.ud_tree.specs.Runs.{changed_in, same_in, faulty_in, edited_in, removed_in, names_of}
 use Rattle.ud_tree.specs.Shown.{ShowsOne, ListsOne}
 use Rattle.ud_tree.specs.Messages.{output_messages}
@@ -131,13 +132,15 @@ pub record Ending : Type 0 where
   pub status : ℕ
 
 -- `Tally`: the numbers of faults, of conditions whose names can't be listed, of edits, of
--- conditions that still name a symbol, and of lines that define one.
+-- conditions that still name a symbol, and of lines that define one, and the symbols that no
+-- condition names.
 pub record Tally : Type 0 where
   pub faults : ℕ
   pub hidden : ℕ
   pub edits : Edits
   pub remaining : ℕ
   pub defined : ℕ
+  pub unnamed : List (List ℕ)
 
 -- `DoesAll args failed old files new`: what the arguments ask for is done with each file in turn,
 -- and nothing else. If the output has `failed`, these may be only the first files (`IsDone`).
@@ -162,13 +165,14 @@ pub record ShowsAll (args : Arguments) (results : List FileResult) (is_lost : Bo
   pub remains : ¬ (args.task ≡ Names) → args.list_remaining ≡ true → is_lost ≡ false →
       is_searched args ≡ true → (calls : List Argument) →
       TableRepresents args.plan.run.symbols calls →
-      listed ≡ texts_of calls (listing_of args) args (outputs_of results)
+      listed ≡ list_of calls (listing_of args) args (outputs_of results)
   pub unsearched : ¬ (args.task ≡ Names) → is_searched args ≡ false → listed ≡ []
 
 -- `Totals args results is_lost tally`: the tally has the totals over all files, if a machine can
 -- count them: of conditions whose names can't be listed, of edited conditions, of removed lines,
 -- and (unless some were lost) of conditions in all outputs that still name a symbol and of lines
--- that define one.
+-- that define one. It has exactly the symbols that no condition of all texts names, unless the run
+-- is quiet or some were lost.
 pub record Totals (args : Arguments) (results : List FileResult) (is_lost : Bool)
     (tally : Tally) : Type 0 where
   pub hidden : (listed_of results).hidden < 2 ^ 64 → tally.hidden ≡ (listed_of results).hidden
@@ -184,6 +188,9 @@ pub record Totals (args : Arguments) (results : List FileResult) (is_lost : Bool
       defined_of calls args (outputs_of results) < 2 ^ 64 →
       tally.defined ≡ defined_of calls args (outputs_of results)
   pub none_defined : is_searched args ≡ false → tally.defined ≡ 0
+  pub unnamed : is_lost ≡ false → (calls : List Argument) →
+      TableRepresents args.plan.run.symbols calls →
+      tally.unnamed ≡ unnamed_in calls args (texts_of results) (sought args)
 
 -- `HasStatus args in_walk results is_lost faults ending`: there is one fault for each fault of the
 -- walk, each message about the output and each faulty file, if a machine can count these, and at
@@ -208,7 +215,7 @@ pub record TellsAll (args : Arguments) (results : List FileResult) (is_lost : Bo
   pub told_is : ending.told ≡
       told_of results ++ joined (output_messages is_lost ending.streams.failed) ++ ending.last
   pub last_is : ending.last ≡ last_lines args (changed_in results) (same_in results)
-      tally.faults tally.hidden tally.edits tally.remaining tally.defined
+      tally.faults tally.hidden tally.edits tally.remaining tally.defined tally.unnamed
 
 -- `Ends args in_walk old files new ending`: the files are processed. The output, the last lines,
 -- the status and the messages come from their results.

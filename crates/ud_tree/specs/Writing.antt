@@ -22,7 +22,7 @@ use Rattle.ud_tree.specs.declared.counts.Edits.{Edits}
 use Rattle.ud_tree.specs.Reports.{ReportState, Writes}
 use Rattle.ud_tree.specs.Lists.{Adds}
 use Rattle.ud_tree.specs.Remainders.{FindsAll}
-use Rattle.ud_tree.specs.Runs.{FileResult, Counted, Listed, listed_of, Output, outputs_of}
+use Rattle.ud_tree.specs.Runs.{FileResult, Counted, Listed, listed_of, Output, outputs_of, texts_of}
 use Rattle.ud_io.specs.Streams.{Stream, stream_of, Sends}
 
 -- `Moment`: the calls so far, the newest first, the output and the error stream.
@@ -55,14 +55,15 @@ stage history contents tree out report =
     record { calls = history tree; out = stream_of contents out; report = report }
 
 -- `WritesOne args P name before after update edits listed`: `P` holds of a file with this result,
--- these edits, and what is listed of it. What is shown of it was written, and the conditions of its
--- output that still name a symbol were added to the report.
+-- these edits, and what is listed of it. What is shown of it was written. The conditions of its
+-- output that still name a symbol were added to the report, and it looked for names in its text.
 pub record WritesOne (args : Arguments)
     (P : List ℕ → List Call → List Call → FileResult → Type 0) (name : List ℕ)
     (before after : Stage) (update : Result Update ReplaceError) (edits : Edits)
     (listed : Listed) : Type 0 where
   pub shown : List ℕ
   pub outputs : List Output
+  pub texts : List (List ℕ)
   pub does : (told : List ℕ) →
       P name before.calls after.calls (record {
         update = update;
@@ -71,9 +72,10 @@ pub record WritesOne (args : Arguments)
         edits = edits;
         listed = listed;
         outputs = outputs;
+        texts = texts;
       })
   pub sent : Sends before.out after.out shown
-  pub finds : FindsAll args outputs before.report after.report
+  pub finds : FindsAll args texts outputs before.report after.report
 
 -- `ProcessesOne args P name before after update edits lists lists'`: the same, and what is listed
 -- of the file was added to `lists`.
@@ -88,7 +90,7 @@ pub record ProcessesOne (args : Arguments)
 -- `WritesAll args P before names after counts lists lists'`: `P` holds of each file in turn,
 -- `counts` has the numbers of their fates, and what is shown and told of them was written in this
 -- order. What is listed of them was added to `lists`, and the conditions of their outputs that
--- still name a symbol to the report.
+-- still name a symbol to the report, which looked for names in their texts.
 pub record WritesAll (args : Arguments)
     (P : List ℕ → List Call → List Call → FileResult → Type 0) (before : Stage)
     (names : List (List ℕ)) (after : Stage) (counts : Counts) (lists lists' : NameLists) :
@@ -99,7 +101,8 @@ pub record WritesAll (args : Arguments)
   pub sent : Sends before.out after.out shown
   pub writes : Writes before.report after.report told
   pub adds : Adds lists lists' (listed_of counted.results)
-  pub finds : FindsAll args (outputs_of counted.results) before.report after.report
+  pub finds : FindsAll args (texts_of counted.results) (outputs_of counted.results)
+      before.report after.report
 
 -- `WritesList args names rest lost out out'`: a list was written, empty unless names or the
 -- conditions that still name a symbol are to be listed. Names are listed in a table, after the

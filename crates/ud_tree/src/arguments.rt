@@ -2,16 +2,16 @@
 
 ghost use Rattle.std.specs.Prelude.{◌≡◌, None, IfOk, IfErr, IfSome, IfNone, map, string_bytes};
 ghost use Rattle.std.specs.Prelude.{◌∷◌, [], true};
-ghost use Rattle.std.specs.List.{list_any};
 ghost use Rattle.ud_args.specs.ParsedArgs.{parsed};
 ghost use Rattle.ud_args.specs.ParsedSettings.{IsUsageOf};
 ghost use Rattle.ud_args.specs.TreeWords.{given_in, first_fault, has_flag, unifdef_args};
 ghost use Rattle.ud_tree.specs.Requests.{IsRequestOf, IsArgumentsOf, IsFaultIn};
-ghost use Rattle.ud_tree.specs.Requests.{AreFitting, HasNoChange, is_path, task_of};
+ghost use Rattle.ud_tree.specs.Requests.{AreFitting, HasNoChange, LeavesLines, decides, task_of};
 
 use std::alloc::Global;
 use ud_args::{
-    ParsedArg, Usage, given_by, has_flag, has_symbols, paths, patterns, plan_among, word_at,
+    ParsedArg, Usage, given_by, has_flag, has_symbols, paths, patterns, plan_among, symbol_names,
+    word_at,
 };
 use ud_replace::TextPlan;
 
@@ -31,7 +31,7 @@ pub enum Task {
 pub struct Arguments {
     /// The plan for the text of each file.
     pub plan: TextPlan,
-    /// The patterns of the names of files; none for the usual ones.
+    /// The rules by which files are chosen: patterns, some after `!` or `+`.
     pub patterns: Vec<String>,
     /// The paths.
     pub paths: Vec<String>,
@@ -51,6 +51,8 @@ pub struct Arguments {
     pub show_changes: bool,
     /// True if some option names a symbol.
     pub has_symbols: bool,
+    /// The names of the symbols, each once.
+    pub names: Vec<Vec<u8>>,
 }
 
 impl Arguments {
@@ -95,14 +97,16 @@ pub enum ArgumentFault {
     PruningAndComplement,
     /// `-p` and `-t` together.
     PruningAndPlain,
-    /// A slash in a pattern: names have none.
-    SlashInPattern,
+    /// `-B` together with this flag.
+    SqueezingBeside(char),
     /// An option after the first path.
     OptionAfterPath(String),
     /// Paths together with `-0`.
     PathsAndInput,
     /// No path.
     NoPath,
+    /// Neither a symbol nor `-k` nor `-s`, so nothing is asked for.
+    NoSymbol,
     /// Memory couldn't be allocated.
     OutOfMemory,
 }
@@ -111,7 +115,7 @@ pub enum ArgumentFault {
 ///
 /// # Errors
 /// The first fault of the words from left to right. Else incompatible options, the first fault of
-/// the options of unifdef, or a fault of the patterns or paths. `OutOfMemory` if memory can't be
+/// the options of unifdef, or a fault of the paths. `OutOfMemory` if memory can't be
 /// allocated. Nothing was done.
 pub fn parse_arguments(alloc: Global, words: &[String]) -> Result<Request, ArgumentFault>
     ensures request { IfOk result (IsRequestOf (given_in (map string_bytes words.now))) }
@@ -183,6 +187,11 @@ fn clash(given: &[ParsedArg<'_>]) -> Option<ArgumentFault>
             return Some(ArgumentFault::SymbolsAndNames);
         }
     }
+    if has_flag(given, 'B') {
+        if let Some(letter) = beside_squeezing(given) {
+            return Some(ArgumentFault::SqueezingBeside(letter));
+        }
+    }
     let prunes = has_flag(given, 'p');
     if prunes && has_flag(given, 'c') {
         Some(ArgumentFault::PruningAndComplement)
@@ -204,6 +213,8 @@ fn beside_names(given: &[ParsedArg<'_>]) -> Option<char>
         Some('d')
     } else if has_flag(given, 'p') {
         Some('p')
+    } else if has_flag(given, 'B') {
+        Some('B')
     } else if has_flag(given, 'w') {
         Some('w')
     } else if has_flag(given, 'b') {
@@ -221,10 +232,28 @@ fn beside_names(given: &[ParsedArg<'_>]) -> Option<char>
     }
 }
 
+/// Returns a flag with which no blank lines can go, if one is given.
+fn beside_squeezing(given: &[ParsedArg<'_>]) -> Option<char>
+    ensures given { IfSome result (λ c. has_flag (c ∷ []) (parsed given.now) ≡ true) }
+    ensures fits { IfNone result (LeavesLines (parsed given.now)) }
+{
+    if has_flag(given, 'b') {
+        Some('b')
+    } else if has_flag(given, 'l') {
+        Some('l')
+    } else if has_flag(given, 'c') {
+        Some('c')
+    } else if has_flag(given, 't') {
+        Some('t')
+    } else {
+        None
+    }
+}
+
 /// Returns the arguments of a run, whose options are compatible.
 ///
 /// # Errors
-/// The first fault of the options of unifdef, or a fault of the patterns or paths. `OutOfMemory` if
+/// The first fault of the options of unifdef, or a fault of the paths. `OutOfMemory` if
 /// memory can't be allocated.
 fn run_of(alloc: Global, given: &[ParsedArg<'_>]) -> Result<Arguments, ArgumentFault>
     requires { AreFitting (parsed given.now) }
@@ -238,9 +267,6 @@ fn run_of(alloc: Global, given: &[ParsedArg<'_>]) -> Result<Arguments, ArgumentF
     let Ok(patterns) = patterns(alloc, given) else {
         return Err(ArgumentFault::OutOfMemory);
     };
-    if has_slash(patterns.as_slice()) {
-        return Err(ArgumentFault::SlashInPattern);
-    }
     let Ok(paths) = paths(alloc, given) else {
         return Err(ArgumentFault::OutOfMemory);
     };
@@ -251,11 +277,22 @@ fn run_of(alloc: Global, given: &[ParsedArg<'_>]) -> Result<Arguments, ArgumentF
     if !from_input && paths.is_empty() {
         return Err(ArgumentFault::NoPath);
     }
+    if !decides(given) {
+        return Err(ArgumentFault::NoSymbol);
+    }
+    let Ok(symbols) = symbol_names(alloc, given) else {
+        return Err(ArgumentFault::OutOfMemory);
+    };
     let prunes = has_flag(given, 'p');
+    let squeezes = has_flag(given, 'B');
     let names = has_flag(given, 's');
     let lists = has_flag(given, 'r');
     Ok(Arguments {
-        plan: TextPlan { run, prunes },
+        plan: TextPlan {
+            run,
+            prunes,
+            squeezes,
+        },
         patterns,
         paths,
         task: task_of(given),
@@ -266,19 +303,15 @@ fn run_of(alloc: Global, given: &[ParsedArg<'_>]) -> Result<Arguments, ArgumentF
         list_hidden: lists && names,
         show_changes: has_flag(given, 'd'),
         has_symbols: has_symbols(given),
+        names: symbols,
     })
 }
 
-/// Returns whether a pattern has a slash.
-fn has_slash(patterns: &[String]) -> bool
-    ensures { result ≡ list_any is_path (map string_bytes patterns.now) }
+/// Returns whether conditions are to be decided, or their names listed.
+fn decides(given: &[ParsedArg<'_>]) -> bool
+    ensures { result ≡ decides (parsed given.now) }
 {
-    for pattern in patterns {
-        if pattern.as_bytes().contains(&b'/') {
-            return true;
-        }
-    }
-    false
+    has_symbols(given) || has_flag(given, 'k') || has_flag(given, 's')
 }
 
 /// Returns the task.

@@ -1,7 +1,8 @@
 //! The context that all files of a run share.
 
-ghost use Rattle.std.specs.Prelude.{◌≡◌};
-ghost use Rattle.ud_tree.specs.Remainders.{folds, mode_of};
+ghost use Rattle.std.specs.Prelude.{◌≡◌, ◌&&◌};
+ghost use Rattle.ud_replace.specs.TextOutcomes as spec;
+ghost use Rattle.ud_tree.specs.Remainders.{mode_of};
 
 use crate::arguments::Arguments;
 use std::alloc::Global;
@@ -33,7 +34,8 @@ impl Job<'_> {
 
     /// Returns whether the run over a text goes over the folded text, if that goes back.
     pub(crate) fn folds(&self) -> bool
-        ensures { result ≡ folds self.now.arguments.now }
+        ensures { result ≡ (self.now.arguments.now.plan.prunes &&
+            spec.may_fold self.now.arguments.now.plan.run.settings) }
     {
         let plan = &self.arguments.plan;
         plan.prunes && may_fold(plan.run.settings())

@@ -1,5 +1,6 @@
 //! The last lines of a run: how many files there were of each kind, how many lines were removed,
-//! how many conditions were edited, how many still name a symbol, and how many lines define one.
+//! how many conditions were edited, how many still name a symbol, how many lines define one, and
+//! which symbols no condition names.
 
 ghost use Rattle.std.specs.Prelude.{◌≡◌, ◌++◌, false, decimal};
 ghost use Rattle.ud_tree.specs.Reports.{Says};
@@ -15,7 +16,8 @@ use itoa::Buffer;
 use std::io::Write;
 
 /// Writes the last lines, unless the run is quiet: the counts, how many lines were removed, how
-/// many conditions were edited, how many still name a symbol, and how many lines define one.
+/// many conditions were edited, how many still name a symbol, how many lines define one, and which
+/// symbols no condition names.
 pub(crate) fn report_end<E: Write>(
     job: &Job<'_>,
     report: &mut Report<E>,
@@ -33,6 +35,7 @@ pub(crate) fn report_end<E: Write>(
     report_edited(job.arguments.plan.prunes, report, counts.edits.conditions);
     report_remaining(job.arguments, report);
     report_defined(job.arguments, report);
+    report.report_unnamed();
 }
 
 /// Writes the counts.

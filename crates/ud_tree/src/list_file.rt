@@ -29,16 +29,17 @@ pub(crate) fn list_file<T: Tree>(
         file.entry.name.now (T.history tree.old) (T.history tree.new) names.old names.new result }
 {
     let mut listed = Watched::new(Vec::<u8>::new(job.alloc));
-    let ran = run_file(job, tree, file, &mut listed);
+    let mut text = Vec::new(job.alloc);
+    let ran = run_file(job, tree, file, &mut text, &mut listed);
     let added = names.add(listed.inner().as_slice());
-    let ran = match ran {
-        Ok(ran) => ran,
+    match ran {
+        Ok(_) => {}
         Err(error) => return Err(error),
-    };
+    }
     if added.is_err() {
         return Err(ReplaceError::OutOfMemory);
     }
-    match names.add_hidden(file.name, ran.text.as_slice(), job.mode()) {
+    match names.add_hidden(file.name, text.as_slice(), job.mode()) {
         Ok(()) => Ok(Update::Unchanged),
         Err(_) => Err(ReplaceError::OutOfMemory),
     }

@@ -1,7 +1,7 @@
 //! Paths: their last names, and names for new files.
 
 ghost use Rattle.std.specs.Prelude.{◌≡◌, ◌≤◌, ◌++◌, length, take, IfOk, OnOk, string_bytes};
-ghost use Rattle.ud_tree.specs.Choices.{is_fresh};
+ghost use Rattle.ud_tree.specs.Choices.{IsBelow, is_fresh};
 ghost use Rattle.ud_tree.specs.Covering.{IsFolderPath};
 ghost use Rattle.ud_tree.specs.Paths.{escaped, escaped_byte, folder_len, fresh_end, fresh_name};
 ghost use Rattle.ud_tree.specs.Paths.{last_name};
@@ -62,6 +62,19 @@ pub(crate) fn folder(path: &[u8]) -> &[u8]
     ensures { result.now ≡ take (folder_len path.now) path.now }
 {
     &path[..folder_len(path)]
+}
+
+/// Returns what follows the first `len` bytes of a path if these end in a slash, else the path.
+pub(crate) fn below(path: &[u8], len: usize) -> &[u8]
+    ensures { IsBelow path.now result.now }
+{
+    if len == 0 || len > path.len() {
+        return path;
+    }
+    if path[len - 1] != b'/' {
+        return path;
+    }
+    &path[len..]
 }
 
 /// Returns the path of a folder with a slash at its end.

@@ -23,6 +23,7 @@ use ud_replace::{ReplaceError, Target, Update, replace_keeping};
 use ud_text::count_lines;
 
 /// Replaces a file, and adds the conditions of its output that still name a symbol to the report.
+/// Looks for names in the text, even after an error.
 /// Writes the diff of a changed file, if the arguments ask for it; the output hasn't failed before.
 /// Leaves the edits of its text in `edits`, which has none before.
 ///
@@ -59,14 +60,17 @@ pub(crate) fn replace_file<T: Tree, W: Write, E: Write>(
     );
     let update = match replaced {
         Ok(update) => update,
-        Err(error) => return Err(error),
+        Err(error) => {
+            report.find_names(job, text.as_slice());
+            return Err(error);
+        }
     };
     let output = left(same, text.as_slice(), output.inner().as_slice());
     *edits = Edits {
         conditions: count,
         lines: removed_by(update, text.as_slice(), output),
     };
-    report.search(job, file.name, output);
+    report.find(job, file.name, text.as_slice(), output, same);
     let diff = change_of(job, file.name, update, text.as_slice(), output, report);
     send(out, diff.as_slice());
     Ok(update)
@@ -93,6 +97,7 @@ fn change_of<E: Write>(
         output.now result.items }
     ensures remaining { report.new.remaining ≡ report.old.remaining }
     ensures lost { report.old.has_lost ≡ true → report.new.has_lost ≡ true }
+    ensures unnamed { report.new.unnamed ≡ report.old.unnamed }
     ensures screen { KeepsScreen report.old report.new }
 {
     let nothing = Vec::new(job.alloc);
@@ -132,9 +137,9 @@ fn is_change(update: Update) -> bool
     }
 }
 
-/// Replaces a file by a new one. Leaves its text in `text` and the output for it in `output`, which
-/// are empty before, and the number of its edited conditions in `edited`. If `same` is then true,
-/// the output is the text, and isn't left in `output`.
+/// Replaces a file by a new one. Leaves its text in `text`, whatever the result, and the output for
+/// it in `output`. Both are empty before. Leaves the number of its edited conditions in `edited`.
+/// If `same` is then true, the output is the text, and isn't left in `output`.
 fn replace_named<T: Tree>(
     job: &Job<'_>,
     tree: &mut T,
@@ -148,7 +153,7 @@ fn replace_named<T: Tree>(
     requires empty { output.old.inner.items ≡ [] }
     requires not_failed { output.old.failed ≡ false }
     ensures replaces { ReplacesOne job.now.arguments.now.plan job.now.arguments.now.write_into
-        file.entry.name.now (T.history tree.old) (T.history tree.new) result }
+        file.entry.name.now text.new.items (T.history tree.old) (T.history tree.new) result }
     ensures keeps { is_ok result ≡ true → KeepsAs job.now.arguments.now.plan
         job.now.arguments.now.write_into file.entry.name.now (T.history tree.old)
         (T.history tree.new) result text.new.items

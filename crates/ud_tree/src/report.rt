@@ -19,6 +19,8 @@ ghost use Rattle.ud_io.specs.Streams.{Sends, stream_of};
 ghost use Rattle.ud_tree.specs.Summaries.{line_of};
 ghost use Rattle.ud_tree.specs.WalkMessages.{IsRefusal};
 
+mod unnamed;
+
 use crate::arguments::{ArgumentFault, Arguments};
 use crate::job::Job;
 use crate::paths::{FRESH, escaped, folder, fresh_end};
@@ -31,7 +33,7 @@ use ud_cond::Rules;
 use ud_faults::RunFault;
 use ud_io::{Watched, send, send_parts};
 use ud_model::Settings;
-use ud_passes::{Listing, Remaining, flatten};
+use ud_passes::{Listing, Remaining};
 use ud_replace::Lookup;
 use unifdef::report_result;
 
@@ -132,11 +134,14 @@ pub(crate) struct Report<E: Write> {
     faulty: usize,
     /// The mentions of symbols that outputs still have.
     remaining: Remaining,
+    /// The names that no condition has so far.
+    unnamed: Vec<Vec<u8>>,
     /// True if memory ran out for some of these, or for a diff.
     has_lost: bool,
 }
 
 impl<E: Write> Model for Report<E> {
+    ghost use Rattle.std.specs.Prelude.{map};
     ghost use Rattle.ud_io.specs.Streams.{stream_of};
     ghost use Rattle.ud_tree.specs.Reports.{ReportState};
 
@@ -148,6 +153,7 @@ impl<E: Write> Model for Report<E> {
       is_shown = r.is_shown;
       faulty = r.faulty;
       remaining = r.remaining;
+      unnamed = map (λ n. n.items) r.unnamed.items;
       has_lost = r.has_lost;
     } };
 }
@@ -165,6 +171,7 @@ impl<E: Write> Report<E> {
             is_shown: false,
             faulty: 0,
             remaining: Remaining::new(job.alloc, listing_of(job.arguments)),
+            unnamed: Vec::new(job.alloc),
             has_lost: false,
         }
     }
@@ -228,30 +235,26 @@ impl<E: Write> Report<E> {
         }
     }
 
-    /// Adds what a file's output still says of a symbol. A directive that the run folds is searched
-    /// as one line.
+    /// Adds what a file's output still says of a symbol.
     ///
     /// # Errors
     /// Fails if memory runs out. Nothing is then added.
     fn add(&mut self, job: &Job<'_>, name: &[u8], output: &[u8]) -> Result<(), AllocError>
         ensures screen { KeepsScreen self.old self.new }
         ensures lost { self.new.has_lost ≡ self.old.has_lost }
+        ensures unnamed { self.new.unnamed ≡ self.old.unnamed }
         ensures added { OnOk result (AddsMentions job.now.arguments.now name.now output.now
             self.old.remaining self.new.remaining) }
     {
         let symbols = job.arguments.plan.run.symbols();
-        if !job.folds() {
-            return self.remaining.add(name, output, job.mode(), symbols);
-        }
-        let lines = flatten(job.alloc, output)?;
-        self.remaining
-            .add(name, lines.as_slice(), job.mode(), symbols)
+        self.remaining.add(name, output, job.mode(), symbols)
     }
 
     /// Records that memory ran out for something to be printed.
     pub(crate) fn lose(&mut self)
         ensures screen { KeepsScreen self.old self.new }
         ensures remaining { self.new.remaining ≡ self.old.remaining }
+        ensures unnamed { self.new.unnamed ≡ self.old.unnamed }
         ensures lost { self.new.has_lost ≡ true }
     {
         self.has_lost = true;
@@ -411,7 +414,7 @@ pub fn report_bad_argument<E: Write>(alloc: Global, err: &mut Watched<E>, argume
 
 /// The usage of the program.
 pub(crate) const USAGE: &[u8] =
-    b"usage: unifdef-tree [-dnpqrw0] [-g pattern]... [-bcKklt] [-Dsym[=val]]... [-Usym]...\n                    [-iDsym[=val]]... [-iUsym]... [-xmode] [--] path...\n       unifdef-tree -s [-qr0] [-g pattern]... [-t] [--] path...\n       unifdef-tree -h | -V\n";
+    b"usage: unifdef-tree [-Bdnpqrw0] [-g [!|+]pattern]... [-bcKklt] [-Dsym[=val]]... [-Usym]...\n                    [-iDsym[=val]]... [-iUsym]... [-xmode] [--] path...\n       unifdef-tree -s [-qr0] [-g [!|+]pattern]... [-t] [--] path...\n       unifdef-tree -h | -V\n";
 
 /// Writes the message of a fault of the arguments.
 pub fn report_argument_fault<E: Write>(alloc: Global, err: &mut Watched<E>, fault: &ArgumentFault)
@@ -456,12 +459,8 @@ pub fn report_argument_fault<E: Write>(alloc: Global, err: &mut Watched<E>, faul
             err,
             &[b"-p and -t don't go together: plain text has no comments"],
         ),
-        ArgumentFault::SlashInPattern => {
-            report_line(
-                alloc,
-                err,
-                &[b"A pattern of -g has no slash: it matches names"],
-            );
+        ArgumentFault::SqueezingBeside(letter) => {
+            report_letter(alloc, err, b"-B and -", *letter, b" don't go together");
         }
         ArgumentFault::OptionAfterPath(word) => {
             report_line(alloc, err, &[b"Option after a path: ", word.as_bytes()]);
@@ -469,6 +468,14 @@ pub fn report_argument_fault<E: Write>(alloc: Global, err: &mut Watched<E>, faul
         ArgumentFault::PathsAndInput => report_line(alloc, err, &[b"-0 takes no paths"]),
         ArgumentFault::NoPath => {
             report_line(alloc, err, &[b"No path"]);
+            send_parts(err, &[USAGE]);
+        }
+        ArgumentFault::NoSymbol => {
+            report_line(
+                alloc,
+                err,
+                &[b"No symbol; -k decides constants alone, -s lists names"],
+            );
             send_parts(err, &[USAGE]);
         }
         ArgumentFault::OutOfMemory => report_line(alloc, err, &[b"Out of memory"]),
@@ -490,7 +497,6 @@ fn in_its_place(letter: char) -> &'static [u8]
     ensures { result.now ≡ in_its_place letter }
 {
     match letter {
-        'B' => b": blank lines stay as they are",
         'e' => b": what can't be edited is left as it is, and named",
         'f' => b": each symbol is an option -D or -U",
         'I' => b": included files are not read",

@@ -88,6 +88,7 @@ fn process_all<T: Tree, W: Write, E: Write>(
         (moment T.history W.contents E.contents tree.new out.new result.0) result.1 }
 {
     let mut report = Report::new(job, err);
+    report.seek_names(job);
     let mut names = Names::new(job.alloc, job.arguments.list_hidden);
     let counts = process_files(job, tree, files, out, &mut names, &mut report);
     let list_fault = write_lists(job, out, &mut report, &names);

@@ -20,8 +20,8 @@ use ud_io::{Watched, send};
 use ud_replace::{FileStat, ReplaceError, Update};
 
 /// Writes the diff of a file, and adds the conditions of its output that still name a symbol to the
-/// report. Returns `Replaced` if the file would change. Leaves the edits of its text in `edits`,
-/// which has none before.
+/// report. Looks for names in the text, even if that has a fault. Returns `Replaced` if the file
+/// would change. Leaves the edits of its text in `edits`, which has none before.
 ///
 /// The only call reads the file, once.
 ///
@@ -44,7 +44,10 @@ pub(crate) fn show_file<T: Tree, W: Write, E: Write>(
     ensures screen { KeepsScreen report.old report.new }
 {
     let mut output = Watched::new(Vec::<u8>::new(job.alloc));
-    let ran = match run_file(job, tree, file, &mut output) {
+    let mut text = Vec::new(job.alloc);
+    let result = run_file(job, tree, file, &mut text, &mut output);
+    report.find_names(job, text.as_slice());
+    let ran = match result {
         Ok(ran) => ran,
         Err(error) => return Err(error),
     };
@@ -56,16 +59,12 @@ pub(crate) fn show_file<T: Tree, W: Write, E: Write>(
     if is_left_alone(&ran.stat, job.arguments.write_into) {
         return Err(ReplaceError::SeveralLinks);
     }
-    let Some(diff) = diff_of(job, name, ran.text.as_slice(), output.inner().as_slice()) else {
+    let Some(diff) = diff_of(job, name, text.as_slice(), output.inner().as_slice()) else {
         return Err(ReplaceError::OutOfMemory);
     };
     *edits = Edits {
         conditions: ran.run.edited,
-        lines: removed_by(
-            Update::Replaced,
-            ran.text.as_slice(),
-            output.inner().as_slice(),
-        ),
+        lines: removed_by(Update::Replaced, text.as_slice(), output.inner().as_slice()),
     };
     report.search(job, name, output.inner().as_slice());
     send(out, diff.as_slice());

@@ -4,10 +4,11 @@
 //! missing path of the command line is one.
 
 ghost use Rattle.std.specs.Prelude.{◌≡◌, ◌⊎◌, ◌<◌, ◌++◌, ◌∷◌, [], IfOk, OnOk, Bool, map};
-ghost use Rattle.std.specs.Prelude.{true, false};
+ghost use Rattle.std.specs.Prelude.{true, false, string_bytes, option_to_list, IfNone};
 ghost use Rattle.ud_replace.specs.Calls.{walked, listed};
 ghost use Rattle.std.specs.List.{All, AllPairs, Contains};
 ghost use Rattle.ud_tree.specs.Catching.{Catches, Grows, IsTaken};
+ghost use Rattle.ud_tree.specs.Choices.{IsSkipped};
 ghost use Rattle.ud_tree.specs.Covering.{IsIn};
 ghost use Rattle.ud_tree.specs.CoverParts.{AddsFolder, Enters, Exhausts, Starts, TakesOne};
 ghost use Rattle.ud_tree.specs.CoverParts.{VisitsOne, Waits, waiting};
@@ -15,8 +16,8 @@ ghost use Rattle.ud_tree.specs.WalkMessages.{GoesOn, ReportsNames, TellsGiven, V
 ghost use Rattle.ud_tree.specs.Walks.{Adds, AddsNode, ArePicked, Finds, IsBefore, IsFileList};
 ghost use Rattle.ud_tree.specs.Walks.{IsKept};
 
-use crate::paths::{escaped, folder_path, last_name};
-use crate::patterns::{chooses, is_left_out};
+use crate::paths::{below, escaped, folder_path};
+use crate::patterns::{chooses, is_versioned, leaves_folder};
 use crate::report::Report;
 use crate::tree::Tree;
 use std::alloc::{AllocError, Global};
@@ -53,6 +54,10 @@ pub(crate) struct Walk<'w> {
     found: Vec<Found>,
     /// The paths of folders, each ending in a slash.
     folders: Vec<String>,
+    /// The number of the folders of the command line among them, which come first.
+    starts: usize,
+    /// The length of the path of such a folder, below which the walk is.
+    root: usize,
 }
 
 impl<'w> Walk<'w> {
@@ -67,6 +72,8 @@ impl<'w> Walk<'w> {
             patterns,
             found: Vec::new(alloc),
             folders: Vec::new(alloc),
+            starts: 0,
+            root: 0,
         }
     }
 
@@ -83,7 +90,8 @@ impl<'w> Walk<'w> {
     ) -> Result<(), AllocError>
         ensures goes_on { GoesOn (T.history tree.old) (T.history tree.new) self.old self.new
             report.old report.new }
-        ensures starts { OnOk result (Starts path.now (T.history tree.old) (T.history tree.new)
+        ensures starts { OnOk result (Starts (map string_bytes self.old.patterns.now)
+            path.now (T.history tree.old) (T.history tree.new)
             (waiting self.old) (waiting self.new) self.new.found.items report.old report.new) }
         ensures catches { OnOk result
             (Catches (T.history tree.old) (T.history tree.new) self.old self.new) }
@@ -188,7 +196,7 @@ impl<'w> Walk<'w> {
         ensures grows { OnOk result (Grows self.old self.new) }
         ensures taken { OnOk result (IsTaken self.new path.now id) }
     {
-        if chooses(self.patterns, last_name(path.as_bytes())) {
+        if chooses(self.patterns, below(path.as_bytes(), self.root)) {
             self.push_file(path, id)
         } else {
             Ok(())
@@ -220,8 +228,9 @@ impl<'w> Walk<'w> {
             self.new.found.items }
         ensures told { VisitTells (folder.now ++ name.now) (T.history tree.old) (T.history tree.new)
             report.old report.new }
-        ensures visits { OnOk result (VisitsOne folder.now name.now (T.history tree.old)
-            (T.history tree.new) (waiting self.old) (waiting self.new) report.old report.new) }
+        ensures visits { OnOk result (VisitsOne (map string_bytes self.old.patterns.now)
+            folder.now name.now (T.history tree.old) (T.history tree.new)
+            (waiting self.old) (waiting self.new) report.old report.new) }
         ensures catches { OnOk result
             (Catches (T.history tree.old) (T.history tree.new) self.old self.new) }
     {
@@ -243,10 +252,22 @@ impl<'w> Walk<'w> {
         }
     }
 
+    /// Returns whether to leave out a folder, with all below.
+    fn skips(&self, path: &str, name: &[u8]) -> bool
+        ensures { result ≡ true →
+            IsSkipped (map string_bytes self.now.patterns.now) path.now name.now }
+    {
+        if is_versioned(name) {
+            return true;
+        }
+        leaves_folder(self.patterns, below(path.as_bytes(), self.root))
+    }
+
     /// Adds a file or a folder. Others are left out.
     fn add_node(&mut self, path: &str, name: &[u8], node: Node) -> Result<(), AllocError>
         ensures adds { AddsNode self.old.found.items path.now node self.new.found.items }
-        ensures waits { OnOk result (AddsFolder path.now name.now node (waiting self.old)
+        ensures waits { OnOk result (AddsFolder (map string_bytes self.old.patterns.now)
+            path.now name.now node (waiting self.old)
             (waiting self.new)) }
         ensures grows { OnOk result (Grows self.old self.new) }
         ensures taken { OnOk result (node.kind ≡ NodeKind.File →
@@ -254,7 +275,7 @@ impl<'w> Walk<'w> {
     {
         match node.kind {
             NodeKind::File => self.add_file(path, node.id),
-            NodeKind::Folder if !is_left_out(name) => self.add_folder(path),
+            NodeKind::Folder if !self.skips(path, name) => self.add_folder(path),
             NodeKind::Folder | NodeKind::Link | NodeKind::Other => Ok(()),
         }
     }
@@ -268,7 +289,8 @@ impl<'w> Walk<'w> {
     ) -> Result<(), AllocError>
         ensures goes_on { GoesOn (T.history tree.old) (T.history tree.new) self.old self.new
             report.old report.new }
-        ensures enters { OnOk result (Enters folder.now (T.history tree.old) (T.history tree.new)
+        ensures enters { OnOk result (Enters (map string_bytes self.old.patterns.now)
+            folder.now (T.history tree.old) (T.history tree.new)
             (waiting self.old) (waiting self.new) report.old report.new) }
         ensures catches { OnOk result
             (Catches (T.history tree.old) (T.history tree.new) self.old self.new) }
@@ -303,6 +325,23 @@ impl<'w> Walk<'w> {
         names
     }
 
+    /// Takes the last folder that waits. If the command line names it, the walk goes on below it:
+    /// the folders below it come after it.
+    fn next_folder(&mut self) -> Option<String>
+        ensures items { self.old.folders.items ≡ self.new.folders.items ++ option_to_list result }
+        ensures none { IfNone result
+            ((self.old.folders.items ≡ []) × (self.new.folders.items ≡ [])) }
+        ensures patterns { self.new.patterns.now ≡ self.old.patterns.now }
+        ensures found { self.new.found.items ≡ self.old.found.items }
+    {
+        let folder = self.folders.pop()?;
+        if self.folders.len() < self.starts {
+            self.starts = self.folders.len();
+            self.root = folder.len();
+        }
+        Some(folder)
+    }
+
     /// Lists all folders, and the folders in them.
     ///
     /// # Errors
@@ -314,13 +353,15 @@ impl<'w> Walk<'w> {
     ) -> Result<(), AllocError>
         ensures goes_on { GoesOn (T.history tree.old) (T.history tree.new) self.old self.new
             report.old report.new }
-        ensures exhausts { OnOk result (Exhausts (T.history tree.old) (T.history tree.new)
+        ensures exhausts { OnOk result (Exhausts (map string_bytes self.old.patterns.now)
+            (T.history tree.old) (T.history tree.new)
             (waiting self.old) (waiting self.new) report.old report.new) }
         ensures catches { OnOk result
             (Catches (T.history tree.old) (T.history tree.new) self.old self.new) }
     {
+        self.starts = self.folders.len();
         'folders: for _entered in 0..u64::MAX {
-            let Some(folder) = self.folders.pop() else {
+            let Some(folder) = self.next_folder() else {
                 break;
             };
             self.enter(tree, report, folder.as_str())?;

@@ -39,13 +39,13 @@ alike_role r s EndifLine d e h k = an_endif k
 alike_by : (o : Options) (r s : Reading) (c : Content) → IsSame r s → ItemAlike (item_by o r c) (item_by o s c)
 alike_by o r s c h = grind (arith, a_text, alike_role)
 
-alike_item : (o : Options) (r s : Reading) → IsSame r s → ItemAlike (item_of o r) (item_of o s)
+pub alike_item : (o : Options) (r s : Reading) → IsSame r s → ItemAlike (item_of o r) (item_of o s)
 alike_item o r s k = grind (arith, alike_by)
 
 text_is : (d : Reading) → IsInserted d → content_of d.scan ≡ text_content
 text_is d h = grind arith
 
-put_item : (o : Options) (d : Reading) → IsInserted d → item_of o d ≡ text_line d
+pub put_item : (o : Options) (d : Reading) → IsInserted d → item_of o d ≡ text_line d
 put_item o d k = ap (λ (c : Content). item_by o d c) (text_is d k)
 
 put_one : (o : Options) (d : Reading) → IsInserted d → Inserted [] (item_of o d ∷ [])

@@ -4,7 +4,7 @@ use Rattle.std.specs.Prelude.{None}
 use Rattle.std.specs.List.{flat_map}
 use Rattle.ud_model.specs.text.Lines.{Line, NoNewline, text_of}
 use Rattle.ud_model.specs.text.Splicing.{is_empty, is_spliced}
-use Rattle.ud_model.specs.text.Scans.{Reading}
+use Rattle.ud_model.specs.text.Scans.{Scan, Reading}
 use Rattle.ud_model.specs.text.Scanning.{scan_after_run}
 use Rattle.ud_model.specs.aids.LineViews.{as_line, as_scan}
 use Rattle.ud_model.specs.declared.line.Line.{Line as CodeLine}
@@ -27,6 +27,10 @@ plain_lines rs = flat_map (λ (r : Reading). text_of r.line) rs
 abbrev pub is_line_shown : Line → List ℕ → Bool
 is_line_shown k bytes = not (is_empty k.ending) && fits k && keeps_ending k &&
     is_shown_as (scan_after_run [] k) bytes
+
+-- `begins scan`: a line with this scan begins a logical line of several lines, with a directive.
+abbrev pub begins : Scan → Bool
+begins scan = not scan.joins_before && scan.joins_after && is_directive (content_of scan)
 
 -- `c_reading line scan n`: the line, with its scan and the number `n`, as one of C.
 abbrev pub c_reading : CodeLine → CodeScan → ℕ → Reading

@@ -1,4 +1,4 @@
--- ListedNames: whether a text has the name of a symbol of the options.
+-- ListedNames: whether a text has a word, and the name of a symbol of the options.
 -- C11 6.4.2.1.
 --
 -- A word is a longest run of word bytes. So neither `VMS2` nor `0VMS` is the word `VMS`.
@@ -12,14 +12,18 @@ use Rattle.ud_passes.specs.remaining.Mentions.{Mention}
 use Rattle.ud_passes.specs.declared.remaining.mentions.Class.{Class}
 use Rattle.ud_passes.specs.declared.remaining.mentions.Class.TheVariants.{Definition}
 
+-- `has_word test in_word t`: a word of `t` passes the test. `in_word`: a word byte comes before
+-- `t`, so that no word begins there.
+abbrev pub has_word : (List ℕ → Bool) → Bool → List ℕ → Bool
+has_word test in_word [] = false
+has_word test true (b ∷ bs) = has_word test (is_word_byte b) bs
+has_word test false (b ∷ bs) =
+    (is_word_byte b && test (leading_word (b ∷ bs))) || has_word test (is_word_byte b) bs
+
 module _ (table : List Argument) where
-  -- `has_listed in_word t`: a word of `t` is a name that the table lists. `in_word`: a word byte
-  -- comes before `t`, so that no word begins there.
+  -- `has_listed in_word t`: a word of `t` is a name that the table lists. `in_word`: as above.
   abbrev pub has_listed : Bool → List ℕ → Bool
-  has_listed in_word [] = false
-  has_listed true (b ∷ bs) = has_listed (is_word_byte b) bs
-  has_listed false (b ∷ bs) = (is_word_byte b && is_listed table (leading_word (b ∷ bs))) ||
-      has_listed (is_word_byte b) bs
+  has_listed in_word t = has_word (is_listed table) in_word t
 
   -- `names_by class after`: a mention of this class, with the text `after`, has such a name. Every
   -- definition does.

@@ -4,19 +4,20 @@
 --   Mention                          a condition, a definition of a listed symbol, or an `#else` or
 --                                    `#endif`, and what follows its keyword
 --   mention_on table r               the mention that begins on the line `r`, if any
---   joined_text goes_on rs           the masked text of the first of the lines `rs`, as far as each
---                                    one joins the next
+--   joined_text class goes_on rs     the text of the first of the lines `rs`, as far as each one
+--                                    joins the next
 --   mentions_in table inside rs      the mentions of the lines `rs`
 --   mentions_of table mode bytes     the mentions of a text
 --
 -- In a condition a comment is shown as spaces. After an `#else` or `#endif` it is shown as it is,
--- up to the end of the line. A mention whose comment never closes ends with the text. A line over
--- the limit has no mention, adds nothing to one, and joins no other line.
+-- with a space between its lines. A mention whose comment never closes ends with the text. A line
+-- over the limit has no mention, adds nothing to one, and joins no other line.
 --
 -- Example: `#if A \` and `|| B /* c */` are one condition with the text ` A || B        `, and the
 -- number and body of its first line.
 use Rattle.std.specs.Prelude.{ℕ, ◌-◌, List, [], ◌∷◌, ◌++◌, length, drop, Bool, true, false, ◌&&◌}
 use Rattle.std.specs.Prelude.{Option, Some, None, if◌then◌else◌}
+use Rattle.ud_model.specs.text.Bytes.{space}
 use Rattle.ud_model.specs.text.Scans.{Reading, is_spanning}
 use Rattle.ud_model.specs.sections.Directives.{Directive, Content, cut_keyword, directive, text}
 use Rattle.ud_model.specs.sections.Directives.{content_of}
@@ -58,16 +59,21 @@ shown_after r d class = d.after
 abbrev pub joins_next : Reading → Bool
 joins_next r = fits r.line && r.scan.joins_after
 
--- `masked_of r`: the masked line `r`, or nothing if the line doesn't fit.
-abbrev pub masked_of : Reading → List ℕ
-masked_of r = if fits r.line then r.scan.masked else []
+-- `shown_line class r`: what a mention of this class shows of the line `r`, which continues it.
+abbrev pub shown_line : Class → Reading → List ℕ
+shown_line Closing r = space ∷ r.line.body
+shown_line class r = r.scan.masked
 
--- `joined_text goes_on rs`: the masked text of the lines that the line before `rs` joins, if it
--- goes on.
-abbrev pub joined_text : Bool → List Reading → List ℕ
-joined_text false rs = []
-joined_text true [] = []
-joined_text true (r ∷ rs) = masked_of r ++ joined_text (joins_next r) rs
+-- `shown_of class r`: the same, or nothing if the line doesn't fit.
+abbrev pub shown_of : Class → Reading → List ℕ
+shown_of class r = if fits r.line then shown_line class r else []
+
+-- `joined_text class goes_on rs`: what such a mention shows of the lines that the line before `rs`
+-- joins, if it goes on.
+abbrev pub joined_text : Class → Bool → List Reading → List ℕ
+joined_text class false rs = []
+joined_text class true [] = []
+joined_text class true (r ∷ rs) = shown_of class r ++ joined_text class (joins_next r) rs
 
 -- `mention_at r class after`: the mention of this class on the line `r`, with the text `after`.
 abbrev pub mention_at : Reading → Class → List ℕ → Mention
@@ -83,11 +89,12 @@ mention_at r class after = record {
 abbrev pub with_text : Mention → List ℕ → Mention
 with_text m more = record m { after = m.after ++ more }
 
--- `begun found more inside others`: the mention `found` with the text `more`, then the mentions
--- `inside`; or the mentions `others` if none was found.
-abbrev pub begun : Option Mention → List ℕ → List Mention → List Mention → List Mention
-begun None more inside others = others
-begun (Some m) more inside others = with_text m more ∷ inside
+-- `begun found goes_on rs inside others`: the mention `found` with the text of the lines `rs` that
+-- continue it, then the mentions `inside`; or the mentions `others` if none was found.
+abbrev pub begun : Option Mention → Bool → List Reading → List Mention → List Mention →
+    List Mention
+begun None goes_on rs inside others = others
+begun (Some m) goes_on rs inside others = with_text m (joined_text m.class goes_on rs) ∷ inside
 
 module _ (table : List Argument) where
   -- `mention_by r content`: the mention on the line `r` with this content, up to its end.
@@ -107,7 +114,7 @@ module _ (table : List Argument) where
   mentions_in inside [] = []
   mentions_in true (r ∷ rs) = mentions_in (joins_next r) rs
   mentions_in false (r ∷ rs) =
-      begun (mention_on r) (joined_text (joins_next r) rs) (mentions_in (joins_next r) rs)
+      begun (mention_on r) (joins_next r) rs (mentions_in (joins_next r) rs)
       (mentions_in false rs)
 
   -- `mentions_of mode bytes`: the mentions of a text whose lines are read in this mode.

@@ -11,7 +11,7 @@
 --
 -- Example: with A undefined, `#if F(A)` stays for its arguments, `#if A + X` because an operand is
 -- unknown, and `#if!A||X` because its rest would be `#ifX`.
-use Rattle.std.specs.Prelude.{ℕ, List, [], ◌++◌, length, Bool, not, ◌||◌, leb, Option, Some, None}
+use Rattle.std.specs.Prelude.{ℕ, List, [], ◌++◌, length, Bool, not, leb, Option, Some, None}
 use Rattle.std.specs.Prelude.{codes, if◌then◌else◌}
 use Rattle.std.specs.List.{list_any}
 use Rattle.ud_model.specs.conditions.Table.{Argument}
@@ -39,9 +39,12 @@ use Rattle.ud_passes.specs.declared.remaining.reasons.Reason.TheVariants.{InArgu
 use Rattle.ud_passes.specs.declared.remaining.reasons.Reason.TheVariants.{UnknownOperand}
 use Rattle.ud_passes.specs.declared.remaining.reasons.Reason.TheVariants.{SourceDefines, InComment}
 
--- `is_split m`: the condition is on several lines, or longer than a line may be.
-abbrev pub is_split : Mention → Bool
-is_split m = m.spanning || not (leb (length m.after) LINE_BYTES)
+-- `over_lines reason`: the reason of a condition on several lines. If it would be decided on one,
+-- or lose operands, it stays because it is on several.
+abbrev pub over_lines : Reason → Reason
+over_lines Decided = SeveralLines
+over_lines Misread = SeveralLines
+over_lines reason = reason
 
 module _ (table : List Argument) (rules : Rules) where
   -- `can_shrink e`: the residual of the tree `e` lacks some of its tokens.
@@ -64,14 +67,19 @@ module _ (table : List Argument) (rules : Rules) where
   why_unknown Undefined after = NotUnderstood
   why_unknown Nothing after = NotUnderstood
 
-  -- `why_stays kind m`: why the condition `m` of a directive of this kind stays, if one of its
-  -- words is listed.
+  -- `why_read kind after`: why the condition of a directive of this kind stays, if it is on one
+  -- line and one of its words is listed.
+  abbrev pub why_read : Kind → List ℕ → Reason
+  why_read kind after =
+      if is_unknown (condition_of kind after table rules).cond then why_unknown (test_of kind) after
+      else Decided
+
+  -- `why_stays kind m`: why the condition `m` stays, on one line or several.
   abbrev pub why_stays : Kind → Mention → Reason
   why_stays kind m =
-      if is_split m then SeveralLines
-      else if is_unknown (condition_of kind m.after table rules).cond
-      then why_unknown (test_of kind) m.after
-      else Decided
+      if not (leb (length m.after) LINE_BYTES) then SeveralLines
+      else if m.spanning then over_lines (why_read kind m.after)
+      else why_read kind m.after
 
 -- `reason_by table class listing m`: the reason that the list gives for the mention `m` of this
 -- class.

@@ -2,19 +2,19 @@
 --
 -- Example: if the table lists A, the list of `x.c` with the lines `int x;`, `#if A + X` and `#endif
 -- // A` has the line `x.c:2: #if A + X`, or with reasons `x.c:2: an operand is unknown: #if A + X`.
--- Then comes `x.c:3: a comment names it: #endif // A`.
+-- Then comes `x.c:3: a comment names it: #endif // A`. Its list of texts has the line ` A + X`.
 use Rattle.std.specs.Prelude.{◌≡◌, ℕ, ◌+◌, ◌<◌, ◌^◌, List, [], ◌∷◌, ◌++◌, length, Bool, true, false}
-use Rattle.std.specs.Prelude.{filter, ◌&&◌}
-use Rattle.std.specs.List.{flat_map}
+use Rattle.std.specs.Prelude.{filter, not, ◌&&◌, bytes_eq}
+use Rattle.std.specs.List.{flat_map, list_any}
 use Rattle.ud_model.specs.text.Bytes.{newline}
 use Rattle.ud_model.specs.conditions.Table.{Argument}
 use Rattle.ud_model.specs.declared.kind.Mode.{Mode}
 use Rattle.ud_passes.specs.Passes.{place_at}
 use Rattle.ud_passes.specs.remaining.Mentions.{Mention, mentions_of}
-use Rattle.ud_passes.specs.remaining.ListedNames.{names_listed}
+use Rattle.ud_passes.specs.remaining.ListedNames.{has_word, names_listed}
 use Rattle.ud_passes.specs.remaining.Reasons.{reason_of, reason_text}
 use Rattle.ud_passes.specs.declared.remaining.listing.Listing.{Listing}
-use Rattle.ud_passes.specs.declared.remaining.listing.Listing.TheVariants.{Counted}
+use Rattle.ud_passes.specs.declared.remaining.listing.Listing.TheVariants.{Counted, Texts}
 use Rattle.ud_passes.specs.declared.remaining.mentions.Class.{Class}
 use Rattle.ud_passes.specs.declared.remaining.mentions.Class.TheVariants.{Condition, Definition}
 
@@ -28,10 +28,21 @@ abbrev pub is_defining : Class → Bool
 is_defining Definition = true
 is_defining class = false
 
+-- `text_line class after`: the line with the text `after` of a mention of this class, if that is a
+-- condition.
+abbrev pub text_line : Class → List ℕ → List ℕ
+text_line (Condition kind) after = after ++ newline ∷ []
+text_line class after = []
+
+-- `has_name name m`: the mention `m` is a condition, and `name` is one of its words.
+abbrev pub has_name : List ℕ → Mention → Bool
+has_name name m = is_condition m.class && has_word (bytes_eq name) false m.after
+
 module _ (table : List Argument) where
   -- `line_of listing name m`: the line for the mention `m` of the file `name`, if it is listed.
   abbrev pub line_of : Listing → List ℕ → Mention → List ℕ
   line_of Counted name m = []
+  line_of Texts name m = text_line m.class m.after
   line_of listing name m = place_at name m.number ++ reason_text (reason_of table listing m) ++
       m.body ++ newline ∷ []
 
@@ -50,6 +61,17 @@ module _ (table : List Argument) where
   -- `remaining_count mode bytes`: the number of conditions of the text that name a listed symbol.
   abbrev pub remaining_count : Mode → List ℕ → ℕ
   remaining_count mode bytes = named_count (mentions_of table mode bytes)
+
+  -- `is_named mode bytes name`: a condition of the text that names a listed symbol has the word
+  -- `name`.
+  abbrev pub is_named : Mode → List ℕ → List ℕ → Bool
+  is_named mode bytes name =
+      list_any (has_name name) (filter (names_listed table) (mentions_of table mode bytes))
+
+  -- `LeavesUnnamed mode bytes old new`: of the names `old`, those that no such condition has are
+  -- left.
+  abbrev pub LeavesUnnamed : Mode → List ℕ → List (List ℕ) → List (List ℕ) → Type 0
+  LeavesUnnamed mode bytes old new = new ≡ filter (λ n. not (is_named mode bytes n)) old
 
 -- `defining_count ms`: the number of mentions that are definitions.
 abbrev pub defining_count : List Mention → ℕ

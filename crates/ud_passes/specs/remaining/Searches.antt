@@ -28,8 +28,10 @@ use Rattle.ud_text.specs.scan.ScannerState.{ScannerState, ScannerRepresents}
 use Rattle.ud_passes.specs.Walks.{reading_at, Walked}
 use Rattle.ud_passes.specs.remaining.Definitions.{IsClear}
 use Rattle.ud_passes.specs.remaining.Mentions.{Mention, mention_by, mention_on, with_text}
-use Rattle.ud_passes.specs.remaining.Mentions.{masked_of, joins_next, joined_text, mentions_in}
+use Rattle.ud_passes.specs.remaining.Mentions.{shown_line, shown_of, joins_next, joined_text}
+use Rattle.ud_passes.specs.remaining.Mentions.{mentions_in}
 use Rattle.ud_passes.specs.remaining.RemainingLists.{lines_for, named_count, defining_count}
+use Rattle.ud_passes.specs.remaining.RemainingLists.{remaining_count, defined_count}
 use Rattle.ud_passes.specs.declared.remaining.mentions.Begun.{Begun}
 use Rattle.ud_passes.specs.declared.remaining.search.Place.{Place}
 use Rattle.ud_passes.specs.declared.remaining.search.Search.{Search}
@@ -61,19 +63,19 @@ module _ (table : List Argument) where
   -- begins there.
   abbrev pub extended : Option Mention → Reading → Option Mention
   extended None r = mention_by table r (content_of r.scan)
-  extended (Some m) r = Some (with_text m r.scan.masked)
+  extended (Some m) r = Some (with_text m (shown_line m.class r))
 
   -- `taken p r`: the same for a line that may be too long.
   abbrev pub taken : Option Mention → Reading → Option Mention
   taken None r = mention_on table r
-  taken (Some m) r = Some (with_text m (masked_of r))
+  taken (Some m) r = Some (with_text m (shown_of m.class r))
 
   -- `rest_from p goes_on rs`: the mention `p`, with the text of the lines among `rs` that continue
   -- it if it goes on, and the other mentions of `rs`.
   abbrev pub rest_from : Option Mention → Bool → List Reading → List Mention
   rest_from None goes_on rs = mentions_in table false rs
   rest_from (Some m) goes_on rs =
-      with_text m (joined_text goes_on rs) ∷ mentions_in table goes_on rs
+      with_text m (joined_text m.class goes_on rs) ∷ mentions_in table goes_on rs
 
   -- `IsTaken p r q goes_on`: the line `r` was taken after the mention `p`, which is then `q`.
   -- `goes_on`: the line joins the next one.
@@ -109,6 +111,14 @@ pub record Appends (table : List Argument) (name : List ℕ) (ms : List Mention)
   pub defined_is : old.defined + defining_count ms < 2 ^ 64 →
       new.defined ≡ old.defined + defining_count ms
   pub listing_is : new.listing ≡ old.listing
+
+-- `Counts table mode bytes s`: the search has the numbers of conditions and definitions of a text,
+-- unless they are over the limit.
+pub record Counts (table : List Argument) (mode : Mode) (bytes : List ℕ) (s : Search) : Type 0 where
+  pub count_is : remaining_count table mode bytes < 2 ^ 64 →
+      s.count ≡ remaining_count table mode bytes
+  pub defined_is : defined_count table mode bytes < 2 ^ 64 →
+      s.defined ≡ defined_count table mode bytes
 
 -- `EndsLine table name b goes_on old new c`: a line with the mention `b` was taken. If it goes on,
 -- `c` is this mention. Else the mention was appended, and `c` is none.

@@ -1,6 +1,6 @@
 //! A logical line that begins with a directive, built line by line.
 
-ghost use Rattle.std.specs.Prelude.{◌≡◌, ◌∷◌, ◌++◌, ℕ, List, [], true, false, not, ◌&&◌, IfOk};
+ghost use Rattle.std.specs.Prelude.{◌≡◌, ◌∷◌, ◌++◌, ℕ, List, [], true, false, IfOk};
 ghost use Rattle.std.specs.Prelude.{OnOk, Some};
 ghost use Rattle.ud_model.specs.text.Lines.{NoNewline, text_of};
 ghost use Rattle.ud_model.specs.text.Scans.{Reading};
@@ -9,9 +9,9 @@ ghost use Rattle.ud_model.specs.sections.Directives.{content_of};
 ghost use Rattle.ud_simplified.specs.FoldedTexts as spec;
 ghost use Rattle.ud_simplified.specs.FoldedTexts.{folded_bytes};
 ghost use Rattle.ud_passes.specs.Passes.{AppendsSome};
-ghost use Rattle.ud_passes.specs.folding.LogicalLines.{plain_lines, c_reading, HasItsSplice};
+ghost use Rattle.ud_passes.specs.folding.LogicalLines.{begins, plain_lines, c_reading, IsGroup};
 ghost use Rattle.ud_passes.specs.folding.LogicalLines.{BeginsLine, AddsLine, IsLast, IsLogical};
-ghost use Rattle.ud_passes.specs.folding.LogicalLines.{IsGroup};
+ghost use Rattle.ud_passes.specs.folding.LogicalLines.{HasItsSplice};
 ghost use Rattle.ud_passes.specs.folding.Folding.{rest_from, FoldsReading, FoldsLine};
 
 use crate::folding::shown::{VERTICAL_TAB, is_directive, is_line_shown};
@@ -40,9 +40,8 @@ pub(crate) struct LogicalLine {
 }
 
 /// Returns whether a line begins a logical line of several lines, with a directive.
-fn begins(scan: &Scan<'_>) -> bool
-    ensures { result ≡ (not scan.now.joins_before && scan.now.joins_after &&
-        spec.is_directive (content_of (as_scan scan.now))) }
+pub(crate) fn begins(scan: &Scan<'_>) -> bool
+    ensures { result ≡ begins (as_scan scan.now) }
 {
     !scan.joins_before && scan.joins_after && is_directive(scan)
 }

@@ -9,6 +9,8 @@ pub enum Listing {
     Counted,
     /// These numbers, and a line for each mention.
     Listed,
+    /// These numbers, and the text of each condition in place of its line.
+    Texts,
     /// These numbers and lines, with the reason why each condition stays under these rules.
     Explained(Rules),
 }

@@ -1,13 +1,13 @@
 //! The lines that may name a symbol: conditions, definitions, and the ends of groups.
 
-ghost use Rattle.std.specs.Prelude.{◌≡◌, ℕ, List, IfOk, None};
+ghost use Rattle.std.specs.Prelude.{◌≡◌, ℕ, List, ◌++◌, IfOk, OnOk, None};
 ghost use Rattle.ud_model.specs.aids.LineViews.{as_line, as_scan};
 ghost use Rattle.ud_model.specs.conditions.Table.{Argument};
 ghost use Rattle.ud_model.specs.declared.kind.Mode.{Mode};
 ghost use Rattle.ud_cond.specs.symbols.SymbolTable.{TableRepresents};
 ghost use Rattle.ud_sections.specs.directives.ParsedDirectives.{as_directive};
 ghost use Rattle.ud_passes.specs.remaining.Definitions.{is_definition};
-ghost use Rattle.ud_passes.specs.remaining.Mentions.{class_of, shown_after, mention_at};
+ghost use Rattle.ud_passes.specs.remaining.Mentions.{class_of, shown_after, shown_line, mention_at};
 ghost use Rattle.ud_passes.specs.Walks.{reading_at};
 ghost use Rattle.ud_passes.specs.remaining.Searches.{as_mention, begun_as, ExtendsMention};
 
@@ -123,6 +123,26 @@ fn begin<'t>(
     }
 }
 
+/// Appends what a mention of this class shows of a line that continues it.
+///
+/// # Errors
+/// Fails if memory runs out.
+fn append_shown(
+    class: Class,
+    scan: &Scan<'_>,
+    line: &Line<'_>,
+    after: &mut Vec<u8>,
+) -> Result<(), AllocError>
+    ensures { OnOk result ((mode : Mode) (n : ℕ) → after.new.items ≡ after.old.items ++
+        shown_line class (reading_at mode (as_line line.now) (as_scan scan.now) n)) }
+{
+    if let Class::Closing = class {
+        after.push(b' ')?;
+        return after.extend_from_slice(line.body);
+    }
+    after.extend_from_slice(scan.masked)
+}
+
 /// Takes a line that fits: as part of the mention that has begun, or else as a line that may begin
 /// one. `after` is the mention's text.
 ///
@@ -140,9 +160,9 @@ pub(crate) fn take_line<'t>(
         ExtendsMention calls line.now scan.now number (begun_as begun.entry after.old.items)
         (begun_as now after.new.items)) }
 {
-    if begun.is_some() {
-        after.extend_from_slice(scan.masked)?;
-        return Ok(begun);
+    if let Some(mention) = begun {
+        append_shown(mention.class, scan, line, after)?;
+        return Ok(Some(mention));
     }
     begin(scan, line, number, symbols, after)
 }

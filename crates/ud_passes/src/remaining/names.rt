@@ -1,13 +1,13 @@
 //! The names in a text that symbols have.
 
-ghost use Rattle.std.specs.Prelude.{◌≡◌, ◌≤◌, List, ℕ, false, length};
+ghost use Rattle.std.specs.Prelude.{◌≡◌, ◌≤◌, List, ℕ, false, length, bytes_eq};
 ghost use Rattle.std.specs.List.{list_any};
 ghost use Rattle.ud_model.specs.conditions.Conditions.{is_listed};
 ghost use Rattle.ud_model.specs.conditions.Names.{names_of};
 ghost use Rattle.ud_model.specs.conditions.Table.{Argument};
 ghost use Rattle.ud_model.specs.declared.limits.TheConstants.{LINE_BYTES};
 ghost use Rattle.ud_cond.specs.symbols.SymbolTable.{TableRepresents};
-ghost use Rattle.ud_passes.specs.remaining.ListedNames.{has_listed};
+ghost use Rattle.ud_passes.specs.remaining.ListedNames.{has_listed, has_word};
 
 use ud_cond::{Symbols, names};
 use ud_model::Kind;
@@ -31,6 +31,25 @@ pub(crate) fn has_listed(symbols: &Symbols, text: &[u8]) -> bool
         if is_word_byte(*first) {
             let (word, after) = rest.split_at(word_len(rest));
             if is_listed(symbols, word) {
+                return true;
+            }
+            rest = after;
+        } else {
+            rest = others;
+        }
+    }
+    false
+}
+
+/// Returns whether a word of a text is this name.
+pub(crate) fn has_word(name: &[u8], text: &[u8]) -> bool
+    ensures { result ≡ has_word (bytes_eq name.now) false text.now }
+{
+    let mut rest = text;
+    while let Some((first, others)) = rest.split_first() {
+        if is_word_byte(*first) {
+            let (word, after) = rest.split_at(word_len(rest));
+            if name == word {
                 return true;
             }
             rest = after;

@@ -23,7 +23,7 @@ use ud_model::{Cond, Kind, LINE_BYTES, Test};
 /// what else names a symbol.
 #[derive(Clone, Copy)]
 pub(crate) enum Reason {
-    /// It is on several lines.
+    /// It is on several lines. On one, it would be decided or lose operands.
     SeveralLines,
     /// Read as C, the condition is decided, but unifdef didn't read it so.
     Decided,
@@ -109,19 +109,41 @@ fn why_unknown(kind: Kind, text: &[u8], symbols: &Symbols, rules: Rules) -> Reas
     }
 }
 
+/// Returns why a condition on one line stays.
+fn why_read(kind: Kind, text: &[u8], symbols: &Symbols, rules: Rules) -> Reason
+    requires fits { length text.now ≤ LINE_BYTES }
+    ensures { (calls : List Argument) → TableRepresents symbols.now calls →
+        result ≡ spec.why_read calls (as_rules rules) kind text.now }
+{
+    if is_unknown(kind, text, symbols, rules) {
+        return why_unknown(kind, text, symbols, rules);
+    }
+    Reason::Decided
+}
+
+/// Returns the reason for a condition on several lines, by the reason that it would have on one.
+fn over_lines(reason: Reason) -> Reason
+    ensures { result ≡ spec.over_lines reason }
+{
+    match reason {
+        Reason::Decided | Reason::Misread => Reason::SeveralLines,
+        _ => reason,
+    }
+}
+
 /// Returns why a condition that names a symbol stays.
 fn why_stays(kind: Kind, begun: &Begun<'_>, after: &[u8], symbols: &Symbols, rules: Rules) -> Reason
     ensures { (calls : List Argument) → TableRepresents symbols.now calls →
         result ≡ spec.why_stays calls (as_rules rules) kind (as_mention begun.now after.now) }
 {
-    if begun.is_spanning || after.len() > LINE_BYTES {
+    if after.len() > LINE_BYTES {
         return Reason::SeveralLines;
     }
-    if is_unknown(kind, after, symbols, rules) {
-        why_unknown(kind, after, symbols, rules)
-    } else {
-        Reason::Decided
+    let reason = why_read(kind, after, symbols, rules);
+    if begun.is_spanning {
+        return over_lines(reason);
     }
+    reason
 }
 
 /// Returns the reason that the list gives for a mention, if any.
@@ -139,7 +161,7 @@ pub(crate) fn reason_of(
         Class::Closing => Some(Reason::InComment),
         Class::Condition(kind) => match listing {
             Listing::Explained(rules) => Some(why_stays(kind, begun, after, symbols, rules)),
-            Listing::Counted | Listing::Listed => None,
+            Listing::Counted | Listing::Texts | Listing::Listed => None,
         },
     }
 }

@@ -18,7 +18,7 @@ ghost use Rattle.ud_passes.specs.remaining.Searches.{Appends, EndsLine, Searches
 ghost use Rattle.ud_passes.specs.remaining.Mentions.{mentions_of};
 
 use crate::remaining::definitions::clear_len;
-use crate::remaining::lines::append_reason;
+use crate::remaining::lines::{append_reason, append_text};
 use crate::remaining::listing::Listing;
 use crate::remaining::mentions::{Begun, Class, take_line};
 use crate::remaining::names::has_listed;
@@ -175,11 +175,15 @@ impl Search {
             line_of calls self.old.listing name.now
             (as_mention begun.entry self.old.after.items)) }
     {
-        if let Listing::Counted = self.listing {
-            return Ok(());
+        let after = self.after.as_slice();
+        match self.listing {
+            Listing::Counted => Ok(()),
+            Listing::Texts => append_text(&mut self.list, begun.class, after),
+            Listing::Listed | Listing::Explained(_) => {
+                let reason = reason_of(&begun, after, symbols, self.listing);
+                append_reason(&mut self.list, name, begun.number, reason, begun.body)
+            }
         }
-        let reason = reason_of(&begun, self.after.as_slice(), symbols, self.listing);
-        append_reason(&mut self.list, name, begun.number, reason, begun.body)
     }
 
     /// Ends a mention: counts it and appends its line if it names a symbol.

@@ -1,8 +1,7 @@
 //! Matches a name against a pattern.
 
 ghost use Rattle.std.specs.Prelude.{◌≡◌, ◌<◌, ◌≤◌, ◌∷◌, ◌↔◌, true, length};
-ghost use Rattle.std.specs.Prelude.{map, string_bytes};
-ghost use Rattle.ud_tree.specs.Patterns.{Matches, MatchesAny};
+ghost use Rattle.ud_tree.specs.Patterns.{Matches};
 ghost use Rattle.ud_tree.specs.PatternPlaces.{Reaches, IsShorter, StopsAt};
 
 use crate::patterns::parts::after_part;
@@ -25,18 +24,6 @@ pub(crate) fn matches(pattern: &[u8], name: &[u8]) -> bool
         Progress::Ended(whole) => whole,
         Progress::Star(after, rest) => matches_later(after, rest),
     }
-}
-
-/// Returns whether a name matches one of these patterns.
-pub(crate) fn matches_any(patterns: &[String], name: &[u8]) -> bool
-    ensures { (result ≡ true) ↔ MatchesAny name.now (map string_bytes patterns.now) }
-{
-    for pattern in patterns {
-        if matches(pattern.as_bytes(), name) {
-            return true;
-        }
-    }
-    false
 }
 
 /// Returns whether the pattern after a `*` matches some end of a name.

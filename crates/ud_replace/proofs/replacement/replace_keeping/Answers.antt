@@ -4,14 +4,14 @@ use Rattle.ud_replace.proofs.StepLemmas.{judges_from}
 use Rattle.ud_replace.proofs.replacement.replace_keeping.Goals as goal
 
 pub returns-in-None : goal.returns-in-None
-returns-in-None g c = record { calls = λ o p. unread _ c.in-None.ensures.noted; output = λ o p ok. absurd cc }
+returns-in-None g c = record { calls = λ o p. unread c.in-None.ensures.noted; output = λ o p ok. absurd cc }
 
 pub returns-then-not-is_of : goal.returns-then-not-is_of
-returns-then-not-is_of g c = record { calls = λ o p. other_file _ c.in-Some.stat (sym c.if-not-is_of.ensures) c.in-Some.ensures.noted; output = λ o p ok. absurd cc }
+returns-then-not-is_of g c = record { calls = λ o p. other_file c.in-Some.stat (sym c.if-not-is_of.ensures) c.in-Some.ensures.noted; output = λ o p ok. absurd cc }
 
 pub returns-else-not-is_of : goal.returns-else-not-is_of
 returns-else-not-is_of g c = record {
-  calls = λ o p. judged _ c.in-Some.stat (sym c.if-not-is_of.ensures) (judges_from c.in-Some.ensures.noted (rw c.as_slice-text.ensures.value at (c.replace_text.ensures.calls o p)));
+  calls = λ o p. judged c.in-Some.stat (sym c.if-not-is_of.ensures) (judges_from c.in-Some.ensures.noted (rw c.as_slice-text.ensures.value at (c.replace_text.ensures.calls o p)));
   output = λ o p ok.
       keeps c.in-Some.stat (sym c.if-not-is_of.ensures)
       (judges_from c.in-Some.ensures.noted (rw c.as_slice-text.ensures.value at (c.replace_text.ensures.calls o p)))

@@ -24,7 +24,7 @@ loop-path-preserved g c = (
   goes_then c.loop-path.invariant.0 c.start.ensures.goes_on refl,
   starts_at (λ p. string_bytes p) c.as_slice-path-items.result.now c.loop-path.path-index c.path-item.result
       c.as_str.result.now c.loop-path-test.true c.path-item.is c.as_str.ensures.value
-      c.in_ok-start.ensures.catches.grows.stay c.loop-path.invariant.1 c.in_ok-start.ensures.starts,
+      c.in_ok-start.ensures.catches.grows.stay c.loop-path.invariant.1 (rw c.loop-path.invariant.2.grows.same at c.in_ok-start.ensures.starts),
   catches_then c.loop-path.invariant.2 c.in_ok-start.ensures.catches,
 )
 
@@ -49,8 +49,8 @@ returns-clause-walks g c = record {
       paths_covered c.args.job.now.arguments.now c.if-job.false
       (covers_paths (λ p. string_bytes p) c.as_slice-path-items.result.now c.loop-path.path-index (omega arith)
       (λ some. omega (arith, some, c.faulty.ensures, c.if-faulty-gt0.false)) c.loop-path.invariant.1
-      c.in_ok-go.ensures.exhausts
-      c.in_ok-go.ensures.catches.grows.stay (catches_then c.loop-path.invariant.2 c.in_ok-go.ensures.catches) _ (ap (map string_bytes) c.requires))
+      (rw c.loop-path.invariant.2.grows.same at c.in_ok-go.ensures.exhausts)
+      c.in_ok-go.ensures.catches.grows.stay (catches_then c.loop-path.invariant.2 c.in_ok-go.ensures.catches) _ (ap (map string_bytes) c.requires) (ap (map string_bytes) c.requires))
       c.as_slice-path-items.ensures.value;
   stops = λ is. cc;
 }

@@ -1,6 +1,7 @@
-use Rattle.std.proofs.Common.{ap, ◌∙◌}
+use Rattle.std.proofs.Common.{ℕ, List, ap, ◌∙◌}
+use Rattle.std.specs.List.{flat_map}
 use Rattle.ud_passes.specs.remaining.RemainingLists.{RemainingState}
-use Rattle.ud_tree.specs.Summaries.{defined_line, remaining_line}
+use Rattle.ud_tree.specs.Summaries.{defined_line, remaining_line, unnamed_line}
 use Rattle.ud_tree.proofs.ReportLemmas.{says_same, says_then}
 use Rattle.ud_tree.proofs.SummaryLemmas.{ends_quiet, ends_told}
 use Rattle.ud_tree.proofs.last_lines.report_end.Goals as goal
@@ -14,7 +15,9 @@ returns g c = let a = c.report_counts.ensures in
     let d = c.report_edited.ensures b.hidden in
     let e = c.report_remaining.ensures d.hidden in
     let f = c.report_defined.ensures e.hidden in
+    let h = c.report_unnamed.ensures f.hidden in
+    let names = f.keeps.unnamed ∙ e.keeps.unnamed ∙ d.keeps.unnamed ∙ b.keeps.unnamed ∙ a.keeps.unnamed in
     let same = d.keeps.remaining ∙ b.keeps.remaining ∙ a.keeps.remaining in
     ends_told c.args.job.now.arguments.now c.args.counts c.args.faults c.args.hidden c.if-job.false
-    (says_then (says_then (says_then (says_then a b) d) (says_same (ap (λ (m : RemainingState). remaining_line c.args.job.now.arguments.now.list_remaining m.count) same) e))
-    (says_same (ap (λ (m : RemainingState). defined_line c.args.job.now.arguments.now.list_remaining m.defined) (e.keeps.remaining ∙ same)) f))
+    (says_then (says_then (says_then (says_then (says_then a b) d) (says_same (ap (λ (m : RemainingState). remaining_line c.args.job.now.arguments.now.list_remaining m.count) same) e))
+    (says_same (ap (λ (m : RemainingState). defined_line c.args.job.now.arguments.now.list_remaining m.defined) (e.keeps.remaining ∙ same)) f)) (says_same (ap (λ (ns : List (List ℕ)). flat_map unnamed_line ns) names) h))

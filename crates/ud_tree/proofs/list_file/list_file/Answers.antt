@@ -8,7 +8,7 @@ use Rattle.ud_tree.proofs.list_file.list_file.Goals as goal
 pub returns-in-Err : goal.returns-in-Err
 returns-in-Err g c = record {
   listed = record { names = if is_ok c.add-added.result then c.as_slice.result.now else []; hidden = 0; hidden_list = [] };
-  does = record { reads = c.run_file-ran.ensures.reads; lists_file = λ o p. unlisted (if is_ok c.add-added.result then c.as_slice.result.now else []) (c.in-Err.ensures.ran o p) };
+  does = record { text = c.run_file-ran.new.text.items; reads = c.run_file-ran.ensures.reads; lists_file = λ o p. unlisted (if is_ok c.add-added.result then c.as_slice.result.now else []) (c.in-Err.ensures.ran o p) };
   adds = record {
     names = c.add-added.ensures.list ∙ added (is_ok c.add-added.result) c.args.names.now.list.items c.as_slice.result.now;
     hidden = λ small. c.add-added.ensures.hidden ∙ omega arith;
@@ -20,7 +20,7 @@ returns-in-Err g c = record {
 pub returns-then-is_err : goal.returns-then-is_err
 returns-then-is_err g c = record {
   listed = record { names = if is_ok c.add-added.result then c.as_slice.result.now else []; hidden = 0; hidden_list = [] };
-  does = record { reads = c.run_file-ran.ensures.reads; lists_file = λ o p. unlisted (if is_ok c.add-added.result then c.as_slice.result.now else []) (no_memory o c.in-Ok.ensures.text) };
+  does = record { text = c.run_file-ran.new.text.items; reads = c.run_file-ran.ensures.reads; lists_file = λ o p. unlisted (if is_ok c.add-added.result then c.as_slice.result.now else []) (no_memory o c.in-Ok.ensures.text) };
   adds = record {
     names = c.add-added.ensures.list ∙ added (is_ok c.add-added.result) c.args.names.now.list.items c.as_slice.result.now;
     hidden = λ small. c.add-added.ensures.hidden ∙ omega arith;
@@ -31,8 +31,9 @@ returns-then-is_err g c = record {
 
 pub returns-in-Ok-add_hidden : goal.returns-in-Ok-add_hidden
 returns-in-Ok-add_hidden g c = record {
-  listed = listed_by (mode_of c.args.job.now.arguments.now) c.args.job.now.arguments.now.list_hidden c.args.file.name.now c.in-Ok.ran.text.items c.run_file-ran.new.output.inner.items;
+  listed = listed_by (mode_of c.args.job.now.arguments.now) c.args.job.now.arguments.now.list_hidden c.args.file.name.now c.run_file-ran.new.text.items c.run_file-ran.new.output.inner.items;
   does = record {
+    text = c.run_file-ran.new.text.items;
     reads = c.run_file-ran.ensures.reads;
     lists_file = λ o p. lists o (mode_of c.args.job.now.arguments.now) c.args.job.now.arguments.now.list_hidden
         (ap (λ v. v.items) c.new-listed.ensures.inner ∙ c.new.ensures.items) c.in-Ok.ensures.text (c.in-Ok.ensures.ran o p);
@@ -51,7 +52,7 @@ returns-in-Ok-add_hidden g c = record {
 pub returns : goal.returns
 returns g c = record {
   listed = record { names = if is_ok c.add-added.result then c.as_slice.result.now else []; hidden = 0; hidden_list = [] };
-  does = record { reads = c.run_file-ran.ensures.reads; lists_file = λ o p. unlisted (if is_ok c.add-added.result then c.as_slice.result.now else []) (no_memory o c.in-Ok.ensures.text) };
+  does = record { text = c.run_file-ran.new.text.items; reads = c.run_file-ran.ensures.reads; lists_file = λ o p. unlisted (if is_ok c.add-added.result then c.as_slice.result.now else []) (no_memory o c.in-Ok.ensures.text) };
   adds = record {
     names = c.add_hidden.ensures.list ∙ c.add-added.ensures.list ∙ added (is_ok c.add-added.result) c.args.names.now.list.items c.as_slice.result.now;
     hidden = λ small. c.in-Err-add_hidden.ensures.unchanged.0 ∙ c.add-added.ensures.hidden ∙ omega arith;

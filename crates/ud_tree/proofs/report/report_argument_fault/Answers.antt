@@ -22,3 +22,7 @@ returns-in-PathsAndInput g c = sends_same (ap argument_message (sym c.in-PathsAn
 pub returns-in-NoPath : goal.returns-in-NoPath
 returns-in-NoPath g c =
     sends_same (ap argument_message (sym c.in-NoPath.is)) (sends_then c.report_line-in-NoPath.ensures c.send_parts-in-NoPath.ensures)
+
+pub returns-in-NoSymbol : goal.returns-in-NoSymbol
+returns-in-NoSymbol g c =
+    sends_same (ap argument_message (sym c.in-NoSymbol.is)) (sends_then c.report_line-in-NoSymbol.ensures c.send_parts-in-NoSymbol.ensures)

@@ -6,7 +6,7 @@ pub returns : goal.returns
 returns g c =
     ends c.args.job.now c.args.files.now c.write_lists-list_fault.result c.finish_output-out_fault.result c.args.walk_faults c.saturating_add-faults.result _ c.status-status.result
     c.new-names.result c.process_files-counts.new.names c.new-names.ensures.list c.new-names.ensures.hidden c.new-names.ensures.hidden_list c.hidden.ensures c.write_lists-list_fault.ensures.whole
-    (rw c.new-report.ensures at c.process_files-counts.ensures) c.write_lists-list_fault.ensures.writes
+    (rw c.new-report.ensures at c.seek_names.ensures) c.process_files-counts.ensures c.write_lists-list_fault.ensures.writes
     c.write_lists-list_fault.ensures.told c.finish_output-out_fault.ensures.sent c.finish_output-out_fault.ensures.failed c.finish_output-out_fault.ensures.flushed
     c.finish_output-out_fault.ensures.told c.report_end.ensures c.into_stream-err.ensures refl
     (omega (arith, c.saturating_add-faults.ensures, c.process_files-counts.type_inv))

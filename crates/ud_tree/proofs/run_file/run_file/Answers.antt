@@ -6,19 +6,19 @@ use Rattle.ud_tree.proofs.ShownLemmas.{ran_as, fails_after}
 use Rattle.ud_tree.proofs.run_file.run_file.Goals as goal
 
 pub returns-in-None-clause-reads : goal.returns-in-None-clause-reads
-returns-in-None-clause-reads g c = reads _ _ c.in-None.ensures.noted
+returns-in-None-clause-reads g c = reads _ c.in-None.ensures.noted
 
 pub returns-in-None-clause-ran : goal.returns-in-None-clause-ran
 returns-in-None-clause-ran g c = λ o p. unread _ c.in-None.ensures.noted
 
 pub returns-then-not-is_of-clause-reads : goal.returns-then-not-is_of-clause-reads
-returns-then-not-is_of-clause-reads g c = reads _ _ c.in-Some.ensures.noted
+returns-then-not-is_of-clause-reads g c = reads _ c.in-Some.ensures.noted
 
 pub returns-then-not-is_of-clause-ran : goal.returns-then-not-is_of-clause-ran
 returns-then-not-is_of-clause-ran g c = λ o p. other_file _ _ c.in-Some.ensures.noted
 
 pub returns-in_err-run-in-Some-clause-reads : goal.returns-in_err-run-in-Some-clause-reads
-returns-in_err-run-in-Some-clause-reads g c = reads _ _ c.in-Some.ensures.noted
+returns-in_err-run-in-Some-clause-reads g c = reads _ c.in-Some.ensures.noted
 
 pub returns-in_err-run-in-Some-clause-ran : goal.returns-in_err-run-in-Some-clause-ran
 returns-in_err-run-in-Some-clause-ran g c = λ o p.
@@ -26,7 +26,7 @@ returns-in_err-run-in-Some-clause-ran g c = λ o p.
     rw (e.1, e.2) (fails_after o _ c.in-Some.ensures.noted c.as_slice.ensures.value (c.in_err-run-in-Some.ensures o p))
 
 pub returns-in_ok-run-in-Some-clause-reads : goal.returns-in_ok-run-in-Some-clause-reads
-returns-in_ok-run-in-Some-clause-reads g c = reads _ _ c.in-Some.ensures.noted
+returns-in_ok-run-in-Some-clause-reads g c = reads _ c.in-Some.ensures.noted
 
 pub returns-in_ok-run-in-Some-clause-text : goal.returns-in_ok-run-in-Some-clause-text
 returns-in_ok-run-in-Some-clause-text g c = c.in-Some.ensures.noted

@@ -15,4 +15,5 @@ returns-else-is_err-clause-finds g c = record {
   kept = λ lost. c.add.ensures.lost ∙ lost;
   added = λ whole wanted. on_ok c.add.result (sym c.is_err.ensures.value ∙ c.if-is_err.false) c.add.ensures.added;
   same = λ off. absurd (opposite c.search_remaining.result _ c.search_remaining.ensures c.if-not-search_remaining.false off);
+  unnamed = c.add.ensures.unnamed;
 }

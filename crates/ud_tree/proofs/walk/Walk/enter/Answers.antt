@@ -17,7 +17,7 @@ pub loop-name-preserved : goal.loop-name-preserved
 loop-name-preserved g c = (
   finds_then c.loop-name.invariant.0 c.visit.ensures.finds,
   enters_name (λ n. n.items) c.as_slice-name-items.result.now c.loop-name.name-index c.name-item.result c.as_slice.result.now c.loop-name-test.true c.name-item.is c.as_slice.ensures.value
-      c.loop-name.invariant.1 c.in_ok-visit.ensures.visits,
+      c.loop-name.invariant.1 (rw c.loop-name.invariant.3.grows.same at c.in_ok-visit.ensures.visits),
   walk_visited c.loop-name.invariant.2
       (name_listed (λ n. n.items) c.as_slice-name-items.result.now c.loop-name.name-index c.name-item.result c.as_slice.result.now c.loop-name-test.true c.name-item.is c.as_slice.ensures.value)
       c.visit.ensures.told,

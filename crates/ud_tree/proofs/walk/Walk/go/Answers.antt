@@ -1,26 +1,35 @@
-use Rattle.std.proofs.Common.{map, arith, refl}
+use Rattle.std.proofs.Common.{map, arith, refl, ap, sym, ◌∙◌}
 use Rattle.ud_tree.proofs.CatchLemmas.{grows_same, catches_none, catches_then}
 use Rattle.std.specs.Prelude.{string_bytes}
-use Rattle.ud_tree.proofs.CoverLemmas.{enters_none, enters_more, popped, exhausts_count}
-use Rattle.ud_tree.proofs.WalkTellLemmas.{goes_none, goes_then}
+use Rattle.ud_tree.proofs.CoverLemmas.{enters_none, enters_more, popped, exhausts_count, exhausts_empty}
+use Rattle.ud_tree.proofs.WalkTellLemmas.{goes_then, walk_none}
+use Rattle.ud_tree.proofs.WalkLemmas.{finds_none}
 use Rattle.ud_tree.proofs.walk.Walk.go.Goals as goal
 
 pub folders-init : goal.folders-init
 folders-init g c = (
-  goes_none (g.T.Folder.history c.args.tree.now) c.args.self.now c.args.report.now,
+  record { finds = finds_none (g.T.Folder.history c.args.tree.now) c.args.self.now.found.items; told = walk_none (g.T.Folder.history c.args.tree.now) c.args.report.now },
   enters_none (g.T.Folder.history c.args.tree.now) (map (λ d. string_bytes d) c.args.self.now.folders.items) c.args.report.now,
-  catches_none (g.T.Folder.history c.args.tree.now) c.args.self.now c.args.self.now (grows_same _ _ refl refl),
+  catches_none (g.T.Folder.history c.args.tree.now) c.args.self.now _ (grows_same _ _ refl refl),
 )
 
 pub folders-preserved : goal.folders-preserved
 folders-preserved g c = (
-  goes_then c.folders.invariant.0 c.enter.ensures.goes_on refl,
-  enters_more c.folders._entered _ _ (popped (λ d. string_bytes d) _ _ _ _ _ c.pop.ensures.items c.in-Some.is c.as_str.ensures.value) c.folders.invariant.1 c.in_ok-enter.ensures.enters,
-  catches_then (catches_then c.folders.invariant.2 (catches_none _ c.folders.self _ (grows_same _ _ refl refl))) c.in_ok-enter.ensures.catches,
+  goes_then c.folders.invariant.0 c.enter.ensures.goes_on c.next_folder.ensures.found,
+  enters_more c.folders._entered _ _ (popped (λ d. string_bytes d) _ _ _ _ _ c.next_folder.ensures.items c.in-Some.is c.as_str.ensures.value) c.folders.invariant.1 (rw (c.next_folder.ensures.patterns, c.folders.invariant.2.grows.same) at c.in_ok-enter.ensures.enters),
+  catches_then (catches_then c.folders.invariant.2 (catches_none _ c.folders.self _ (grows_same _ _ c.next_folder.ensures.patterns c.next_folder.ensures.found))) c.in_ok-enter.ensures.catches,
 )
 
 pub returns-in_err-enter-clause-goes_on : goal.returns-in_err-enter-clause-goes_on
-returns-in_err-enter-clause-goes_on g c = goes_then c.folders.invariant.0 c.enter.ensures.goes_on refl
+returns-in_err-enter-clause-goes_on g c = goes_then c.folders.invariant.0 c.enter.ensures.goes_on c.next_folder.ensures.found
 
 pub returns-after-folders-clause-exhausts : goal.returns-after-folders-clause-exhausts
 returns-after-folders-clause-exhausts g c = exhausts_count (omega (arith, c.folders-test.false)) c.folders.invariant.1
+
+pub returns-in_default-clause-exhausts : goal.returns-in_default-clause-exhausts
+returns-in_default-clause-exhausts g c =
+    exhausts_empty (ap (map (λ d. string_bytes d)) (c.in_default.ensures.none.1 ∙ sym c.in_default.ensures.none.0)) (ap (map (λ d. string_bytes d)) c.in_default.ensures.none.1) c.folders.invariant.1
+
+pub returns-in_default-clause-catches : goal.returns-in_default-clause-catches
+returns-in_default-clause-catches g c =
+    catches_then c.folders.invariant.2 (catches_none _ c.folders.self _ (grows_same _ _ c.next_folder.ensures.patterns c.next_folder.ensures.found))

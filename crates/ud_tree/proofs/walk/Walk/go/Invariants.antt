@@ -8,7 +8,7 @@ use Rattle.ud_tree.proofs.walk.Walk.go.Given as goal
 abbrev pub invariant-folders : goal.invariant-folders
 invariant-folders g l =
     GoesOn (g.T.Folder.history l.fn.tree) (g.T.Folder.history l.tree) l.fn.self l.self l.fn.report l.report
-    × EntersSome l._entered (g.T.Folder.history l.fn.tree) (g.T.Folder.history l.tree)
+    × EntersSome (map string_bytes l.fn.self.patterns.now) l._entered (g.T.Folder.history l.fn.tree) (g.T.Folder.history l.tree)
     (map (λ d. string_bytes d) l.fn.self.folders.items) (map (λ d. string_bytes d) l.self.folders.items) l.fn.report
     l.report
     × Catches (g.T.Folder.history l.fn.tree) (g.T.Folder.history l.tree) l.fn.self l.self

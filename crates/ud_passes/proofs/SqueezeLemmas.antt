@@ -1,0 +1,140 @@
+-- Squeezed texts: a line more, and a place more.
+use Rattle.std.proofs.Common.{◌≡◌, ℕ, suc, ◌+◌, ◌-◌, ◌<◌, ◌≤◌, List, [], ◌∷◌, ◌++◌, length, take, drop, take-append-drop, drop-cons, add-one, length-drop, get_or, get_or-drop, slice_range, Bool, true, false, if◌then◌else◌, append_assoc, append-nil, refl, sym, ◌∙◌, ap, ap₂, arith}
+use Rattle.std.proofs.lemmas.List.{take_more, length-map, map-append, take_all, drop_all}
+use Rattle.std.specs.List.{concat}
+use Rattle.ud_model.specs.text.Lines.{Line, SplitLines, texts_of, last_line, split_lines}
+use Rattle.ud_model.specs.text.Scans.{Reading}
+use Rattle.ud_model.specs.text.Scanning.{scan_after}
+use Rattle.ud_model.specs.aids.ReadAs.{read_as}
+use Rattle.ud_model.specs.declared.kind.Mode.TheVariants.{C}
+use Rattle.ud_model.proofs.text.LinesLemmas.{split_lines-line-prefix}
+use Rattle.ud_text.specs.lines.LinesState.{UpToNewline}
+use Rattle.ud_text.proofs.lemmas.scan.LongerTextLemmas.{one_text}
+use Rattle.ud_passes.specs.Passes.{fits}
+use Rattle.ud_passes.specs.Walks.{read_after, Walked}
+use Rattle.ud_passes.specs.declared.walk.Walk.{Walk}
+use Rattle.ud_passes.specs.declared.squeezing.places.Place.{Place}
+use Rattle.ud_passes.specs.squeezing.SqueezedTexts.{is_gap, after_stay, scanned_place, long_place, end_place, place_of, places, parts, last_part, left, first_ones, stay_flags, kept_lines, first_flag, later_flags}
+use Rattle.ud_passes.specs.squeezing.Squeezing.{Placed, gaps_of}
+use Rattle.ud_passes.proofs.WalkLemmas.{walk_ends}
+
+-- 1. The first line of a text.
+
+first_text : (rest : List ℕ) (n : ℕ) (w : Bool) → UpToNewline rest n w → 0 < length rest → texts_of rest ≡ take n rest ∷ texts_of (drop n rest)
+unfolding split_lines
+first_text rest n w up some = by w up
+  where
+    by : (w : Bool) → UpToNewline rest n w → texts_of rest ≡ take n rest ∷ texts_of (drop n rest)
+    by true up = ap texts_of (sym (take-append-drop n rest))
+        ∙ ap (λ (p : SplitLines). p.whole ++ last_line p.rest) (split_lines-line-prefix (take n rest) (drop n rest) (up.line refl))
+    by false up = let all : n ≡ length rest = (up.all refl).0 in
+        ap texts_of (sym (take_all n rest (omega arith))) ∙ one_text rest n false up some
+        ∙ ap (λ (t : List ℕ). take n rest ∷ texts_of t) (sym (drop_all n rest (omega arith)))
+
+-- 2. Lines that stay.
+
+kept_first : (flags : List Bool) (l : List ℕ) (ls : List (List ℕ)) → concat (kept_lines flags (l ∷ ls)) ≡ (if first_flag flags then l else []) ++ concat (kept_lines (later_flags flags) ls)
+kept_first flags l ls = by (first_flag flags)
+  where
+    by : (b : Bool) → concat (if b then l ∷ kept_lines (later_flags flags) ls else kept_lines (later_flags flags) ls) ≡ (if b then l else []) ++ concat (kept_lines (later_flags flags) ls)
+    by true = refl
+    by false = refl
+
+pub kept_next : (out more : List ℕ) (flags : List Bool) (rest : List ℕ) (n : ℕ) (w : Bool) → UpToNewline rest n w → 0 < length rest → (f : Bool) (fs : List Bool) (line after : List ℕ) →
+    f ≡ first_flag flags → fs ≡ later_flags flags → line ≡ take n rest → after ≡ drop n rest → more ≡ out ++ (if f then line else []) →
+    more ++ concat (kept_lines fs (texts_of after)) ≡ out ++ concat (kept_lines flags (texts_of rest))
+kept_next out more flags rest n w up some f fs line after a b c d e =
+    ap₂ (λ (x : List ℕ) (t : List ℕ). x ++ concat (kept_lines fs (texts_of t))) e d
+    ∙ append_assoc out (if f then line else []) (concat (kept_lines fs (texts_of (drop n rest))))
+    ∙ ap (λ (x : List ℕ). out ++ x)
+    (ap₂ (λ (x : List ℕ) (y : List Bool). x ++ concat (kept_lines y (texts_of (drop n rest)))) (ap₂ (λ (g : Bool) (l : List ℕ). if g then l else []) a c) b
+    ∙ sym (ap (λ (ls : List (List ℕ)). concat (kept_lines flags ls)) (first_text rest n w up some) ∙ kept_first flags (take n rest) (texts_of (drop n rest))))
+
+-- 3. Places.
+
+module _ (text ms : List ℕ) (walk : Walk) (left : List ℕ) (out : List Place) (p : Placed text ms walk left out) (next : Walk) (k : Line) where
+  pub line_placed : Walked C text (p.read ++ read_after C p.read k ∷ []) next.rest.now next.scanner → (after : List ℕ) → after ≡ after_stay left → (new : List Place) →
+      new ≡ out ++ place_of (is_gap left) (read_after C p.read k) ∷ [] → Placed text ms next after new
+  line_placed w after a new e = record {
+    read = p.read ++ read_after C p.read k ∷ [];
+    walked = w;
+    rest = λ rs.
+        ap (λ (xs : List Reading). places ms xs) (append_assoc p.read (read_after C p.read k ∷ []) rs) ∙ p.rest (read_after C p.read k ∷ rs)
+        ∙ sym (append_assoc out (place_of (is_gap left) (read_after C p.read k) ∷ []) (places (after_stay left) rs))
+        ∙ ap₂ (λ (xs : List Place) (l : List ℕ). xs ++ places l rs) (sym e) (sym a);
+  }
+
+  pub long_placed : Walked C text (p.read ++ read_after C p.read k ∷ []) next.rest.now next.scanner → (after : List ℕ) → after ≡ after_stay left → (new : List Place) →
+      fits k ≡ false → (gap : Bool) → gap ≡ is_gap left → (place : Place) → place ≡ long_place gap → new ≡ out ++ place ∷ [] → Placed text ms next after new
+  long_placed w after a new f gap g place l e = grind (arith, line_placed w after a new)
+
+  pub short_placed : Walked C text (p.read ++ read_after C p.read k ∷ []) next.rest.now next.scanner → (after : List ℕ) → after ≡ after_stay left → (new : List Place) →
+      fits k ≡ true → (gap : Bool) → gap ≡ is_gap left → (place : Place) → place ≡ scanned_place gap k.body (scan_after p.read C k) → new ≡ out ++ place ∷ [] → Placed text ms next after new
+  short_placed w after a new f gap g place l e = grind (arith, line_placed w after a new)
+
+pub none_placed : (text ms : List ℕ) (walk : Walk) → Walked C text [] walk.rest.now walk.scanner → Placed text ms walk ms []
+none_placed text ms walk w = record { read = []; walked = w; rest = λ rs. refl }
+
+pub all_placed : (text ms : List ℕ) (walk : Walk) (left : List ℕ) (out : List Place) → Placed text ms walk left out → walk.rest.now ≡ [] → (gap : Bool) → gap ≡ is_gap left →
+    (place : Place) → place ≡ end_place gap → (new : List Place) → new ≡ out ++ place ∷ [] → new ≡ places ms (read_as C text)
+all_placed text ms walk left out p e gap g place l new n =
+    n ∙ ap (λ (x : Place). out ++ x ∷ []) (l ∙ ap end_place g) ∙ sym (p.rest [])
+    ∙ ap (λ (rs : List Reading). places ms rs) (append-nil p.read ∙ walk_ends C text p.read walk.rest.now walk.scanner p.walked e)
+
+-- 4. Stretches.
+
+-- The last part isn't the first one, if another follows.
+not_last : (n m : ℕ) (gaps : List Bool) (below : Bool) → last_part (n ∷ parts m gaps below) ≡ last_part (parts m gaps below)
+not_last n m [] true = refl
+not_last n m [] false = refl
+not_last n m (true ∷ gaps) below = refl
+not_last n m (false ∷ gaps) below = not_last n (suc m) gaps below
+
+pub last_next : (n : ℕ) (gap : Bool) (gaps : List Bool) (below : Bool) → last_part (parts n (gap ∷ gaps) below) ≡ last_part (parts (if gap then 1 else suc n) gaps below)
+last_next n true gaps below = not_last n 1 gaps below
+last_next n false gaps below = refl
+
+pub last_more : (stretch : List Place) (at n m : ℕ) (d : Place) (below : Bool) → at < length stretch → m ≡ (if (get_or stretch at d).gap then 0 else n) →
+    last_part (parts (m + 1) (gaps_of (drop (at + 1) stretch)) below) ≡ last_part (parts n (gaps_of (drop at stretch)) below)
+last_more stretch at n m d below h e = let p : Place = get_or stretch at d in
+    let gaps : List Bool = gaps_of (drop (at + 1) stretch) in
+    let rest : drop at stretch ≡ p ∷ drop (at + 1) stretch = rw add-one (drop-cons stretch at d h) in
+    ap (λ (k : ℕ). last_part (parts k gaps below)) (ap (λ (k : ℕ). k + 1) e ∙ by p.gap)
+    ∙ sym (ap (λ (qs : List Place). last_part (parts n (gaps_of qs) below)) rest ∙ last_next n p.gap gaps below)
+  where
+    by : (b : Bool) → (if b then 0 else n) + 1 ≡ (if b then 1 else suc n)
+    by true = refl
+    by false = omega arith
+
+module _ (ps : List Place) (a b : ℕ) (d : Place) (h : a ≤ b) (k : b < length ps) where
+  abbrev p : Place
+  p = get_or ps b d
+
+  slice_more : slice_range ps a (b + 1) ≡ slice_range ps a b ++ p ∷ []
+  slice_more = let n : ℕ = b - a in
+      let e : (b + 1) - a ≡ n + 1 = omega arith in
+      let at : a + n ≡ b = omega arith in
+      let size = length-drop a ps in
+      ap (λ (m : ℕ). take m (drop a ps)) e ∙ take_more (drop a ps) n d (omega (arith, size))
+      ∙ ap (λ (x : Place). take n (drop a ps) ++ x ∷ []) (get_or-drop a ps n d ∙ ap (λ (i : ℕ). get_or ps i d) at)
+
+  rest : drop b ps ≡ p ∷ drop (b + 1) ps
+  rest = rw add-one (drop-cons ps b d k)
+
+  -- A blank line belongs to the stretch.
+  pub blank_next : (opens : Bool) → p.blank ≡ true → stay_flags opens (gaps_of (slice_range ps a b)) (drop b ps) ≡ stay_flags opens (gaps_of (slice_range ps a (b + 1))) (drop (b + 1) ps)
+  blank_next opens e = grind (arith, rest, slice_more, map-append)
+
+  no_slice : slice_range ps (b + 1) (b + 1) ≡ []
+  no_slice = let z : (b + 1) - (b + 1) ≡ 0 = omega arith in ap (λ (m : ℕ). take m (drop (b + 1) ps)) z
+
+  -- Any other line ends it.
+  pub other_next : (opens : Bool) (out new : List Bool) → p.blank ≡ false →
+      new ≡ out ++ (first_ones (length (slice_range ps a b)) (left opens p.closes (parts 0 (gaps_of (slice_range ps a b)) p.gap)) ++ true ∷ []) →
+      new ++ stay_flags p.opens (gaps_of (slice_range ps (b + 1) (b + 1))) (drop (b + 1) ps) ≡ out ++ stay_flags opens (gaps_of (slice_range ps a b)) (drop b ps)
+  other_next opens out new e n = let s : List Place = slice_range ps a b in
+      let stay : List Bool = first_ones (length s) (left opens p.closes (parts 0 (gaps_of s) p.gap)) in
+      let later : List Bool = stay_flags p.opens [] (drop (b + 1) ps) in
+      let same : stay_flags opens (gaps_of s) (p ∷ drop (b + 1) ps) ≡ stay ++ true ∷ later = grind (arith, length-map) in
+      ap₂ (λ (x : List Bool) (y : List Place). x ++ stay_flags p.opens (gaps_of y) (drop (b + 1) ps)) n no_slice
+      ∙ append_assoc out (stay ++ true ∷ []) later ∙ ap (λ (x : List Bool). out ++ x) (append_assoc stay (true ∷ []) later ∙ sym same ∙ ap (λ (qs : List Place). stay_flags opens (gaps_of s) qs) (sym rest))

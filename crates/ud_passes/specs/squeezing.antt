@@ -1,0 +1,3 @@
+-- Squeezed texts.
+pub mod SqueezedTexts
+pub mod Squeezing

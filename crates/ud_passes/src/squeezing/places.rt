@@ -1,0 +1,188 @@
+//! The lines of an output, as far as blank lines go.
+
+ghost use Rattle.std.specs.Prelude.{◌≡◌, ◌≤◌, ◌<◌, ◌++◌, ◌∷◌, ℕ, List, [], length, reverse, IfOk};
+ghost use Rattle.std.specs.Prelude.{OnOk, false};
+ghost use Rattle.ud_model.specs.text.Bytes.{skip_white, starts_with_byte};
+ghost use Rattle.ud_model.specs.text.Lines.{NoNewline, text_of};
+ghost use Rattle.ud_model.specs.text.Scans.{Reading};
+ghost use Rattle.ud_model.specs.text.Scanning.{next_reading, scan_after};
+ghost use Rattle.ud_model.specs.aids.LineViews.{as_line, as_scan};
+ghost use Rattle.ud_model.specs.aids.ReadAs.{read_as};
+ghost use Rattle.ud_model.specs.sections.Directives.{content_of};
+ghost use Rattle.ud_model.specs.declared.kind.Mode.TheVariants.{C};
+ghost use Rattle.ud_model.specs.declared.limits.TheConstants.{LINE_BYTES};
+ghost use Rattle.ud_text.specs.scan.ScannerState.{ScannerRepresents};
+ghost use Rattle.ud_passes.specs.squeezing.SqueezedTexts as spec;
+ghost use Rattle.ud_passes.specs.squeezing.SqueezedTexts.{has_role, begins_group, ends_group};
+ghost use Rattle.ud_passes.specs.squeezing.SqueezedTexts.{scanned_place, long_place, end_place};
+ghost use Rattle.ud_passes.specs.squeezing.SqueezedTexts.{is_gap, after_stay};
+ghost use Rattle.ud_passes.specs.squeezing.Squeezing.{Placed};
+
+use crate::squeezing::marks::{after_stay, is_gap};
+use crate::walk::{LineScanner, Stretch, Walk};
+use std::alloc::{AllocError, Global};
+use ud_model::bytes::{is_white, skip_white};
+use ud_model::{Line, Mode, Role, Scan};
+use ud_sections::directive;
+
+/// A line of an output, or the end of the output.
+#[derive(Clone, Copy)]
+pub(crate) struct Place {
+    /// True if lines of the input went right before it.
+    pub(crate) gap: bool,
+    /// True if the line is blank and joins no other line.
+    pub(crate) blank: bool,
+    /// True if the line opens a block or begins a group.
+    pub(crate) opens: bool,
+    /// True if the line closes a block or ends a group, and at the end of the output.
+    pub(crate) closes: bool,
+}
+
+/// Returns whether the last byte of a masked line, but for white space, is `{`.
+fn opens_block(masked: &[u8]) -> bool
+    ensures { result ≡ starts_with_byte 123 (skip_white (reverse masked.now)) }
+{
+    let mut opens = false;
+    for byte in masked {
+        if !is_white(*byte) {
+            opens = *byte == b'{';
+        }
+    }
+    opens
+}
+
+/// Returns whether the first byte of a masked line, but for white space, is `}`.
+fn closes_block(masked: &[u8]) -> bool
+    ensures { result ≡ starts_with_byte 125 (skip_white masked.now) }
+{
+    match skip_white(masked).first() {
+        Some(byte) => *byte == b'}',
+        None => false,
+    }
+}
+
+/// Returns whether a line has a directive that begins a group.
+fn opens_group(scan: &Scan<'_>) -> bool
+    ensures { result ≡ has_role begins_group (content_of (as_scan scan.now)) }
+{
+    match directive(scan) {
+        Ok(Some(found)) => !matches!(found.kind.role(), Role::EndifLine),
+        Ok(None) => false,
+        Err(_) => false,
+    }
+}
+
+/// Returns whether a line has a directive that ends the group before it.
+fn closes_group(scan: &Scan<'_>) -> bool
+    ensures { result ≡ has_role ends_group (content_of (as_scan scan.now)) }
+{
+    match directive(scan) {
+        Ok(Some(found)) => !matches!(found.kind.role(), Role::IfGroup),
+        Ok(None) => false,
+        Err(_) => false,
+    }
+}
+
+/// Returns the place of a line, by its scan.
+fn place_of(gap: bool, line: &Line<'_>, scan: &Scan<'_>) -> Place
+    ensures { result ≡ scanned_place gap line.now.body.now (as_scan scan.now) }
+{
+    Place {
+        gap,
+        blank: line.body.is_empty() && !(scan.joins_before || scan.joins_after),
+        opens: opens_block(scan.masked) || opens_group(scan),
+        closes: closes_block(scan.masked) || closes_group(scan),
+    }
+}
+
+/// Reads a line, and returns its place.
+///
+/// # Errors
+/// Fails if memory runs out.
+fn read_place(scanner: &mut LineScanner, gap: bool, line: &Line<'_>) -> Result<Place, AllocError>
+    requires fits { length (text_of (as_line line.now)) ≤ LINE_BYTES }
+    requires one_line { NoNewline line.now.body.now }
+    ensures represents { OnOk result ((before : List Reading) →
+        ScannerRepresents scanner.old before → ScannerRepresents scanner.new
+        (before ++ next_reading before C (as_line line.now) ∷ [])) }
+    ensures place { IfOk result (λ place. (before : List Reading) →
+        ScannerRepresents scanner.old before →
+        place ≡ scanned_place gap line.now.body.now (scan_after before C (as_line line.now))) }
+{
+    let scan = scanner.read_growing(Mode::C, line)?;
+    Ok(place_of(gap, line, &scan))
+}
+
+/// Takes the next line, with the marks from it on, and appends its place. Returns the marks after
+/// it.
+///
+/// # Errors
+/// Fails if memory runs out.
+fn step<'m>(
+    walk: &mut Walk<'_>,
+    marks: &'m [u8],
+    places: &mut Vec<Place>,
+) -> Result<&'m [u8], AllocError>
+    requires some { 0 < length walk.old.rest.now }
+    ensures shorter { length walk.new.rest.now < length walk.old.rest.now }
+    ensures placed { IfOk result (λ left. (text ms : List ℕ) →
+        Placed text ms walk.old marks.now places.old.items →
+        Placed text ms walk.new left.now places.new.items) }
+{
+    let gap = is_gap(marks);
+    match walk.next_within(Mode::C, 0) {
+        Stretch::Texts(_) => Ok(marks),
+        Stretch::TooLong(_) => {
+            places.push(long_place(gap))?;
+            Ok(after_stay(marks))
+        }
+        Stretch::Fitting(line) => {
+            let place = read_place(&mut walk.scanner, gap, &line)?;
+            places.push(place)?;
+            Ok(after_stay(marks))
+        }
+    }
+}
+
+/// Returns the place of a line over the limit.
+fn long_place(gap: bool) -> Place
+    ensures { result ≡ long_place gap }
+{
+    Place {
+        gap,
+        blank: false,
+        opens: false,
+        closes: false,
+    }
+}
+
+/// Returns the end of an output.
+fn end_place(gap: bool) -> Place
+    ensures { result ≡ end_place gap }
+{
+    Place {
+        gap,
+        blank: false,
+        opens: false,
+        closes: true,
+    }
+}
+
+/// Returns the places of the lines of an output, and its end. The marks are those of the lines of
+/// the input.
+///
+/// # Errors
+/// Fails if memory runs out.
+pub(crate) fn places_in(alloc: Global, text: &[u8], marks: &[u8]) -> Result<Vec<Place>, AllocError>
+    ensures { IfOk result (λ places.
+        places.items ≡ spec.places marks.now (read_as C text.now)) }
+{
+    let mut walk = Walk::new(alloc, text);
+    let mut left = marks;
+    let mut places = Vec::new(alloc);
+    'lines: while !walk.is_at_end() {
+        left = step(&mut walk, left, &mut places)?;
+    }
+    places.push(end_place(is_gap(left)))?;
+    Ok(places)
+}

@@ -1,0 +1,141 @@
+//! Stretches of blank lines, and how many lines of each stay.
+
+ghost use Rattle.std.specs.Prelude.{◌≡◌, ◌++◌, [], ◌∷◌, length, true, Bool, OnOk, IfOk, replicate};
+ghost use Rattle.std.specs.Prelude.{if◌then◌else◌};
+ghost use Rattle.ud_passes.specs.squeezing.SqueezedTexts as spec;
+ghost use Rattle.ud_passes.specs.squeezing.SqueezedTexts.{parts, first_ones, stay_flags};
+ghost use Rattle.ud_passes.specs.squeezing.Squeezing.{gaps_of};
+
+use crate::squeezing::places::Place;
+use std::alloc::{AllocError, Global};
+
+/// Returns the length of the first part of a stretch.
+fn first_part(stretch: &[Place]) -> usize
+    ensures { (below : Bool) →
+        result ≡ spec.first_part (parts 0 (gaps_of stretch.now) below) }
+{
+    let mut count = 0;
+    for place in stretch {
+        if place.gap {
+            break;
+        }
+        count += 1;
+    }
+    count
+}
+
+/// Returns how many lines there are after the last gap and before a line, if there were `count`
+/// before the gap that it may have.
+fn since_gap(gap: bool, count: usize) -> usize
+    ensures { result ≡ (if gap then 0 else count) }
+{
+    if gap { 0 } else { count }
+}
+
+/// Returns the length of the last part of a stretch; the line below has a gap before it or not.
+fn last_part(stretch: &[Place], below: bool) -> usize
+    ensures { result ≡ spec.last_part (parts 0 (gaps_of stretch.now) below) }
+{
+    let mut count = 0;
+    for place in stretch {
+        count = since_gap(place.gap, count) + 1;
+    }
+    if below { 0 } else { count }
+}
+
+/// Returns the length of the longest part of a stretch; the line below has a gap before it or not.
+fn longest_part(stretch: &[Place], below: bool) -> usize
+    ensures { result ≡ spec.longest_part (parts 0 (gaps_of stretch.now) below) }
+{
+    let mut longest = 0;
+    let mut count = 0;
+    for place in stretch {
+        if place.gap {
+            longest = longest.max(count);
+            count = 0;
+        }
+        count += 1;
+    }
+    longest.max(count)
+}
+
+/// Returns how many lines of a stretch stay, if the line above opens or not.
+fn left(opens: bool, stretch: &[Place], below: Place) -> usize
+    ensures { result ≡ spec.left opens below.closes (parts 0 (gaps_of stretch.now) below.gap) }
+{
+    if opens && below.closes {
+        return first_part(stretch).min(last_part(stretch, below.gap));
+    }
+    if opens {
+        return first_part(stretch);
+    }
+    if below.closes {
+        return last_part(stretch, below.gap);
+    }
+    longest_part(stretch, below.gap)
+}
+
+/// Appends a flag so many times.
+///
+/// # Errors
+/// Fails if memory runs out.
+fn push_flags(flags: &mut Vec<bool>, count: usize, flag: bool) -> Result<(), AllocError>
+    ensures { OnOk result (flags.new.items ≡ flags.old.items ++ replicate count flag) }
+{
+    for _line in 0..count {
+        flags.push(flag)?;
+    }
+    Ok(())
+}
+
+/// Appends the flags of so many lines, of which the first ones stay.
+///
+/// # Errors
+/// Fails if memory runs out.
+fn push_first_ones(flags: &mut Vec<bool>, count: usize, stay: usize) -> Result<(), AllocError>
+    ensures { OnOk result (flags.new.items ≡ flags.old.items ++ first_ones count stay) }
+{
+    push_flags(flags, stay.min(count), true)?;
+    push_flags(flags, count.saturating_sub(stay), false)
+}
+
+/// Appends the flags of a stretch and of the line below, which stays. The line above opens or not.
+///
+/// # Errors
+/// Fails if memory runs out.
+fn push_stretch(
+    flags: &mut Vec<bool>,
+    opens: bool,
+    stretch: &[Place],
+    below: Place,
+) -> Result<(), AllocError>
+    ensures { OnOk result (flags.new.items ≡ flags.old.items ++
+        (first_ones (length stretch.now)
+        (spec.left opens below.closes (parts 0 (gaps_of stretch.now) below.gap)) ++ true ∷ [])) }
+{
+    push_first_ones(flags, stretch.len(), left(opens, stretch, below))?;
+    flags.push(true)?;
+    Ok(())
+}
+
+/// Returns whether each of the lines stays. The last place is the end of the output.
+///
+/// # Errors
+/// Fails if memory runs out.
+pub(crate) fn stay_flags(alloc: Global, places: &[Place]) -> Result<Vec<bool>, AllocError>
+    ensures { IfOk result (λ flags. flags.items ≡ stay_flags true [] places.now) }
+{
+    let mut flags = Vec::new(alloc);
+    let mut opens = true;
+    let mut start = 0;
+    for at in 0..places.len() {
+        let place = places[at];
+        if place.blank {
+            continue;
+        }
+        push_stretch(&mut flags, opens, &places[start..at], place)?;
+        opens = place.opens;
+        start = at + 1;
+    }
+    Ok(flags)
+}

@@ -1,0 +1,103 @@
+//! Texts that `fold` and `prune` leave as they are: no directive goes on to another line, and no
+//! condition is edited. Most files are such texts, and then nothing has to be copied.
+
+ghost use Rattle.std.specs.Prelude.{◌≡◌, ◌<◌, ◌≤◌, ◌∷◌, ◌++◌, List, [], ℕ, length, true, IfOk};
+ghost use Rattle.std.specs.Prelude.{OnOk};
+ghost use Rattle.ud_model.specs.text.Lines.{NoNewline, text_of};
+ghost use Rattle.ud_model.specs.text.Scans.{Reading};
+ghost use Rattle.ud_model.specs.text.Scanning.{next_reading};
+ghost use Rattle.ud_model.specs.aids.LineViews.{as_line};
+ghost use Rattle.ud_model.specs.declared.limits.TheConstants.{LINE_BYTES};
+ghost use Rattle.ud_model.specs.declared.kind.Mode.{Mode};
+ghost use Rattle.ud_text.specs.scan.ScannerState.{ScannerRepresents};
+ghost use Rattle.ud_model.specs.conditions.Table.{Argument};
+ghost use Rattle.ud_cond.specs.symbols.SymbolTable.{TableRepresents};
+ghost use Rattle.ud_cond.specs.CondViews.{as_rules};
+ghost use Rattle.ud_passes.specs.UntouchedTexts.{IsUntouched, LeavesNext, StayedTo};
+
+use crate::folding::begins;
+use crate::pruning::LineEditor;
+use crate::walk::{LineScanner, Stretch, Walk};
+use std::alloc::{AllocError, Global};
+use ud_cond::{Rules, Symbols};
+use ud_model::{Line, Mode};
+
+/// Reads a line. Returns whether it stays.
+///
+/// # Errors
+/// Fails if memory runs out.
+fn line_stays(
+    scanner: &mut LineScanner,
+    editor: &mut LineEditor,
+    line: &Line<'_>,
+    symbols: &Symbols,
+    rules: Rules,
+) -> Result<bool, AllocError>
+    requires fits { length (text_of (as_line line.now)) ≤ LINE_BYTES }
+    requires one_line { NoNewline line.now.body.now }
+    ensures represents { OnOk result ((before : List Reading) →
+        ScannerRepresents scanner.old before → ScannerRepresents scanner.new
+        (before ++ next_reading before Mode.C (as_line line.now) ∷ [])) }
+    ensures stays { IfOk result (λ stays. stays ≡ true → (calls : List Argument) →
+        TableRepresents symbols.now calls →
+        LeavesNext calls (as_rules rules) scanner.old (as_line line.now)) }
+{
+    let scan = scanner.read_growing(Mode::C, line)?;
+    if begins(&scan) {
+        return Ok(false);
+    }
+    let edited = editor.edit(line, &scan, symbols, rules)?;
+    Ok(!edited)
+}
+
+/// Takes the next lines. Returns whether they stay.
+///
+/// # Errors
+/// Fails if memory runs out.
+fn step(
+    walk: &mut Walk<'_>,
+    editor: &mut LineEditor,
+    symbols: &Symbols,
+    rules: Rules,
+) -> Result<bool, AllocError>
+    requires some { 0 < length walk.old.rest.now }
+    ensures shorter { length walk.new.rest.now < length walk.old.rest.now }
+    ensures stay { IfOk result (λ stay. stay ≡ true → (text : List ℕ) (calls : List Argument) →
+        TableRepresents symbols.now calls → StayedTo calls (as_rules rules) text walk.old →
+        StayedTo calls (as_rules rules) text walk.new) }
+{
+    match walk.next(Mode::C) {
+        Stretch::Texts(_) => Ok(true),
+        Stretch::TooLong(_) => Ok(true),
+        Stretch::Fitting(line) => {
+            let stays = line_stays(&mut walk.scanner, editor, &line, symbols, rules)?;
+            Ok(stays)
+        }
+    }
+}
+
+/// Returns whether a text is known to be its own folded text, and to have no condition with
+/// operands that the symbols decide.
+///
+/// `text` may have any length and any bytes, and is read in C mode.
+///
+/// # Errors
+/// Fails if memory runs out.
+pub fn is_untouched(
+    alloc: Global,
+    text: &[u8],
+    symbols: &Symbols,
+    rules: Rules,
+) -> Result<bool, AllocError>
+    ensures { IfOk result (λ known. known ≡ true → (calls : List Argument) →
+        TableRepresents symbols.now calls → IsUntouched calls (as_rules rules) text.now) }
+{
+    let mut walk = Walk::new(alloc, text);
+    let mut editor = LineEditor::new(alloc);
+    while !walk.is_at_end() {
+        if !step(&mut walk, &mut editor, symbols, rules)? {
+            return Ok(false);
+        }
+    }
+    Ok(true)
+}
