@@ -1,4 +1,4 @@
-# `make help` lists the targets, from the lines with ## above them.
+# `make help` lists the targets, from the lines with ## above them, under those with #= above.
 
 PREFIX ?= /usr/local
 BINDIR ?= $(PREFIX)/bin
@@ -15,41 +15,39 @@ PYTHONDIR ?= $(shell packaging/pythondir.sh '$(PREFIX)')
 INSTALL ?= install
 LDCONFIG ?= /sbin/ldconfig
 
-# The page that is installed. It links to itself alone.
-PAGES := docs/PROVED.md
-
-# The module for Python.
-MODULE := $(addprefix lib/python/unifdef/,__init__.py __main__.py _library.py py.typed)
-
-# Rattle's command: the one on PATH, or `make RT=FILE`.
+# Rattle's command: the one on PATH, or `make RT=FILE`. Recipes run it in other folders.
 RT ?= rt
+override RT := $(if $(findstring /,$(RT)),$(shell realpath -ms -- '$(RT)'),$(RT))
 
 # The processor of `make native`, which is no other's.
 CPU = x86-64-v3
 
 # Recipes name make by MAKE_COMMAND: make -n runs each line that names it by MAKE.
+TRIED = RT='$(RT)' MAKE='$(MAKE_COMMAND)'
 
 CRATE := crates/unifdef_cli
-UNPROVED := $(CRATE)/out/unproved
-UNPROVED_TREE := crates/unifdef_tree_cli/out/unproved
+CRATE_TREE := crates/unifdef_tree_cli
 TABLE := crates/test_memory/out/test_memory
 SOURCES := crates.txt HANDLES \
 	$(shell find crates -name out -prune -o \( -name '*.rt' -o -name '*.antt' \) -print)
+# The module for Python, and the page that is installed, which links to itself alone.
+MODULE := $(addprefix lib/python/unifdef/,__init__.py __main__.py _library.py py.typed)
+PAGES := docs/PROVED.md
 
 .DELETE_ON_ERROR:
-.PHONY: all help build native kit try try-tree case test test-all check edits edits-test cases examples manual-examples differences
-.PHONY: faults fail-alloc tree-test
-.PHONY: install uninstall dist deb release packages-test manuals around bench bench-text
-.PHONY: lib lib-test install-lib uninstall-lib deb-lib clients-test
-.PHONY: bench-library bench-conditions bench-folders pictures trees pruned selects lines lines-test hostile fronts clean
+# No file has the name of a target, but for the programs and what is in a folder.
+.PHONY: $(filter-out unifdef unifdef-tree,$(shell sed -n 's/^\([a-z-]*\):.*/\1/p' Makefile))
+
+#= To use it
 
 ## proves the crates side by side, and builds ./unifdef
-all: build
+all: unifdef
 
-HELP = /^\#\# / { text[n++] = substr($$0, 4); next } \
+HELP = /^\#= / { print end substr($$0, 4) ":"; end = "\n" } \
+	/^\#\# / { text[n++] = substr($$0, 4); next } \
 	n && /^[a-z-]+:/ { \
 	  sub(/:.*/, ""); sub(/^all$$/, ""); \
-	  for (i = 0; i < n; i++) printf "%-22s%s\n", i ? "" : "make " $$0, text[i]; \
+	  for (i = 0; i < n; i++) printf "  %-22s%s\n", i ? "" : "make " $$0, text[i]; \
 	  n = 0 \
 	}
 
@@ -57,53 +55,18 @@ HELP = /^\#\# / { text[n++] = substr($$0, 4); next } \
 help:
 	@awk '$(HELP)' Makefile
 
-# Reports clearly that the command isn't there. What is built is older than its sources in a copy
-# that doesn't keep their times.
+# Says clearly what isn't there. What is built is older than its sources in a copy that doesn't keep
+# their times.
 NO_KIT = Rattle's command $(RT) is not there: put it on PATH, or run make RT=FILE
-OLD_COPY = a copy of a built folder needs none if it keeps times (cp -a), nor does make -o unifdef -o unifdef-tree install
-NEED_KIT = command -v $(RT) > /dev/null || { printf 'make: %s\n' "$(NO_KIT)" "$(OLD_COPY)" >&2; exit 1; }
+OLD_COPY = a copy of a built folder needs none if it keeps times (cp -a), nor does \
+	make -o unifdef -o unifdef-tree install
+READ_ONLY = $(CURDIR) cannot be written: build in a copy of it
+FAIL = { printf 'make: %s\n' $(1) >&2; exit 1; }
+NEED_KIT = command -v '$(RT)' > /dev/null || $(call FAIL,"$(NO_KIT)" "$(OLD_COPY)"); \
+	[ -w . ] || $(call FAIL,"$(READ_ONLY)")
 
 kit:
 	@$(NEED_KIT)
-
-build: unifdef
-
-# The programs without a proof. They aren't for use: ./unifdef and ./unifdef-tree are.
-crates/%/out/unproved: $(filter-out %.antt,$(SOURCES))
-	@$(NEED_KIT)
-	@echo 'make: builds the program without a proof and without optimization, in half a minute' >&2
-	@RT='$(RT)' tools/unproved.py $* $@
-
-# Status 1 says that the output differs, so it doesn't fail the recipe.
-RUN_UNPROVED = @status=0; $< $(ARGS) || status=$$?; \
-	echo "make: status $$status, and nothing is proved" >&2; \
-	[ $$status -le 1 ]
-
-## builds the program without a proof, in half a minute, and
-## runs it: make try ARGS='-DA' < in.c. Statuses 0 and 1 are
-## success, and the status is printed
-try: $(UNPROVED)
-	$(RUN_UNPROVED)
-
-## does the same with unifdef-tree:
-## make try-tree ARGS='-s -- src'
-try-tree: $(UNPROVED_TREE)
-	$(RUN_UNPROVED)
-
-## runs the case of one file without a proof:
-## make case FILE=crates/test_runner/data/limits/NAME.case
-case: $(UNPROVED)
-	@tests/cases.py $< --case $(FILE)
-
-## runs each worked case once, in a minute and without a
-## proof
-test: kit
-	@RT='$(RT)' MAKE='$(MAKE_COMMAND)' tests/quick.py
-
-## runs every case in several ways, and every test, without
-## a proof
-test-all: kit
-	@RT='$(RT)' MAKE='$(MAKE_COMMAND)' tests/quick.py --all
 
 # If it is up to date, nothing here needs the kit. So a built copy installs without it.
 unifdef: $(SOURCES)
@@ -111,18 +74,17 @@ unifdef: $(SOURCES)
 	@RT='$(RT)' tools/prove.py
 	cp $(CRATE)/out/unifdef_cli $@
 
-## proves and builds ./unifdef-native for a processor with
-## AVX2, or for another one: make native CPU=x86-64-v2
-native: $(SOURCES)
-	@$(NEED_KIT)
-	@RT='$(RT)' UNIFDEF_CPU='$(CPU)' tools/prove.py
-	cp $(CRATE)/out/unifdef_cli unifdef-native
-
 ## proves and builds ./unifdef-tree
 unifdef-tree: $(SOURCES)
 	@$(NEED_KIT)
 	@RT='$(RT)' tools/prove.py unifdef_tree_cli
-	cp crates/unifdef_tree_cli/out/unifdef_tree_cli $@
+	cp $(CRATE_TREE)/out/unifdef_tree_cli $@
+
+## proves and builds ./unifdef-native, for AVX2 or CPU=..
+native: $(SOURCES)
+	@$(NEED_KIT)
+	@RT='$(RT)' UNIFDEF_CPU='$(CPU)' tools/prove.py
+	cp $(CRATE)/out/unifdef_cli unifdef-native
 
 # The library for C. `rt doc` prints a page in the folder of the kit, which has the C functions that
 # allocate memory.
@@ -134,10 +96,119 @@ lib/libunifdef.a: $(SOURCES) lib/build.sh lib/unifdef.map CHANGELOG.md
 	@RT='$(RT)' tools/prove.py unifdef_c
 	lib/build.sh crates/unifdef_c/out/libunifdef_c.a "$$(dirname "$$($(RT) doc)")/c/liblibc_c.a"
 
-## tries both from C and Python, and runs all cases through
-## them
-lib-test: lib
-	@tests/library.sh
+# into MODE FOLDER FILES: installs files into a folder.
+into = $(INSTALL) -d "$(DESTDIR)$(2)" && $(INSTALL) -m $(1) $(3) "$(DESTDIR)$(2)"
+COMPLETIONS := packaging/completions
+
+## installs all but the library under DESTDIR and PREFIX
+install: unifdef unifdef-tree
+	$(call into,755,$(BINDIR),unifdef unifdef-tree packaging/unifdef2)
+	$(INSTALL) -d "$(DESTDIR)$(LIBDIR)/unifdef2"
+	ln -sfr "$(DESTDIR)$(BINDIR)/unifdef2" "$(DESTDIR)$(LIBDIR)/unifdef2/unifdef"
+	$(call into,644,$(MANDIR)/man1,docs/unifdef.1 docs/unifdef-tree.1 docs/unifdef2.1)
+	$(call into,644,$(DOCDIR),$(PAGES) LICENSE)
+	$(call into,644,$(ZSHDIR),$(COMPLETIONS)/_unifdef $(COMPLETIONS)/_unifdef-tree)
+	$(call into,644,$(FISHDIR),$(COMPLETIONS)/unifdef.fish $(COMPLETIONS)/unifdef-tree.fish)
+	$(INSTALL) -d "$(DESTDIR)$(BASHDIR)"
+	for name in unifdef unifdef-tree; do \
+	  $(INSTALL) -m 644 $(COMPLETIONS)/unifdef.bash "$(DESTDIR)$(BASHDIR)/$$name" || exit; \
+	done
+	@test -n "$(DESTDIR)" || packaging/warn.sh "$(BINDIR)"
+
+# gone FOLDER: removes a folder if nothing is in it.
+gone = [ ! -d "$(DESTDIR)$(1)" ] || rmdir "$(DESTDIR)$(1)" 2> /dev/null || true
+# rm FOLDER FILES: removes files of a folder.
+rm = rm -f $(foreach file,$(2),"$(DESTDIR)$(1)/$(file)")
+
+## removes what make install installed
+uninstall:
+	$(call rm,$(BINDIR),unifdef unifdef-tree unifdef2)
+	$(call rm,$(MANDIR)/man1,unifdef.1 unifdef-tree.1 unifdef2.1)
+	$(call rm,$(LIBDIR)/unifdef2,unifdef)
+	$(call gone,$(LIBDIR)/unifdef2)
+	$(call rm,$(DOCDIR),$(notdir $(PAGES)) LICENSE)
+	$(call gone,$(DOCDIR))
+	$(call rm,$(BASHDIR),unifdef unifdef-tree)
+	$(call rm,$(ZSHDIR),_unifdef _unifdef-tree)
+	$(call rm,$(FISHDIR),unifdef.fish unifdef-tree.fish)
+
+# Only root, and only without DESTDIR, refreshes the list of the machine's libraries.
+REFRESH = [ -n "$(DESTDIR)" ] || [ "$$(id -u)" -ne 0 ] || [ ! -x "$(LDCONFIG)" ] || "$(LDCONFIG)"
+MAJOR = $(shell packaging/version.sh | sed 's/\..*//')
+
+## installs the library, unifdef(3) and the Python module;
+## runs ldconfig if it is root and DESTDIR is empty
+install-lib: lib
+	@$(call into,644,$(LIBDIR),lib/libunifdef.a lib/libunifdef.so.$(MAJOR))
+	@ln -sf libunifdef.so.$(MAJOR) "$(DESTDIR)$(LIBDIR)/libunifdef.so"
+	@$(call into,644,$(INCLUDEDIR),lib/unifdef.h)
+	@$(call into,644,$(MANDIR)/man3,docs/unifdef.3)
+	@$(call into,644,$(PYTHONDIR)/unifdef,$(MODULE))
+	@$(INSTALL) -d "$(DESTDIR)$(PKGCONFIGDIR)"
+	@packaging/pkgconfig.sh "$(PREFIX)" "$(LIBDIR)" "$(INCLUDEDIR)" \
+	  > "$(DESTDIR)$(PKGCONFIGDIR)/unifdef.pc" && chmod 644 "$(DESTDIR)$(PKGCONFIGDIR)/unifdef.pc"
+	@$(REFRESH)
+
+## removes what make install-lib installed
+uninstall-lib:
+	@[ "$$(readlink "$(DESTDIR)$(LIBDIR)/libunifdef.so")" != "libunifdef.so.$(MAJOR)" ] || \
+	  $(call rm,$(LIBDIR),libunifdef.so)
+	$(call rm,$(LIBDIR),libunifdef.so.$(MAJOR) libunifdef.a)
+	$(call rm,$(PKGCONFIGDIR),unifdef.pc)
+	$(call rm,$(INCLUDEDIR),unifdef.h)
+	$(call rm,$(MANDIR)/man3,unifdef.3)
+	$(call rm,$(PYTHONDIR)/unifdef,$(notdir $(MODULE)))
+	rm -rf "$(DESTDIR)$(PYTHONDIR)/unifdef/__pycache__"
+	$(call gone,$(PYTHONDIR)/unifdef)
+	@$(REFRESH)
+
+## makes the Debian packages of the programs
+deb: unifdef unifdef-tree
+	@$(TRIED) packaging/deb.sh
+
+## makes the Debian packages of the library and the module
+deb-lib: lib
+	@$(TRIED) packaging/deb-lib.sh
+
+## removes what was built
+clean:
+	rm -f unifdef unifdef-tree unifdef-native unifdef-*.tar.gz *.deb lib/libunifdef.* gate.log
+	rm -rf crates/*/out .prove-* .gate-* .edits-* release
+	rm -rf lib/python/build lib/python/unifdef.egg-info
+
+#= To develop it
+
+# The programs without a proof. They aren't for use: ./unifdef and ./unifdef-tree are.
+crates/%/out/unproved: $(filter-out %.antt,$(SOURCES))
+	@$(NEED_KIT)
+	@echo 'make: builds the program without a proof and optimization, in half a minute' >&2
+	@RT='$(RT)' tools/unproved.py $* $@
+
+# Status 1 says that the output differs, so it doesn't fail the recipe.
+RUN_UNPROVED = @status=0; $< $(ARGS) || status=$$?; \
+	echo "make: status $$status, and nothing is proved" >&2; \
+	[ $$status -le 1 ]
+
+## builds the program without a proof, in half a minute,
+## and runs it: make try ARGS='-DA' < in.c
+try: $(CRATE)/out/unproved
+	$(RUN_UNPROVED)
+
+## the same with unifdef-tree: make try-tree ARGS='-s src'
+try-tree: $(CRATE_TREE)/out/unproved
+	$(RUN_UNPROVED)
+
+## runs the case of one file, FILE=.., without a proof
+case: $(CRATE)/out/unproved
+	@tests/cases.py $< --case $(FILE)
+
+## runs each case once, in a minute and without a proof
+test: kit
+	@$(TRIED) tests/quick.py
+
+## runs all cases and tests, without a proof
+test-all: kit
+	@$(TRIED) tests/quick.py --all
 
 ## runs the merge gate: every proof from nothing, the edits
 ## of definitions and laws that the prover must refuse, the
@@ -156,135 +227,9 @@ edits: edits-test
 edits-test: kit
 	@RT='$(RT)' tests/edits_control.py
 
-## runs the examples of README.md and docs/EXAMPLES.md
-examples: unifdef unifdef-tree
-	@tests/examples.sh README.md
-	@tests/examples.sh docs/EXAMPLES.md
-	@tests/quotes.sh
-
-## runs the examples of the manual
-manual-examples: unifdef
-	@tests/manual.sh
-
-## runs ./unifdef on the worked cases
-## (crates/test_runner/data)
-cases: unifdef
-	@tests/cases.py
-
-## runs the examples of docs/DIFFERENCES.md, and the other
-## cases that say what unifdef 2.10 does, with all programs
-differences: unifdef unifdef-tree
-	@tests/differences.py
-
-## runs ./unifdef with failing streams, refused memory and a
-## small stack (tests/faults/README.md)
-faults: unifdef $(TABLE)
-	tests/faults/run.sh
-
-# The gate leaves this program too, so that nothing is proved again after it.
-$(TABLE): $(SOURCES)
-	@$(NEED_KIT)
-	cd crates/test_memory && $(RT) run < /dev/null > /dev/null
-	touch $@
-
-## makes each allocation of the program fail in turn, by the
-## kit's fault injection
-fail-alloc: kit
-	RT='$(RT)' tests/faults/fail-alloc.sh
-
-## runs ./unifdef-tree over trees with every trap, and kills
-## it at each system call
-tree-test: unifdef unifdef-tree
-	@tests/tree.sh
-
-## runs unifdef2 with the calls of programs that use
-## unifdef 2.x, by each shell that is there
-clients-test: unifdef
-	@tests/unifdef2.sh
-
-## installs ./unifdef, ./unifdef-tree, unifdef2, manuals and
-## completions under DESTDIR and PREFIX
-install: unifdef unifdef-tree
-	$(INSTALL) -d "$(DESTDIR)$(BINDIR)" "$(DESTDIR)$(MANDIR)/man1" "$(DESTDIR)$(DOCDIR)"
-	$(INSTALL) -d "$(DESTDIR)$(BASHDIR)" "$(DESTDIR)$(ZSHDIR)" "$(DESTDIR)$(FISHDIR)"
-	$(INSTALL) -m 755 unifdef unifdef-tree packaging/unifdef2 "$(DESTDIR)$(BINDIR)"
-	$(INSTALL) -d "$(DESTDIR)$(LIBDIR)/unifdef2"
-	ln -sfr "$(DESTDIR)$(BINDIR)/unifdef2" "$(DESTDIR)$(LIBDIR)/unifdef2/unifdef"
-	$(INSTALL) -m 644 docs/unifdef.1 docs/unifdef-tree.1 docs/unifdef2.1 "$(DESTDIR)$(MANDIR)/man1"
-	$(INSTALL) -m 644 $(PAGES) LICENSE "$(DESTDIR)$(DOCDIR)"
-	$(INSTALL) -m 644 packaging/completions/unifdef.bash "$(DESTDIR)$(BASHDIR)/unifdef"
-	$(INSTALL) -m 644 packaging/completions/unifdef.bash "$(DESTDIR)$(BASHDIR)/unifdef-tree"
-	$(INSTALL) -m 644 packaging/completions/_unifdef packaging/completions/_unifdef-tree "$(DESTDIR)$(ZSHDIR)"
-	$(INSTALL) -m 644 packaging/completions/unifdef.fish packaging/completions/unifdef-tree.fish "$(DESTDIR)$(FISHDIR)"
-	@test -n "$(DESTDIR)" || packaging/warn.sh "$(BINDIR)"
-
-## removes what make install installed
-uninstall:
-	rm -f $(foreach program,unifdef unifdef-tree unifdef2,"$(DESTDIR)$(BINDIR)/$(program)" "$(DESTDIR)$(MANDIR)/man1/$(program).1")
-	rm -f "$(DESTDIR)$(LIBDIR)/unifdef2/unifdef"
-	[ ! -d "$(DESTDIR)$(LIBDIR)/unifdef2" ] || rmdir "$(DESTDIR)$(LIBDIR)/unifdef2" 2> /dev/null || true
-	rm -f $(foreach page,$(notdir $(PAGES)) LICENSE,"$(DESTDIR)$(DOCDIR)/$(page)")
-	[ ! -d "$(DESTDIR)$(DOCDIR)" ] || rmdir "$(DESTDIR)$(DOCDIR)" 2> /dev/null || true
-	rm -f "$(DESTDIR)$(BASHDIR)/unifdef" "$(DESTDIR)$(BASHDIR)/unifdef-tree" "$(DESTDIR)$(ZSHDIR)/_unifdef" "$(DESTDIR)$(ZSHDIR)/_unifdef-tree"
-	rm -f "$(DESTDIR)$(FISHDIR)/unifdef.fish" "$(DESTDIR)$(FISHDIR)/unifdef-tree.fish"
-
-# Only root, and only without DESTDIR, refreshes the list of the machine's libraries.
-REFRESH = [ -n "$(DESTDIR)" ] || [ "$$(id -u)" -ne 0 ] || [ ! -x "$(LDCONFIG)" ] || "$(LDCONFIG)"
-
-## installs the library, unifdef.h, unifdef.pc, the module
-## for Python and unifdef(3). Runs ldconfig if it is root
-## and DESTDIR is empty
-install-lib: lib
-	@MAJOR=$$(packaging/version.sh | sed 's/\..*//') && \
-	$(INSTALL) -d "$(DESTDIR)$(LIBDIR)" "$(DESTDIR)$(PKGCONFIGDIR)" "$(DESTDIR)$(INCLUDEDIR)" "$(DESTDIR)$(MANDIR)/man3" "$(DESTDIR)$(PYTHONDIR)/unifdef" && \
-	$(INSTALL) -m 644 lib/libunifdef.a lib/libunifdef.so.$$MAJOR "$(DESTDIR)$(LIBDIR)" && \
-	ln -sf libunifdef.so.$$MAJOR "$(DESTDIR)$(LIBDIR)/libunifdef.so" && \
-	$(INSTALL) -m 644 lib/unifdef.h "$(DESTDIR)$(INCLUDEDIR)" && \
-	$(INSTALL) -m 644 docs/unifdef.3 "$(DESTDIR)$(MANDIR)/man3" && \
-	$(INSTALL) -m 644 $(MODULE) "$(DESTDIR)$(PYTHONDIR)/unifdef" && \
-	packaging/pkgconfig.sh "$(PREFIX)" "$(LIBDIR)" "$(INCLUDEDIR)" > "$(DESTDIR)$(PKGCONFIGDIR)/unifdef.pc" && \
-	chmod 644 "$(DESTDIR)$(PKGCONFIGDIR)/unifdef.pc"
-	@$(REFRESH)
-
-## removes what make install-lib installed, and runs
-## ldconfig as it does
-uninstall-lib:
-	@FILE="$(DESTDIR)$(LIBDIR)/libunifdef.so" && MAJOR=$$(packaging/version.sh | sed 's/\..*//') && \
-	{ [ "$$(readlink "$$FILE")" != "libunifdef.so.$$MAJOR" ] || rm -f "$$FILE"; } && \
-	rm -f "$$FILE.$$MAJOR" "$(DESTDIR)$(LIBDIR)/libunifdef.a"
-	rm -f "$(DESTDIR)$(PKGCONFIGDIR)/unifdef.pc" "$(DESTDIR)$(INCLUDEDIR)/unifdef.h"
-	rm -f "$(DESTDIR)$(MANDIR)/man3/unifdef.3" $(foreach file,$(notdir $(MODULE)),"$(DESTDIR)$(PYTHONDIR)/unifdef/$(file)")
-	rm -rf "$(DESTDIR)$(PYTHONDIR)/unifdef/__pycache__"
-	[ ! -d "$(DESTDIR)$(PYTHONDIR)/unifdef" ] || rmdir "$(DESTDIR)$(PYTHONDIR)/unifdef" 2> /dev/null || true
-	@$(REFRESH)
-
-## makes unifdef-VERSION.tar.gz of the last commit, which
-## builds by itself
-dist:
-	@packaging/dist.sh
-
-## makes the Debian packages unifdef-tree and unifdef-proved
-deb: unifdef unifdef-tree
-	@MAKE="$(MAKE_COMMAND)" packaging/deb.sh
-
-## makes the Debian packages libunifdef1, libunifdef-dev and
-## python3-unifdef
-deb-lib: lib
-	@MAKE="$(MAKE_COMMAND)" packaging/deb-lib.sh
-
-## makes the folder release with the programs, the library,
-## packages, source, checksums and what changed
-release: unifdef unifdef-tree lib
-	@MAKE="$(MAKE_COMMAND)" packaging/release.sh
-
-## tries installing, all packages, completions, hooks and
-## a release
-packages-test: unifdef unifdef-tree
-	@MAKE="$(MAKE_COMMAND)" tests/packages.sh
-	@MAKE="$(MAKE_COMMAND)" tests/packages-lib.sh
-	@tests/completions.sh
-	@tests/hooks.sh
-	@MAKE="$(MAKE_COMMAND)" tests/release.sh
+## tries all around the programs: the next ten
+around: manuals cases examples differences faults lines-test tree-test clients-test lib-test \
+	packages-test
 
 ## checks version, manuals, scripts, the language of
 ## comments and pages, the names that pages cite, and that
@@ -292,8 +237,65 @@ packages-test: unifdef unifdef-tree
 manuals:
 	@tools/lint.sh
 
-## tries everything around the programs that is quick
-around: manuals cases examples manual-examples differences faults lines-test tree-test clients-test lib-test packages-test
+## runs ./unifdef on the cases (crates/test_runner/data)
+cases: unifdef
+	@tests/cases.py
+
+## runs the examples of the pages and the manual
+examples: unifdef unifdef-tree
+	@tests/examples.py
+
+## runs the cases that say what unifdef 2.10 does instead
+differences: unifdef unifdef-tree
+	@tests/differences.py
+
+## runs ./unifdef with failing calls, memory and stack
+faults: unifdef $(TABLE)
+	@tests/faults/run.sh
+
+# The gate leaves this program too, so that nothing is proved again after it.
+$(TABLE): $(SOURCES)
+	@$(NEED_KIT)
+	cd crates/test_memory && $(RT) run < /dev/null > /dev/null
+	touch $@
+
+## compares the numbers of lines under -n and -b
+lines-test: unifdef
+	@bench/lines.py --fixed
+
+## runs ./unifdef-tree over trees with every trap
+tree-test: unifdef unifdef-tree
+	@tests/tree.sh $(SUBJECTS)
+
+## runs unifdef2 with the calls of programs that use 2.x
+clients-test: unifdef
+	@tests/unifdef2.sh
+
+## tries the library from C and Python, with all cases
+lib-test: lib
+	@tests/library.sh
+
+## tries installing, packages, completions and a release
+packages-test: unifdef unifdef-tree
+	@for part in packages packages-lib completions hooks release; do \
+	  $(TRIED) tests/$$part.sh || exit; \
+	done
+
+## makes unifdef-VERSION.tar.gz of the last commit
+dist:
+	@packaging/dist.sh
+
+## makes the folder release with all that its page needs
+release: unifdef unifdef-tree lib
+	@$(TRIED) packaging/release.sh
+
+## draws the pictures in docs and bench
+pictures: unifdef
+	python3 bench/chart.py bench/README.md > bench/speed.svg
+	python3 bench/chart.py bench/README.md --short > bench/speed-short.svg
+	tools/before_after.py tools/io.h -UVMS -DUNIX > docs/before-after.svg
+
+#= To measure it
 
 ## measures speed (bench/README.md): the next four
 bench: bench-text bench-library bench-conditions bench-folders
@@ -313,46 +315,24 @@ bench-conditions: kit
 
 ## measures ./unifdef-tree over copies of the headers
 bench-folders: unifdef-tree
-	python3 bench/folders.py ./unifdef-tree
+	bench/folders.sh
 
-# Graphviz repeats the name of each node and edge in a comment and a title, and ends each in a line
-# of its own. The picture's title stays.
-pictures: DRAW = dot -Tsvg
-pictures: PLAIN = sed -e '/^<!-- .*-->$$/d' -e '0,/^<title>/!{ /^<title>/d }' | \
-	awk 'NR > 1 && $$0 != "</g>" { print "" } { printf "%s", $$0 } END { print "" }'
-## draws the pictures in docs and bench
-pictures: unifdef
-	@command -v dot > /dev/null || { echo "make: graphviz's dot is not there" >&2; exit 1; }
-	$(DRAW) tools/line.dot | $(PLAIN) > docs/line.svg
-	tools/diagrams.py states | $(DRAW) | $(PLAIN) > docs/states.svg
-	tools/diagrams.py crates | $(DRAW) | $(PLAIN) > docs/crates.svg
-	python3 bench/chart.py bench/README.md > bench/speed.svg
-	python3 bench/chart.py bench/README.md --short > bench/speed-short.svg
-	tools/before_after.py tools/io.h -UVMS -DUNIX > docs/before-after.svg
-
-## compares output over real trees with the released program
+## compares output over trees with the released program
 trees: unifdef
 	bench/trees.sh
 
-## counts the conditions of real sources that unifdef-tree
-## -p edits
+## counts the conditions of real sources that -p edits
 pruned: unifdef-tree
 	bench/pruned.sh
 
-## compares what a C compiler selects before and after, of
-## real files, and of small programs with headers
+## compares what a C compiler selects before and after
 selects: unifdef unifdef-tree
 	bench/selects.py $(SELECTS)
 	bench/programs.py $(PROGRAMS)
 
-## compares the line numbers that a C compiler gives before
-## and after -n and -b
+## compares the lines' numbers before and after -n and -b
 lines: unifdef
 	bench/lines.py $(LINE_OPTIONS)
-
-## does so for a few texts, in seconds
-lines-test: unifdef
-	@tests/lines.sh
 
 ## compares the library with its reference on N hostile
 ## texts from SEED on, in JOBS processes; CHECKS=options
@@ -361,13 +341,8 @@ hostile: kit
 	cd crates/test_runner && $(RT) run -- hostile 0 1 < /dev/null > /dev/null
 	N='$(N)' SEED='$(SEED)' JOBS='$(JOBS)' CHECKS='$(CHECKS)' bench/hostile.sh
 
-## compares ./unifdef with its reference on parts of N real
-## files from SEED on
+## the same for ./unifdef on parts of N real files
 fronts: unifdef
 	cd crates/test_runner && $(RT) run -- reference < /dev/null > /dev/null
-	N='$(N)' SEED='$(SEED)' bench/fronts.sh
-
-## removes what was built
-clean:
-	rm -f unifdef unifdef-tree unifdef-native unifdef-*.tar.gz *.deb lib/libunifdef.* gate.log
-	rm -rf crates/*/out .prove-* .gate-* .edits-* release lib/python/build lib/python/unifdef.egg-info
+	python3 bench/fronts.py ./unifdef crates/test_runner/out/test_runner \
+	  $(or $(FRONTS_TREE),/usr/include) $(or $(N),20000) $(or $(SEED),0)

@@ -5,12 +5,10 @@
 #   libunifdef-dev     what a C program is built with: unifdef.h, unifdef(3), the other libraries
 #   python3-unifdef    the module for Python
 #
-# The number in the first name is that of the library's file. The same lib/libunifdef.* give the
-# same packages, byte by byte. Debian's own packages have other names, and each can be installed
-# beside them.
-cd "$(dirname "$0")/.." || exit 1
+# The number in the first name is that of the library's file. Debian's own packages have other
+# names, and each can be installed beside them.
 # shellcheck source=packaging/debian.sh
-source packaging/debian.sh
+source "$(dirname "$0")/debian.sh"
 major=${version%%.*}
 read -ra cc <<< "${CC:-cc}" # It may have a word before the compiler.
 libraries=/usr/lib/$("${cc[@]}" -print-multiarch)
@@ -30,7 +28,8 @@ echo "libunifdef $major $shared (>= $version)" > "$stage/$shared/DEBIAN/shlibs"
   echo " UNIFDEF_$major@UNIFDEF_$major $version"
 } > "$stage/$shared/DEBIAN/symbols"
 echo 'activate-noawait ldconfig' > "$stage/$shared/DEBIAN/triggers"
-build "$shared" "$architecture" libs 'Multi-Arch: same' "Depends: libc6 (>= $(newest "lib/libunifdef.so.$major"))" << 'END'
+build "$shared" "$architecture" libs 'Multi-Arch: same' \
+  "Depends: libc6 (>= $(newest "lib/libunifdef.so.$major"))" << 'END'
 removal of preprocessor conditionals, in memory
  libunifdef is unifdef(1) for programs: it removes the preprocessor
  conditionals of C source that its options decide. It is proved that what
@@ -42,7 +41,8 @@ take libunifdef-dev usr/include/unifdef.h "$file.a" "$file.so" \
   "${file%/*}/pkgconfig/unifdef.pc" usr/share/man/man3/unifdef.3.gz
 mkdir "$stage/libunifdef-dev/usr/share/doc/libunifdef-dev/examples"
 cp lib/examples/* "$stage/libunifdef-dev/usr/share/doc/libunifdef-dev/examples"
-build libunifdef-dev "$architecture" libdevel 'Multi-Arch: same' "Depends: $shared (= $version)" << 'END'
+build libunifdef-dev "$architecture" libdevel 'Multi-Arch: same' \
+  "Depends: $shared (= $version)" << 'END'
 removal of preprocessor conditionals, for building programs
  libunifdef is unifdef(1) for programs: it removes the preprocessor
  conditionals of C source that its options decide.

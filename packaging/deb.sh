@@ -3,15 +3,12 @@
 #
 #   unifdef-tree       unifdef-tree alone, which can be installed beside Debian's unifdef
 #   unifdef-proved     unifdef, which takes the place of Debian's unifdef, and unifdef2
-#
-# The same programs give the same packages, byte by byte.
-cd "$(dirname "$0")/.." || exit 1
 # shellcheck source=packaging/debian.sh
-source packaging/debian.sh
+source "$(dirname "$0")/debian.sh"
 
 pages=$all/usr/share/doc/pages
-"${MAKE:-make}" -s -o unifdef -o unifdef-tree install DESTDIR="$all" PREFIX=/usr DOCDIR=/usr/share/doc/pages \
-  ZSHDIR=/usr/share/zsh/vendor-completions
+"${MAKE:-make}" -s -o unifdef -o unifdef-tree install DESTDIR="$all" PREFIX=/usr \
+  DOCDIR=/usr/share/doc/pages ZSHDIR=/usr/share/zsh/vendor-completions
 gzip -9n "$all"/usr/share/man/man1/*.1
 strip --remove-section=.comment "$all/usr/bin/unifdef" "$all/usr/bin/unifdef-tree"
 rm "$pages/LICENSE" # It is the copyright of each package.
@@ -38,8 +35,8 @@ END
 
 take_program unifdef-proved unifdef
 take unifdef-proved usr/bin/unifdef2 usr/share/man/man1/unifdef2.1.gz usr/lib/unifdef2/unifdef
-build unifdef-proved "$architecture" devel "Depends: libc6 (>= $(newest unifdef))" 'Recommends: unifdef-tree' \
-  'Conflicts: unifdef' 'Replaces: unifdef' << 'END'
+build unifdef-proved "$architecture" devel "Depends: libc6 (>= $(newest unifdef))" \
+  'Recommends: unifdef-tree' 'Conflicts: unifdef' 'Replaces: unifdef' << 'END'
 remove preprocessor conditionals from C source, proved
  unifdef removes the preprocessor conditionals of C source that its options
  decide, and the lines that they exclude. It is proved that the program gives

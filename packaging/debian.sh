@@ -1,12 +1,12 @@
 #!/usr/bin/env bash
-# The parts of Debian packages that deb.sh and deb-lib.sh share: they read this file, at the top of
-# the repository.
+# The parts of Debian packages that deb.sh and deb-lib.sh share: they read this file.
 #
 # The same files give the same packages, byte by byte: times are SOURCE_DATE_EPOCH or, without it,
 # the time of the last commit. The maintainer is DEBFULLNAME and DEBEMAIL, or who made that commit.
 set -eu -o pipefail
 umask 022
 export LC_ALL=C
+cd "$(dirname "${BASH_SOURCE[0]}")/.."
 command -v dpkg-deb > /dev/null || { echo "${0##*/}: dpkg-deb is not there" >&2; exit 1; }
 version=$(packaging/version.sh)
 # shellcheck disable=SC2034 # It is for the scripts that read this file.
@@ -15,9 +15,8 @@ architecture=$(dpkg --print-architecture)
 # commit FORMAT: prints what the last commit has. A repository around this folder has its own.
 commit() { [ -e .git ] && git log -1 --format="$1" 2> /dev/null; }
 
-name=${DEBFULLNAME:-$(commit %an || echo 'unifdef maintainers')}
-email=${DEBEMAIL:-$(commit %ae || echo maintainers@unifdef.invalid)}
-maintainer="$name <$email>"
+maintainer=${DEBFULLNAME:-$(commit %an || echo 'unifdef maintainers')}
+maintainer+=" <${DEBEMAIL:-$(commit %ae || echo maintainers@unifdef.invalid)}>"
 SOURCE_DATE_EPOCH=${SOURCE_DATE_EPOCH:-$(commit %ct || stat -c %Y CHANGELOG.md)}
 export SOURCE_DATE_EPOCH
 stage=$(mktemp -d)
@@ -30,28 +29,33 @@ all=$stage/all
 take() {
   local root=$stage/$1 documents=$stage/$1/usr/share/doc/$1
   mkdir -p "$documents" "$root/DEBIAN"
-  (cd "$all" && tar cf - -- "${@:2}") | tar xf - -C "$root"
-  (cd "$all" && rm -- "${@:2}")
+  (cd "$all" && tar cf - -- "${@:2}" && rm -- "${@:2}") | tar xf - -C "$root"
   cp LICENSE "$documents/copyright"
-  printf '%s (%s) unstable; urgency=medium\n\n  * CHANGELOG.md has what changed.\n\n -- %s  %s\n' \
-    "$1" "$version" "$maintainer" "$(date -uRd "@$SOURCE_DATE_EPOCH")" | gzip -9n > "$documents/changelog.gz"
+  gzip -9n > "$documents/changelog.gz" << END
+$1 ($version) unstable; urgency=medium
+
+  * CHANGELOG.md has what changed.
+
+ -- $maintainer  $(date -uRd "@$SOURCE_DATE_EPOCH")
+END
 }
 
 # kibibytes FOLDER: the size of its files, which isn't that of their blocks on some disk.
-kibibytes() { find "$1" -type f -printf '%s\n' | awk '{ n += int(($1 + 1023) / 1024) } END { print n }'; }
+kibibytes() {
+  find "$1" -type f -printf '%s\n' | awk '{ n += int(($1 + 1023) / 1024) } END { print n }'
+}
 
 # newest FILE..: the C library that a program needs: as new as the newest of its symbols.
 newest() { objdump -T "$@" | sed -n 's/.*GLIBC_\([0-9.]*\).*/\1/p' | sort -Vu | tail -n 1; }
 
-# build PACKAGE ARCHITECTURE SECTION FIELD..: makes a package that everybody can read. The description
-# is standard input.
+# build PACKAGE ARCHITECTURE SECTION FIELD..: makes a package that everybody can read. The
+# description is standard input.
 build() {
   local root=$stage/$1 package=$1_${version}_$2.deb
   {
     printf 'Package: %s\nVersion: %s\nArchitecture: %s\n' "$1" "$version" "$2"
     printf 'Maintainer: %s\nInstalled-Size: %s\n' "$maintainer" "$(kibibytes "$root/usr")"
-    printf 'Section: %s\nPriority: optional\n' "$3"
-    printf '%s\n' "${@:4}" "Description: $(cat)"
+    printf '%s\n' "Section: $3" 'Priority: optional' "${@:4}" "Description: $(cat)"
   } > "$root/DEBIAN/control"
   chmod -R u=rwX,go=rX "$root"
   (cd "$root" && find usr -type f -print0 | sort -z | xargs -0 md5sum) > "$root/DEBIAN/md5sums"

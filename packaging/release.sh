@@ -7,7 +7,7 @@ umask 022
 export LC_ALL=C
 cd "$(dirname "$0")/.."
 make=${MAKE:-make}
-version=$(packaging/version.sh)
+version=$(packaging/version.sh --released)
 if [ -n "$(git status --porcelain)" ]; then
   echo 'release: commit first: what is not committed would be in some of the files alone' >&2
   exit 1
@@ -22,8 +22,8 @@ mkdir release
 
 # What `make install` and `make install-lib` install under /usr/local, as a folder of this name. The
 # module for Python is beside the other data, since each version of Python has a folder of its own.
-"$make" -s -o unifdef -o unifdef-tree -o lib/libunifdef.a install install-lib DESTDIR="$work/all" PREFIX=/usr/local \
-  PYTHONDIR=/usr/local/share/unifdef/python
+"$make" -s -o unifdef -o unifdef-tree -o lib/libunifdef.a install install-lib \
+  DESTDIR="$work/all" PREFIX=/usr/local PYTHONDIR=/usr/local/share/unifdef/python
 mv "$work/all/usr/local" "$work/$name"
 tar --sort=name --owner=0 --group=0 --numeric-owner --mtime="@$SOURCE_DATE_EPOCH" --format=ustar \
   -C "$work" -cf - "$name" | gzip -9n > "release/$name.tar.gz"

@@ -1,59 +1,39 @@
-#!/bin/sh
-# Prints the version. Fails if CHANGELOG.md, the manuals, lib/unifdef.h, the library's code, the
-# module for Python, the option -V of unifdef-tree and unifdef2, and the commit's tag don't agree on
-# it.
-#
-# The version is that of the first heading of CHANGELOG.md with a number, as "## 1.0".
+#!/usr/bin/env bash
+# Prints the version: that of the first heading of CHANGELOG.md with a number, as "## 1.0". Fails if
+# a file or the commit's tag doesn't agree on it. With --released, it also fails if that heading has
+# no date, as "## 1.0 (2026-12-01)" has.
 set -u
 cd "$(dirname "$0")/.." || exit 1
-
-version=$(sed -n 's/^## \([0-9][0-9.]*\).*/\1/p' CHANGELOG.md | head -n 1)
-if [ -z "$version" ]; then
-  echo 'version: CHANGELOG.md has none' >&2
-  exit 1
-fi
 result=0
+
+wrong() {
+  echo "version: $1" >&2
+  result=1
+}
+
+# has FILE LINE: checks that a file has a line, however it is indented.
+has() { sed 's/^ *//' "$1" | grep -qxF -e "$2" || wrong "$1 has no line $2"; }
+
+read -r _ version date < <(grep -m 1 '^## [0-9]' CHANGELOG.md)
+[ -n "${version:-}" ] || { wrong 'CHANGELOG.md has none'; exit 1; }
 for manual in docs/*.[13]; do
-  if ! grep -qx "\\.Os unifdef $version" "$manual"; then
-    echo "version: $manual has no line .Os unifdef $version" >&2
-    result=1
-  fi
+  has "$manual" ".Os unifdef $version"
 done
-number=$(echo "$version" | awk -F. '{ print $1 * 10000 + $2 * 100 }')
-if ! grep -qx "#define UNIFDEF_VERSION $number" lib/unifdef.h; then
-  echo "version: lib/unifdef.h has no line #define UNIFDEF_VERSION $number" >&2
-  result=1
-fi
-if ! grep -qxF "const VERSION: &str = \"unifdef-tree $version\";" crates/unifdef_tree_cli/src/main.rt; then
-  echo "version: crates/unifdef_tree_cli/src/main.rt has another version than $version" >&2
-  result=1
-fi
-if ! grep -q "^ *echo 'unifdef2 $version'$" packaging/unifdef2; then
-  echo "version: packaging/unifdef2 has another version than $version" >&2
-  result=1
-fi
-if ! grep -qx "#define UNIFDEF_VERSION_STRING \"$version\"" lib/unifdef.h; then
-  echo "version: lib/unifdef.h has no line #define UNIFDEF_VERSION_STRING \"$version\"" >&2
-  result=1
-fi
-if ! grep -qx "__version__ = \"$version\"" lib/python/unifdef/__init__.py; then
-  echo "version: lib/python/unifdef/__init__.py has no line __version__ = \"$version\"" >&2
-  result=1
-fi
+IFS=. read -r major minor <<< "$version"
+has lib/unifdef.h "#define UNIFDEF_VERSION $((major * 10000 + minor * 100))"
+has lib/unifdef.h "#define UNIFDEF_VERSION_STRING \"$version\""
+has lib/python/unifdef/__init__.py "__version__ = \"$version\""
+has crates/unifdef_tree_cli/src/main.rt "const VERSION: &str = \"unifdef-tree $version\";"
+has packaging/unifdef2 "echo 'unifdef2 $version'"
 code=crates/unifdef_c/src/version.rt
 numbers=$(sed -n 's/^pub(crate) const [A-Z]*: u16 = \([0-9]*\);/\1/p' "$code" | paste -sd .)
-if [ "$numbers" != "$version" ]; then
-  echo "version: $code has the version $numbers" >&2
-  result=1
-fi
-tags=$(git tag --points-at HEAD 2> /dev/null | grep '^v[0-9]') || tags=''
+[ "$numbers" = "$version" ] || wrong "$code has the version $numbers"
 # In a tarball there is no commit, and a repository around it has tags of its own.
-[ -e .git ] || tags=''
-for tag in $tags; do
-  if [ "$tag" != "v$version" ]; then
-    echo "version: the tag $tag isn't v$version" >&2
-    result=1
-  fi
+for tag in $([ ! -e .git ] || git tag --points-at HEAD 2> /dev/null | grep '^v[0-9]'); do
+  [ "$tag" = "v$version" ] || wrong "the tag $tag isn't v$version"
 done
+if [ "${1:-}" = --released ] && [[ ! $date =~ ^\([0-9]{4}-[0-9]{2}-[0-9]{2}\)$ ]]; then
+  wrong "$version isn't released yet: its heading in CHANGELOG.md has no date, as (2026-12-01)"
+fi
 echo "$version"
 exit "$result"

@@ -1,12 +1,11 @@
 #!/usr/bin/env python3
 """Runs a built program on the case files, each in a process of its own.
 
-    tests/cases.py [PROGRAM] [--case NAME ..] [--released RELEASED]
+    tests/cases.py [PROGRAM] [--case NAME ..]
 
 PROGRAM is ./unifdef by default. NAME is a case file or a folder of them; without it, all cases of
 crates/test_runner/data are run, whose README.md describes the files. A case with lines about its
-streams is left out, since these need a reader and a writer over memory. With --released, the
-released unifdef 2.10 is run instead, on the cases that say what it does.
+streams is left out, since these need a reader and a writer over memory.
 """
 
 import argparse
@@ -221,25 +220,21 @@ def main() -> int:
     parser = argparse.ArgumentParser(description="Runs a built program on case files.")
     parser.add_argument("program", nargs="?", type=Path, default=TOP / "unifdef")
     parser.add_argument("--case", nargs="+", action="extend", type=Path, metavar="NAME")
-    parser.add_argument("--released", type=Path, metavar="PROGRAM", help="unifdef 2.10")
     options = parser.parse_args()
-    program = (options.released or options.program).resolve()
+    program = options.program.resolve()
     right = wrong = left_out = 0
     try:
         for case in cases_in(options.case or [DATA]):
-            wanted = case.released if options.released else case.answer
-            if case.streams or wanted is None:
+            if case.streams:
                 left_out += 1
-            elif check(program, case, wanted, "cases"):
-                right += 1
             else:
-                wrong += 1
+                is_right = check(program, case, case.answer, "cases")
+                right, wrong = right + is_right, wrong + (not is_right)
     except (CaseError, OSError, subprocess.TimeoutExpired) as error:
         print(f"cases: {error}", file=sys.stderr)
         return 1
-    reason = "which say nothing of 2.10" if options.released else "which need streams over memory"
     if left_out:
-        print(f"cases: {left_out} left out, {reason}")
+        print(f"cases: {left_out} left out, which need streams over memory")
     print(f"cases: {right} right, {wrong} wrong")
     return 1 if wrong or not right + left_out else 0
 

@@ -1,24 +1,16 @@
 #!/usr/bin/env bash
 # Tries the completions in each of bash, zsh and fish that is installed.
-#
-# completions.sh [PROGRAM]: ./unifdef by default. ./unifdef-tree is the other program.
-set -u -o pipefail
-here=$(cd "$(dirname "$0")" && pwd)
-program=$(realpath "${1:-$here/../unifdef}")
-completions=$here/../packaging/completions
-[ -x "$program" ] || { echo "completions: $program is not there: run make" >&2; exit 1; }
-
-work=$(mktemp -d)
-trap 'rm -rf "$work"' EXIT
+# shellcheck source=tests/checks.sh
+source "$(dirname "$0")/checks.sh"
+needs ./unifdef ./unifdef-tree
+completions=$here/packaging/completions
 mkdir -p "$work/bin" "$work/here/below"
-ln -s "$program" "$work/bin/unifdef"
-ln -s "$(realpath "$here/../unifdef-tree")" "$work/bin/unifdef-tree"
+ln -s "$here/unifdef" "$here/unifdef-tree" "$work/bin"
 export PATH=$work/bin:$PATH HOME=$work XDG_CONFIG_HOME=$work XDG_DATA_HOME=$work
 cd "$work/here" || exit 1
 printf '#if DEBUG > 1 && defined(DEEP)\n#endif\n' > a.h
 printf '#ifdef OTHER\n#endif\n' > below/b.c
 : > -x.h
-right=0 wrong=0
 
 # in_SHELL LINE: prints the completions that a shell offers for a line.
 in_bash() {
@@ -33,7 +25,10 @@ in_bash() {
     printf "%s\n" "${COMPREPLY[@]}"' bash "$completions" "$1"
 }
 # shellcheck disable=SC2016 # The variables are those of the other shell.
-in_fish() { fish --no-config -c 'source $argv[1]/unifdef.fish; source $argv[1]/unifdef-tree.fish; complete -C $argv[2]' "$completions" "$1"; }
+in_fish() {
+  fish --no-config -c 'source $argv[1]/unifdef.fish; source $argv[1]/unifdef-tree.fish
+    complete -C $argv[2]' "$completions" "$1"
+}
 # zsh completes only at a terminal, so this script makes one. The shell announces that it is ready,
 # and, by a second key after the one that completes, that it has completed. An hour for each is a
 # guard against hanging.
@@ -59,42 +54,34 @@ zpty -d shell
 print -r -- $shown
 END
 in_zsh() {
-  timeout 7500 zsh -f "$work/ask.zsh" "$completions" "$1" | tr -d '\r' | sed 's/\x1b\[[0-9;]*[A-Za-z]/\n/g' | tr -s ' ' '\n'
+  timeout 7500 zsh -f "$work/ask.zsh" "$completions" "$1" | tr -d '\r' |
+    sed 's/\x1b\[[0-9;]*[A-Za-z]/\n/g' | tr -s ' ' '\n'
 }
 
 # offers SHELL LINE WANTED UNWANTED: checks that the completions of a line have one word and not the
 # other.
 offers() {
-  local offered
   offered=$("in_$1" "$2" 2>&1 < /dev/null)
-  if grep -qE -e "^$3([[:space:]]|$)" <<< "$offered" && ! grep -qE -e "^$4([[:space:]]|$)" <<< "$offered"; then
-    right=$((right + 1))
-  else
-    wrong=$((wrong + 1))
-    printf 'completions: %s offers for %s: %s\n' "$1" "$2" "$offered"
-  fi
+  check "$1 for $2" offered_alone "$3" "$4"
+}
+has_word() { grep -qE -e "^$1([[:space:]]|$)" <<< "$offered"; }
+offered_alone() {
+  echo "$offered"
+  has_word "$1" && ! has_word "$2"
 }
 
 for shell in bash zsh fish; do
-  if ! command -v "$shell" > /dev/null; then
-    echo "completions: $shell is not there, so it is left out"
-    continue
-  fi
+  has "$shell" || { left_out "$shell"; continue; }
   offers "$shell" 'unifdef -' -S -r
   offers "$shell" 'unifdef-tree -' -r -S
-  case $shell in
-    zsh) names='' ;;
-    *) names=-U ;;
-  esac
+  names=-U files=-x.h
+  [ "$shell" != zsh ] || names=''
   offers "$shell" 'unifdef -UDE' "${names}DEBUG" "${names}OTHER"
   offers "$shell" 'unifdef-tree -U ' OTHER a.h
   offers "$shell" 'unifdef -x ' 2 3
   offers "$shell" 'unifdef -U ' OTHER a.h
   # After a path and after -- there are files. bash adds them itself to an empty list.
-  case $shell in
-    bash) files='' ;;
-    *) files=-x.h ;;
-  esac
+  [ "$shell" != bash ] || files=''
   offers "$shell" 'unifdef-tree -DA=1 below -' "$files" '-[knrq]'
   offers "$shell" 'unifdef-tree -D A -b -- -' "$files" '-[knrq]'
   [ "$shell" = zsh ] || offers "$shell" 'unifdef -bU A a.h -' "$files" '-[kn]'
@@ -116,5 +103,4 @@ for shell in bash zsh fish; do
       ;;
   esac
 done
-echo "completions: $right lines are completed right, $wrong wrong"
-[ "$wrong" -eq 0 ]
+finish

@@ -25,7 +25,6 @@ SOURCE = """\
 ghost use Rattle.std.specs.Prelude.{◌≡◌, ◌+◌, ◌<◌, ◌≤◌, ◌^◌, ℕ};
 ghost use Rattle.lower.specs.Steps.{step, height};
 
-/// Returns a number that exceeds neither.
 pub fn lesser(a: u32, b: u32) -> u32
     ensures left { result ≤ a }
     ensures right { result ≤ b }
@@ -33,7 +32,6 @@ pub fn lesser(a: u32, b: u32) -> u32
     if a < b { a } else { b }
 }
 
-/// Returns the next number.
 pub fn successor(a: u32) -> u32
     requires { a < 100 }
     ensures { result ≡ a + 1 }
@@ -42,7 +40,6 @@ pub fn successor(a: u32) -> u32
     next
 }
 
-/// Returns 0.
 pub fn origin() -> u32
     ensures { result ≡ 0 }
 {
@@ -57,7 +54,6 @@ pub fn part(a: u32) -> u32
     a / 2
 }
 
-/// Returns the number.
 pub fn same(a: u32) -> u32
     ensures { result ≡ a }
 {
@@ -65,7 +61,6 @@ pub fn same(a: u32) -> u32
     b
 }
 
-/// Returns a number that exceeds neither the first nor the last. Calls `lesser`.
 pub fn least(a: u32, b: u32, c: u32) -> u32
     ensures first { result ≤ a }
     ensures last { result ≤ c }
@@ -73,7 +68,6 @@ pub fn least(a: u32, b: u32, c: u32) -> u32
     lesser(lesser(a, b), c)
 }
 
-/// Returns the next number but one. Calls `successor`.
 pub fn second(a: u32) -> u32
     requires { a < 99 }
     ensures { result ≡ a + 2 }
@@ -81,7 +75,6 @@ pub fn second(a: u32) -> u32
     successor(successor(a))
 }
 
-/// Returns a number whose power of 2 isn't larger.
 pub fn half(a: u32) -> u32
     requires { a < 100 }
     ensures { 2 ^ result ≤ 2 ^ a }
@@ -90,7 +83,6 @@ pub fn half(a: u32) -> u32
     quotient
 }
 
-/// Returns a number whose power of 2 isn't larger.
 pub fn third(a: u32) -> u32
     requires { a < 100 }
     ensures { 2 ^ result ≤ 2 ^ a }

@@ -26,18 +26,16 @@ CHUNKS = (1, 7, 64)
 
 def by_filter(program: str, case: cases.Case) -> cases.Answer:
     """Returns what the C program gives for a case."""
-    done = subprocess.run(
-        [program, *case.arguments], input=case.input, capture_output=True, timeout=cases.HANG
-    )
+    how = {"input": case.input, "capture_output": True, "timeout": cases.HANG}
+    done = subprocess.run([program, *case.arguments], **how)
     return cases.Answer(done.stdout, done.stderr, done.returncode)
 
 
 def by_module(case: cases.Case) -> cases.Answer:
     """Returns what the Python module gives for a case."""
     answer = unifdef.run(case.input, *case.arguments)
-    return cases.Answer(
-        answer.output, answer.message.encode(errors="surrogateescape"), answer.status
-    )
+    message = answer.message.encode(errors="surrogateescape")
+    return cases.Answer(answer.output, message, answer.status)
 
 
 def by_stream(case: cases.Case, most: int) -> cases.Answer:
@@ -73,12 +71,9 @@ def main() -> int:
             compare(f"Python in chunks of {most}", case, by_stream(case, most))
     with ThreadPoolExecutor(THREADS) as pool:
         for _ in range(THREADS):
-            found = list(pool.map(by_module, tried))
-            for case, answer in zip(tried, found):
-                compare("threads", case, answer)
-            found = list(pool.map(lambda case: by_stream(case, 64), tried))
-            for case, answer in zip(tried, found):
-                compare("streams in threads", case, answer)
+            for way in by_module, lambda case: by_stream(case, 64):
+                for case, answer in zip(tried, list(pool.map(way, tried))):
+                    compare("threads", case, answer)
     print(f"library: {len(tried)} cases in C, in Python and in {THREADS} threads, {wrong} wrong")
     return 1 if wrong or not tried else 0
 

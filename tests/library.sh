@@ -1,35 +1,43 @@
 #!/usr/bin/env bash
-# Tries lib/libunifdef.a and lib/libunifdef.so: the examples and calls of tests/library_calls.c under
-# sanitizers, the module for Python with its examples, and all cases through both, also in chunks.
-# `make lib-test` runs it. Without a C compiler or Python, it says so.
-set -eu -o pipefail
-export LC_ALL=C
-cd "$(dirname "$0")/.."
-read -ra cc <<< "${CC:-cc}"
-command -v "${cc[0]}" > /dev/null || { echo "library: ${cc[0]} is not there, so nothing is tried"; exit 0; }
-work=$(mktemp -d)
-trap 'rm -rf "$work"' EXIT
-flags=(-std=c99 -D_POSIX_C_SOURCE=200809L -Wall -Wextra -Wpedantic -Werror -g -Ilib)
+# Tries lib/libunifdef.a and lib/libunifdef.so: the examples and calls of tests/library_calls.c
+# under sanitizers, the module for Python with its examples, and all cases through both, also in
+# chunks. `make lib-test` runs it. The first failure ends it.
+# shellcheck source=tests/checks.sh
+source "$(dirname "$0")/checks.sh"
+set -e
+needs "${cc[0]}"
+warned=(-Wall -Wextra -Wpedantic -Werror -Ilib)
+flags=(-std=c99 -D_POSIX_C_SOURCE=200809L "${warned[@]}" -g)
 checked=(-O1 -fsanitize=address -fsanitize=undefined -fno-sanitize-recover=all)
+
+# fail WORD..: ends the test with a message.
+fail() {
+  echo "library: $*"
+  exit 1
+}
+
+# build NAME WORD..: builds a program with the archive under sanitizers.
+build() {
+  "${cc[@]}" "${flags[@]}" "${checked[@]}" -o "$work/$1" "${@:2}" lib/libunifdef.a
+}
 
 # The header alone, for C and for C++.
 for language in c:-std=c99 c++:-std=c++11; do
-  "${cc[@]}" -x "${language%%:*}" "${language#*:}" -Wall -Wextra -Wpedantic -Werror -fsyntax-only lib/unifdef.h
+  "${cc[@]}" -x "${language%%:*}" "${language#*:}" "${warned[@]}" -fsyntax-only lib/unifdef.h
 done
 
 # Only the functions of the header are exported, by both libraries.
 declared=$(sed -n 's/^[a-z].* \**\(unifdef_[a-z_]*\)(.*/\1/p' lib/unifdef.h | sort)
 for found in "$(nm -g --defined-only lib/libunifdef.a | sed -n 's/.* T //p' | sort)" \
   "$(nm -D --defined-only lib/libunifdef.so | sed -n 's/.* T \([^@]*\).*/\1/p' | sort)"; do
-  [ "$found" = "$declared" ] || { printf 'library: exported are\n%s\n' "$found"; exit 1; }
+  [ "$found" = "$declared" ] || fail "exported are"$'\n'"$found"
 done
 
-"${cc[@]}" "${flags[@]}" "${checked[@]}" -Wl,--wrap=malloc,--wrap=realloc,--wrap=free -pthread \
-  -o "$work/calls" tests/library_calls.c lib/libunifdef.a
+build calls -Wl,--wrap=malloc,--wrap=realloc,--wrap=free -pthread tests/library_calls.c
 "$work/calls"
 filters=()
 for chunk in 1 7 64 65536; do
-  "${cc[@]}" "${flags[@]}" "${checked[@]}" -DCHUNK=$chunk -o "$work/filter$chunk" lib/examples/filter.c lib/libunifdef.a
+  build filter$chunk -DCHUNK=$chunk lib/examples/filter.c
   filters+=("$work/filter$chunk")
 done
 
@@ -40,16 +48,15 @@ done
   printf 'int main(int argc, char **argv) {\n'
   printf '    return argc != 2 ? 3 : strip_file(argv[1], strlen(argv[1]), stdin, stdout);\n}\n'
 } > "$work/page.c"
-"${cc[@]}" "${flags[@]}" "${checked[@]}" -o "$work/page" "$work/page.c" lib/libunifdef.a
+build page "$work/page.c"
 
 # gives STATUS OUTPUT PROGRAM..: what a program must give. An hour is a guard against hanging.
 gives() {
   local status=0
   timeout 3600 "${@:3}" > "$work/out" 2> "$work/err" || status=$?
   if [ "$status" -ne "$1" ] || [ "$(cat "$work/out")" != "$2" ]; then
-    echo "library: ${*:3}: status $status"
     cat "$work/out" "$work/err"
-    exit 1
+    fail "${*:3}: status $status"
   fi
 }
 
@@ -60,21 +67,23 @@ for program in "$work/page" "$work/filter65536"; do
   gives 2 '' "$program" -DA < "$work"
   gives 2 x "$program" -DA < <(echo x; yes '#endif' 2> /dev/null)
   status=0
-  yes 2> /dev/null | timeout 3600 "$program" -DA > /dev/full 2> "$work/err" || status=${PIPESTATUS[1]}
-  [ "$status" -eq 2 ] || { echo "library: $program with a full output: status $status"; exit 1; }
+  yes 2> /dev/null | timeout 3600 "$program" -DA > /dev/full 2> "$work/err" ||
+    status=${PIPESTATUS[1]}
+  [ "$status" -eq 2 ] || fail "$program with a full output: status $status"
 done
 gives 2 '' "$work/filter65536" -DA < "$work"
 [ "$(cat "$work/err")" = 'filter: Read error' ]
 
 # C++, with the warnings that its compiler has for C's null pointers.
 cxx=${CXX:-c++}
-if command -v "$cxx" > /dev/null; then
-  printf '#include <unifdef.h>\nint main() {\n    unifdef_stream stream = UNIFDEF_STREAM_INIT;\n' > "$work/init.cpp"
-  printf '    unifdef_close(&stream);\n    return stream.state != nullptr;\n}\n' >> "$work/init.cpp"
+if has "$cxx"; then
+  warned+=(-Wzero-as-null-pointer-constant -Wold-style-cast)
+  printf '%s\n' '#include <unifdef.h>' 'int main() {' 'unifdef_stream it = UNIFDEF_STREAM_INIT;' \
+    'unifdef_close(&it);' 'return it.state != nullptr;' '}' > "$work/init.cpp"
   for source in "$work/init.cpp" lib/examples/strip.cpp; do
     for standard in c++11 c++17; do
-      "$cxx" -std=$standard -Wall -Wextra -Wpedantic -Wzero-as-null-pointer-constant -Wold-style-cast -Werror -g -Ilib \
-        "${checked[@]}" -o "$work/strip" "$source" lib/libunifdef.a
+      "$cxx" -std=$standard "${warned[@]}" -g "${checked[@]}" -o "$work/strip" "$source" \
+        lib/libunifdef.a
     done
   done
   gives 2 '' "$work/strip" -DA < "$work"
@@ -82,7 +91,7 @@ if command -v "$cxx" > /dev/null; then
   gives 2 x "$work/strip" -DA < <(printf 'x\n#endif\n')
   filters+=("$work/strip")
 else
-  echo "library: $cxx is not there, so C++ is left out"
+  left_out "$cxx"
 fi
 
 # Through the shared library: what pkg-config prints is what a program needs.
@@ -104,28 +113,29 @@ for kind in $(tests/deep.sh); do
       kib=1024
       [ "$call" != prune ] || kib=4096
       "$work/stack" "$kib" "$call" "$words" < "$work/in" | cmp - "$work/wanted" ||
-        { echo "library: $call of $kind under $words needs a larger stack"; exit 1; }
+        fail "$call of $kind under $words needs a larger stack"
     done
     run_shared "$words" > "$work/wanted"
     (ulimit -s 1024; run_shared "$words") | cmp - "$work/wanted" ||
-      { echo "library: the filter needs a larger stack for $kind under $words"; exit 1; }
+      fail "the filter needs a larger stack for $kind under $words"
   done
 done
 
 # The example of the manual, and what it prints.
 sed -n '/^\.Sh EXAMPLES/,/^\.Sh ERRORS/p' docs/unifdef.3 | sed 's/\\e/\\/g' > "$work/examples"
-awk '/^\.Bd/ { n++; next } /^\.Ed/ { next } n == 1 && !/^\./' "$work/examples" | sed '/^}$/q' > "$work/example.c"
+awk '/^\.Bd/ { n++; next } /^\.Ed/ { next } n == 1 && !/^\./' "$work/examples" | sed '/^}$/q' \
+  > "$work/example.c"
 awk '/^\.Bd/ { n++; next } /^\.Ed/ { n += n > 1 } n == 2' "$work/examples" > "$work/wanted"
-"${cc[@]}" "${flags[@]}" "${checked[@]}" -o "$work/example" "$work/example.c" lib/libunifdef.a
-"$work/example" | diff -u "$work/wanted" - || { echo 'library: the example of unifdef(3) prints this'; exit 1; }
+build example "$work/example.c"
+"$work/example" | diff -u "$work/wanted" - || fail 'the example of unifdef(3) prints this'
 
-command -v python3 > /dev/null || { echo 'library: python3 is not there, so it is left out'; exit 0; }
+needs python3
 export UNIFDEF_LIBRARY=$PWD/lib/libunifdef.so.1 PYTHONDONTWRITEBYTECODE=1
-(cd lib/python && python3 -m unifdef)
+(cd lib/python && python3 -m unifdef --test)
 tests/library_module.py
-if command -v mypy > /dev/null; then
+if has mypy; then
   (cd lib/python && mypy --strict --cache-dir=/dev/null unifdef)
 else
-  echo 'library: mypy is not there, so the types of the module are not checked'
+  left_out mypy
 fi
 tests/library.py "${filters[@]}"

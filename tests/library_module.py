@@ -230,15 +230,24 @@ def hints() -> None:
 
 
 def as_program() -> None:
-    """The module as a program refuses arguments, as those of unifdef(1)."""
-    done = subprocess.run(
-        [sys.executable, "-Bm", "unifdef", "-DA"],
-        cwd=sys.path[0],
-        check=False,
-        stdin=subprocess.DEVNULL,
-        stderr=subprocess.PIPE,
-    )
-    check("python3 -m unifdef -DA", done.returncode == 1 and b"no arguments" in done.stderr)
+    """The module as a program is the filter."""
+    text = b"#ifdef A\nx\n#endif\ny\n"
+    with tempfile.TemporaryDirectory() as work:
+        with open(f"{work}/a.c", "wb") as it:
+            it.write(text)
+        for arguments, output, message, status in (
+            (["-UA"], b"y\n", b"", 1),
+            (["-x2", "-UA", "-"], b"y\n", b"", 0),
+            (["-kU", "A", "--", f"{work}/a.c"], b"y\n", b"", 1),
+            (["-s"], b"A\n", b"", 0),
+            (["-D"], b"", b"unifdef: Option -D needs an argument\n", 2),
+            (["-UA", f"{work}/b.c"], b"", b"No such file or directory\n", 2),
+        ):
+            command = [sys.executable, "-Bm", "unifdef", *arguments]
+            how = {"input": text, "capture_output": True, "check": False}
+            done = subprocess.run(command, cwd=sys.path[0], **how)
+            said = (done.stdout, done.returncode) == (output, status)
+            check(f"python3 -m unifdef {arguments}", said and done.stderr.endswith(message))
 
 
 def imported(library: str) -> str:
@@ -248,13 +257,10 @@ def imported(library: str) -> str:
         "try: import unifdef\n"
         "except ImportError as error: print(error)"
     )
-    return subprocess.run(
-        [sys.executable, "-Bc", program, sys.path[0]],
-        env={**os.environ, "UNIFDEF_LIBRARY": library},
-        check=True,
-        stdout=subprocess.PIPE,
-        universal_newlines=True,
-    ).stdout
+    command = [sys.executable, "-Bc", program, sys.path[0]]
+    env = {**os.environ, "UNIFDEF_LIBRARY": library}
+    done = subprocess.run(command, env=env, check=True, stdout=subprocess.PIPE, text=True)
+    return done.stdout
 
 
 def libraries() -> None:
@@ -268,14 +274,8 @@ def libraries() -> None:
 
 def main() -> int:
     """Makes all checks. Returns the exit status."""
-    chunks()
-    streams()
-    buffers()
-    long_texts()
-    arguments()
-    wrong_types()
-    hints()
-    as_program()
+    for it in chunks, streams, buffers, long_texts, arguments, wrong_types, hints, as_program:
+        it()
     libraries()
     pools()
     print(f"library: {right} checks of the Python module hold, {wrong} don't")

@@ -1,70 +1,147 @@
 #!/usr/bin/env bash
-# Makes the Debian packages of the library twice, installs them into a folder, and builds and runs
-# programs with what is there. Without lib/libunifdef.a or dpkg-deb, it says so.
-set -u -o pipefail
-export LC_ALL=C
-unset MAKEFLAGS MAKELEVEL
-here=$(cd "$(dirname "$0")/.." && pwd)
-cd "$here" || exit 1
-make=${MAKE:-make}
-read -ra cc <<< "${CC:-cc}"
-for needed in dpkg-deb objdump "${cc[0]}"; do
-  command -v "$needed" > /dev/null || { echo "packages-lib: $needed is not there, so nothing is tried"; exit 0; }
-done
-[ -e lib/libunifdef.a ] || { echo 'packages-lib: lib/libunifdef.a is not there, so nothing is tried'; exit 0; }
-work=$(mktemp -d)
-trap 'rm -rf "$work"' EXIT
-passed=0 failed=0
+# Installs and uninstalls the library in folders of its own, makes its Debian packages twice, and
+# builds and runs programs with what is there.
+# shellcheck source=tests/checks.sh
+source "$(dirname "$0")/checks.sh"
+needs lib/libunifdef.a "${cc[0]}"
+text=$'#ifdef A\nx\n#endif'
+names_in='import unifdef; print(unifdef.names(b"A || B"))'
 
-# check WHAT COMMAND..: the command must succeed.
-check() {
-  local what=$1
-  shift
-  if "$@" > "$work/said" 2>&1; then
-    passed=$((passed + 1))
-  else
-    failed=$((failed + 1))
-    echo "packages-lib: failed: $what"
-    cat "$work/said"
-  fi
+# make_lib TARGET WORD..: runs make over the library that is built.
+make_lib() { "$make" -s -o lib/libunifdef.a "$@" LDCONFIG="$work/ldconfig"; }
+
+# built_by SOURCE: builds a program with what pkg-config prints. It must need the shared library.
+built_by() {
+  local flags
+  read -ra flags <<< "$(pkg-config --cflags --libs unifdef)"
+  "${cc[@]}" -o "$work/filter" "$1" "${flags[@]}" &&
+    objdump -p "$work/filter" | grep -q "NEEDED *libunifdef.so.1$"
 }
-same() { [ "$1" = "$2" ] || { printf '%s\n---\n%s\n' "$1" "$2"; false; }; }
+filtered() { LD_LIBRARY_PATH=$1 "$work/filter" -DA <<< "$text"; }
 
-version=$(packaging/version.sh) || failed=$((failed + 1))
-architecture=$(dpkg --print-architecture)
-folder=usr/lib/$("${cc[@]}" -print-multiarch)
-packages=("libunifdef1_${version}_$architecture.deb" "libunifdef-dev_${version}_$architecture.deb"
+# in_an_environment LIBRARIES: pip installs the module into a virtual environment, beside the
+# installed library. It gets nothing from the network, so setuptools has to be there.
+in_an_environment() {
+  local python=$work/environment/bin/python site
+  # pip writes to the folder that it installs.
+  cp -R lib/python "$work/module"
+  if ! python3 -m venv --system-site-packages "$work/environment" > /dev/null 2>&1 ||
+    ! "$python" -c '
+from importlib.util import find_spec
+built = any(map(find_spec, ("wheel", "setuptools.command.bdist_wheel")))
+raise SystemExit(not (built and find_spec("pip")))' 2> /dev/null; then
+    left_out 'venv, pip, setuptools or wheel'
+    return
+  fi
+  check 'pip install' "$python" -m pip -q install --no-build-isolation --no-index --no-deps \
+    "$work/module"
+  site=$(cd "$work/environment/lib"/python3*/site-packages && pwd -P)
+  check 'pip install: runs' same "$(cd "$work/environment" && LD_LIBRARY_PATH=$1 "$python" -c '
+import unifdef; print(unifdef.__version__, unifdef.__file__, unifdef.names(b"A || B"))')" \
+    "$version $site/unifdef/__init__.py [b'A', b'B']"
+  check 'pip install: the examples' env LD_LIBRARY_PATH="$1" "$python" -m unifdef --test
+  check 'pip install: types' test -e "$site/unifdef/py.typed"
+}
+
+# Only root, and only without DESTDIR, refreshes the list of the machine's libraries.
+prefix=$work/library refreshed=ldconfig
+[ "$(id -u)" -eq 0 ] || refreshed=''
+printf '#!/bin/sh\necho ldconfig >> "%s/refreshed"\n' "$work" > "$work/ldconfig"
+chmod +x "$work/ldconfig"
+check 'install-lib: DESTDIR' make_lib install-lib DESTDIR="$work/target"
+check 'install-lib: DESTDIR refreshes nothing' test ! -e "$work/refreshed"
+check install-lib make_lib install-lib PREFIX="$prefix"
+check 'install-lib: ldconfig' same "$(grep -xs ldconfig "$work/refreshed")" "$refreshed"
+check 'install-lib: files' same "$(cd "$prefix" && find . ! -type d | sort)" \
+"./include/unifdef.h
+./lib/libunifdef.a
+./lib/libunifdef.so
+./lib/libunifdef.so.1
+./lib/pkgconfig/unifdef.pc
+./lib/python3/dist-packages/unifdef/__init__.py
+./lib/python3/dist-packages/unifdef/__main__.py
+./lib/python3/dist-packages/unifdef/_library.py
+./lib/python3/dist-packages/unifdef/py.typed
+./share/man/man3/unifdef.3"
+check 'install-lib: the manual' shows "$prefix/share/man/man3/unifdef.3"
+odd="$work/b&c|d #e"
+private() { (umask 077; "$@"); }
+check 'install-lib: odd names' private make_lib install-lib PREFIX="$odd"
+check 'install-lib: modes' same "$(find "$odd" -type f ! -perm 644)" ''
+if has pkg-config; then
+  export PKG_CONFIG_PATH=$prefix/lib/pkgconfig
+  check 'install-lib: the version' same "$(pkg-config --modversion unifdef)" "$version"
+  check 'install-lib: builds' built_by lib/examples/filter.c
+  check 'install-lib: runs' same "$(filtered "$prefix/lib")" x
+  PKG_CONFIG_PATH=$odd/lib/pkgconfig
+  check 'install-lib: odd flags' same "<-I$odd/include><-L$odd/lib><-lunifdef>" \
+    "$(eval "printf '<%s>' $(pkg-config --cflags --libs unifdef)")"
+fi
+if has python3; then
+  check 'install-lib: Python' same "[b'A', b'B']" "$(LD_LIBRARY_PATH=$prefix/lib \
+    PYTHONPATH=$prefix/lib/python3/dist-packages python3 -Bc "$names_in")"
+  in_path() { python3 -c 'import sys; sys.exit(sys.argv[1] not in sys.path)' "$1"; }
+  python_prefix=$(python3 -c 'import sys; print(sys.prefix)')
+  for it in "$python_prefix" "$python_prefix/"; do
+    check 'install-lib: where Python looks' in_path "$(packaging/pythondir.sh "$it")"
+  done
+  # python3 looks in the folder of a user if it is there.
+  export PYTHONUSERBASE=$work/user
+  mkdir -p "$(python3 -c 'import site; print(site.getusersitepackages())')"
+  if [ "$(python3 -c 'import site; print(site.ENABLE_USER_SITE)')" = True ]; then
+    check 'install-lib: where Python looks for a user' \
+      in_path "$(packaging/pythondir.sh "$PYTHONUSERBASE")"
+  fi
+  unset PYTHONUSERBASE
+  in_an_environment "$prefix/lib"
+fi
+rm -f "$work/refreshed"
+touch "$prefix/lib/libunifdef.so.0"
+check uninstall-lib make_lib uninstall-lib PREFIX="$prefix"
+check 'uninstall-lib: ldconfig' same "$(grep -xs ldconfig "$work/refreshed")" "$refreshed"
+check 'uninstall-lib: files' same "$(find "$prefix" ! -type d)" "$prefix/lib/libunifdef.so.0"
+# The link of another version stays.
+ln -s libunifdef.so.0 "$prefix/lib/libunifdef.so"
+check 'uninstall-lib: again' make_lib uninstall-lib PREFIX="$prefix"
+check 'uninstall-lib: another one' same "$(readlink "$prefix/lib/libunifdef.so")" libunifdef.so.0
+rm -r "$prefix"
+check 'uninstall-lib: nothing' make_lib uninstall-lib PREFIX="$prefix"
+if ! has dpkg-deb || ! has objdump; then
+  left_out 'dpkg-deb or objdump'
+  finish
+  exit
+fi
+
+folder=usr/lib/$("${cc[@]}" -print-multiarch) architecture=$(dpkg --print-architecture)
+packages=({libunifdef1,libunifdef-dev}"_${version}_$architecture.deb"
   "python3-unifdef_${version}_all.deb")
-
-check deb-lib same "$("$make" -s -o lib/libunifdef.a deb-lib)" "$(printf '%s\n' "${packages[@]}")"
+check deb-lib same "$(make_lib deb-lib)" "$(printf '%s\n' "${packages[@]}")"
 mkdir "$work/first"
 cp "${packages[@]}" "$work/first"
 check 'deb-lib: again' env CC="env ${cc[*]}" "$make" -s -o lib/libunifdef.a deb-lib
+check 'deb-lib: the same bytes' each_same "$work/first" "${packages[@]}"
 for package in "${packages[@]}"; do
-  check "$package: the same bytes" cmp "$work/first/$package" "$package"
-  if command -v lintian > /dev/null; then
-    check "$package: lintian" same "$(lintian --allow-root "$package" 2>&1 | grep '^[EW]:')" ''
-  fi
+  check "$package: lintian" quiet_lintian "$package"
 done
 
 # An unpacked tarball within the repository of somebody else, which has no commit of its own.
 copy=$work/theirs/copy
 mkdir -p "$copy"
 tar -c --exclude=.git --exclude=out . | tar -x -C "$copy"
-if command -v git > /dev/null; then
+if has git; then
   git init -q "$work/theirs"
-  git -C "$work/theirs" -c user.name=They -c user.email=they@localhost commit -q --allow-empty -m theirs
+  git -C "$work/theirs" -c user.name=They -c user.email=they@localhost commit -q --allow-empty -m it
 fi
 package_in_copy() { (cd "$copy" && env "$@" "$make" -s -o lib/libunifdef.a deb-lib); }
 maintainer() { dpkg-deb -f "$copy/${packages[0]}" Maintainer; }
+other_times() { dpkg-deb -c "$copy/${packages[0]}" | grep -vc ' 2001-02-0[234] '; }
 touch -d 2001-02-03 "$copy/CHANGELOG.md"
-check 'a tarball: deb-lib' package_in_copy -u DEBFULLNAME -u DEBEMAIL -u SOURCE_DATE_EPOCH
-check 'a tarball: the time' test "$(dpkg-deb -c "$copy/${packages[0]}" | grep -vc ' 2001-02-0[234] ')" -eq 0
-check 'a tarball: the maintainer' same "$(maintainer)" 'unifdef maintainers <maintainers@unifdef.invalid>'
-if command -v lintian > /dev/null; then
-  check 'a tarball: lintian' same "$(lintian --allow-root "$copy/${packages[0]}" 2>&1 | grep '^[EW]:')" ''
-fi
-check 'a maintainer: deb-lib' package_in_copy DEBFULLNAME='A Name' DEBEMAIL=name@example.org
+check 'a tarball' package_in_copy -u DEBFULLNAME -u DEBEMAIL -u SOURCE_DATE_EPOCH
+check 'a tarball: the time' same "$(other_times)" 0
+check 'a tarball: the maintainer' same "$(maintainer)" \
+  'unifdef maintainers <maintainers@unifdef.invalid>'
+check 'a tarball: lintian' quiet_lintian "$copy/${packages[0]}"
+check 'a maintainer' package_in_copy DEBFULLNAME='A Name' DEBEMAIL=name@example.org
 check 'a maintainer: the maintainer' same "$(maintainer)" 'A Name <name@example.org>'
 
 # A compiler with a word before it links the same library.
@@ -73,20 +150,15 @@ check 'CC of two words: the same bytes' cmp lib/libunifdef.so "$copy/lib/libunif
 
 # A folder that nobody else can read gives packages that everybody can read.
 chmod -R go= "$copy"
-check 'a private folder: deb-lib' package_in_copy DEBFULLNAME='A Name'
-modes() { dpkg-deb -c "$copy/$1" | sed 's/ .*//' | sort -u; }
-check 'a private folder: modes' same "$(for it in "${packages[@]}"; do modes "$it"; done | sort -u)" \
-$'-rw-r--r--\ndrwxr-xr-x\nlrwxrwxrwx'
+check 'a private folder' package_in_copy DEBFULLNAME='A Name'
+modes() { for it in "${packages[@]}"; do dpkg-deb -c "$copy/$it"; done | sed 's/ .*//' | sort -u; }
+check 'a private folder: modes' same "$(modes)" $'-rw-r--r--\ndrwxr-xr-x\nlrwxrwxrwx'
 
-# A folder with a list of packages of its own.
-root=$work/root
-mkdir -p "$root/var/lib/dpkg/info" "$root/var/lib/dpkg/updates" "$root/var/lib/dpkg/triggers"
-touch "$root/var/lib/dpkg/status" "$root/var/lib/dpkg/available"
-in_root() {
-  dpkg --root="$root" --log=/dev/null --force-not-root --force-depends --force-script-chrootless "$@"
-}
+# What is installed.
+new_root
 check 'installs' in_root -i "${packages[@]/#/$here/}"
-check 'installs: files' same "$(cd "$root/usr" && find . ! -type d | grep -v /doc/ | sort)" "$(sort << END
+check 'installs: files' same "$(cd "$root/usr" && find . ! -type d | grep -v /doc/ | sort)" \
+  "$(sort << END
 ./include/unifdef.h
 ./${folder#usr/}/libunifdef.a
 ./${folder#usr/}/libunifdef.so
@@ -99,35 +171,29 @@ check 'installs: files' same "$(cd "$root/usr" && find . ! -type d | grep -v /do
 ./share/man/man3/unifdef.3.gz
 END
 )"
-check 'installs: the examples' test -e "$root/usr/share/doc/libunifdef-dev/examples/filter.c"
-exported() { objdump -T lib/libunifdef.so.1 | grep -c ' UNIFDEF_1 *unifdef_'; }
-check 'symbols: each function' same "$(dpkg-deb -I "${packages[0]}" symbols | grep -c ' unifdef_.*@UNIFDEF_1 ')" "$(exported)"
-check 'symbols: the rest' same "$(dpkg-deb -I "${packages[0]}" symbols | grep -v ' unifdef_')" \
+symbols=$(dpkg-deb -I "${packages[0]}" symbols)
+check 'symbols: each function' same "$(grep -c ' unifdef_.*@UNIFDEF_1 ' <<< "$symbols")" \
+  "$(objdump -T lib/libunifdef.so.1 | grep -c ' UNIFDEF_1 *unifdef_')"
+check 'symbols: the rest' same "$(grep -v ' unifdef_' <<< "$symbols")" \
 "libunifdef.so.1 libunifdef1 #MINVER#
  UNIFDEF_1@UNIFDEF_1 $version"
 
 # C and Python, as after an installation to /.
-if command -v pkg-config > /dev/null; then
-  builds() {
-    local flags
-    read -ra flags <<< "$(PKG_CONFIG_SYSROOT_DIR=$root PKG_CONFIG_PATH=$root/$folder/pkgconfig \
-      PKG_CONFIG_ALLOW_SYSTEM_CFLAGS=1 PKG_CONFIG_ALLOW_SYSTEM_LIBS=1 pkg-config --cflags --libs unifdef)"
-    "${cc[@]}" -o "$work/filter" "$root/usr/share/doc/libunifdef-dev/examples/filter.c" "${flags[@]}"
-  }
-  check 'C: builds' builds
-  check 'C: runs' same "$(printf '#ifdef A\nx\n#endif\n' | LD_LIBRARY_PATH=$root/$folder "$work/filter" -DA)" x
-else
-  echo 'packages-lib: pkg-config is not there, so no program in C is built'
+example=$root/usr/share/doc/libunifdef-dev/examples/filter.c
+check 'installs: the examples' test -e "$example"
+if has pkg-config; then
+  export PKG_CONFIG_SYSROOT_DIR=$root PKG_CONFIG_PATH=$root/$folder/pkgconfig
+  export PKG_CONFIG_ALLOW_SYSTEM_CFLAGS=1 PKG_CONFIG_ALLOW_SYSTEM_LIBS=1
+  check 'C: builds' built_by "$example"
+  check 'C: runs' same "$(filtered "$root/$folder")" x
 fi
-if command -v python3 > /dev/null; then
-  check 'Python: runs' same "$(LD_LIBRARY_PATH=$root/$folder PYTHONPATH=$root/usr/lib/python3/dist-packages \
-    PYTHONDONTWRITEBYTECODE='' PYTHONPYCACHEPREFIX='' python3 -c '
-import unifdef; print(unifdef.names(b"A || B"))')" "[b'A', b'B']"
-  check 'Python: is compiled' test -e "$root/usr/lib/python3/dist-packages/unifdef/__pycache__"
+if has python3; then
+  module=$root/usr/lib/python3/dist-packages
+  check 'Python: runs' same "[b'A', b'B']" "$(LD_LIBRARY_PATH=$root/$folder PYTHONPATH=$module \
+    PYTHONDONTWRITEBYTECODE='' PYTHONPYCACHEPREFIX='' python3 -c "$names_in")"
+  check 'Python: is compiled' test -e "$module/unifdef/__pycache__"
 fi
 check 'goes away' in_root --purge python3-unifdef libunifdef-dev libunifdef1
 check 'leaves no module' test ! -e "$root/usr/lib/python3/dist-packages/unifdef"
 check 'leaves nothing' same "$(find "$root" -path "$root/var" -prune -o -type f -print)" ''
-
-echo "packages-lib: $passed checks hold, $failed don't"
-[ "$failed" -eq 0 ]
+finish

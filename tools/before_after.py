@@ -21,21 +21,22 @@ STYLE = """<style>
 .removed { fill: #4a1d1b } .edited { fill: #4b3d10 } text.gone { fill: #ff9f95 }
 }
 </style>"""
+GONE = ' class="gone" text-decoration="line-through"'
 
 
-def printed(options, name):
-    """Returns the lines that ./unifdef prints of a file."""
-    command = [f"{TOP}/unifdef", *options, name]
+def printed(*words):
+    """Returns the lines that ./unifdef prints."""
+    command = [f"{TOP}/unifdef", *words]
     return subprocess.run(command, stdout=subprocess.PIPE, text=True).stdout.splitlines()
 
 
-def text(x, y, words, more=""):
-    return f'<text x="{x:.1f}" y="{y}" xml:space="preserve"{more}>{escape(words)}</text>'
-
-
-def shade(x, row, width, kind):
+def line(left, row, words, more="", shade="", width=0):
+    """Yields a line of text, and what is behind it."""
     y = HEAD + LINE * row
-    return f'<rect x="{x:.1f}" y="{y}" width="{width:.1f}" height="{LINE}" class="{kind}"/>'
+    if shade:
+        size = f'width="{width:.1f}" height="{LINE}" class="{shade}"'
+        yield f'<rect x="{left - MARGIN / 2:.1f}" y="{y}" {size}/>'
+    yield f'<text x="{left:.1f}" y="{y + 13}" xml:space="preserve"{more}>{escape(words)}</text>'
 
 
 def drawing(name, options):
@@ -43,32 +44,25 @@ def drawing(name, options):
     with open(name, encoding="utf-8") as file:
         before = file.read().splitlines()
     # Under -b each line is still in its position.
-    in_place, after = printed([*options, "-b"], name), printed(options, name)
+    in_place, after = printed(*options, "-b", name), printed(*options, name)
     width = LETTER * max(map(len, before)) + 2 * MARGIN
-    height = HEAD + LINE * len(before) + MARGIN
-    size = f'width="{2 * width + MARGIN:.0f}" height="{height}"'
-    yield f'<svg xmlns="http://www.w3.org/2000/svg" {size}'
+    right, command = width + 2 * MARGIN, f"unifdef {' '.join(options)}"
+    yield '<svg xmlns="http://www.w3.org/2000/svg"'
+    yield f' width="{2 * width + MARGIN:.0f}" height="{HEAD + LINE * len(before) + MARGIN}"'
     yield ' font-family="monospace" font-size="12" role="img">'
-    command = f"unifdef {' '.join(options)}"
     yield f"<title>A header before and after {escape(command)}</title>"
     yield STYLE
     yield '<rect width="100%" height="100%" class="page"/>'
-    yield text(MARGIN, 26, os.path.basename(name), ' font-weight="bold"')
-    yield text(width + 2 * MARGIN, 26, command, ' font-weight="bold"')
-    edited = set()
-    for row, (line, left) in enumerate(zip(before, in_place)):
-        y, more = HEAD + LINE * row + 13, ""
-        if line and not left:
-            yield shade(MARGIN / 2, row, width - MARGIN / 2, "removed")
-            more = ' class="gone" text-decoration="line-through"'
-        elif line != left:
-            yield shade(MARGIN / 2, row, width - MARGIN / 2, "edited")
-            edited.add(left)
-        yield text(MARGIN, y, line, more)
-    for row, line in enumerate(after):
-        if line in edited:
-            yield shade(width + 1.5 * MARGIN, row, width - MARGIN, "edited")
-        yield text(width + 2 * MARGIN, HEAD + LINE * row + 13, line)
+    for left, words in ((MARGIN, os.path.basename(name)), (right, command)):
+        yield from line(left, -1.8, words, ' font-weight="bold"')
+    pairs = list(zip(before, in_place))
+    for row, (words, left) in enumerate(pairs):
+        gone = words and not left
+        shade = "removed" if gone else "edited" if words != left else ""
+        yield from line(MARGIN, row, words, GONE if gone else "", shade, width - MARGIN / 2)
+    edited = {left for words, left in pairs if left not in ("", words)}
+    for row, words in enumerate(after):
+        yield from line(right, row, words, "", "edited" if words in edited else "", width - MARGIN)
     yield "</svg>"
 
 

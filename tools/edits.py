@@ -44,7 +44,7 @@ import time
 sys.dont_write_bytecode = True
 
 from gate import is_of_gate, jobs
-from prove import HERE, RT, Build, at_or_below, expected, libraries, link
+from prove import HERE, RT, Build, Commands, at_or_below, found_repository, libraries, link
 
 REFUSED, OPEN, PROVED, BAD = "refused", "not decided", "PROVED", "BAD EDIT"
 
@@ -154,39 +154,18 @@ class Edit:
         return list(dict.fromkeys(it[1] for it in named if it and it[1]))
 
 
-class Checks:
-    """The checks that run, all of which can be stopped."""
-
-    def __init__(self):
-        self.running, self.is_stopped = set(), False
-
-    def run(self, folder):
-        """Returns the status of a check, what it prints, and its seconds of a processor."""
-        how = {"cwd": folder, "errors": "replace", "start_new_session": True}
-        how |= {"stdin": subprocess.DEVNULL, "stdout": subprocess.PIPE, "stderr": subprocess.STDOUT}
-        with subprocess.Popen([RT, "check", "--jobs", "1"], **how) as check:
-            self.running.add(check)
-            if self.is_stopped:
-                self.stop()
-            said = check.stdout.read().rstrip().split("\n")
-            _, status, used = os.wait4(check.pid, 0)
-            check.returncode = os.waitstatus_to_exitcode(status)
-            self.running.remove(check)
-        if self.is_stopped:
-            sys.exit("edits: stopped")
-        return check.returncode, said, used.ru_utime + used.ru_stime
-
-    def stop(self):
-        """Ends all checks and all that they started."""
-        self.is_stopped = True
-        for check in list(self.running):
-            try:
-                os.killpg(check.pid, signal.SIGTERM)
-            except ProcessLookupError:
-                pass
+COMMANDS = Commands()
 
 
-CHECKS = Checks()
+def run_check(folder):
+    """Returns the status of a check, and what it prints."""
+    how = {"cwd": folder, "errors": "replace", "stdin": subprocess.DEVNULL}
+    how |= {"stdout": subprocess.PIPE, "stderr": subprocess.STDOUT}
+    check = COMMANDS.start([RT, "check", "--jobs", "1"], **how)
+    said, _ = check.communicate()
+    if COMMANDS.is_stopped:
+        sys.exit("edits: stopped")
+    return check.returncode, said.rstrip().split("\n")
 
 
 def link_kept(source, target):
@@ -199,15 +178,11 @@ class Room:
     """A copy of a crate, with what earlier checks kept of it, beside links to those below it."""
 
     def __init__(self, place, top, crate, below, edited):
-        self.folder, self.checks, self.processor = f"{place}/crates/{crate}", 0, 0
+        self.folder, self.checks = f"{place}/crates/{crate}", 0
         # Those below from the first one that is edited, which are all checked again.
         first = min([below.index(it) for it in edited], default=len(below))
         self.below = below[first:]
-        shutil.copy2(f"{top}/HANDLES", place)
-        with open(f"{top}/crates.txt", encoding="utf-8") as lines:
-            kept = [it for it in lines if re.match(r"\w*", it)[0] in (*below, crate)]
-        with open(f"{place}/crates.txt", "w", encoding="utf-8") as it:
-            it.writelines(kept)
+        found_repository(top, place, (*below, crate))
         for it in below:
             # Of what was made of a crate below, only the library is needed, unless it is edited.
             how = {"ignore": shutil.ignore_patterns("incremental"), "copy_function": link}
@@ -239,9 +214,7 @@ class Room:
         self.write(texts)
         try:
             for crate in [*(self.below if edited else []), os.path.basename(self.folder)]:
-                folder = os.path.join(os.path.dirname(self.folder), crate)
-                status, said, processor = CHECKS.run(folder)
-                self.processor += processor
+                status, said = run_check(os.path.join(os.path.dirname(self.folder), crate))
                 self.checks += 1
                 if status:
                     break
@@ -437,14 +410,14 @@ def run(top, crate, below, folders, alone):
             say(f"{verdict:11} {crate}/{name}: {by}{reason[:160]}")
     say(*bad)
     found[BAD] += bad
-    spent = f"{room.processor:.0f} s of a processor, {time.monotonic() - begin:.0f} s of the clock"
-    say(f"edits: {crate}: {len(edits)} in {room.checks} checks, {spent}")
+    spent = time.monotonic() - begin
+    say(f"edits: {crate}: {len(edits)} in {room.checks} checks, after {spent:.0f} s")
     return found
 
 
 def run_all(crates, used, folders, alone):
     """Tries the edits of crates side by side, and returns how many there are of each verdict."""
-    order = sorted(crates, key=lambda it: -expected(it) * len(edits_of(HERE, it, folders)[0]))
+    order = sorted(crates, key=lambda it: -len(edits_of(HERE, it, folders)[0]))
     count = dict.fromkeys((REFUSED, OPEN, PROVED, BAD), 0)
     with concurrent.futures.ThreadPoolExecutor(jobs()) as pool:
         try:
@@ -454,7 +427,7 @@ def run_all(crates, used, folders, alone):
                 count = {verdict: count[verdict] + len(it.result()[verdict]) for verdict in count}
         except BaseException:
             pool.shutdown(wait=False, cancel_futures=True)
-            CHECKS.stop()
+            COMMANDS.stop()
             raise
     return count
 

@@ -31,28 +31,22 @@ from files import tracked
 
 PAGES = re.compile(r"(README|CONTRIBUTING)\.md|docs/\w+\.md|(bench|tests|crates)/.*README\.md")
 SOURCE = re.compile(r"(crates|bench|lib|tests|tools|packaging)/.*|Makefile|crates\.txt")
-ENDING = re.compile(r"\.(rt|antt|md|sh|py|txt|svg|dot|c|h|1)$")
+ENDING = re.compile(r"\.(rt|antt|md|sh|py|txt|svg|c|h|1)$")
 PATH = re.compile(r"[\w.+-]*(/[\w.+-]+)*/?")
 PAIR = re.compile(r"\b([A-Z]\w*)(::|\.)([a-z]\w*|[A-Z]\w*)\b")
 WORD = re.compile(r"[A-Za-z_]\w*")
 LABEL = re.compile(r"\b(?:ensures|requires)\*? (\w+) \{")
+BLOCK = re.compile(r"^```.*?^```", re.MULTILINE | re.DOTALL)
 COMMENTED = re.compile(r"^\s*(?://|--).*?\b(\w+(?:/\w+)+\.(?:antt|rt|md|sh|py))\b", re.MULTILINE)
 
-# What is no name of this tree, by what it is.
-EXCEPTIONS = {
-    "C's types and escapes": ["intmax_t", "uintmax_t", "\\xHH"],
-    "files of examples": ["a.c", "in.c", "third_party"],
-    "built": ["lib/libunifdef.a", "lib/libunifdef.so", "libunifdef.so.1"],
-    "stand for others": ["NAME.antt", "NAME.case", "vVERSION", "step_counts_no_line"],
-    "units": ["conditions/s", "MB/s"],
-    "Debian's and Linux's": [
-        "linux-source-6.1",
-        "make headers",
-        "make headers_install",
-        "include/uapi",
-    ],
+# What is no name of this tree: of C, of examples, what is built, what stands for others, units, and
+# names of Debian and Linux.
+EXCEPTED = {
+    *("intmax_t", "uintmax_t", "\\xHH", "a.c", "in.c", "third_party", "include/uapi"),
+    *("lib/libunifdef.a", "lib/libunifdef.so", "libunifdef.so.1", "conditions/s", "MB/s"),
+    *("NAME.antt", "NAME.case", "vVERSION", "step_counts_no_line"),
+    *("linux-source-6.1", "make headers", "make headers_install"),
 }
-EXCEPTED = {name for names in EXCEPTIONS.values() for name in names}
 
 
 def is_checked(word, alone):
@@ -77,11 +71,8 @@ class Tree:
         self.files = tracked()
         self.ends = set()
         for path in self.files:
-            parts = path.split("/")
-            for first in range(len(parts)):
-                self.ends.update(
-                    "/".join(parts[first : last + 1]) for last in range(first, len(parts))
-                )
+            parts, every = path.split("/"), range(path.count("/") + 1)
+            self.ends |= {"/".join(parts[a : b + 1]) for a in every for b in every[a:]}
         self.words_of, self.labels, self.commented = {}, set(), []
         for path in filter(SOURCE.fullmatch, self.files):
             if path in ("tools/names.py", "tools/style.py") or path.endswith((".md", ".svg")):
@@ -110,11 +101,8 @@ class Tree:
                 yield f"make {target}"
         for first, mark, second in PAIR.findall(cited):
             ending = f"/{first}.antt" if mark == "." else ".rt"
-            if not any(
-                second in words and (mark == "." or first in words)
-                for path, words in self.words_of.items()
-                if path.endswith(ending)
-            ):
+            wanted = {second} if mark == "." else {first, second}
+            if not any(wanted <= it for path, it in self.words_of.items() if path.endswith(ending)):
                 yield first + mark + second
         for word in WORD.findall(cited):
             if is_checked(word, word == cited) and word not in self.words:
@@ -123,12 +111,7 @@ class Tree:
 
 def citations(text):
     """Yields the line and the text of each citation in backquotes outside of code blocks."""
-    bare = re.sub(
-        r"^```.*?^```",
-        lambda block: re.sub(r"[^\n]", "", block.group(0)),
-        text,
-        flags=re.MULTILINE | re.DOTALL,
-    )
+    bare = BLOCK.sub(lambda block: "\n" * block.group().count("\n"), text)
     for found in re.finditer(r"`((?:[^`\n]|\n(?!\n))+)`", bare):
         cited = " ".join(found.group(1).replace("\\|", "|").split())
         yield bare.count("\n", 0, found.start()) + 1, cited
@@ -147,7 +130,7 @@ def clauses(text):
 def headings(page):
     """Returns the anchors of a page's headings."""
     with open(page, encoding="utf-8") as file:
-        text = re.sub(r"^```.*?^```", "", file.read(), flags=re.MULTILINE | re.DOTALL)
+        text = BLOCK.sub("", file.read())
     titles = re.findall(r"^#+ (.*)$", text, re.MULTILINE)
     return {re.sub(r"[^\w -]", "", title.lower()).replace(" ", "-") for title in titles}
 
@@ -180,9 +163,7 @@ def unlisted_messages(tree):
     """Yields each part of a message of the program that the manual doesn't have."""
     with open("docs/unifdef.1", encoding="utf-8") as file:
         listed = file.read().partition("\n.Sh DIAGNOSTICS\n")[2].partition("\n.Sh ")[0]
-    for path in filter(
-        re.compile(r"crates/(unifdef|unifdef_cli)/src/.*\.rt").fullmatch, tree.files
-    ):
+    for path in filter(re.compile(r"crates/unifdef(_cli)?/src/.*\.rt").fullmatch, tree.files):
         with open(path, encoding="utf-8") as file:
             source = without_comments(path, file.read())
         for literal in re.findall(r'"((?:[^"\\]|\\.)*)"', source):
@@ -195,11 +176,8 @@ def main():
     tree = Tree()
     found = list(problems(tree, sys.argv[1:] or filter(PAGES.fullmatch, tree.files)))
     if not sys.argv[1:]:
-        found += [
-            f"{path}: {cited} doesn't exist"
-            for path, cited in tree.commented
-            if cited not in tree.ends
-        ]
+        missing = (it for it in tree.commented if it[1] not in tree.ends)
+        found += [f"{path}: {cited} doesn't exist" for path, cited in missing]
         found += unlisted_messages(tree)
     print(*found, sep="\n", end="\n" if found else "")
     if found:

@@ -11,7 +11,7 @@ Rattle's command locks the folder of a crate, and those of the crates below it, 
 So each crate is proved in a folder of its own, with links to its files and to what the crates below
 have become, and what it becomes is moved back.
 
-Shows on the error stream how much is done, and how long the rest takes.
+Says on the error stream what begins, and what has ended after how long.
 """
 import os
 import re
@@ -20,44 +20,22 @@ import signal
 import subprocess
 import sys
 import tempfile
+import threading
 import time
 
 sys.dont_write_bytecode = True
 
-from progress import Progress, part_and_rest, seconds_left
-
 HERE = os.path.dirname(os.path.dirname(os.path.realpath(__file__)))
+# Rattle's command, which is run in other folders.
 RT = os.environ.get("RT", "rt")
+RT = os.path.abspath(RT) if "/" in RT else RT
 CPU = os.environ.get("UNIFDEF_CPU", "")
 
-# How long each crate takes on 4 quiet processors, where it is split as below, for the order and the
-# estimate. Nothing else depends on these seconds.
-SECONDS = {
-    "ud_model": 65,
-    "ud_simplified": 15,
-    "ud_laws": 50,
-    "ud_io": 18,
-    "ud_faults": 25,
-    "ud_cond": 249,
-    "ud_text": 194,
-    "ud_args": 100,
-    "ud_sections": 108,
-    "ud_passes": 140,
-    "ud_engine": 130,
-    "unifdef": 65,
-    "unifdef_cli": 62,
-    "unifdef_c": 130,
-    "ud_replace": 90,
-    "ud_tree_laws": 30,
-    "ud_diff": 70,
-    "ud_tree": 250,
-    "unifdef_tree_cli": 60,
-}
-OTHER = 60
-
-# A check that takes no more seconds found its work kept, and says nothing of how fast this machine
-# is. Before a check says something, a second takes USUAL ones.
-KEPT, USUAL = 15, 1
+# Those with the longest chain above them, which begin first.
+FIRST = [
+    *("ud_model", "ud_cond", "ud_faults", "ud_text", "ud_sections", "ud_args", "ud_simplified"),
+    *("ud_io", "ud_passes", "ud_engine", "ud_replace", "ud_diff", "unifdef", "ud_tree"),
+]
 
 # Among how many processors a check is split, if it is one of the longest of the chain. A split
 # check takes half as much time of a processor again.
@@ -69,9 +47,13 @@ FREE = 6_000_000_000
 FREE_FOR_ALL = 10_000_000_000
 
 
-def expected(crate):
-    """Returns the seconds of a crate on 4 processors."""
-    return SECONDS.get(crate, OTHER)
+BEGIN = time.monotonic()
+
+
+def say(name, text):
+    """Prints a line on the error stream, with the time since the start."""
+    seconds = int(time.monotonic() - BEGIN)
+    print(f"{name}: {seconds // 60:2d}:{seconds % 60:02d}  {text}", file=sys.stderr, flush=True)
 
 
 def libraries():
@@ -136,6 +118,46 @@ def link(source, target):
         shutil.copy2(source, target)
 
 
+def take(made, target):
+    """Copies a program, with its times, in one step, so that an interrupt leaves no half of it."""
+    os.makedirs(os.path.dirname(os.path.abspath(target)), exist_ok=True)
+    shutil.copy2(made, f"{target}.new")
+    os.replace(f"{target}.new", target)
+
+
+def found_repository(source, target, crates):
+    """Makes a folder the top of a repository with some of the crates of another one."""
+    shutil.copy2(f"{source}/HANDLES", target)
+    with open(f"{source}/crates.txt", encoding="utf-8") as lines:
+        kept = [it for it in lines if re.match(r"\w*", it)[0] in crates]
+    with open(f"{target}/crates.txt", "w", encoding="utf-8") as it:
+        it.writelines(kept)
+
+
+class Commands:
+    """The commands that run in groups of their own, all of which can be stopped."""
+
+    def __init__(self):
+        self.lock, self.is_stopped, self.running = threading.Lock(), False, set()
+
+    def start(self, words, **how):
+        """Starts a command. Once they are stopped, none is."""
+        with self.lock:
+            if self.is_stopped:
+                sys.exit("stopped")
+            process = subprocess.Popen(words, start_new_session=True, **how)
+            self.running.add(process)
+        return process
+
+    def stop(self):
+        """Ends all that run, and what they started."""
+        with self.lock:
+            self.is_stopped = True
+            for it in self.running:
+                if it.poll() is None:
+                    os.killpg(it.pid, signal.SIGTERM)
+
+
 class Room:
     """A folder with a crate and those below it, where nothing else is proved."""
 
@@ -143,11 +165,7 @@ class Room:
         self.crate = crate
         self.top = tempfile.mkdtemp(prefix=".prove-", dir=HERE)
         self.folder = f"{self.top}/crates/{crate}"
-        shutil.copy2(f"{HERE}/HANDLES", self.top)
-        with open(f"{HERE}/crates.txt", encoding="utf-8") as lines:
-            kept = [it for it in lines if re.match(r"\w*", it)[0] in (*below, crate)]
-        with open(f"{self.top}/crates.txt", "w", encoding="utf-8") as it:
-            it.writelines(kept)
+        found_repository(HERE, self.top, (*below, crate))
         for it in (*below, crate):
             source, target = f"{HERE}/crates/{it}", f"{self.top}/crates/{it}"
             ignore = shutil.ignore_patterns("out")
@@ -182,14 +200,8 @@ class Run:
         split, cpu = ["--jobs", str(jobs)], ["--cpu", CPU] if CPU else []
         program = ["run", *split, *cpu, "--", *words_of(folder)]
         verb = program if is_program else ["lib", *split]
-        self.process = subprocess.Popen(
-            [RT, *verb],
-            cwd=folder,
-            stdin=subprocess.DEVNULL,
-            stdout=self.log,
-            stderr=self.log,
-            start_new_session=True,
-        )
+        how = {"stdin": subprocess.DEVNULL, "stdout": self.log, "stderr": self.log}
+        self.process = subprocess.Popen([RT, *verb], cwd=folder, start_new_session=True, **how)
 
     def spent(self):
         return time.monotonic() - self.begin
@@ -216,18 +228,12 @@ class Build:
             if crate not in self.used:
                 sys.exit(f"prove: crates.txt has no crate {crate}")
             self.left += [it for it in at_or_below(crate, self.used) if it not in self.left]
-        self.running, self.done, self.progress = [], {}, Progress("prove", 60)
-        # From each crate's start to the end of all, if no crate waits for a processor.
-        self.chain = {}
-        for it in reversed(self.left):
-            above = [self.chain[up] for up in self.chain if it in self.used[up]]
-            self.chain[it] = expected(it) + max(above, default=0)
-        self.processors = processors()
+        self.left.sort(key=lambda it: FIRST.index(it) if it in FIRST else len(FIRST))
+        self.running, self.done, self.processors = [], set(), processors()
 
     def ready(self):
-        """Returns the crates that can start, those with the longest chain first."""
-        found = [it for it in self.left if all(low in self.done for low in self.used[it])]
-        return sorted(found, key=lambda it: -self.chain[it])
+        """Returns the crates that can start, in their order."""
+        return [it for it in self.left if self.done.issuperset(self.used[it])]
 
     def start(self):
         """Starts what can run beside the others."""
@@ -237,7 +243,7 @@ class Build:
             self.left.remove(crate)
             jobs = self.jobs_of(crate)
             self.running.append(Run(crate, at_or_below(crate, self.used)[:-1], jobs))
-            self.progress.say(f"{crate} is being proved")
+            say("prove", f"{crate} begins")
 
     def busy(self):
         """Returns how many processors the checks keep busy."""
@@ -253,24 +259,6 @@ class Build:
             return 1
         return max(min(most, self.processors - others), 1)
 
-    def pace(self):
-        """Returns how many seconds a second of `SECONDS` takes here, as far as is known."""
-        ended = [(seconds, expected(it)) for it, seconds in self.done.items() if seconds > KEPT]
-        # A check that takes longer than it should says something before it ends.
-        late = [(it.spent(), expected(it.crate)) for it in self.running]
-        known = [(20 * USUAL, 20), *ended, *(it for it in late if it[0] > it[1])]
-        return sum(it for it, _ in known) / sum(it for _, it in known)
-
-    def state(self):
-        """Returns how far all is, and what runs."""
-        pace = self.pace()
-        running = {it.crate: max(pace * expected(it.crate) - it.spent(), 3) for it in self.running}
-        order = sorted(self.left, key=lambda it: -self.chain[it])
-        left = {it: (self.used[it], pace * expected(it)) for it in order}
-        rest = part_and_rest(self.progress.spent(), seconds_left(left, running, self.processors))
-        names = ", ".join(f"{it.crate} {it.spent():.0f} s" for it in self.running)
-        return f"{rest}; {names or 'nothing runs'}; {len(self.left)} to come"
-
     def end(self, run):
         """Notes that a check has ended, and returns whether the crate is proved."""
         self.running.remove(run)
@@ -278,30 +266,24 @@ class Build:
         status = run.process.returncode
         if status:
             run.log.seek(0)
-            self.progress.clear()
             sys.stderr.buffer.write(run.log.read())
-            sys.stderr.flush()
-            said = f"{run.crate} failed after {run.spent():.0f} s, with status {status}"
-            self.progress.say(said)
-            return False
-        self.done[run.crate] = run.spent()
-        rest = self.state() if self.left or self.running else "all is proved"
-        self.progress.say(f"{run.crate} is proved, in {run.spent():.0f} s; {rest}")
-        return True
+        else:
+            self.done.add(run.crate)
+        how = f"failed with status {status}" if status else "is proved"
+        say("prove", f"{run.crate} {how} after {run.spent():.0f} s")
+        return not status
 
     def run(self):
         """Proves all, and returns whether that succeeded."""
         try:
             while self.left or self.running:
                 self.start()
-                self.progress.show(self.state)
                 time.sleep(0.1)
                 for it in [it for it in self.running if it.process.poll() is not None]:
                     if not self.end(it):
                         return False
             return True
         finally:
-            self.progress.clear()
             for it in self.running:
                 it.stop()
 

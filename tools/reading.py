@@ -29,25 +29,17 @@ def path_of(crate, module):
     return None
 
 
-def read(path, lines_of):
-    """Adds a file to the lines of each file, after those that it uses."""
-    with open(f"{TOP}/{path}", encoding="utf-8") as file:
-        text = file.read()
-    lines_of[path] = 0  # So that no file is read twice.
-    for crate, module in IMPORT.findall(text):
-        used = path_of(crate, module)
-        if used is not None and used not in lines_of:
-            read(used, lines_of)
-    del lines_of[path]
-    lines_of[path] = text.count("\n")
-
-
-def read_all(paths):
-    """Returns the lines of each file that some files rest on, in order."""
-    lines_of = {}
+def read_all(paths, lines_of=None):
+    """Returns the lines of each file that some files rest on, each after those that it uses."""
+    lines_of = {} if lines_of is None else lines_of
     for path in paths:
         if path not in lines_of:
-            read(path, lines_of)
+            with open(f"{TOP}/{path}", encoding="utf-8") as file:
+                text = file.read()
+            lines_of[path] = 0  # So that no file is read twice.
+            read_all(filter(None, (path_of(*it) for it in IMPORT.findall(text))), lines_of)
+            del lines_of[path]
+            lines_of[path] = text.count("\n")
     return lines_of
 
 

@@ -19,97 +19,52 @@ COLUMNS = 100
 # The most words of a sentence of a page. The rule has 25, and this leaves some to judgement.
 WORDS_AT_MOST = 30
 
-# Words of no field, and what to write in their place.
-WORDS = [
-    (
-        r"\b(a|the|each|its|some|this|in|any) front\b|\bfronts? of (the|a|its|all|these|what)\b",
-        "prefix",
-    ),
-    (r"\bline[ -]feeds?\b", "newline"),
-    (r"\bstands? behind\b", "follows"),
-    (
-        r"\bbehind (the|a|its|it|them|these) (\w+ )?(bytes?|letters?|keyword|words?|sign|name)",
-        "after",
-    ),
-    (r"\b(gives?|given|gave) up\b(?! (on|the search))", "consumes, fails"),
-    (r"\b(in|of) pieces\b|\bpieces? of (the )?(input|text|at most)\b", "chunk"),
-    (r"\bthe (last|next|whole) piece\b", "chunk"),
-    (r"\broom for\b|\bhas no room\b|\b(a|long|short) room\b", "capacity, buffer"),
-    (r"\bgathered\b", "buffered"),
-    (
-        r"\b(is|are|was|were) (told|said|put|seen|had|lent|judged|turned|spoiled)\b",
-        "returned, set, appended, scanned, borrowed, checked",
-    ),
-    (
-        r"\bwhat is (left|seen|said|told|put|kept|worth|printed) of\b",
-        "the output for, the scan of, the value of",
-    ),
-    (r"\bfor good\b", "is fused"),
-    (r"\bso it (is|does)\b|\bso they (are|do)\b", "repeat the noun"),
-    (r"\bworth\b", "value"),
-    (r"\bturned down\b", "Rejected"),
-]
-WORDS = [(re.compile(pattern, re.IGNORECASE), better) for pattern, better in WORDS]
-
-# The same for pages and manuals alone. A manual's list of messages is left out.
-PAGE_WORDS = [
-    (r"\bfolders?\b", "directory"),
-    (r"\bbeside\b", "next to, compared with"),
-]
-PAGE_WORDS = [(re.compile(pattern, re.IGNORECASE), better) for pattern, better in PAGE_WORDS]
-
-# The pages for users. What types and definitions call a fault is an error there.
+# Words of no field, and what to write in their place. In pages and manuals there are more, and in
+# the pages for users, what types and definitions call a fault is an error.
+WORDS = {
+    r"\b(a|the|each|its|some|this|in|any) front\b|\bfronts? of (the|a|its|all)\b": "prefix",
+    r"\bbehind (the|a|its|it|them|these) (\w+ )?(bytes?|letters?|keyword|words?|sign)": "after",
+    r"\b(in|of) pieces\b|\bpieces? of (the )?(input|text|at most)\b": "chunk",
+    r"\broom for\b|\bhas no room\b|\b(a|long|short) room\b": "capacity, buffer",
+    r"\b(is|are|was|were) (told|said|put|seen|had|lent|judged|turned|spoiled)\b": "set, returned",
+    r"\b(what is (left|seen|said|told|put|kept) of|worth|for good)\b": "the output for, the value",
+}
+PAGE_WORDS = {r"\bfolders?\b": "directory", r"\bbeside\b": "next to, compared with"}
+USER_WORDS = {r"\bfault(s|y)?\b": "error"}
 USER_PAGES = re.compile(
     r"README\.md|CHANGELOG\.md|docs/(C|DIFFERENCES|EXAMPLES|PROVED)\.md|docs/.*\.[13]"
 )
-USER_WORDS = [(re.compile(r"\bfault(s|y)?\b", re.IGNORECASE), "error")]
-
-# Forms that a native reader stops at, and how many of them 1,000 words of the pages may have.
-FORMS = re.compile(r"\b(that|those)\s+of\b|\b(of|to|by|from|for|in|on|with|at)\s+which\b")
-FORMS_AT_MOST = 1.5
 
 # How no item's comment begins.
 OPENING = re.compile(r"^\s*(///|--) (Whether|What|How many|How far|Where|The same|As) ")
 
-RUST_ITEM = re.compile(r"^(\s*)pub (const fn|fn|struct|enum|trait|const|type|union) (\w+)")
+RUST_ITEM = re.compile(r"^\s*pub (?:const fn|fn|struct|enum|trait|const|type|union) (\w+)")
 DEFINITION = re.compile(r"^ {0,2}(?:abbrev pub|unfoldable pub|pub data|pub record) ([^\s:({]+)")
+
+
+# How a file's lines of comment begin. A page is all comment.
+MARKS = {"rt": r"\s*//[/!]?(?!/)", "antt": r"\s*--", "script": r"\s*#(?!!)", "page": ""}
+KINDS = {"md": "page", "1": "page", "3": "page", "rt": "rt", "antt": "antt"}
+KINDS |= dict.fromkeys(("sh", "py", "Makefile", "crates.txt", "run"), "script")
 
 
 def comment_of(line, kind):
     """Returns the comment of a line, or None."""
-    if kind == "rt":
-        found = re.match(r"\s*(//[/!]?)(?!/)(.*)", line)
-        return found.group(2) if found else None
-    if kind == "antt":
-        found = re.match(r"\s*--(.*)", line)
-        return found.group(1) if found else None
-    if kind == "script":
-        found = re.match(r"\s*#(?!!)(.*)", line)
-        return found.group(1) if found else None
-    return line
+    found = re.match(MARKS[kind] + "(.*)", line)
+    return found and found[1]
 
 
 def kind_of(path):
     """Returns how the comments of a file are written, or None if it has none to check."""
-    if path.endswith(".rt"):
-        return "rt"
-    if path.endswith(".antt"):
-        return "antt"
-    if path.endswith((".md", ".1", ".3")):
-        return "page"
-    if path.endswith((".sh", ".py")) or path.split("/")[-1] in ("Makefile", "crates.txt", "run"):
-        return "script"
-    return None
+    name = path.split("/")[-1]
+    return KINDS.get(name) or KINDS.get(name.rpartition(".")[2])
 
 
-def narrow(path):
-    """Returns whether the lines of a file are limited."""
-    return path.endswith((".md", ".rt")) or (path.endswith(".antt") and "/specs/" in path)
-
-
-def may_be_wide(kind, line):
-    """Returns whether a line can't be broken: a table's row, a link, an attribute, a text."""
+def may_be_wide(path, kind, line):
+    """Returns whether a line isn't limited, or can't be broken: a table's row, a link or a text."""
     bare = line.strip()
+    if not path.endswith((".md", ".rt")) and not re.search(r"/specs/.*\.antt$", path):
+        return True
     if kind == "page":
         return line.startswith("|") or ("](" in line and " " not in bare)
     return bare.startswith("#[") or (kind == "rt" and '"' in line and not bare.startswith("//"))
@@ -117,26 +72,23 @@ def may_be_wide(kind, line):
 
 def findings(path, text):
     """Yields a line number and a reason for each finding."""
-    kind = kind_of(path)
-    if kind is None:
-        return
-    lines = text.split("\n")
-    fenced = False
+    kind, lines, fenced = kind_of(path), text.split("\n"), False
     for number, line in enumerate(lines, 1):
         if kind == "page" and line.lstrip().startswith("```"):
             fenced = not fenced
             continue
-        if narrow(path) and len(line) > COLUMNS and not may_be_wide(kind, line) and not fenced:
+        if len(line) > COLUMNS and not fenced and not may_be_wide(path, kind, line):
             yield number, f"{len(line)} columns, {COLUMNS} at most"
         comment = comment_of(line, kind)
         if comment is None or fenced:
             continue
         bare = re.sub(r"`[^`]*`", "``", comment)
         words = WORDS
+        # A manual's list of messages is left out.
         if kind == "page" and not line.startswith('.It "'):
-            words = WORDS + PAGE_WORDS + (USER_WORDS if USER_PAGES.fullmatch(path) else [])
-        for pattern, better in words:
-            found = pattern.search(bare)
+            words = WORDS | PAGE_WORDS | (USER_WORDS if USER_PAGES.fullmatch(path) else {})
+        for pattern, better in words.items():
+            found = re.search(pattern, bare, re.IGNORECASE)
             if found:
                 yield number, f"'{found.group(0)}': {better}"
         before = lines[number - 2] if number > 1 else ""
@@ -177,34 +129,16 @@ def long_sentences(lines):
             yield number, f"a sentence of {words} words, {WORDS_AT_MOST} at most"
 
 
-def forms_of(text):
-    """Returns how many forms of `FORMS` a page has outside its code, and how many words."""
-    prose = re.sub(r"`[^`]*`", "code", re.sub(r"```.*?```", "", text, flags=re.DOTALL))
-    return len(FORMS.findall(prose)), len(prose.split())
-
-
-def many_forms(pages):
-    """Yields a finding if all pages together have too many forms, with the pages of most."""
-    counts = {path: forms_of(text) for path, text in pages.items()}
-    forms, words = (sum(column) for column in zip((0, 0), *counts.values()))
-    if forms * 1000 > FORMS_AT_MOST * words:
-        most = sorted(counts, key=lambda path: -counts[path][0])[:5]
-        named = ", ".join(f"{path} {counts[path][0]}" for path in most)
-        told = f"{forms} of 'that of', 'of which' in {words} words"
-        yield f"{told}, {FORMS_AT_MOST} in 1,000 at most: {named}"
-
-
 def bare_items(path, lines):
     """Yields each public item without a line that says what it is."""
-    if "/src/" in path and path.endswith(".rt"):
+    for within, ending, item, mark in (
+        ("/src/", ".rt", RUST_ITEM, "///"),
+        ("/specs/", ".antt", DEFINITION, "--"),
+    ):
         for number, line in enumerate(lines, 1):
-            if RUST_ITEM.match(line) and not documented(lines, number - 1, "///"):
-                yield number, f"no line says what `{RUST_ITEM.match(line).group(3)}` is"
-    if "/specs/" in path and path.endswith(".antt"):
-        for number, line in enumerate(lines, 1):
-            found = DEFINITION.match(line)
-            if found and not documented(lines, number - 1, "--"):
-                yield number, f"no line says what `{found.group(1)}` is"
+            found = item.match(line) if within in path and path.endswith(ending) else None
+            if found and not documented(lines, number - 1, mark):
+                yield number, f"no line says what `{found[1]}` is"
 
 
 def documented(lines, index, mark):
@@ -216,25 +150,14 @@ def documented(lines, index, mark):
 
 
 def main():
-    paths = sys.argv[1:]
-    if not paths:
-        paths = tracked()
     count = 0
-    pages = {}
-    for path in paths:
+    for path in sys.argv[1:] or tracked():
         if kind_of(path) is None or path.endswith("style.py"):
             continue
         with open(path, encoding="utf-8") as file:
-            text = file.read()
-        if kind_of(path) == "page":
-            pages[path] = text
-        for number, reason in findings(path, text):
-            print(f"{path}:{number}: {reason}")
-            count += 1
-    if len(sys.argv) == 1:
-        for reason in many_forms(pages):
-            print(f"pages: {reason}")
-            count += 1
+            for number, reason in findings(path, file.read()):
+                print(f"{path}:{number}: {reason}")
+                count += 1
     if count:
         print(f"style: {count} findings", file=sys.stderr)
     return 1 if count else 0

@@ -5,12 +5,9 @@
 
 `rt try` builds the program with checks of each index, overflow and access, runs it, and removes it.
 So here the program is run on a text that takes it a while, and is copied meanwhile.
-
-Shows on the error stream how far it is.
 """
 import glob
 import os
-import shutil
 import signal
 import subprocess
 import sys
@@ -19,9 +16,7 @@ import time
 
 sys.dont_write_bytecode = True
 
-from progress import Progress, building
-
-HERE = os.path.dirname(os.path.dirname(os.path.realpath(__file__)))
+from prove import HERE, RT, take
 
 # Lines of a text that takes a program without optimization some seconds.
 LINES = 20_000_000
@@ -41,47 +36,37 @@ def program_in(folder):
 
 
 def build(crate, file):
-    """Builds the program of a crate, and returns whether that succeeded."""
-    progress = Progress("make")
+    """Builds the program of a crate, and returns what went wrong, or nothing."""
     with tempfile.TemporaryDirectory(prefix="unproved-") as work:
         text, said = f"{work}/text.c", f"{work}/said"
         with open(text, "wb") as it:
             it.write(b"\n" * LINES)
+        how = {"cwd": f"{HERE}/crates/{crate}", "env": {**os.environ, "TMPDIR": work}}
         with open(said, "wb") as out:
-            run = subprocess.Popen(
-                [os.environ.get("RT", "rt"), "try", "--", "-s", text],
-                cwd=f"{HERE}/crates/{crate}",
-                env={**os.environ, "TMPDIR": work},
-                stdin=subprocess.DEVNULL,
-                stdout=out,
-                stderr=out,
-            )
+            how |= {"stdin": subprocess.DEVNULL, "stdout": out, "stderr": out}
+            run = subprocess.Popen([RT, "try", "--", "-s", text], **how)
         try:
             built = None
             while built is None and run.poll() is None:
-                progress.show(lambda: building(progress.spent()))
                 time.sleep(0.05)
                 built = program_in(work)
-            if built:
-                os.makedirs(os.path.dirname(os.path.abspath(file)), exist_ok=True)
-                # It is replaced in one step, so that an interrupt leaves no half of it.
-                shutil.copy(built, f"{file}.new")
-                os.replace(f"{file}.new", file)
+            if not built:
+                with open(said, encoding="utf-8", errors="replace") as it:
+                    return f"{it.read()}unproved: rt try built no program"
+            take(built, file)
+            os.utime(file)  # It is newer than its sources, however old what is built is.
         finally:
-            progress.clear()
             if run.poll() is None:
                 run.terminate()
                 run.wait()
-        if not built:
-            with open(said, encoding="utf-8", errors="replace") as it:
-                sys.stderr.write(it.read())
-            print("unproved: rt try built no program", file=sys.stderr)
-        return bool(built)
+    return None
 
 
 if __name__ == "__main__":
     if len(sys.argv) != 3:
         sys.exit(__doc__)
+    if not os.path.exists("/proc/self/cmdline"):
+        sys.exit("unproved: /proc is not mounted, where the program is found while it runs")
     for number in (signal.SIGHUP, signal.SIGINT, signal.SIGTERM):
-        signal.signal(number, lambda number, _: sys.exit(128 + number))
-    sys.exit(0 if build(sys.argv[1], sys.argv[2]) else 1)
+        signal.signal(number, lambda number, _: sys.exit("unproved: interrupted"))
+    sys.exit(build(sys.argv[1], sys.argv[2]))

@@ -32,22 +32,19 @@ static int is_refused(void) {
     return made >= number_in("REFUSE_FROM") && made <= number_in("REFUSE_TO");
 }
 
+static void *nothing(void) {
+    errno = ENOMEM;
+    return NULL;
+}
+
 void *malloc(size_t size) {
     static void *(*next)(size_t);
     if (!next) next = (void *(*)(size_t))dlsym(RTLD_NEXT, "malloc");
-    if (is_refused()) {
-        errno = ENOMEM;
-        return NULL;
-    }
-    return next(size);
+    return is_refused() ? nothing() : next(size);
 }
 
 void *realloc(void *old, size_t size) {
     static void *(*next)(void *, size_t);
     if (!next) next = (void *(*)(void *, size_t))dlsym(RTLD_NEXT, "realloc");
-    if (is_refused()) {
-        errno = ENOMEM;
-        return NULL;
-    }
-    return next(old, size);
+    return is_refused() ? nothing() : next(old, size);
 }

@@ -1,0 +1,186 @@
+#!/usr/bin/env python3
+"""Runs the examples of pages and of the manual with ./unifdef, and compares what they print.
+
+    tests/examples.py [PAGE ..]     README.md, docs/EXAMPLES.md, docs/LIBRARY.md and docs/unifdef.1
+                                    by default
+
+An example of a page is a block that begins with ```console. A line that begins with "$ " is a
+command, and the lines up to the next command are its output, on either stream. Further lines of a
+command begin with "> ". The commands of a block run in order, each where the one before it left
+off, in a folder of their own with ./unifdef and ./unifdef-tree, which is on PATH. The rest of a
+block is left out if a command needs a tool that isn't there, or if the block begins with a header
+of the machine that is another one here.
+
+Under OPTIONS of the manual, a line has the arguments, a colon, two spaces and the input; the line
+after it has "gives:", the status and, after two spaces, the output. Under EXAMPLES there are
+commands, each of which changes its text. The examples of docs/DIFFERENCES.md are cases, which
+differences.py runs.
+
+The code of the library's examples is that of crates/example_library, which is proved and run: in
+docs/LIBRARY.md and the `///` and `//!` comments of all crates, the lines of a ```rust block must be
+consecutive lines of a source there. Those of a ```text block, or of one without a language, must be
+consecutive lines of its stdout. Indentation is ignored.
+"""
+import difflib
+import os
+import re
+import shutil
+import subprocess
+import sys
+import tempfile
+from pathlib import Path
+
+sys.dont_write_bytecode = True
+
+from cases import unescaped
+
+TOP = Path(__file__).resolve().parent.parent
+PAGES = ["README.md", "docs/EXAMPLES.md", "docs/LIBRARY.md", "docs/unifdef.1"]
+# The tools that may not be there, each with those that it calls.
+TOOLS = {"cmake": "make cc", "meson": "ninja cc", "git": "", "cc": "", "make": "", "ninja": ""}
+BLOCK = re.compile(r"\n```(.*)((?s:.*?))(\n```(?=\n)|\Z)")
+OPTION = re.compile(r"^(-[^:\n]*):  (.*)\ngives: ([012])(?:  (.*))?$", re.MULTILINE)
+
+
+class Examples:
+    """The examples of a page, which are counted."""
+
+    def __init__(self, page):
+        self.page, self.right, self.wrong, self.left_out = page, 0, 0, 0
+        self.text = (TOP / page).read_text(encoding="utf-8")
+
+    def compare(self, what, wanted, found):
+        """Counts an example, and returns whether it prints what is written."""
+        if wanted == found:
+            self.right += 1
+            return True
+        self.wrong += 1
+        print(f"{self.page}: {what}")
+        texts = wanted.split("\n"), found.split("\n")
+        print(*difflib.unified_diff(*texts, "written", "printed", lineterm=""), sep="\n")
+        return False
+
+    def skip(self, why, command):
+        """Counts an example that is left out, with the rest of its block."""
+        print(f"{self.page}: left out, since {why}: {command}")
+        self.left_out += 1
+
+    def told(self):
+        """Says how many examples are right. Returns whether all are, and there are some."""
+        counts = f"{self.right} right, {self.wrong} wrong, {self.left_out} left out"
+        print(f"examples of {self.page}: {counts}")
+        return not self.wrong and self.right > 0
+
+
+def run(command, place, top):
+    """Returns the status and the output of a command in a place."""
+    env = {key: it for key, it in os.environ.items() if key not in ("MAKEFLAGS", "MAKELEVEL")}
+    env |= {"LC_ALL": "C", "PATH": f"{top}:{env['PATH']}"}
+    how = {"cwd": place, "env": env, "stdin": subprocess.DEVNULL, "text": True}
+    how |= {"stdout": subprocess.PIPE, "stderr": subprocess.STDOUT, "errors": "replace"}
+    done = subprocess.run(["bash", "-c", command], check=False, **how)
+    return done.returncode, done.stdout
+
+
+def commands_in(block):
+    """Yields each command of a block, and what is to come from it."""
+    for part in re.split(r"^\$ ", block, flags=re.MULTILINE)[1:]:
+        head, *lines = part.split("\n")
+        while lines and lines[0].startswith("> "):
+            head += "\n" + lines.pop(0)[2:]
+        yield head, "\n".join(lines)
+
+
+def linked(top):
+    """Puts the programs into a folder."""
+    for it in ("unifdef", "unifdef-tree"):
+        os.symlink(TOP / it, f"{top}/{it}")
+
+
+def run_block(examples, block):
+    """Runs the commands of a block."""
+    with tempfile.TemporaryDirectory() as work:
+        top = place = f"{work}/folder"
+        os.mkdir(top)
+        linked(top)
+        for number, (command, wanted) in enumerate(commands_in(block)):
+            needed = [it for it in TOOLS if f" {it} " in f" {command}"]
+            needed += [below for it in needed for below in TOOLS[it].split()]
+            missing = [it for it in needed if not shutil.which(it)]
+            if missing:
+                return examples.skip(f"{missing[0]} isn't there", command)
+            _, found = run(f"{command}\npwd > '{work}/at'", place, top)
+            place = Path(work, "at").read_text(encoding="utf-8").rstrip("\n")
+            if not number and command.startswith("cat /usr/include/") and found != wanted:
+                return examples.skip("this machine has another header", command)
+            if not examples.compare(command, wanted, found):
+                return None
+
+
+def run_page(examples):
+    """Runs the blocks of a page."""
+    for block in re.findall(r"^```console\n(.*?)^```$", examples.text, re.MULTILINE | re.DOTALL):
+        run_block(examples, block)
+    return examples.told()
+
+
+def run_manual(examples):
+    """Runs the examples of the manual."""
+    text = examples.text.replace("\\e", "\\")
+    options, rest = (text.partition(f"\n.Sh {it}\n")[2] for it in ("OPTIONS", "EXAMPLES"))
+    with tempfile.TemporaryDirectory() as top:
+        linked(top)
+        for words, given, status, output in OPTION.findall(options.partition("\n.Sh ")[0]):
+            command = [TOP / "unifdef", *words.split()]
+            done = subprocess.run(command, input=unescaped(given), capture_output=True, check=False)
+            wanted = f"{status} {unescaped(output)}"
+            examples.compare(f"{words}: {given}", wanted, f"{done.returncode} {done.stdout}")
+        count = examples.right
+        for block in re.findall(r"^\$ .*?(?=^\.Ed$)", rest.partition("\n.Sh ")[0], re.M | re.S):
+            for command, wanted in commands_in(block):
+                # The status is 0 if the pipe ends with another program.
+                status = int(command.rpartition("| ")[2].startswith("unifdef "))
+                found = "{} {}".format(*run(command, top, top))
+                examples.compare(command, f"{status} {wanted}", found)
+    return examples.told() and count > 10 and examples.right > count
+
+
+def stripped(text):
+    """Returns a text without indentation, after a newline."""
+    return "\n" + "".join(f"{line.lstrip()}\n" for line in text.splitlines())
+
+
+def quote(examples):
+    """Looks for the code of the library's examples in the crate."""
+    library = TOP / "crates" / "example_library"
+    code = "".join(stripped(it.read_text(encoding="utf-8")) for it in library.glob("src/**/*.rt"))
+    printed = stripped((library / "stdout").read_text(encoding="utf-8"))
+    pages = {examples.page: examples.text}
+    for source in sorted(TOP.glob("crates/*/src/**/*.rt")):
+        comments = re.findall(r"^\s*//[/!](.*)$", source.read_text(encoding="utf-8"), re.MULTILINE)
+        pages[os.path.relpath(source, TOP)] = "\n".join(comments)
+    in_page = 0
+    for page, text in pages.items():
+        # A block without an end is wrong, whatever its lines are.
+        for language, block, end in BLOCK.findall(stripped(text)):
+            if language != "sh":
+                within = {"rust": code, "text": printed, "": printed}.get(language, "")
+                is_there = end.strip() and block and f"{block}\n" in within
+                examples.compare(f"{page}: not in {library.name}", "", "" if is_there else block)
+        in_page = in_page or examples.right
+    return examples.told() and examples.right > in_page > 0
+
+
+KINDS = {"docs/LIBRARY.md": quote, "docs/unifdef.1": run_manual}
+
+
+def main():
+    for it in ("unifdef", "unifdef-tree"):
+        if not os.access(TOP / it, os.X_OK):
+            return f"examples: {it} is not there: run make {it}"
+    found = [KINDS.get(it, run_page)(Examples(it)) for it in sys.argv[1:] or PAGES]
+    return 0 if all(found) else 1
+
+
+if __name__ == "__main__":
+    sys.exit(main())

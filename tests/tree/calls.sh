@@ -1,0 +1,163 @@
+#!/usr/bin/env bash
+# Which calls a run makes, and what it leaves if one of them fails or if it is killed there.
+# shellcheck disable=SC2154
+
+# named PATTERN: prints the names of the calls in $work/calls that a pattern of sed finds.
+named() { sed -n "s/^[0-9]* *\\($1\\).*/\\1/p" "$work/calls" | tr '\n' ' '; }
+
+# Kills the program at each of its calls, from the first one about the tree on. Each file is then
+# old or new, and a second run does the rest.
+test_kills() {
+  local calls it killed=0
+  small_tree
+  traced any all -DA src
+  mapfile -t calls < <(sed -n 's/^[0-9]* *\([a-z_0-9]*\)(\(.*\)/\1 \2/p' "$work/calls" | awk '
+    { count[$1]++ }
+    /AT_FDCWD, "src"/ { begun = 1 }
+    begun && !/^exit/ { print $1, count[$1] }')
+  for it in "${calls[@]}"; do
+    small_tree
+    injected any "${it% *}:signal=KILL:when=${it#* }" -DA src
+    [ "$status" -ne 137 ] || killed=$((killed + 1))
+    each_old_or_new
+    tree -DA src
+    none_left
+    is src/a.c src/folder/b.c 'yes\n'
+    check grep -q ', 1 faulty$' "$work/err"
+  done
+  check test "$killed" -gt 40
+}
+
+test_signals() {
+  local it
+  for it in HUP INT TERM; do
+    small_tree
+    injected any "rename:signal=$it:when=1" -DA src
+    check test "$status" -gt 128
+    is src/a.c 'yes\n'
+    is src/folder/b.c "$text"
+  done
+}
+
+# Each call fails in turn, from the first one about the tree on: each file is old or new, and the
+# status is 2 unless both files are new.
+test_failing_calls() {
+  local call errors error i first count
+  while read -r call errors; do
+    small_tree
+    traced any all -DA src
+    first=$(awk -v call="$call(" '{ count += index($0, call) > 0 }
+      /AT_FDCWD, "src"/ { print count + (index($0, call) == 0); exit }' "$work/calls")
+    count=$(grep -c " $call(" "$work/calls")
+    for error in $errors; do
+      for i in $(seq "$first" "$count"); do
+        small_tree
+        injected any "$call:error=$error:when=$i" -DA src
+        each_old_or_new
+        [ "$status" -eq 2 ] || is src/a.c src/folder/b.c 'yes\n'
+      done
+    done
+  done << 'EOT'
+openat EACCES EMFILE EIO
+read EIO ENOMEM
+write EIO ENOSPC
+close EIO EDQUOT
+getdents64 EIO
+fchmod EPERM EIO
+fsync EIO ENOSPC EDQUOT
+rename EPERM EBUSY EXDEV EIO
+EOT
+}
+
+# The bytes of the new file are on the disk before it takes the place of the old one. A file system
+# may take all that is written, and say only then that it kept nothing.
+test_syncs() {
+  small_tree
+  traced any fsync,rename -DA src
+  check same "$(named 'fsync\|rename')" 'fsync rename fsync rename '
+  small_tree
+  injected 2 fsync:error=EIO:when=1 -DA src
+  says 'src/a.c: Cannot be written: Input/output error'
+  is src/a.c "$text"
+  is src/folder/b.c 'yes\n'
+  none_left
+  small_tree
+  injected 2 fsync:error=EDQUOT -DA src
+  says 'src/a.c: Cannot be written: Disk quota exceeded' \
+    'src/folder/b.c: Cannot be written: Disk quota exceeded'
+  is src/a.c src/folder/b.c "$text"
+  none_left
+  small_tree
+  ln src/a.c linked.c
+  injected 2 fsync:error=EIO:when=1 -w -DA src
+  is src/a.c "$text"
+}
+
+# A diff of -d that goes to a file is on the disk before the next file is changed, and no file is
+# changed after one that isn't.
+test_synced_diffs() {
+  small_tree
+  traced any write,fdatasync,rename -q -d -DA src
+  check same "$(named 'write(1\|fdatasync\|rename')" \
+    'rename write(1 fdatasync rename write(1 fdatasync '
+  small_tree
+  strace -f -o "$work/calls" -e trace=fdatasync "$TREE" -q -d -DA src 2> "$work/err" |
+    cat > "$work/out"
+  check same "$(grep -c fdatasync "$work/calls")" 0
+  small_tree
+  injected 2 fdatasync:error=EIO:when=1 -q -d -DA src
+  says 'stdout: Cannot be written'
+  is src/a.c 'yes\n'
+  is src/folder/b.c "$text"
+}
+
+# No file is read for -n once its diffs can't be written.
+test_stops_showing() {
+  [ -w /dev/full ] || return 0
+  small_tree
+  strace -f -o "$work/calls" -e trace=openat "$TREE" -n -DA src > /dev/full 2> "$work/err"
+  check same "$?" 2
+  says_only 'stdout: Cannot be written' '1 would change, 0 unchanged, 1 faulty' '4 lines removed'
+  check same "$(grep -c '/a.c"' "$work/calls")" 1
+  check same "$(grep -c '/b.c"' "$work/calls")" 0
+}
+
+# A new file may be read by its user alone until it gets its mode. A mode that it has isn't set, and
+# no mode or owner is set by a name, where a link could be followed.
+test_modes() {
+  small_tree
+  chmod 644 src/a.c
+  injected any fchmod:signal=KILL:when=1 -DA src
+  check same "$(stat -c %a src/.unifdef-tree.a.c)" 600
+  small_tree
+  chmod 600 src/a.c
+  traced 1 fchmod -DA src/a.c
+  check same "$(grep -c 'fchmod(' "$work/calls")" 0
+  small_tree
+  chmod 754 src/a.c
+  traced any chown,lchown,fchownat,chmod,fchmodat,fchmod -DA src
+  check same "$(grep -cE 'chown\(|chmod\(|at\(' "$work/calls")" "$(grep -c 'fchmod(' "$work/calls")"
+  check same "$(stat -c %a src/a.c)" 754
+}
+
+# Only the user's rights excuse an owner or a group that isn't set.
+test_owners() {
+  local error
+  is_root || return 0
+  for error in EDQUOT EIO EROFS; do
+    small_tree
+    chown 65534:65534 src/a.c
+    injected 2 "fchown:error=$error" -DA src/a.c
+    check grep -q '^unifdef-tree: src/a.c: Cannot be written: ' "$work/err"
+    is src/a.c "$text"
+    check same "$(stat -c %u src/a.c)" 65534
+    none_left
+  done
+  for error in EPERM EINVAL EOPNOTSUPP ENOSYS; do
+    small_tree
+    chown 65534:65534 src/a.c
+    chmod 4755 src/a.c
+    injected 1 "fchown:error=$error" -DA src/a.c
+    check same "$(stat -c '%a %u' src/a.c)" '755 0'
+  done
+}

@@ -1,0 +1,146 @@
+#!/usr/bin/env bash
+# The diffs of -n and -d: patch and git apply take them, forwards and back.
+# shellcheck disable=SC2154,SC2086 # Words of options are split.
+
+# A diff has the changed lines, three lines around them, and no other ones.
+test_small_diffs() {
+  fresh
+  put src/a.c "1\\n2\\n3\\n4\\n${text}5\\n6\\n7\\n8\\n"
+  tree -n -q -DA src
+  prints '--- src/a.c
++++ src/a.c
+@@ -2,11 +2,7 @@
+ 2
+ 3
+ 4
+-#ifdef A
+ yes
+-#else
+-no
+-#endif
+ 5
+ 6
+ 7'
+  put src/a.c "$text"
+  tree -n -q -c -UA src
+  prints '--- src/a.c
++++ src/a.c
+@@ -1,5 +1,4 @@
+ #ifdef A
+ yes
+ #else
+-no
+ #endif'
+}
+
+# applies COMMAND..: the command must take the diff in a copy of the tree, and with -R turn it back.
+applies() {
+  has "$1" || return 0
+  rm -rf "$work/run"
+  cp -r "$work/old" "$work/run"
+  cd "$work/run" || exit 1
+  "$@" < "$work/diff" > /dev/null 2>&1
+  check diff -r . "$work/new"
+  "$@" -R < "$work/diff" > /dev/null 2>&1
+  check diff -r . "$work/old"
+}
+
+# The diffs of -n turn each text into its output, and back. Each text has another trap for them.
+test_diffs() {
+  local options
+  has patch || { left_out 'patch is not there: applying diffs'; return; }
+  for options in -DA -UA '-b -DA' '-b -UA' '-c -UA' '-b -c -DA' '-l -UA' '-t -DA'; do
+    fresh 'src/a name with spaces.c' $'src/tab\t, "quotes", back\\slash and\nnewline.c'
+    put src/plain.c "a\\nb\\nc\\n${text}d\\n"
+    put src/whole.c '#ifdef A\nx\n#endif\n'
+    put src/open_end.c "${text%\\\\n}"
+    put src/open_line.c "x\\n${text}last"
+    put src/returns.c '#ifdef A\r\nyes\r\n#else\r\nno\r\n#endif\r\nx\r\n'
+    put src/nul.c "a\\0b\\n$text"
+    put src/elif.c '#if A\na\n#elif B\nb\n#elif C\nc\n#endif\n'
+    put src/far.c "$text$(yes line | head -n 40)\\n$text"
+    put src/minus.c '#ifdef A\n-- a/x\n++ b/x\n@@ -1 +1 @@\n#endif\n-- b\n'
+    tree -n $options src
+    cp "$work/out" "$work/diff"
+    cp -r . "$work/old"
+    run 0 -q -x2 $options src
+    cp -r . "$work/new"
+    applies patch -s -p0 -F0
+    applies git apply -p0
+    rm -rf "$work/old" "$work/new"
+  done
+}
+
+# No path in a diff begins with ./, and one that begins or ends with a space is quoted.
+test_diff_paths() {
+  local path
+  has patch || return 0
+  fresh ' first.c' 'last.c ' src/x.c
+  for path in . ./ ././ .//; do
+    tree -n -q -DA -g '*' -- "$path"
+    prints '--- " first.c"
++++ " first.c"
+--- "last.c "
++++ "last.c "
+--- src/x.c
++++ src/x.c' grep '^[-+][-+][-+] '
+  done
+  cp "$work/out" "$work/diff"
+  cp -r . "$work/old"
+  tree -q -x2 -DA -g '*' -- .
+  cp -r . "$work/new"
+  applies patch -s -p0 -F0
+  applies git apply -p0
+  rm -rf "$work/old" "$work/new"
+}
+
+# No file is changed once its change can't be shown.
+test_lost_diffs() {
+  fresh src/a.c src/b.c
+  put src/c.c '#endif\n'
+  "$TREE" -d -DA -- src > /dev/full 2> "$work/err"
+  check same "$?" 2
+  says_only 'stdout: Cannot be written' '1 changed, 0 unchanged, 1 faulty' '4 lines removed'
+  is src/a.c 'yes\n'
+  is src/b.c "$text"
+  "$TREE" -DA -- src > /dev/full 2> "$work/err"
+  is src/b.c 'yes\n'
+}
+
+# patch -R undoes a run with the diff that -d prints of it.
+test_undoes() {
+  small_tree
+  put src/linked.c "$text"
+  ln src/linked.c src/other.c
+  cp -r src "$work/was"
+  run 2 -d -DA src
+  is src/a.c 'yes\n'
+  prints 0 grep -c linked.c
+  cp "$work/out" "$work/diff"
+  if has patch; then
+    check same "$(grep -c '^--- ' "$work/diff")" 2
+    patch -s -R -p0 -i "$work/diff"
+    check diff -r "$work/was" src
+  fi
+  tree -n -DA src
+  check cmp "$work/out" "$work/diff"
+  tree -n -d -DA src
+  check cmp "$work/out" "$work/diff"
+  tree -w -d -q -DA src/linked.c
+  check same "$(head -n 1 "$work/out" | cut -f 1)" '--- src/linked.c'
+  rm -rf "$work/was"
+}
+
+# So it does for an absolute path, and for one that begins with ../.
+test_undoes_elsewhere() {
+  has patch || return 0
+  small_tree
+  tree -d -DA "$work/run/src"
+  is src/a.c 'yes\n'
+  patch -s -R -d / -p1 -i "$work/out"
+  is src/a.c "$text"
+  (cd src && "$TREE" -d -DA ../src > "$work/above" 2> /dev/null)
+  is src/folder/b.c 'yes\n'
+  (cd src && patch -s -R -d .. -p1 -i "$work/above")
+  is src/folder/b.c "$text"
+}

@@ -1,0 +1,214 @@
+#!/usr/bin/env bash
+# Modes, links, owners and left-over files, and files that can't be read, written or replaced.
+# shellcheck disable=SC2154
+
+test_keeps() {
+  local before one
+  fresh src/mode.c src/one.c outside.c elsewhere.c
+  chmod 754 src/mode.c
+  put src/same.c 'int a;\n'
+  touch -d '2001-01-01' src/same.c
+  ln src/one.c src/two.c
+  ln outside.c src/three.c
+  ln -s one.c src/symbolic.c
+  ln -s ../elsewhere.c src/outside.c
+  ln -s nowhere src/dangling.c
+  ln -s ../folder src/linked
+  mkdir folder
+  put folder/f.c "$text"
+  before=$(stat -c '%i %y' src/same.c)
+  one=$(number src/one.c)
+  tree -n -w -DA -- src src/one.c ./src/mode.c
+  says '3 would change, 1 unchanged, 0 faulty'
+  run 2 -DA -- src/one.c src/three.c
+  says 'src/one.c: Has several links; -w writes into it'
+  is src/one.c "$text"
+  run 1 -DA -w -- src src/one.c ./src/mode.c
+  says '3 changed, 1 unchanged, 0 faulty'
+  check same "$(stat -c %a src/mode.c)" 754
+  check same "$(stat -c '%i %y' src/same.c)" "$before"
+  check same "$(number src/one.c) $(number src/two.c)" "$one $one"
+  is src/mode.c src/two.c outside.c 'yes\n'
+  check same "$(readlink src/{symbolic,outside,dangling}.c)" $'one.c\n../elsewhere.c\nnowhere'
+  is elsewhere.c folder/f.c "$text"
+  none_left
+  tree -DA -- src/linked
+  is folder/f.c 'yes\n'
+  run 2 -DA -- src/outside.c
+  says_first 'src/outside.c: Is a symbolic link'
+  put src/one.c "$text"
+  tree -c -DA -w -- src/one.c src ./src
+  is src/two.c '#ifdef A\n#else\nno\n#endif\n'
+}
+
+# -n reports the links that a run reports.
+test_links() {
+  fresh src/a.c
+  put src/same.c 'int a;\n'
+  ln src/a.c src/b.c
+  ln src/same.c src/same2.c
+  run 2 -n -DA src
+  says 'src/a.c: Has several links; -w writes into it'
+  prints ''
+  cp "$work/err" "$work/shown"
+  tree -DA src
+  check same "$(sed 's/would change/changed/' "$work/shown")" "$(cat "$work/err")"
+  run 1 -n -w -DA src
+  prints 1 grep -c '^-#ifdef'
+}
+
+# Files that can't be read or written, and those of another owner.
+test_refusals() {
+  local as=as_nobody
+  is_root || as=run
+  if is_root && ! has setpriv; then
+    left_out 'setpriv is not there: files that refuse a user'
+    return
+  fi
+  fresh src/unreadable.c src/locked.c
+  mkdir src/sealed src/closed
+  put src/{sealed,closed}/a.c "$text"
+  ! is_root || chown -R 65534:65534 .
+  chmod 0 src/unreadable.c src/closed
+  chmod 444 src/locked.c
+  chmod 555 src/sealed
+  $as any -DA src
+  says '0 changed, 0 unchanged, 4 faulty' \
+    'src/locked.c: Cannot be written: Permission denied' \
+    "src/sealed/a.c: Its folder can't be written; -w writes into the file" \
+    'src/closed/: Cannot be read: Permission denied' \
+    'src/unreadable.c: Cannot be read: Permission denied'
+  is src/locked.c src/sealed/a.c "$text"
+  $as 2 -DA src/closed
+  says_only 'src/closed/: Cannot be read: Permission denied'
+  $as any -w -DA src/sealed
+  is src/sealed/a.c 'yes\n'
+  chmod 755 src/sealed src/closed
+  chmod 644 src/unreadable.c
+  is_root || return 0
+  fresh src/a.c
+  chmod 640 src/a.c
+  chown 65534:65533 src/a.c
+  tree -DA src
+  check same "$(stat -c '%u:%g %a' src/a.c)" '65534:65533 640'
+  is src/a.c 'yes\n'
+}
+
+# Rights to run as the owner go if the owner is another one.
+test_setuid() {
+  is_root && has setpriv || return 0
+  fresh src/a.c
+  chmod 6777 src/a.c
+  chown 65534 src
+  as_nobody 1 -DA src
+  check same "$(stat -c '%u %a' src/a.c)" '65534 777'
+}
+
+# The name that locks a second run out. A file that a killed run left is removed.
+test_locks() {
+  local kind long taken='src/a.c: Another run is at it; if none is, remove src/.unifdef-tree.a.c'
+  fresh src/a.c
+  put src/.unifdef-tree.a.c 'left\n'
+  if has flock; then
+    under 2 flock src/.unifdef-tree.a.c -- -DA src
+    says "$taken"
+    is src/a.c "$text"
+    is src/.unifdef-tree.a.c 'left\n'
+  fi
+  tree -n -DA src
+  is src/.unifdef-tree.a.c 'left\n'
+  ln src/.unifdef-tree.a.c linked
+  run 1 -DA src
+  says_only '1 changed, 0 unchanged, 0 faulty' '4 lines removed'
+  is src/a.c 'yes\n'
+  is linked 'left\n'
+  none_left
+  for kind in 'ln -s ../mine' mkfifo mkdir; do
+    fresh src/a.c
+    put mine 'mine\n'
+    $kind src/.unifdef-tree.a.c
+    tree -DA src
+    says "$taken"
+    check same "$(find src -mindepth 1 | wc -l)" 2
+    is mine 'mine\n'
+    rm -r src/.unifdef-tree.a.c
+  done
+  long=src/$(repeat 0 253).c
+  put "$long" "$text"
+  tree -DA src
+  is src/a.c "$long" 'yes\n'
+  none_left
+  fresh src/a.c src/.unifdef-tree.other.c
+  tree -g '*' -DA src
+  is src/.unifdef-tree.other.c "$text"
+  is src/a.c 'yes\n'
+}
+
+# Files over which no other one can be renamed: where a file is mounted, and those of others in a
+# folder with the sticky bit.
+test_unrenamed() {
+  is_root || return 0
+  fresh src/a.c
+  put "$work/over" "$text"
+  if mount --bind "$work/over" src/a.c 2> /dev/null; then
+    tree -DA src
+    says 'src/a.c: Cannot be replaced; -w writes into it: Device or resource busy'
+    none_left
+    tree -w -DA src
+    is "$work/over" 'yes\n'
+    umount src/a.c
+  else
+    left_out 'files cannot be mounted here'
+  fi
+  has setpriv || return 0
+  fresh src/a.c
+  chmod 666 src/a.c
+  chmod 1777 src
+  as_nobody any -DA src
+  says 'src/a.c: Cannot be replaced; -w writes into it: Operation not permitted'
+  is src/a.c "$text"
+  as_nobody any -w -DA src
+  is src/a.c 'yes\n'
+}
+
+# The files of a lower layer, which are copied when they are opened for writing.
+test_overlay() {
+  local layers=$work/layers
+  is_root || return 0
+  mkdir -p "$layers"
+  if ! mount -t tmpfs none "$layers" 2> /dev/null; then
+    left_out 'nothing can be mounted here: overlays'
+    return
+  fi
+  mkdir "$layers/lower" "$layers/upper" "$layers/work"
+  put "$layers"/lower/{a,b,c}.c "$text"
+  fresh
+  if mount -t overlay overlay -o \
+    "lowerdir=$layers/lower,upperdir=$layers/upper,workdir=$layers/work" src 2> /dev/null; then
+    run 1 -DA src
+    says '3 changed, 0 unchanged, 0 faulty'
+    is "$layers/lower/a.c" "$text"
+    umount src
+  else
+    left_out 'overlays cannot be mounted here'
+  fi
+  umount "$layers"
+}
+
+# A run in place over real headers is like unifdef on each file.
+test_real_headers() {
+  local name ended differ=0
+  [ -d /usr/include/linux ] || return 0
+  fresh
+  cp -rL /usr/include/linux src
+  cp -r src was
+  tree -q -g '*' -D__KERNEL__ -U__cplusplus -- src
+  while IFS= read -r name; do
+    ended=0
+    "$UNIFDEF" -D__KERNEL__ -U__cplusplus "was/${name#src/}" > "$work/out" 2> /dev/null || ended=$?
+    [ "$ended" -lt 2 ] || cp "was/${name#src/}" "$work/out"
+    cmp -s "$work/out" "$name" || differ=$((differ + 1))
+  done < <(find src -type f)
+  check same "$differ" 0
+  check test "$(diff -rq was src | wc -l)" -gt 0
+}

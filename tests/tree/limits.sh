@@ -1,0 +1,162 @@
+#!/usr/bin/env bash
+# A full disk, little memory, a small stack, large files and long lines.
+# shellcheck disable=SC2154,SC2086 # Words of options are split.
+
+# within STATUS LIMIT KIB WORD..: runs unifdef-tree under a limit of ulimit, such as -s. A file that
+# is too large is an error, and no signal.
+within() {
+  # shellcheck disable=SC2016 # The shell that runs the program expands this.
+  under "$1" bash -c 'trap "" XFSZ; ulimit "$1" "$2" && exec "${@:3}"' - "$2" "$3" -- "${@:4}"
+}
+
+# A full disk: a small file system, or else a limit on the size of files.
+test_full_disk() {
+  local big limited=(run 2)
+  fresh
+  big=$(echo '#ifdef B'; seq -f 'int a%.0f;' 10001 19000; printf '#endif\n#ifdef A\n#endif\n')
+  mkdir -p "$work/small"
+  if mount -t tmpfs -o size=256k none "$work/small" 2> /dev/null; then
+    rm -r src
+    ln -s "$work/small" src
+    printf '%s\n' "$big" > src/c.c
+  else
+    limited=(within 2 -f 40)
+  fi
+  printf '%s\n' "$big" > src/a.c
+  put src/b.c "$text"
+  cp -rL src was
+  "${limited[@]}" -DA src
+  check cmp was/a.c src/a.c
+  is src/b.c 'yes\n'
+  none_left
+  [ -L src ] || return 0
+  rm src/c.c
+  ln src/a.c src/linked.c
+  head -c 200000 /dev/zero > src/filled 2> /dev/null
+  # A shorter text, written into a file, takes no space.
+  tree -DA -w src
+  check same "$(wc -l < src/linked.c)" 9002
+  rm src/filled src
+  umount "$work/small"
+}
+
+# deep KIND N: prints an operand A in N bytes of parentheses or operators, which is A again.
+deep() {
+  case $1 in
+    '(A)') printf '%sA%s' "$(repeat '(' $(($2 / 2)))" "$(repeat ')' $(($2 / 2)))" ;;
+    '!A') printf '%sA' "$(repeat '!' "$2")" ;;
+    '- A') printf '%sA' "$(repeat '- ' $(($2 / 2)))" ;;
+  esac
+}
+
+# The deepest conditions with the stack that the manual names.
+test_small_stack() {
+  local kind n kib words
+  fresh src/plain.c
+  within 1 -s 450 -DA src
+  is src/plain.c 'yes\n'
+  for words in -DA '-p -r -DA'; do
+    put src/plain.c "$text$(repeat x 9000)\n"
+    within 1 -s 650 $words src
+    is src/plain.c "yes\n$(repeat x 9000)\n"
+  done
+  for kind in '(A)' '!A' '- A'; do
+    put src/plain.c "#if $(deep "$kind" 65000)\nx\n#endif\n"
+    within 1 -s 1200 -DA src
+    is src/plain.c 'x\n'
+    while read -r n kib; do
+      put src/plain.c "#if X || $(deep "$kind" "$n")\nx\n#endif\n"
+      within 1 -s "$kib" -p -UA src
+      is src/plain.c '#if X\nx\n#endif\n'
+    done <<< $'8180 1200\n65000 2400'
+  done
+}
+
+# A file of more than one block is read whole, again before it is replaced, and written whole.
+test_large_files() {
+  local words
+  fresh
+  # An image of a file system may be too small for them.
+  [ "$(df -k --output=avail . | tail -n 1)" -gt 150000 ] || return 0
+  { printf '%b' "$text"; yes 'int x;' | head -n 2600000; } > src/a.c
+  { echo yes; yes 'int x;' | head -n 2600000; } > "$work/wanted"
+  for words in -DA '-p -DA' '-w -DA'; do
+    cp src/a.c src/b.c
+    run 1 -q $words src/b.c
+    check cmp -s src/b.c "$work/wanted"
+  done
+}
+
+# A file with a line over the limit is not read to its end, which may be far away. A line of the
+# limit is read, also at the end of a block.
+test_long_lines() {
+  fresh src/a.c
+  truncate -s 2G src/long.c
+  within 2 -v 200000 -DA src
+  says 'src/long.c: Cannot be read: line too long'
+  is src/a.c 'yes\n'
+  fresh
+  { printf '%b' "$text"; head -c 65535 /dev/zero | tr '\0' a; echo; } > src/a.c
+  { printf '%b' "$text"; head -c 65536 /dev/zero | tr '\0' a; echo; } > src/b.c
+  run 2 -q -DA src
+  check same "$(stat -c %s src/a.c)" 65540
+  check grep -qxF 'unifdef: src/b.c: 6: Line too long' "$work/err"
+}
+
+# The lists of -r and -s with less and less memory: each is whole, or a message says that it isn't,
+# and the status is 2.
+test_little_memory() {
+  local i list lines low high limit wrong told
+  fresh
+  for i in {1..9}; do
+    seq -f "#if NAME_${i}_%g || A" 3000 | sed 's/$/\n#endif/' > "src/$i.c"
+  done
+  for list in '-n -r -UA' '-s'; do
+    lines=27000 low=0 high=400000 wrong=0 told=0
+    [ "$list" != '-s' ] || lines=27001
+    run 0 $list -- src
+    check same "$(wc -l < "$work/out")" "$lines"
+    cp "$work/out" "$work/whole"
+    while [ $((high - low)) -gt 32 ]; do
+      limit=$(((low + high) / 2))
+      within any -v "$limit" $list -- src
+      if [ "$status" -eq 0 ]; then high=$limit; else low=$limit; fi
+    done
+    for ((i = 0; i < 16; i++)); do
+      within any -v $((high + 64 - 64 * i)) $list -- src
+      if [ "$status" -eq 0 ]; then
+        cmp -s "$work/out" "$work/whole" || wrong=$((wrong + 1))
+      else
+        [ "$status" -eq 2 ] && grep -qi 'out of memory$' "$work/err" || wrong=$((wrong + 1))
+        ! grep -qxF 'unifdef-tree: stdout: Out of memory' "$work/err" || told=$((told + 1))
+      fi
+    done
+    check same "$wrong" 0
+    check test "$told" -gt 0
+  done
+}
+
+# A message says so if memory for the diff of a changed file was refused: each growth of memory is
+# refused in turn.
+test_lost_for_memory() {
+  local i lost=0 untold=0 refusing=$work/refuse.so
+  if ! "${CC:-cc}" -O1 -shared -fPIC -o "$refusing" "$here/faults/refuse.c" -ldl 2> /dev/null; then
+    left_out 'there is no C compiler: refused memory'
+    return
+  fi
+  fresh src/a.c
+  under any env REFUSE_COUNT="$work/count" LD_PRELOAD="$refusing" -- -d -DA src
+  check test -s "$work/out"
+  for i in $(seq 1 "$(wc -c < "$work/count")"); do
+    put src/a.c "$text"
+    under any env REFUSE_FROM="$i" REFUSE_TO="$i" LD_PRELOAD="$refusing" -- -d -DA src
+    if holds src/a.c 'yes\n' && [ ! -s "$work/out" ]; then
+      lost=$((lost + 1))
+      grep -qxF 'unifdef-tree: stdout: Out of memory' "$work/err" || untold=$((untold + 1))
+      ends 2
+    fi
+  done
+  check test "$lost" -gt 0
+  check same "$untold" 0
+  rm "$refusing" "$work/count"
+}

@@ -1,0 +1,93 @@
+#!/usr/bin/env bash
+# Names, kinds and patterns of files, names in messages, and paths from the input.
+# shellcheck disable=SC2034,SC2154
+
+test_names() {
+  fresh
+  local versioned=(src/{.git,.hg,.svn,.bzr,CVS,.pc}) bad=src/$'\x81\x88\xff.c'
+  # shellcheck disable=SC2016 # The dollar belongs to the name.
+  local odd=('a b.c' $'line\nfeed.c' $'ends in\n.h' '-n.c' '*.c' "it's.c" '$(x).h' 'back\slash.c'
+    '(.c' '!.c' 'a=b.c')
+  local chosen=("${odd[@]/#/src/}" src/{x.cc,x.hpp,x.h.in,-DB/y.C,folder.c/z.H})
+  local others=(src/a.txt src/a.c.new "${versioned[@]/%//hook.c}")
+  mkdir src/-DB src/folder.c "${versioned[@]}"
+  put "${chosen[@]}" "${others[@]}" "$bad" "$text"
+  mkfifo src/pipe.c
+  run 2 -DA -- src
+  says "src/\\x81\\x88\\xff.c: Its name isn't UTF-8" '16 changed, 0 unchanged, 1 faulty'
+  is "$bad" "$text"
+  rm "$bad"
+  run 0 -DA -- src
+  is "${chosen[@]}" 'yes\n'
+  is "${others[@]}" "$text"
+  none_left
+  tree -DA -g '*.txt' -g '*.new' src/a.txt src
+  says '2 changed, 0 unchanged, 0 faulty'
+  put ./-x.c "$text"
+  tree -DA -- -x.c
+  is ./-x.c 'yes\n'
+}
+
+test_named_files() {
+  fresh src/a.txt src/x.cc
+  mkfifo src/pipe.c
+  refused 'No file matches' -DA -g '*.none' src
+  is src/a.txt "$text"
+  tree -DA src/a.txt
+  is src/a.txt 'yes\n'
+  put src/a.txt src/b.txt "$text"
+  tree -DA -g a.txt src/b.txt
+  is src/b.txt 'yes\n'
+  is src/a.txt "$text"
+  refused 'src/pipe.c: Is no regular file' -DA src/x.cc src/pipe.c
+  is src/x.cc "$text"
+}
+
+# Messages show control bytes of names, and each is one write.
+test_messages() {
+  local sealed=src/$'del\177 and\nline.c'
+  fresh "$sealed"
+  put src/$'bell\a.c' '#endif\n'
+  chmod 0 "$sealed"
+  mkfifo src/$'tab\t.c'
+  refused 'src/tab\x09.c: Is no regular file' -DA src/$'tab\t.c'
+  refused 'src/\x1b[31mred.c: No such file or folder' -DA src/$'\e[31mred.c'
+  refused 'Bad symbol: -DA\x0a1' -D$'A\n1' src
+  tree -DA src
+  check grep -qxF 'unifdef: src/bell\x07.c: 1: Inappropriate #endif' "$work/err"
+  is_root || says 'src/del\x7f and\x0aline.c: Cannot be read: Permission denied'
+  can_trace || return 0
+  under any strace -f -s 200 -o "$work/calls" -e trace=write -- -DA src
+  check same "$(grep 'write(2' "$work/calls" | grep -cv 'write(2, "unifdef.*\\n"')" 0
+}
+
+# Paths from the input are read by the program alone.
+test_paths_from_input() {
+  local input=$work/paths option
+  fresh src/a.txt src/b.c
+  ln -s a.txt src/link
+  mkdir src/folder
+  put src/folder/c.c "$text"
+  mkfifo src/pipe
+  printf 'src/a.txt\0src/link\0src/folder\0src/pipe\0src/none\0src/\x81\0' > "$work/paths"
+  run 2 -0 -DA
+  is src/a.txt 'yes\n'
+  is src/b.c src/folder/c.c "$text"
+  says 'src/pipe: Is no regular file' 'src/none: No such file or folder' \
+    "src/\\x81: Its name isn't UTF-8" '1 changed, 0 unchanged, 3 faulty'
+  rm src/pipe
+  find src -print0 > "$work/paths"
+  run 1 -0 -DA
+  says_only '2 changed, 1 unchanged, 0 faulty' '8 lines removed'
+  find src > "$work/paths"
+  refused "Nothing is at a path of several lines; \
+-0 wants a NUL after each path (git ls-files -z)" -0 -q -DA
+  input=/dev/null run 0 -0 -DA
+  says_only '0 changed, 0 unchanged, 0 faulty' 'no condition names A'
+  for option in -V --version; do
+    run 0 "$option"
+    prints "unifdef-tree $("$here/../packaging/version.sh")"
+  done
+  input=. run 2 -0 -DA
+  says_only 'stdin: Cannot be read'
+}

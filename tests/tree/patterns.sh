@@ -1,0 +1,66 @@
+#!/usr/bin/env bash
+# Which files the rules of -g choose.
+# shellcheck disable=SC2154
+
+# left_in WORD: the files of the tree t that have this word.
+left_in() { grep -rl "$1" t | sort | tr '\n' ' '; }
+
+test_rules() {
+  fresh
+  mkdir -p t/old t/lib
+  put t/{a.c,old/b.c,old/f.h,lib/c.xs,d.def,e.tpl} '#ifdef VMS\nx\n#endif\ny\n'
+  run 1 -r -UVMS -g '!old' -- t
+  check same "$(left_in VMS)" 't/d.def t/e.tpl t/old/b.c t/old/f.h '
+  run 1 -r -UVMS -g '+*.def' -g '!old' -- t
+  says_only '1 changed, 2 unchanged, 0 faulty' '3 lines removed' '0 conditions still name a symbol'
+  check same "$(left_in VMS)" 't/e.tpl t/old/b.c t/old/f.h '
+  run 1 -q -UVMS -g '!b.c' t/old
+  check same "$(left_in VMS)" 't/e.tpl t/old/b.c '
+  run 1 -q -UVMS -g '!old' t/old
+  check same "$(left_in VMS)" 't/e.tpl '
+}
+
+# chooses NAMES WORD..: of a fresh tree with ${files[@]}, a run changes these, in this order.
+chooses() {
+  local name changed=''
+  rm -rf t
+  for name in "${files[@]}"; do
+    mkdir -p "t/$name"
+    rmdir "t/$name"
+    put "t/$name" "$text"
+  done
+  tree -q -DA "${@:2}"
+  for name in "${files[@]}"; do
+    [ "$(cat "t/$name")" != yes ] || changed+="$name "
+  done
+  check same "$changed" "$1"
+}
+
+test_chosen_files() {
+  local all='old/a.c lib/old/a.c lib/new/a.c lib/a.c old.c/a.c '
+  local files=({a.c,a.x,b.x,S.S,s.s,y.y,l.l,m.m,mm.mm,x.xs,p.pgc,d.def,i.inc,t.trm})
+  fresh
+  chooses 'a.c S.S y.y l.l m.m mm.mm x.xs p.pgc ' t
+  chooses 'a.x b.x ' -g '*.x' t
+  chooses 'a.c a.x b.x ' -g '+*.c' -g '*.x' t
+  chooses 'b.x ' -g '*.x' -g '!a*' t
+  chooses 'a.c a.x ' -g '!*' -g '+a.*' t
+  chooses 'a.x ' -g '!a*' -g 'a.x' t
+  chooses 'a.c mm.mm x.xs p.pgc ' -g '!?.[!c]' t
+  chooses 'a.c ' -g '!*' t/a.c
+  files=('!a.c' '+a.c' a.c)
+  chooses '!a.c +a.c ' -g '\!a.c' -g '\+a.c' t
+  chooses '+a.c a.c ' -g '!\!*' t
+  files=(old/a.c lib/old/a.c lib/new/a.c lib/a.c old.c/a.c)
+  chooses 'lib/new/a.c lib/a.c old.c/a.c ' -g '!old' t
+  chooses 'lib/new/a.c lib/a.c old.c/a.c ' -g '!old' -g '+old' -g '+*' t
+  chooses "$all" -g 'a.c' -g '+none' t
+  chooses 'lib/old/a.c lib/new/a.c lib/a.c ' -g 'lib/*.c' t
+  chooses 'old/a.c lib/new/a.c lib/a.c old.c/a.c ' -g '!lib/old' t
+  chooses 'old/a.c lib/old/a.c lib/new/a.c lib/a.c ' -g '!lib/old' t/lib t/old
+  chooses "$all" -g '!t/lib' t
+  chooses 'lib/old/a.c ' -g 'old/a.c' -- t/old t/lib t/old.c
+  chooses 'lib/new/a.c lib/a.c ' -g '!old/*' -- t/lib/
+  find t -name a.c -print0 > "$work/paths"
+  input=$work/paths chooses "$all" -g '!*' -0
+}

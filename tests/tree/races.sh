@@ -1,0 +1,223 @@
+#!/usr/bin/env bash
+# Files and folders that another program changes while a run is at them.
+# shellcheck disable=SC2034,SC2154,SC2086 # Words of options are split.
+
+# paused STATUS OPTIONS CALL N COMMAND..: runs a command while a run over the small tree waits in
+# its Nth call of CALL, after the call. strace announces that.
+paused() {
+  local pid line tracer
+  rm -f "$work/trace"
+  mkfifo "$work/trace"
+  strace -f -o "$work/trace" -e trace="$3" -e inject="$3:signal=STOP:when=$4" \
+    "$TREE" $2 src > "$work/out" 2> "$work/err" &
+  tracer=$!
+  exec 6< "$work/trace"
+  while read -r pid line <&6; do
+    [[ $line != *'stopped by SIGSTOP'* ]] || break
+  done
+  "${@:5}"
+  kill -s CONT "$pid"
+  cat <&6 > /dev/null
+  exec 6<&-
+  status=0
+  wait "$tracer" || status=$?
+  ends "$1"
+}
+
+# number_of CALL PATTERN: which of the calls of this name in $work/calls is the first with the
+# pattern. last_of: the last one.
+number_of() { grep "$1(" "$work/calls" | grep -n -m 1 -e "$2" | cut -d : -f 1; }
+last_of() { grep "$1(" "$work/calls" | grep -n -e "$2" | tail -n 1 | cut -d : -f 1; }
+
+# with_outside: makes a small tree, and a folder outside with a file of the same name.
+with_outside() {
+  small_tree
+  mkdir outside
+  put outside/b.c "$text"
+}
+
+# What another program does.
+put_link() { mv "$1" "$work/moved"; ln -s "$work/victim" "$1"; }
+move_folder() { mv src/folder was; ln -s ../outside src/folder; }
+put_pipe() { rm src/folder/b.c; mkfifo src/folder/b.c; }
+edit() { printf '#ifdef B' | dd of=src/a.c conv=notrunc status=none; }
+edit_in_secret() { touch -r src/a.c "$work/time"; edit; touch -r "$work/time" src/a.c; }
+other_run() { "$TREE" -q -UA src 2> "$work/other"; }
+edited='#ifdef B\nyes\n#else\nno\n#endif\n'
+
+# A file that changes between read and rename, and two runs at once.
+test_meanwhile() {
+  small_tree
+  paused 2 -DA fchmod 1 put src/a.c 'mine\n'
+  says 'src/a.c: Changed meanwhile'
+  is src/a.c 'mine\n'
+  is src/folder/b.c 'yes\n'
+  none_left
+  small_tree
+  paused 2 -DA fchmod 1 rm src/a.c
+  check same "$(ls src)" $'bad.c\nfolder\nsame.c'
+  small_tree
+  paused any -DA fchmod 1 other_run
+  check grep -qxF "unifdef-tree: src/a.c: Another run is at it; if none is, remove\
+ src/.unifdef-tree.a.c" "$work/other"
+  is src/a.c 'yes\n'
+  none_left
+}
+
+# A file that changed is left alone even if its size and its times are the old ones. New times alone
+# are no change.
+test_compares_bytes() {
+  small_tree
+  paused any -DA fsync 1 edit_in_secret
+  says 'src/a.c: Changed meanwhile'
+  is src/a.c "$edited"
+  small_tree
+  paused 2 -DA fsync 1 touch src/a.c
+  is src/a.c 'yes\n'
+  small_tree
+  paused any -DA fsync 1 chmod 600 src/a.c
+  says 'src/a.c: Changed meanwhile'
+  check same "$(stat -c %a src/a.c)" 600
+}
+
+# A change between the second reading of a file and the last look at it is found, though the size
+# stays: by the file's times, which were looked at before that reading.
+test_looks_at_times() {
+  small_tree
+  touch -d '2001-01-01' src/a.c
+  under any strace -f -y -o "$work/calls" -e trace=read -- -DA src
+  small_tree
+  touch -d '2001-01-01' src/a.c
+  paused any -DA read "$(last_of read '/src/a.c>')" edit
+  says 'src/a.c: Changed meanwhile'
+  is src/a.c "$edited"
+  none_left
+}
+
+# A link in the place of the new file is not followed.
+test_links_for_new_files() {
+  put "$work/victim" 'mine\n'
+  chmod 600 "$work/victim"
+  small_tree
+  paused 2 -DA fchmod 1 put_link src/.unifdef-tree.a.c
+  says 'src/a.c: Changed meanwhile'
+  is src/a.c "$text"
+  check same "$(stat -c %a "$work/victim") $(cat "$work/victim")" '600 mine'
+  check same "$(readlink src/.unifdef-tree.a.c)" "$work/victim"
+  small_tree
+  paused any -DA fchmod 1 rm src/.unifdef-tree.a.c
+  says 'src/a.c: Changed meanwhile'
+  is src/a.c "$text"
+}
+
+# The file that is read is the one that was found.
+test_finds_same_file() {
+  local number options
+  small_tree
+  traced any openat -DA src
+  number=$(number_of openat '/a.c"')
+  for options in -DA '-n -DA'; do
+    with_outside
+    paused 2 "$options" openat "$number" move_folder
+    says 'src/folder/b.c: Cannot be read: changed meanwhile'
+    is outside/b.c "$text"
+  done
+  small_tree
+  paused 2 -DA openat "$number" put_pipe
+  check grep -q '^unifdef-tree: src/folder/b.c: Cannot be read' "$work/err"
+}
+
+# No call leaves a folder that becomes a link: neither between the look at it and its listing, nor
+# between the look at a file in it and the file's replacement.
+test_stays_in_tree() {
+  local number options
+  small_tree
+  traced any statx -DA src
+  number=$(number_of statx '/folder"')
+  with_outside
+  put outside/c.c "$text"
+  paused 2 -DA statx "$number" move_folder
+  says 'src/folder/: Cannot be read: changed meanwhile'
+  check same "$(find outside -type f | wc -l)" 2
+  is outside/b.c outside/c.c "$text"
+  small_tree
+  traced any openat -DA src
+  number=$(number_of openat '/b.c", O_RDWR')
+  for options in -DA '-w -DA'; do
+    with_outside
+    [ "$options" = -DA ] || ln src/folder/b.c linked.txt
+    paused any "$options" openat "$number" move_folder
+    is was/b.c 'yes\n'
+    none_left
+    check same "$(ls -A outside)" b.c
+    is outside/b.c "$text"
+  done
+}
+
+# -w writes into the file whose bytes were compared, and into no other one.
+test_writes_into_open_file() {
+  small_tree
+  ln src/a.c linked.txt
+  traced any statx -w -DA src
+  small_tree
+  ln src/a.c linked.txt
+  put "$work/victim" "$text"
+  paused any '-w -DA' statx "$(last_of statx '/a.c"')" put_link src/a.c
+  is linked.txt 'yes\n'
+  is "$work/victim" "$text"
+}
+
+# save_both FIRST SECOND: saves both as editors do, by a new file that is renamed.
+save_both() {
+  local name
+  for name in "$1" "$2"; do
+    put src/.saved "$text"
+    mv src/.saved "src/$name"
+  done
+  new=$(number "src/$2")
+}
+
+# Two files are not taken for one if the second one gets the number of the first one, which is gone,
+# before it is met.
+test_numbers_used_again() {
+  local first second old new
+  fresh src/a.c src/b.c
+  [ "$(stat -c %W src/a.c)" -gt 0 ] 2> /dev/null || return 0
+  traced any statx -n -DA src
+  first=$(grep -m 1 -o '[ab]\.c"' "$work/calls" | tr -d '"')
+  second=$([ "$first" = a.c ] && echo b.c || echo a.c)
+  old=$(number "src/$first")
+  paused any -DA statx "$(number_of statx '/[ab]\.c"')" save_both "$first" "$second"
+  [ "$old" = "$new" ] || return 0
+  ends 2
+  says "src/$first: Changed meanwhile"
+  is "src/$second" 'yes\n'
+}
+
+# failing_look STATUS ERROR WORD..: runs unifdef-tree, whose first look at a.c in the first folder
+# that is opened fails.
+failing_look() {
+  under "$1" strace -f -o /dev/null -P /proc/self/fd/3/a.c \
+    -e inject='?lstat,?newfstatat,statx':error="$2":when=1 -- "${@:3}"
+}
+
+# A name vanishes between the listing of its folder and the look at it, or before the run looks at
+# it though it was named.
+test_vanishing() {
+  small_tree
+  rm src/bad.c
+  failing_look 1 ENOENT -DA src
+  says '1 changed, 1 unchanged, 0 faulty'
+  small_tree
+  failing_look 2 EIO -DA src
+  says 'src/a.c: Cannot be found: Input/output error'
+  is src/folder/b.c 'yes\n'
+  small_tree
+  failing_look 2 ENOENT -DA src/folder src/a.c
+  says 'src/a.c: No such file or folder'
+  is src/folder/b.c "$text"
+  printf 'src/a.c\0src/folder/b.c\0' > "$work/paths"
+  input=$work/paths failing_look 2 ENOENT -0 -DA
+  says 'src/a.c: No such file or folder'
+  is src/folder/b.c 'yes\n'
+}

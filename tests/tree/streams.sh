@@ -1,0 +1,118 @@
+#!/usr/bin/env bash
+# Standard streams that are full, closed or a terminal, and texts whose directives a run wouldn't
+# find.
+# shellcheck disable=SC2154
+
+# Messages that can't be written.
+test_full_messages() {
+  fresh src/a.c
+  "$TREE" -DA src 2> /dev/full
+  check same "$?" 2
+  is src/a.c 'yes\n'
+  "$TREE" -q -UA src 2> /dev/full
+  check same "$?" 0
+}
+
+# No file of the tree is opened in the place of a closed stream, into which messages or diffs would
+# then be written.
+test_closed_streams() {
+  small_tree
+  mkdir src/.unifdef-tree.a.c
+  (cd src && "$TREE" -DA a.c 2>&-)
+  check same "$?" 2
+  is src/a.c "$text"
+  "$TREE" -DA src >&- 2>&-
+  check same "$?" 2
+  is src/a.c "$text"
+  is src/folder/b.c 'yes\n'
+  "$TREE" -DA src/a.c <&- >&- 2>&-
+  check same "$?" 2
+  is src/a.c "$text"
+  small_tree
+  ln src/a.c linked.txt
+  (cd src && "$TREE" -q -d -w -DA a.c >&- 2> "$work/err")
+  check same "$?" 2
+  says 'stdout: Cannot be written'
+  is src/a.c 'yes\n'
+  small_tree
+  ln src/folder/b.c linked.txt
+  "$TREE" -w -DA src/folder >&- 2>&-
+  check same "$?" 2
+  is src/folder/b.c 'yes\n'
+  small_tree
+  "$TREE" -DA src/a.c <&- > "$work/out" 2> "$work/err"
+  check same "$?" 1
+  "$TREE" -0 -DA <&- 2> "$work/err"
+  check same "$?" 2
+  says_only 'stdin: Cannot be read'
+}
+
+# A text in UTF-16, and a directive on a first line after a byte order mark.
+test_marks() {
+  local name
+  fresh
+  printf '\377\376#\0i\0f\0d\0e\0f\0 \0A\0\n\0' > src/little.h
+  printf '\376\377\0#\0i\0f\0 \0A\0\n' > src/big.h
+  put src/first.h '\xef\xbb\xbf # ifdef A\nyes\n#endif\n'
+  put src/later.h '\xef\xbb\xbf#pragma once\n#ifdef A\nyes\n#endif\n'
+  put src/empty.h '\xef\xbb\xbf'
+  cp -r src was
+  run 2 -DA src
+  says_only 'src/big.h: Cannot be read: text in UTF-16' \
+    'src/first.h: Cannot be read: byte order mark before #if' \
+    'src/little.h: Cannot be read: text in UTF-16' \
+    '1 changed, 1 unchanged, 3 faulty' '2 lines removed'
+  is src/later.h '\xef\xbb\xbf#pragma once\nyes\n'
+  for name in big.h first.h little.h; do
+    check cmp "src/$name" "was/$name"
+  done
+}
+
+# on_terminal WORDS: runs unifdef-tree on a terminal, with all that it shows in $work/out.
+on_terminal() { script -qec "'$TREE' $1" /dev/null < /dev/null > "$work/out"; }
+without_returns() { tr -d '\r'; }
+counted() { grep -o 'unifdef-tree: [0-9]* of .* files' | tr '\r' '\n'; }
+
+test_counter() {
+  local words none='unifdef-tree: 0 changed, 100 unchanged, 0 faulty'
+  has script || return 0
+  fresh
+  put src/{1..100}.c "$text"
+  on_terminal '-DA src'
+  prints $'unifdef-tree: 0 of 100 files \nunifdef-tree: 64 of 100 files' counted
+  check grep -q $'\r\x1b\\[Kunifdef-tree: 100 changed, 0 unchanged, 0 faulty' "$work/out"
+  for words in -q -r -s; do
+    on_terminal "$words -DB src"
+    prints 0 grep -c -e 'of 100 files' -e $'\x1b'
+  done
+  TERM=dumb on_terminal '-DB src'
+  prints "$none"$'\nunifdef-tree: no condition names B' without_returns
+  tree -DA src
+  check same "$(cat "$work/err")" "$none"$'\nunifdef-tree: no condition names A'
+  tree -q -DA src
+  says_only
+}
+
+# Removed lines are red, added ones green, and the head is cyan.
+test_colours() {
+  local esc=$'\x1b' plain
+  has script || return 0
+  fresh src/a.c
+  tree -n -q -UA src
+  prints 0 grep -c "$esc"
+  plain=$(cat "$work/out")
+  on_terminal '-n -q -UA src'
+  check same "$(tr -d '\r' < "$work/out" | sed -n '3,5p;7,8p')" "${esc}[36m@@ -1,5 +1 @@${esc}[m
+${esc}[31m-#ifdef A${esc}[m
+${esc}[31m-yes${esc}[m
+ no
+${esc}[31m-#endif${esc}[m"
+  check same "$(tr -d '\r' < "$work/out" | sed "s/${esc}\\[[0-9]*m//g")" "$plain"
+  NO_COLOR=1 on_terminal '-n -q -UA src'
+  prints "$plain" without_returns
+  # An empty NO_COLOR counts as unset.
+  NO_COLOR='' on_terminal '-n -q -UA src'
+  check grep -q "$esc" "$work/out"
+  TERM=dumb on_terminal '-n -q -UA src'
+  prints "$plain" without_returns
+}
