@@ -53,9 +53,8 @@ def heading(title, *cells):
 
 
 def cases(work, programs):
-    source, headers, crlf, comments, real = (
-        work / name for name in ("source.c", "headers.h", "crlf.h", "comments", "comments.c")
-    )
+    names = ("source.c", "headers.h", "crlf.h", "comments", "comments.c")
+    source, headers, crlf, comments, real = (work / name for name in names)
     if SOURCES:
         source.write_bytes(texts.files(SOURCES, "*.c", BYTES, list(programs.values())))
         for symbols in (0, 50, 1000):
@@ -99,14 +98,13 @@ def best(case, programs, output):
     times, outputs = {}, set()
     for _ in range(RUNS):
         for name, command in commands(programs, case.words, "cat").items():
-            times.setdefault(name, []).append(
-                measured(case.name, finished(command, case.text, output))
-            )
+            seconds = measured(case.name, finished(command, case.text, output))
+            times[name] = min(seconds, times.get(name, seconds))
             if output != NOWHERE:
                 if name in programs:
                     outputs.add(hashlib.sha256(output.read_bytes()).digest())
                 output.unlink()
-    return {name: min(of) for name, of in times.items()}, outputs
+    return times, outputs
 
 
 def contents(measures):
@@ -130,12 +128,9 @@ def short(text):
 
 def speeds(measures, programs, title, output):
     first, *others = [*programs, "cat"]
-    columns = [f"{name} MB/s" for name in (first, *others)] + [
-        f"{first} / {name}" for name in others
-    ]
-    heading(
-        title, "text and options", "bytes", *columns, *([] if output == NOWHERE else ["output"])
-    )
+    columns = [f"{it} MB/s" for it in (first, *others)] + [f"{first} / {it}" for it in others]
+    columns += [] if output == NOWHERE else ["output"]
+    heading(title, "text and options", "bytes", *columns)
     for case in measures:
         times, outputs = best(case, programs, output)
         rates = [f"{case.text.stat().st_size / seconds / 1e6:,.0f}" for seconds in times.values()]
@@ -159,9 +154,8 @@ def instructions(measures, programs):
         return print("bench: left out: instructions: valgrind is not there", file=sys.stderr)
     heading("Instructions a byte", "text and options", *programs)
     with ThreadPoolExecutor(2) as pool:
-        results = pool.map(
-            of_byte, [(case, program) for case in measures for program in programs.values()]
-        )
+        every = [(case, program) for case in measures for program in programs.values()]
+        results = pool.map(of_byte, every)
         for case in measures:
             row(case.name, *[f"{next(results):.1f}" for _ in programs])
 
@@ -176,12 +170,10 @@ def starts(programs, work):
     for path in paths:
         for name, command in commands(programs, texts.DECIDED, "true").items():
             whole = [*command, path] if name in programs else command
-            times.setdefault(name, []).append(
-                measured("small", finished(whole, os.devnull, os.devnull))
-            )
-    heading(
-        f"Start: {FILES:,} headers of {paths[0].stat().st_size} bytes or a few more", "", *times
-    )
+            seconds = measured("small", finished(whole, os.devnull, os.devnull))
+            times.setdefault(name, []).append(seconds)
+    size = paths[0].stat().st_size
+    heading(f"Start: {FILES:,} headers of {size} bytes or a few more", "", *times)
     middle = [statistics.median(of) for of in times.values()]
     row("microseconds a file", *[f"{seconds * 1e6:.0f}" for seconds in middle])
     row("beside `true`", *[f"{seconds / middle[-1]:.2f}" for seconds in middle])
@@ -197,17 +189,13 @@ def memory(measures, programs, work):
     """Prints the peak memory of each program in KiB, and that of the first one on DEEP. Returns the
     most of the first one before DEEP, and that on DEEP."""
     (work / "empty").write_bytes(b"\n" * EMPTY_LINES)
-    measures = [
-        *measures,
-        Case(f"{EMPTY_LINES:,} empty lines, 50 symbols", work / "empty", texts.c_words(50)),
-    ]
+    name = f"{EMPTY_LINES:,} empty lines, 50 symbols"
+    measures = [*measures, Case(name, work / "empty", texts.c_words(50))]
     heading("Peak memory in KiB", "text and options", *programs, "cat")
     most = 0
     for case in measures:
-        held = [
-            measured(case.name, peak(c, case.text))
-            for c in commands(programs, case.words, "cat").values()
-        ]
+        every = commands(programs, case.words, "cat").values()
+        held = [measured(case.name, peak(it, case.text)) for it in every]
         most = max(most, held[0])
         row(case.name, *[f"{kib:,}" for kib in held])
     (work / "deep").write_bytes(DEEP)

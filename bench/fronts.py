@@ -15,6 +15,7 @@ import resource
 import subprocess
 import sys
 from concurrent.futures import ThreadPoolExecutor
+from pathlib import Path
 
 HANG = 3600
 STACK = 1024 * 1024
@@ -25,13 +26,8 @@ NAME = re.compile(rb"[A-Za-z_][A-Za-z_0-9]*")
 
 
 def files_of(tree):
-    """Yields the files of a tree, each once, in order."""
-    for folder, folders, names in os.walk(tree):
-        folders.sort()
-        for name in sorted(names):
-            path = os.path.join(folder, name)
-            if os.path.isfile(path) and not os.path.islink(path):
-                yield path
+    """Returns the files of a tree, each once, in order."""
+    return [it for it in sorted(Path(tree).rglob("*")) if it.is_file() and not it.is_symlink()]
 
 
 def part_of(dice, text):
@@ -66,14 +62,9 @@ def small_stack():
 
 def outcome(program, arguments, text, prepare):
     """Returns a program's output, message and status, which is None if it doesn't end in time."""
+    how = {"input": text, "capture_output": True, "timeout": HANG, "preexec_fn": prepare}
     try:
-        run = subprocess.run(
-            [program, *arguments],
-            input=text,
-            capture_output=True,
-            timeout=HANG,
-            preexec_fn=prepare,
-        )
+        run = subprocess.run([program, *arguments], **how)
     except subprocess.TimeoutExpired:
         return b"", b"", None
     return run.stdout, run.stderr, run.returncode
@@ -95,29 +86,22 @@ def check(program, reference, path, seed):
 def main():
     program, reference, tree = sys.argv[1:4]
     cases, seed = map(int, sys.argv[4:6])
-    paths = list(files_of(tree))
+    paths = files_of(tree)
     if not paths:
         sys.exit(f"fronts: no file below {tree}")
     todo = [(paths[at % len(paths)], at) for at in range(seed, seed + cases)]
     with ThreadPoolExecutor(os.cpu_count()) as pool:
-        for (path, at), wrong in zip(
-            todo, pool.map(lambda case: check(program, reference, *case), todo)
-        ):
-            if wrong is None:
-                continue
-            arguments, text, ours, theirs = wrong
-            with open("mismatch.c", "wb") as file:
-                file.write(text)
-            print(
-                f"fronts: mismatch at case {at}, of {path}: arguments {arguments}, "
-                "input in mismatch.c"
-            )
-            print(f"fronts: the program: status {ours[2]}, {len(ours[0])} bytes, {ours[1]!r}")
-            print(
-                f"fronts: the reference: status {theirs[2]}, {len(theirs[0])} bytes, {theirs[1]!r}"
-            )
-            pool.shutdown(cancel_futures=True)
-            sys.exit(1)
+        found = pool.map(lambda case: check(program, reference, *case), todo)
+        for (path, at), wrong in zip(todo, found):
+            if wrong:
+                arguments, text, *both = wrong
+                Path("mismatch.c").write_bytes(text)
+                print(f"fronts: case {at}, of {path}: arguments {arguments}, input in mismatch.c")
+                for name, (output, message, status) in zip(("program", "reference"), both):
+                    said = f"status {status}, {len(output)} bytes, {message!r}"
+                    print(f"fronts: the {name}: {said}")
+                pool.shutdown(cancel_futures=True)
+                sys.exit(1)
     print(f"fronts: {cases} cases from {seed} on, of {len(paths)} files below {tree}: no mismatch")
 
 

@@ -53,12 +53,10 @@ def main():
     print("\nInstructions of hard texts and options\n")
     print("| text or options | how many | instructions | of one |")
     print("| --- | --- | --- | --- |")
-    over = []
-    for row, count in zip(every, counts):
-        one = count / row.many
+    ones = [(row, count, count / row.many) for row, count in zip(every, counts)]
+    for row, count, one in ones:
         print(f"| {row.name} | {row.many:,} {row.things} | {count:,} | {one:,.1f} |", flush=True)
-        if one > row.most:
-            over.append(row.name)
+    over = [row.name for row, _, one in ones if one > row.most]
     if over:
         sys.exit(f"bench: too many instructions: {', '.join(over)}")
 

@@ -14,24 +14,13 @@ checks=${CHECKS:-}
 
 [ -x "$program" ] || { echo "hostile: $program is not there: run make hostile" >&2; exit 1; }
 
-# Each process takes ranges of cases in turn, so that none waits long for the others.
-block=$(( (cases + jobs * 8 - 1) / (jobs * 8) ))
-[ "$block" -gt 0 ] || block=1
-from=$seed
-end=$((seed + cases))
-
-# Prints the arguments of each process. No line ends in a space, after which xargs takes the next
-# line to be a part of it.
-ranges() {
-  while [ "$from" -lt "$end" ]; do
-    count=$((end - from < block ? end - from : block))
-    echo "$from $count${checks:+ $checks}"
-    from=$((from + count))
-  done
-}
-
-# Each process says how many cases it tried, and these are added up.
-tried=$(ranges | xargs -P "$jobs" -L 1 "$program" hostile |
+# Each process takes ranges of cases in turn, so that none waits long for the others, and says how
+# many it tried. No line ends in a space, after which xargs takes the next line to be a part of it.
+block=$((cases / (jobs * 8) + 1))
+tried=$(seq "$seed" "$block" $((seed + cases - 1)) | while read -r from; do
+  left=$((seed + cases - from))
+  echo "$from $((left < block ? left : block))${checks:+ $checks}"
+done | xargs -P "$jobs" -L 1 "$program" hostile |
   awk '{ print | "cat >&2" } /^[0-9]+ cases from seed / { tried += $1 } END { print tried + 0 }')
 if [ "$tried" -ne "$cases" ]; then
   echo "hostile: only $tried of $cases cases were tried" >&2

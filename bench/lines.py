@@ -23,20 +23,13 @@ in another way.
 import multiprocessing
 import random
 import re
+import shutil
 import subprocess
 import sys
+from pathlib import Path
 
-from selects import (
-    CONDITIONAL,
-    chosen,
-    code_of,
-    is_comment,
-    jobs_of,
-    logical_lines,
-    neutral,
-    parser_of,
-    selected,
-)
+from selects import CONDITIONAL, chosen, code_of, is_comment, jobs_of, logical_lines
+from selects import neutral, parser_of, selected, shown
 
 WORD = b"line_%d __LINE__ "
 RENUMBERED = re.compile(rb"#line (\d+)\s*$")
@@ -137,22 +130,14 @@ def check(cc, unifdef, options, arguments, source):
 def compare(job):
     """Checks a file, with options and line endings that its seed chooses."""
     path, seed, cc, unifdef = job
-    with open(path, "rb") as file:
-        text = file.read()
     rng = random.Random(f"{seed} {path}")
-    source, conditions = neutral(text, WORD)
+    source, conditions = neutral(Path(path).read_bytes(), WORD)
     source = source.replace(b"\r\n", b"\n")
     if rng.randrange(3) == 0:
         source = source.replace(b"\n", b"\r\n")
     options, arguments = chosen(conditions, rng)
     how, difference, *counts = check(cc, unifdef, options, arguments, source)
-    where = f"{path}, seed {seed}: {b' '.join(map(bytes_of, options)).decode('latin-1')}"
-    return how, where, difference, counts
-
-
-def bytes_of(option):
-    """Returns an option as bytes."""
-    return option if isinstance(option, bytes) else option.encode()
+    return how, f"{path}, seed {seed}: {shown(options)}", difference, counts
 
 
 def compare_fixed(cc, unifdef):
@@ -188,6 +173,8 @@ def main():
     parser = parser_of("Compares the numbers of lines before and after unifdef -n and -b.")
     parser.add_argument("--fixed", action="store_true", help="the texts in this script")
     args = parser.parse_args()
+    if args.fixed and not shutil.which(args.cc):
+        sys.exit(print(f"lines: left out, since {args.cc} is not there"))
     if args.fixed:
         sys.exit(report(compare_fixed(args.cc, args.unifdef), "texts"))
     with multiprocessing.Pool() as pool:

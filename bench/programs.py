@@ -19,20 +19,18 @@ import re
 import subprocess
 import sys
 import tempfile
+from pathlib import Path
 
 DECIDED, OTHERS = ("A", "B"), ("C", "D", "E", "F")
 FORMS = ("defined({})", "!defined({})", "defined {}", "{}", "!{}", "{} > 1", "({} == 2)")
 CONDITION = re.compile(r"^\s*#\s*(?:if|ifdef|ifndef|elif)\b(.*)$", re.MULTILINE)
 
 
-def operand(rng):
-    return rng.choice(FORMS).format(rng.choice(DECIDED + OTHERS))
-
-
 def expression(rng):
-    text = operand(rng)
-    for _ in range(rng.randrange(3)):
-        text += rng.choice([" && ", " || "]) + operand(rng)
+    text, count = "", rng.randrange(1, 4)
+    for left in reversed(range(count)):
+        text += rng.choice(FORMS).format(rng.choice(DECIDED + OTHERS))
+        text += rng.choice([" && ", " || "]) if left else ""
     return text
 
 
@@ -78,12 +76,6 @@ def selected(cc, arguments, folder):
     return run.stdout.split() if run.returncode == 0 else None
 
 
-def texts(folder):
-    for name in sorted(os.listdir(folder)):
-        with open(os.path.join(folder, name), encoding="ascii") as file:
-            yield file.read()
-
-
 def run(tree, arguments, folder):
     return subprocess.run([tree, "-q", *arguments, "--", folder], capture_output=True).returncode
 
@@ -99,8 +91,7 @@ def compare(job):
     for prune in ([], ["-p"]):
         with tempfile.TemporaryDirectory() as folder:
             for name, text in files.items():
-                with open(os.path.join(folder, name), "w", encoding="ascii") as file:
-                    file.write(text)
+                Path(folder, name).write_text(text, encoding="ascii")
             before = selected(cc, options + others, folder)
             if run(tree, prune + options, folder) == 2:
                 return f"seed {seed}: {prune} {options}: a fault", gone
@@ -108,7 +99,8 @@ def compare(job):
                 return f"seed {seed}: {prune} {options}: selected in another way", gone
             if run(tree, prune + options, folder) != 0:
                 return f"seed {seed}: {prune} {options}: changed by a second run", gone
-            named = " ".join(c for text in texts(folder) for c in CONDITION.findall(text))
+            texts = "".join(it.read_text(encoding="ascii") for it in Path(folder).iterdir())
+            named = " ".join(CONDITION.findall(texts))
             for i, name in enumerate(DECIDED):
                 if re.search(rf"\b{name}\b", named):
                     continue

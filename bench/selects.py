@@ -20,10 +20,9 @@ import re
 import subprocess
 import sys
 import tempfile
+from pathlib import Path
 
-CONDITIONAL = re.compile(
-    rb"\s*#\s*(if|ifdef|ifndef|elif|elifdef|elifndef|else|endif)(?![A-Za-z0-9_])"
-)
+CONDITIONAL = re.compile(rb"\s*#\s*(if|ifn?def|elif|elifn?def|else|endif)(?![A-Za-z0-9_])")
 # Comments, literals, splices and newlines. All between them is other text.
 LEXEME = re.compile(
     rb"""/\*.*?\*/|//(?:\\\r?\n|[^\n])*|"(?:\\\r?\n|\\.|[^"\\\n])*"?|"""
@@ -33,15 +32,10 @@ LEXEME = re.compile(
 NAME = re.compile(rb"[A-Za-z_][A-Za-z0-9_]*")
 # Their values change with the position of a line, or the compiler has them as operators.
 NOT_CHOSEN = re.compile(
-    rb"defined$|__has_|__is_|__STDC|__LINE__|__FILE__|__COUNTER__|__INCLUDE_LEVEL__|"
-    rb"__DATE__|__TIME__"
+    rb"defined$|__(has_|is_|STDC|LINE__|FILE__|COUNTER__|INCLUDE_LEVEL__|DATE__|TIME__)"
 )
 
 WRONG = ("selected in another way", "changed by a second run")
-
-
-def lexemes(text):
-    return [m.group() for m in LEXEME.finditer(text)]
 
 
 def is_comment(lexeme):
@@ -50,9 +44,9 @@ def is_comment(lexeme):
 
 def logical_lines(text):
     line = []
-    for lexeme in lexemes(text):
-        line.append(lexeme)
-        if lexeme == b"\n":
+    for lexeme in LEXEME.finditer(text):
+        line.append(lexeme.group())
+        if line[-1] == b"\n":
             yield line
             line = []
     if line:
@@ -88,14 +82,8 @@ def neutral(text, word=b"line_%d "):
 
 def chosen(conditions, rng):
     """Returns options for unifdef, and arguments for the compiler that agree with them."""
-    names = sorted(
-        {
-            n
-            for c in conditions
-            for n in NAME.findall(CONDITIONAL.sub(b"", c))
-            if not NOT_CHOSEN.match(n)
-        }
-    )
+    found = (n for c in conditions for n in NAME.findall(CONDITIONAL.sub(b"", c)))
+    names = sorted({n for n in found if not NOT_CHOSEN.match(n)})
     called = {m for c in conditions for m in re.findall(rb"([A-Za-z_][A-Za-z0-9_]*)\s*\(", c)}
     options = rng.choice([[], [], ["-k"], ["-K"], ["-k", "-K"]])[:]
     arguments = []
@@ -123,28 +111,13 @@ def pruned(tree, options, text):
     """Returns the text that `unifdef-tree -p` makes of a text, how many conditions it edits, and
     whether a second run changes nothing."""
     with tempfile.TemporaryDirectory() as folder:
-        path = os.path.join(folder, "text.c")
-        with open(path, "wb") as file:
-            file.write(text)
-        runs = [
-            subprocess.run([tree, "-p", *options, "--", path], capture_output=True)
-            for _ in range(2)
-        ]
-        with open(path, "rb") as file:
-            out = file.read()
+        path = Path(folder, "text.c")
+        path.write_bytes(text)
+        command = [tree, "-p", *options, "--", path]
+        runs = [subprocess.run(command, capture_output=True) for _ in range(2)]
+        out = path.read_bytes()
     edited = re.search(rb"(\d+) conditions? edited", runs[0].stderr)
     return out, int(edited[1]) if edited else 0, runs[1].returncode == 0
-
-
-def compare_pruned(job, options, arguments, source, before):
-    """Compares what the compiler selects before and after `unifdef-tree -p`."""
-    path, _, cc, _, tree = job
-    out, edited, settled = pruned(tree, options, source)
-    if not settled:
-        return "changed by a second run", path, shown(options)
-    if edited and selected(cc, arguments, out) != before:
-        return "selected in another way", path, "-p " + shown(options)
-    return ("edited" if edited else ""), path, ""
 
 
 def shown(options):
@@ -154,10 +127,8 @@ def shown(options):
 
 def compare(job):
     path, seed, cc, unifdef, tree = job
-    with open(path, "rb") as file:
-        text = file.read()
     rng = random.Random(f"{seed} {path}")
-    source, conditions = neutral(text)
+    source, conditions = neutral(Path(path).read_bytes())
     options, arguments = chosen(conditions, rng)
     run = subprocess.run([unifdef, *options], input=source, capture_output=True)
     if run.returncode == 2:
@@ -168,11 +139,12 @@ def compare(job):
     if selected(cc, arguments, run.stdout) != before:
         return "selected in another way", path, shown(options)
     how = "changed" if run.returncode else "left as they are"
-    if tree:
-        also, _, told = compare_pruned(job, options, arguments, source, before)
-        how = also if told else f"{how} and {also}" if also else how
-        return how, path, told
-    return how, path, ""
+    out, edited, settled = pruned(tree, options, source) if tree else (source, 0, True)
+    if not settled:
+        return "changed by a second run", path, shown(options)
+    if edited and selected(cc, arguments, out) != before:
+        return "selected in another way", path, "-p " + shown(options)
+    return f"{how} and edited" if edited else how, path, ""
 
 
 def files(paths):

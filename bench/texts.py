@@ -22,9 +22,8 @@ extern "C" {{\n#endif\nint small_{0}(int value);\n#ifdef __cplusplus\n}}\n#endif
 def c_words(symbols):
     """Returns options for this number of symbols: two that real headers test, and others that occur
     nowhere in them."""
-    return (DECIDED + [f"-DOCCURS_NOWHERE_{n}={n}" for n in range(symbols - len(DECIDED))])[
-        :symbols
-    ]
+    others = [f"-DOCCURS_NOWHERE_{n}={n}" for n in range(symbols - len(DECIDED))]
+    return [*DECIDED, *others][:symbols]
 
 
 def right_body(path, programs):
@@ -33,10 +32,8 @@ def right_body(path, programs):
     They read it as C and as plain text. Their lists of its symbols may differ, but have no fault.
     """
     for mode in ([], ["-t"], ["-s"]):
-        runs = [
-            subprocess.run([program, *mode, *DECIDED, path], capture_output=True)
-            for program in programs
-        ]
+        commands = ([program, *mode, *DECIDED, path] for program in programs)
+        runs = [subprocess.run(command, capture_output=True) for command in commands]
         answers = {(run.returncode, run.stdout) for run in runs}
         differ = len(answers) > 1 and mode != ["-s"]
         if differ or any(status not in (0, 1) for status, _ in answers):
@@ -69,10 +66,8 @@ def comments_of(text, limit):
 
 def conditional_words(symbols):
     """Returns options for every other name of `conditionals`: three in four are defined."""
-    return [
-        f"-UNAME_{n:04}" if n % 8 == 0 else f"-DNAME_{n:04}={n % 3}"
-        for n in range(0, 2 * symbols, 2)
-    ]
+    every = range(0, 2 * symbols, 2)
+    return [f"-UNAME_{n:04}" if n % 8 == 0 else f"-DNAME_{n:04}={n % 3}" for n in every]
 
 
 def conditionals(limit, symbols):
@@ -80,7 +75,5 @@ def conditionals(limit, symbols):
     rng = random.Random(symbols)
     form = "#ifdef {}\n#if {} > 1 && {}\n#elif !defined({})\n#endif\n#else\n#endif\n"
 
-    def name():
-        return f"NAME_{rng.randrange(2 * symbols):04}"
-
-    return "".join(form.format(name(), name(), name(), name()) for _ in range(limit // 94)).encode()
+    names = (f"NAME_{rng.randrange(2 * symbols):04}" for _ in range(limit // 94 * 4))
+    return "".join(form.format(*it) for it in zip(names, names, names, names)).encode()

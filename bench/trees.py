@@ -14,89 +14,66 @@ import sys
 import time
 from collections import Counter
 from concurrent.futures import ThreadPoolExecutor
-
-
-def files_of(tree):
-    for folder, folders, names in os.walk(tree):
-        folders.sort()
-        for name in sorted(names):
-            path = os.path.join(folder, name)
-            if name.endswith((".c", ".h")) and os.path.isfile(path) and not os.path.islink(path):
-                yield path
-
-
-def fault_in(message):
-    """Returns the text of a message's first line, without file and line."""
-    first = message.decode("utf-8", "replace").split("\n")[0]
-    text = re.sub(r" \(.*", "", first.split(": ")[-1])
-    return text if text else None
+from pathlib import Path
 
 
 class Outcome:
+    """What a program gives for a file."""
+
     def __init__(self, program, arguments, path):
         begin = time.perf_counter()
-        run = subprocess.run(
-            [program, *arguments, path], stdin=subprocess.DEVNULL, capture_output=True
-        )
+        command = [program, *arguments, path]
+        run = subprocess.run(command, stdin=subprocess.DEVNULL, capture_output=True)
         self.seconds = time.perf_counter() - begin
-        self.output, self.status = run.stdout, run.returncode
-        self.fault = fault_in(run.stderr) if run.returncode not in (0, 1) else None
-
-
-def first_other_line(a, b):
-    for x, y in zip(a.split(b"\n"), b.split(b"\n")):
-        if x != y:
-            return x
-    return b""
+        self.output, self.status, self.fault = run.stdout, run.returncode, None
+        if self.status not in (0, 1):
+            # The text of the first line, without file and line.
+            first = run.stderr.decode("utf-8", "replace").split("\n")[0]
+            self.fault = re.sub(r" \(.*", "", first.split(": ")[-1])
 
 
 def class_of(ours, theirs):
-    """Returns the class of two different outcomes."""
+    """Returns the class of two outcomes, or None if they are the same."""
+    if (ours.output, ours.status) == (theirs.output, theirs.status):
+        return None
     if ours.fault and theirs.fault:
         return f"both: {ours.fault}; {theirs.fault}"
-    if ours.fault:
-        return f"here alone: {ours.fault}"
-    if theirs.fault:
-        return f"there alone: {theirs.fault}"
+    if ours.fault or theirs.fault:
+        return f"{'here' if ours.fault else 'there'} alone: {ours.fault or theirs.fault}"
     if theirs.output == ours.output + b"\n":
         return "there a newline after the last line"
-    line = first_other_line(ours.output, theirs.output)
+    pairs = zip(ours.output.split(b"\n"), theirs.output.split(b"\n"))
+    line = next((one for one, other in pairs if one != other), b"")
     if re.match(rb"\s*#\s*(el)?if\b.*(\b\d+\W*(&&|\|\|)|(&&|\|\|)[\s(]*\d+)", line):
         return "there a constant operand decides"
     return "other"
 
 
 def main():
-    program, released, tree, arguments = sys.argv[1], sys.argv[2], sys.argv[3], sys.argv[4:]
-    paths = list(files_of(tree))
+    *programs, tree = sys.argv[1:4]
+    every = (it for it in sorted(Path(tree).rglob("*.[ch]")) if it.is_file())
+    paths = [it for it in every if not it.is_symlink()]
     begin = time.perf_counter()
 
     def both(path):
-        ours, theirs = Outcome(program, arguments, path), Outcome(released, arguments, path)
-        same = (ours.output, ours.status) == (theirs.output, theirs.status)
-        kind = None if same else class_of(ours, theirs)
+        ours, theirs = (Outcome(program, sys.argv[4:], path) for program in programs)
+        kind = class_of(ours, theirs)
         ours.output = theirs.output = None
         return path, ours, theirs, kind
 
     with ThreadPoolExecutor(os.cpu_count()) as pool:
         outcomes = list(pool.map(both, paths))
-    taken = time.perf_counter() - begin
-
-    print(
-        f"{tree}: {len(paths)} files, {sum(os.path.getsize(p) for p in paths)} bytes, "
-        f"{taken:.0f} seconds in all"
-    )
-    for name, at in (("here", 1), ("there", 2)):
-        faults = Counter(o[at].fault for o in outcomes if o[at].fault)
-        changed = sum(o[at].status == 1 for o in outcomes)
-        print(
-            f"  {name}: {sum(o[at].seconds for o in outcomes):.1f} seconds, "
-            f"{changed} files changed, {sum(faults.values())} with a fault"
-        )
+    size, taken = sum(it.stat().st_size for it in paths), time.perf_counter() - begin
+    print(f"{tree}: {len(paths)} files, {size} bytes, {taken:.0f} seconds in all")
+    for name, found in zip(("here", "there"), list(zip(*outcomes))[1:3]):
+        faults = Counter(it.fault for it in found if it.fault)
+        seconds, changed = sum(it.seconds for it in found), sum(it.status == 1 for it in found)
+        counts = f"{changed} files changed, {sum(faults.values())} with a fault"
+        print(f"  {name}: {seconds:.1f} seconds, {counts}")
         for fault, count in faults.most_common():
             print(f"    {count:6} {fault}")
-    classes = Counter(kind for _, _, _, kind in outcomes if kind)
-    for path, _, _, kind in outcomes:
+    classes = Counter(kind for *_, kind in outcomes if kind)
+    for path, *_, kind in outcomes:
         if kind == "other":
             print(f"  other: {path}")
     print(f"  the same output and status: {len(paths) - sum(classes.values())} files; others:")

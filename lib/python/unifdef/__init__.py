@@ -4,8 +4,8 @@
     >>> unifdef.run(b"#ifdef A\\nx\\n#else\\ny\\n#endif\\n", "-DA").output
     b'x\\n'
 
-`python3 -m unifdef` runs these examples. The library is the file that the environment's
-UNIFDEF_LIBRARY names, or the installed one.
+`python3 -m unifdef ARGUMENT...` is the filter, and `python3 -m unifdef --test` runs these examples.
+The library is the file that the environment's UNIFDEF_LIBRARY names, or the installed one.
 
 A text is any object with bytes: bytes, bytearray, memoryview, mmap. Each option is a separate
 argument. So is the operand, the file's name in messages. It may be an os.PathLike, which is never
